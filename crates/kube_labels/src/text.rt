@@ -1,0 +1,123 @@
+ghost use Rattle.std.specs.Prelude.{◌≡◌, IfOk, nat_eq, Some, refl, string_bytes};
+ghost use Rattle.std.specs.Ordering.{nat_cmp};
+ghost use Rattle.std.specs.Cmp.Lexicographic.{pointwise, slice_cmp, nat_list_eq_equiv, nat_list_cmp_total, texts_ties, texts_po};
+ghost use Rattle.std.specs.Cmp.{partial_equiv_from_equiv};
+
+use mlb_base::{NoMemory, Sequence, TryCopy};
+use std::alloc::{AllocError, Global};
+use std::cmp::Ordering;
+use std::fmt;
+use std::marker::Model;
+
+/// An owned text, which contracts see as its bytes. Its order is that of the bytes.
+#[derive(Drop)]
+pub struct Text {
+    text: String,
+}
+
+/// A list of texts.
+pub type TextList = Sequence<Text>;
+
+impl Model for Text {
+    ghost use Rattle.std.specs.Prelude.{ℕ, List, string_bytes};
+
+    ghost Value = { List ℕ };
+
+    ghost view = { λ t. string_bytes t.text };
+}
+
+impl Text {
+    pub fn new(alloc: Global, text: &str) -> Result<Text, NoMemory>
+        ensures { IfOk result (λ made. made ≡ text.now) }
+    {
+        Ok(Text {
+            text: String::from_str(alloc, text)?,
+        })
+    }
+
+    pub fn from_string(text: String) -> Text
+        ensures { result ≡ string_bytes text }
+    {
+        Text { text }
+    }
+
+    pub fn into_string(self) -> String
+        ensures { string_bytes result ≡ self }
+    {
+        self.text
+    }
+
+    pub fn as_str(&self) -> &str
+        ensures { result.now ≡ self.now }
+    {
+        self.text.as_str()
+    }
+}
+
+impl TryCopy for Text {
+    fn copy(&self) -> Result<Text, NoMemory> {
+        Ok(Text {
+            text: self.text.clone()?,
+        })
+    }
+}
+
+impl Clone for Text {
+    ghost is_clone = { λ text made. made ≡ text };
+
+    fn clone(&self) -> Result<Text, AllocError> {
+        Ok(Text {
+            text: self.text.clone()?,
+        })
+    }
+}
+
+impl PartialEq for Text {
+    ghost eq = { pointwise nat_eq };
+
+    ghost laws = { partial_equiv_from_equiv nat_list_eq_equiv };
+
+    fn eq(&self, other: &Text) -> bool {
+        self.text == other.text
+    }
+}
+
+impl Eq for Text {
+    ghost laws = { nat_list_eq_equiv };
+}
+
+impl PartialOrd for Text {
+    ghost partial_cmp = { λ x y. Some (slice_cmp nat_cmp x y) };
+
+    ghost laws = { texts_po };
+
+    fn partial_cmp(&self, other: &Text) -> Option<Ordering> {
+        Some(self.cmp(other))
+    }
+}
+
+impl Ord for Text {
+    ghost cmp = { slice_cmp nat_cmp };
+
+    ghost total = { nat_list_cmp_total };
+
+    ghost matches_partial_cmp = { λ x y. refl };
+
+    ghost matches_eq = { texts_ties };
+
+    fn cmp(&self, other: &Text) -> Ordering {
+        self.text.cmp(&other.text)
+    }
+}
+
+impl fmt::Display for Text {
+    fn fmt<W: fmt::Write>(&self, f: &mut fmt::Formatter<W>) -> fmt::Result {
+        f.pad(self.as_str())
+    }
+}
+
+impl fmt::Debug for Text {
+    fn fmt<W: fmt::Write>(&self, f: &mut fmt::Formatter<W>) -> fmt::Result {
+        fmt::Debug::fmt(self.as_str(), f)
+    }
+}

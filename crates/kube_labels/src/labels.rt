@@ -5,8 +5,8 @@ ghost use Rattle.std.specs.List.Sorted.{IsStrictlySortedBy};
 ghost use Rattle.std.specs.Map.{keys_of};
 ghost use Rattle.kube_labels.specs.Pairs.{value_of, with_pair};
 
-use mlb_base::{NoMemory, TryCopy};
 use crate::Text;
+use mlb_base::{NoMemory, TryCopy};
 use std::alloc::Global;
 use std::collections::BTreeMap;
 use std::marker::Model;

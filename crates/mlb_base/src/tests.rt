@@ -23,6 +23,9 @@ fn lists_of_pairs_are_copied(rt: HostRuntime) -> Result<(), Fail> {
     pairs.push((Some(7), true))?;
     pairs.push((None, false))?;
     let copied = pairs.copy()?;
-    assert_eq!(rt; copied.as_slice(), [(Some(7), true), (None, false)].as_slice());
+    assert_eq!(rt;
+        copied.as_slice(),
+        [(Some(7), true), (None, false)].as_slice()
+    );
     Ok(())
 }

@@ -1,4 +1,3 @@
-use Rattle.std.proofs.Common.{rules}
 use Rattle.kube_labels.proofs.PairLemmas.{by_bytes-insert_entry}
 use Rattle.kube_labels.proofs.labels.Labels.set.Goals as goal
 

@@ -1,0 +1,29 @@
+-- Addresses, ranges and prefixes, as contracts see them.
+use Rattle.std.specs.Prelude.{ℕ, ◌^◌, ◌<◌}
+use Rattle.ip_ranges.specs.declared.family.Family.{Family}
+use Rattle.ip_ranges.specs.declared.family.Family.TheVariants.{V4, V6}
+
+-- how many bits an address of the family has
+abbrev pub width_of : Family → ℕ
+width_of V4 = 32
+width_of V6 = 128
+
+-- an address is a number of its family
+pub record AddressValue : Type 0 where
+  pub family : Family
+  pub number : ℕ
+
+-- all the numbers from the low one to the high one, both of them included
+pub record SpanValue : Type 0 where
+  pub family : Family
+  pub low : ℕ
+  pub high : ℕ
+
+-- all the numbers that have the first so many bits of this one
+pub record PrefixValue : Type 0 where
+  pub family : Family
+  pub number : ℕ
+  pub length : ℕ
+
+abbrev pub IsOfFamily : AddressValue → Type 0
+IsOfFamily a = a.number < 2 ^ width_of a.family

@@ -1,4 +1,5 @@
 //! The two families of addresses.
+ghost use Rattle.std.specs.Prelude.{◌≡◌};
 
 use mlb_base::{NoMemory, Sequence, TryCopy};
 
@@ -11,6 +12,20 @@ pub enum Family {
 
 /// A list of families.
 pub type FamilyList = Sequence<Family>;
+
+impl Family {
+    ghost use Rattle.ip_ranges.specs.Values.{width_of};
+
+    /// How many bits an address of the family has.
+    pub fn width(self) -> u8
+        ensures { result ≡ width_of self }
+    {
+        match self {
+            Family::V4 => 32,
+            Family::V6 => 128,
+        }
+    }
+}
 
 impl TryCopy for Family {
     fn copy(&self) -> Result<Family, NoMemory> {

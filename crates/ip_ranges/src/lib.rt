@@ -2,9 +2,17 @@
 #![tactic(auto)]
 
 mod address;
+mod entry;
 mod family;
+mod fault;
+mod prefix;
 mod span;
+mod text;
 
 pub use address::{Address, AddressList};
+pub use entry::parse_entry;
 pub use family::{Family, FamilyList};
+pub use fault::RangeFault;
+pub use prefix::{Prefix, PrefixList, mask};
 pub use span::{Span, SpanList};
+pub use text::{parse_address, print_address};

@@ -6,5 +6,5 @@ mod family;
 mod span;
 
 pub use address::{Address, AddressList};
-pub use family::{Family, FamilyList};
+pub use family::Family;
 pub use span::{Span, SpanList};

@@ -1,0 +1,5 @@
+pub mod Families
+pub mod Kinds
+pub mod Lengths
+pub mod Status
+pub mod Words

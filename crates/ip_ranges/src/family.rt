@@ -1,7 +1,7 @@
 //! The two families of addresses.
 ghost use Rattle.std.specs.Prelude.{◌≡◌};
 
-use mlb_base::{NoMemory, Sequence, TryCopy};
+use mlb_base::{NoMemory, TryCopy};
 
 /// IPv4 or IPv6.
 #[derive(Clone, Copy, Debug, PartialEq, Eq, PartialOrd, Ord)]
@@ -9,9 +9,6 @@ pub enum Family {
     V4,
     V6,
 }
-
-/// A list of families.
-pub type FamilyList = Sequence<Family>;
 
 impl Family {
     ghost use Rattle.ip_ranges.specs.Values.{width_of};

@@ -11,7 +11,7 @@ mod text;
 
 pub use address::{Address, AddressList};
 pub use entry::parse_entry;
-pub use family::{Family, FamilyList};
+pub use family::Family;
 pub use fault::RangeFault;
 pub use prefix::{Prefix, PrefixList, mask};
 pub use span::{Span, SpanList};

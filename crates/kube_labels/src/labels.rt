@@ -12,7 +12,7 @@ use std::collections::BTreeMap;
 use std::marker::Model;
 
 /// Names with values, which contracts see as pairs with ascending distinct names.
-#[derive(Drop)]
+#[derive(Debug, Drop)]
 pub struct Labels {
     values: BTreeMap<String, Text>,
 }

@@ -1,8 +1,16 @@
 //! Texts, labels, and the selectors that match them.
 #![tactic(auto)]
 
+mod expression;
+mod fault;
 mod labels;
+mod operator;
+mod selector;
 mod text;
 
+pub use expression::{Expression, ExpressionList};
+pub use fault::SelectorFault;
 pub use labels::Labels;
-pub use text::{Text, TextList};
+pub use operator::Operator;
+pub use selector::{Selector, SelectorList};
+pub use text::{NamedValues, Text, TextList};

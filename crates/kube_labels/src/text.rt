@@ -18,6 +18,9 @@ pub struct Text {
 /// A list of texts.
 pub type TextList = Sequence<Text>;
 
+/// A list of pairs, each a name and its value.
+pub type NamedValues = Sequence<(Text, Text)>;
+
 impl Model for Text {
     ghost use Rattle.std.specs.Prelude.{ℕ, List, string_bytes};
 

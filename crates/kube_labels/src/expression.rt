@@ -1,0 +1,57 @@
+ghost use Rattle.std.specs.Prelude.{◌≡◌};
+ghost use Rattle.kube_labels.specs.Expressions.{fault_of, first_fault};
+
+use crate::{Operator, SelectorFault, Text, TextList};
+use mlb_base::{NoMemory, Sequence, TryCopy};
+
+/// A set-based requirement on one key (Kubernetes, LabelSelectorRequirement), not yet checked.
+#[derive(Debug, Drop, PartialEq)]
+pub struct Expression {
+    pub key: Text,
+    pub operator: Text,
+    pub values: TextList,
+}
+
+/// A list of expressions.
+pub type ExpressionList = Sequence<Expression>;
+
+impl Expression {
+    /// What is wrong with the expression, which stands at the index.
+    fn fault(&self, index: usize) -> Option<SelectorFault>
+        ensures { result ≡ fault_of index self.now }
+    {
+        let listed = !self.values.is_empty();
+        match Operator::named(self.operator.as_str()) {
+            None => Some(SelectorFault::UnknownOperator { index }),
+            Some(Operator::In | Operator::NotIn) if !listed => {
+                Some(SelectorFault::EmptyValues { index })
+            }
+            Some(Operator::Exists | Operator::DoesNotExist) if listed => {
+                Some(SelectorFault::UnwantedValues { index })
+            }
+            Some(_) => None,
+        }
+    }
+}
+
+/// The fault of the first expression at fault.
+pub(crate) fn first_fault(expressions: &[Expression]) -> Option<SelectorFault>
+    ensures { result ≡ first_fault expressions.now }
+{
+    for (index, expression) in expressions.iter().enumerate() {
+        if let Some(fault) = expression.fault(index) {
+            return Some(fault);
+        }
+    }
+    None
+}
+
+impl TryCopy for Expression {
+    fn copy(&self) -> Result<Expression, NoMemory> {
+        Ok(Expression {
+            key: self.key.copy()?,
+            operator: self.operator.copy()?,
+            values: self.values.copy()?,
+        })
+    }
+}

@@ -1,0 +1,53 @@
+ghost use Rattle.std.specs.Prelude.{◌≡◌};
+ghost use Rattle.kube_labels.specs.Selectors.{selector_of, matches};
+
+use crate::expression::first_fault;
+use crate::{ExpressionList, Labels, SelectorFault};
+use mlb_base::{NoMemory, Sequence, TryCopy};
+use std::marker::Model;
+
+/// A label selector (Kubernetes, LabelSelector), each of whose expressions is well formed.
+#[derive(Debug, Drop)]
+pub struct Selector {
+    labels: Labels,
+    expressions: ExpressionList,
+}
+
+/// A list of selectors.
+pub type SelectorList = Sequence<Selector>;
+
+impl Model for Selector {
+    ghost use Rattle.std.specs.Prelude.{◌≡◌, None};
+    ghost use Rattle.kube_labels.specs.SelectorValue.{SelectorValue};
+    ghost use Rattle.kube_labels.specs.Expressions.{first_fault};
+
+    ghost Value = { SelectorValue };
+
+    ghost view = { λ s. record { pairs = s.labels; expressions = s.expressions } };
+
+    ghost invariant = { λ s. first_fault s.expressions ≡ None };
+}
+
+impl Selector {
+    /// The selector of these labels and expressions, unless an expression is at fault. It takes no memory.
+    pub fn new(labels: Labels, expressions: ExpressionList) -> Result<Selector, SelectorFault>
+        ensures { result ≡ selector_of labels expressions }
+    {
+        match first_fault(expressions.as_slice()) {
+            Some(fault) => Err(fault),
+            None => Ok(Selector {
+                labels,
+                expressions,
+            }),
+        }
+    }
+}
+
+impl TryCopy for Selector {
+    fn copy(&self) -> Result<Selector, NoMemory> {
+        Ok(Selector {
+            labels: self.labels.copy()?,
+            expressions: self.expressions.copy()?,
+        })
+    }
+}

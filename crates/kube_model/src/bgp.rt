@@ -1,0 +1,44 @@
+//! Advertisements by BGP.
+
+use crate::lengths::{LengthV4, LengthV6};
+use crate::selector::SelectorTexts;
+use kube_labels::{Text, TextList};
+use mlb_base::{NoMemory, TryCopy};
+
+/// A MetalLB BGPAdvertisement.
+#[derive(Drop)]
+pub struct BgpAdv {
+    pub name: Text,
+    /// `spec.aggregationLength`.
+    pub length: LengthV4,
+    /// `spec.aggregationLengthV6`.
+    pub length_v6: LengthV6,
+    /// `spec.localPref`.
+    pub local_pref: u32,
+    /// `spec.communities`.
+    pub communities: TextList,
+    /// `spec.ipAddressPools`.
+    pub pools: TextList,
+    /// `spec.ipAddressPoolSelectors`.
+    pub pool_selectors: SelectorTexts,
+    /// `spec.nodeSelectors`.
+    pub node_selectors: SelectorTexts,
+    /// `spec.peers`.
+    pub peers: TextList,
+}
+
+impl TryCopy for BgpAdv {
+    fn copy(&self) -> Result<BgpAdv, NoMemory> {
+        Ok(BgpAdv {
+            name: self.name.copy()?,
+            length: self.length,
+            length_v6: self.length_v6,
+            local_pref: self.local_pref,
+            communities: self.communities.copy()?,
+            pools: self.pools.copy()?,
+            pool_selectors: self.pool_selectors.copy()?,
+            node_selectors: self.node_selectors.copy()?,
+            peers: self.peers.copy()?,
+        })
+    }
+}

@@ -1,0 +1,85 @@
+//! The lengths of the prefixes that are advertised.
+ghost use Rattle.std.specs.Prelude.{◌≡◌, ◌≤◌, ◌<◌, IfSome, IfNone};
+ghost use Rattle.kube_model.specs.Lengths.{IsLengthV4, IsLengthV6};
+
+use std::marker::Model;
+
+/// The length of an IPv4 prefix, from 1 to 32 bits, which contracts see as the number.
+#[derive(Clone, Copy, Debug, PartialEq, Eq, PartialOrd, Ord)]
+pub struct LengthV4 {
+    bits: u8,
+}
+
+impl Model for LengthV4 {
+    ghost use Rattle.std.specs.Prelude.{ℕ};
+    ghost use Rattle.kube_model.specs.Lengths.{IsLengthV4};
+
+    ghost Value = { ℕ };
+
+    ghost view = { λ l. l.bits };
+
+    ghost invariant = { λ l. IsLengthV4 l.bits };
+
+    ghost inverse = { λ n. record { bits = n } };
+}
+
+impl LengthV4 {
+    /// The length, or nothing where it isn't from 1 to 32.
+    pub fn new(bits: u8) -> Option<LengthV4>
+        ensures made { IfSome result (λ length. length ≡ bits) }
+        ensures refused { IfNone result (¬ IsLengthV4 bits) }
+    {
+        if 1 <= bits && bits <= 32 {
+            Some(LengthV4 { bits })
+        } else {
+            None
+        }
+    }
+
+    pub fn bits(self) -> u8
+        ensures number { result ≡ self }
+        ensures in_range { IsLengthV4 self }
+    {
+        self.bits
+    }
+}
+
+/// The length of an IPv6 prefix, at most 128 bits, which contracts see as the number.
+#[derive(Clone, Copy, Debug, PartialEq, Eq, PartialOrd, Ord)]
+pub struct LengthV6 {
+    bits: u8,
+}
+
+impl Model for LengthV6 {
+    ghost use Rattle.std.specs.Prelude.{ℕ};
+    ghost use Rattle.kube_model.specs.Lengths.{IsLengthV6};
+
+    ghost Value = { ℕ };
+
+    ghost view = { λ l. l.bits };
+
+    ghost invariant = { λ l. IsLengthV6 l.bits };
+
+    ghost inverse = { λ n. record { bits = n } };
+}
+
+impl LengthV6 {
+    /// The length, or nothing where it is more than 128.
+    pub fn new(bits: u8) -> Option<LengthV6>
+        ensures made { IfSome result (λ length. length ≡ bits) }
+        ensures refused { IfNone result (¬ IsLengthV6 bits) }
+    {
+        if bits <= 128 {
+            Some(LengthV6 { bits })
+        } else {
+            None
+        }
+    }
+
+    pub fn bits(self) -> u8
+        ensures number { result ≡ self }
+        ensures in_range { IsLengthV6 self }
+    {
+        self.bits
+    }
+}

@@ -1,0 +1,117 @@
+//! The objects that are watched.
+ghost use Rattle.std.specs.Prelude.{◌≡◌};
+ghost use Rattle.kube_model.specs.Kinds.{kind_of, group_of};
+ghost use Rattle.kube_model.specs.Words.{kind_text};
+
+use crate::bgp::BgpAdv;
+use crate::community::CommunityList;
+use crate::event::Group;
+use crate::l2::L2Adv;
+use crate::namespace::Namespace;
+use crate::node::Node;
+use crate::peer::BgpPeer;
+use crate::pool::Pool;
+use crate::service::Service;
+use crate::slice::EndpointSlice;
+use mlb_base::{NoMemory, Sequence, TryCopy};
+
+/// An object of one of the kinds that are read.
+#[derive(Drop)]
+pub enum Object {
+    Service(Service),
+    Pool(Pool),
+    L2(L2Adv),
+    Bgp(BgpAdv),
+    Peer(BgpPeer),
+    Community(CommunityList),
+    Namespace(Namespace),
+    Node(Node),
+    Slice(EndpointSlice),
+}
+
+/// The kinds of objects that are read.
+#[derive(Clone, Copy, Debug, PartialEq, Eq, PartialOrd, Ord)]
+pub enum Kind {
+    Service,
+    Pool,
+    L2,
+    Bgp,
+    Peer,
+    Community,
+    Namespace,
+    Node,
+    Slice,
+}
+
+/// A list of objects.
+pub type ObjectList = Sequence<Object>;
+
+impl Object {
+    pub fn kind(&self) -> Kind
+        ensures { result ≡ kind_of self.now }
+    {
+        match self {
+            Object::Service(_) => Kind::Service,
+            Object::Pool(_) => Kind::Pool,
+            Object::L2(_) => Kind::L2,
+            Object::Bgp(_) => Kind::Bgp,
+            Object::Peer(_) => Kind::Peer,
+            Object::Community(_) => Kind::Community,
+            Object::Namespace(_) => Kind::Namespace,
+            Object::Node(_) => Kind::Node,
+            Object::Slice(_) => Kind::Slice,
+        }
+    }
+}
+
+impl Kind {
+    /// The list that objects of this kind come in.
+    pub fn group(self) -> Group
+        ensures { result ≡ group_of self }
+    {
+        match self {
+            Kind::Service => Group::Service,
+            Kind::Slice => Group::Endpoint,
+            Kind::Pool
+            | Kind::L2
+            | Kind::Bgp
+            | Kind::Peer
+            | Kind::Community
+            | Kind::Namespace
+            | Kind::Node => Group::Config,
+        }
+    }
+
+    /// The name that Kubernetes has for it.
+    pub fn as_str(self) -> &'static str
+        ensures { result.now ≡ kind_text self }
+    {
+        match self {
+            Kind::Service => "Service",
+            Kind::Pool => "IPAddressPool",
+            Kind::L2 => "L2Advertisement",
+            Kind::Bgp => "BGPAdvertisement",
+            Kind::Peer => "BGPPeer",
+            Kind::Community => "Community",
+            Kind::Namespace => "Namespace",
+            Kind::Node => "Node",
+            Kind::Slice => "EndpointSlice",
+        }
+    }
+}
+
+impl TryCopy for Object {
+    fn copy(&self) -> Result<Object, NoMemory> {
+        match self {
+            Object::Service(service) => Ok(Object::Service(service.copy()?)),
+            Object::Pool(pool) => Ok(Object::Pool(pool.copy()?)),
+            Object::L2(advertisement) => Ok(Object::L2(advertisement.copy()?)),
+            Object::Bgp(advertisement) => Ok(Object::Bgp(advertisement.copy()?)),
+            Object::Peer(peer) => Ok(Object::Peer(peer.copy()?)),
+            Object::Community(community) => Ok(Object::Community(community.copy()?)),
+            Object::Namespace(namespace) => Ok(Object::Namespace(namespace.copy()?)),
+            Object::Node(node) => Ok(Object::Node(node.copy()?)),
+            Object::Slice(slice) => Ok(Object::Slice(slice.copy()?)),
+        }
+    }
+}

@@ -1,0 +1,28 @@
+//! BGP peers.
+
+use crate::selector::SelectorTexts;
+use kube_labels::Text;
+use mlb_base::{NoMemory, TryCopy};
+
+/// A MetalLB BGPPeer. The numbers of autonomous systems are from 1.
+#[derive(Drop)]
+pub struct BgpPeer {
+    pub name: Text,
+    /// `spec.myASN`.
+    pub my_asn: u32,
+    /// `spec.peerASN`.
+    pub peer_asn: u32,
+    /// `spec.nodeSelectors`.
+    pub node_selectors: SelectorTexts,
+}
+
+impl TryCopy for BgpPeer {
+    fn copy(&self) -> Result<BgpPeer, NoMemory> {
+        Ok(BgpPeer {
+            name: self.name.copy()?,
+            my_asn: self.my_asn,
+            peer_asn: self.peer_asn,
+            node_selectors: self.node_selectors.copy()?,
+        })
+    }
+}

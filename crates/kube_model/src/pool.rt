@@ -1,0 +1,54 @@
+//! Pools of addresses.
+
+use crate::selector::SelectorTexts;
+use kube_labels::{Labels, Text, TextList};
+use mlb_base::{NoMemory, TryCopy};
+
+/// A MetalLB IPAddressPool.
+#[derive(Drop)]
+pub struct Pool {
+    pub name: Text,
+    pub labels: Labels,
+    /// `spec.addresses`: prefixes and ranges of addresses.
+    pub entries: TextList,
+    /// `spec.autoAssign`: whether services get addresses from it that don't ask for it.
+    pub auto_assign: bool,
+    /// `spec.avoidBuggyIPs`: whether IPv4 addresses that end in 0 or 255 are left out.
+    pub avoid_buggy: bool,
+    /// `spec.serviceAllocation`.
+    pub allocation: Option<Allocation>,
+}
+
+/// Which services a pool serves, and when its turn comes.
+#[derive(Drop)]
+pub struct Allocation {
+    /// From 1, the least first; 0 comes last. At most 2147483647.
+    pub priority: u32,
+    pub namespaces: TextList,
+    pub namespace_selectors: SelectorTexts,
+    pub service_selectors: SelectorTexts,
+}
+
+impl TryCopy for Allocation {
+    fn copy(&self) -> Result<Allocation, NoMemory> {
+        Ok(Allocation {
+            priority: self.priority,
+            namespaces: self.namespaces.copy()?,
+            namespace_selectors: self.namespace_selectors.copy()?,
+            service_selectors: self.service_selectors.copy()?,
+        })
+    }
+}
+
+impl TryCopy for Pool {
+    fn copy(&self) -> Result<Pool, NoMemory> {
+        Ok(Pool {
+            name: self.name.copy()?,
+            labels: self.labels.copy()?,
+            entries: self.entries.copy()?,
+            auto_assign: self.auto_assign,
+            avoid_buggy: self.avoid_buggy,
+            allocation: self.allocation.copy()?,
+        })
+    }
+}

@@ -1,0 +1,25 @@
+//! Selectors that are not yet checked.
+
+use kube_labels::{ExpressionList, Labels};
+use mlb_base::{NoMemory, Sequence, TryCopy};
+
+/// The parts of a Kubernetes label selector, as they are written.
+#[derive(Drop)]
+pub struct SelectorText {
+    /// `matchLabels`.
+    pub labels: Labels,
+    /// `matchExpressions`.
+    pub expressions: ExpressionList,
+}
+
+/// A list of selectors that are not yet checked.
+pub type SelectorTexts = Sequence<SelectorText>;
+
+impl TryCopy for SelectorText {
+    fn copy(&self) -> Result<SelectorText, NoMemory> {
+        Ok(SelectorText {
+            labels: self.labels.copy()?,
+            expressions: self.expressions.copy()?,
+        })
+    }
+}

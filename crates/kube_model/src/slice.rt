@@ -1,0 +1,45 @@
+//! The endpoints of services.
+
+use crate::key::Key;
+use kube_labels::Text;
+use mlb_base::{NoMemory, Sequence, TryCopy};
+
+/// A Kubernetes EndpointSlice.
+#[derive(Drop)]
+pub struct EndpointSlice {
+    pub key: Key,
+    /// The label `kubernetes.io/service-name`, empty where it is absent.
+    pub service: Text,
+    pub endpoints: EndpointList,
+}
+
+/// One of the endpoints.
+#[derive(Drop)]
+pub struct Endpoint {
+    /// `nodeName`.
+    pub node: Option<Text>,
+    /// `conditions.serving` where it is there, else `conditions.ready` where it is there, else true.
+    pub usable: bool,
+}
+
+/// A list of endpoints.
+pub type EndpointList = Sequence<Endpoint>;
+
+impl TryCopy for Endpoint {
+    fn copy(&self) -> Result<Endpoint, NoMemory> {
+        Ok(Endpoint {
+            node: self.node.copy()?,
+            usable: self.usable,
+        })
+    }
+}
+
+impl TryCopy for EndpointSlice {
+    fn copy(&self) -> Result<EndpointSlice, NoMemory> {
+        Ok(EndpointSlice {
+            key: self.key.copy()?,
+            service: self.service.copy()?,
+            endpoints: self.endpoints.copy()?,
+        })
+    }
+}

@@ -5,3 +5,4 @@ pub mod Lines
 pub mod Reply
 pub mod Status
 pub mod Words
+pub mod Service

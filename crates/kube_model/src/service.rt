@@ -1,5 +1,9 @@
 //! Services.
 
+ghost use Rattle.std.specs.Prelude.{◌≡◌};
+ghost use Rattle.std.specs.Option.{option_copied};
+ghost use Rattle.kube_model.specs.Service.{is_handled, same_class};
+
 use crate::families::FamilyList;
 use crate::key::Key;
 use crate::port::PortList;
@@ -81,5 +85,25 @@ impl TryCopy for Service {
             wanted: self.wanted.copy()?,
             holding: self.holding.copy()?,
         })
+    }
+}
+
+impl Service {
+    /// Whether this controller gives it addresses: it is of type LoadBalancer, and of the class that the controller
+    /// handles; with no class configured, of none.
+    pub fn is_handled(&self, class: Option<&Text>) -> bool
+        ensures { result ≡ is_handled (option_copied class.entry) self.now }
+    {
+        self.balancer && same_class(class, self.class.as_ref())
+    }
+}
+
+fn same_class(a: Option<&Text>, b: Option<&Text>) -> bool
+    ensures { result ≡ same_class (option_copied a.entry) (option_copied b.entry) }
+{
+    match (a, b) {
+        (None, None) => true,
+        (Some(a), Some(b)) => a == b,
+        _ => false,
     }
 }

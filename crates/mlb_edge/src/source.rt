@@ -1,21 +1,18 @@
-//! What a program reads from and writes to. Each thing outside counts its faults, and the count never falls.
+//! Where a program reads bytes from.
 
-ghost use Rattle.std.specs.Prelude.{◌≡◌, ◌≤◌, ◌<◌, ℕ, List, Option, length, IfOk};
+ghost use Rattle.std.specs.Prelude.{◌≡◌, ℕ, List, Option};
 ghost use Rattle.std.specs.Io.{ReadsAtMost};
 ghost use Rattle.std.specs.Io.KnownBytes.{ReadConsumes};
 ghost use Rattle.mlb_edge.specs.Causes.{HasCause};
-ghost use Rattle.mlb_edge.specs.Written.{WriteGrows, TakesSome};
 
 use thiserror::Error;
 
+/// A read failed, and nothing was taken from the source.
 #[derive(Clone, Copy, Debug, PartialEq, Eq, Error)]
 #[error("reading failed")]
 pub struct ReadFailed;
 
-#[derive(Clone, Copy, Debug, PartialEq, Eq, Error)]
-#[error("writing failed")]
-pub struct WriteFailed;
-
+/// Gives bytes in order, and counts its faults. The count never falls.
 pub trait Source {
     /// The bytes not yet read, where the source tells them.
     ghost left: { Self → Option (List ℕ) };
@@ -26,22 +23,11 @@ pub trait Source {
     /// How often reading has failed.
     ghost faults: { Self → ℕ };
 
+    /// Reads into the front of `buf`. `Ok(n)` gives the first n bytes of what is left, and `Ok(0)` for a buffer that
+    /// isn't empty says that nothing is left. Where reading fails, what is left stays as it was.
     fn read(&mut self, buf: &mut [u8]) -> Result<usize, ReadFailed>
         ensures bound { ReadsAtMost result buf.new }
         ensures bytes { ReadConsumes (left self.old) (left self.new) result buf.new }
         ensures name { name self.new ≡ name self.old }
-        ensures cause { HasCause (faults self.old) (faults self.new) result };
-}
-
-pub trait Sink {
-    /// The bytes written, where the sink tells them. It may stop telling, and never begins.
-    ghost written: { Self → Option (List ℕ) };
-
-    /// How often writing has failed.
-    ghost faults: { Self → ℕ };
-
-    fn write(&mut self, piece: &[u8]) -> Result<usize, WriteFailed>
-        ensures bound { IfOk result (TakesSome piece.now) }
-        ensures bytes { WriteGrows (written self.old) (written self.new) result piece.now }
         ensures cause { HasCause (faults self.old) (faults self.new) result };
 }

@@ -26,5 +26,5 @@ pub use safe::{SafeSink, SafeSource};
 pub use sink::{Sink, WriteFailed, put_all};
 pub use source::{ReadFailed, Source};
 
-
-
+#[cfg(test)]
+mod tests;

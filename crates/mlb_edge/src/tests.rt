@@ -96,9 +96,9 @@ fn a_piece_is_written_in_part_at_a_fault(rt: HostRuntime) -> Result<(), Fail> {
     assert_eq!(rt; sink.bytes(), b"ab".as_slice());
     put_all(&mut sink, b"cd".as_slice())?;
     assert_eq!(rt; sink.bytes(), b"abcd".as_slice());
-    assert!(rt; !sink.is_starved());
+    assert!(rt; !sink.starved());
     put_all(&mut sink, b"e".as_slice())?;
-    assert!(rt; sink.is_starved());
+    assert!(rt; sink.starved());
     Ok(())
 }
 
@@ -108,7 +108,7 @@ fn a_sink_without_room_is_starved(rt: HostRuntime) -> Result<(), Fail> {
     put_all(&mut sink, b"ab".as_slice())?;
     assert_eq!(rt; sink.bytes(), b"ab".as_slice());
     put_all(&mut sink, b"cd".as_slice())?;
-    assert!(rt; sink.is_starved());
+    assert!(rt; sink.starved());
     Ok(())
 }
 

@@ -95,7 +95,8 @@ impl LineReader {
         ensures line { IfOk result (λ next. IfSome next (λ line.
             Follows (to_come self.old (S.left source.old)) (line ∷ []) (to_come self.new (S.left source.new)))) }
         ensures number { IfOk result (λ next. IfSome next (λ line. line.number ≡ self.new.number)) }
-        ensures near { IfOk result (λ next. OnSome next ((self.old.passed < self.new.passed) × (self.new.passed ≤ 2 ^ 40))) }
+        ensures near { IfOk result (λ next. OnSome next
+            ((self.old.passed < self.new.passed) × (self.new.passed ≤ 2 ^ 40))) }
 
         // At the end of the input no line is left, and nothing is held.
         ensures end { IfOk result (λ next. IfNone next (EndsAs (to_come self.old (S.left source.old)) Whole)) }
@@ -103,9 +104,11 @@ impl LineReader {
 
         ensures line_limit { IfErr result (λ e. (number : ℕ) → e ≡ LineEnd.LineLimit number
             → EndsAs (to_come self.old (S.left source.old)) (LongLine number)) }
-        ensures input_limit { IsErrOf result LineEnd.InputLimit → EndsAs (to_come self.old (S.left source.old)) LongInput }
+        ensures input_limit { IsErrOf result LineEnd.InputLimit
+            → EndsAs (to_come self.old (S.left source.old)) LongInput }
         ensures read_fault { IsErrOf result LineEnd.ReadFault → Rose (S.faults source.old) (S.faults source.new) }
-        ensures err { OnErr result (Follows (to_come self.old (S.left source.old)) [] (to_come self.new (S.left source.new))) }
+        ensures err { OnErr result
+            (Follows (to_come self.old (S.left source.old)) [] (to_come self.new (S.left source.new))) }
 
         // No byte is lost, and where reading failed no whole line is held.
         ensures passes { Passes self.old self.new (S.left source.old) (S.left source.new) }
@@ -191,7 +194,8 @@ impl LineReader {
         requires shorter { len ≤ size }
         requires within { size ≤ length self.old.held }
         requires near { self.old.passed + size ≤ 2 ^ 40 }
-        ensures line { IfOk result (λ line. line ≡ record { number = self.old.number + 1; bytes = take len self.old.held }) }
+        ensures line { IfOk result (λ line.
+            line ≡ record { number = self.old.number + 1; bytes = take len self.old.held }) }
         ensures ok { OnOk result (self.new ≡ passed_over self.old size) }
         ensures err { OnErr result (self.new ≡ self.old) }
     {
@@ -217,8 +221,8 @@ impl LineReader {
     /// Reads a block from the source. `Ok(0)` says that it has no more bytes.
     fn fill<S: Source>(&mut self, source: &mut S) -> Result<usize, LineEnd>
         requires { length self.old.held ≤ 1048576 }
-        ensures bytes { IfOk result (λ n. (read : List ℕ) × (self.new.held ≡ self.old.held ++ read) × (length read ≡ n)
-            × Consumes (S.left source.old) (S.left source.new) read) }
+        ensures bytes { IfOk result (λ n. (read : List ℕ) × (self.new.held ≡ self.old.held ++ read)
+            × (length read ≡ n) × Consumes (S.left source.old) (S.left source.new) read) }
         ensures end { IfOk result (λ n. n ≡ 0 → IsAtEnd (S.left source.new)) }
         ensures same { (self.new.passed ≡ self.old.passed) × (self.new.number ≡ self.old.number) }
         ensures err { OnErr result ((self.new ≡ self.old) × Keeps (S.left source.old) (S.left source.new)) }
@@ -239,7 +243,8 @@ impl LineReader {
         ensures ok { OnOk result ((len ≤ 1048576) × (self.now.passed + size ≤ 2 ^ 40)) }
         ensures line_limit { IfErr result (λ e. (number : ℕ) → e ≡ LineEnd.LineLimit number
             → (number ≡ self.now.number + 1) × (1048576 < len)) }
-        ensures input_limit { IsErrOf result LineEnd.InputLimit → (len ≤ 1048576) × (2 ^ 40 < self.now.passed + size) }
+        ensures input_limit { IsErrOf result LineEnd.InputLimit
+            → (len ≤ 1048576) × (2 ^ 40 < self.now.passed + size) }
         ensures fault { IfErr result IsLimit }
     {
         if len > LINE_LIMIT {
@@ -256,7 +261,8 @@ impl LineReader {
     /// Refuses a line that is too long already, though its end isn't there yet.
     fn check_open(&self) -> Result<(), LineEnd>
         ensures ok { OnOk result (length self.now.held ≤ 1048576) }
-        ensures line_limit { IfErr result (λ e. (e ≡ LineEnd.LineLimit (self.now.number + 1)) × (1048576 < length self.now.held)) }
+        ensures line_limit { IfErr result (λ e.
+            (e ≡ LineEnd.LineLimit (self.now.number + 1)) × (1048576 < length self.now.held)) }
     {
         if self.held().len() > LINE_LIMIT {
             return Err(LineEnd::LineLimit {

@@ -2,6 +2,7 @@
 ghost use Rattle.std.specs.Prelude.{◌≡◌, ◌<◌, ◌≤◌, ◌^◌, ◌-◌, ◌+◌, false, IfOk, IfSome};
 ghost use Rattle.std.specs.Net.Reader.{read_octet, whole_value};
 ghost use Rattle.ip_ranges.specs.Values.{AddressValue, IsOfFamily, IsRange, meets_mapped, width_of};
+ghost use Rattle.ip_ranges.specs.AddressText.{address_of};
 ghost use Rattle.ip_ranges.specs.EntryText.{entry_of, written_span, range_of, prefix_of, span_between, trimmed, trim_start, trim_end, is_blank, length_within, is_padded};
 
 use crate::prefix::mask;
@@ -63,6 +64,14 @@ fn span_between(low: &Address, high: &Address) -> Result<Span, RangeFault>
         low: low.number,
         high: high.number,
     })
+}
+
+/// Reads an address with spaces and tabs round it, which are dropped; a fault is as in `parse_address`.
+pub fn parse_padded_address(text: &str) -> Result<Address, RangeFault>
+    ensures value { result ≡ address_of (trimmed text.now) }
+    ensures in_family { IfOk result IsOfFamily }
+{
+    read_address(trim_blanks(text.as_bytes()))
 }
 
 /// The text without the spaces and tabs that it begins and ends with.

@@ -10,7 +10,7 @@ mod span;
 mod text;
 
 pub use address::{Address, AddressList};
-pub use entry::parse_entry;
+pub use entry::{parse_entry, parse_padded_address};
 pub use family::Family;
 pub use fault::RangeFault;
 pub use prefix::{Prefix, PrefixList, mask};

@@ -1,1 +1,4 @@
+pub mod AskedParts
+pub mod Fails
 pub mod LineTexts
+pub mod Versions

@@ -2,6 +2,7 @@
 
 use crate::key::Key;
 use crate::object::{Kind, Object};
+use json_fields::FieldFault;
 use kube_labels::{Text, TextList};
 use mlb_base::{ByteList, NoMemory, TryCopy};
 use thiserror::Error;
@@ -45,6 +46,31 @@ pub enum EventFault {
     Field { path: Text },
     #[error("out of memory")]
     NoMemory,
+}
+
+impl From<FieldFault> for EventFault {
+    ghost use Rattle.std.specs.Prelude.{◌≡◌};
+    ghost use Rattle.kube_model.specs.EventFaults.{event_fault};
+
+    ghost from_gives = { λ f e. e ≡ event_fault f };
+
+    fn from(fault: FieldFault) -> EventFault {
+        match fault {
+            FieldFault::Faulty(path) => EventFault::Field { path },
+            FieldFault::NoMemory => EventFault::NoMemory,
+        }
+    }
+}
+
+impl From<NoMemory> for EventFault {
+    ghost use Rattle.std.specs.Prelude.{◌≡◌};
+    ghost use Rattle.kube_model.specs.declared.event.EventFault.TheVariants.{NoMemory};
+
+    ghost from_gives = { λ _ e. e ≡ NoMemory };
+
+    fn from(_refused: NoMemory) -> EventFault {
+        EventFault::NoMemory
+    }
 }
 
 impl TryCopy for Event {

@@ -1,9 +1,10 @@
 //! The families that a service wants addresses of.
-ghost use Rattle.std.specs.Prelude.{◌≡◌, OnOk, IfOk, IfSome, IfNone};
+ghost use Rattle.std.specs.Prelude.{◌≡◌, ◌≢◌, [], ◌∷◌, IfOk, IfSome, IfNone};
 ghost use Rattle.kube_model.specs.Families.{AreFamilies};
 
 use ip_ranges::Family;
 use mlb_base::{NoMemory, Sequence, TryCopy};
+use std::alloc::Global;
 use std::marker::Model;
 
 /// One or two distinct families, in the order in which they are wanted.
@@ -35,6 +36,26 @@ impl FamilyList {
             [first, second] if first != second => Some(FamilyList { families }),
             _ => None,
         }
+    }
+
+    /// The family alone.
+    pub fn one(alloc: Global, family: Family) -> Result<FamilyList, NoMemory>
+        ensures { IfOk result (λ made. made ≡ family ∷ []) }
+    {
+        let mut families = Sequence::new(alloc);
+        families.push(family)?;
+        Ok(FamilyList { families })
+    }
+
+    /// The two families, in this order.
+    pub fn two(alloc: Global, first: Family, second: Family) -> Result<FamilyList, NoMemory>
+        requires { first ≢ second }
+        ensures { IfOk result (λ made. made ≡ first ∷ second ∷ []) }
+    {
+        let mut families = Sequence::new(alloc);
+        families.push(first)?;
+        families.push(second)?;
+        Ok(FamilyList { families })
     }
 
     pub fn as_slice(&self) -> &[Family]

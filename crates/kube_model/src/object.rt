@@ -1,6 +1,7 @@
 //! The objects that are watched.
 ghost use Rattle.std.specs.Prelude.{◌≡◌};
 ghost use Rattle.kube_model.specs.Kinds.{kind_of, group_of};
+ghost use Rattle.kube_model.specs.Named.{kind_named};
 ghost use Rattle.kube_model.specs.Words.{kind_text};
 
 use crate::bgp::BgpAdv;
@@ -65,6 +66,24 @@ impl Object {
 }
 
 impl Kind {
+    /// The kind that Kubernetes has this name for, if it is one that is read.
+    pub fn named(name: &str) -> Option<Kind>
+        ensures { result ≡ kind_named name.now }
+    {
+        match name {
+            "Service" => Some(Kind::Service),
+            "IPAddressPool" => Some(Kind::Pool),
+            "L2Advertisement" => Some(Kind::L2),
+            "BGPAdvertisement" => Some(Kind::Bgp),
+            "BGPPeer" => Some(Kind::Peer),
+            "Community" => Some(Kind::Community),
+            "Namespace" => Some(Kind::Namespace),
+            "Node" => Some(Kind::Node),
+            "EndpointSlice" => Some(Kind::Slice),
+            _ => None,
+        }
+    }
+
     /// The list that objects of this kind come in.
     pub fn group(self) -> Group
         ensures { result ≡ group_of self }

@@ -12,10 +12,10 @@ use Rattle.ctl_core.specs.Take.{core_take}
 use Rattle.ctl_core.specs.Turn.{core_turn, after_turn}
 use Rattle.ctl_core.specs.Reply.{core_reply}
 
--- what a drive is over: items, each the event of a numbered line of a lane, and replies to puts
-pub data Input : Type 0 where
-  Item : (lane : LaneName) → (number : ℕ) → (event : Event) → Input
-  Reply : (reply : PutReply) → Input
+-- what arrives: an item, which is the event of a numbered line of a lane, or the reply to a put
+pub data Arrival : Type 0 where
+  Item : (lane : LaneName) → (number : ℕ) → (event : Event) → Arrival
+  Reply : (reply : PutReply) → Arrival
 
 -- an entry of a transcript
 pub data Entry : Type 0 where
@@ -44,7 +44,7 @@ abbrev pub turns_from : State → Run
 turns_from s = turns s.queue s
 
 -- an item is taken, or a reply heard, and turns follow
-abbrev pub driven : State → Input → Run
+abbrev pub driven : State → Arrival → Run
 driven s (Item lane number event) =
     let taken = core_take s event in
     let rest = turns_from taken.core in
@@ -54,9 +54,9 @@ driven s (Reply reply) =
     record { entries = Heard reply ∷ rest.entries; core = rest.core }
 
 -- the transcript of items and replies, one after the other
-abbrev pub drive : List Input → State → Run
+abbrev pub drive : List Arrival → State → Run
 drive [] s = record { entries = []; core = s }
-drive (input ∷ inputs) s =
-    let first = driven s input in
-    let rest = drive inputs first.core in
+drive (arrival ∷ more) s =
+    let first = driven s arrival in
+    let rest = drive more first.core in
     record { entries = first.entries ++ rest.entries; core = rest.core }

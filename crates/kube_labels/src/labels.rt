@@ -1,14 +1,12 @@
 ghost use Rattle.std.specs.Prelude.{◌≡◌, ◌==◌, [], OnOk, OnErr, option_map, length};
-ghost use Rattle.std.specs.Ordering.{nat_cmp};
-ghost use Rattle.std.specs.Cmp.Lexicographic.{slice_cmp};
-ghost use Rattle.std.specs.List.Sorted.{IsStrictlySortedBy};
-ghost use Rattle.std.specs.Map.{keys_of};
-ghost use Rattle.kube_labels.specs.Pairs.{value_of, with_pair};
+ghost use Rattle.std.specs.List.{list_all};
+ghost use Rattle.kube_labels.specs.Pairs.{IsAscending, value_of, with_pair, pairs_of, has_pair};
 
 use crate::Text;
 use mlb_base::{NoMemory, TryCopy};
 use std::alloc::Global;
 use std::collections::BTreeMap;
+use std::collections::btree_map::Iter;
 use std::marker::Model;
 
 /// Names with values, which contracts see as pairs with ascending distinct names.
@@ -18,11 +16,12 @@ pub struct Labels {
 }
 
 impl Model for Labels {
-    ghost use Rattle.std.specs.Prelude.{ℕ, List, map, string_bytes};
+    ghost use Rattle.std.specs.Prelude.{ℕ, List};
+    ghost use Rattle.kube_labels.specs.Pairs.{pairs_of};
 
     ghost Value = { List (List ℕ × List ℕ) };
 
-    ghost view = { λ l. map (λ e. (string_bytes e.0, e.1)) l.values.entries };
+    ghost view = { λ l. pairs_of l.values.entries };
 }
 
 impl Labels {
@@ -37,7 +36,7 @@ impl Labels {
     /// How many there are. Their names ascend.
     pub fn len(&self) -> usize
         ensures count { result ≡ length self.now }
-        ensures ordered { IsStrictlySortedBy (slice_cmp nat_cmp) (keys_of self.now) }
+        ensures ordered { IsAscending self.now }
     {
         self.values.len()
     }
@@ -57,10 +56,36 @@ impl Labels {
         Ok(())
     }
 
+    /// The key's value.
     pub fn get(&self, key: &str) -> Option<&Text>
         ensures { option_map (λ v. v.now) result ≡ value_of key.now self.now }
     {
         self.values.get(key)
+    }
+
+    /// The pairs, by ascending names.
+    pub fn iter(&self) -> Iter<'_, String, Text>
+        ensures pairs { pairs_of result ≡ self.now }
+        ensures ordered { IsAscending self.now }
+    {
+        self.values.iter()
+    }
+
+    /// Whether the key has this value.
+    fn has(&self, key: &str, value: &Text) -> bool
+        ensures { result ≡ has_pair self.now (key.now, value.now) }
+    {
+        self.get(key).is_some_and(|found| found == value)
+    }
+
+    /// Whether each of the pairs wanted is there.
+    pub(crate) fn has_all(&self, wanted: &Labels) -> bool
+        ensures { result ≡ list_all (has_pair self.now) wanted.now }
+    {
+        wanted
+            .values
+            .iter()
+            .all(|(key, value)| self.has(key.as_str(), value))
     }
 }
 

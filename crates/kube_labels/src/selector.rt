@@ -1,7 +1,7 @@
 ghost use Rattle.std.specs.Prelude.{◌≡◌};
 ghost use Rattle.kube_labels.specs.Selectors.{selector_of, matches};
 
-use crate::expression::first_fault;
+use crate::expression::{all_hold, first_fault};
 use crate::{ExpressionList, Labels, SelectorFault};
 use mlb_base::{NoMemory, Sequence, TryCopy};
 use std::marker::Model;
@@ -40,6 +40,13 @@ impl Selector {
                 expressions,
             }),
         }
+    }
+
+    /// Whether each of the selector's labels is there and each of its expressions holds. It takes no memory.
+    pub fn matches(&self, labels: &Labels) -> bool
+        ensures { result ≡ matches self.now labels.now }
+    {
+        labels.has_all(&self.labels) && all_hold(self.expressions.as_slice(), labels)
     }
 }
 

@@ -1,4 +1,4 @@
-ghost use Rattle.std.specs.Prelude.{◌≡◌, ◌==◌, [], OnOk, OnErr, option_map, length};
+ghost use Rattle.std.specs.Prelude.{◌≡◌, ◌≢◌, ◌==◌, ℕ, List, [], OnOk, OnErr, option_map, length};
 ghost use Rattle.std.specs.List.{list_all};
 ghost use Rattle.kube_labels.specs.Pairs.{IsAscending, value_of, with_pair, pairs_of, has_pair};
 
@@ -17,11 +17,13 @@ pub struct Labels {
 
 impl Model for Labels {
     ghost use Rattle.std.specs.Prelude.{ℕ, List};
-    ghost use Rattle.kube_labels.specs.Pairs.{pairs_of};
+    ghost use Rattle.kube_labels.specs.Pairs.{pairs_of, IsAscending};
 
     ghost Value = { List (List ℕ × List ℕ) };
 
     ghost view = { λ l. pairs_of l.values.entries };
+
+    ghost invariant = { λ l. IsAscending (pairs_of l.values.entries) };
 }
 
 impl Labels {
@@ -47,10 +49,15 @@ impl Labels {
         self.values.is_empty()
     }
 
-    /// Puts the value in place of the key's earlier one.
+    /// Puts the value in place of the key's earlier one. Where there is no memory all stay.
     pub fn set(&mut self, key: Text, value: Text) -> Result<(), NoMemory>
         ensures ok { OnOk result (self.new ≡ with_pair key value self.old) }
         ensures err { OnErr result (self.new ≡ self.old) }
+
+        // The key has the value, and every other key the one that it had.
+        ensures at_key { OnOk result (value_of key self.new ≡ Some value) }
+        ensures others { OnOk result ((other : List ℕ) → other ≢ key
+            → value_of other self.new ≡ value_of other self.old) }
     {
         self.values.insert(key.into_string(), value)?;
         Ok(())
@@ -58,7 +65,8 @@ impl Labels {
 
     /// The key's value.
     pub fn get(&self, key: &str) -> Option<&Text>
-        ensures { option_map (λ v. v.now) result ≡ value_of key.now self.now }
+        ensures value { option_map (λ v. v.now) result ≡ value_of key.now self.now }
+        ensures ordered { IsAscending self.now }
     {
         self.values.get(key)
     }

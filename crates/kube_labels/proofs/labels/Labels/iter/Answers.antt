@@ -1,5 +1,0 @@
-use Rattle.kube_labels.proofs.PairLemmas.{ordered-pairs_of}
-use Rattle.kube_labels.proofs.labels.Labels.iter.Goals as goal
-
-pub returns-clause-ordered : goal.returns-clause-ordered
-returns-clause-ordered c = rw (← c.self.view_is) (ordered-pairs_of c.self.inside.values.entries c.iter.ensures.ordered)

@@ -23,11 +23,15 @@ WantsNone (Some Exists) = Unit {0}
 WantsNone (Some DoesNotExist) = Unit {0}
 WantsNone _ = ⊥
 
+-- an operator with these values has this fault
+abbrev pub IsFaultUnder : Option Operator → List (List ℕ) → SelectorFault → Type 0
+IsFaultUnder operator values (UnknownOperator _) = operator ≡ None
+IsFaultUnder operator values (EmptyValues _) = WantsValues operator × (values ≡ [])
+IsFaultUnder operator values (UnwantedValues _) = WantsNone operator × (values ≢ [])
+
 -- the expression has this fault
 abbrev pub HasFault : Expression → SelectorFault → Type 0
-HasFault e (UnknownOperator _) = operator_named e.operator ≡ None
-HasFault e (EmptyValues _) = WantsValues (operator_named e.operator) × (e.values ≡ [])
-HasFault e (UnwantedValues _) = WantsNone (operator_named e.operator) × (e.values ≢ [])
+HasFault e fault = IsFaultUnder (operator_named e.operator) e.values fault
 
 -- the expression has no fault
 abbrev pub IsWellFormed : Expression → Type 0

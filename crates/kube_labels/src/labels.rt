@@ -79,21 +79,15 @@ impl Labels {
         self.values.iter()
     }
 
-    /// Whether the key has this value.
-    fn has(&self, key: &str, value: &Text) -> bool
-        ensures { result ≡ has_pair self.now (key.now, value.now) }
-    {
-        self.get(key).is_some_and(|found| found == value)
-    }
-
     /// Whether each of the pairs wanted is there.
     pub(crate) fn has_all(&self, wanted: &Labels) -> bool
-        ensures { result ≡ list_all (has_pair self.now) wanted.now }
+        ensures value { result ≡ list_all (has_pair self.now) wanted.now }
+        ensures ordered { IsAscending self.now }
     {
-        wanted
-            .values
-            .iter()
-            .all(|(key, value)| self.has(key.as_str(), value))
+        let held = &self.values;
+        wanted.values.iter().all(|(key, value)| held
+            .get(key.as_str())
+            .is_some_and(|found| found == value))
     }
 }
 

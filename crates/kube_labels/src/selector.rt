@@ -1,5 +1,7 @@
-ghost use Rattle.std.specs.Prelude.{◌≡◌};
-ghost use Rattle.kube_labels.specs.Selectors.{selector_of, matches};
+ghost use Rattle.std.specs.Prelude.{◌≡◌, ◌↔◌, IsTrue, IsOk, All};
+ghost use Rattle.kube_labels.specs.declared.fault.SelectorFault.{SelectorFault};
+ghost use Rattle.kube_labels.specs.Expressions.{IsWellFormed, IsFirstFault};
+ghost use Rattle.kube_labels.specs.Selectors.{selector_of, Matches, matches};
 
 use crate::expression::{all_hold, first_fault};
 use crate::{ExpressionList, Labels, SelectorFault};
@@ -31,7 +33,10 @@ impl Model for Selector {
 impl Selector {
     /// The selector of these labels and expressions, unless an expression is at fault. It takes no memory.
     pub fn new(labels: Labels, expressions: ExpressionList) -> Result<Selector, SelectorFault>
-        ensures { result ≡ selector_of labels expressions }
+        ensures value { result ≡ selector_of labels expressions }
+        ensures accepted { IsOk result ↔ All IsWellFormed expressions }
+        ensures refused { (fault : SelectorFault)
+            → (result ≡ Err fault) ↔ IsFirstFault expressions fault }
     {
         match first_fault(expressions.as_slice()) {
             Some(fault) => Err(fault),
@@ -44,7 +49,9 @@ impl Selector {
 
     /// Whether each of the selector's labels is there and each of its expressions holds. It takes no memory.
     pub fn matches(&self, labels: &Labels) -> bool
-        ensures { result ≡ matches self.now labels.now }
+        ensures value { result ≡ matches self.now labels.now }
+        ensures meaning { IsTrue result ↔ Matches self.now labels.now }
+        ensures well_formed { All IsWellFormed self.now.expressions }
     {
         labels.has_all(&self.labels) && all_hold(self.expressions.as_slice(), labels)
     }

@@ -1,5 +1,5 @@
 -- The pairs of a map from texts, seen by the bytes of their names.
-use Rattle.std.proofs.Common.{◌≡◌, ℕ, List, [], ◌∷◌, refl, ap, ◌∙◌, Bool, string_bytes, ◌&&◌}
+use Rattle.std.proofs.Common.{◌≡◌, ℕ, List, [], ◌∷◌, refl, ap, ◌∙◌, string_bytes, ◌&&◌}
 use Rattle.std.specs.Ordering.{nat_cmp, match_ordering}
 use Rattle.std.specs.declared.cmp.Ordering.{Ordering}
 use Rattle.std.specs.declared.cmp.Ordering.TheVariants.{Less, Equal, Greater}
@@ -11,7 +11,7 @@ use Rattle.std.specs.Map.{lookup, keys_of}
 use Rattle.std.specs.List.Sorted.{IsStrictlySortedBy}
 use Rattle.std.specs.Prelude.{String}
 use Rattle.std.specs.declared.alloc.Global.{Global}
-use Rattle.kube_labels.specs.Pairs.{value_of, with_pair, pairs_of}
+use Rattle.kube_labels.specs.Pairs.{value_of, with_pair, pair_eq, pairs_of}
 
 abbrev pub text_cmp : String Global → String Global → Ordering
 text_cmp x y = slice_cmp nat_cmp (string_bytes x) (string_bytes y)
@@ -36,10 +36,6 @@ pairs_of-clone [] [] h = refl
 pairs_of-clone [] (f ∷ fs) h = absurd h
 pairs_of-clone (e ∷ es) [] h = absurd h
 pairs_of-clone (e ∷ es) (f ∷ fs) h = rw (h.0.0, h.0.1, pairs_of-clone es fs h.1) refl
-
--- equal pairs, by their bytes
-abbrev pub pair_eq : List ℕ × List ℕ → List ℕ × List ℕ → Bool
-pair_eq p q = bytes_eq p.0 q.0 && bytes_eq p.1 q.1
 
 pub pointwise-pairs_of : (es fs : List (String Global × List ℕ)) → pointwise pair_eq (pairs_of es) (pairs_of fs) ≡ pointwise (λ p q. bytes_eq (string_bytes p.0) (string_bytes q.0) && bytes_eq p.1 q.1) es fs
 pointwise-pairs_of [] [] = refl

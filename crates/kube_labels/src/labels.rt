@@ -53,6 +53,7 @@ impl Labels {
     pub fn set(&mut self, key: Text, value: Text) -> Result<(), NoMemory>
         ensures ok { OnOk result (self.new ≡ with_pair key value self.old) }
         ensures err { OnErr result (self.new ≡ self.old) }
+        ensures ordered { IsAscending self.new }
 
         // The key has the value, and every other key the one that it had.
         ensures at_key { OnOk result (value_of key self.new ≡ Some value) }
@@ -100,16 +101,21 @@ impl TryCopy for Labels {
 }
 
 impl PartialEq for Labels {
-    ghost use Rattle.std.specs.Prelude.{◌&&◌};
-    ghost use Rattle.std.specs.Str.{bytes_eq};
-    ghost use Rattle.std.specs.Cmp.Lexicographic.{pointwise, lists_per, nat_list_eq_equiv};
-    ghost use Rattle.std.specs.Cmp.{partial_equiv_from_equiv, and_per, on_per};
+    ghost use Rattle.std.specs.Cmp.Lexicographic.{pointwise};
+    ghost use Rattle.std.specs.Cmp.{partial_equiv_from_equiv};
+    ghost use Rattle.kube_labels.specs.Pairs.{pair_eq, pairs_equiv};
 
-    ghost eq = { pointwise (λ p q. bytes_eq p.0 q.0 && bytes_eq p.1 q.1) };
+    ghost eq = { pointwise pair_eq };
 
-    ghost laws = { lists_per (and_per (on_per (λ p. p.0) (partial_equiv_from_equiv nat_list_eq_equiv)) (on_per (λ p. p.1) (partial_equiv_from_equiv nat_list_eq_equiv))) };
+    ghost laws = { partial_equiv_from_equiv pairs_equiv };
 
     fn eq(&self, other: &Labels) -> bool {
         self.values == other.values
     }
+}
+
+impl Eq for Labels {
+    ghost use Rattle.kube_labels.specs.Pairs.{pairs_equiv};
+
+    ghost laws = { pairs_equiv };
 }

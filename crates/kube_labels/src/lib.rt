@@ -14,3 +14,6 @@ pub use labels::Labels;
 pub use operator::Operator;
 pub use selector::{Selector, SelectorList};
 pub use text::{NamedValues, Text, TextList};
+
+#[cfg(test)]
+mod tests;

@@ -9,7 +9,7 @@ use mlb_base::{NoMemory, Sequence, TryCopy};
 use std::marker::Model;
 
 /// A label selector (Kubernetes, LabelSelector), each of whose expressions is well formed.
-#[derive(Debug, Drop)]
+#[derive(Debug, Drop, PartialEq)]
 pub struct Selector {
     labels: Labels,
     expressions: ExpressionList,
@@ -26,6 +26,8 @@ impl Model for Selector {
     ghost Value = { SelectorValue };
 
     ghost view = { λ s. record { pairs = s.labels; expressions = s.expressions } };
+
+    ghost inverse = { λ v. record { labels = v.pairs; expressions = v.expressions } };
 
     ghost invariant = { λ s. first_fault s.expressions ≡ None };
 }

@@ -13,3 +13,6 @@ returns-clause-others c = λ other differ. rw (returns-clause-ok c) (value_of-wi
 
 pub invariant_of-self-2 : goal.invariant_of-self-2
 invariant_of-self-2 c = ordered-pairs_of c.insert.new.self.entries c.in_ok-insert.ensures.ordered
+
+pub returns-clause-ordered : goal.returns-clause-ordered
+returns-clause-ordered c = ordered-pairs_of c.insert.new.self.entries c.in_ok-insert.ensures.ordered

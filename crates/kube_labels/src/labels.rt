@@ -9,7 +9,8 @@ use std::collections::BTreeMap;
 use std::collections::btree_map::Iter;
 use std::marker::Model;
 
-/// Names with values, which contracts see as pairs with ascending distinct names.
+/// Names with values, as in `metadata.labels` (Kubernetes, "Labels and Selectors"). Contracts see the
+/// pairs, whose names ascend by their bytes, so that no two are the same.
 #[derive(Debug, Drop)]
 pub struct Labels {
     values: BTreeMap<String, Text>,
@@ -27,6 +28,7 @@ impl Model for Labels {
 }
 
 impl Labels {
+    /// No pairs, which takes no memory.
     pub fn new(alloc: Global) -> Labels
         ensures { result ≡ [] }
     {
@@ -35,7 +37,7 @@ impl Labels {
         }
     }
 
-    /// How many there are. Their names ascend.
+    /// How many pairs there are.
     pub fn len(&self) -> usize
         ensures count { result ≡ length self.now }
         ensures ordered { IsAscending self.now }
@@ -64,7 +66,7 @@ impl Labels {
         Ok(())
     }
 
-    /// The key's value.
+    /// The key's value, if the key is there.
     pub fn get(&self, key: &str) -> Option<&Text>
         ensures value { option_map (λ v. v.now) result ≡ value_of key.now self.now }
         ensures ordered { IsAscending self.now }

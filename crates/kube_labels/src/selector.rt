@@ -33,7 +33,8 @@ impl Model for Selector {
 }
 
 impl Selector {
-    /// The selector of these labels and expressions, unless an expression is at fault. It takes no memory.
+    /// The selector that wants these labels and expressions. It is refused exactly where an expression is
+    /// at fault, and the fault is that of the first. It takes no memory.
     pub fn new(labels: Labels, expressions: ExpressionList) -> Result<Selector, SelectorFault>
         ensures value { result ≡ selector_of labels expressions }
         ensures accepted { IsOk result ↔ All IsWellFormed expressions }
@@ -49,7 +50,8 @@ impl Selector {
         }
     }
 
-    /// Whether each of the selector's labels is there and each of its expressions holds. It takes no memory.
+    /// Whether each label that is wanted is there, with its value, and each expression holds. The empty
+    /// selector matches all. It takes no memory.
     pub fn matches(&self, labels: &Labels) -> bool
         ensures value { result ≡ matches self.now labels.now }
         ensures meaning { IsTrue result ↔ Matches self.now labels.now }

@@ -10,7 +10,7 @@ use std::fmt;
 use std::hash::{Hash, Hasher};
 use std::marker::Model;
 
-/// An owned text, which contracts see as its bytes. Its order is that of the bytes.
+/// An owned text, which contracts see as its UTF-8 bytes. Equality and order are those of the bytes, unsigned.
 #[derive(Drop)]
 pub struct Text {
     text: String,
@@ -31,6 +31,7 @@ impl Model for Text {
 }
 
 impl Text {
+    /// The same text, owned.
     pub fn new(alloc: Global, text: &str) -> Result<Text, NoMemory>
         ensures { IfOk result (λ made. made ≡ text.now) }
     {
@@ -39,18 +40,21 @@ impl Text {
         })
     }
 
+    /// The same text, which takes no memory.
     pub fn from_string(text: String) -> Text
         ensures { result ≡ string_bytes text }
     {
         Text { text }
     }
 
+    /// The same text, which takes no memory.
     pub fn into_string(self) -> String
         ensures { string_bytes result ≡ self }
     {
         self.text
     }
 
+    /// The same text, borrowed.
     pub fn as_str(&self) -> &str
         ensures { result.now ≡ self.now }
     {

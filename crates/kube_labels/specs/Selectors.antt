@@ -1,6 +1,6 @@
 -- Label selectors (Kubernetes, "Labels and Selectors", and the API's LabelSelector).
 use Rattle.std.specs.Prelude.{List, ℕ, Bool, ◌&&◌, Option, Some, None, Result, Ok, Err, All, Contains}
-use Rattle.std.specs.List.{list_all}
+use Rattle.std.specs.List.{list_all, list_any}
 use Rattle.kube_labels.specs.declared.expression.Expression.{Expression}
 use Rattle.kube_labels.specs.declared.fault.SelectorFault.{SelectorFault}
 use Rattle.kube_labels.specs.Expressions.{first_fault, Holds, holds_of}
@@ -23,3 +23,7 @@ Matches selector pairs = All (Contains pairs) selector.pairs × All (Holds pairs
 -- `Matches` as a test
 abbrev pub matches : SelectorValue → List (List ℕ × List ℕ) → Bool
 matches selector pairs = list_all (has_pair pairs) selector.pairs && list_all (holds_of pairs) selector.expressions
+
+-- whether one of the selectors matches the pairs
+abbrev pub any_matches : List SelectorValue → List (List ℕ × List ℕ) → Bool
+any_matches selectors pairs = list_any (λ selector. matches selector pairs) selectors

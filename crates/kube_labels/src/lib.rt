@@ -12,7 +12,7 @@ pub use expression::{Expression, ExpressionList};
 pub use fault::SelectorFault;
 pub use labels::Labels;
 pub use operator::Operator;
-pub use selector::{Selector, SelectorList};
+pub use selector::{Selector, SelectorList, any_matches};
 pub use text::{NamedValues, Text, TextList};
 
 #[cfg(test)]

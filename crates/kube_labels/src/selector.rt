@@ -1,7 +1,7 @@
 ghost use Rattle.std.specs.Prelude.{◌≡◌, ◌↔◌, IsTrue, IsOk, All};
 ghost use Rattle.kube_labels.specs.declared.fault.SelectorFault.{SelectorFault};
 ghost use Rattle.kube_labels.specs.Expressions.{IsWellFormed, IsFirstFault};
-ghost use Rattle.kube_labels.specs.Selectors.{selector_of, Matches, matches};
+ghost use Rattle.kube_labels.specs.Selectors.{selector_of, Matches, matches, any_matches};
 
 use crate::expression::{all_hold, first_fault};
 use crate::{ExpressionList, Labels, SelectorFault};
@@ -59,6 +59,16 @@ impl Selector {
     {
         labels.has_all(&self.labels) && all_hold(self.expressions.as_slice(), labels)
     }
+}
+
+/// Whether one of the selectors matches the labels; of none, none does.
+pub fn any_matches(selectors: &SelectorList, labels: &Labels) -> bool
+    ensures { result ≡ any_matches selectors.now labels.now }
+{
+    selectors
+        .as_slice()
+        .iter()
+        .any(|selector| selector.matches(labels))
 }
 
 impl TryCopy for Selector {

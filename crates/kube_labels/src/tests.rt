@@ -117,6 +117,17 @@ fn selectors_match(rt: HostRuntime) -> Result<(), Fail> {
 }
 
 #[test]
+fn one_of_several_matches(rt: HostRuntime) -> Result<(), Fail> {
+    let alloc = rt.alloc();
+    let mut selectors = Sequence::new(alloc);
+    assert!(rt; !any_matches(&selectors, &labels(alloc, "a=1")?));
+    selectors.push(Selector::new(labels(alloc, "a=2")?, expressions(alloc, "")?)?)?;
+    selectors.push(Selector::new(labels(alloc, "a=1")?, expressions(alloc, "")?)?)?;
+    assert!(rt; any_matches(&selectors, &labels(alloc, "a=1")?));
+    Ok(())
+}
+
+#[test]
 fn labels_keep_the_last_value(rt: HostRuntime) -> Result<(), Fail> {
     let held = labels(rt.alloc(), "b=1,a=2,b=3")?;
     assert_eq!(rt; held.len(), 2);

@@ -1,5 +1,5 @@
 -- Addresses, ranges and prefixes, as contracts see them.
-use Rattle.std.specs.Prelude.{◌≡◌, ℕ, ◌+◌, ◌-◌, ◌*◌, ◌/◌, ◌%◌, ◌^◌, ◌<◌, ◌≤◌, ◌==◌, Bool, true, false, ◌&&◌, nat_le}
+use Rattle.std.specs.Prelude.{◌≡◌, ℕ, ◌+◌, ◌-◌, ◌*◌, ◌/◌, ◌%◌, ◌^◌, ◌<◌, ◌≤◌, Bool, true, false, ◌&&◌, ◌||◌, ◌==◌, nat_le}
 use Rattle.ip_ranges.specs.declared.family.Family.{Family}
 use Rattle.ip_ranges.specs.declared.family.Family.TheVariants.{V4, V6}
 
@@ -51,6 +51,14 @@ Holds s a = (s.family ≡ a.family) × (s.low ≤ a.number) × (a.number ≤ s.h
 -- the same as a test
 abbrev pub holds : SpanValue → AddressValue → Bool
 holds s a = same_family s.family a.family && nat_le s.low a.number && nat_le a.number s.high
+
+-- whether some address is in both spans
+abbrev pub overlaps : SpanValue → SpanValue → Bool
+overlaps s t = same_family s.family t.family && (nat_le s.low t.high && nat_le t.low s.high)
+
+-- an IPv4 address whose last octet is 0 or 255
+abbrev pub is_buggy : AddressValue → Bool
+is_buggy a = same_family a.family V4 && ((a.number % 256 == 0) || (a.number % 256 == 255))
 
 -- the span of one address
 abbrev pub only : AddressValue → SpanValue

@@ -22,7 +22,8 @@ IsAscending [] = ⊤
 IsAscending (p ∷ []) = ⊤
 IsAscending (p ∷ q ∷ rest) = (p.number + size_of p ≤ q.number) × IsAscending (q ∷ rest)
 
--- an ascending list of disjoint prefixes that has exactly the span's addresses, and no list of prefixes that does is shorter
+-- an ascending list of disjoint prefixes that has exactly the span's addresses, and no list of
+-- prefixes that does is shorter
 pub record IsCover (s : SpanValue) (ps : List PrefixValue) : Type 0 where
   pub made : IsMadeOf s ps
   pub ascending : IsAscending ps
@@ -40,7 +41,8 @@ is_apart s bits base = nat_lt (base + (2 ^ bits - 1)) s.low || nat_lt s.high bas
 abbrev pub is_inside : SpanValue → ℕ → ℕ → Bool
 is_inside s bits base = nat_le s.low base && nat_le (base + (2 ^ bits - 1)) s.high
 
--- those of the numbers that the span has: none, all as one prefix, or those of the lower and of the upper half
+-- those of the numbers that the span has: none, all of them as one prefix, or those of the lower and
+-- those of the upper half
 unfoldable pub cover_within : SpanValue → ℕ → ℕ → List PrefixValue
 cover_within s zero base = if is_apart s 0 base then [] else block s 0 base ∷ []
 cover_within s (suc bits) base =

@@ -85,12 +85,18 @@ size_at family length = 2 ^ (width_of family - length)
 
 -- the length fits the family, and the bits past it are 0
 abbrev pub IsPrefix : PrefixValue → Type 0
-IsPrefix p = (p.length ≤ width_of p.family) × (p.number < 2 ^ width_of p.family) × (p.number % size_at p.family p.length ≡ 0)
+IsPrefix p =
+    (p.length ≤ width_of p.family) × (p.number < 2 ^ width_of p.family)
+    × (p.number % size_at p.family p.length ≡ 0)
 
 -- the address without its bits past the length
 abbrev pub masked : AddressValue → ℕ → PrefixValue
-masked a length = record { family = a.family; number = a.number / size_at a.family length * size_at a.family length; length = length }
+masked a length =
+    let size = size_at a.family length in
+    record { family = a.family; number = a.number / size * size; length = length }
 
 -- the addresses of a prefix
 abbrev pub span_of : PrefixValue → SpanValue
-span_of p = record { family = p.family; low = p.number; high = p.number + (size_at p.family p.length - 1) }
+span_of p =
+    let size = size_at p.family p.length in
+    record { family = p.family; low = p.number; high = p.number + (size - 1) }

@@ -35,8 +35,8 @@ impl TryCopy for Address {
     }
 }
 
-/// Whether the address is one that some devices take wrongly for a network or a broadcast address: IPv4, with the last
-/// octet 0 or 255.
+/// Whether the address is one that some devices wrongly take for a network's own or for its
+/// broadcast address: IPv4, with the last octet 0 or 255.
 pub fn is_buggy(address: &Address) -> bool
     ensures value { result ≡ is_buggy address.now }
     ensures in_family { IsOfFamily address.now }

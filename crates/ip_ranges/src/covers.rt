@@ -9,8 +9,8 @@ use crate::{Prefix, PrefixList, Span};
 use mlb_base::NoMemory;
 use std::alloc::Global;
 
-/// The shortest ascending list of disjoint prefixes that has exactly the range's addresses: at most two for each bit
-/// of the family's width.
+/// The shortest ascending list of disjoint prefixes that has exactly the range's addresses: at most
+/// two for each bit of the family's width.
 pub fn cover(alloc: Global, span: &Span) -> Result<PrefixList, NoMemory>
     ensures cover { IfOk result (λ prefixes. IsCover span.now prefixes) }
     ensures value { IfOk result (λ prefixes. prefixes ≡ cover_of span.now) }
@@ -55,8 +55,8 @@ fn add_cover(span: &Span, bits: u8, base: u128, prefixes: &mut PrefixList) -> Re
     add_cover(span, half, base + low_ones(half) + 1, prefixes)
 }
 
-/// The least length in the cover of those of the `2^bits` addresses from `base` on that are the range's, and 128
-/// where none is.
+/// The least length in the cover of those of the `2^bits` addresses from `base` on that are the
+/// range's, and 128 where none is.
 fn least_within(span: &Span, bits: u8, base: u128) -> u8
     requires bits { bits ≤ width_of span.now.family }
     requires base { base + 2 ^ bits ≤ 2 ^ width_of span.now.family }

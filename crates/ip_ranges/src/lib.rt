@@ -1,4 +1,8 @@
 //! Addresses of both families, their texts, and ranges of them.
+//!
+//! Texts are those of RFC 4291, section 2.2, and are printed as RFC 5952, section 4, has it. An
+//! IPv4-mapped address, of `::ffff:0:0/96`, is never read. A range is covered by the fewest prefixes
+//! that have exactly its addresses.
 #![tactic(auto)]
 
 mod address;

@@ -55,7 +55,8 @@ impl Span {
     /// Whether some address is in both ranges.
     pub fn overlaps(&self, other: &Span) -> bool
         ensures test { result ≡ overlaps self.now other.now }
-        ensures shared { IsTrue result ↔ ((a : AddressValue) × Holds self.now a × Holds other.now a) }
+        ensures shared { IsTrue result
+            ↔ ((a : AddressValue) × Holds self.now a × Holds other.now a) }
         ensures range { IsRange self.now }
         ensures other_range { IsRange other.now }
     {

@@ -214,6 +214,21 @@ fn mapped_addresses_are_refused(rt: HostRuntime) {
 }
 
 #[test]
+fn blanks_round_an_address_are_dropped(rt: HostRuntime) -> Result<(), Fail> {
+    for text in ["192.0.2.1", " 192.0.2.1", "192.0.2.1\t", "\t 192.0.2.1 \t"] {
+        assert_eq!(rt; parse_padded_address(text)?.number, 0xc0000201, "{text}");
+    }
+    for text in ["\n192.0.2.1", "192.0.2.1\r", "192.0. 2.1", " "] {
+        assert_eq!(rt;
+            parse_padded_address(text).err(),
+            Some(RangeFault::NotAddress),
+            "{text}"
+        );
+    }
+    Ok(())
+}
+
+#[test]
 fn entries_are_refused_for_their_first_fault(rt: HostRuntime) {
     for (text, fault) in [
         ("192.0.2.1", RangeFault::BadLength),

@@ -7,8 +7,8 @@ ghost use Rattle.ip_ranges.specs.AddressText.{canonical_text, text_in};
 use crate::{Address, Family};
 use std::net::{Ipv4Addr, Ipv6Addr};
 
-/// Writes the text that `print_address` gives to the front of the buffer, and answers its length. It takes no memory.
-/// What the buffer has behind the text is not stated.
+/// Writes the text that `print_address` gives to the front of the buffer, and answers its length. It
+/// takes no memory. What the buffer has behind the text is not stated.
 pub fn write_address(address: &Address, buf: &mut [u8; 39]) -> usize
     ensures text { take result buf.new ≡ canonical_text address.now }
     ensures within { result ≤ 39 }

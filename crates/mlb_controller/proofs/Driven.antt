@@ -58,7 +58,7 @@ stops None now core before after ending so_far ends = tt
 stops (Some bytes) None core before after ending so_far ends = absurd so_far.follows
 stops (Some bytes) (Some now) core before after ending so_far ends =
     let whole : stream_of bytes ≡ joined so_far.arrivals (stream_from [] ending core) =
-        stream_is bytes now core so_far.done so_far.arrivals so_far.arrive so_far.follows ∙ ap (λ (i : Input). joined so_far.arrivals (stream_from i.lines i.ending core)) ends in (
+    stream_is bytes now core so_far.done so_far.arrivals so_far.arrive so_far.follows ∙ ap (λ (i : Input). joined so_far.arrivals (stream_from i.lines i.ending core)) ends in (
       ap (λ (s : Stream). s.stop) whole,
       rw (whole, append-nil so_far.arrivals) so_far.wrote,
     )
@@ -82,7 +82,7 @@ writes_upto None now core before after so_far = tt
 writes_upto (Some bytes) None core before after so_far = absurd so_far.follows
 writes_upto (Some bytes) (Some now) core before after so_far =
     rw (text_is bytes now core so_far.done so_far.arrivals so_far.arrive so_far.follows)
-        (upto_first before after (text_of so_far.arrivals) (output_of (drive (stream_from now.lines now.ending core).arrivals core).entries) (upto_all before after (text_of so_far.arrivals) so_far.wrote))
+    (upto_first before after (text_of so_far.arrivals) (output_of (drive (stream_from now.lines now.ending core).arrivals core).entries) (upto_all before after (text_of so_far.arrivals) so_far.wrote))
 
 -- the text of the rest begins with that of the line
 rest_is : (now next : Input) (core : State) (line : Line) (arrival : Arrival) → Follows (Some now) (line ∷ []) (Some next) → meaning_of core line ≡ Reads arrival
@@ -99,7 +99,7 @@ writes_in_part (Some bytes) None next core before mid after line arrival so_far 
 writes_in_part (Some bytes) (Some now) None core before mid after line arrival so_far comes means part = absurd comes
 writes_in_part (Some bytes) (Some now) (Some next) core before mid after line arrival so_far comes means part =
     rw (text_is bytes now core so_far.done so_far.arrivals so_far.arrive so_far.follows, rest_is now next core line arrival comes means)
-        (part_then before mid after (text_of so_far.arrivals) _ so_far.wrote (part_first mid after (output_of (driven core arrival).entries) _ part))
+    (part_then before mid after (text_of so_far.arrivals) _ so_far.wrote (part_first mid after (output_of (driven core arrival).entries) _ part))
 
 -- a beginning of the line's text was written
 pub writes_upto_line : (start : Option (List ℕ)) (now next : Option Input) (core : State) (before mid after : Option (List ℕ)) (line : Line) (arrival : Arrival) → Driven start now core before mid → Follows now (line ∷ []) next
@@ -109,7 +109,7 @@ writes_upto_line (Some bytes) None next core before mid after line arrival so_fa
 writes_upto_line (Some bytes) (Some now) None core before mid after line arrival so_far comes means part = absurd comes
 writes_upto_line (Some bytes) (Some now) (Some next) core before mid after line arrival so_far comes means part =
     rw (text_is bytes now core so_far.done so_far.arrivals so_far.arrive so_far.follows, rest_is now next core line arrival comes means)
-        (upto_then before mid after (text_of so_far.arrivals) _ so_far.wrote (upto_first mid after (output_of (driven core arrival).entries) _ part))
+    (upto_then before mid after (text_of so_far.arrivals) _ so_far.wrote (upto_first mid after (output_of (driven core arrival).entries) _ part))
 
 -- the text of some lines' run, whatever the source tells
 only_is : (done : List Line) (arrivals : List Arrival) (core : State) → ArriveBy done arrivals (fresh None) core → (stream_from done Whole (fresh None)).arrivals ≡ arrivals

@@ -38,18 +38,27 @@ still start now core before mid after so_far nothing = record {
 -- the run ends at a line
 module _ (start left : Option (List ℕ)) (now next : Option Input) (core : State) (before mid after : Option (List ℕ)) (line : Line) (so_far : Driven start now core before mid) (comes : Follows now (line ∷ []) next) (reads reads' writes m n : ℕ) (later : writes ≤ m) where
   pub explains_line : (status : Status) → EndsAt status core line mid after m n → Explains status start left before after reads reads' writes n
-  explains_line (BadLine lane number bytes) e = (line, record {
-    answered = rw (e.0, e.1.numbered, e.1.holds) refl;
-    stops = stops_at start now next core before after line (Bad line) (still start now core before mid after so_far e.1.nothing) comes e.1.means;
-  })
-  explains_line (BadReply number bytes) e = (line, record {
-    answered = rw (e.numbered, e.holds) refl;
-    stops = stops_at start now next core before after line (NotReply line) (still start now core before mid after so_far e.nothing) comes e.means;
-  })
-  explains_line (NotBuilt number bytes) e = (line, record {
-    answered = rw (e.numbered, e.holds) refl;
-    stops = stops_at start now next core before after line (Unbuilt line) (still start now core before mid after so_far e.nothing) comes e.means;
-  })
+  explains_line (BadLine lane number bytes) e = (
+    line,
+    record {
+      answered = rw (e.0, e.1.numbered, e.1.holds) refl;
+      stops = stops_at start now next core before after line (Bad line) (still start now core before mid after so_far e.1.nothing) comes e.1.means;
+    },
+  )
+  explains_line (BadReply number bytes) e = (
+    line,
+    record {
+      answered = rw (e.numbered, e.holds) refl;
+      stops = stops_at start now next core before after line (NotReply line) (still start now core before mid after so_far e.nothing) comes e.means;
+    },
+  )
+  explains_line (NotBuilt number bytes) e = (
+    line,
+    record {
+      answered = rw (e.numbered, e.holds) refl;
+      stops = stops_at start now next core before after line (Unbuilt line) (still start now core before mid after so_far e.nothing) comes e.means;
+    },
+  )
   explains_line WriteFault e = (writes_in_part start now next core before mid after line e.arrival so_far comes e.means e.halts.0, omega (arith, e.halts.1, later))
   explains_line NoMemory (inl nothing) = writes_upto start now core before after (still start now core before mid after so_far nothing)
   explains_line NoMemory (inr e) = writes_upto_line start now next core before mid after line e.arrival so_far comes e.means e.halts

@@ -88,7 +88,7 @@ module _ (start now : State) (before mid after : Option (List ℕ)) (k m n : ℕ
       let first = turn_first now some in
       let here : Halts halt (turn_text (core_turn now)) mid after m n = rw is at h in
       rw (← so_far.rest, first.1)
-          (Halts-then halt so_far.text (turn_text (core_turn now) ++ first.0) before mid after k m n so_far.wrote so_far.later (Halts-first halt (turn_text (core_turn now)) first.0 mid after m n here))
+      (Halts-then halt so_far.text (turn_text (core_turn now) ++ first.0) before mid after k m n so_far.wrote so_far.later (Halts-first halt (turn_text (core_turn now)) first.0 mid after m n here))
 
   -- where a put is wanted
   pub ends_at_put : (turn : Turn) → 0 < length now.queue → turn ≡ core_turn now → is_some (put_in turn) ≡ true → Grows mid after (turn_text turn) → Grows before after (output_of (turns_from start).entries)

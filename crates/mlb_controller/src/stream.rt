@@ -1,10 +1,11 @@
 //! The run over one stream.
-ghost use Rattle.std.specs.Prelude.{◌≡◌, ◌≤◌, ◌⊎◌, ◌↔◌, ℕ, List, true, false, map, string_bytes};
+ghost use Rattle.std.specs.Prelude.{◌≡◌, ◌≤◌, ◌⊎◌, ◌↔◌, ℕ, List, [], None, true, false, map, string_bytes};
 ghost use Rattle.std.specs.Io.KnownBytes.{IsAtEnd};
 ghost use Rattle.kube_model.specs.declared.put.Put.{Put};
 ghost use Rattle.kube_model.specs.declared.status.LaneName.{LaneName};
 ghost use Rattle.mlb_edge.specs.declared.lines.Line.{Line};
 ghost use Rattle.mlb_edge.specs.Causes.{Rose};
+ghost use Rattle.ctl_core.specs.Core.{fresh};
 ghost use Rattle.mlb_controller.specs.Ended.{status_of_end, end_of};
 ghost use Rattle.mlb_controller.specs.Explains.{Explains, IsStatusOf, status_for};
 ghost use Rattle.mlb_controller.specs.Stream.{AllRead, Bad, Unbuilt, NotReply, Unanswered, LineTooLong, InputTooLong};
@@ -53,7 +54,33 @@ fn status_at_end(core: &Core) -> Status
 }
 
 /// Drives the core by the lines of the input until something ends the run.
-fn drive_lines<S: Source, K: Sink>(alloc: Global, input: &mut S, out: &mut K) -> Status
+fn drive_lines<S: Source, K: Sink>(
+    alloc: Global,
+    reader: &mut LineReader,
+    core: &mut Core,
+    input: &mut S,
+    out: &mut K,
+) -> Status
+    requires begun { reader.old ≡ record { held = []; passed = 0; number = 0 } }
+    requires fresh { core.old ≡ fresh None }
+    ensures explains { Explains result (S.left input.old) (S.left input.new) (K.written out.old) (K.written out.new)
+        (S.faults input.old) (S.faults input.new) (K.faults out.old) (K.faults out.new) }
+    ensures only { WritesOnly (K.written out.old) (K.written out.new) }
+{
+    'lines: loop {
+        let line = match reader.next_line(input) {
+            Ok(Some(line)) => line,
+            Ok(None) => return status_at_end(core),
+            Err(end) => return status_of_end(end),
+        };
+        if let Err(status) = drive_line(alloc, core, line, out) {
+            return status;
+        }
+    }
+}
+
+/// The run of a core that holds nothing.
+fn run_lines<S: Source, K: Sink>(alloc: Global, input: &mut S, out: &mut K) -> Status
     ensures explains { Explains result (S.left input.old) (S.left input.new) (K.written out.old) (K.written out.new)
         (S.faults input.old) (S.faults input.new) (K.faults out.old) (K.faults out.new) }
     ensures only { WritesOnly (K.written out.old) (K.written out.new) }
@@ -64,16 +91,7 @@ fn drive_lines<S: Source, K: Sink>(alloc: Global, input: &mut S, out: &mut K) ->
     let Ok(mut core) = Core::new(alloc, None) else {
         return Status::NoMemory;
     };
-    'lines: loop {
-        let line = match reader.next_line(input) {
-            Ok(Some(line)) => line,
-            Ok(None) => return status_at_end(&core),
-            Err(end) => return status_of_end(end),
-        };
-        if let Err(status) = drive_line(alloc, &mut core, line, out) {
-            return status;
-        }
-    }
+    drive_lines(alloc, &mut reader, &mut core, input, out)
 }
 
 /// The work of the program on one stream: each line of the input is an event, or the reply to the put before it.
@@ -125,5 +143,5 @@ pub fn stream_controller<S: Source, K: Sink>(
     if !are_known(words) {
         return Status::Usage;
     }
-    drive_lines(alloc, input, out)
+    run_lines(alloc, input, out)
 }

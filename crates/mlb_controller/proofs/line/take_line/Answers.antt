@@ -21,5 +21,5 @@ pub returns-clause-err : goal.returns-clause-err
 returns-clause-err g c =
     let reads : event_of_line c.args.line.bytes ≡ Ok c.in-Ok.event = rw c.as_slice.ensures at c.in-Ok.ensures in
     let built : is_built c.args.core.now c.in-Ok.event ≡ true = is_taken _ c.in-Ok-take.note c.in-Ok-take.ensures.not_built.1 in
-    rw c.status-in-Err-make_turns.ensures (ends_broken c.in-Err.halt _ _ _ _ _ _
-    (turns_broken c.args.core.now c.take.new.self c.args.line c.in-Ok.event c.in-Ok-take.note c.requires reads built c.in-Ok-take.ensures.note c.in-Ok-take.ensures.ok c.in-Err.halt _ (g.K.Sink.written c.write_note.new.out) _ _ (g.K.Sink.faults c.write_note.new.out) _ c.in_default.ensures.ok c.write_note.ensures.later c.in-Err.ensures.err))
+    rw c.status-in-Err-make_turns.ensures (ends_broken c.in-Err-make_turns.halt _ _ _ _ _ _
+    (turns_broken c.args.core.now c.take.new.self c.args.line c.in-Ok.event c.in-Ok-take.note c.requires reads built c.in-Ok-take.ensures.note c.in-Ok-take.ensures.ok c.in-Err-make_turns.halt _ (g.K.Sink.written c.write_note.new.out) _ _ (g.K.Sink.faults c.write_note.new.out) _ c.in_default.ensures.ok c.write_note.ensures.later c.in-Err-make_turns.ensures.err))

@@ -65,3 +65,6 @@ pub use selector::{SelectorText, SelectorTexts};
 pub use service::{Policy, Service, Wanted};
 pub use slice::{Endpoint, EndpointList, EndpointSlice};
 pub use status::{LaneName, Status, What};
+
+#[cfg(test)]
+mod field_tests;

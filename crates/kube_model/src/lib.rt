@@ -73,3 +73,5 @@ pub use status::{LaneName, Status, What};
 
 #[cfg(test)]
 mod field_tests;
+#[cfg(test)]
+mod tests;

@@ -2,3 +2,5 @@ pub mod AskedParts
 pub mod Fails
 pub mod LineTexts
 pub mod Versions
+pub mod ObjectLaws
+pub mod OrderLaws

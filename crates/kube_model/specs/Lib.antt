@@ -22,3 +22,5 @@ pub mod Status
 pub mod Wanted
 pub mod Words
 pub mod Service
+pub mod FieldOrder
+pub mod ObjectLines

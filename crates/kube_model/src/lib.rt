@@ -13,6 +13,7 @@ mod frame;
 mod key;
 mod l2;
 mod l2_fields;
+mod laws;
 mod lengths;
 mod lines;
 mod members;
@@ -47,6 +48,10 @@ pub use event::{Event, EventFault, Group};
 pub use families::FamilyList;
 pub use key::Key;
 pub use l2::L2Adv;
+pub use laws::{
+    lines_go_by_name, objects_go_by_name, pool_fault_is_first, pools_are_read,
+    service_fault_is_first, services_are_read,
+};
 pub use lengths::{LengthV4, LengthV6};
 pub use lines::{accepted_line, pending_line, put_line, refused_line};
 pub use namespace::Namespace;
@@ -65,3 +70,8 @@ pub use selector::{SelectorText, SelectorTexts};
 pub use service::{Policy, Service, Wanted};
 pub use slice::{Endpoint, EndpointList, EndpointSlice};
 pub use status::{LaneName, Status, What};
+
+#[cfg(test)]
+mod field_tests;
+#[cfg(test)]
+mod tests;

@@ -4,33 +4,24 @@
 mod halt;
 mod line;
 mod output;
+mod run;
 mod stream;
 mod turns;
 mod words;
 
 use kube_model::Status;
-use mlb_edge::{RealSink, RealSource};
+use mlb_edge::{RealFiles, RealSink, RealSource};
+use run::run_controller;
 use std::process::ExitCode;
 use std::rt::Env;
 use std::{env, io};
-use stream::stream_controller;
 
 fn words_given(rt: &(impl Env + AllocGlobal)) -> io::Result<Vec<String>> {
     Ok(env::args(rt)?.skip(1).collect(rt.alloc())?)
 }
 
-fn run(rt: &(impl Env + AllocGlobal + Input + Print)) -> Status {
-    // A word that isn't UTF-8 is no word of the table.
-    let Ok(words) = words_given(rt) else {
-        return Status::Usage;
-    };
-    let mut input = RealSource::new(rt.reader());
-    let mut out = RealSink::new(io::writer(rt));
-    stream_controller(rt.alloc(), &words, &mut input, &mut out)
-}
-
-fn main(rt: HostRuntime) -> ExitCode {
-    let status = run(&rt);
+/// Tells why the program ends, and the exit status that says so.
+fn exit_code(rt: &HostRuntime, status: &Status) -> ExitCode {
     if !status.is_done()
         && let Ok(text) = status.text(rt.alloc())
     {
@@ -38,6 +29,22 @@ fn main(rt: HostRuntime) -> ExitCode {
         let _ = eprintln!(rt; "{text}");
     }
     ExitCode::from(status.code())
+}
+
+fn main(rt: HostRuntime) -> ExitCode {
+    let alloc = rt.alloc();
+    // A word that isn't UTF-8 is no word of the table.
+    let Ok(words) = words_given(&rt) else {
+        return exit_code(&rt, &Status::Usage);
+    };
+    let Ok(owned) = rt.clone() else {
+        return exit_code(&rt, &Status::NoMemory);
+    };
+    let mut files = RealFiles::new(owned, alloc);
+    let mut input = RealSource::new(rt.reader());
+    let mut out = RealSink::new(io::writer(&rt));
+    let status = run_controller(&rt, alloc, &words, &mut files, &mut input, &mut out);
+    exit_code(&rt, &status)
 }
 
 #[cfg(test)]

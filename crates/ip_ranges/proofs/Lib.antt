@@ -5,3 +5,6 @@ pub mod BytesLemmas
 pub mod PrintedLemmas
 pub mod EntryLemmas
 pub mod SpanLemmas
+pub mod WrittenLemmas
+pub mod CoverLemmas
+pub mod CoverTheorems

@@ -24,8 +24,10 @@ v6_of groups = record { family = V6; number = from_be_bytes w128 (octets_of grou
 -- one to four hexadecimal digits with colons between them, where one `::` may stand for one or more
 -- groups of zeros and the last two groups may be written as an IPv4 address.
 abbrev pub IsSpelled : Family → List ℕ → ℕ → Type 0
-IsSpelled V4 text number = (octets : List ℕ) × IsDotted text octets × (number ≡ from_be_bytes w32 octets)
-IsSpelled V6 text number = (groups : List ℕ) × IsColonHex text groups × (number ≡ from_be_bytes w128 (octets_of groups))
+IsSpelled V4 text number =
+    (octets : List ℕ) × IsDotted text octets × (number ≡ from_be_bytes w32 octets)
+IsSpelled V6 text number =
+    (groups : List ℕ) × IsColonHex text groups × (number ≡ from_be_bytes w128 (octets_of groups))
 
 -- the text is one of those that write the address
 abbrev pub IsAddressText : List ℕ → AddressValue → Type 0
@@ -51,7 +53,7 @@ unfoldable pub address_of : List ℕ → Result AddressValue RangeFault
 address_of text = unmapped (spelled text)
 
 -- Dotted decimal; or the groups in lower-case hexadecimal without leading zeros, with `::` in place
--- of the longest run of two or more groups of zeros, of two such runs the first (RFC 5952, section 4).
+-- of the longest run of two or more groups of zeros, of two such runs the first (RFC 5952, 4).
 abbrev pub text_in : Family → ℕ → List ℕ
 text_in V4 number = ipv4_text (to_be_bytes w32 number)
 text_in V6 number = hex_groups_text (segments_of (to_be_bytes w128 number))

@@ -71,7 +71,8 @@ prefix_of address_text length_text = do
 abbrev pub span_unmapped : SpanValue → Result SpanValue RangeFault
 span_unmapped s = if meets_mapped s then Err Mapped else Ok s
 
--- a text with a dash is a range, and any other is a prefix, whose length is missing where it has no slash
+-- a text with a dash is a range, and any other is a prefix, whose length is missing where it has no
+-- slash
 abbrev pub written_span : List ℕ → Result SpanValue RangeFault
 written_span text =
     if nat_lt (position_or_len is_dash text) (length text)

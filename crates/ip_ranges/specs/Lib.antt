@@ -1,3 +1,4 @@
 pub mod Values
 pub mod AddressText
 pub mod EntryText
+pub mod Cover

@@ -1,5 +1,5 @@
 -- Addresses, ranges and prefixes, as contracts see them.
-use Rattle.std.specs.Prelude.{◌≡◌, ℕ, ◌+◌, ◌-◌, ◌*◌, ◌/◌, ◌%◌, ◌^◌, ◌<◌, ◌≤◌, ◌==◌, Bool, true, false, ◌&&◌, nat_le}
+use Rattle.std.specs.Prelude.{◌≡◌, ℕ, ◌+◌, ◌-◌, ◌*◌, ◌/◌, ◌%◌, ◌^◌, ◌<◌, ◌≤◌, Bool, true, false, ◌&&◌, ◌||◌, ◌==◌, nat_le}
 use Rattle.ip_ranges.specs.declared.family.Family.{Family}
 use Rattle.ip_ranges.specs.declared.family.Family.TheVariants.{V4, V6}
 
@@ -52,6 +52,14 @@ Holds s a = (s.family ≡ a.family) × (s.low ≤ a.number) × (a.number ≤ s.h
 abbrev pub holds : SpanValue → AddressValue → Bool
 holds s a = same_family s.family a.family && nat_le s.low a.number && nat_le a.number s.high
 
+-- whether some address is in both spans
+abbrev pub overlaps : SpanValue → SpanValue → Bool
+overlaps s t = same_family s.family t.family && (nat_le s.low t.high && nat_le t.low s.high)
+
+-- an IPv4 address whose last octet is 0 or 255
+abbrev pub is_buggy : AddressValue → Bool
+is_buggy a = same_family a.family V4 && ((a.number % 256 == 0) || (a.number % 256 == 255))
+
 -- the span of one address
 abbrev pub only : AddressValue → SpanValue
 only a = record { family = a.family; low = a.number; high = a.number }
@@ -77,12 +85,18 @@ size_at family length = 2 ^ (width_of family - length)
 
 -- the length fits the family, and the bits past it are 0
 abbrev pub IsPrefix : PrefixValue → Type 0
-IsPrefix p = (p.length ≤ width_of p.family) × (p.number < 2 ^ width_of p.family) × (p.number % size_at p.family p.length ≡ 0)
+IsPrefix p =
+    (p.length ≤ width_of p.family) × (p.number < 2 ^ width_of p.family)
+    × (p.number % size_at p.family p.length ≡ 0)
 
 -- the address without its bits past the length
 abbrev pub masked : AddressValue → ℕ → PrefixValue
-masked a length = record { family = a.family; number = a.number / size_at a.family length * size_at a.family length; length = length }
+masked a length =
+    let size = size_at a.family length in
+    record { family = a.family; number = a.number / size * size; length = length }
 
 -- the addresses of a prefix
 abbrev pub span_of : PrefixValue → SpanValue
-span_of p = record { family = p.family; low = p.number; high = p.number + (size_at p.family p.length - 1) }
+span_of p =
+    let size = size_at p.family p.length in
+    record { family = p.family; low = p.number; high = p.number + (size - 1) }

@@ -1,4 +1,6 @@
 //! Addresses.
+ghost use Rattle.std.specs.Prelude.{◌≡◌};
+ghost use Rattle.ip_ranges.specs.Values.{IsOfFamily, is_buggy};
 
 use crate::Family;
 use mlb_base::{NoMemory, Sequence, TryCopy};
@@ -31,4 +33,13 @@ impl TryCopy for Address {
     fn copy(&self) -> Result<Address, NoMemory> {
         Ok(*self)
     }
+}
+
+/// Whether the address is one that some devices wrongly take for a network's own or for its
+/// broadcast address: IPv4, with the last octet 0 or 255.
+pub fn is_buggy(address: &Address) -> bool
+    ensures value { result ≡ is_buggy address.now }
+    ensures in_family { IsOfFamily address.now }
+{
+    address.family == Family::V4 && (address.number % 256 == 0 || address.number % 256 == 255)
 }

@@ -9,11 +9,13 @@ use crate::prefix::mask;
 use crate::text::read_address;
 use crate::{Address, RangeFault, Span};
 
-/// Reads a range, `low-high`, or a prefix, `address/length`. The first fault in this order is the answer.
+/// Reads a range, `low-high`, or a prefix, `address/length`. The first fault in this order is the
+/// answer.
 ///
-/// A text with a dash is a range, split at the first one, and spaces and tabs round both sides are dropped: a fault
-/// of the low side, then of the high one, then `MixedFamilies`, then `Backwards`. Any other text is a prefix, split at
-/// the first slash: a fault of the address, then `BadLength`; the bits of the address past the length are dropped.
+/// A text with a dash is a range, split at the first one, and spaces and tabs round both sides are
+/// dropped: a fault of the low side, then of the high one, then `MixedFamilies`, then `Backwards`.
+/// Any other text is a prefix, split at the first slash: a fault of the address, then `BadLength`;
+/// the bits of the address past the length are dropped.
 /// Last, a span that has an address of `::ffff:0:0/96` is `Mapped`.
 pub fn parse_entry(text: &str) -> Result<Span, RangeFault>
     ensures value { result ≡ entry_of text.now }
@@ -66,7 +68,8 @@ fn span_between(low: &Address, high: &Address) -> Result<Span, RangeFault>
     })
 }
 
-/// Reads an address with spaces and tabs round it, which are dropped; a fault is as in `parse_address`.
+/// Reads an address with spaces and tabs round it, which are dropped; a fault is as in
+/// `parse_address`.
 pub fn parse_padded_address(text: &str) -> Result<Address, RangeFault>
     ensures value { result ≡ address_of (trimmed text.now) }
     ensures in_family { IfOk result IsOfFamily }

@@ -23,7 +23,8 @@ impl Model for Prefix {
 
     ghost view = { λ p. record { family = p.family; number = p.number; length = p.length } };
 
-    ghost invariant = { λ p. (p.length ≤ width_of p.family) × (p.number < 2 ^ width_of p.family) × (p.number % size_at p.family p.length ≡ 0) };
+    ghost invariant = { λ p. (p.length ≤ width_of p.family)
+        × (p.number < 2 ^ width_of p.family) × (p.number % size_at p.family p.length ≡ 0) };
 
     ghost inverse = { λ v. record { family = v.family; number = v.number; length = v.length } };
 }

@@ -1,6 +1,6 @@
 //! Ranges of addresses.
 ghost use Rattle.std.specs.Prelude.{◌≡◌, ◌↔◌, IsTrue};
-ghost use Rattle.ip_ranges.specs.Values.{AddressValue, IsRange, IsOfFamily, Holds, holds, meets_mapped, only};
+ghost use Rattle.ip_ranges.specs.Values.{AddressValue, IsRange, IsOfFamily, Holds, holds, overlaps, meets_mapped, only};
 
 use crate::{Address, Family};
 use mlb_base::{NoMemory, Sequence, TryCopy};
@@ -54,7 +54,9 @@ impl Span {
 
     /// Whether some address is in both ranges.
     pub fn overlaps(&self, other: &Span) -> bool
-        ensures shared { IsTrue result ↔ ((a : AddressValue) × Holds self.now a × Holds other.now a) }
+        ensures test { result ≡ overlaps self.now other.now }
+        ensures shared { IsTrue result
+            ↔ ((a : AddressValue) × Holds self.now a × Holds other.now a) }
         ensures range { IsRange self.now }
         ensures other_range { IsRange other.now }
     {

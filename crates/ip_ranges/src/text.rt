@@ -8,18 +8,23 @@ use mlb_base::NoMemory;
 use std::alloc::Global;
 use std::net::{Ipv4Addr, Ipv6Addr};
 
-/// Reads an address: dotted decimal without leading zeros, or one of the forms of RFC 4291, section 2.2.
+/// Reads an address: dotted decimal without leading zeros, or one of the forms of RFC 4291,
+/// section 2.2.
 ///
-/// `NotAddress` where the text is neither (also one with a zone), and `Mapped` where it is one of `::ffff:0:0/96`.
+/// `NotAddress` where the text is neither (also one with a zone), and `Mapped` where the address is
+/// one of `::ffff:0:0/96`.
 pub fn parse_address(text: &str) -> Result<Address, RangeFault>
     ensures value { result ≡ address_of text.now }
     ensures in_family { IfOk result IsOfFamily }
 
-    // Read exactly where it is spelled and not IPv4-mapped, and refused exactly in the other two cases.
+    // Read exactly where it is spelled and not IPv4-mapped, refused exactly in the other two cases.
     ensures ok { (a : AddressValue) → (result ≡ Ok a) ↔ (IsAddressText text.now a × (¬ IsMapped a)) }
-    ensures not_address { (result ≡ Err RangeFault.NotAddress) ↔ ((a : AddressValue) → ¬ IsAddressText text.now a) }
-    ensures mapped { (result ≡ Err RangeFault.Mapped) ↔ ((a : AddressValue) × IsAddressText text.now a × IsMapped a) }
-    ensures faults { IfErr result (λ fault. (fault ≡ RangeFault.NotAddress) ⊎ (fault ≡ RangeFault.Mapped)) }
+    ensures not_address { (result ≡ Err RangeFault.NotAddress)
+        ↔ ((a : AddressValue) → ¬ IsAddressText text.now a) }
+    ensures mapped { (result ≡ Err RangeFault.Mapped)
+        ↔ ((a : AddressValue) × IsAddressText text.now a × IsMapped a) }
+    ensures faults { IfErr result (λ fault.
+        (fault ≡ RangeFault.NotAddress) ⊎ (fault ≡ RangeFault.Mapped)) }
 {
     read_address(text.as_bytes())
 }
@@ -66,12 +71,14 @@ fn unmapped(address: Address) -> Result<Address, RangeFault>
     Ok(address)
 }
 
-/// The one text that the address is printed as: dotted decimal, or the text of RFC 5952, section 4, with no dotted tail.
+/// The one text that the address is printed as: dotted decimal, or the text of RFC 5952, section 4,
+/// with no dotted tail.
 pub fn print_address(alloc: Global, address: &Address) -> Result<String, NoMemory>
     ensures text { IfOk result (λ text. string_bytes text ≡ canonical_text address.now) }
 
     // Reading the text gives the address back.
-    ensures reads_back { (¬ IsMapped address.now) → IfOk result (λ text. address_of (string_bytes text) ≡ Ok address.now) }
+    ensures reads_back { (¬ IsMapped address.now)
+        → IfOk result (λ text. address_of (string_bytes text) ≡ Ok address.now) }
     ensures in_family { IsOfFamily address.now }
 {
     match address.family {

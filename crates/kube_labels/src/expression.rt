@@ -1,7 +1,8 @@
 ghost use Rattle.std.specs.Prelude.{◌≡◌};
-ghost use Rattle.kube_labels.specs.Expressions.{fault_of, first_fault};
+ghost use Rattle.std.specs.List.{list_all};
+ghost use Rattle.kube_labels.specs.Expressions.{fault_of, first_fault, holds_of};
 
-use crate::{Operator, SelectorFault, Text, TextList};
+use crate::{Labels, Operator, SelectorFault, Text, TextList};
 use mlb_base::{NoMemory, Sequence, TryCopy};
 
 /// A set-based requirement on one key (Kubernetes, LabelSelectorRequirement), not yet checked.
@@ -32,6 +33,21 @@ impl Expression {
             Some(_) => None,
         }
     }
+
+    /// Whether the expression holds of the labels; one of an unknown operator does not.
+    fn holds(&self, labels: &Labels) -> bool
+        ensures { result ≡ holds_of labels.now self.now }
+    {
+        let found = labels.get(self.key.as_str());
+        let listed = found.is_some_and(|value| self.values.as_slice().contains(value));
+        match Operator::named(self.operator.as_str()) {
+            None => false,
+            Some(Operator::In) => listed,
+            Some(Operator::NotIn) => !listed,
+            Some(Operator::Exists) => found.is_some(),
+            Some(Operator::DoesNotExist) => found.is_none(),
+        }
+    }
 }
 
 /// The fault of the first expression at fault.
@@ -44,6 +60,15 @@ pub(crate) fn first_fault(expressions: &[Expression]) -> Option<SelectorFault>
         }
     }
     None
+}
+
+/// Whether each of the expressions holds of the labels.
+pub(crate) fn all_hold(expressions: &[Expression], labels: &Labels) -> bool
+    ensures { result ≡ list_all (holds_of labels.now) expressions.now }
+{
+    expressions
+        .iter()
+        .all(|expression| expression.holds(labels))
 }
 
 impl TryCopy for Expression {

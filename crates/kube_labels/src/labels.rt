@@ -1,31 +1,34 @@
-ghost use Rattle.std.specs.Prelude.{◌≡◌, ◌==◌, [], OnOk, OnErr, option_map, length};
-ghost use Rattle.std.specs.Ordering.{nat_cmp};
-ghost use Rattle.std.specs.Cmp.Lexicographic.{slice_cmp};
-ghost use Rattle.std.specs.List.Sorted.{IsStrictlySortedBy};
-ghost use Rattle.std.specs.Map.{keys_of};
-ghost use Rattle.kube_labels.specs.Pairs.{value_of, with_pair};
+ghost use Rattle.std.specs.Prelude.{◌≡◌, ◌≢◌, ◌==◌, ℕ, List, [], OnOk, OnErr, option_map, length};
+ghost use Rattle.std.specs.List.{list_all};
+ghost use Rattle.kube_labels.specs.Pairs.{IsAscending, value_of, with_pair, pairs_of, has_pair};
 
 use crate::Text;
 use mlb_base::{NoMemory, TryCopy};
 use std::alloc::Global;
 use std::collections::BTreeMap;
+use std::collections::btree_map::Iter;
 use std::marker::Model;
 
-/// Names with values, which contracts see as pairs with ascending distinct names.
+/// Names with values, as in `metadata.labels` (Kubernetes, "Labels and Selectors"). Contracts see the
+/// pairs, whose names ascend by their bytes, so that no two are the same.
 #[derive(Debug, Drop)]
 pub struct Labels {
     values: BTreeMap<String, Text>,
 }
 
 impl Model for Labels {
-    ghost use Rattle.std.specs.Prelude.{ℕ, List, map, string_bytes};
+    ghost use Rattle.std.specs.Prelude.{ℕ, List};
+    ghost use Rattle.kube_labels.specs.Pairs.{pairs_of, IsAscending};
 
     ghost Value = { List (List ℕ × List ℕ) };
 
-    ghost view = { λ l. map (λ e. (string_bytes e.0, e.1)) l.values.entries };
+    ghost view = { λ l. pairs_of l.values.entries };
+
+    ghost invariant = { λ l. IsAscending (pairs_of l.values.entries) };
 }
 
 impl Labels {
+    /// No pairs, which takes no memory.
     pub fn new(alloc: Global) -> Labels
         ensures { result ≡ [] }
     {
@@ -34,10 +37,10 @@ impl Labels {
         }
     }
 
-    /// How many there are. Their names ascend.
+    /// How many pairs there are.
     pub fn len(&self) -> usize
         ensures count { result ≡ length self.now }
-        ensures ordered { IsStrictlySortedBy (slice_cmp nat_cmp) (keys_of self.now) }
+        ensures ordered { IsAscending self.now }
     {
         self.values.len()
     }
@@ -48,19 +51,46 @@ impl Labels {
         self.values.is_empty()
     }
 
-    /// Puts the value in place of the key's earlier one.
+    /// Puts the value in place of the key's earlier one. Where there is no memory all stay.
     pub fn set(&mut self, key: Text, value: Text) -> Result<(), NoMemory>
         ensures ok { OnOk result (self.new ≡ with_pair key value self.old) }
         ensures err { OnErr result (self.new ≡ self.old) }
+        ensures ordered { IsAscending self.new }
+
+        // The key has the value, and every other key the one that it had.
+        ensures at_key { OnOk result (value_of key self.new ≡ Some value) }
+        ensures others { OnOk result ((other : List ℕ) → other ≢ key
+            → value_of other self.new ≡ value_of other self.old) }
     {
         self.values.insert(key.into_string(), value)?;
         Ok(())
     }
 
+    /// The key's value, if the key is there.
     pub fn get(&self, key: &str) -> Option<&Text>
-        ensures { option_map (λ v. v.now) result ≡ value_of key.now self.now }
+        ensures value { option_map (λ v. v.now) result ≡ value_of key.now self.now }
+        ensures ordered { IsAscending self.now }
     {
         self.values.get(key)
+    }
+
+    /// The pairs, by ascending names.
+    pub fn iter(&self) -> Iter<'_, String, Text>
+        ensures pairs { pairs_of result ≡ self.now }
+        ensures ordered { IsAscending self.now }
+    {
+        self.values.iter()
+    }
+
+    /// Whether each of the pairs wanted is there.
+    pub(crate) fn has_all(&self, wanted: &Labels) -> bool
+        ensures value { result ≡ list_all (has_pair self.now) wanted.now }
+        ensures ordered { IsAscending self.now }
+    {
+        let held = &self.values;
+        wanted.values.iter().all(|(key, value)| held
+            .get(key.as_str())
+            .is_some_and(|found| found == value))
     }
 }
 
@@ -73,16 +103,21 @@ impl TryCopy for Labels {
 }
 
 impl PartialEq for Labels {
-    ghost use Rattle.std.specs.Prelude.{◌&&◌};
-    ghost use Rattle.std.specs.Str.{bytes_eq};
-    ghost use Rattle.std.specs.Cmp.Lexicographic.{pointwise, lists_per, nat_list_eq_equiv};
-    ghost use Rattle.std.specs.Cmp.{partial_equiv_from_equiv, and_per, on_per};
+    ghost use Rattle.std.specs.Cmp.Lexicographic.{pointwise};
+    ghost use Rattle.std.specs.Cmp.{partial_equiv_from_equiv};
+    ghost use Rattle.kube_labels.specs.Pairs.{pair_eq, pairs_equiv};
 
-    ghost eq = { pointwise (λ p q. bytes_eq p.0 q.0 && bytes_eq p.1 q.1) };
+    ghost eq = { pointwise pair_eq };
 
-    ghost laws = { lists_per (and_per (on_per (λ p. p.0) (partial_equiv_from_equiv nat_list_eq_equiv)) (on_per (λ p. p.1) (partial_equiv_from_equiv nat_list_eq_equiv))) };
+    ghost laws = { partial_equiv_from_equiv pairs_equiv };
 
     fn eq(&self, other: &Labels) -> bool {
         self.values == other.values
     }
+}
+
+impl Eq for Labels {
+    ghost use Rattle.kube_labels.specs.Pairs.{pairs_equiv};
+
+    ghost laws = { pairs_equiv };
 }

@@ -12,5 +12,8 @@ pub use expression::{Expression, ExpressionList};
 pub use fault::SelectorFault;
 pub use labels::Labels;
 pub use operator::Operator;
-pub use selector::{Selector, SelectorList};
+pub use selector::{Selector, SelectorList, any_matches};
 pub use text::{NamedValues, Text, TextList};
+
+#[cfg(test)]
+mod tests;

@@ -1,5 +1,6 @@
-ghost use Rattle.std.specs.Prelude.{◌≡◌};
-ghost use Rattle.kube_labels.specs.Operators.{operator_named};
+ghost use Rattle.std.specs.Prelude.{◌≡◌, ◌↔◌};
+ghost use Rattle.kube_labels.specs.declared.operator.Operator.{Operator};
+ghost use Rattle.kube_labels.specs.Operators.{name_of, operator_named};
 
 /// How an expression of a selector tests a key (Kubernetes, "Labels and Selectors", set-based requirement).
 #[derive(Clone, Copy, Debug, PartialEq, Eq)]
@@ -17,7 +18,8 @@ pub enum Operator {
 impl Operator {
     /// The operator of this name, as Kubernetes spells it.
     pub fn named(name: &str) -> Option<Operator>
-        ensures { result ≡ operator_named name.now }
+        ensures value { result ≡ operator_named name.now }
+        ensures spelled { (o : Operator) → (result ≡ Some o) ↔ (name.now ≡ name_of o) }
     {
         match name {
             "In" => Some(Operator::In),

@@ -7,9 +7,10 @@ use mlb_base::{NoMemory, Sequence, TryCopy};
 use std::alloc::{AllocError, Global};
 use std::cmp::Ordering;
 use std::fmt;
+use std::hash::{Hash, Hasher};
 use std::marker::Model;
 
-/// An owned text, which contracts see as its bytes. Its order is that of the bytes.
+/// An owned text, which contracts see as its UTF-8 bytes. Equality and order are those of the bytes, unsigned.
 #[derive(Drop)]
 pub struct Text {
     text: String,
@@ -30,6 +31,7 @@ impl Model for Text {
 }
 
 impl Text {
+    /// The same text, owned.
     pub fn new(alloc: Global, text: &str) -> Result<Text, NoMemory>
         ensures { IfOk result (λ made. made ≡ text.now) }
     {
@@ -38,18 +40,21 @@ impl Text {
         })
     }
 
+    /// The same text, which takes no memory.
     pub fn from_string(text: String) -> Text
         ensures { result ≡ string_bytes text }
     {
         Text { text }
     }
 
+    /// The same text, which takes no memory.
     pub fn into_string(self) -> String
         ensures { string_bytes result ≡ self }
     {
         self.text
     }
 
+    /// The same text, borrowed.
     pub fn as_str(&self) -> &str
         ensures { result.now ≡ self.now }
     {
@@ -87,6 +92,20 @@ impl PartialEq for Text {
 
 impl Eq for Text {
     ghost laws = { nat_list_eq_equiv };
+}
+
+impl Hash for Text {
+    ghost use Rattle.std.proofs.Common.{ap};
+    ghost use Rattle.std.proofs.lemmas.Slice.Eq.{bytes_eq-Decides};
+    ghost use Rattle.std.specs.Hash as fed;
+
+    ghost hash_input = { fed.str };
+
+    ghost respects_eq = { λ x y same. ap fed.str ((bytes_eq-Decides x y).0 same) };
+
+    fn hash<H: Hasher>(&self, state: &mut H) {
+        self.text.hash(state);
+    }
 }
 
 impl PartialOrd for Text {

@@ -1,0 +1,13 @@
+pub mod Built
+pub mod Choice
+pub mod Claims
+pub mod Compile
+pub mod Core
+pub mod Drive
+pub mod Keys
+pub mod Marks
+pub mod Output
+pub mod Reply
+pub mod Take
+pub mod Turn
+pub mod Usable

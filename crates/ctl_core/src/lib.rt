@@ -1,0 +1,16 @@
+//! The controller's core: what it holds of the cluster, and what it wants to write.
+#![tactic(auto)]
+
+pub mod alloc_book;
+mod built;
+mod claims;
+mod controller;
+mod held;
+mod keys;
+pub mod pool_config;
+pub mod sharing_terms;
+mod turn;
+
+pub use controller::Core;
+pub use held::{HeldPool, HeldService};
+pub use turn::{TakeFault, TakeNote, Turn};

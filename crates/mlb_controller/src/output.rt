@@ -1,0 +1,99 @@
+//! The lines that are written.
+ghost use Rattle.std.specs.Prelude.{◌≡◌, ◌≤◌, OnOk, IfErr};
+ghost use Rattle.mlb_edge.specs.Written.{Grows};
+ghost use Rattle.kube_model.specs.Lines.{put_text};
+ghost use Rattle.ctl_core.specs.Output.{line_of, note_text, reason_line, turn_text};
+ghost use Rattle.mlb_controller.specs.Lines.{Halts};
+
+use crate::halt::Halt;
+use ctl_core::{TakeNote, Turn};
+use kube_labels::Text;
+use kube_model::{Key, Put, Reason, accepted_line, pending_line, put_line, refused_line};
+use mlb_edge::{Sink, put_all};
+use std::alloc::Global;
+
+/// Writes the text on a line of its own.
+fn write_line<K: Sink>(out: &mut K, text: Text) -> Result<(), Halt>
+    ensures ok { OnOk result (Grows (K.written out.old) (K.written out.new) (line_of text)) }
+    ensures err { IfErr result (λ halt. Halts halt (line_of text) (K.written out.old) (K.written out.new) (K.faults out.old) (K.faults out.new)) }
+    ensures later { K.faults out.old ≤ K.faults out.new }
+{
+    let mut line = text.into_string();
+    if line.push('\n').is_err() {
+        return Err(Halt::NoMemory);
+    }
+    match put_all(out, line.as_bytes()) {
+        Ok(()) => Ok(()),
+        Err(_) => Err(Halt::WriteFault),
+    }
+}
+
+/// Tells what became of a configuration.
+pub(crate) fn write_note<K: Sink>(alloc: Global, out: &mut K, note: &TakeNote) -> Result<(), Halt>
+    ensures ok { OnOk result (Grows (K.written out.old) (K.written out.new) (note_text note.now)) }
+    ensures err { IfErr result (λ halt. Halts halt (note_text note.now) (K.written out.old) (K.written out.new) (K.faults out.old) (K.faults out.new)) }
+    ensures later { K.faults out.old ≤ K.faults out.new }
+{
+    match note {
+        TakeNote::Quiet => Ok(()),
+        TakeNote::Accepted => {
+            let Ok(text) = accepted_line(alloc) else {
+                return Err(Halt::NoMemory);
+            };
+            write_line(out, text)
+        }
+        TakeNote::Refused { fault } => {
+            let Ok(text) = refused_line(alloc, fault) else {
+                return Err(Halt::NoMemory);
+            };
+            write_line(out, text)
+        }
+    }
+}
+
+/// Tells why a service has no address, where there is a reason.
+fn write_reason<K: Sink>(
+    alloc: Global,
+    out: &mut K,
+    key: &Key,
+    pending: Option<Reason>,
+) -> Result<(), Halt>
+    ensures ok { OnOk result (Grows (K.written out.old) (K.written out.new) (reason_line key.now pending)) }
+    ensures err { IfErr result (λ halt. Halts halt (reason_line key.now pending) (K.written out.old) (K.written out.new) (K.faults out.old) (K.faults out.new)) }
+    ensures later { K.faults out.old ≤ K.faults out.new }
+{
+    let Some(reason) = pending else {
+        return Ok(());
+    };
+    let Ok(text) = pending_line(alloc, key, reason) else {
+        return Err(Halt::NoMemory);
+    };
+    write_line(out, text)
+}
+
+fn write_put<K: Sink>(alloc: Global, out: &mut K, put: &Put) -> Result<(), Halt>
+    ensures ok { OnOk result (Grows (K.written out.old) (K.written out.new) (line_of (put_text put.now))) }
+    ensures err { IfErr result (λ halt. Halts halt (line_of (put_text put.now)) (K.written out.old) (K.written out.new) (K.faults out.old) (K.faults out.new)) }
+    ensures later { K.faults out.old ≤ K.faults out.new }
+{
+    let Ok(text) = put_line(alloc, put) else {
+        return Err(Halt::NoMemory);
+    };
+    write_line(out, text)
+}
+
+/// Tells the reason of a turn, if there is one, and then its put, if one is wanted.
+pub(crate) fn write_turn<K: Sink>(alloc: Global, out: &mut K, turn: &Turn) -> Result<(), Halt>
+    ensures ok { OnOk result (Grows (K.written out.old) (K.written out.new) (turn_text turn.now)) }
+    ensures err { IfErr result (λ halt. Halts halt (turn_text turn.now) (K.written out.old) (K.written out.new) (K.faults out.old) (K.faults out.new)) }
+    ensures later { K.faults out.old ≤ K.faults out.new }
+{
+    match turn {
+        Turn::Idle => Ok(()),
+        Turn::NoPut { key, pending } => write_reason(alloc, out, key, *pending),
+        Turn::Wants { put, pending } => {
+            write_reason(alloc, out, &put.key, *pending)?;
+            write_put(alloc, out, put)
+        }
+    }
+}

@@ -1,0 +1,38 @@
+//! Turns, up to the first that wants a put.
+ghost use Rattle.std.specs.Prelude.{◌≡◌, ◌≤◌, OnOk, IfErr, None, is_some};
+ghost use Rattle.mlb_edge.specs.Written.{Grows};
+ghost use Rattle.ctl_core.specs.Drive.{turns_from};
+ghost use Rattle.ctl_core.specs.Output.{output_of};
+ghost use Rattle.ctl_core.specs.Turn.{put_in};
+ghost use Rattle.mlb_controller.specs.Lines.{Halts};
+
+use crate::halt::Halt;
+use crate::output::write_turn;
+use ctl_core::{Core, Turn};
+use mlb_edge::Sink;
+use std::alloc::Global;
+
+fn wants_put(turn: &Turn) -> bool
+    ensures { result ≡ is_some (put_in turn.now) }
+{
+    matches!(turn, Turn::Wants { .. })
+}
+
+/// Makes turns up to the first that wants a put, or until nothing is queued, and writes what they come to.
+pub(crate) fn make_turns<K: Sink>(alloc: Global, core: &mut Core, out: &mut K) -> Result<(), Halt>
+    requires { core.old.out ≡ None }
+    ensures core { OnOk result (core.new ≡ (turns_from core.old).core) }
+    ensures ok { OnOk result (Grows (K.written out.old) (K.written out.new) (output_of (turns_from core.old).entries)) }
+    ensures err { IfErr result (λ halt. Halts halt (output_of (turns_from core.old).entries)
+        (K.written out.old) (K.written out.new) (K.faults out.old) (K.faults out.new)) }
+    ensures later { K.faults out.old ≤ K.faults out.new }
+{
+    'turns: while core.has_turn() {
+        let turn = core.next_put()?;
+        write_turn(alloc, out, &turn)?;
+        if wants_put(&turn) {
+            return Ok(());
+        }
+    }
+    Ok(())
+}

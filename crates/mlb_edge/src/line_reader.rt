@@ -1,0 +1,279 @@
+//! Reads the lines of a source, one after the other.
+
+ghost use Rattle.std.specs.Prelude.{◌≡◌, ◌≢◌, ◌≤◌, ◌<◌, ◌+◌, ◌^◌, ◌++◌, ◌∷◌, ℕ, List, [], length, slice_index, IfSome, IfNone, OnSome, ◌⊎◌, IfOk, OnOk, IfErr, OnErr, IsErrOf, IsTrue, take};
+ghost use Rattle.mlb_edge.specs.Causes.{Rose};
+ghost use Rattle.std.specs.Io.KnownBytes.{Consumes, IsAtEnd, Keeps};
+ghost use Rattle.mlb_edge.specs.Rows.{is_blank, CutsRow, HasNoNewline};
+ghost use Rattle.mlb_edge.specs.Laws.{IsAllLines};
+
+use crate::lines::{INPUT_LIMIT, LINE_LIMIT, Line, LineEnd};
+use crate::{ByteList, NoMemory, Source};
+use std::alloc::Global;
+use std::marker::Model;
+
+const NEWLINE: u8 = 0x0A;
+
+// So many bytes are read at once.
+const BLOCK: usize = 65_536;
+
+/// The place of the first 0x0A, where none stands before `from`.
+fn newline_at(bytes: &[u8], from: usize) -> Option<usize>
+    requires within { from ≤ length bytes.now }
+    requires before_from { HasNoNewline (take from bytes.now) }
+    ensures within { IfSome result (λ i. i < length bytes.now) }
+    ensures found { IfSome result (λ i. slice_index bytes.now i ≡ 10) }
+    ensures before { IfSome result (λ i. HasNoNewline (take i bytes.now)) }
+    ensures none { IfNone result (HasNoNewline bytes.now) }
+{
+    for i in from..bytes.len() {
+        if bytes[i] == NEWLINE {
+            return Some(i);
+        }
+    }
+    None
+}
+
+/// Blanks, tabs and 0x0D alone.
+fn is_blank(bytes: &[u8]) -> bool
+    ensures { result ≡ is_blank bytes.now }
+{
+    bytes
+        .iter()
+        .all(|b| *b == b' ' || *b == b'\t' || *b == b'\r')
+}
+
+/// Reads the lines of a source, one after the other. A line of blanks, tabs and 0x0D alone is passed over and counted.
+///
+/// Contracts see the bytes that were read and not yet passed, how many were passed, and the number of the last line.
+#[derive(Drop)]
+pub struct LineReader {
+    alloc: Global,
+    bytes: Vec<u8>,
+    // what stands before was passed
+    start: usize,
+    // so many of the bytes held are known to have no 0x0A, and aren't looked at again
+    looked: usize,
+    block: Vec<u8>,
+    passed: u64,
+    number: u64,
+}
+
+impl Model for LineReader {
+    ghost use Rattle.std.specs.Prelude.{drop};
+    ghost use Rattle.mlb_edge.specs.Reading.{Reading, IsSound};
+
+    ghost Value = { Reading };
+
+    ghost view = { λ r. record { held = drop r.start r.bytes.items; passed = r.passed; number = r.number } };
+
+    ghost invariant = { λ r. IsSound r.bytes.items r.start r.looked r.block.items r.passed r.number };
+}
+
+impl LineReader {
+    ghost use Rattle.mlb_edge.specs.Reading.{Reading};
+    ghost use Rattle.mlb_edge.specs.Lines.{passed_over, Follows, to_come, EndsAs, Whole, LongLine, LongInput, HoldsLine, Passes};
+    ghost use Rattle.mlb_edge.specs.Limits.{IsLimit};
+
+    /// A reader that has read nothing yet.
+    pub fn new(alloc: Global) -> Result<LineReader, NoMemory>
+        ensures { IfOk result (λ reader. reader ≡ record { held = []; passed = 0; number = 0 }) }
+    {
+        Ok(LineReader {
+            alloc,
+            bytes: Vec::new(alloc),
+            start: 0,
+            looked: 0,
+            block: vec![in alloc; 0; BLOCK]?,
+            passed: 0,
+            number: 0,
+        })
+    }
+
+    /// The next line that isn't blank, or `None` where no more is left. The source is read only while no whole line
+    /// is held. After a refusal the lines still to come are the same, so that the call can be made again.
+    pub fn next_line<S: Source>(&mut self, source: &mut S) -> Result<Option<Line>, LineEnd>
+        ensures line { IfOk result (λ next. IfSome next (λ line.
+            Follows (to_come self.old (S.left source.old)) (line ∷ []) (to_come self.new (S.left source.new)))) }
+        ensures number { IfOk result (λ next. IfSome next (λ line. line.number ≡ self.new.number)) }
+        ensures near { IfOk result (λ next. OnSome next
+            ((self.old.passed < self.new.passed) × (self.new.passed ≤ 2 ^ 40))) }
+
+        // At the end of the input no line is left, and nothing is held.
+        ensures end { IfOk result (λ next. IfNone next (EndsAs (to_come self.old (S.left source.old)) Whole)) }
+        ensures at_end { IfOk result (λ next. IfNone next ((self.new.held ≡ []) × IsAtEnd (S.left source.new))) }
+
+        ensures line_limit { IfErr result (λ e. (number : ℕ) → e ≡ LineEnd.LineLimit number
+            → EndsAs (to_come self.old (S.left source.old)) (LongLine number)) }
+        ensures input_limit { IsErrOf result LineEnd.InputLimit
+            → EndsAs (to_come self.old (S.left source.old)) LongInput }
+        ensures read_fault { IsErrOf result LineEnd.ReadFault → Rose (S.faults source.old) (S.faults source.new) }
+        ensures err { OnErr result
+            (Follows (to_come self.old (S.left source.old)) [] (to_come self.new (S.left source.new))) }
+
+        // No byte is lost, and where reading failed no whole line is held.
+        ensures passes { Passes self.old self.new (S.left source.old) (S.left source.new) }
+        ensures waits { IsErrOf result LineEnd.ReadFault → HasNoNewline self.new.held }
+
+        // No more is held than a line of the greatest length and one block.
+        ensures bounded { length self.new.held ≤ 1048576 + 65536 }
+
+        // The source is read only where no whole line is held.
+        ensures unread { HoldsLine self.old → source.new ≡ source.old }
+        ensures later { S.faults source.old ≤ S.faults source.new }
+        ensures name { S.name source.new ≡ S.name source.old }
+    {
+        let mut is_last = false;
+        loop {
+            match self.first_row(is_last) {
+                Some((len, size)) => {
+                    self.check(len, size)?;
+                    if !is_blank(&self.held()[..len]) {
+                        return Ok(Some(self.take(len, size)?));
+                    }
+                    self.pass(size);
+                }
+                None if is_last => return Ok(None),
+                None => {
+                    self.check_open()?;
+                    is_last = self.fill(source)? == 0;
+                }
+            }
+        }
+    }
+
+    /// How many bytes the first line has, and how many it takes with its 0x0A. If nothing follows what is held, the
+    /// last line may lack its 0x0A.
+    fn first_row(&mut self, is_last: bool) -> Option<(usize, usize)>
+        ensures row { IfSome result (λ row. CutsRow self.old.held is_last row.0 row.1) }
+        ensures none { IfNone result (HasNoNewline self.old.held) }
+        ensures last { IfNone result (IsTrue is_last → self.old.held ≡ []) }
+        ensures same { self.new ≡ self.old }
+        ensures near { self.old.passed ≤ 2 ^ 40 }
+        ensures bounded { length self.old.held ≤ 1048576 + 65536 }
+    {
+        let held = &self.bytes[self.start..];
+        let len = held.len();
+        match newline_at(held, self.looked) {
+            Some(i) => {
+                self.looked = i;
+                Some((i, i + 1))
+            }
+            None if is_last && len > 0 => {
+                self.looked = len;
+                Some((len, len))
+            }
+            None => {
+                self.looked = len;
+                None
+            }
+        }
+    }
+
+    fn held(&self) -> &[u8]
+        ensures { result.now ≡ self.now.held }
+    {
+        &self.bytes[self.start..]
+    }
+
+    /// Passes over the first line, which takes so many bytes.
+    fn pass(&mut self, size: usize)
+        requires some { 0 < size }
+        requires within { size ≤ length self.old.held }
+        requires near { self.old.passed + size ≤ 2 ^ 40 }
+        ensures { self.new ≡ passed_over self.old size }
+    {
+        self.start += size;
+        self.looked = 0;
+        self.passed += size as u64;
+        self.number += 1;
+    }
+
+    /// Gives the first line, which has so many bytes and takes so many.
+    fn take(&mut self, len: usize, size: usize) -> Result<Line, NoMemory>
+        requires some { 0 < size }
+        requires shorter { len ≤ size }
+        requires within { size ≤ length self.old.held }
+        requires near { self.old.passed + size ≤ 2 ^ 40 }
+        ensures line { IfOk result (λ line.
+            line ≡ record { number = self.old.number + 1; bytes = take len self.old.held }) }
+        ensures ok { OnOk result (self.new ≡ passed_over self.old size) }
+        ensures err { OnErr result (self.new ≡ self.old) }
+    {
+        let end = self.start + len;
+        let bytes = ByteList::from_slice(self.alloc, &self.bytes[self.start..end])?;
+        self.pass(size);
+        Ok(Line {
+            number: self.number,
+            bytes,
+        })
+    }
+
+    /// Lets go of what was passed. This is done once a block, and what moves then is less than the last block read.
+    fn let_go(&mut self)
+        ensures { self.new ≡ self.old }
+    {
+        if self.start > 0 {
+            self.bytes.drain(..self.start);
+            self.start = 0;
+        }
+    }
+
+    /// Reads a block from the source. `Ok(0)` says that it has no more bytes.
+    fn fill<S: Source>(&mut self, source: &mut S) -> Result<usize, LineEnd>
+        requires { length self.old.held ≤ 1048576 }
+        ensures bytes { IfOk result (λ n. (read : List ℕ) × (self.new.held ≡ self.old.held ++ read)
+            × (length read ≡ n) × Consumes (S.left source.old) (S.left source.new) read) }
+        ensures end { IfOk result (λ n. n ≡ 0 → IsAtEnd (S.left source.new)) }
+        ensures same { (self.new.passed ≡ self.old.passed) × (self.new.number ≡ self.old.number) }
+        ensures err { OnErr result ((self.new ≡ self.old) × Keeps (S.left source.old) (S.left source.new)) }
+        ensures name { S.name source.new ≡ S.name source.old }
+        ensures later { S.faults source.old ≤ S.faults source.new }
+        ensures cause { IsErrOf result LineEnd.ReadFault → Rose (S.faults source.old) (S.faults source.new) }
+        ensures fault { IfErr result (λ e. (e ≡ LineEnd.ReadFault) ⊎ (e ≡ LineEnd.NoMemory)) }
+    {
+        self.let_go();
+        self.bytes.reserve(self.block.len())?;
+        let count = source.read(&mut self.block)?;
+        self.bytes.extend_from_slice(&self.block[..count])?;
+        Ok(count)
+    }
+
+    /// Refuses a first line that is too long, or that ends too far from the beginning.
+    fn check(&self, len: usize, size: usize) -> Result<(), LineEnd>
+        ensures ok { OnOk result ((len ≤ 1048576) × (self.now.passed + size ≤ 2 ^ 40)) }
+        ensures line_limit { IfErr result (λ e. (number : ℕ) → e ≡ LineEnd.LineLimit number
+            → (number ≡ self.now.number + 1) × (1048576 < len)) }
+        ensures input_limit { IsErrOf result LineEnd.InputLimit
+            → (len ≤ 1048576) × (2 ^ 40 < self.now.passed + size) }
+        ensures fault { IfErr result IsLimit }
+    {
+        if len > LINE_LIMIT {
+            return Err(LineEnd::LineLimit {
+                number: self.number + 1,
+            });
+        }
+        if size as u64 > INPUT_LIMIT - self.passed {
+            return Err(LineEnd::InputLimit);
+        }
+        Ok(())
+    }
+
+    /// Refuses a line that is too long already, though its end isn't there yet.
+    fn check_open(&self) -> Result<(), LineEnd>
+        ensures ok { OnOk result (length self.now.held ≤ 1048576) }
+        ensures line_limit { IfErr result (λ e.
+            (e ≡ LineEnd.LineLimit (self.now.number + 1)) × (1048576 < length self.now.held)) }
+    {
+        if self.held().len() > LINE_LIMIT {
+            return Err(LineEnd::LineLimit {
+                number: self.number + 1,
+            });
+        }
+        Ok(())
+    }
+}
+
+/// A law: where all can be read, the lines that are read are all the lines that aren't blank, with their numbers.
+pub fn reads_all_lines()
+    ensures { IsAllLines }
+{}

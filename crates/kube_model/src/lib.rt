@@ -72,6 +72,4 @@ pub use slice::{Endpoint, EndpointList, EndpointSlice};
 pub use status::{LaneName, Status, What};
 
 #[cfg(test)]
-mod field_tests;
-#[cfg(test)]
 mod tests;

@@ -5,6 +5,7 @@ pub mod Compile
 pub mod Core
 pub mod Drive
 pub mod Keys
+pub mod Least
 pub mod Marks
 pub mod Output
 pub mod Reply

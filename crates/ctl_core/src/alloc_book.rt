@@ -1,12 +1,13 @@
 //! Claims, the addresses that they leave, and what is chosen for a service.
 
-ghost use Rattle.std.specs.Prelude.{◌≡◌, IfOk};
+ghost use Rattle.std.specs.Prelude.{◌≡◌, IfOk, IfSome, IfNone};
 ghost use Rattle.std.specs.List.{list_all, list_any};
-ghost use Rattle.ip_ranges.specs.Values.{holds};
+ghost use Rattle.ip_ranges.specs.Values.{AddressValue, holds};
 ghost use Rattle.ctl_core.specs.Claims.{has_address, is_assigned, same_record};
 ghost use Rattle.ctl_core.specs.Marks.{mark_of};
 ghost use Rattle.ctl_core.specs.Usable.{leaves, usable, least_in, least_usable, least_each, first_pool};
 ghost use Rattle.ctl_core.specs.Choice.{choose};
+ghost use Rattle.ctl_core.specs.Least.{IsUsable, IsLeastUsable};
 
 use crate::pool_config::CompiledPool;
 use crate::sharing_terms::mark_text;
@@ -97,14 +98,14 @@ fn least_in(
     None
 }
 
-/// The first address of the family that the key may use: entries as listed, addresses of an entry ascending.
-pub fn least_usable(
+/// The first address of the family that the key may use, entry by entry.
+fn least_listed(
     claims: &[Claim],
     pool: &CompiledPool,
     key: &Key,
     family: Family,
 ) -> Option<Address>
-    ensures least { result ≡ least_usable claims.now pool.now key.now family }
+    ensures { result ≡ least_usable claims.now pool.now key.now family }
 {
     for span in pool.spans.as_slice() {
         let least = least_in(claims, pool, key, family, span);
@@ -113,6 +114,20 @@ pub fn least_usable(
         }
     }
     None
+}
+
+/// The first address of the family that the key may use: entries as listed, addresses of an entry ascending.
+pub fn least_usable(
+    claims: &[Claim],
+    pool: &CompiledPool,
+    key: &Key,
+    family: Family,
+) -> Option<Address>
+    ensures least { result ≡ least_usable claims.now pool.now key.now family }
+    ensures is_least { IfSome result (IsLeastUsable claims.now pool.now key.now family) }
+    ensures none { IfNone result ((a : AddressValue) → ¬ (IsUsable claims.now pool.now key.now family a)) }
+{
+    least_listed(claims, pool, key, family)
 }
 
 /// The first address of each family that the key may use, where there is one of each.

@@ -118,9 +118,9 @@ of_the_family false test family span a found s then_is e = absurd (cc)
 pub least_in-found : (test : AddressValue → Bool) (family : Family) (span : SpanValue) (a : AddressValue) → least_in test family span ≡ Some a → IsLeastIn test family span a
 least_in-found test family span a e =
     of_the_family (same_family span.family family) test family span a _ refl
-      (λ same found. found_in test family span a (least_between (numbered test family) span.low (span.high + 1 - span.low)) same
-        (least_between-found (numbered test family) (span.high + 1 - span.low) span.low) found)
-      e
+    (λ same found. found_in test family span a (least_between (numbered test family) span.low (span.high + 1 - span.low)) same
+    (least_between-found (numbered test family) (span.high + 1 - span.low) span.low) found)
+    e
 
 none_of : (test : AddressValue → Bool) (family : Family) (span : SpanValue) (b : AddressValue) (found : Option ℕ)
     → (found ≡ None → numbered test family b.number ≡ false)
@@ -144,9 +144,9 @@ least_in-none test family span e b of_family held passes =
     let from = held.1 in
     let upto = held.2 in
     let fails = none_of_family (same_family span.family family) test family b _ same
-          (none_of test family span b (least_between (numbered test family) span.low (span.high + 1 - span.low))
-            (λ none. least_between-none (numbered test family) (span.high + 1 - span.low) span.low b.number none from (omega (arith, from, upto))))
-          e in
+    (none_of test family span b (least_between (numbered test family) span.low (span.high + 1 - span.low))
+    (λ none. least_between-none (numbered test family) (span.high + 1 - span.low) span.low b.number none from (omega (arith, from, upto))))
+    e in
     true≢false (sym (numbered-is test family b of_family passes) ∙ fails)
 
 -- the address passes and is of the family, and no such address stands before it
@@ -162,7 +162,7 @@ first_here test family span spans a here =
       of_family = here.of_family;
       passes = here.passes;
       first = λ b of_family passes before.
-        ⊎_elim (λ ahead. here.least b of_family ahead.0 passes (ahead.1 here.held)) (λ behind. behind.0 here.held) before;
+          ⊎_elim (λ ahead. here.least b of_family ahead.0 passes (ahead.1 here.held)) (λ behind. behind.0 here.held) before;
     }
 
 first_later : (test : AddressValue → Bool) (family : Family) (span : SpanValue) (spans : List SpanValue) (a : AddressValue)
@@ -172,7 +172,7 @@ first_later test family span spans a none later =
       of_family = later.of_family;
       passes = later.passes;
       first = λ b of_family passes before.
-        ⊎_elim (λ ahead. least_in-none test family span none b of_family ahead.0 passes) (λ behind. later.first b of_family passes behind.1) before;
+          ⊎_elim (λ ahead. least_in-none test family span none b of_family ahead.0 passes) (λ behind. later.first b of_family passes behind.1) before;
     }
 
 first_of : (here : Option AddressValue) (test : AddressValue → Bool) (family : Family) (span : SpanValue) (spans : List SpanValue) (rest : Option AddressValue) (a : AddressValue)
@@ -202,9 +202,9 @@ least_of-none test family [] e b of_family passes held = absurd (cc)
 least_of-none test family (span ∷ spans) e b of_family passes held =
     let none = none_left (least_in test family span) (least_of test family spans) e in
     or-cases ⊥ (holds span b) _
-      (λ here. least_in-none test family span none.0 b of_family (holds-Holds span b here) passes)
-      (λ later. least_of-none test family spans none.1 b of_family passes later)
-      held
+    (λ here. least_in-none test family span none.0 b of_family (holds-Holds span b here) passes)
+    (λ later. least_of-none test family spans none.1 b of_family passes later)
+    held
 
 -- what is found is the least that the key may use
 pub least_usable-is : (claims : List Claim) (pool : CompiledPool) (key : Key) (family : Family) (found : Option AddressValue)
@@ -219,5 +219,5 @@ pub least_usable-none : (claims : List Claim) (pool : CompiledPool) (key : Key) 
     → found ≡ least_usable claims pool key family → IfNone found ((a : AddressValue) → ¬ (IsUsable claims pool key family a))
 least_usable-none claims pool key family None e =
     λ a is_usable. least_of-none (usable claims pool key) family pool.spans (sym e) a is_usable.0 is_usable.1
-      (and-left (list_any (λ span. holds span a) pool.spans) (list_all (leaves key a) claims) is_usable.1)
+    (and-left (list_any (λ span. holds span a) pool.spans) (list_all (leaves key a) claims) is_usable.1)
 least_usable-none claims pool key family (Some a) e = tt

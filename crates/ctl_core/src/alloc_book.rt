@@ -99,12 +99,7 @@ fn least_in(
 }
 
 /// The first address of the family that the key may use, entry by entry.
-fn least_listed(
-    claims: &[Claim],
-    pool: &CompiledPool,
-    key: &Key,
-    family: Family,
-) -> Option<Address>
+fn least_listed(claims: &[Claim], pool: &CompiledPool, key: &Key, family: Family) -> Option<Address>
     ensures { result ≡ least_usable claims.now pool.now key.now family }
 {
     for span in pool.spans.as_slice() {

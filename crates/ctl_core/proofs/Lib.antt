@@ -1,2 +1,7 @@
+pub mod Chosen
+pub mod ClaimLaws
+pub mod KeyLaws
 pub mod Least
 pub mod Order
+pub mod Sights
+pub mod Worthy

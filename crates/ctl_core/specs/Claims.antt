@@ -28,6 +28,11 @@ empty_record = record { addresses = []; pool = []; mark = [] }
 abbrev pub same_record : Record → Record → Bool
 same_record a b = pointwise same_address a.addresses b.addresses && bytes_eq a.pool b.pool && bytes_eq a.mark b.mark
 
+-- the records of the key's claims
+abbrev pub claims_of : Key → List Claim → List Record
+claims_of key [] = []
+claims_of key (c ∷ claims) = if same_key c.key key then c.holding ∷ claims_of key claims else claims_of key claims
+
 -- the claims of other keys
 abbrev pub others : Key → List Claim → List Claim
 others key claims = filter (λ c. not (same_key c.key key)) claims

@@ -17,8 +17,10 @@ StandsBefore (span ∷ spans) b a =
 abbrev pub IsUsable : List Claim → CompiledPool → Key → Family → AddressValue → Type 0
 IsUsable claims pool key family a = (a.family ≡ family) × (usable claims pool key a ≡ true)
 
+-- it holds of the address, and of none that stands before it
+abbrev pub IsFirstThat : (AddressValue → Type 0) → List SpanValue → AddressValue → Type 0
+IsFirstThat holds_of spans a = holds_of a × ((b : AddressValue) → holds_of b → ¬ (StandsBefore spans b a))
+
 -- the key may use it, and none of the same family that the key may use stands before it
 abbrev pub IsLeastUsable : List Claim → CompiledPool → Key → Family → AddressValue → Type 0
-IsLeastUsable claims pool key family a =
-    IsUsable claims pool key family a
-    × ((b : AddressValue) → IsUsable claims pool key family b → ¬ (StandsBefore pool.spans b a))
+IsLeastUsable claims pool key family a = IsFirstThat (IsUsable claims pool key family) pool.spans a

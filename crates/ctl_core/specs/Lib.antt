@@ -1,3 +1,4 @@
+pub mod Arrivals
 pub mod Built
 pub mod Choice
 pub mod Claims
@@ -9,6 +10,8 @@ pub mod Least
 pub mod Marks
 pub mod Output
 pub mod Reply
+pub mod Shown
 pub mod Take
 pub mod Turn
 pub mod Usable
+pub mod Worth

@@ -1,0 +1,138 @@
+-- Each put of a drive is right, by the transcript before it.
+use Rattle.std.proofs.Common.{◌≡◌, ℕ, Bool, true, false, cond, List, [], ◌∷◌, ◌++◌, Option, Some, None, is_some, ◌⊎◌, refl, sym, ap, ◌∙◌, subst}
+use Rattle.kube_model.specs.declared.key.Key.{Key}
+use Rattle.kube_model.specs.declared.put.Put.{Put}
+use Rattle.kube_model.specs.declared.reason.Reason.{Reason}
+use Rattle.kube_model.specs.declared.service.Service.{Service}
+use Rattle.ctl_core.specs.declared.alloc_book.Choice.{Choice}
+use Rattle.ctl_core.specs.declared.held.HeldService.{HeldService}
+use Rattle.ctl_core.specs.declared.turn.Turn.{Turn}
+use Rattle.ctl_core.specs.declared.turn.Turn.TheVariants.{Idle, NoPut, Wants}
+use Rattle.ctl_core.specs.Arrivals.{MayArrive, MayAllArrive}
+use Rattle.ctl_core.specs.Choice.{choose}
+use Rattle.ctl_core.specs.Claims.{claims_of, same_record}
+use Rattle.ctl_core.specs.Core.{State, fresh, service_at, pools_in}
+use Rattle.ctl_core.specs.Drive.{Arrival, Item, Reply, Entry, Took, Noted, Turned, Heard, Run, turned, turns, driven, drive}
+use Rattle.ctl_core.specs.Reply.{core_reply}
+use Rattle.ctl_core.specs.Shown.{sight, awaited}
+use Rattle.ctl_core.specs.Take.{core_take}
+use Rattle.ctl_core.specs.Turn.{core_turn, turn_of, turn_at, turn_for, after_turn, put_in, wanted_record, reason_in}
+use Rattle.ctl_core.specs.Worth.{IsNew, IsWithdrawn, IsRightPut, ArePutsRight}
+use Rattle.ctl_core.proofs.Chosen.{chosen}
+use Rattle.ctl_core.proofs.Sights.{Agrees, IsSeen, held_at, held-from, begins, takes, hears}
+
+-- the put is of a held service, and has what is chosen for it
+record IsWanted (s : State) (put : Put) (h : HeldService) : Type 0 where
+  version : put.version ≡ h.version
+  holding : put.holding ≡ wanted_record (choose s.claims (pools_in s.config) h.service)
+  changes : same_record put.holding h.service.holding ≡ false
+
+abbrev IsOfHeld : State → Put → Type 0
+IsOfHeld s put = (h : HeldService) × (service_at s.services put.key ≡ Some h) × IsWanted s put h
+
+wanted_by : (b : Bool) (s : State) (key : Key) (h : HeldService) (put : Put) (pending : Option Reason) → b ≡ same_record (wanted_record (choose s.claims (pools_in s.config) h.service)) h.service.holding → service_at s.services key ≡ Some h
+    → cond b (NoPut key (reason_in (choose s.claims (pools_in s.config) h.service))) (Wants (record { key = key; version = h.version; holding = wanted_record (choose s.claims (pools_in s.config) h.service) }) (reason_in (choose s.claims (pools_in s.config) h.service))) ≡ Wants put pending
+    → IsOfHeld s put
+wanted_by true s key h put pending t held e = absurd (cc)
+wanted_by false s key h put pending t held e =
+    let it : record { key = key; version = h.version; holding = wanted_record (choose s.claims (pools_in s.config) h.service) } ≡ put = cc in
+    subst (IsOfHeld s) it (h, held, record { version = refl; holding = refl; changes = sym t })
+
+wanted_at : (o : Option HeldService) (s : State) (key : Key) (put : Put) (pending : Option Reason) → service_at s.services key ≡ o → turn_at s key o ≡ Wants put pending → IsOfHeld s put
+wanted_at None s key put pending held e = absurd (cc)
+wanted_at (Some h) s key put pending held e = wanted_by (same_record (wanted_record (choose s.claims (pools_in s.config) h.service)) h.service.holding) s key h put pending refl held e
+
+wanted_of : (queue : List Key) (s : State) (put : Put) (pending : Option Reason) → turn_of s queue ≡ Wants put pending → IsOfHeld s put
+wanted_of [] s put pending e = absurd (cc)
+wanted_of (key ∷ keys) s put pending e = wanted_at (service_at s.services key) s key put pending refl e
+
+wanted-is : (s : State) (put : Put) (pending : Option Reason) → core_turn s ≡ Wants put pending → IsOfHeld s put
+wanted-is s put pending e = wanted_of s.queue s put pending e
+
+-- the put that a turn wants is right
+right_put : (s : State) (put : Put) (pending : Option Reason) (earlier : List Entry) → core_turn s ≡ Wants put pending → Agrees s earlier → IsRightPut earlier put
+right_put s put pending earlier e a =
+    let wanted = wanted-is s put pending e in
+    let shown = sight put.key earlier in
+    let i : IsSeen put.key (Some wanted.0) (claims_of put.key s.claims) shown = subst (λ h. IsSeen put.key h (claims_of put.key s.claims) shown) wanted.1 (a.each put.key) in
+    let f = held-from shown.service put.key wanted.0 (claims_of put.key s.claims) shown refl i in
+    let service = f.0 in
+    let w : IsWanted s put (held_at shown.version service) = subst (IsWanted s put) f.2 wanted.2 in
+    record {
+      service = service;
+      held = f.1;
+      of_key = i.own service f.1;
+      version = w.version;
+      changes = w.changes;
+      worth = subst (λ r. IsNew earlier service r ⊎ IsWithdrawn earlier service r) (sym w.holding)
+          (chosen earlier s.claims service (λ other. (a.each other).claims_are) (pools_in s.config) (sym (ap pools_in a.config)));
+    }
+
+wants-from : (turn : Turn) (put : Put) → put_in turn ≡ Some put → (pending : Option Reason) × (turn ≡ Wants put pending)
+wants-from Idle put e = absurd (cc)
+wants-from (NoPut key pending) put e = absurd (cc)
+wants-from (Wants other pending) put e = (pending, (let same : other ≡ put = cc in ap (λ p. Wants p pending) same))
+
+held_put : (s : State) (put : Put) → put_in (core_turn s) ≡ Some put → is_some (service_at s.services put.key) ≡ true
+held_put s put e =
+    let w = wants-from (core_turn s) put e in
+    let wanted = wanted-is s put w.0 w.1 in
+    ap is_some wanted.1
+
+-- a turn is made
+turn_agrees : (s : State) (turn : Turn) (earlier : List Entry) → core_turn s ≡ turn → Agrees s earlier → Agrees (after_turn s) (Turned turn ∷ earlier)
+turn_agrees s turn earlier e a = record { each = a.each; pools = a.pools; config = a.config; out = ap put_in e; of_held = held_put s }
+
+-- nothing was queued
+idle_agrees : (s : State) (earlier : List Entry) → core_turn s ≡ Idle → s.out ≡ None → Agrees s earlier → Agrees (after_turn s) earlier
+idle_agrees s earlier e out a = record { each = a.each; pools = a.pools; config = a.config; out = ap put_in e ∙ sym out ∙ a.out; of_held = held_put s }
+
+-- the entries behind the earlier ones, the newest first
+abbrev behind : List Entry → List Entry → List Entry
+behind [] earlier = earlier
+behind (entry ∷ entries) earlier = behind entries (entry ∷ earlier)
+
+-- the puts among the entries are right, and the core behind them is what is shown
+record Leads (earlier entries : List Entry) (t : State) : Type 0 where
+  right : ArePutsRight entries earlier
+  agrees : Agrees t (behind entries earlier)
+
+turned_lead : (turn : Turn) (s : State) (rest : Run) (earlier : List Entry) → core_turn s ≡ turn → s.out ≡ None → Agrees s earlier
+    → ((now : List Entry) → (after_turn s).out ≡ None → Agrees (after_turn s) now → Leads now rest.entries rest.core)
+    → Leads earlier (turned turn (after_turn s) rest).entries (turned turn (after_turn s) rest).core
+turned_lead Idle s rest earlier e out a ih = ih earlier (ap put_in e) (idle_agrees s earlier e out a)
+turned_lead (NoPut key pending) s rest earlier e out a ih =
+    let later = ih (Turned (NoPut key pending) ∷ earlier) (ap put_in e) (turn_agrees s (NoPut key pending) earlier e a) in
+    record { right = (tt, later.right); agrees = later.agrees }
+turned_lead (Wants put pending) s rest earlier e out a ih =
+    record { right = (right_put s put pending earlier e a, tt); agrees = turn_agrees s (Wants put pending) earlier e a }
+
+turns_lead : (queue : List Key) (s : State) (earlier : List Entry) → s.out ≡ None → Agrees s earlier → Leads earlier (turns queue s).entries (turns queue s).core
+turns_lead [] s earlier out a = record { right = tt; agrees = a }
+turns_lead (key ∷ keys) s earlier out a =
+    turned_lead (core_turn s) s (turns keys (after_turn s)) earlier refl out a (λ now none b. turns_lead keys (after_turn s) now none b)
+
+driven_leads : (arrival : Arrival) (s : State) (earlier : List Entry) → MayArrive s arrival → Agrees s earlier → Leads earlier (driven s arrival).entries (driven s arrival).core
+driven_leads (Item lane number event) s earlier may a =
+    let taken = takes s lane number event earlier may.1 may.0 a in
+    let later = turns_lead (core_take s event).core.queue (core_take s event).core (Noted (core_take s event).note ∷ Took lane number event ∷ earlier) taken.out taken in
+    record { right = (tt, (tt, later.right)); agrees = later.agrees }
+driven_leads (Reply reply) s earlier may a =
+    let heard = hears s may.0 reply earlier may.1 may.2 a in
+    let later = turns_lead (core_reply s reply).queue (core_reply s reply) (Heard reply ∷ earlier) heard.out heard in
+    record { right = (tt, later.right); agrees = later.agrees }
+
+right-append : (xs ys earlier : List Entry) → ArePutsRight xs earlier → ArePutsRight ys (behind xs earlier) → ArePutsRight (xs ++ ys) earlier
+right-append [] ys earlier first then = then
+right-append (x ∷ xs) ys earlier first then = (first.0, right-append xs ys (x ∷ earlier) first.1 then)
+
+drive_right : (arrivals : List Arrival) (s : State) (earlier : List Entry) → MayAllArrive arrivals s → Agrees s earlier → ArePutsRight (drive arrivals s).entries earlier
+drive_right [] s earlier may a = tt
+drive_right (arrival ∷ more) s earlier may a =
+    let first = driven_leads arrival s earlier may.0 a in
+    right-append (driven s arrival).entries (drive more (driven s arrival).core).entries earlier first.right
+    (drive_right more (driven s arrival).core (behind (driven s arrival).entries earlier) may.1 first.agrees)
+
+-- each put of a drive from a core that holds nothing is right
+pub puts_are_right : (class : Option (List ℕ)) (arrivals : List Arrival) → MayAllArrive arrivals (fresh class) → ArePutsRight (drive arrivals (fresh class)).entries []
+puts_are_right class arrivals may = drive_right arrivals (fresh class) [] may (begins class)

@@ -7,7 +7,6 @@ pub mod Drive
 pub mod Keys
 pub mod Least
 pub mod Marks
-pub mod Output
 pub mod Reply
 pub mod Take
 pub mod Turn

@@ -8,7 +8,6 @@ pub mod Drive
 pub mod Keys
 pub mod Least
 pub mod Marks
-pub mod Output
 pub mod Reply
 pub mod Shown
 pub mod Take

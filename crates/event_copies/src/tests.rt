@@ -1,6 +1,6 @@
 //! What a line of each kind is read as can be copied. That the copy is equal is proved.
 
-use kube_model::read_event;
+use kube_events::read_event;
 use mlb_base::TryCopy;
 use std::alloc::Global;
 

@@ -1,7 +1,8 @@
 //! Tables of lines with what they are read as: the name of an event or of a fault, or the path of a faulty field.
 
+use kube_events::read_event;
 use kube_labels::Text;
-use kube_model::{Event, EventFault, Group, read_event};
+use kube_model::{Event, EventFault, Group};
 use mlb_base::NoMemory;
 use std::alloc::Global;
 use std::test::Fail;

@@ -1,14 +1,4 @@
 //! What a put is answered.
-ghost use Rattle.std.specs.Prelude.{◌≡◌};
-ghost use Rattle.serde_json.specs.View.{view};
-ghost use Rattle.kube_model.specs.Reply.{GivesReply, reply_in, reply_of, reply_named, newer};
-
-use crate::put::Put;
-use json_fields::read_value;
-use mlb_base::NoMemory;
-use serde_json::Value;
-use std::alloc::Global;
-use thiserror::Error;
 
 /// The outcome of a put.
 #[derive(Clone, Copy, Debug, PartialEq, Eq)]
@@ -21,65 +11,4 @@ pub enum PutReply {
     Missing,
     /// Whether the record was replaced is not known.
     Unknown,
-}
-
-/// Why a line is not the reply to a put.
-#[derive(Clone, Copy, Debug, PartialEq, Eq, Error)]
-pub enum ReplyFault {
-    #[error("the line is no reply to the put")]
-    BadReply,
-    #[error("out of memory")]
-    NoMemory,
-}
-
-impl From<NoMemory> for ReplyFault {
-    ghost use Rattle.std.specs.Prelude.{◌≡◌};
-    ghost use Rattle.kube_model.specs.declared.reply.ReplyFault.TheVariants.{NoMemory};
-
-    ghost from_gives = { λ _ e. e ≡ NoMemory };
-
-    fn from(_refused: NoMemory) -> ReplyFault {
-        ReplyFault::NoMemory
-    }
-}
-
-/// The reply that replaced the record, if its version is newer than the put's.
-fn newer(put: &Put, version: u64) -> Option<PutReply>
-    ensures { result ≡ newer put.now version }
-{
-    if put.version < version {
-        Some(PutReply::Ok { version })
-    } else {
-        None
-    }
-}
-
-fn reply_named(put: &Put, name: &str, value: &Value) -> Option<PutReply>
-    ensures { result ≡ reply_named put.now (view value.now) name.now }
-{
-    match name {
-        "ok" => newer(put, value.get("version").and_then(Value::as_u64)?),
-        "stale" => Some(PutReply::Stale),
-        "missing" => Some(PutReply::Missing),
-        "unknown" => Some(PutReply::Unknown),
-        _ => None,
-    }
-}
-
-fn reply_in(put: &Put, value: &Value) -> Option<PutReply>
-    ensures { result ≡ reply_in put.now (view value.now) }
-{
-    let name = value.get("reply").and_then(Value::as_str)?;
-    reply_named(put, name, value)
-}
-
-/// The reply that the line is to the put. `BadReply` where it is none.
-#[tactic(auto, unfolding(crate::specs::Reply::reply_of))]
-pub fn read_reply(alloc: Global, put: &Put, line: &[u8]) -> Result<PutReply, ReplyFault>
-    ensures { GivesReply result (reply_of put.now line.now) }
-{
-    match read_value(alloc, line)? {
-        Some(value) => reply_in(put, &value).ok_or(ReplyFault::BadReply),
-        None => Err(ReplyFault::BadReply),
-    }
 }

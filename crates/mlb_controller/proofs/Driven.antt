@@ -4,7 +4,7 @@ use Rattle.std.specs.Option.{option_map}
 use Rattle.std.proofs.lemmas.List.{append-nil}
 use Rattle.ctl_core.specs.Core.{State, fresh}
 use Rattle.ctl_core.specs.Drive.{Arrival, driven, drive}
-use Rattle.ctl_core.specs.Output.{output_of}
+use Rattle.mlb_controller.specs.Output.{output_of}
 use Rattle.mlb_edge.specs.declared.lines.Line.{Line}
 use Rattle.mlb_edge.specs.Reading.{Reading}
 use Rattle.mlb_edge.specs.Rows.{HasNoNewline}

@@ -5,12 +5,12 @@ use Rattle.kube_model.specs.declared.event.Event.{Event}
 use Rattle.kube_model.specs.declared.put.Put.{Put}
 use Rattle.kube_model.specs.declared.reply.PutReply.{PutReply}
 use Rattle.kube_model.specs.declared.status.LaneName.TheVariants as lanes
-use Rattle.kube_model.specs.Event.{event_of_line}
-use Rattle.kube_model.specs.Reply.{reply_of}
+use Rattle.kube_events.specs.Event.{event_of_line}
+use Rattle.kube_lines.specs.Reply.{reply_of}
 use Rattle.ctl_core.specs.Built.{is_built}
 use Rattle.ctl_core.specs.Core.{State}
 use Rattle.ctl_core.specs.Drive.{Item, Reply, driven, turns_from}
-use Rattle.ctl_core.specs.Output.{output_of, note_text}
+use Rattle.mlb_controller.specs.Output.{output_of, note_text}
 use Rattle.ctl_core.specs.Reply.{core_reply}
 use Rattle.ctl_core.specs.Take.{core_take}
 use Rattle.ctl_core.specs.declared.turn.TakeNote.{TakeNote}

@@ -4,7 +4,7 @@ use Rattle.std.proofs.lemmas.List.{append-nil}
 use Rattle.std.specs.List.{flat_map}
 use Rattle.ctl_core.specs.Core.{State, fresh}
 use Rattle.ctl_core.specs.Drive.{Arrival, Entry, driven, drive}
-use Rattle.ctl_core.specs.Output.{entry_text, output_of}
+use Rattle.mlb_controller.specs.Output.{entry_text, output_of}
 use Rattle.mlb_edge.specs.declared.lines.Line.{Line}
 use Rattle.mlb_edge.specs.Lines.{Ending}
 use Rattle.mlb_controller.specs.Stream.{Meaning, Reads, Stops, Stop, Stream, meaning_of, stop_at, stream_from, text_of, ArriveBy}

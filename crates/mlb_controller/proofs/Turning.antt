@@ -4,7 +4,7 @@ use Rattle.std.proofs.lemmas.List.{append-nil}
 use Rattle.kube_model.specs.declared.key.Key.{Key}
 use Rattle.ctl_core.specs.Core.{State}
 use Rattle.ctl_core.specs.Drive.{Run, turned, turns, turns_from}
-use Rattle.ctl_core.specs.Output.{output_of, turn_text}
+use Rattle.mlb_controller.specs.Output.{output_of, turn_text}
 use Rattle.ctl_core.specs.Turn.{core_turn, after_turn, put_in}
 use Rattle.ctl_core.specs.declared.turn.Turn.{Turn}
 use Rattle.ctl_core.specs.declared.turn.Turn.TheVariants.{Idle, NoPut, Wants}

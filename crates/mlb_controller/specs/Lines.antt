@@ -5,7 +5,7 @@ use Rattle.kube_model.specs.declared.status.Status.{Status}
 use Rattle.kube_model.specs.declared.status.Status.TheVariants.{Done, Usage, OpenFault, ReadFault, WriteFault, BadLine, BadReply, NoReply, Limit, NoMemory, NotBuilt}
 use Rattle.ctl_core.specs.Core.{State}
 use Rattle.ctl_core.specs.Drive.{Arrival, driven}
-use Rattle.ctl_core.specs.Output.{output_of}
+use Rattle.mlb_controller.specs.Output.{output_of}
 use Rattle.mlb_edge.specs.declared.lines.Line.{Line}
 use Rattle.mlb_edge.specs.Causes.{Rose}
 use Rattle.mlb_edge.specs.Written.{Grows, GrowsInPart}

@@ -5,12 +5,12 @@ use Rattle.kube_model.specs.declared.event.EventFault.{EventFault}
 use Rattle.kube_model.specs.declared.put.Put.{Put}
 use Rattle.kube_model.specs.declared.reply.PutReply.{PutReply}
 use Rattle.kube_model.specs.declared.status.LaneName.TheVariants as lanes
-use Rattle.kube_model.specs.Event.{event_of_line}
-use Rattle.kube_model.specs.Reply.{reply_of}
+use Rattle.kube_events.specs.Event.{event_of_line}
+use Rattle.kube_lines.specs.Reply.{reply_of}
 use Rattle.ctl_core.specs.Built.{is_built}
 use Rattle.ctl_core.specs.Core.{State, fresh}
 use Rattle.ctl_core.specs.Drive.{Arrival, Item, Reply, driven, drive}
-use Rattle.ctl_core.specs.Output.{output_of}
+use Rattle.mlb_controller.specs.Output.{output_of}
 use Rattle.mlb_edge.specs.declared.lines.Line.{Line}
 use Rattle.mlb_edge.specs.Lines.{Ending, Whole, LongLine, LongInput, input_of}
 

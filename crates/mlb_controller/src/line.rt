@@ -1,13 +1,15 @@
 //! One line: an event that is taken, or the reply to the put that is out.
 ghost use Rattle.std.specs.Prelude.{◌≡◌, ◌≤◌, OnOk, IfErr, IsSome, None, Some};
-ghost use Rattle.kube_model.specs.Reply.{GivesReply, reply_of};
+ghost use Rattle.kube_lines.specs.Reply.{GivesReply, reply_of};
 ghost use Rattle.kube_model.specs.declared.put.Put.{Put};
 ghost use Rattle.mlb_controller.specs.Lines.{Drives, EndsAt};
 
 use crate::output::write_note;
 use crate::turns::make_turns;
 use ctl_core::{Core, TakeFault};
-use kube_model::{EventFault, LaneName, PutReply, ReplyFault, Status, read_event, read_reply};
+use kube_events::read_event;
+use kube_lines::{ReplyFault, read_reply};
+use kube_model::{EventFault, LaneName, PutReply, Status};
 use mlb_edge::{Line, Sink};
 use std::alloc::Global;
 

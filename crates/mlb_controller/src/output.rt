@@ -1,14 +1,15 @@
 //! The lines that are written.
 ghost use Rattle.std.specs.Prelude.{◌≡◌, ◌≤◌, OnOk, IfErr};
 ghost use Rattle.mlb_edge.specs.Written.{Grows};
-ghost use Rattle.kube_model.specs.Lines.{put_text};
-ghost use Rattle.ctl_core.specs.Output.{line_of, note_text, reason_line, turn_text};
+ghost use Rattle.kube_lines.specs.Lines.{put_text};
+ghost use Rattle.mlb_controller.specs.Output.{line_of, note_text, reason_line, turn_text};
 ghost use Rattle.mlb_controller.specs.Lines.{Halts};
 
 use crate::halt::Halt;
 use ctl_core::{TakeNote, Turn};
 use kube_labels::Text;
-use kube_model::{Key, Put, Reason, accepted_line, pending_line, put_line, refused_line};
+use kube_lines::{accepted_line, pending_line, put_line, refused_line};
+use kube_model::{Key, Put, Reason};
 use mlb_edge::{Sink, put_all};
 use std::alloc::Global;
 

@@ -2,7 +2,7 @@
 ghost use Rattle.std.specs.Prelude.{◌≡◌, ◌≤◌, OnOk, IfErr, None, is_some};
 ghost use Rattle.mlb_edge.specs.Written.{Grows};
 ghost use Rattle.ctl_core.specs.Drive.{turns_from};
-ghost use Rattle.ctl_core.specs.Output.{output_of};
+ghost use Rattle.mlb_controller.specs.Output.{output_of};
 ghost use Rattle.ctl_core.specs.Turn.{put_in};
 ghost use Rattle.mlb_controller.specs.Lines.{Halts};
 

@@ -1,5 +1,5 @@
 use Rattle.std.proofs.Common.{◌≡◌, Ok, true}
-use Rattle.kube_model.specs.Event.{event_of_line}
+use Rattle.kube_events.specs.Event.{event_of_line}
 use Rattle.ctl_core.specs.Built.{is_built}
 use Rattle.mlb_controller.proofs.LineSteps.{is_taken, takes, note_broken, turns_broken, ends_broken}
 use Rattle.mlb_controller.proofs.line.take_line.Goals as goal

@@ -1,5 +1,5 @@
-use Rattle.ctl_core.specs.Output.{reason_line, line_of}
-use Rattle.kube_model.specs.Lines.{put_text}
+use Rattle.mlb_controller.specs.Output.{reason_line, line_of}
+use Rattle.kube_lines.specs.Lines.{put_text}
 use Rattle.mlb_controller.proofs.Halting.{ok_then, err_then}
 use Rattle.mlb_controller.proofs.output.write_turn.Goals as goal
 

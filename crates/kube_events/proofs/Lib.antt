@@ -1,0 +1,4 @@
+pub mod AskedParts
+pub mod ObjectLaws
+pub mod OrderLaws
+pub mod Versions

@@ -1,0 +1,5 @@
+use Rattle.kube_events.proofs.OrderLaws.{pool_fault_is_first}
+use Rattle.kube_events.proofs.laws.pool_fault_is_first.Goals as goal
+
+pub returns : goal.returns
+returns c = pool_fault_is_first

@@ -1,0 +1,5 @@
+use Rattle.kube_events.proofs.ObjectLaws.{pools_are_read}
+use Rattle.kube_events.proofs.laws.pools_are_read.Goals as goal
+
+pub returns : goal.returns
+returns c = pools_are_read

@@ -1,0 +1,5 @@
+use Rattle.kube_events.proofs.ObjectLaws.{services_are_read}
+use Rattle.kube_events.proofs.laws.services_are_read.Goals as goal
+
+pub returns : goal.returns
+returns c = services_are_read

@@ -1,0 +1,16 @@
+pub mod BgpFields
+pub mod CommunityFields
+pub mod Event
+pub mod FieldOrder
+pub mod Fields
+pub mod Frame
+pub mod L2Fields
+pub mod Members
+pub mod Named
+pub mod ObjectFields
+pub mod ObjectLines
+pub mod PeerFields
+pub mod PoolFields
+pub mod ServiceFields
+pub mod SliceFields
+pub mod Wanted

@@ -1,0 +1,70 @@
+//! The fields of communities.
+ghost use Rattle.std.specs.Prelude.{◌≡◌, IfOk};
+ghost use Rattle.serde_json.specs.View.{view};
+ghost use Rattle.json_fields.specs.Reading.{Gives};
+ghost use Rattle.kube_events.specs.CommunityFields.{named_value_of, named_values_at, community_with};
+
+use json_fields::{FieldFault, FromValue, list, require_object, required};
+use kube_labels::{NamedValues, Text};
+use kube_model::{CommunityList, Key};
+use mlb_base::{NoMemory, Sequence};
+use serde_json::Value;
+use std::alloc::Global;
+use std::marker::Model;
+
+/// A name and a value, which contracts see as the pair.
+#[derive(Drop)]
+struct NamedValue {
+    name: Text,
+    value: Text,
+}
+
+impl Model for NamedValue {
+    ghost use Rattle.std.specs.Prelude.{ℕ, List};
+
+    ghost Value = { List ℕ × List ℕ };
+
+    ghost view = { λ n. (n.name, n.value) };
+}
+
+impl FromValue for NamedValue {
+    ghost reading = { named_value_of };
+
+    #[tactic(auto, unfolding(crate::specs::CommunityFields::named_value_of))]
+    fn from_value(alloc: Global, value: &Value) -> Result<NamedValue, FieldFault> {
+        require_object(alloc, value)?;
+        let name = required(alloc, value, "name")?;
+        let value = required(alloc, value, "value")?;
+        Ok(NamedValue { name, value })
+    }
+}
+
+/// The same pairs.
+fn pairs_from(alloc: Global, named: Sequence<NamedValue>) -> Result<NamedValues, NoMemory>
+    ensures { IfOk result (λ pairs. pairs ≡ named) }
+{
+    let mut pairs = Sequence::new(alloc);
+    for NamedValue { name, value } in named.into_vec() {
+        pairs.push((name, value))?;
+    }
+    Ok(pairs)
+}
+
+#[tactic(auto, unfolding(crate::specs::CommunityFields::named_values_at))]
+pub(crate) fn named_values(
+    alloc: Global,
+    object: &Value,
+    path: &str,
+) -> Result<NamedValues, FieldFault>
+    ensures { Gives (λ x. x) result (named_values_at path.now (view object.now)) }
+{
+    let named = list(alloc, object, path)?;
+    Ok(pairs_from(alloc, named)?)
+}
+
+pub(crate) fn community_with(key: Key, values: NamedValues) -> CommunityList
+    ensures { result ≡ community_with key values }
+{
+    let Key { name, .. } = key;
+    CommunityList { name, values }
+}

@@ -1,0 +1,49 @@
+//! The fields of advertisements on the local network.
+ghost use Rattle.std.specs.Prelude.{◌≡◌};
+ghost use Rattle.serde_json.specs.View.{view};
+ghost use Rattle.json_fields.specs.Reading.{Gives};
+ghost use Rattle.kube_events.specs.L2Fields.{l2_spec_of, l2_with};
+
+use json_fields::{FieldFault, list};
+use kube_labels::TextList;
+use kube_model::{Key, L2Adv, SelectorTexts};
+use serde_json::Value;
+use std::alloc::Global;
+
+/// What is read of an advertisement beside its metadata.
+#[derive(Drop)]
+pub(crate) struct L2Spec {
+    pools: TextList,
+    pool_selectors: SelectorTexts,
+    node_selectors: SelectorTexts,
+    interfaces: TextList,
+}
+
+#[tactic(auto, unfolding(crate::specs::L2Fields::l2_spec_of))]
+pub(crate) fn l2_spec(alloc: Global, object: &Value) -> Result<L2Spec, FieldFault>
+    ensures { Gives (λ x. x) result (l2_spec_of (view object.now)) }
+{
+    let pools = list(alloc, object, "spec.ipAddressPools")?;
+    let pool_selectors = list(alloc, object, "spec.ipAddressPoolSelectors")?;
+    let node_selectors = list(alloc, object, "spec.nodeSelectors")?;
+    let interfaces = list(alloc, object, "spec.interfaces")?;
+    Ok(L2Spec {
+        pools,
+        pool_selectors,
+        node_selectors,
+        interfaces,
+    })
+}
+
+pub(crate) fn l2_with(key: Key, spec: L2Spec) -> L2Adv
+    ensures { result ≡ l2_with key spec }
+{
+    let Key { name, .. } = key;
+    L2Adv {
+        name,
+        pools: spec.pools,
+        pool_selectors: spec.pool_selectors,
+        node_selectors: spec.node_selectors,
+        interfaces: spec.interfaces,
+    }
+}

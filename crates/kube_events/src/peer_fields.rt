@@ -1,0 +1,44 @@
+//! The fields of BGP peers.
+ghost use Rattle.std.specs.Prelude.{◌≡◌};
+ghost use Rattle.serde_json.specs.View.{view};
+ghost use Rattle.json_fields.specs.Reading.{Gives};
+ghost use Rattle.kube_events.specs.PeerFields.{peer_spec_of, peer_with};
+
+use json_fields::{FieldFault, list, required_number};
+use kube_model::{BgpPeer, Key, SelectorTexts};
+use serde_json::Value;
+use std::alloc::Global;
+
+/// What is read of a peer beside its metadata.
+#[derive(Drop)]
+pub(crate) struct PeerSpec {
+    my_asn: u32,
+    peer_asn: u32,
+    node_selectors: SelectorTexts,
+}
+
+#[tactic(auto, unfolding(crate::specs::PeerFields::peer_spec_of))]
+pub(crate) fn peer_spec(alloc: Global, object: &Value) -> Result<PeerSpec, FieldFault>
+    ensures { Gives (λ x. x) result (peer_spec_of (view object.now)) }
+{
+    let my_asn = required_number(alloc, object, "spec.myASN", 1, 4294967295)?;
+    let peer_asn = required_number(alloc, object, "spec.peerASN", 1, 4294967295)?;
+    let node_selectors = list(alloc, object, "spec.nodeSelectors")?;
+    Ok(PeerSpec {
+        my_asn: my_asn as u32,
+        peer_asn: peer_asn as u32,
+        node_selectors,
+    })
+}
+
+pub(crate) fn peer_with(key: Key, spec: PeerSpec) -> BgpPeer
+    ensures { result ≡ peer_with key spec }
+{
+    let Key { name, .. } = key;
+    BgpPeer {
+        name,
+        my_asn: spec.my_asn,
+        peer_asn: spec.peer_asn,
+        node_selectors: spec.node_selectors,
+    }
+}

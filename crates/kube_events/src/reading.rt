@@ -1,0 +1,131 @@
+//! From a line to an event.
+ghost use Rattle.std.specs.Prelude.{◌≡◌, codes};
+ghost use Rattle.serde_json.specs.Find.{get};
+ghost use Rattle.serde_json.specs.View.{view};
+ghost use Rattle.kube_events.specs.Event.{GivesEvent, verb_named, bookmark_of, ends_list, listed_in, watched, event_of, event_of_line};
+
+use crate::frame::frame_from;
+use crate::members::members_from;
+use crate::object_fields::{changed_from, deleted_from};
+use json_fields::read_value;
+use kube_model::{Event, EventFault, Group, Kind};
+use serde_json::Value;
+use std::alloc::Global;
+
+/// What happened to an object that is watched.
+#[derive(Clone, Copy)]
+enum Change {
+    Set,
+    Deleted,
+    Bookmark,
+}
+
+/// What a line's type says.
+#[derive(Clone, Copy)]
+enum Verb {
+    Watch(Change),
+    Error,
+    Members,
+    Frame,
+}
+
+fn verb_named(name: &str) -> Option<Verb>
+    ensures { result ≡ verb_named name.now }
+{
+    match name {
+        "ADDED" | "MODIFIED" => Some(Verb::Watch(Change::Set)),
+        "DELETED" => Some(Verb::Watch(Change::Deleted)),
+        "BOOKMARK" => Some(Verb::Watch(Change::Bookmark)),
+        "ERROR" => Some(Verb::Error),
+        "MEMBERS" => Some(Verb::Members),
+        "FRAME" => Some(Verb::Frame),
+        _ => None,
+    }
+}
+
+/// The group whose list a bookmark of this kind may end.
+fn listed_in(kind: Kind) -> Option<Group>
+    ensures { result ≡ listed_in kind }
+{
+    match kind {
+        Kind::Pool => Some(Group::Config),
+        Kind::Service => Some(Group::Service),
+        Kind::Slice => Some(Group::Endpoint),
+        Kind::L2 | Kind::Bgp | Kind::Peer | Kind::Community | Kind::Namespace | Kind::Node => None,
+    }
+}
+
+#[tactic(auto, unfolding(crate::specs::Event::ends_list))]
+fn ends_list(object: &Value) -> bool
+    ensures { result ≡ ends_list (view object.now) }
+{
+    let annotations = object
+        .get("metadata")
+        .and_then(|metadata| metadata.get("annotations"));
+    let end = annotations
+        .and_then(|annotations| annotations.get("k8s.io/initial-events-end"))
+        .and_then(Value::as_str);
+    match end {
+        Some(text) => text == "true",
+        None => false,
+    }
+}
+
+fn bookmark_from(kind: Kind, object: &Value) -> Event
+    ensures { result ≡ bookmark_of kind (view object.now) }
+{
+    match listed_in(kind) {
+        Some(group) if ends_list(object) => Event::ListEnd { group },
+        _ => Event::Ignored,
+    }
+}
+
+fn watched(alloc: Global, change: Change, line: &Value) -> Result<Event, EventFault>
+    ensures { GivesEvent result (watched change (get (codes "object") (view line.now))) }
+{
+    let Some(object) = line.get("object") else {
+        return Err(EventFault::NotEvent);
+    };
+    let Some(name) = object.get("kind").and_then(Value::as_str) else {
+        return Err(EventFault::NotEvent);
+    };
+    let Some(kind) = Kind::named(name) else {
+        return Ok(Event::Ignored);
+    };
+    match change {
+        Change::Set => Ok(changed_from(alloc, kind, object)?),
+        Change::Deleted => Ok(deleted_from(alloc, kind, object)?),
+        Change::Bookmark => Ok(bookmark_from(kind, object)),
+    }
+}
+
+#[tactic(auto, unfolding(crate::specs::Event::event_of))]
+fn event_from(alloc: Global, line: &Value) -> Result<Event, EventFault>
+    ensures { GivesEvent result (event_of (view line.now)) }
+{
+    match line
+        .get("type")
+        .and_then(Value::as_str)
+        .and_then(verb_named)
+    {
+        None => Err(EventFault::NotEvent),
+        Some(Verb::Error) => Ok(Event::Expired),
+        Some(Verb::Members) => Ok(members_from(alloc, line)?),
+        Some(Verb::Frame) => Ok(frame_from(alloc, line)?),
+        Some(Verb::Watch(change)) => watched(alloc, change, line),
+    }
+}
+
+/// The event of a line, or the first thing in it that is not as stated.
+///
+/// `NotJson` where it is no JSON text (RFC 8259) that is nested at most 127 deep; `NotEvent` where its type or its
+/// object isn't one that is read; `Field` with the path of the first field that isn't as stated.
+#[tactic(auto, unfolding(crate::specs::Event::event_of_line))]
+pub fn read_event(alloc: Global, line: &[u8]) -> Result<Event, EventFault>
+    ensures { GivesEvent result (event_of_line line.now) }
+{
+    match read_value(alloc, line)? {
+        Some(value) => event_from(alloc, &value),
+        None => Err(EventFault::NotJson),
+    }
+}

@@ -1,0 +1,215 @@
+//! The fields of services.
+ghost use Rattle.std.specs.Prelude.{◌≡◌, IfOk};
+ghost use Rattle.serde_json.specs.View.{view};
+ghost use Rattle.json_fields.specs.Reading.{Gives};
+ghost use Rattle.kube_events.specs.ServiceFields.{families_at, notes_of, request_of, traffic_of, ingress_of, addresses_in, ingress_at, service_spec_of, service_with};
+
+use crate::fields::pair_value;
+use crate::named::{NamedFamily, SpelledAddress};
+use crate::wanted::wanted_from;
+use ip_ranges::{AddressList, Family};
+use json_fields::{
+    FieldFault, FromValue, labels, list, optional, require_object, tells, text, with_default,
+};
+use kube_labels::{Labels, Text};
+use kube_model::{FamilyList, Key, Policy, PortList, Record, Service, Wanted};
+use mlb_base::{NoMemory, Sequence};
+use serde_json::Value;
+use std::alloc::Global;
+
+/// What the annotations say.
+#[derive(Drop)]
+struct Notes {
+    share_key: Text,
+    pool_asked: Text,
+    addresses_asked: Text,
+    pool: Text,
+    mark: Text,
+}
+
+#[tactic(auto, unfolding(crate::specs::ServiceFields::notes_of))]
+fn notes_from(alloc: Global, object: &Value) -> Result<Notes, FieldFault>
+    ensures { Gives (λ x. x) result (notes_of (view object.now)) }
+{
+    let annotations = labels(alloc, object, "metadata.annotations")?;
+    Ok(Notes {
+        share_key: pair_value(alloc, &annotations, "metallb.io/allow-shared-ip")?,
+        pool_asked: pair_value(alloc, &annotations, "metallb.io/address-pool")?,
+        addresses_asked: pair_value(alloc, &annotations, "metallb.io/loadBalancerIPs")?,
+        pool: pair_value(alloc, &annotations, "metallb.io/ip-allocated-from-pool")?,
+        mark: pair_value(alloc, &annotations, "metallb.io/ip-held-as")?,
+    })
+}
+
+/// Whether a load balancer is asked for, and which.
+#[derive(Drop)]
+struct Request {
+    balancer: bool,
+    class: Option<Text>,
+    address: Text,
+}
+
+#[tactic(auto, unfolding(crate::specs::ServiceFields::request_of))]
+fn request_from(alloc: Global, object: &Value) -> Result<Request, FieldFault>
+    ensures { Gives (λ x. x) result (request_of (view object.now)) }
+{
+    let balancer = tells(alloc, object, "spec.type", "LoadBalancer")?;
+    let class = optional(alloc, object, "spec.loadBalancerClass")?;
+    let address = text(alloc, object, "spec.loadBalancerIP")?;
+    Ok(Request {
+        balancer,
+        class,
+        address,
+    })
+}
+
+/// One or two distinct families. A list that is absent or empty means IPv4 alone.
+#[tactic(auto, unfolding(crate::specs::ServiceFields::families_at))]
+fn families(alloc: Global, object: &Value, path: &str) -> Result<FamilyList, FieldFault>
+    ensures { Gives (λ x. x) result (families_at path.now (view object.now)) }
+{
+    let named: Sequence<NamedFamily> = list(alloc, object, path)?;
+    match named.as_slice() {
+        [] => Ok(FamilyList::one(alloc, Family::V4)?),
+        [only] => Ok(FamilyList::one(alloc, only.family())?),
+        [first, second] if first.family() != second.family() => {
+            Ok(FamilyList::two(alloc, first.family(), second.family())?)
+        }
+        _ => Err(FieldFault::at(alloc, path)),
+    }
+}
+
+/// How traffic reaches the service.
+#[derive(Drop)]
+struct Traffic {
+    families: FamilyList,
+    prefer_dual: bool,
+    policy: Policy,
+    selector: Labels,
+    ports: PortList,
+}
+
+#[tactic(auto, unfolding(crate::specs::ServiceFields::traffic_of))]
+fn traffic_from(alloc: Global, object: &Value) -> Result<Traffic, FieldFault>
+    ensures { Gives (λ x. x) result (traffic_of (view object.now)) }
+{
+    let families = families(alloc, object, "spec.ipFamilies")?;
+    let prefer_dual = tells(alloc, object, "spec.ipFamilyPolicy", "PreferDualStack")?;
+    let policy = with_default(alloc, object, "spec.externalTrafficPolicy", Policy::Cluster)?;
+    let selector = labels(alloc, object, "spec.selector")?;
+    let ports = list(alloc, object, "spec.ports")?;
+    Ok(Traffic {
+        families,
+        prefer_dual,
+        policy,
+        selector,
+        ports,
+    })
+}
+
+/// One of the places where the service is reached, with its address where it has one.
+#[derive(Drop)]
+struct Ingress {
+    address: Option<SpelledAddress>,
+}
+
+impl FromValue for Ingress {
+    ghost reading = { ingress_of };
+
+    #[tactic(auto, unfolding(crate::specs::ServiceFields::ingress_of))]
+    fn from_value(alloc: Global, value: &Value) -> Result<Ingress, FieldFault> {
+        require_object(alloc, value)?;
+        let address = optional(alloc, value, "ip")?;
+        Ok(Ingress { address })
+    }
+}
+
+/// The addresses that are there.
+fn addresses_in(alloc: Global, ingress: Sequence<Ingress>) -> Result<AddressList, NoMemory>
+    ensures { IfOk result (λ addresses. addresses ≡ addresses_in ingress) }
+{
+    let mut addresses = Sequence::new(alloc);
+    for place in ingress.into_vec() {
+        if let Some(spelled) = place.address {
+            addresses.push(spelled.address())?;
+        }
+    }
+    Ok(addresses)
+}
+
+#[tactic(auto, unfolding(crate::specs::ServiceFields::ingress_at))]
+fn recorded(alloc: Global, object: &Value, path: &str) -> Result<AddressList, FieldFault>
+    ensures { Gives (λ x. x) result (ingress_at path.now (view object.now)) }
+{
+    let places = list(alloc, object, path)?;
+    Ok(addresses_in(alloc, places)?)
+}
+
+/// What is read of a service beside its metadata.
+#[derive(Drop)]
+pub(crate) struct ServiceSpec {
+    balancer: bool,
+    class: Option<Text>,
+    share_key: Text,
+    pool_asked: Text,
+    wanted: Wanted,
+    traffic: Traffic,
+    holding: Record,
+}
+
+#[tactic(auto, unfolding(crate::specs::ServiceFields::service_spec_of))]
+pub(crate) fn service_spec(alloc: Global, object: &Value) -> Result<ServiceSpec, FieldFault>
+    ensures { Gives (λ x. x) result (service_spec_of (view object.now)) }
+{
+    let notes = notes_from(alloc, object)?;
+    let request = request_from(alloc, object)?;
+    let traffic = traffic_from(alloc, object)?;
+    let addresses = recorded(alloc, object, "status.loadBalancer.ingress")?;
+    let wanted = wanted_from(
+        alloc,
+        notes.addresses_asked.as_str(),
+        request.address.as_str(),
+    )?;
+    Ok(ServiceSpec {
+        balancer: request.balancer,
+        class: request.class,
+        share_key: notes.share_key,
+        pool_asked: notes.pool_asked,
+        wanted,
+        traffic,
+        holding: Record {
+            addresses,
+            pool: notes.pool,
+            mark: notes.mark,
+        },
+    })
+}
+
+pub(crate) fn service_with(key: Key, labels: Labels, spec: ServiceSpec) -> Service
+    ensures { result ≡ service_with key labels spec }
+{
+    let ServiceSpec {
+        balancer,
+        class,
+        share_key,
+        pool_asked,
+        wanted,
+        traffic,
+        holding,
+    } = spec;
+    Service {
+        key,
+        labels,
+        balancer,
+        class,
+        families: traffic.families,
+        prefer_dual: traffic.prefer_dual,
+        policy: traffic.policy,
+        selector: traffic.selector,
+        ports: traffic.ports,
+        share_key,
+        pool_asked,
+        wanted,
+        holding,
+    }
+}

@@ -1,0 +1,41 @@
+//! The fields of endpoint slices.
+ghost use Rattle.std.specs.Prelude.{◌≡◌};
+ghost use Rattle.serde_json.specs.View.{view};
+ghost use Rattle.json_fields.specs.Reading.{Gives};
+ghost use Rattle.kube_events.specs.SliceFields.{slice_spec_of, slice_with};
+
+use crate::fields::pair_value;
+use json_fields::{FieldFault, labels, list};
+use kube_labels::Text;
+use kube_model::{EndpointList, EndpointSlice, Key};
+use serde_json::Value;
+use std::alloc::Global;
+
+/// What is read of a slice beside its key.
+#[derive(Drop)]
+pub(crate) struct SliceSpec {
+    service: Text,
+    endpoints: EndpointList,
+}
+
+#[tactic(auto, unfolding(crate::specs::SliceFields::slice_spec_of))]
+pub(crate) fn slice_spec(alloc: Global, object: &Value) -> Result<SliceSpec, FieldFault>
+    ensures { Gives (λ x. x) result (slice_spec_of (view object.now)) }
+{
+    let labels = labels(alloc, object, "metadata.labels")?;
+    let endpoints = list(alloc, object, "endpoints")?;
+    Ok(SliceSpec {
+        service: pair_value(alloc, &labels, "kubernetes.io/service-name")?,
+        endpoints,
+    })
+}
+
+pub(crate) fn slice_with(key: Key, spec: SliceSpec) -> EndpointSlice
+    ensures { result ≡ slice_with key spec }
+{
+    EndpointSlice {
+        key,
+        service: spec.service,
+        endpoints: spec.endpoints,
+    }
+}

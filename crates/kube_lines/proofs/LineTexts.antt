@@ -1,0 +1,42 @@
+-- The text of each value that is written.
+use Rattle.std.proofs.Common.{◌≡◌, ℕ, List, [], ◌∷◌, ◌++◌, Bool, true, false, map, refl, sym, ap, ◌∙◌, append_assoc, codes, decimal}
+use Rattle.json.specs.Print.{quoted}
+use Rattle.serde_json.specs.Data.{Data, Items, string, object, array}
+use Rattle.serde_json.specs.View.{items_of}
+use Rattle.serde_json.specs.Written.{compact_text, items_text, members_text, has_float, items_have_float, members_have_float}
+use Rattle.serde_json.proofs.OnLiterals.{serde_json_on_literals}
+use Rattle.ip_ranges.specs.Values.{AddressValue}
+use Rattle.ip_ranges.specs.AddressText.{canonical_text}
+use Rattle.kube_model.specs.declared.key.Key.{Key}
+use Rattle.kube_model.specs.declared.put.Put.{Put}
+use Rattle.kube_model.specs.declared.reason.Reason.{Reason}
+use Rattle.kube_model.specs.declared.config_fault.ConfigFault.{ConfigFault}
+use Rattle.kube_lines.specs.Lines.{quoted_texts, address_strings, put_text, put_data, pending_text, pending_data, refused_text, refused_data}
+
+no_float : (addresses : List AddressValue) → items_have_float (address_strings addresses) ≡ false
+no_float [] = refl
+no_float (address ∷ addresses) = no_float addresses
+
+later : (address : AddressValue) (addresses : List AddressValue) → items_text true (address_strings (address ∷ addresses)) ≡ 44 ∷ (quoted_texts (map canonical_text (address ∷ addresses)) ++ 93 ∷ [])
+later address [] = refl
+later address (next ∷ addresses) = ap (λ (rest : List ℕ). 44 ∷ (quoted (canonical_text address) ++ rest)) (later next addresses) ∙ ap (λ (rest : List ℕ). 44 ∷ rest) (sym (append_assoc (quoted (canonical_text address)) (44 ∷ quoted_texts (map canonical_text (next ∷ addresses))) (93 ∷ [])))
+
+pub items_text-strings : (addresses : List AddressValue) → items_text false (address_strings addresses) ≡ quoted_texts (map canonical_text addresses) ++ 93 ∷ []
+items_text-strings [] = refl
+items_text-strings (address ∷ []) = refl
+items_text-strings (address ∷ next ∷ addresses) = ap (λ (rest : List ℕ). quoted (canonical_text address) ++ rest) (later next addresses) ∙ sym (append_assoc (quoted (canonical_text address)) (44 ∷ quoted_texts (map canonical_text (next ∷ addresses))) (93 ∷ []))
+
+pub put_has_float : (put : Put) → has_float (put_data put) ≡ false
+put_has_float put = rw (no_float put.holding.addresses) refl
+
+pub put_is : (put : Put) → compact_text (put_data put) ≡ put_text put
+unfolding serde_json_on_literals
+put_is put = rw (items_text-strings put.holding.addresses) refl
+
+pub pending_is : (key : Key) (reason : Reason) → compact_text (pending_data key reason) ≡ pending_text key reason
+unfolding serde_json_on_literals
+pending_is key reason = refl
+
+pub refused_is : (fault : ConfigFault) → compact_text (refused_data fault) ≡ refused_text fault
+unfolding serde_json_on_literals
+refused_is fault = refl

@@ -19,6 +19,10 @@ claims_of-append : (xs ys : List Claim) (key : Key) → claims_of key (xs ++ ys)
 claims_of-append [] ys key = refl
 claims_of-append (c ∷ xs) ys key = append_by (same_key c.key key) c.holding _ _ _ (claims_of-append xs ys key)
 
+either_same : (b : Bool) (rs : List Record) → rs ≡ cond b rs rs
+either_same true rs = refl
+either_same false rs = refl
+
 -- x: the claim's key is the one left out; y: it is the one looked up; z: these two are the same
 others_by : (x : Bool) (y z : Bool) (c : Claim) (q : Key) (cs rest : List Claim) → y ≡ same_key c.key q → (x ≡ true → y ≡ z) → (x ≡ false → y ≡ true → z ≡ false)
     → claims_of q rest ≡ cond z [] (claims_of q cs)
@@ -31,11 +35,7 @@ others_by false true z c q cs rest s same apart ih =
 others_by false false z c q cs rest s same apart ih = rw (← s) ih
 
 claims_of-others : (cs : List Claim) (key q : Key) → claims_of q (others key cs) ≡ cond (same_key key q) [] (claims_of q cs)
-claims_of-others [] key q = nothing (same_key key q)
-    where
-    nothing : (b : Bool) → [] ≡ cond b [] []
-    nothing true = refl
-    nothing false = refl
+claims_of-others [] key q = either_same (same_key key q) []
 claims_of-others (c ∷ cs) key q =
     others_by (same_key c.key key) (same_key c.key q) (same_key key q) c q cs (others key cs) refl
     (λ same. same_key-left c.key key q same)
@@ -50,11 +50,7 @@ claims_of-others (c ∷ cs) key q =
 
 claim_by : (b : Bool) (key q : Key) (r : Record) → claims_of q (cond b (record { key = key; holding = r } ∷ []) []) ≡ cond (same_key key q) (cond b (r ∷ []) []) []
 claim_by true key q r = refl
-claim_by false key q r = nothing (same_key key q)
-    where
-    nothing : (b : Bool) → [] ≡ cond b [] []
-    nothing true = refl
-    nothing false = refl
+claim_by false key q r = either_same (same_key key q) []
 
 claims_of-claim : (key q : Key) (r : Record) → claims_of q (claim_of key r) ≡ cond (same_key key q) (claimed_by r) []
 claims_of-claim key q r = claim_by (is_assigned r) key q r
@@ -106,9 +102,9 @@ IsLeftBy claims key a = (other : Key) → same_key other key ≡ false → list_
 
 left_first : (t here : Bool) (rest : List Record) (r : Record) (a : AddressValue) → here ≡ has_address r.addresses a → (t ≡ true → here ≡ false) → list_any (λ r'. has_address r'.addresses a) rest ≡ false
     → list_any (λ r'. has_address r'.addresses a) (cond t (r ∷ rest) rest) ≡ false
-left_first true true rest r a s no later = let wrong = no refl in absurd (cc)
-left_first true false rest r a s no later = rw (← s) later
-left_first false here rest r a s no later = later
+left_first true true rest r a s fails later = let wrong = fails refl in absurd (cc)
+left_first true false rest r a s fails later = rw (← s) later
+left_first false here rest r a s fails later = later
 
 or-not : (b h : Bool) → (b || not h) ≡ true → b ≡ false → h ≡ false
 or-not true h e s = absurd (cc)

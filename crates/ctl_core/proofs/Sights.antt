@@ -33,7 +33,7 @@ use Rattle.ctl_core.specs.Compile.{compiled}
 use Rattle.ctl_core.specs.Core.{State, fresh, service_at}
 use Rattle.ctl_core.specs.Drive.{Entry, Took, Noted, Turned, Heard}
 use Rattle.ctl_core.specs.Reply.{with_record, replied, core_reply, recorded, recorded_at}
-use Rattle.ctl_core.specs.Shown.{Sight, unseen, seen, claimed_by, by_object, by_event, by_reply, by_answer, added, awaited, sight}
+use Rattle.ctl_core.specs.Shown.{Sight, unseen, seen, claimed_by, by_object, by_event, by_reply, by_answer, added, with_holding, awaited, sight}
 use Rattle.ctl_core.specs.Take.{core_take, changed, version_of, pool_version_of, with_service, with_pool, held_pools, configured}
 use Rattle.ctl_core.specs.Worth.{pool_of_event, pools_shown, config_shown}
 use Rattle.ctl_core.proofs.KeyLaws.{same_key-is, same_key-by, same_key-flip, lookup-inserted, lookup-set}
@@ -304,7 +304,7 @@ stored_seen : (same : Bool) (key : Key) (o : Option HeldService) (h : HeldServic
     → IsSeen key (cond same (Some (with_record version put.holding h)) o) (cond same (claimed_by put.holding) claims) (cond same (by_reply put (Stored version) shown) shown)
 stored_seen true key o h claims shown put version there newer i =
     let f = held-from shown.service key h claims shown refl (subst (λ h'. IsSeen key h' claims shown) (there refl) i) in
-    let with_it : Service → Service = λ s. record s { holding = put.holding } in
+    let with_it : Service → Service = with_holding put.holding in
     let is : option_map with_it shown.service ≡ Some (with_it f.0) = ap (option_map with_it) f.1 in
     record {
       held_is = rw (f.2) (ap (option_map (held_at version)) (sym is));

@@ -65,11 +65,15 @@ by_event key other before = before
 abbrev pub added : Record → List Record → List Record
 added holding claims = if list_any (λ r. same_record r holding) claims then claims else claims ++ claimed_by holding
 
+-- the service with another record
+abbrev pub with_holding : Record → Service → Service
+with_holding holding service = record service { holding = holding }
+
 -- what the reply to a put of the key makes of it
 abbrev pub by_reply : Put → PutReply → Sight → Sight
 by_reply put (Stored version) before = record {
   version = version;
-  service = option_map (λ s. record s { holding = put.holding }) before.service;
+  service = option_map (with_holding put.holding) before.service;
   claims = claimed_by put.holding;
 }
 by_reply put Stale before = before

@@ -20,8 +20,9 @@ use Rattle.ctl_core.specs.declared.turn.TakeNote.TheVariants.{Quiet, Accepted, R
 use Rattle.ctl_core.specs.Keys.{same_key}
 use Rattle.ctl_core.specs.Claims.{has_address, same_record, empty_record}
 use Rattle.ctl_core.specs.Compile.{compiled}
-use Rattle.ctl_core.specs.Core.{pools_in}
-use Rattle.ctl_core.specs.Drive.{Entry, Took, Noted, Turned, Heard}
+use Rattle.ctl_core.specs.Arrivals.{MayAllArrive}
+use Rattle.ctl_core.specs.Core.{fresh, pools_in}
+use Rattle.ctl_core.specs.Drive.{Arrival, Entry, Took, Noted, Turned, Heard, drive}
 use Rattle.ctl_core.specs.Least.{IsFirstThat}
 use Rattle.ctl_core.specs.Marks.{mark_of}
 use Rattle.ctl_core.specs.Shown.{version_last_shown, service_last_shown, claims_shown}
@@ -119,3 +120,8 @@ IsRightEntry earlier (Heard reply) = ⊤
 abbrev pub ArePutsRight : List Entry → List Entry → Type 0
 ArePutsRight [] earlier = ⊤
 ArePutsRight (entry ∷ later) earlier = IsRightEntry earlier entry × ArePutsRight later (entry ∷ earlier)
+
+-- whatever arrives at a core that holds nothing, each put of the drive is right
+abbrev pub PutsAreRight : Type 0
+PutsAreRight =
+    (class : Option (List ℕ)) (arrivals : List Arrival) → MayAllArrive arrivals (fresh class) → ArePutsRight (drive arrivals (fresh class)).entries []

@@ -7,10 +7,12 @@ mod claims;
 mod controller;
 mod held;
 mod keys;
+mod laws;
 pub mod pool_config;
 pub mod sharing_terms;
 mod turn;
 
 pub use controller::Core;
 pub use held::{HeldPool, HeldService};
+pub use laws::puts_are_right;
 pub use turn::{TakeFault, TakeNote, Turn};

@@ -4,3 +4,4 @@ pub mod Turning
 pub mod LineSteps
 pub mod Driven
 pub mod Endings
+pub mod Rightful

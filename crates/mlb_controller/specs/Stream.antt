@@ -9,7 +9,7 @@ use Rattle.kube_events.specs.Event.{event_of_line}
 use Rattle.kube_lines.specs.Reply.{reply_of}
 use Rattle.ctl_core.specs.Built.{is_built}
 use Rattle.ctl_core.specs.Core.{State, fresh}
-use Rattle.ctl_core.specs.Drive.{Arrival, Item, Reply, driven, drive}
+use Rattle.ctl_core.specs.Drive.{Arrival, Item, Reply, Entry, driven, drive}
 use Rattle.mlb_controller.specs.Output.{output_of}
 use Rattle.mlb_edge.specs.declared.lines.Line.{Line}
 use Rattle.mlb_edge.specs.Lines.{Ending, Whole, LongLine, LongInput, input_of}
@@ -69,9 +69,13 @@ stream_from (line ∷ lines) ending s = reads_on (meaning_of s line) (λ arrival
 abbrev pub stream_of : List ℕ → Stream
 stream_of bytes = stream_from (input_of bytes).lines (input_of bytes).ending (fresh None)
 
--- the text of what arrives: that of the transcript of its drive
+-- the transcript of what arrives: that of its drive
+abbrev pub transcript_of : List Arrival → List Entry
+transcript_of arrivals = (drive arrivals (fresh None)).entries
+
+-- the text of what arrives
 abbrev pub text_of : List Arrival → List ℕ
-text_of arrivals = output_of (drive arrivals (fresh None)).entries
+text_of arrivals = output_of (transcript_of arrivals)
 
 -- these arrive by these lines, one by each, and lead from one core to the other
 abbrev pub ArriveBy : List Line → List Arrival → State → State → Type 0

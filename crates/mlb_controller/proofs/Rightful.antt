@@ -1,0 +1,64 @@
+-- What arrives by the lines of a stream may arrive, so each put of its transcript is right.
+use Rattle.std.proofs.Common.{◌≡◌, ℕ, Bool, true, false, cond, List, [], ◌∷◌, Option, Some, None, Result, Ok, Err, refl, sym, ap, ◌∙◌, subst}
+use Rattle.kube_model.specs.declared.event.Event.{Event}
+use Rattle.kube_events.specs.Event.{event_of_line}
+use Rattle.kube_model.specs.declared.event.EventFault.{EventFault}
+use Rattle.kube_model.specs.declared.put.Put.{Put}
+use Rattle.kube_model.specs.declared.reply.PutReply.{PutReply}
+use Rattle.kube_model.specs.declared.reply.PutReply.TheVariants as replies
+use Rattle.kube_model.specs.declared.status.LaneName.TheVariants as lanes
+use Rattle.kube_lines.specs.Reply.{reply_of}
+use Rattle.kube_lines.proofs.Replies.{reply_newer}
+use Rattle.ctl_core.specs.Arrivals.{MayAnswer, MayArrive, MayAllArrive}
+use Rattle.ctl_core.specs.Built.{is_built}
+use Rattle.ctl_core.specs.Core.{State, fresh}
+use Rattle.ctl_core.specs.Drive.{Arrival, Item, Reply, driven}
+use Rattle.ctl_core.specs.Worth.{ArePutsRight}
+use Rattle.ctl_core.proofs.Worthy.{puts_are_right}
+use Rattle.mlb_edge.specs.declared.lines.Line.{Line}
+use Rattle.mlb_edge.specs.Lines.{Ending}
+use Rattle.mlb_controller.specs.Stream.{Meaning, Reads, Stops, Stream, Bad, Unbuilt, NotReply, event_meaning, reply_meaning, meaning_where, meaning_of, reads_on, stream_from, transcript_of}
+
+may_answer : (reply : PutReply) (put : Put) (line : List ℕ) → reply_of put line ≡ Some reply → MayAnswer put reply
+may_answer (replies.Ok version) put line e = reply_newer put line version e
+may_answer replies.Stale put line e = tt
+may_answer replies.Missing put line e = tt
+may_answer replies.Unknown put line e = tt
+
+built_item : (b : Bool) (s : State) (line : Line) (event : Event) (arrival : Arrival) → s.out ≡ None → b ≡ is_built s event → cond b (Reads (Item lanes.Input line.number event)) (Stops (Unbuilt line)) ≡ Reads arrival → MayArrive s arrival
+built_item true s line event arrival out t e =
+    let it : Item lanes.Input line.number event ≡ arrival = cc in
+    subst (MayArrive s) it (out, sym t)
+built_item false s line event arrival out t e = absurd (cc)
+
+read_item : (read : Result Event EventFault) (s : State) (line : Line) (arrival : Arrival) → s.out ≡ None → event_meaning s line read ≡ Reads arrival → MayArrive s arrival
+read_item (Err fault) s line arrival out e = absurd (cc)
+read_item (Ok event) s line arrival out e = built_item (is_built s event) s line event arrival out refl e
+
+read_reply : (read : Option PutReply) (put : Put) (s : State) (line : Line) (arrival : Arrival) → s.out ≡ Some put → read ≡ reply_of put line.bytes → reply_meaning line read ≡ Reads arrival → MayArrive s arrival
+read_reply None put s line arrival out r e = absurd (cc)
+read_reply (Some reply) put s line arrival out r e =
+    let it : Reply reply ≡ arrival = cc in
+    subst (MayArrive s) it (put, out, may_answer reply put line.bytes (sym r))
+
+read_where : (o : Option Put) (s : State) (line : Line) (arrival : Arrival) → s.out ≡ o → meaning_where o s line ≡ Reads arrival → MayArrive s arrival
+read_where None s line arrival out e = read_item (event_of_line line.bytes) s line arrival out e
+read_where (Some put) s line arrival out e = read_reply (reply_of put line.bytes) put s line arrival out refl e
+
+-- what a line is may arrive
+may_arrive : (s : State) (line : Line) (arrival : Arrival) → meaning_of s line ≡ Reads arrival → MayArrive s arrival
+may_arrive s line arrival e = read_where s.out s line arrival refl e
+
+reads_may : (meaning : Meaning) (s : State) (rest : Arrival → Stream) → ((arrival : Arrival) → meaning ≡ Reads arrival → MayArrive s arrival) → ((arrival : Arrival) → MayAllArrive (rest arrival).arrivals (driven s arrival).core)
+    → MayAllArrive (reads_on meaning rest).arrivals s
+reads_may (Reads arrival) s rest first then = (first arrival refl, then arrival)
+reads_may (Stops stop) s rest first then = tt
+
+stream_may : (lines : List Line) (ending : Ending) (s : State) → MayAllArrive (stream_from lines ending s).arrivals s
+stream_may [] ending s = tt
+stream_may (line ∷ lines) ending s =
+    reads_may (meaning_of s line) s (λ arrival. stream_from lines ending (driven s arrival).core) (may_arrive s line) (λ arrival. stream_may lines ending (driven s arrival).core)
+
+-- each put of a stream's transcript is right
+pub right_in : (lines : List Line) (ending : Ending) → ArePutsRight (transcript_of (stream_from lines ending (fresh None)).arrivals) []
+right_in lines ending = puts_are_right None (stream_from lines ending (fresh None)).arrivals (stream_may lines ending (fresh None))

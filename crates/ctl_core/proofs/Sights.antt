@@ -1,5 +1,5 @@
 -- What the core holds and claims of each key is what the transcript shows of it.
-use Rattle.std.proofs.Common.{◌≡◌, ℕ, ◌+◌, ◌<◌, ◌≤◌, Bool, true, false, cond, leb, ltb, eqb, not, ◌&&◌, ◌||◌, List, [], ◌∷◌, ◌++◌, length, map, Option, Some, None, option_map, is_some, Result, Ok, Err, find, append-nil, refl, sym, ap, ◌∙◌, subst, arith, lt-ltb, le-ltb, leb-true, leb-false, ne_eqb, eqb-true}
+use Rattle.std.proofs.Common.{◌≡◌, ℕ, ◌+◌, ◌<◌, ◌≤◌, Bool, true, false, cond, leb, ltb, eqb, not, ◌&&◌, ◌||◌, List, [], ◌∷◌, ◌++◌, length, map, Option, Some, None, option_map, is_some, Result, Ok, Err, find, append-nil, refl, sym, ap, ◌∙◌, subst, arith, lt-ltb, le-ltb, leb-true, leb-false, ne_eqb, eqb-true, true≢false}
 use Rattle.std.specs.Option.{option_map_or}
 use Rattle.std.specs.Result.{result_ok}
 use Rattle.std.specs.Map.{set_value}
@@ -30,12 +30,12 @@ use Rattle.ctl_core.specs.Arrivals.{MayAnswer}
 use Rattle.ctl_core.specs.Keys.{key_cmp, same_key}
 use Rattle.ctl_core.specs.Claims.{is_assigned, is_nonempty, claims_of}
 use Rattle.ctl_core.specs.Compile.{compiled}
-use Rattle.ctl_core.specs.Core.{State, fresh, service_at}
+use Rattle.ctl_core.specs.Core.{State, fresh, is_ready, service_at, queued, all_queued}
 use Rattle.ctl_core.specs.Drive.{Entry, Took, Noted, Turned, Heard}
 use Rattle.ctl_core.specs.Reply.{with_record, replied, core_reply, recorded, recorded_at}
 use Rattle.ctl_core.specs.Shown.{Sight, unseen, seen, claimed_by, by_object, by_event, by_reply, by_answer, added, with_holding, awaited, sight}
 use Rattle.ctl_core.specs.Take.{core_take, changed, version_of, pool_version_of, with_service, with_pool, held_pools, configured}
-use Rattle.ctl_core.specs.Worth.{pool_of_event, pools_shown, config_shown}
+use Rattle.ctl_core.specs.Worth.{pool_of_event, pools_shown, config_shown, ended_by, has_ended}
 use Rattle.ctl_core.proofs.KeyLaws.{same_key-is, same_key-by, same_key-flip, lookup-inserted, lookup-set}
 use Rattle.ctl_core.proofs.ClaimLaws.{claims_of-settled, claims_of-doubted}
 
@@ -55,14 +55,18 @@ pub record Agrees (s : State) (earlier : List Entry) : Type 0 where
   pub each : (key : Key) → IsSeen key (service_at s.services key) (claims_of key s.claims) (sight key earlier)
   pub pools : held_pools s ≡ pools_shown earlier
   pub config : s.config ≡ config_shown earlier
+  pub config_ended : s.config_ended ≡ has_ended ConfigGroup earlier
+  pub services_ended : s.services_ended ≡ has_ended ServiceGroup earlier
+  pub quiet : is_ready s ≡ false → s.queue ≡ []
   pub out : s.out ≡ awaited earlier
-  pub of_held : (put : Put) → s.out ≡ Some put → is_some (service_at s.services put.key) ≡ true
+  pub of_held : (put : Put) → s.out ≡ Some put → (is_some (service_at s.services put.key) ≡ true) × (is_ready s ≡ true)
 
 pub unseen-is : (key : Key) → IsSeen key None [] unseen
 unseen-is key = record { held_is = refl; claims_are = refl; unheld = λ _. refl; own = λ service e. absurd (cc); later = λ service e. absurd (cc) }
 
 pub begins : (class : Option (List ℕ)) → Agrees (fresh class) []
-begins class = record { each = unseen-is; pools = refl; config = refl; out = refl; of_held = λ put e. absurd (cc) }
+begins class =
+    record { each = unseen-is; pools = refl; config = refl; config_ended = refl; services_ended = refl; quiet = λ _. refl; out = refl; of_held = λ put e. absurd (cc) }
 
 and-left : (a b : Bool) → (a && b) ≡ true → a ≡ true
 and-left true b e = refl
@@ -172,15 +176,37 @@ taken_entries lane number event note earlier = Noted note ∷ Took lane number e
 
 -- an event that shows nothing here
 passed_by : (s : State) (lane : LaneName) (number : ℕ) (event : Event) (earlier : List Entry) → ((key : Key) (shown : Sight) → by_event key event shown ≡ shown) → pool_of_event event ≡ []
-    → s.out ≡ None → Agrees s earlier → Agrees s (taken_entries lane number event Quiet earlier)
-passed_by s lane number event earlier same none out a =
+    → ((b : Bool) → ended_by ConfigGroup event b ≡ b) → ((b : Bool) → ended_by ServiceGroup event b ≡ b) → s.out ≡ None → Agrees s earlier → Agrees s (taken_entries lane number event Quiet earlier)
+passed_by s lane number event earlier same none config services out a =
     record {
       each = λ key. rw (same key (sight key earlier)) (a.each key);
       pools = a.pools ∙ rw none (sym (append-nil (pools_shown earlier)));
       config = a.config;
+      config_ended = a.config_ended ∙ sym (config (has_ended ConfigGroup earlier));
+      services_ended = a.services_ended ∙ sym (services (has_ended ServiceGroup earlier));
+      quiet = a.quiet;
       out = out;
       of_held = a.of_held;
     }
+
+-- what isn't queued stays so
+not_queued : (b : Bool) (more queue : List Key) → b ≡ false → queue ≡ [] → cond b more queue ≡ []
+not_queued true more queue e none = absurd (cc)
+not_queued false more queue e none = none
+
+ready_unless : (config services force : Bool) → (true && services && force) ≡ false → (config && services && force) ≡ false
+ready_unless true services force e = e
+ready_unless false services force e = refl
+
+forced_unless : (config services force : Bool) → (true && services && true) ≡ false → ((config && services && force) ≡ false) × (services ≡ false)
+forced_unless config true force e = absurd (cc)
+forced_unless true false force e = (refl, refl)
+forced_unless false false force e = (refl, refl)
+
+listed_unless : (config services force : Bool) → (config && true && force) ≡ false → ((config && services && force) ≡ false) × ((config && force) ≡ false)
+listed_unless false services force e = (refl, refl)
+listed_unless true true force e = (e, e)
+listed_unless true false force e = (refl, e)
 
 -- no put is out of what agrees with an item that was taken
 no_put : {o : Option Put} {put : Put} → o ≡ None → o ≡ Some put → ⊥
@@ -197,7 +223,11 @@ service_taken s lane number version service earlier built out a =
     let same_pools = either_state old (λ t. held_pools t ≡ held_pools s) s quiet refl refl in
     let same_config = either_state old (λ t. t.config ≡ s.config) s quiet refl refl in
     let same_out = either_state old (λ t. t.out ≡ s.out) s quiet refl refl in
+    let stays = either_state old (λ t. is_ready t ≡ false → t.queue ≡ []) s quiet a.quiet (λ e. not_queued (is_ready s) (queued service.key s.queue) s.queue e (a.quiet e)) in
     record {
+      config_ended = either_state old (λ t. t.config_ended ≡ s.config_ended) s quiet refl refl ∙ a.config_ended;
+      services_ended = either_state old (λ t. t.services_ended ≡ s.services_ended) s quiet refl refl ∙ a.services_ended;
+      quiet = stays;
       each = λ key. service_seen old s version service key (sight key earlier) refl none bare (a.each key);
       pools = same_pools ∙ a.pools ∙ sym (append-nil (pools_shown earlier));
       config = same_config ∙ a.config;
@@ -225,6 +255,9 @@ pool_taken s lane number version pool earlier built out a =
     let quiet = with_pool s version pool in
     let same_out = either_state old (λ t. t.out ≡ s.out) s quiet refl refl in
     record {
+      config_ended = either_state old (λ t. t.config_ended ≡ s.config_ended) s quiet refl refl ∙ a.config_ended;
+      services_ended = either_state old (λ t. t.services_ended ≡ s.services_ended) s quiet refl refl ∙ a.services_ended;
+      quiet = either_state old (λ t. is_ready t ≡ false → t.queue ≡ []) s quiet a.quiet a.quiet;
       each = λ key. either_state old (λ t. IsSeen key (service_at t.services key) (claims_of key t.claims) (sight key earlier)) s quiet (a.each key) (a.each key);
       pools = pools_by old s version pool earlier refl none a.pools;
       config = either_state old (λ t. t.config ≡ s.config) s quiet refl refl ∙ a.config;
@@ -241,21 +274,41 @@ config_listed (Ok config) s lane number earlier e out a =
       each = a.each;
       pools = same;
       config = ap result_ok (e ∙ ap compiled same);
+      config_ended = refl;
+      services_ended = a.services_ended;
+      quiet = λ unready.
+          let off = forced_unless s.config_ended s.services_ended (is_some s.config) unready in
+          not_queued s.services_ended (all_queued s.services s.awaiting s.queue) s.queue off.1 (a.quiet off.0);
       out = out;
-      of_held = a.of_held;
+      of_held = λ put is. absurd (no_put out is);
     }
 config_listed (Err fault) s lane number earlier e out a =
-    record { each = a.each; pools = a.pools ∙ sym (append-nil (pools_shown earlier)); config = a.config; out = out; of_held = a.of_held }
+    record {
+      each = a.each;
+      pools = a.pools ∙ sym (append-nil (pools_shown earlier));
+      config = a.config;
+      config_ended = refl;
+      services_ended = a.services_ended;
+      quiet = λ unready. a.quiet (ready_unless s.config_ended s.services_ended (is_some s.config) unready);
+      out = out;
+      of_held = λ put is. absurd (no_put out is);
+    }
 
-services_ended : (s t : State) (lane : LaneName) (number : ℕ) (earlier : List Entry) → s.out ≡ None → Agrees s earlier
+-- the list of the services ends
+services_listed : (s : State) (lane : LaneName) (number : ℕ) (earlier : List Entry) → s.out ≡ None → Agrees s earlier
     → Agrees (core_take s (ListEnd ServiceGroup)).core (taken_entries lane number (ListEnd ServiceGroup) Quiet earlier)
-services_ended s t lane number earlier out a =
+services_listed s lane number earlier out a =
     record {
       each = λ key. end_seen (sight key earlier).service key (service_at s.services key) (claims_of key s.claims) (sight key earlier) refl (a.each key);
       pools = a.pools ∙ sym (append-nil (pools_shown earlier));
       config = a.config;
+      config_ended = a.config_ended;
+      services_ended = refl;
+      quiet = λ unready.
+          let off = listed_unless s.config_ended s.services_ended (is_some s.config) unready in
+          not_queued (s.config_ended && is_some s.config) (all_queued s.services s.awaiting s.queue) s.queue off.1 (a.quiet off.0);
       out = out;
-      of_held = a.of_held;
+      of_held = λ put is. absurd (no_put out is);
     }
 
 -- an item is taken
@@ -268,8 +321,8 @@ takes s lane number (Changed version (BgpObject adv)) earlier built out a = absu
 takes s lane number (Changed version (PeerObject peer)) earlier built out a = absurd (cc)
 takes s lane number (Changed version (CommunityObject community)) earlier built out a = absurd (cc)
 takes s lane number (Changed version (NamespaceObject namespace)) earlier built out a = absurd (cc)
-takes s lane number (Changed version (NodeObject node)) earlier built out a = passed_by s lane number (Changed version (NodeObject node)) earlier (λ key shown. refl) refl out a
-takes s lane number (Changed version (SliceObject slice)) earlier built out a = passed_by s lane number (Changed version (SliceObject slice)) earlier (λ key shown. refl) refl out a
+takes s lane number (Changed version (NodeObject node)) earlier built out a = passed_by s lane number (Changed version (NodeObject node)) earlier (λ key shown. refl) refl (λ b. refl) (λ b. refl) out a
+takes s lane number (Changed version (SliceObject slice)) earlier built out a = passed_by s lane number (Changed version (SliceObject slice)) earlier (λ key shown. refl) refl (λ b. refl) (λ b. refl) out a
 takes s lane number (Deleted ServiceKind key) earlier built out a = absurd (cc)
 takes s lane number (Deleted PoolKind key) earlier built out a = absurd (cc)
 takes s lane number (Deleted L2Kind key) earlier built out a = absurd (cc)
@@ -277,15 +330,15 @@ takes s lane number (Deleted BgpKind key) earlier built out a = absurd (cc)
 takes s lane number (Deleted PeerKind key) earlier built out a = absurd (cc)
 takes s lane number (Deleted CommunityKind key) earlier built out a = absurd (cc)
 takes s lane number (Deleted NamespaceKind key) earlier built out a = absurd (cc)
-takes s lane number (Deleted NodeKind key) earlier built out a = passed_by s lane number (Deleted NodeKind key) earlier (λ k shown. refl) refl out a
-takes s lane number (Deleted SliceKind key) earlier built out a = passed_by s lane number (Deleted SliceKind key) earlier (λ k shown. refl) refl out a
+takes s lane number (Deleted NodeKind key) earlier built out a = passed_by s lane number (Deleted NodeKind key) earlier (λ k shown. refl) refl (λ b. refl) (λ b. refl) out a
+takes s lane number (Deleted SliceKind key) earlier built out a = passed_by s lane number (Deleted SliceKind key) earlier (λ k shown. refl) refl (λ b. refl) (λ b. refl) out a
 takes s lane number (ListEnd ConfigGroup) earlier built out a = config_listed (compiled (held_pools s)) s lane number earlier refl out a
-takes s lane number (ListEnd ServiceGroup) earlier built out a = services_ended s s lane number earlier out a
-takes s lane number (ListEnd Endpoint) earlier built out a = passed_by s lane number (ListEnd Endpoint) earlier (λ key shown. refl) refl out a
+takes s lane number (ListEnd ServiceGroup) earlier built out a = services_listed s lane number earlier out a
+takes s lane number (ListEnd Endpoint) earlier built out a = passed_by s lane number (ListEnd Endpoint) earlier (λ key shown. refl) refl (λ b. refl) (λ b. refl) out a
 takes s lane number Expired earlier built out a = absurd (cc)
-takes s lane number (Members names) earlier built out a = passed_by s lane number (Members names) earlier (λ key shown. refl) refl out a
-takes s lane number (Frame interface bytes) earlier built out a = passed_by s lane number (Frame interface bytes) earlier (λ key shown. refl) refl out a
-takes s lane number Ignored earlier built out a = passed_by s lane number Ignored earlier (λ key shown. refl) refl out a
+takes s lane number (Members names) earlier built out a = passed_by s lane number (Members names) earlier (λ key shown. refl) refl (λ b. refl) (λ b. refl) out a
+takes s lane number (Frame interface bytes) earlier built out a = passed_by s lane number (Frame interface bytes) earlier (λ key shown. refl) refl (λ b. refl) (λ b. refl) out a
+takes s lane number Ignored earlier built out a = passed_by s lane number Ignored earlier (λ key shown. refl) refl (λ b. refl) (λ b. refl) out a
 
 some-is : {X : Type 0} → (o : Option X) → is_some o ≡ true → (x : X) × (o ≡ Some x)
 some-is None e = absurd (cc)
@@ -349,22 +402,35 @@ reply_seen Missing s put h key shown e newer i = rw (either_same (same_key put.k
 reply_seen Unknown s put h key shown e newer i =
     rw (claims_of-doubted s.claims put.key key put.holding) (doubted_seen (same_key put.key key) key (service_at s.services key) h (claims_of key s.claims) shown put (at_key s put h key e) i)
 
-reply_keeps : (reply : PutReply) (s : State) (put : Put) → (held_pools (replied s put reply) ≡ held_pools s) × ((replied s put reply).config ≡ s.config) × ((replied s put reply).out ≡ None)
-reply_keeps (Stored version) s put = (refl, refl, refl)
-reply_keeps Stale s put = (refl, refl, refl)
-reply_keeps Missing s put = (refl, refl, refl)
-reply_keeps Unknown s put = (refl, refl, refl)
+-- what a reply leaves as it is
+record IsKept (s t : State) : Type 0 where
+  pools : held_pools t ≡ held_pools s
+  config : t.config ≡ s.config
+  config_ended : t.config_ended ≡ s.config_ended
+  services_ended : t.services_ended ≡ s.services_ended
+  ready : is_ready t ≡ is_ready s
+  out : t.out ≡ None
+
+reply_keeps : (reply : PutReply) (s : State) (put : Put) → IsKept s (replied s put reply)
+reply_keeps (Stored version) s put = record { pools = refl; config = refl; config_ended = refl; services_ended = refl; ready = refl; out = refl }
+reply_keeps Stale s put = record { pools = refl; config = refl; config_ended = refl; services_ended = refl; ready = refl; out = refl }
+reply_keeps Missing s put = record { pools = refl; config = refl; config_ended = refl; services_ended = refl; ready = refl; out = refl }
+reply_keeps Unknown s put = record { pools = refl; config = refl; config_ended = refl; services_ended = refl; ready = refl; out = refl }
 
 -- a reply is heard
 pub hears : (s : State) (put : Put) (reply : PutReply) (earlier : List Entry) → s.out ≡ Some put → MayAnswer put reply → Agrees s earlier → Agrees (core_reply s reply) (Heard reply ∷ earlier)
 hears s put reply earlier out may a =
-    let f = some-is (service_at s.services put.key) (a.of_held put out) in
+    let f = some-is (service_at s.services put.key) (a.of_held put out).0 in
+    let ready = (a.of_held put out).1 in
     let kept = reply_keeps reply s put in
     let waits : awaited earlier ≡ Some put = sym a.out ∙ out in
     rw out (record {
       each = λ key. rw waits (reply_seen reply s put f.0 key (sight key earlier) f.1 may (a.each key));
-      pools = kept.0 ∙ a.pools;
-      config = kept.1 ∙ a.config;
-      out = kept.2;
-      of_held = λ other is. absurd (no_put kept.2 is);
+      pools = kept.pools ∙ a.pools;
+      config = kept.config ∙ a.config;
+      config_ended = kept.config_ended ∙ a.config_ended;
+      services_ended = kept.services_ended ∙ a.services_ended;
+      quiet = λ unready. absurd (true≢false (sym ready ∙ sym kept.ready ∙ unready));
+      out = kept.out;
+      of_held = λ other is. absurd (no_put kept.out is);
     })

@@ -1,8 +1,10 @@
 -- Each put of a drive is right, by the transcript before it.
-use Rattle.std.proofs.Common.{◌≡◌, ℕ, Bool, true, false, cond, List, [], ◌∷◌, ◌++◌, Option, Some, None, is_some, ◌⊎◌, refl, sym, ap, ◌∙◌, subst}
+use Rattle.std.proofs.Common.{◌≡◌, ℕ, Bool, true, false, cond, ◌&&◌, List, [], ◌∷◌, ◌++◌, Option, Some, None, is_some, option_map, ◌⊎◌, refl, sym, ap, ◌∙◌, subst}
 use Rattle.kube_model.specs.declared.key.Key.{Key}
 use Rattle.kube_model.specs.declared.put.Put.{Put}
+use Rattle.std.specs.Option.{option_map_or}
 use Rattle.kube_model.specs.declared.reason.Reason.{Reason}
+use Rattle.kube_model.specs.declared.record.Record.{Record}
 use Rattle.kube_model.specs.declared.service.Service.{Service}
 use Rattle.ctl_core.specs.declared.alloc_book.Choice.{Choice}
 use Rattle.ctl_core.specs.declared.held.HeldService.{HeldService}
@@ -11,13 +13,13 @@ use Rattle.ctl_core.specs.declared.turn.Turn.TheVariants.{Idle, NoPut, Wants}
 use Rattle.ctl_core.specs.Arrivals.{MayArrive, MayAllArrive}
 use Rattle.ctl_core.specs.Choice.{choose}
 use Rattle.ctl_core.specs.Claims.{claims_of, same_record}
-use Rattle.ctl_core.specs.Core.{State, fresh, service_at, pools_in}
+use Rattle.ctl_core.specs.Core.{State, fresh, is_ready, service_at, pools_in}
 use Rattle.ctl_core.specs.Drive.{Arrival, Item, Reply, Entry, Took, Noted, Turned, Heard, Run, turned, turns, driven, drive}
 use Rattle.ctl_core.specs.Reply.{core_reply}
-use Rattle.ctl_core.specs.Shown.{sight, awaited}
+use Rattle.ctl_core.specs.Shown.{Sight, sight, awaited}
 use Rattle.ctl_core.specs.Take.{core_take}
-use Rattle.ctl_core.specs.Turn.{core_turn, turn_of, turn_at, turn_for, after_turn, put_in, wanted_record, reason_in}
-use Rattle.ctl_core.specs.Worth.{IsNew, IsWithdrawn, IsRightPut, ArePutsRight}
+use Rattle.ctl_core.specs.Turn.{core_turn, turn_of, turn_at, turn_for, after_turn, rest_of, put_in, wanted_record, reason_in}
+use Rattle.ctl_core.specs.Worth.{IsNew, IsWithdrawn, IsRightPut, ArePutsRight, PutsAreRight, ClaimsAreShown, behind}
 use Rattle.ctl_core.proofs.Chosen.{chosen}
 use Rattle.ctl_core.proofs.Sights.{Agrees, IsSeen, held_at, held-from, begins, takes, hears}
 
@@ -49,6 +51,25 @@ wanted_of (key ∷ keys) s put pending e = wanted_at (service_at s.services key)
 wanted-is : (s : State) (put : Put) (pending : Option Reason) → core_turn s ≡ Wants put pending → IsOfHeld s put
 wanted-is s put pending e = wanted_of s.queue s put pending e
 
+and-first : (a b c : Bool) → (a && b && c) ≡ true → a ≡ true
+and-first true b c e = refl
+and-first false b c e = absurd (cc)
+
+and-second : (a b c : Bool) → (a && b && c) ≡ true → b ≡ true
+and-second true true c e = refl
+and-second true false c e = absurd (cc)
+and-second false b c e = absurd (cc)
+
+ready_by : (b : Bool) (s : State) (put : Put) (pending : Option Reason) → b ≡ is_ready s → (is_ready s ≡ false → s.queue ≡ []) → core_turn s ≡ Wants put pending → is_ready s ≡ true
+ready_by true s put pending t quiet e = sym t
+ready_by false s put pending t quiet e =
+    let idle : Idle ≡ Wants put pending = sym (ap (turn_of s) (quiet (sym t))) ∙ e in
+    absurd (cc)
+
+-- a core that isn't ready wants no put
+is_ready_for : (s : State) (put : Put) (pending : Option Reason) → (is_ready s ≡ false → s.queue ≡ []) → core_turn s ≡ Wants put pending → is_ready s ≡ true
+is_ready_for s put pending quiet e = ready_by (is_ready s) s put pending refl quiet e
+
 -- the put that a turn wants is right
 right_put : (s : State) (put : Put) (pending : Option Reason) (earlier : List Entry) → core_turn s ≡ Wants put pending → Agrees s earlier → IsRightPut earlier put
 right_put s put pending earlier e a =
@@ -58,7 +79,10 @@ right_put s put pending earlier e a =
     let f = held-from shown.service put.key wanted.0 (claims_of put.key s.claims) shown refl i in
     let service = f.0 in
     let w : IsWanted s put (held_at shown.version service) = subst (IsWanted s put) f.2 wanted.2 in
+    let ready = is_ready_for s put pending a.quiet e in
     record {
+      config_ended = sym a.config_ended ∙ and-first s.config_ended s.services_ended (is_some s.config) ready;
+      services_ended = sym a.services_ended ∙ and-second s.config_ended s.services_ended (is_some s.config) ready;
       service = service;
       held = f.1;
       of_key = i.own service f.1;
@@ -73,24 +97,39 @@ wants-from Idle put e = absurd (cc)
 wants-from (NoPut key pending) put e = absurd (cc)
 wants-from (Wants other pending) put e = (pending, (let same : other ≡ put = cc in ap (λ p. Wants p pending) same))
 
-held_put : (s : State) (put : Put) → put_in (core_turn s) ≡ Some put → is_some (service_at s.services put.key) ≡ true
-held_put s put e =
+held_put : (s : State) (put : Put) → (is_ready s ≡ false → s.queue ≡ []) → put_in (core_turn s) ≡ Some put → (is_some (service_at s.services put.key) ≡ true) × (is_ready s ≡ true)
+held_put s put quiet e =
     let w = wants-from (core_turn s) put e in
     let wanted = wanted-is s put w.0 w.1 in
-    ap is_some wanted.1
+    (ap is_some wanted.1, is_ready_for s put w.0 quiet w.1)
 
 -- a turn is made
 turn_agrees : (s : State) (turn : Turn) (earlier : List Entry) → core_turn s ≡ turn → Agrees s earlier → Agrees (after_turn s) (Turned turn ∷ earlier)
-turn_agrees s turn earlier e a = record { each = a.each; pools = a.pools; config = a.config; out = ap put_in e; of_held = held_put s }
+turn_agrees s turn earlier e a =
+    record {
+      each = a.each;
+      pools = a.pools;
+      config = a.config;
+      config_ended = a.config_ended;
+      services_ended = a.services_ended;
+      quiet = λ unready. ap rest_of (a.quiet unready);
+      out = ap put_in e;
+      of_held = λ put is. held_put s put a.quiet is;
+    }
 
 -- nothing was queued
 idle_agrees : (s : State) (earlier : List Entry) → core_turn s ≡ Idle → s.out ≡ None → Agrees s earlier → Agrees (after_turn s) earlier
-idle_agrees s earlier e out a = record { each = a.each; pools = a.pools; config = a.config; out = ap put_in e ∙ sym out ∙ a.out; of_held = held_put s }
-
--- the entries behind the earlier ones, the newest first
-abbrev behind : List Entry → List Entry → List Entry
-behind [] earlier = earlier
-behind (entry ∷ entries) earlier = behind entries (entry ∷ earlier)
+idle_agrees s earlier e out a =
+    record {
+      each = a.each;
+      pools = a.pools;
+      config = a.config;
+      config_ended = a.config_ended;
+      services_ended = a.services_ended;
+      quiet = λ unready. ap rest_of (a.quiet unready);
+      out = ap put_in e ∙ sym out ∙ a.out;
+      of_held = λ put is. held_put s put a.quiet is;
+    }
 
 -- the puts among the entries are right, and the core behind them is what is shown
 record Leads (earlier entries : List Entry) (t : State) : Type 0 where
@@ -126,13 +165,41 @@ right-append : (xs ys earlier : List Entry) → ArePutsRight xs earlier → AreP
 right-append [] ys earlier first then = then
 right-append (x ∷ xs) ys earlier first then = (first.0, right-append xs ys (x ∷ earlier) first.1 then)
 
-drive_right : (arrivals : List Arrival) (s : State) (earlier : List Entry) → MayAllArrive arrivals s → Agrees s earlier → ArePutsRight (drive arrivals s).entries earlier
-drive_right [] s earlier may a = tt
-drive_right (arrival ∷ more) s earlier may a =
+behind-append : (xs ys earlier : List Entry) → behind (xs ++ ys) earlier ≡ behind ys (behind xs earlier)
+behind-append [] ys earlier = refl
+behind-append (x ∷ xs) ys earlier = behind-append xs ys (x ∷ earlier)
+
+drive_leads : (arrivals : List Arrival) (s : State) (earlier : List Entry) → MayAllArrive arrivals s → Agrees s earlier → Leads earlier (drive arrivals s).entries (drive arrivals s).core
+drive_leads [] s earlier may a = record { right = tt; agrees = a }
+drive_leads (arrival ∷ more) s earlier may a =
     let first = driven_leads arrival s earlier may.0 a in
-    right-append (driven s arrival).entries (drive more (driven s arrival).core).entries earlier first.right
-    (drive_right more (driven s arrival).core (behind (driven s arrival).entries earlier) may.1 first.agrees)
+    let rest = drive_leads more (driven s arrival).core (behind (driven s arrival).entries earlier) may.1 first.agrees in
+    record {
+      right = right-append (driven s arrival).entries (drive more (driven s arrival).core).entries earlier first.right rest.right;
+      agrees = subst (Agrees (drive more (driven s arrival).core).core) (sym (behind-append (driven s arrival).entries (drive more (driven s arrival).core).entries earlier)) rest.agrees;
+    }
 
 -- each put of a drive from a core that holds nothing is right
-pub puts_are_right : (class : Option (List ℕ)) (arrivals : List Arrival) → MayAllArrive arrivals (fresh class) → ArePutsRight (drive arrivals (fresh class)).entries []
-puts_are_right class arrivals may = drive_right arrivals (fresh class) [] may (begins class)
+pub puts_are_right : PutsAreRight
+puts_are_right class arrivals may = (drive_leads arrivals (fresh class) [] may (begins class)).right
+
+shown_version : (o : Option Service) (key : Key) (held : Option HeldService) (claims : List Record) (shown : Sight) → shown.service ≡ o → IsSeen key held claims shown → option_map_or (λ h. h.version) held 0 ≡ shown.version
+shown_version None key held claims shown e i =
+    ap (λ (h : Option HeldService). option_map_or (λ h'. h'.version) h 0) (i.held_is ∙ ap (option_map (held_at shown.version)) e) ∙ sym (ap (λ (s : Sight). s.version) (i.unheld e))
+shown_version (Some service) key held claims shown e i =
+    ap (λ (h : Option HeldService). option_map_or (λ h'. h'.version) h 0) (i.held_is ∙ ap (option_map (held_at shown.version)) e)
+
+kept_service : (v : ℕ) (o : Option Service) → option_map (λ (h : HeldService). h.service) (option_map (held_at v) o) ≡ o
+kept_service v None = refl
+kept_service v (Some service) = refl
+
+-- what a core holds and claims is what its transcript shows
+pub claims_are_shown : ClaimsAreShown
+claims_are_shown class arrivals may key =
+    let i = (drive_leads arrivals (fresh class) [] may (begins class)).agrees.each key in
+    let shown = sight key (behind (drive arrivals (fresh class)).entries []) in
+    record {
+      version = shown_version shown.service key _ _ shown refl i;
+      service = ap (option_map (λ (h : HeldService). h.service)) i.held_is ∙ kept_service shown.version shown.service;
+      claims = i.claims_are;
+    }

@@ -1,11 +1,14 @@
 -- What a put is worth, by what the transcript before it shows. The newest entry stands first.
-use Rattle.std.specs.Prelude.{◌≡◌, ℕ, ◌<◌, ◌⊎◌, Bool, true, false, nat_lt, if◌then◌else◌, List, [], ◌∷◌, ◌++◌, Option, Some, None, ⊤, IfSome}
+use Rattle.std.specs.Prelude.{◌≡◌, ℕ, ◌<◌, ◌⊎◌, Bool, true, false, ◌||◌, nat_lt, if◌then◌else◌, List, [], ◌∷◌, ◌++◌, Option, Some, None, ⊤, IfSome}
+use Rattle.std.specs.Option.{option_map}
 use Rattle.std.specs.Result.{result_ok}
 use Rattle.std.specs.List.{list_any}
 use Rattle.ip_ranges.specs.declared.family.Family.{Family}
 use Rattle.ip_ranges.specs.Values.{AddressValue, holds}
 use Rattle.kube_model.specs.declared.event.Event.{Event}
 use Rattle.kube_model.specs.declared.event.Event.TheVariants.{Changed, Deleted, ListEnd, Expired, Members, Frame, Ignored}
+use Rattle.kube_model.specs.declared.event.Group.{Group}
+use Rattle.kube_model.specs.declared.event.Group.TheVariants.{Config as ConfigGroup, Service as ServiceGroup, Endpoint}
 use Rattle.kube_model.specs.declared.key.Key.{Key}
 use Rattle.kube_model.specs.declared.object.Object.{Object}
 use Rattle.kube_model.specs.declared.object.Object.TheVariants.{Pool as PoolObject}
@@ -18,14 +21,15 @@ use Rattle.ctl_core.specs.declared.pool_config.Config.{Config}
 use Rattle.ctl_core.specs.declared.turn.TakeNote.{TakeNote}
 use Rattle.ctl_core.specs.declared.turn.TakeNote.TheVariants.{Quiet, Accepted, Refused}
 use Rattle.ctl_core.specs.Keys.{same_key}
-use Rattle.ctl_core.specs.Claims.{has_address, same_record, empty_record}
+use Rattle.ctl_core.specs.Claims.{has_address, same_record, empty_record, claims_of}
 use Rattle.ctl_core.specs.Compile.{compiled}
 use Rattle.ctl_core.specs.Arrivals.{MayAllArrive}
-use Rattle.ctl_core.specs.Core.{fresh, pools_in}
+use Rattle.ctl_core.specs.Core.{State, fresh, pools_in, service_at}
 use Rattle.ctl_core.specs.Drive.{Arrival, Entry, Took, Noted, Turned, Heard, drive}
 use Rattle.ctl_core.specs.Least.{IsFirstThat}
 use Rattle.ctl_core.specs.Marks.{mark_of}
 use Rattle.ctl_core.specs.Shown.{version_last_shown, service_last_shown, claims_shown}
+use Rattle.ctl_core.specs.Take.{version_of}
 use Rattle.ctl_core.specs.Turn.{put_in}
 
 abbrev pub pool_of_object : ℕ → Object → List Pool
@@ -56,6 +60,25 @@ config_shown (Took lane number event ∷ earlier) = config_shown earlier
 config_shown (Noted note ∷ earlier) = config_by note earlier (config_shown earlier)
 config_shown (Turned turn ∷ earlier) = config_shown earlier
 config_shown (Heard reply ∷ earlier) = config_shown earlier
+
+abbrev pub same_group : Group → Group → Bool
+same_group ConfigGroup ConfigGroup = true
+same_group ServiceGroup ServiceGroup = true
+same_group Endpoint Endpoint = true
+same_group a b = false
+
+abbrev pub ended_by : Group → Event → Bool → Bool
+ended_by group (ListEnd other) before = same_group group other || before
+ended_by group Expired before = false
+ended_by group other before = before
+
+-- the list of the group has ended, and the watches haven't expired since
+abbrev pub has_ended : Group → List Entry → Bool
+has_ended group [] = false
+has_ended group (Took lane number event ∷ earlier) = ended_by group event (has_ended group earlier)
+has_ended group (Noted note ∷ earlier) = has_ended group earlier
+has_ended group (Turned turn ∷ earlier) = has_ended group earlier
+has_ended group (Heard reply ∷ earlier) = has_ended group earlier
 
 -- no other key has the address, or may have it
 abbrev pub IsLeftTo : Key → List Entry → AddressValue → Type 0
@@ -101,8 +124,11 @@ pub record IsWithdrawn (earlier : List Entry) (service : Service) (holding : Rec
   pub empty : holding ≡ empty_record
   pub full : AreFull (pools_in (config_shown earlier)) earlier service
 
--- The put is of a service that was shown, at the version last shown, and changes its record to what it may have.
+-- Both lists have ended; the put is of a service that was shown, at the version last shown, and changes its record to what
+-- it may have.
 pub record IsRightPut (earlier : List Entry) (put : Put) : Type 0 where
+  pub config_ended : has_ended ConfigGroup earlier ≡ true
+  pub services_ended : has_ended ServiceGroup earlier ≡ true
   pub service : Service
   pub held : service_last_shown put.key earlier ≡ Some service
   pub of_key : service.key ≡ put.key
@@ -125,3 +151,19 @@ ArePutsRight (entry ∷ later) earlier = IsRightEntry earlier entry × ArePutsRi
 abbrev pub PutsAreRight : Type 0
 PutsAreRight =
     (class : Option (List ℕ)) (arrivals : List Arrival) → MayAllArrive arrivals (fresh class) → ArePutsRight (drive arrivals (fresh class)).entries []
+
+-- the entries behind the earlier ones, the newest first
+abbrev pub behind : List Entry → List Entry → List Entry
+behind [] earlier = earlier
+behind (entry ∷ entries) earlier = behind entries (entry ∷ earlier)
+
+-- What the core holds and claims of the key is what the transcript shows of it.
+pub record IsAsShown (s : State) (earlier : List Entry) (key : Key) : Type 0 where
+  pub version : version_of s.services key ≡ version_last_shown key earlier
+  pub service : option_map (λ h. h.service) (service_at s.services key) ≡ service_last_shown key earlier
+  pub claims : claims_of key s.claims ≡ claims_shown key earlier
+
+-- whatever arrives at a core that holds nothing, it holds and claims of each key what its transcript shows
+abbrev pub ClaimsAreShown : Type 0
+ClaimsAreShown =
+    (class : Option (List ℕ)) (arrivals : List Arrival) → MayAllArrive arrivals (fresh class) → (key : Key) → IsAsShown (drive arrivals (fresh class)).core (behind (drive arrivals (fresh class)).entries []) key

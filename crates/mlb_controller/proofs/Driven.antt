@@ -11,10 +11,10 @@ use Rattle.mlb_edge.specs.Rows.{HasNoNewline}
 use Rattle.mlb_edge.specs.Lines.{Input, Ending, Whole, input_of, no_lines, Follows, Follows-append, EndsAs, to_come, Passes}
 use Rattle.mlb_edge.specs.Written.{Grows, GrowsInPart, Grows-append, Grows-none}
 use Rattle.mlb_controller.specs.Lines.{Drives}
-use Rattle.mlb_controller.specs.Stream.{Meaning, Reads, Stops, Stop, Stream, meaning_of, stop_at, stream_of, stream_from, text_of, ArriveBy}
+use Rattle.mlb_controller.specs.Stream.{Meaning, Reads, Stops, Stop, Stream, IsCause, meaning_of, stop_at, stream_of, stream_from, text_of, ArriveBy}
 use Rattle.mlb_controller.specs.Written.{GrowsUpTo, StopsOn, StopsAs, text_by, WritesRight, WritesInPart, WritesUpTo, WritesOnly, WritesRead, ReadsUpTo}
 use Rattle.mlb_controller.proofs.Halting.{upto_all, upto_first, upto_then, upto_none, part_then, part_first}
-use Rattle.mlb_controller.proofs.Rightful.{right_in}
+use Rattle.mlb_controller.proofs.Rightful.{right_in, stream_cause}
 use Rattle.mlb_controller.proofs.Streams.{joined, stream-behind, text-behind, text-push, text-first, ArriveBy-push}
 
 -- These lines were driven, and just their text was written.
@@ -56,7 +56,9 @@ text_is bytes now core done arrivals arrive follows =
 -- the run of some lines, of which these were driven
 module _ (lines : List Line) (ending : Ending) (arrivals : List Arrival) (before after : Option (List ℕ)) (stop : Stop) where
   stops_on : stream_from lines ending (fresh None) ≡ joined arrivals (record { arrivals = []; stop = stop }) → Grows before after (text_of arrivals) → StopsOn lines ending before after stop
-  stops_on whole wrote = (ap (λ (s : Stream). s.stop) whole, rw (whole, append-nil arrivals) wrote)
+  stops_on whole wrote =
+      let same : (stream_from lines ending (fresh None)).stop ≡ stop = ap (λ (s : Stream). s.stop) whole in
+      (same, rw (whole, append-nil arrivals) wrote, subst IsCause same (stream_cause lines ending (fresh None)))
 
 -- no line is left
 pub stops : (start : Option (List ℕ)) (now : Option Input) (core : State) (before after : Option (List ℕ)) (ending : Ending) → Driven start now core before after → EndsAs now ending → StopsAs start before after (stop_at ending core.out)

@@ -1,5 +1,5 @@
--- What arrives by the lines of a stream may arrive, so each put of its transcript is right.
-use Rattle.std.proofs.Common.{◌≡◌, ℕ, Bool, true, false, cond, List, [], ◌∷◌, Option, Some, None, Result, Ok, Err, refl, sym, ap, ◌∙◌, subst}
+-- What arrives by the lines of a stream may arrive, so each put of its transcript is right; and why a run stops at a line.
+use Rattle.std.proofs.Common.{◌≡◌, ℕ, Bool, true, false, cond, List, [], ◌∷◌, Option, Some, None, Result, Ok, Err, is_ok, is_err, refl, sym, ap, ◌∙◌, subst}
 use Rattle.kube_model.specs.declared.event.Event.{Event}
 use Rattle.kube_events.specs.Event.{event_of_line}
 use Rattle.kube_model.specs.declared.event.EventFault.{EventFault}
@@ -16,8 +16,8 @@ use Rattle.ctl_core.specs.Drive.{Arrival, Item, Reply, driven}
 use Rattle.ctl_core.specs.Worth.{ArePutsRight}
 use Rattle.ctl_core.proofs.Worthy.{puts_are_right}
 use Rattle.mlb_edge.specs.declared.lines.Line.{Line}
-use Rattle.mlb_edge.specs.Lines.{Ending}
-use Rattle.mlb_controller.specs.Stream.{Meaning, Reads, Stops, Stream, Bad, Unbuilt, NotReply, event_meaning, reply_meaning, meaning_where, meaning_of, reads_on, stream_from, transcript_of}
+use Rattle.mlb_edge.specs.Lines.{Ending, Whole, LongLine, LongInput}
+use Rattle.mlb_controller.specs.Stream.{Meaning, Reads, Stops, Stop, Stream, IsCause, stop_at, Bad, Unbuilt, NotReply, event_meaning, reply_meaning, meaning_where, meaning_of, reads_on, stream_from, transcript_of}
 
 may_answer : (reply : PutReply) (put : Put) (line : List ℕ) → reply_of put line ≡ Some reply → MayAnswer put reply
 may_answer (replies.Ok version) put line e = reply_newer put line version e
@@ -62,3 +62,41 @@ stream_may (line ∷ lines) ending s =
 -- each put of a stream's transcript is right
 pub right_in : (lines : List Line) (ending : Ending) → ArePutsRight (transcript_of (stream_from lines ending (fresh None)).arrivals) []
 right_in lines ending = puts_are_right None (stream_from lines ending (fresh None)).arrivals (stream_may lines ending (fresh None))
+
+built_cause : (b : Bool) (s : State) (line : Line) (event : Event) (stop : Stop) → event_of_line line.bytes ≡ Ok event → cond b (Reads (Item lanes.Input line.number event)) (Stops (Unbuilt line)) ≡ Stops stop → IsCause stop
+built_cause true s line event stop r e = absurd (cc)
+built_cause false s line event stop r e =
+    let it : Unbuilt line ≡ stop = cc in
+    subst IsCause it (ap is_ok r)
+
+item_cause : (read : Result Event EventFault) (s : State) (line : Line) (stop : Stop) → event_of_line line.bytes ≡ read → event_meaning s line read ≡ Stops stop → IsCause stop
+item_cause (Err fault) s line stop r e =
+    let it : Bad line ≡ stop = cc in
+    subst IsCause it (ap is_err r)
+item_cause (Ok event) s line stop r e = built_cause (is_built s event) s line event stop r e
+
+reply_cause : (read : Option PutReply) (put : Put) (line : Line) (stop : Stop) → reply_of put line.bytes ≡ read → reply_meaning line read ≡ Stops stop → IsCause stop
+reply_cause None put line stop r e =
+    let it : NotReply line ≡ stop = cc in
+    subst IsCause it (put, r)
+reply_cause (Some reply) put line stop r e = absurd (cc)
+
+line_cause : (o : Option Put) (s : State) (line : Line) (stop : Stop) → meaning_where o s line ≡ Stops stop → IsCause stop
+line_cause None s line stop e = item_cause (event_of_line line.bytes) s line stop refl e
+line_cause (Some put) s line stop e = reply_cause (reply_of put line.bytes) put line stop refl e
+
+end_cause : (ending : Ending) (o : Option Put) → IsCause (stop_at ending o)
+end_cause Whole None = tt
+end_cause Whole (Some put) = tt
+end_cause (LongLine number) o = tt
+end_cause LongInput o = tt
+
+reads_cause : (meaning : Meaning) (rest : Arrival → Stream) → ((stop : Stop) → meaning ≡ Stops stop → IsCause stop) → ((arrival : Arrival) → IsCause (rest arrival).stop) → IsCause (reads_on meaning rest).stop
+reads_cause (Reads arrival) rest first then = then arrival
+reads_cause (Stops stop) rest first then = first stop refl
+
+-- the line that a run stops at is a cause to stop so
+pub stream_cause : (lines : List Line) (ending : Ending) (s : State) → IsCause (stream_from lines ending s).stop
+stream_cause [] ending s = end_cause ending s.out
+stream_cause (line ∷ lines) ending s =
+    reads_cause (meaning_of s line) (λ arrival. stream_from lines ending (driven s arrival).core) (line_cause s.out s line) (λ arrival. stream_cause lines ending (driven s arrival).core)

@@ -1,5 +1,5 @@
 -- A run over the lines of one stream: a line is a reply where a put is out, and else an event.
-use Rattle.std.specs.Prelude.{◌≡◌, ℕ, if◌then◌else◌, List, [], ◌∷◌, ◌++◌, Option, Some, None, Result, Ok, Err}
+use Rattle.std.specs.Prelude.{◌≡◌, ℕ, if◌then◌else◌, List, [], ◌∷◌, ◌++◌, Option, Some, None, Result, Ok, Err, is_ok, is_err, ⊤, true}
 use Rattle.kube_model.specs.declared.event.Event.{Event}
 use Rattle.kube_model.specs.declared.event.EventFault.{EventFault}
 use Rattle.kube_model.specs.declared.put.Put.{Put}
@@ -23,6 +23,16 @@ pub data Stop : Type 0 where
   Unanswered : (put : Put) → Stop  -- the input ended with this put out
   LineTooLong : Stop
   InputTooLong : Stop
+
+-- what holds of the line that a run stops at: it is no event, it is an event, or it is no reply to some put
+abbrev pub IsCause : Stop → Type 0
+IsCause (Bad line) = is_err (event_of_line line.bytes) ≡ true
+IsCause (Unbuilt line) = is_ok (event_of_line line.bytes) ≡ true
+IsCause (NotReply line) = (put : Put) × (reply_of put line.bytes ≡ None)
+IsCause AllRead = ⊤
+IsCause (Unanswered put) = ⊤
+IsCause LineTooLong = ⊤
+IsCause InputTooLong = ⊤
 
 -- what a line is: what arrives by it, or why the run stops at it
 pub data Meaning : Type 0 where

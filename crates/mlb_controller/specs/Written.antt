@@ -8,16 +8,16 @@ use Rattle.mlb_edge.specs.declared.lines.Line.{Line}
 use Rattle.mlb_edge.specs.Lines.{Ending, Whole, input_of, input_from}
 use Rattle.mlb_edge.specs.Rows.{HasNoNewline, raw_lines}
 use Rattle.mlb_edge.specs.Written.{Grows, GrowsInPart}
-use Rattle.mlb_controller.specs.Stream.{Stop, AllRead, ArriveBy, stream_of, stream_from, transcript_of, text_of}
+use Rattle.mlb_controller.specs.Stream.{Stop, AllRead, IsCause, ArriveBy, stream_of, stream_from, transcript_of, text_of}
 
 -- the bytes have grown by a beginning of these
 abbrev pub GrowsUpTo : Option (List ℕ) → Option (List ℕ) → List ℕ → Type 0
 GrowsUpTo before after bytes = (n : ℕ) × (n ≤ length bytes) × Grows before after (take n bytes)
 
--- the run of the lines stops so, and just the text of what arrives before it was written
+-- the run of the lines stops so, just the text of what arrives before it was written, and the line is a cause to stop so
 abbrev pub StopsOn : List Line → Ending → Option (List ℕ) → Option (List ℕ) → Stop → Type 0
 StopsOn lines ending before after stop =
-    ((stream_from lines ending (fresh None)).stop ≡ stop) × Grows before after (text_of (stream_from lines ending (fresh None)).arrivals)
+    ((stream_from lines ending (fresh None)).stop ≡ stop) × Grows before after (text_of (stream_from lines ending (fresh None)).arrivals) × IsCause stop
 
 -- the same of the run of the bytes, or of some lines where the source doesn't tell its bytes
 abbrev pub StopsAs : Option (List ℕ) → Option (List ℕ) → Option (List ℕ) → Stop → Type 0

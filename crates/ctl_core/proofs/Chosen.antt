@@ -1,15 +1,16 @@
 -- What is chosen for a service is the least that the transcript shows to be usable.
-use Rattle.std.proofs.Common.{◌≡◌, ℕ, Bool, true, false, cond, ◌&&◌, List, [], ◌∷◌, ◌++◌, Option, Some, None, option_map, ◌⊎◌, inl, inr, refl, sym, ap, ◌∙◌, subst}
+use Rattle.std.proofs.Common.{◌≡◌, false, List, [], ◌∷◌, ◌++◌, Option, Some, None, option_map, ◌⊎◌, inl, inr, refl, sym, ap, ◌∙◌, subst}
+use Rattle.std.proofs.lemmas.Bool.{and_from, and_parts}
 use Rattle.std.specs.List.{list_any, list_all}
 use Rattle.ip_ranges.specs.declared.family.Family.{Family}
 use Rattle.ip_ranges.specs.Values.{AddressValue, holds}
 use Rattle.kube_model.specs.declared.key.Key.{Key}
-use Rattle.kube_model.specs.declared.reason.Reason.TheVariants.{NoPool, Exhausted}
+use Rattle.kube_model.specs.declared.reason.Reason.TheVariants.{Exhausted}
 use Rattle.kube_model.specs.declared.record.Record.{Record}
 use Rattle.kube_model.specs.declared.service.Service.{Service}
 use Rattle.ctl_core.specs.declared.alloc_book.Claim.{Claim}
 use Rattle.ctl_core.specs.declared.pool_config.CompiledPool.{CompiledPool}
-use Rattle.ctl_core.specs.Claims.{has_address, claims_of, empty_record}
+use Rattle.ctl_core.specs.Claims.{has_address, claims_of}
 use Rattle.ctl_core.specs.Choice.{choose, new_or}
 use Rattle.ctl_core.specs.Core.{pools_in}
 use Rattle.ctl_core.specs.Drive.{Entry}
@@ -22,18 +23,10 @@ use Rattle.ctl_core.specs.Worth.{IsUsableThen, AreLeast, IsFullFor, AreFull, IsN
 use Rattle.ctl_core.proofs.ClaimLaws.{left-from_all, all-from_left}
 use Rattle.ctl_core.proofs.Order.{least_usable-is, least_usable-none}
 
-and-parts : (a b : Bool) → (a && b) ≡ true → (a ≡ true) × (b ≡ true)
-and-parts true b e = (refl, e)
-and-parts false b e = absurd (cc)
-
-both_true : (a b : Bool) → a ≡ true → b ≡ true → (a && b) ≡ true
-both_true true b e f = f
-both_true false b e f = absurd (cc)
-
 module _ (earlier : List Entry) (claims : List Claim) (service : Service) (same : (other : Key) → claims_of other claims ≡ claims_shown other earlier) where
   usable_then : (pool : CompiledPool) (family : Family) (a : AddressValue) → IsUsable claims pool service.key family a → IsUsableThen earlier pool service.key family a
   usable_then pool family a is_usable =
-      let parts = and-parts (list_any (λ span. holds span a) pool.spans) (list_all (leaves service.key a) claims) is_usable.1 in
+      let parts = and_parts (list_any (λ span. holds span a) pool.spans) (list_all (leaves service.key a) claims) is_usable.1 in
       record {
         of_family = is_usable.0;
         in_pool = parts.0;
@@ -41,9 +34,11 @@ module _ (earlier : List Entry) (claims : List Claim) (service : Service) (same 
       }
 
   usable_from : (pool : CompiledPool) (family : Family) (a : AddressValue) → IsUsableThen earlier pool service.key family a → IsUsable claims pool service.key family a
-  usable_from pool family a then =
-      (then.of_family, both_true (list_any (λ span. holds span a) pool.spans) (list_all (leaves service.key a) claims) then.in_pool
-      (all-from_left claims service.key a (λ other apart. subst (λ rs. list_any (λ r. has_address r.addresses a) rs ≡ false) (sym (same other)) (then.left other apart))))
+  usable_from pool family a then = (
+    then.of_family,
+    and_from (list_any (λ span. holds span a) pool.spans) (list_all (leaves service.key a) claims) then.in_pool
+        (all-from_left claims service.key a (λ other apart. subst (λ rs. list_any (λ r. has_address r.addresses a) rs ≡ false) (sym (same other)) (then.left other apart))),
+  )
 
   first_then : (pool : CompiledPool) (family : Family) (a : AddressValue) → IsLeastUsable claims pool service.key family a → IsFirstThat (IsUsableThen earlier pool service.key family) pool.spans a
   first_then pool family a least = (usable_then pool family a least.0, λ b then. least.1 b (usable_from pool family b then))

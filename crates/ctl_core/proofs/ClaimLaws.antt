@@ -1,5 +1,6 @@
 -- The claims of a key, after a change of the list of claims.
-use Rattle.std.proofs.Common.{◌≡◌, ℕ, Bool, true, false, cond, ◌&&◌, ◌||◌, not, List, [], ◌∷◌, ◌++◌, filter, append-nil, append_assoc, refl, sym, ap, ◌∙◌, subst}
+use Rattle.std.proofs.Common.{◌≡◌, Bool, true, false, cond, ◌&&◌, ◌||◌, not, List, [], ◌∷◌, ◌++◌, append-nil, refl, sym, ap, ◌∙◌, subst}
+use Rattle.std.proofs.lemmas.Bool.{and_from, and_parts, not_from_false, or_parts}
 use Rattle.std.specs.List.{list_any, list_all}
 use Rattle.ip_ranges.specs.Values.{AddressValue}
 use Rattle.kube_model.specs.declared.key.Key.{Key}
@@ -9,7 +10,7 @@ use Rattle.ctl_core.specs.Keys.{same_key}
 use Rattle.ctl_core.specs.Claims.{has_address, is_assigned, same_record, claims_of, others, claim_of, settled, claims_it, doubted}
 use Rattle.ctl_core.specs.Shown.{claimed_by, added}
 use Rattle.ctl_core.specs.Usable.{leaves}
-use Rattle.ctl_core.proofs.KeyLaws.{same_key-is, same_key-by, same_key-flip, same_key-left}
+use Rattle.ctl_core.proofs.KeyLaws.{same_key-is, same_key-by, same_key-left}
 
 append_by : (b : Bool) (r : Record) (xs ys zs : List Record) → xs ≡ ys ++ zs → cond b (r ∷ xs) xs ≡ cond b (r ∷ ys) ys ++ zs
 append_by true r xs ys zs e = ap (λ (rest : List Record). r ∷ rest) e
@@ -41,7 +42,7 @@ claims_of-others (c ∷ cs) key q =
     (λ same. same_key-left c.key key q same)
     (λ other here. apart_from (same_key key q) refl other here)
     (claims_of-others cs key q)
-    where
+  where
     apart_from : (z : Bool) → z ≡ same_key key q → same_key c.key key ≡ false → same_key c.key q ≡ true → same_key key q ≡ false
     apart_from false s other here = sym s
     apart_from true s other here =
@@ -111,25 +112,17 @@ or-not true h e s = absurd (cc)
 or-not false true e s = absurd (cc)
 or-not false false e s = refl
 
-and-parts : (a b : Bool) → (a && b) ≡ true → (a ≡ true) × (b ≡ true)
-and-parts true b e = (refl, e)
-and-parts false b e = absurd (cc)
-
 -- where each claim leaves the address, no other key has it
 pub left-from_all : (claims : List Claim) (key : Key) (a : AddressValue) → list_all (leaves key a) claims ≡ true → IsLeftBy claims key a
 left-from_all [] key a all other apart = refl
 left-from_all (c ∷ claims) key a all other apart =
-    let parts = and-parts (leaves key a c) (list_all (leaves key a) claims) all in
+    let parts = and_parts (leaves key a c) (list_all (leaves key a) claims) all in
     left_first (same_key c.key other) (has_address c.holding.addresses a) (claims_of other claims) c.holding a refl
     (λ same. or-not (same_key c.key key) (has_address c.holding.addresses a) parts.0 (same_key-left c.key other key same ∙ apart))
     (left-from_all claims key a parts.1 other apart)
 
 left_later : (t : Bool) (r : Record) (rest : List Record) (a : AddressValue) → list_any (λ r'. has_address r'.addresses a) (cond t (r ∷ rest) rest) ≡ false → list_any (λ r'. has_address r'.addresses a) rest ≡ false
-left_later true r rest a e = or_right (has_address r.addresses a) _ e
-    where
-    or_right : (x y : Bool) → (x || y) ≡ false → y ≡ false
-    or_right true y e = absurd (cc)
-    or_right false y e = e
+left_later true r rest a e = (or_parts (has_address r.addresses a) _ e).1
 left_later false r rest a e = e
 
 leaves_by : (b : Bool) (key : Key) (a : AddressValue) (c : Claim) (claims : List Claim) → b ≡ same_key c.key key → IsLeftBy (c ∷ claims) key a → (b || not (has_address c.holding.addresses a)) ≡ true
@@ -137,19 +130,11 @@ leaves_by true key a c claims s left = refl
 leaves_by false key a c claims s left =
     let own : list_any (λ r. has_address r.addresses a) (claims_of c.key (c ∷ claims)) ≡ false = left c.key (sym s) in
     let first : (has_address c.holding.addresses a || list_any (λ r. has_address r.addresses a) (claims_of c.key claims)) ≡ false = rw (same_key-by c.key c.key refl) at own in
-    not_from (has_address c.holding.addresses a) _ first
-    where
-    not_from : (x y : Bool) → (x || y) ≡ false → not x ≡ true
-    not_from true y e = absurd (cc)
-    not_from false y e = refl
-
-both_true : (a b : Bool) → a ≡ true → b ≡ true → (a && b) ≡ true
-both_true true b e f = f
-both_true false b e f = absurd (cc)
+    not_from_false (has_address c.holding.addresses a) (or_parts (has_address c.holding.addresses a) _ first).0
 
 -- where no other key has the address, each claim leaves it
 pub all-from_left : (claims : List Claim) (key : Key) (a : AddressValue) → IsLeftBy claims key a → list_all (leaves key a) claims ≡ true
 all-from_left [] key a left = refl
 all-from_left (c ∷ claims) key a left =
-    both_true (leaves key a c) (list_all (leaves key a) claims) (leaves_by (same_key c.key key) key a c claims refl left)
+    and_from (leaves key a c) (list_all (leaves key a) claims) (leaves_by (same_key c.key key) key a c claims refl left)
     (all-from_left claims key a (λ other apart. left_later (same_key c.key other) c.holding (claims_of other claims) a (left other apart)))

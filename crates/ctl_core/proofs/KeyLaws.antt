@@ -1,5 +1,7 @@
 -- Keys: which are the same, and what a look-up by key finds.
-use Rattle.std.proofs.Common.{◌≡◌, Bool, true, false, cond, ◌&&◌, List, [], ◌∷◌, Option, Some, None, Ordering, Less, Equal, Greater, is_eq, refl, sym, ap, ◌∙◌, Decides, ℕ, bytes_eq}
+use Rattle.std.proofs.Common.{◌≡◌, Bool, true, false, cond, ◌&&◌, List, [], ◌∷◌, Option, Some, Ordering, Less, Equal, Greater, is_eq, refl, sym, ap, ◌∙◌, ℕ, bytes_eq}
+use Rattle.std.proofs.lemmas.Bool.{and_parts}
+use Rattle.std.proofs.lemmas.Bool.Decides.{same_from_decides}
 use Rattle.std.specs.Ordering.{nat_cmp, ordering_then, match_ordering}
 use Rattle.std.specs.Cmp.Lexicographic.{slice_cmp}
 use Rattle.std.specs.Map.{lookup, set_value}
@@ -19,18 +21,11 @@ is_eq-key_cmp a b =
     both_equal (slice_cmp nat_cmp a.namespace b.namespace) (slice_cmp nat_cmp a.name b.name)
     ∙ rw (is_eq-slice_cmp a.namespace b.namespace, is_eq-slice_cmp a.name b.name) refl
 
-and-left : (a b : Bool) → (a && b) ≡ true → a ≡ true
-and-left true b e = refl
-and-left false b e = absurd (cc)
-
-and-right : (a b : Bool) → (a && b) ≡ true → b ≡ true
-and-right true b e = e
-and-right false b e = absurd (cc)
-
 pub same_key-is : (a b : Key) → same_key a b ≡ true → a ≡ b
 same_key-is a b e =
-    let spaces : a.namespace ≡ b.namespace = (bytes_eq-Decides a.namespace b.namespace).0 (and-left _ (bytes_eq a.name b.name) e) in
-    let names : a.name ≡ b.name = (bytes_eq-Decides a.name b.name).0 (and-right (bytes_eq a.namespace b.namespace) _ e) in
+    let parts = and_parts (bytes_eq a.namespace b.namespace) (bytes_eq a.name b.name) e in
+    let spaces : a.namespace ≡ b.namespace = (bytes_eq-Decides a.namespace b.namespace).0 parts.0 in
+    let names : a.name ≡ b.name = (bytes_eq-Decides a.name b.name).0 parts.1 in
     let space : List ℕ → Key = λ n. record { namespace = n; name = a.name } in
     let name : List ℕ → Key = λ n. record { namespace = b.namespace; name = n } in
     ap space spaces ∙ ap name names
@@ -41,14 +36,8 @@ same_key-itself a = rw ((bytes_eq-Decides a.namespace a.namespace).1 refl, (byte
 pub same_key-by : (a b : Key) → a ≡ b → same_key a b ≡ true
 same_key-by a b e = rw (← e) (same_key-itself a)
 
-both_ways : (x y : Bool) → (x ≡ true → y ≡ true) → (y ≡ true → x ≡ true) → x ≡ y
-both_ways true true f g = refl
-both_ways true false f g = sym (f refl)
-both_ways false true f g = g refl
-both_ways false false f g = refl
-
 pub same_key-flip : (a b : Key) → same_key a b ≡ same_key b a
-same_key-flip a b = both_ways (same_key a b) (same_key b a) (λ e. same_key-by b a (sym (same_key-is a b e))) (λ e. same_key-by a b (sym (same_key-is b a e)))
+same_key-flip a b = same_from_decides (same_key a b) (same_key b a) (same_key-is a b, same_key-by a b) (λ e. sym (same_key-is b a e), λ e. same_key-by b a (sym e))
 
 -- one key in place of an equal one
 pub same_key-left : (a b c : Key) → same_key a b ≡ true → same_key a c ≡ same_key b c

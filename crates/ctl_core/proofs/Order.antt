@@ -1,5 +1,6 @@
 -- What the search for the least address finds, and what it leaves out.
-use Rattle.std.proofs.Common.{◌≡◌, ℕ, ◌+◌, ◌-◌, ◌<◌, ◌≤◌, suc, zero, Bool, true, false, cond, leb, ◌&&◌, ◌||◌, List, [], ◌∷◌, Option, Some, None, option_map, IfSome, IfNone, refl, sym, ap, ◌∙◌, subst, arith, ◌⊎◌, inl, inr, ⊎_elim, eq-or-lt_of_le, leb-true, true≢false}
+use Rattle.std.proofs.Common.{◌≡◌, ℕ, ◌+◌, ◌-◌, ◌<◌, ◌≤◌, suc, zero, Bool, true, false, cond, leb, ◌&&◌, ◌||◌, List, [], ◌∷◌, Option, Some, None, option_map, IfSome, IfNone, refl, sym, ◌∙◌, subst, arith, ⊎_elim, eq-or-lt_of_le, leb-true, true≢false}
+use Rattle.std.proofs.lemmas.Bool.{and_parts}
 use Rattle.std.specs.List.{list_any, list_all}
 use Rattle.ip_ranges.specs.declared.family.Family.{Family}
 use Rattle.ip_ranges.specs.declared.family.Family.TheVariants.{V4, V6}
@@ -64,18 +65,11 @@ pub same_family-itself : (f : Family) → same_family f f ≡ true
 same_family-itself V4 = refl
 same_family-itself V6 = refl
 
-and-left : (a b : Bool) → (a && b) ≡ true → a ≡ true
-and-left true b e = refl
-and-left false b e = absurd (cc)
-
-and-right : (a b : Bool) → (a && b) ≡ true → b ≡ true
-and-right true b e = e
-and-right false b e = absurd (cc)
-
 pub holds-Holds : (span : SpanValue) (a : AddressValue) → holds span a ≡ true → Holds span a
 holds-Holds span a e =
-    let lower = and-left (same_family span.family a.family && leb span.low a.number) _ e in
-    (same_family-is span.family a.family (and-left _ _ lower), leb-true span.low a.number (and-right (same_family span.family a.family) _ lower), leb-true a.number span.high (and-right (same_family span.family a.family && leb span.low a.number) _ e))
+    let bounds = and_parts (same_family span.family a.family && leb span.low a.number) (leb a.number span.high) e in
+    let lower = and_parts (same_family span.family a.family) (leb span.low a.number) bounds.0 in
+    (same_family-is span.family a.family lower.0, leb-true span.low a.number lower.1, leb-true a.number span.high bounds.1)
 
 -- the address passes, lies in the range and is of the family, and no lesser one of the range and the family passes
 pub record IsLeastIn (test : AddressValue → Bool) (family : Family) (span : SpanValue) (a : AddressValue) : Type 0 where
@@ -219,5 +213,5 @@ pub least_usable-none : (claims : List Claim) (pool : CompiledPool) (key : Key) 
     → found ≡ least_usable claims pool key family → IfNone found ((a : AddressValue) → ¬ (IsUsable claims pool key family a))
 least_usable-none claims pool key family None e =
     λ a is_usable. least_of-none (usable claims pool key) family pool.spans (sym e) a is_usable.0 is_usable.1
-    (and-left (list_any (λ span. holds span a) pool.spans) (list_all (leaves key a) claims) is_usable.1)
+    (and_parts (list_any (λ span. holds span a) pool.spans) (list_all (leaves key a) claims) is_usable.1).0
 least_usable-none claims pool key family (Some a) e = tt

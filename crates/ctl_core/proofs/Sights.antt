@@ -1,7 +1,8 @@
 -- What the core holds and claims of each key is what the transcript shows of it.
-use Rattle.std.proofs.Common.{◌≡◌, ℕ, ◌+◌, ◌<◌, ◌≤◌, Bool, true, false, cond, leb, ltb, eqb, not, ◌&&◌, ◌||◌, List, [], ◌∷◌, ◌++◌, length, map, Option, Some, None, option_map, is_some, Result, Ok, Err, find, append-nil, refl, sym, ap, ◌∙◌, subst, arith, lt-ltb, le-ltb, leb-true, leb-false, ne_eqb, eqb-true, true≢false}
+use Rattle.std.proofs.Common.{◌≡◌, ℕ, ◌<◌, ◌≤◌, Bool, true, false, cond, leb, ltb, eqb, not, ◌&&◌, List, [], ◌∷◌, ◌++◌, length, map, Option, Some, None, option_map, is_some, Result, Ok, Err, append-nil, refl, sym, ap, ◌∙◌, subst, arith, lt-ltb, le-ltb, leb-true, leb-false, ne_eqb, eqb-true, true≢false}
 use Rattle.std.specs.Option.{option_map_or}
 use Rattle.std.specs.Result.{result_ok}
+use Rattle.std.proofs.lemmas.Bool.{and_parts, not-true}
 use Rattle.std.specs.Map.{set_value}
 use Rattle.std.specs.BTreeMap.{is_at}
 use Rattle.ip_ranges.specs.Values.{AddressValue}
@@ -24,19 +25,19 @@ use Rattle.ctl_core.specs.declared.held.HeldPool.{HeldPool}
 use Rattle.ctl_core.specs.declared.held.HeldService.{HeldService}
 use Rattle.ctl_core.specs.declared.pool_config.Config.{Config}
 use Rattle.ctl_core.specs.declared.turn.TakeNote.{TakeNote}
-use Rattle.ctl_core.specs.declared.turn.TakeNote.TheVariants.{Quiet, Accepted, Refused}
-use Rattle.ctl_core.specs.Built.{is_built, is_plain_service, is_plain_pool, is_unrecorded}
+use Rattle.ctl_core.specs.declared.turn.TakeNote.TheVariants.{Quiet}
+use Rattle.ctl_core.specs.Built.{is_built, is_plain_service, is_unrecorded}
 use Rattle.ctl_core.specs.Arrivals.{MayAnswer}
 use Rattle.ctl_core.specs.Keys.{key_cmp, same_key}
-use Rattle.ctl_core.specs.Claims.{is_assigned, is_nonempty, claims_of}
+use Rattle.ctl_core.specs.Claims.{is_nonempty, claims_of}
 use Rattle.ctl_core.specs.Compile.{compiled}
 use Rattle.ctl_core.specs.Core.{State, fresh, is_ready, service_at, queued, all_queued}
-use Rattle.ctl_core.specs.Drive.{Entry, Took, Noted, Turned, Heard}
+use Rattle.ctl_core.specs.Drive.{Entry, Took, Noted, Heard}
 use Rattle.ctl_core.specs.Reply.{with_record, replied, core_reply, recorded, recorded_at}
-use Rattle.ctl_core.specs.Shown.{Sight, unseen, seen, claimed_by, by_object, by_event, by_reply, by_answer, added, with_holding, awaited, sight}
+use Rattle.ctl_core.specs.Shown.{Sight, unseen, seen, claimed_by, by_object, by_event, by_reply, added, with_holding, awaited, sight}
 use Rattle.ctl_core.specs.Take.{core_take, changed, version_of, pool_version_of, with_service, with_pool, held_pools, configured}
 use Rattle.ctl_core.specs.Worth.{pool_of_event, pools_shown, config_shown, ended_by, has_ended}
-use Rattle.ctl_core.proofs.KeyLaws.{same_key-is, same_key-by, same_key-flip, lookup-inserted, lookup-set}
+use Rattle.ctl_core.proofs.KeyLaws.{same_key-is, same_key-flip, lookup-inserted, lookup-set}
 use Rattle.ctl_core.proofs.ClaimLaws.{claims_of-settled, claims_of-doubted}
 
 abbrev pub held_at : ℕ → Service → HeldService
@@ -67,18 +68,6 @@ unseen-is key = record { held_is = refl; claims_are = refl; unheld = λ _. refl;
 pub begins : (class : Option (List ℕ)) → Agrees (fresh class) []
 begins class =
     record { each = unseen-is; pools = refl; config = refl; config_ended = refl; services_ended = refl; quiet = λ _. refl; out = refl; of_held = λ put e. absurd (cc) }
-
-and-left : (a b : Bool) → (a && b) ≡ true → a ≡ true
-and-left true b e = refl
-and-left false b e = absurd (cc)
-
-and-right : (a b : Bool) → (a && b) ≡ true → b ≡ true
-and-right true b e = e
-and-right false b e = absurd (cc)
-
-not_true : (b : Bool) → not b ≡ true → b ≡ false
-not_true true e = absurd (cc)
-not_true false e = refl
 
 unheld-from : (held : Option HeldService) → is_some held ≡ false → held ≡ None
 unheld-from None e = refl
@@ -159,10 +148,12 @@ no_address (a ∷ addresses) holding e =
     absurd (omega (arith, none))
 
 bare-from : (holding : Record) → is_unrecorded holding ≡ true → claimed_by holding ≡ []
-bare-from holding e = no_address holding.addresses holding (and-left _ (eqb (length holding.pool) 0) (and-left _ (eqb (length holding.mark) 0) e))
+bare-from holding e =
+    let two = (and_parts (eqb (length holding.addresses) 0 && eqb (length holding.pool) 0) (eqb (length holding.mark) 0) e).0 in
+    no_address holding.addresses holding (and_parts (eqb (length holding.addresses) 0) (eqb (length holding.pool) 0) two).0
 
 bare_service : (service : Service) → is_plain_service service ≡ true → claimed_by service.holding ≡ []
-bare_service service e = bare-from service.holding (and-right _ (is_unrecorded service.holding) e)
+bare_service service e = bare-from service.holding (and_parts _ (is_unrecorded service.holding) e).1
 
 no_pools : (pools : List HeldPool) → eqb (length pools) 0 ≡ true → pools ≡ []
 no_pools [] e = refl
@@ -217,8 +208,9 @@ service_taken : (s : State) (lane : LaneName) (number version : ℕ) (service : 
     → Agrees (changed s version (ServiceObject service)) (taken_entries lane number (Changed version (ServiceObject service)) Quiet earlier)
 service_taken s lane number version service earlier built out a =
     let old = leb version (version_of s.services service.key) in
-    let none : service_at s.services service.key ≡ None = unheld-from _ (not_true _ (and-right _ (not (is_some (service_at s.services service.key))) built)) in
-    let bare : claimed_by service.holding ≡ [] = bare_service service (and-left _ (is_handled s.class service) (and-left _ (not (is_some (service_at s.services service.key))) built)) in
+    let parts = and_parts (is_plain_service service && is_handled s.class service) (not (is_some (service_at s.services service.key))) built in
+    let none : service_at s.services service.key ≡ None = unheld-from _ (not-true _ parts.1) in
+    let bare : claimed_by service.holding ≡ [] = bare_service service (and_parts (is_plain_service service) (is_handled s.class service) parts.0).0 in
     let quiet = with_service s version service in
     let same_pools = either_state old (λ t. held_pools t ≡ held_pools s) s quiet refl refl in
     let same_config = either_state old (λ t. t.config ≡ s.config) s quiet refl refl in
@@ -251,7 +243,7 @@ pool_taken : (s : State) (lane : LaneName) (number version : ℕ) (pool : Pool) 
     → Agrees (changed s version (PoolObject pool)) (taken_entries lane number (Changed version (PoolObject pool)) Quiet earlier)
 pool_taken s lane number version pool earlier built out a =
     let old = leb version (pool_version_of s.pools pool.name) in
-    let none : s.pools ≡ [] = no_pools s.pools (and-right _ (eqb (length s.pools) 0) (and-left _ (not s.config_ended) built)) in
+    let none : s.pools ≡ [] = no_pools s.pools (and_parts _ (eqb (length s.pools) 0) (and_parts _ (not s.config_ended) built).0).1 in
     let quiet = with_pool s version pool in
     let same_out = either_state old (λ t. t.out ≡ s.out) s quiet refl refl in
     record {

@@ -2,11 +2,11 @@
 use Rattle.std.proofs.Common.{◌≡◌, ℕ, Bool, true, false, cond, ◌&&◌, List, [], ◌∷◌, ◌++◌, Option, Some, None, is_some, option_map, ◌⊎◌, refl, sym, ap, ◌∙◌, subst}
 use Rattle.kube_model.specs.declared.key.Key.{Key}
 use Rattle.kube_model.specs.declared.put.Put.{Put}
+use Rattle.std.proofs.lemmas.Bool.{and_parts}
 use Rattle.std.specs.Option.{option_map_or}
 use Rattle.kube_model.specs.declared.reason.Reason.{Reason}
 use Rattle.kube_model.specs.declared.record.Record.{Record}
 use Rattle.kube_model.specs.declared.service.Service.{Service}
-use Rattle.ctl_core.specs.declared.alloc_book.Choice.{Choice}
 use Rattle.ctl_core.specs.declared.held.HeldService.{HeldService}
 use Rattle.ctl_core.specs.declared.turn.Turn.{Turn}
 use Rattle.ctl_core.specs.declared.turn.Turn.TheVariants.{Idle, NoPut, Wants}
@@ -16,9 +16,9 @@ use Rattle.ctl_core.specs.Claims.{claims_of, same_record}
 use Rattle.ctl_core.specs.Core.{State, fresh, is_ready, service_at, pools_in}
 use Rattle.ctl_core.specs.Drive.{Arrival, Item, Reply, Entry, Took, Noted, Turned, Heard, Run, turned, turns, driven, drive}
 use Rattle.ctl_core.specs.Reply.{core_reply}
-use Rattle.ctl_core.specs.Shown.{Sight, sight, awaited}
+use Rattle.ctl_core.specs.Shown.{Sight, sight}
 use Rattle.ctl_core.specs.Take.{core_take}
-use Rattle.ctl_core.specs.Turn.{core_turn, turn_of, turn_at, turn_for, after_turn, rest_of, put_in, wanted_record, reason_in}
+use Rattle.ctl_core.specs.Turn.{core_turn, turn_of, turn_at, after_turn, rest_of, put_in, wanted_record, reason_in}
 use Rattle.ctl_core.specs.Worth.{IsNew, IsWithdrawn, IsRightPut, ArePutsRight, PutsAreRight, ClaimsAreShown, behind}
 use Rattle.ctl_core.proofs.Chosen.{chosen}
 use Rattle.ctl_core.proofs.Sights.{Agrees, IsSeen, held_at, held-from, begins, takes, hears}
@@ -51,15 +51,6 @@ wanted_of (key ∷ keys) s put pending e = wanted_at (service_at s.services key)
 wanted-is : (s : State) (put : Put) (pending : Option Reason) → core_turn s ≡ Wants put pending → IsOfHeld s put
 wanted-is s put pending e = wanted_of s.queue s put pending e
 
-and-first : (a b c : Bool) → (a && b && c) ≡ true → a ≡ true
-and-first true b c e = refl
-and-first false b c e = absurd (cc)
-
-and-second : (a b c : Bool) → (a && b && c) ≡ true → b ≡ true
-and-second true true c e = refl
-and-second true false c e = absurd (cc)
-and-second false b c e = absurd (cc)
-
 ready_by : (b : Bool) (s : State) (put : Put) (pending : Option Reason) → b ≡ is_ready s → (is_ready s ≡ false → s.queue ≡ []) → core_turn s ≡ Wants put pending → is_ready s ≡ true
 ready_by true s put pending t quiet e = sym t
 ready_by false s put pending t quiet e =
@@ -79,10 +70,11 @@ right_put s put pending earlier e a =
     let f = held-from shown.service put.key wanted.0 (claims_of put.key s.claims) shown refl i in
     let service = f.0 in
     let w : IsWanted s put (held_at shown.version service) = subst (IsWanted s put) f.2 wanted.2 in
-    let ready = is_ready_for s put pending a.quiet e in
+    let both = (and_parts (s.config_ended && s.services_ended) (is_some s.config) (is_ready_for s put pending a.quiet e)).0 in
+    let ended = and_parts s.config_ended s.services_ended both in
     record {
-      config_ended = sym a.config_ended ∙ and-first s.config_ended s.services_ended (is_some s.config) ready;
-      services_ended = sym a.services_ended ∙ and-second s.config_ended s.services_ended (is_some s.config) ready;
+      config_ended = sym a.config_ended ∙ ended.0;
+      services_ended = sym a.services_ended ∙ ended.1;
       service = service;
       held = f.1;
       of_key = i.own service f.1;

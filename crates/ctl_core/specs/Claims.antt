@@ -1,6 +1,6 @@
 -- Claims: which records a key has, or may have.
-use Rattle.std.specs.Prelude.{ℕ, List, [], ◌∷◌, ◌++◌, Bool, true, false, ◌&&◌, ◌||◌, not, ◌==◌, filter, if◌then◌else◌}
-use Rattle.std.specs.List.{list_any, list_all}
+use Rattle.std.specs.Prelude.{List, [], ◌∷◌, ◌++◌, Bool, true, false, ◌&&◌, not, filter, if◌then◌else◌}
+use Rattle.std.specs.List.{list_any}
 use Rattle.std.specs.Str.{bytes_eq}
 use Rattle.std.specs.Cmp.Lexicographic.{pointwise}
 use Rattle.ip_ranges.specs.Values.{AddressValue, same_address}

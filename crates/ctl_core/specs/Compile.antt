@@ -1,5 +1,5 @@
 -- What the pools are compiled to, or the first fault among them.
-use Rattle.std.specs.Prelude.{ℕ, List, [], ◌∷◌, Bool, true, false, not, map, find, Option, Some, None, Result, Ok, Err, is_ok}
+use Rattle.std.specs.Prelude.{List, Bool, not, map, find, Option, Some, None, Result, Ok, Err, is_ok}
 use Rattle.std.specs.List.{list_all, filter_map}
 use Rattle.std.specs.Result.{result_ok}
 use Rattle.ip_ranges.specs.EntryText.{entry_of}

@@ -1,5 +1,5 @@
 -- Keys of objects, and lists of them.
-use Rattle.std.specs.Prelude.{ℕ, List, Bool, ◌&&◌, not, filter, map}
+use Rattle.std.specs.Prelude.{List, Bool, ◌&&◌, filter, map}
 use Rattle.std.specs.List.{list_any}
 use Rattle.std.specs.Str.{bytes_eq}
 use Rattle.std.specs.Ordering.{nat_cmp, ordering_then}

@@ -1,5 +1,5 @@
 -- Which address of a pool is the first that may be used, in the words of who configured the pool.
-use Rattle.std.specs.Prelude.{◌≡◌, ◌<◌, ◌⊎◌, Bool, true, List, [], ◌∷◌}
+use Rattle.std.specs.Prelude.{◌≡◌, ◌<◌, ◌⊎◌, true, List, [], ◌∷◌}
 use Rattle.ip_ranges.specs.declared.family.Family.{Family}
 use Rattle.ip_ranges.specs.Values.{AddressValue, SpanValue, Holds}
 use Rattle.kube_model.specs.declared.key.Key.{Key}

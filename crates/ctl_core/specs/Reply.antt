@@ -7,7 +7,6 @@ use Rattle.kube_model.specs.declared.put.Put.{Put}
 use Rattle.kube_model.specs.declared.record.Record.{Record}
 use Rattle.kube_model.specs.declared.reply.PutReply.{PutReply}
 use Rattle.kube_model.specs.declared.reply.PutReply.TheVariants.{Ok as Stored, Stale, Missing, Unknown}
-use Rattle.kube_model.specs.declared.service.Service.{Service}
 use Rattle.ctl_core.specs.declared.held.HeldService.{HeldService}
 use Rattle.ctl_core.specs.Keys.{key_cmp}
 use Rattle.ctl_core.specs.Claims.{settled, doubted, loses}

@@ -1,11 +1,11 @@
 -- What a transcript shows of a service, by looking back over it. The newest entry stands first.
-use Rattle.std.specs.Prelude.{ℕ, Bool, true, false, ◌&&◌, ◌==◌, nat_lt, if◌then◌else◌, List, [], ◌∷◌, ◌++◌, Option, Some, None}
+use Rattle.std.specs.Prelude.{ℕ, ◌&&◌, ◌==◌, nat_lt, if◌then◌else◌, List, [], ◌∷◌, ◌++◌, Option, Some, None}
 use Rattle.std.specs.Option.{option_map}
 use Rattle.std.specs.List.{list_any}
 use Rattle.kube_model.specs.declared.event.Event.{Event}
-use Rattle.kube_model.specs.declared.event.Event.TheVariants.{Changed, Deleted, ListEnd, Expired, Members, Frame, Ignored}
+use Rattle.kube_model.specs.declared.event.Event.TheVariants.{Changed, Deleted, ListEnd, Expired}
 use Rattle.kube_model.specs.declared.event.Group.{Group}
-use Rattle.kube_model.specs.declared.event.Group.TheVariants.{Config as ConfigGroup, Service as ServiceGroup, Endpoint}
+use Rattle.kube_model.specs.declared.event.Group.TheVariants.{Service as ServiceGroup}
 use Rattle.kube_model.specs.declared.key.Key.{Key}
 use Rattle.kube_model.specs.declared.object.Kind.{Kind}
 use Rattle.kube_model.specs.declared.object.Kind.TheVariants.{Service as ServiceKind}

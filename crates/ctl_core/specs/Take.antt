@@ -1,11 +1,11 @@
 -- What an event makes of the core.
-use Rattle.std.specs.Prelude.{ℕ, Bool, true, false, ◌&&◌, nat_le, if◌then◌else◌, List, [], ◌∷◌, ◌++◌, map, find, Option, Some, None, is_some, Result, Ok, Err}
+use Rattle.std.specs.Prelude.{ℕ, true, ◌&&◌, nat_le, if◌then◌else◌, List, [], ◌∷◌, ◌++◌, map, find, Some, is_some, Result, Ok, Err}
 use Rattle.std.specs.Option.{option_map_or}
 use Rattle.std.specs.Str.{bytes_eq}
 use Rattle.std.specs.BTreeMap.{insert_entry}
 use Rattle.kube_model.specs.declared.config_fault.ConfigFault.{ConfigFault}
 use Rattle.kube_model.specs.declared.event.Event.{Event}
-use Rattle.kube_model.specs.declared.event.Event.TheVariants.{Changed, Deleted, ListEnd, Expired, Members, Frame, Ignored}
+use Rattle.kube_model.specs.declared.event.Event.TheVariants.{Changed, ListEnd}
 use Rattle.kube_model.specs.declared.event.Group.{Group}
 use Rattle.kube_model.specs.declared.event.Group.TheVariants.{Config as ConfigGroup, Service as ServiceGroup, Endpoint}
 use Rattle.kube_model.specs.declared.object.Object.{Object}

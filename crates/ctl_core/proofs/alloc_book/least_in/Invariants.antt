@@ -1,5 +1,4 @@
 use Rattle.std.proofs.Common.{◌≡◌, ◌≤◌, ◌+◌, ◌-◌}
-use Rattle.ip_ranges.specs.Values.{AddressValue}
 use Rattle.ctl_core.specs.Usable.{usable, least_between}
 use Rattle.ctl_core.proofs.Least.{numbered}
 use Rattle.ctl_core.proofs.alloc_book.least_in.Given as goal

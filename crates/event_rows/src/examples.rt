@@ -37,7 +37,7 @@ pub(crate) fn example_key(alloc: Global) -> Result<Key, NoMemory> {
     Ok(Key { namespace, name })
 }
 
-fn example_addresses(alloc: Global) -> Result<AddressList, Fail> {
+pub(crate) fn example_addresses(alloc: Global) -> Result<AddressList, Fail> {
     let mut addresses = Sequence::new(alloc);
     addresses.push(parse_address("2001:DB8::")?)?;
     addresses.push(parse_address("192.0.2.10")?)?;

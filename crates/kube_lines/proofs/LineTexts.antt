@@ -11,7 +11,8 @@ use Rattle.kube_model.specs.declared.key.Key.{Key}
 use Rattle.kube_model.specs.declared.put.Put.{Put}
 use Rattle.kube_model.specs.declared.reason.Reason.{Reason}
 use Rattle.kube_model.specs.declared.config_fault.ConfigFault.{ConfigFault}
-use Rattle.kube_lines.specs.Lines.{quoted_texts, address_strings, put_text, put_data, pending_text, pending_data, refused_text, refused_data}
+use Rattle.kube_model.specs.declared.status.LaneName.{LaneName}
+use Rattle.kube_lines.specs.Lines.{quoted_texts, address_strings, put_text, put_data, pending_text, pending_data, refused_text, refused_data, took_text, took_data, address_data, announce_text, withdraw_text, send_text, send_data, update_text, update_data, record_text, record_data, trial_text, trial_data}
 
 no_float : (addresses : List AddressValue) → items_have_float (address_strings addresses) ≡ false
 no_float [] = refl
@@ -40,3 +41,34 @@ pending_is key reason = refl
 pub refused_is : (fault : ConfigFault) → compact_text (refused_data fault) ≡ refused_text fault
 unfolding serde_json_on_literals
 refused_is fault = refl
+
+pub took_is : (lane : LaneName) (number : ℕ) → compact_text (took_data lane number) ≡ took_text lane number
+unfolding serde_json_on_literals
+took_is lane number = refl
+
+pub announce_is : (address : AddressValue) → compact_text (address_data address (codes "announce")) ≡ announce_text address
+unfolding serde_json_on_literals
+announce_is address = refl
+
+pub withdraw_is : (address : AddressValue) → compact_text (address_data address (codes "withdraw")) ≡ withdraw_text address
+unfolding serde_json_on_literals
+withdraw_is address = refl
+
+pub send_is : (interface bytes : List ℕ) → compact_text (send_data interface bytes) ≡ send_text interface bytes
+unfolding serde_json_on_literals
+send_is interface bytes = refl
+
+pub update_is : (peer bytes : List ℕ) → compact_text (update_data peer bytes) ≡ update_text peer bytes
+unfolding serde_json_on_literals
+update_is peer bytes = refl
+
+pub record_has_float : (key : Key) (addresses : List AddressValue) → has_float (record_data key addresses) ≡ false
+record_has_float key addresses = rw (no_float addresses) refl
+
+pub record_is : (key : Key) (addresses : List AddressValue) → compact_text (record_data key addresses) ≡ record_text key addresses
+unfolding serde_json_on_literals
+record_is key addresses = rw (items_text-strings addresses) refl
+
+pub trial_is : (assigned puts services steps : ℕ) → compact_text (trial_data assigned puts services steps) ≡ trial_text assigned puts services steps
+unfolding serde_json_on_literals
+trial_is assigned puts services steps = refl

@@ -10,6 +10,9 @@ use Rattle.kube_model.specs.declared.key.Key.{Key}
 use Rattle.kube_model.specs.declared.put.Put.{Put}
 use Rattle.kube_model.specs.declared.reason.Reason.{Reason}
 use Rattle.kube_model.specs.declared.config_fault.ConfigFault.{ConfigFault}
+use Rattle.hex.specs.Hex.{encode_lower}
+use Rattle.kube_model.specs.declared.status.LaneName.{LaneName}
+use Rattle.kube_model.specs.Status.{lane_text}
 use Rattle.kube_model.specs.Words.{reason_text, cause_text, kind_text}
 
 -- the texts in quotes, with commas between
@@ -47,10 +50,56 @@ refused_text fault = concat (
     codes ",\"name\":" ∷ quoted fault.name ∷
     codes ",\"op\":\"config\",\"result\":\"refused\"}" ∷ [])
 
+-- an item of a lane was taken; items are numbered from 1
+abbrev pub took_text : LaneName → ℕ → List ℕ
+took_text lane n = concat (
+    codes "{\"lane\":" ∷ quoted (lane_text lane) ∷
+    codes ",\"n\":" ∷ decimal n ∷ codes ",\"op\":\"took\"}" ∷ [])
+
+-- the address is answered for from now on
+abbrev pub announce_text : AddressValue → List ℕ
+announce_text address = concat (
+    codes "{\"address\":" ∷ quoted (canonical_text address) ∷ codes ",\"op\":\"announce\"}" ∷ [])
+
+-- the address isn't answered for any more
+abbrev pub withdraw_text : AddressValue → List ℕ
+withdraw_text address = concat (
+    codes "{\"address\":" ∷ quoted (canonical_text address) ∷ codes ",\"op\":\"withdraw\"}" ∷ [])
+
+-- a frame that is to be sent, in hexadecimal of lower case
+abbrev pub send_text : List ℕ → List ℕ → List ℕ
+send_text interface bytes = concat (
+    codes "{\"bytes\":" ∷ quoted (encode_lower bytes) ∷
+    codes ",\"interface\":" ∷ quoted interface ∷ codes ",\"op\":\"send\"}" ∷ [])
+
+-- a message to a BGP peer, in hexadecimal of lower case
+abbrev pub update_text : List ℕ → List ℕ → List ℕ
+update_text peer bytes = concat (
+    codes "{\"bytes\":" ∷ quoted (encode_lower bytes) ∷
+    codes ",\"op\":\"update\",\"peer\":" ∷ quoted peer ∷ codes "}" ∷ [])
+
+-- the addresses that a service has
+abbrev pub record_text : Key → List AddressValue → List ℕ
+record_text key addresses = concat (
+    codes "{\"addresses\":" ∷ addresses_text addresses ∷
+    codes ",\"name\":" ∷ quoted key.name ∷
+    codes ",\"namespace\":" ∷ quoted key.namespace ∷ codes ",\"op\":\"record\"}" ∷ [])
+
+-- the counts of a trial, and its steps
+abbrev pub trial_text : ℕ → ℕ → ℕ → ℕ → List ℕ
+trial_text assigned puts services steps = concat (
+    codes "{\"assigned\":" ∷ decimal assigned ∷
+    codes ",\"op\":\"trial\",\"puts\":" ∷ decimal puts ∷
+    codes ",\"services\":" ∷ decimal services ∷
+    codes ",\"steps\":" ∷ decimal steps ∷ codes "}" ∷ [])
+
 -- ---- the same as values
 
 abbrev pub address_strings : List AddressValue → Items
 address_strings addresses = items_of (map (λ address. string (canonical_text address)) addresses)
+
+abbrev pub number_data : ℕ → Data
+number_data n = number (unsigned n)
 
 abbrev pub put_data : Put → Data
 put_data put = object (member (codes "addresses") (array (address_strings put.holding.addresses))
@@ -59,7 +108,7 @@ put_data put = object (member (codes "addresses") (array (address_strings put.ho
     (member (codes "namespace") (string put.key.namespace)
     (member (codes "op") (string (codes "put"))
     (member (codes "pool") (string put.holding.pool)
-    (member (codes "version") (number (unsigned put.version)) no_members)))))))
+    (member (codes "version") (number_data put.version) no_members)))))))
 
 abbrev pub pending_data : Key → Reason → Data
 pending_data key reason = object (member (codes "name") (string key.name)
@@ -73,3 +122,36 @@ refused_data fault = object (member (codes "fault") (string (cause_text fault.ca
     (member (codes "name") (string fault.name)
     (member (codes "op") (string (codes "config"))
     (member (codes "result") (string (codes "refused")) no_members)))))
+
+abbrev pub took_data : LaneName → ℕ → Data
+took_data lane n = object (member (codes "lane") (string (lane_text lane))
+    (member (codes "n") (number_data n)
+    (member (codes "op") (string (codes "took")) no_members)))
+
+-- what is to be done with an address
+abbrev pub address_data : AddressValue → List ℕ → Data
+address_data address op = object (member (codes "address") (string (canonical_text address))
+    (member (codes "op") (string op) no_members))
+
+abbrev pub send_data : List ℕ → List ℕ → Data
+send_data interface bytes = object (member (codes "bytes") (string (encode_lower bytes))
+    (member (codes "interface") (string interface)
+    (member (codes "op") (string (codes "send")) no_members)))
+
+abbrev pub update_data : List ℕ → List ℕ → Data
+update_data peer bytes = object (member (codes "bytes") (string (encode_lower bytes))
+    (member (codes "op") (string (codes "update"))
+    (member (codes "peer") (string peer) no_members)))
+
+abbrev pub record_data : Key → List AddressValue → Data
+record_data key addresses = object (member (codes "addresses") (array (address_strings addresses))
+    (member (codes "name") (string key.name)
+    (member (codes "namespace") (string key.namespace)
+    (member (codes "op") (string (codes "record")) no_members))))
+
+abbrev pub trial_data : ℕ → ℕ → ℕ → ℕ → Data
+trial_data assigned puts services steps = object (member (codes "assigned") (number_data assigned)
+    (member (codes "op") (string (codes "trial"))
+    (member (codes "puts") (number_data puts)
+    (member (codes "services") (number_data services)
+    (member (codes "steps") (number_data steps) no_members)))))

@@ -4,5 +4,8 @@
 mod lines;
 mod reply;
 
-pub use lines::{accepted_line, pending_line, put_line, refused_line};
+pub use lines::{
+    accepted_line, announce_line, pending_line, put_line, record_line, refused_line, send_line,
+    took_line, trial_line, update_line, withdraw_line,
+};
 pub use reply::{ReplyFault, read_reply};

@@ -1,5 +1,5 @@
 -- What holds of every field.
-use Rattle.std.proofs.Common.{◌≡◌, refl}
+use Rattle.std.proofs.Common.{refl}
 use Rattle.json_fields.specs.Reading.{member_at, behind}
 use Rattle.json_fields.specs.Laws.{FieldsGoByName, NullIsAbsent}
 

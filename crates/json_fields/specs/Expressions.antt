@@ -1,5 +1,5 @@
 -- The expressions of label selectors (Kubernetes, LabelSelectorRequirement).
-use Rattle.std.specs.Prelude.{ℕ, List, Result, Ok, codes}
+use Rattle.std.specs.Prelude.{Result, Ok, codes}
 use Rattle.serde_json.specs.Data.{Data}
 use Rattle.kube_labels.specs.declared.expression.Expression.{Expression}
 use Rattle.json_fields.specs.Path.{Path}

@@ -1,9 +1,9 @@
 -- What holds of every field.
-use Rattle.std.specs.Prelude.{◌≡◌, ℕ, List, ◌∷◌, true, Option, Some, None, is_some}
+use Rattle.std.specs.Prelude.{◌≡◌, List, ◌∷◌, true, Some, None, is_some}
 use Rattle.serde_json.specs.Data.{Data, null}
 use Rattle.serde_json.specs.Find.{get, as_object}
 use Rattle.json_fields.specs.Path.{Path}
-use Rattle.json_fields.specs.Reading.{member_at, behind}
+use Rattle.json_fields.specs.Reading.{behind}
 
 -- What stands at a path depends on the member of its first name alone. No other member changes it.
 abbrev pub FieldsGoByName : Type 0

@@ -119,9 +119,9 @@ rest_is now next core line arrival comes means =
 pub writes_in_part : (start : Option (List ℕ)) (now next : Option Input) (core : State) (before mid after : Option (List ℕ)) (line : Line) (arrival : Arrival) → Driven start now core before mid → Follows now (line ∷ []) next
     → meaning_of core line ≡ Reads arrival → GrowsInPart mid after (output_of (driven core arrival).entries) → WritesInPart start before after
 writes_in_part None now next core before mid after line arrival so_far comes means part = (
-      so_far.done ++ line ∷ [],
-      rw (only_more so_far.done so_far.arrivals core line arrival so_far.arrive means) (part_then before mid after (text_of so_far.arrivals) (output_of (driven core arrival).entries) so_far.wrote part),
-    )
+  so_far.done ++ line ∷ [],
+  rw (only_more so_far.done so_far.arrivals core line arrival so_far.arrive means) (part_then before mid after (text_of so_far.arrivals) (output_of (driven core arrival).entries) so_far.wrote part),
+)
 writes_in_part (Some bytes) None next core before mid after line arrival so_far comes means part = absurd so_far.follows
 writes_in_part (Some bytes) (Some now) None core before mid after line arrival so_far comes means part = absurd comes
 writes_in_part (Some bytes) (Some now) (Some next) core before mid after line arrival so_far comes means part =
@@ -132,9 +132,9 @@ writes_in_part (Some bytes) (Some now) (Some next) core before mid after line ar
 pub writes_upto_line : (start : Option (List ℕ)) (now next : Option Input) (core : State) (before mid after : Option (List ℕ)) (line : Line) (arrival : Arrival) → Driven start now core before mid → Follows now (line ∷ []) next
     → meaning_of core line ≡ Reads arrival → GrowsUpTo mid after (output_of (driven core arrival).entries) → WritesUpTo start before after
 writes_upto_line None now next core before mid after line arrival so_far comes means part = (
-      so_far.done ++ line ∷ [],
-      rw (only_more so_far.done so_far.arrivals core line arrival so_far.arrive means) (upto_then before mid after (text_of so_far.arrivals) (output_of (driven core arrival).entries) so_far.wrote part),
-    )
+  so_far.done ++ line ∷ [],
+  rw (only_more so_far.done so_far.arrivals core line arrival so_far.arrive means) (upto_then before mid after (text_of so_far.arrivals) (output_of (driven core arrival).entries) so_far.wrote part),
+)
 writes_upto_line (Some bytes) None next core before mid after line arrival so_far comes means part = absurd so_far.follows
 writes_upto_line (Some bytes) (Some now) None core before mid after line arrival so_far comes means part = absurd comes
 writes_upto_line (Some bytes) (Some now) (Some next) core before mid after line arrival so_far comes means part =

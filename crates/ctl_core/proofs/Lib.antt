@@ -1,3 +1,4 @@
+pub mod Aparts
 pub mod Chosen
 pub mod ClaimLaws
 pub mod KeyLaws

@@ -127,7 +127,7 @@ service_seen false s version service key shown e none bare i =
     (leb-false version 0 (sym (e ∙ ap (leb version) version_is))) i)
 
 -- what holds of both holds of either
-either_state : (b : Bool) (P : State → Type 0) (s t : State) → P s → P t → P (cond b s t)
+pub either_state : (b : Bool) (P : State → Type 0) (s t : State) → P s → P t → P (cond b s t)
 either_state true P s t p q = p
 either_state false P s t p q = q
 

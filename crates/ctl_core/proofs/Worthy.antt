@@ -1,25 +1,33 @@
 -- Each put of a drive is right, by the transcript before it.
-use Rattle.std.proofs.Common.{◌≡◌, ℕ, Bool, true, false, cond, ◌&&◌, List, [], ◌∷◌, ◌++◌, Option, Some, None, is_some, option_map, ◌⊎◌, refl, sym, ap, ◌∙◌, subst}
+use Rattle.std.proofs.Common.{◌≡◌, ℕ, Bool, true, false, cond, ◌&&◌, List, [], ◌∷◌, ◌++◌, Option, Some, None, is_some, option_map, ◌⊎◌, refl, sym, ap, ◌∙◌, subst, true≢false}
 use Rattle.kube_model.specs.declared.key.Key.{Key}
 use Rattle.kube_model.specs.declared.put.Put.{Put}
 use Rattle.std.proofs.lemmas.Bool.{and_parts}
 use Rattle.std.specs.Option.{option_map_or}
+use Rattle.std.specs.List.{list_any}
+use Rattle.ip_ranges.specs.Values.{AddressValue}
+use Rattle.kube_model.specs.declared.event.Event.{Event}
+use Rattle.kube_model.specs.declared.reply.PutReply.{PutReply}
+use Rattle.kube_model.specs.declared.status.LaneName.{LaneName}
 use Rattle.kube_model.specs.declared.reason.Reason.{Reason}
 use Rattle.kube_model.specs.declared.record.Record.{Record}
 use Rattle.kube_model.specs.declared.service.Service.{Service}
 use Rattle.ctl_core.specs.declared.held.HeldService.{HeldService}
 use Rattle.ctl_core.specs.declared.turn.Turn.{Turn}
 use Rattle.ctl_core.specs.declared.turn.Turn.TheVariants.{Idle, NoPut, Wants}
-use Rattle.ctl_core.specs.Arrivals.{MayArrive, MayAllArrive}
+use Rattle.ctl_core.specs.Apart.{AreApart, AreAlwaysApart, ServicesAreApart}
+use Rattle.ctl_core.specs.Arrivals.{MayAnswer, MayArrive, MayAllArrive}
+use Rattle.ctl_core.specs.Built.{is_built}
 use Rattle.ctl_core.specs.Choice.{choose}
-use Rattle.ctl_core.specs.Claims.{claims_of, same_record}
+use Rattle.ctl_core.specs.Claims.{claims_of, has_address, same_record}
 use Rattle.ctl_core.specs.Core.{State, fresh, is_ready, service_at, pools_in}
 use Rattle.ctl_core.specs.Drive.{Arrival, Item, Reply, Entry, Took, Noted, Turned, Heard, Run, turned, turns, driven, drive}
 use Rattle.ctl_core.specs.Reply.{core_reply}
-use Rattle.ctl_core.specs.Shown.{Sight, sight}
+use Rattle.ctl_core.specs.Shown.{Sight, sight, awaited, claims_shown}
 use Rattle.ctl_core.specs.Take.{core_take}
 use Rattle.ctl_core.specs.Turn.{core_turn, turn_of, turn_at, after_turn, rest_of, put_in, wanted_record, reason_in}
-use Rattle.ctl_core.specs.Worth.{IsNew, IsWithdrawn, IsRightPut, ArePutsRight, PutsAreRight, ClaimsAreShown, behind}
+use Rattle.ctl_core.specs.Worth.{IsLeftTo, IsNew, IsWithdrawn, IsRightPut, ArePutsRight, PutsAreRight, ClaimsAreShown, behind}
+use Rattle.ctl_core.proofs.Aparts.{claims_kept, put_left, heard_apart}
 use Rattle.ctl_core.proofs.Chosen.{chosen}
 use Rattle.ctl_core.proofs.Sights.{Agrees, IsSeen, held_at, held-from, begins, takes, hears}
 
@@ -123,35 +131,94 @@ idle_agrees s earlier e out a =
       of_held = λ put is. held_put s put a.quiet is;
     }
 
--- the puts among the entries are right, and the core behind them is what is shown
+-- The core is what is shown, no two keys have one address, and those of the put that is out are left to its key.
+record Stands (s : State) (earlier : List Entry) : Type 0 where
+  agrees : Agrees s earlier
+  apart : AreApart earlier
+  left : (put : Put) → awaited earlier ≡ Some put → (a : AddressValue) → has_address put.holding.addresses a ≡ true → IsLeftTo put.key earlier a
+
+-- nothing is awaited
+not_awaited : {o : Option Put} {put : Put} → o ≡ None → o ≡ Some put → ⊥
+not_awaited e f = let wrong = sym e ∙ f in absurd (cc)
+
+stands_first : (class : Option (List ℕ)) → Stands (fresh class) []
+stands_first class = record {
+  agrees = begins class;
+  apart = λ j k a first then. absurd (true≢false (sym first));
+  left = λ put is. absurd (not_awaited refl is);
+}
+
+module _ (s : State) (lane : LaneName) (number : ℕ) (event : Event) (earlier : List Entry) (built : is_built s event ≡ true) (out : s.out ≡ None) (now : Stands s earlier) where
+  taken : Agrees (core_take s event).core (Noted (core_take s event).note ∷ Took lane number event ∷ earlier)
+  taken = takes s lane number event earlier built out now.agrees
+
+  same_claims : (key : Key) → claims_shown key (Took lane number event ∷ earlier) ≡ claims_shown key earlier
+  same_claims key = sym (taken.each key).claims_are ∙ ap (claims_of key) (claims_kept event s) ∙ (now.agrees.each key).claims_are
+
+  -- an item is taken
+  take_stands : Stands (core_take s event).core (Noted (core_take s event).note ∷ Took lane number event ∷ earlier)
+  take_stands = record {
+    agrees = taken;
+    apart = λ j k a first then.
+        let before : List Record → Type 0 = λ rs. list_any (λ r. has_address r.addresses a) rs ≡ true in
+        now.apart j k a (subst before (same_claims j) first) (subst before (same_claims k) then);
+    left = λ put is. absurd (not_awaited refl is);
+  }
+
+-- a turn is made
+turn_stands : (turn : Turn) (s : State) (earlier : List Entry) → core_turn s ≡ turn → Stands s earlier → Stands (after_turn s) (Turned turn ∷ earlier)
+turn_stands turn s earlier e now = record {
+  agrees = turn_agrees s turn earlier e now.agrees;
+  apart = now.apart;
+  left = λ put is a has.
+      let w = wants-from turn put is in
+      put_left earlier put a (right_put s put w.0 earlier (e ∙ w.1) now.agrees) has;
+}
+
+idle_stands : (s : State) (earlier : List Entry) → core_turn s ≡ Idle → s.out ≡ None → Stands s earlier → Stands (after_turn s) earlier
+idle_stands s earlier e out now = record { agrees = idle_agrees s earlier e out now.agrees; apart = now.apart; left = now.left }
+
+-- a reply is heard
+hear_stands : (s : State) (put : Put) (reply : PutReply) (earlier : List Entry) → s.out ≡ Some put → MayAnswer put reply → Stands s earlier → Stands (core_reply s reply) (Heard reply ∷ earlier)
+hear_stands s put reply earlier out may now =
+    let waits : awaited earlier ≡ Some put = sym now.agrees.out ∙ out in
+    record {
+      agrees = hears s put reply earlier out may now.agrees;
+      apart = heard_apart earlier put reply waits (now.left put waits) now.apart;
+      left = λ other is. absurd (not_awaited refl is);
+    }
+
+-- the puts among the entries are right, keys are apart all along, and the core behind them is what is shown
 record Leads (earlier entries : List Entry) (t : State) : Type 0 where
   right : ArePutsRight entries earlier
-  agrees : Agrees t (behind entries earlier)
+  apart : AreAlwaysApart entries earlier
+  stands : Stands t (behind entries earlier)
 
-turned_lead : (turn : Turn) (s : State) (rest : Run) (earlier : List Entry) → core_turn s ≡ turn → s.out ≡ None → Agrees s earlier
-    → ((now : List Entry) → (after_turn s).out ≡ None → Agrees (after_turn s) now → Leads now rest.entries rest.core)
+turned_lead : (turn : Turn) (s : State) (rest : Run) (earlier : List Entry) → core_turn s ≡ turn → s.out ≡ None → Stands s earlier
+    → ((now : List Entry) → (after_turn s).out ≡ None → Stands (after_turn s) now → Leads now rest.entries rest.core)
     → Leads earlier (turned turn (after_turn s) rest).entries (turned turn (after_turn s) rest).core
-turned_lead Idle s rest earlier e out a ih = ih earlier (ap put_in e) (idle_agrees s earlier e out a)
-turned_lead (NoPut key pending) s rest earlier e out a ih =
-    let later = ih (Turned (NoPut key pending) ∷ earlier) (ap put_in e) (turn_agrees s (NoPut key pending) earlier e a) in
-    record { right = (tt, later.right); agrees = later.agrees }
-turned_lead (Wants put pending) s rest earlier e out a ih =
-    record { right = (right_put s put pending earlier e a, tt); agrees = turn_agrees s (Wants put pending) earlier e a }
+turned_lead Idle s rest earlier e out now ih = ih earlier (ap put_in e) (idle_stands s earlier e out now)
+turned_lead (NoPut key pending) s rest earlier e out now ih =
+    let later = ih (Turned (NoPut key pending) ∷ earlier) (ap put_in e) (turn_stands (NoPut key pending) s earlier e now) in
+    record { right = (tt, later.right); apart = (now.apart, later.apart); stands = later.stands }
+turned_lead (Wants put pending) s rest earlier e out now ih =
+    let after = turn_stands (Wants put pending) s earlier e now in
+    record { right = (right_put s put pending earlier e now.agrees, tt); apart = (now.apart, after.apart); stands = after }
 
-turns_lead : (queue : List Key) (s : State) (earlier : List Entry) → s.out ≡ None → Agrees s earlier → Leads earlier (turns queue s).entries (turns queue s).core
-turns_lead [] s earlier out a = record { right = tt; agrees = a }
-turns_lead (key ∷ keys) s earlier out a =
-    turned_lead (core_turn s) s (turns keys (after_turn s)) earlier refl out a (λ now none b. turns_lead keys (after_turn s) now none b)
+turns_lead : (queue : List Key) (s : State) (earlier : List Entry) → s.out ≡ None → Stands s earlier → Leads earlier (turns queue s).entries (turns queue s).core
+turns_lead [] s earlier out now = record { right = tt; apart = now.apart; stands = now }
+turns_lead (key ∷ keys) s earlier out now =
+    turned_lead (core_turn s) s (turns keys (after_turn s)) earlier refl out now (λ next none b. turns_lead keys (after_turn s) next none b)
 
-driven_leads : (arrival : Arrival) (s : State) (earlier : List Entry) → MayArrive s arrival → Agrees s earlier → Leads earlier (driven s arrival).entries (driven s arrival).core
-driven_leads (Item lane number event) s earlier may a =
-    let taken = takes s lane number event earlier may.1 may.0 a in
-    let later = turns_lead (core_take s event).core.queue (core_take s event).core (Noted (core_take s event).note ∷ Took lane number event ∷ earlier) taken.out taken in
-    record { right = (tt, (tt, later.right)); agrees = later.agrees }
-driven_leads (Reply reply) s earlier may a =
-    let heard = hears s may.0 reply earlier may.1 may.2 a in
-    let later = turns_lead (core_reply s reply).queue (core_reply s reply) (Heard reply ∷ earlier) heard.out heard in
-    record { right = (tt, later.right); agrees = later.agrees }
+driven_leads : (arrival : Arrival) (s : State) (earlier : List Entry) → MayArrive s arrival → Stands s earlier → Leads earlier (driven s arrival).entries (driven s arrival).core
+driven_leads (Item lane number event) s earlier may now =
+    let after = take_stands s lane number event earlier may.1 may.0 now in
+    let later = turns_lead (core_take s event).core.queue (core_take s event).core (Noted (core_take s event).note ∷ Took lane number event ∷ earlier) after.agrees.out after in
+    record { right = (tt, (tt, later.right)); apart = (now.apart, (after.apart, later.apart)); stands = later.stands }
+driven_leads (Reply reply) s earlier may now =
+    let after = hear_stands s may.0 reply earlier may.1 may.2 now in
+    let later = turns_lead (core_reply s reply).queue (core_reply s reply) (Heard reply ∷ earlier) after.agrees.out after in
+    record { right = (tt, later.right); apart = (now.apart, later.apart); stands = later.stands }
 
 right-append : (xs ys earlier : List Entry) → ArePutsRight xs earlier → ArePutsRight ys (behind xs earlier) → ArePutsRight (xs ++ ys) earlier
 right-append [] ys earlier first then = then
@@ -161,19 +228,28 @@ behind-append : (xs ys earlier : List Entry) → behind (xs ++ ys) earlier ≡ b
 behind-append [] ys earlier = refl
 behind-append (x ∷ xs) ys earlier = behind-append xs ys (x ∷ earlier)
 
-drive_leads : (arrivals : List Arrival) (s : State) (earlier : List Entry) → MayAllArrive arrivals s → Agrees s earlier → Leads earlier (drive arrivals s).entries (drive arrivals s).core
-drive_leads [] s earlier may a = record { right = tt; agrees = a }
-drive_leads (arrival ∷ more) s earlier may a =
-    let first = driven_leads arrival s earlier may.0 a in
-    let rest = drive_leads more (driven s arrival).core (behind (driven s arrival).entries earlier) may.1 first.agrees in
+apart-append : (xs ys earlier : List Entry) → AreAlwaysApart xs earlier → AreAlwaysApart ys (behind xs earlier) → AreAlwaysApart (xs ++ ys) earlier
+apart-append [] ys earlier first then = then
+apart-append (x ∷ xs) ys earlier first then = (first.0, apart-append xs ys (x ∷ earlier) first.1 then)
+
+drive_leads : (arrivals : List Arrival) (s : State) (earlier : List Entry) → MayAllArrive arrivals s → Stands s earlier → Leads earlier (drive arrivals s).entries (drive arrivals s).core
+drive_leads [] s earlier may now = record { right = tt; apart = now.apart; stands = now }
+drive_leads (arrival ∷ more) s earlier may now =
+    let first = driven_leads arrival s earlier may.0 now in
+    let rest = drive_leads more (driven s arrival).core (behind (driven s arrival).entries earlier) may.1 first.stands in
     record {
       right = right-append (driven s arrival).entries (drive more (driven s arrival).core).entries earlier first.right rest.right;
-      agrees = subst (Agrees (drive more (driven s arrival).core).core) (sym (behind-append (driven s arrival).entries (drive more (driven s arrival).core).entries earlier)) rest.agrees;
+      apart = apart-append (driven s arrival).entries (drive more (driven s arrival).core).entries earlier first.apart rest.apart;
+      stands = subst (Stands (drive more (driven s arrival).core).core) (sym (behind-append (driven s arrival).entries (drive more (driven s arrival).core).entries earlier)) rest.stands;
     }
 
 -- each put of a drive from a core that holds nothing is right
 pub puts_are_right : PutsAreRight
-puts_are_right class arrivals may = (drive_leads arrivals (fresh class) [] may (begins class)).right
+puts_are_right class arrivals may = (drive_leads arrivals (fresh class) [] may (stands_first class)).right
+
+-- no two services have one address, at any moment of such a drive
+pub services_are_apart : ServicesAreApart
+services_are_apart class arrivals may = (drive_leads arrivals (fresh class) [] may (stands_first class)).apart
 
 shown_version : (o : Option Service) (key : Key) (held : Option HeldService) (claims : List Record) (shown : Sight) → shown.service ≡ o → IsSeen key held claims shown → option_map_or (λ h. h.version) held 0 ≡ shown.version
 shown_version None key held claims shown e i =
@@ -188,7 +264,7 @@ kept_service v (Some service) = refl
 -- what a core holds and claims is what its transcript shows
 pub claims_are_shown : ClaimsAreShown
 claims_are_shown class arrivals may key =
-    let i = (drive_leads arrivals (fresh class) [] may (begins class)).agrees.each key in
+    let i = (drive_leads arrivals (fresh class) [] may (stands_first class)).stands.agrees.each key in
     let shown = sight key (behind (drive arrivals (fresh class)).entries []) in
     record {
       version = shown_version shown.service key _ _ shown refl i;

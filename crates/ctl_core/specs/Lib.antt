@@ -1,3 +1,4 @@
+pub mod Apart
 pub mod Arrivals
 pub mod Built
 pub mod Choice

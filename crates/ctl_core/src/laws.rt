@@ -1,4 +1,5 @@
 //! What holds of every run of the core.
+ghost use Rattle.ctl_core.specs.Apart.{ServicesAreApart};
 ghost use Rattle.ctl_core.specs.Worth.{PutsAreRight, ClaimsAreShown};
 
 /// Each put of a run is worth its word, by what the run's transcript shows before it: it is of a held service at the
@@ -11,4 +12,9 @@ pub fn puts_are_right()
 /// the record last shown, and each record whose put had no sure reply since.
 pub fn claims_are_shown()
     ensures { ClaimsAreShown }
+{}
+
+/// At no moment of a run have two services one address, or may they have it, by what the run's transcript shows.
+pub fn services_are_apart()
+    ensures { ServicesAreApart }
 {}

@@ -14,5 +14,5 @@ mod turn;
 
 pub use controller::Core;
 pub use held::{HeldPool, HeldService};
-pub use laws::{claims_are_shown, puts_are_right};
+pub use laws::{claims_are_shown, puts_are_right, services_are_apart};
 pub use turn::{TakeFault, TakeNote, Turn};

@@ -12,9 +12,9 @@ use Rattle.mlb_edge.specs.Lines.{Input, Ending, Whole, input_of, no_lines, Follo
 use Rattle.mlb_edge.specs.Written.{Grows, GrowsInPart, Grows-append, Grows-none}
 use Rattle.mlb_controller.specs.Lines.{Drives}
 use Rattle.mlb_controller.specs.Stream.{Meaning, Reads, Stops, Stop, Stream, IsCause, meaning_of, stop_at, stream_of, stream_from, text_of, ArriveBy}
-use Rattle.mlb_controller.specs.Written.{GrowsUpTo, StopsOn, StopsAs, text_by, WritesRight, WritesInPart, WritesUpTo, WritesOnly, WritesRead, ReadsUpTo}
+use Rattle.mlb_controller.specs.Written.{GrowsUpTo, StopsOn, StopsAs, text_by, RunsSound, WritesInPart, WritesUpTo, WritesOnly, WritesRead, ReadsUpTo}
 use Rattle.mlb_controller.proofs.Halting.{upto_all, upto_first, upto_then, upto_none, part_then, part_first}
-use Rattle.mlb_controller.proofs.Rightful.{right_in, stream_cause}
+use Rattle.mlb_controller.proofs.Rightful.{sound_in, stream_cause}
 use Rattle.mlb_controller.proofs.Streams.{joined, stream-behind, text-behind, text-push, text-first, ArriveBy-push}
 
 -- These lines were driven, and just their text was written.
@@ -146,7 +146,7 @@ pub writes_only : (start : Option (List ℕ)) (now : Option Input) (core : State
 writes_only start now core before after so_far = record {
   lines = so_far.done;
   wrote = rw (only_is so_far.done so_far.arrivals core so_far.arrive) (upto_all before after (text_of so_far.arrivals) so_far.wrote);
-  right = right_in so_far.done Whole;
+  sound = sound_in so_far.done Whole;
 }
 
 pub writes_only_line : (start : Option (List ℕ)) (now : Option Input) (core : State) (before mid after : Option (List ℕ)) (line : Line) (arrival : Arrival) → Driven start now core before mid → meaning_of core line ≡ Reads arrival
@@ -154,15 +154,15 @@ pub writes_only_line : (start : Option (List ℕ)) (now : Option Input) (core : 
 writes_only_line start now core before mid after line arrival so_far means part = record {
   lines = so_far.done ++ line ∷ [];
   wrote = rw (only_more so_far.done so_far.arrivals core line arrival so_far.arrive means) (upto_then before mid after (text_of so_far.arrivals) (output_of (driven core arrival).entries) so_far.wrote part);
-  right = right_in (so_far.done ++ line ∷ []) Whole;
+  sound = sound_in (so_far.done ++ line ∷ []) Whole;
 }
 
 pub writes_nothing : (before : Option (List ℕ)) → WritesOnly before before
-writes_nothing before = record { lines = []; wrote = upto_none before []; right = tt }
+writes_nothing before = record { lines = []; wrote = upto_none before []; sound = sound_in [] Whole }
 
-pub right_where_told : (start : Option (List ℕ)) → WritesRight start
-right_where_told None = tt
-right_where_told (Some bytes) = right_in (input_of bytes).lines (input_of bytes).ending
+pub sound_where_told : (start : Option (List ℕ)) → RunsSound start
+sound_where_told None = tt
+sound_where_told (Some bytes) = sound_in (input_of bytes).lines (input_of bytes).ending
 
 pub writes_read : (start left : Option (List ℕ)) (r r' : Reading) (now : Option (List ℕ)) (core : State) (before after : Option (List ℕ)) → Driven start (to_come r now) core before after → Follows (to_come r now) [] (to_come r' left)
     → Passes (record { held = []; passed = 0; number = 0 }) r' start left → HasNoNewline r'.held → WritesRead start left before after

@@ -1,4 +1,4 @@
--- What arrives by the lines of a stream may arrive, so each put of its transcript is right; and why a run stops at a line.
+-- What arrives by the lines of a stream may arrive, so its transcript is sound; and why a run stops at a line.
 use Rattle.std.proofs.Common.{◌≡◌, ℕ, Bool, true, false, cond, List, [], ◌∷◌, Option, Some, None, Result, Ok, Err, is_ok, is_err, refl, sym, ap, ◌∙◌, subst}
 use Rattle.kube_model.specs.declared.event.Event.{Event}
 use Rattle.kube_events.specs.Event.{event_of_line}
@@ -13,11 +13,11 @@ use Rattle.ctl_core.specs.Arrivals.{MayAnswer, MayArrive, MayAllArrive}
 use Rattle.ctl_core.specs.Built.{is_built}
 use Rattle.ctl_core.specs.Core.{State, fresh}
 use Rattle.ctl_core.specs.Drive.{Arrival, Item, Reply, driven}
-use Rattle.ctl_core.specs.Worth.{ArePutsRight}
-use Rattle.ctl_core.proofs.Worthy.{puts_are_right}
+use Rattle.ctl_core.proofs.Worthy.{puts_are_right, services_are_apart}
 use Rattle.mlb_edge.specs.declared.lines.Line.{Line}
 use Rattle.mlb_edge.specs.Lines.{Ending, Whole, LongLine, LongInput}
 use Rattle.mlb_controller.specs.Stream.{Meaning, Reads, Stops, Stop, Stream, IsCause, stop_at, Bad, Unbuilt, NotReply, event_meaning, reply_meaning, meaning_where, meaning_of, reads_on, stream_from, transcript_of}
+use Rattle.mlb_controller.specs.Written.{IsSound}
 
 may_answer : (reply : PutReply) (put : Put) (line : List ℕ) → reply_of put line ≡ Some reply → MayAnswer put reply
 may_answer (replies.Ok version) put line e = reply_newer put line version e
@@ -59,9 +59,12 @@ stream_may [] ending s = tt
 stream_may (line ∷ lines) ending s =
     reads_may (meaning_of s line) s (λ arrival. stream_from lines ending (driven s arrival).core) (may_arrive s line) (λ arrival. stream_may lines ending (driven s arrival).core)
 
--- each put of a stream's transcript is right
-pub right_in : (lines : List Line) (ending : Ending) → ArePutsRight (transcript_of (stream_from lines ending (fresh None)).arrivals) []
-right_in lines ending = puts_are_right None (stream_from lines ending (fresh None)).arrivals (stream_may lines ending (fresh None))
+-- the transcript of a stream is sound
+pub sound_in : (lines : List Line) (ending : Ending) → IsSound (transcript_of (stream_from lines ending (fresh None)).arrivals)
+sound_in lines ending =
+    let arrivals = (stream_from lines ending (fresh None)).arrivals in
+    let may = stream_may lines ending (fresh None) in
+    (puts_are_right None arrivals may, services_are_apart None arrivals may)
 
 built_cause : (b : Bool) (s : State) (line : Line) (event : Event) (stop : Stop) → event_of_line line.bytes ≡ Ok event → cond b (Reads (Item lanes.Input line.number event)) (Stops (Unbuilt line)) ≡ Stops stop → IsCause stop
 built_cause true s line event stop r e = absurd (cc)

@@ -2,7 +2,8 @@
 use Rattle.std.specs.Prelude.{◌≡◌, ◌≤◌, ℕ, List, [], ◌++◌, length, take, ⊤, None, Some, Option}
 use Rattle.kube_model.specs.declared.put.Put.{Put}
 use Rattle.ctl_core.specs.Core.{State, fresh}
-use Rattle.ctl_core.specs.Drive.{Arrival}
+use Rattle.ctl_core.specs.Apart.{AreAlwaysApart}
+use Rattle.ctl_core.specs.Drive.{Arrival, Entry}
 use Rattle.ctl_core.specs.Worth.{ArePutsRight}
 use Rattle.mlb_edge.specs.declared.lines.Line.{Line}
 use Rattle.mlb_edge.specs.Lines.{Ending, Whole, input_of, input_from}
@@ -38,16 +39,20 @@ abbrev pub WritesUpTo : Option (List ℕ) → Option (List ℕ) → Option (List
 WritesUpTo None before after = (lines : List Line) × GrowsUpTo before after (text_by lines)
 WritesUpTo (Some bytes) before after = GrowsUpTo before after (text_of (stream_of bytes).arrivals)
 
--- A beginning of the text of some lines' run was written, whatever the source tells, and each put of its transcript is right.
+-- each put of the transcript is right, and at no moment of it have two services one address
+abbrev pub IsSound : List Entry → Type 0
+IsSound transcript = ArePutsRight transcript [] × AreAlwaysApart transcript []
+
+-- A beginning of the text of some lines' run was written, whatever the source tells, and the transcript of that run is sound.
 pub record WritesOnly (before after : Option (List ℕ)) : Type 0 where
   pub lines : List Line
   pub wrote : GrowsUpTo before after (text_by lines)
-  pub right : ArePutsRight (transcript_of (stream_from lines Whole (fresh None)).arrivals) []
+  pub sound : IsSound (transcript_of (stream_from lines Whole (fresh None)).arrivals)
 
--- each put of the run's transcript is right, where the source tells its bytes
-abbrev pub WritesRight : Option (List ℕ) → Type 0
-WritesRight None = ⊤
-WritesRight (Some bytes) = ArePutsRight (transcript_of (stream_of bytes).arrivals) []
+-- the transcript of the run is sound, where the source tells its bytes
+abbrev pub RunsSound : Option (List ℕ) → Type 0
+RunsSound None = ⊤
+RunsSound (Some bytes) = IsSound (transcript_of (stream_of bytes).arrivals)
 
 -- What was read are whole lines, and then less than a line. Just the text of what arrives by those lines was written.
 pub record ReadsUpTo (bytes more : List ℕ) (before after : Option (List ℕ)) : Type 0 where

@@ -8,7 +8,7 @@ ghost use Rattle.mlb_edge.specs.Causes.{Rose};
 ghost use Rattle.mlb_controller.specs.Explains.{IsStatusOf, status_for};
 ghost use Rattle.mlb_controller.specs.Stream.{AllRead, Bad, Unbuilt, NotReply, Unanswered, LineTooLong, InputTooLong};
 ghost use Rattle.mlb_controller.specs.Words.{are_known};
-ghost use Rattle.mlb_controller.specs.Written.{StopsAs, WritesInPart, WritesUpTo, WritesOnly, WritesRead, WritesRight, IsReadable};
+ghost use Rattle.mlb_controller.specs.Written.{StopsAs, WritesInPart, WritesUpTo, WritesOnly, WritesRead, RunsSound, IsReadable};
 
 use crate::stream::stream_controller;
 use kube_model::{LaneName, Status, What};
@@ -56,10 +56,11 @@ pub fn run_controller<R: Threads + Wait + Sync, F: Files, S: Source + Send, K: S
         → WritesInPart (S.left input.old) (K.written out.old) (K.written out.new) × Rose (K.faults out.old) (K.faults out.new) }
     ensures no_memory { result ≡ Status.NoMemory → WritesUpTo (S.left input.old) (K.written out.old) (K.written out.new) }
 
-    // Over any input at all a beginning of the text of some lines' run was written, and each put of that run is right by the
-    // transcript before it; so is each put of the run of the input, where the source tells its bytes.
+    // Over any input at all a beginning of the text of some lines' run was written, and that run is sound: each put is right by
+    // the transcript before it, and at no moment have two services one address. So is the run of the input, where the source
+    // tells its bytes.
     ensures only { WritesOnly (K.written out.old) (K.written out.new) }
-    ensures puts { WritesRight (S.left input.old) }
+    ensures sound { RunsSound (S.left input.old) }
 
     // Without a fault the status is that of the lines, or memory was wanting; and where all can be driven, the run is done.
     ensures exact { are_known (map (λ word. string_bytes word) words.now) ≡ true → ¬ Rose (S.faults input.old) (S.faults input.new)

@@ -10,7 +10,7 @@ ghost use Rattle.mlb_controller.specs.Ended.{status_of_end, end_of};
 ghost use Rattle.mlb_controller.specs.Explains.{Explains, IsStatusOf, status_for};
 ghost use Rattle.mlb_controller.specs.Stream.{AllRead, Bad, Unbuilt, NotReply, Unanswered, LineTooLong, InputTooLong};
 ghost use Rattle.mlb_controller.specs.Words.{are_known};
-ghost use Rattle.mlb_controller.specs.Written.{StopsAs, WritesInPart, WritesUpTo, WritesOnly, WritesRead, WritesRight, IsReadable};
+ghost use Rattle.mlb_controller.specs.Written.{StopsAs, WritesInPart, WritesUpTo, WritesOnly, WritesRead, RunsSound, IsReadable};
 
 use crate::line::drive_line;
 use crate::words::are_known;
@@ -130,10 +130,11 @@ pub fn stream_controller<S: Source, K: Sink>(
         → WritesInPart (S.left input.old) (K.written out.old) (K.written out.new) × Rose (K.faults out.old) (K.faults out.new) }
     ensures no_memory { result ≡ Status.NoMemory → WritesUpTo (S.left input.old) (K.written out.old) (K.written out.new) }
 
-    // Over any input at all a beginning of the text of some lines' run was written, and each put of that run is right by the
-    // transcript before it; so is each put of the run of the input, where the source tells its bytes.
+    // Over any input at all a beginning of the text of some lines' run was written, and that run is sound: each put is right by
+    // the transcript before it, and at no moment have two services one address. So is the run of the input, where the source
+    // tells its bytes.
     ensures only { WritesOnly (K.written out.old) (K.written out.new) }
-    ensures puts { WritesRight (S.left input.old) }
+    ensures sound { RunsSound (S.left input.old) }
 
     // Without a fault the status is that of the lines, or memory was wanting; and where all can be driven, the run is done.
     ensures exact { are_known (map (λ word. string_bytes word) words.now) ≡ true → ¬ Rose (S.faults input.old) (S.faults input.new)

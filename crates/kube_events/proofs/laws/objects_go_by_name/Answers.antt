@@ -1,4 +1,4 @@
-use Rattle.kube_events.proofs.OrderLaws.{objects_go_by_name}
+use Rattle.kube_events.proofs.NameLaws.{objects_go_by_name}
 use Rattle.kube_events.proofs.laws.objects_go_by_name.Goals as goal
 
 pub returns : goal.returns

@@ -1,4 +1,4 @@
-use Rattle.kube_events.proofs.OrderLaws.{pool_fault_is_first}
+use Rattle.kube_events.proofs.PoolLaws.{pool_fault_is_first}
 use Rattle.kube_events.proofs.laws.pool_fault_is_first.Goals as goal
 
 pub returns : goal.returns

@@ -1,4 +1,4 @@
-use Rattle.kube_events.proofs.ObjectLaws.{pools_are_read}
+use Rattle.kube_events.proofs.PoolLaws.{pools_are_read}
 use Rattle.kube_events.proofs.laws.pools_are_read.Goals as goal
 
 pub returns : goal.returns

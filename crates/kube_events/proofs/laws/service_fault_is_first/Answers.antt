@@ -1,4 +1,4 @@
-use Rattle.kube_events.proofs.OrderLaws.{service_fault_is_first}
+use Rattle.kube_events.proofs.ServiceLaws.{service_fault_is_first}
 use Rattle.kube_events.proofs.laws.service_fault_is_first.Goals as goal
 
 pub returns : goal.returns

@@ -1,4 +1,4 @@
-use Rattle.kube_events.proofs.ObjectLaws.{services_are_read}
+use Rattle.kube_events.proofs.ServiceLaws.{services_are_read}
 use Rattle.kube_events.proofs.laws.services_are_read.Goals as goal
 
 pub returns : goal.returns

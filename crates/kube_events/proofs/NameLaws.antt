@@ -1,16 +1,15 @@
--- The first faulty field is the one that is named, and members that no row names change nothing.
-use Rattle.std.proofs.Common.{◌≡◌, ℕ, List, [], ◌∷◌, ◌++◌, true, false, Option, Some, None, Result, Ok, Err, is_some, codes, refl, sym, ap, ◌∙◌, option_and_then}
+-- Members that no row names change nothing.
+use Rattle.std.proofs.Common.{◌≡◌, ℕ, List, [], ◌∷◌, true, false, Option, Some, None, Result, is_some, codes, refl, ap, ◌∙◌, option_and_then}
 use Rattle.serde_json.specs.Data.{Data}
 use Rattle.serde_json.specs.Find.{get, as_object, as_str}
 use Rattle.json_fields.specs.Path.{Path}
-use Rattle.json_fields.specs.Reading.{◌>>=◌, optional_at, default_at, tells_at, required_at, list_at, labels_at, name_at, value_at, behind, member_at, list_of, text_of, bool_of, labels_of, number_in}
+use Rattle.json_fields.specs.Reading.{optional_at, default_at, tells_at, required_at, list_at, labels_at, name_at, value_at, behind, member_at, list_of, text_of, bool_of, labels_of, number_in}
 use Rattle.json_fields.proofs.FieldLaws.{fields_go_by_name}
 use Rattle.kube_model.specs.declared.object.Kind.{Kind}
 use Rattle.kube_model.specs.declared.object.Kind.TheVariants as kinds
 use Rattle.kube_events.specs.Fields.{key_of}
 use Rattle.kube_events.specs.declared.reading.Verb.{Verb}
 use Rattle.kube_events.specs.declared.reading.Verb.TheVariants as verbs
-use Rattle.kube_events.specs.declared.object_fields.Spec.TheVariants as specs
 use Rattle.kube_model.specs.declared.service.Policy.TheVariants.{Cluster}
 use Rattle.kube_model.specs.Named.{policy_of}
 use Rattle.kube_model.specs.PortFields.{port_of}
@@ -29,134 +28,7 @@ use Rattle.kube_events.specs.ObjectFields.{spec_of, changed_of}
 use Rattle.kube_events.specs.Members.{members_of}
 use Rattle.kube_events.specs.Frame.{bytes_of, frame_of}
 use Rattle.kube_events.specs.Event.{event_of, of_verb, watched, in_field, verb_named}
-use Rattle.kube_events.specs.FieldOrder.{fault, first_of, PoolFaultIsFirst, ServiceFaultIsFirst, ObjectsGoByName, LinesGoByName}
-
-abbrev Rows : Type 0
-Rows = List (Option Path)
-
-passed : (xs ys : Rows) → first_of xs ≡ None → first_of (xs ++ ys) ≡ first_of ys
-passed [] ys none = refl
-passed (None ∷ xs) ys none = passed xs ys none
-passed (Some path ∷ xs) ys none = absurd cc
-
-stopped : (xs ys : Rows) (path : Path) → first_of xs ≡ Some path → first_of (xs ++ ys) ≡ Some path
-stopped [] ys path at = absurd cc
-stopped (None ∷ xs) ys path at = stopped xs ys path at
-stopped (Some other ∷ xs) ys path at = at
-
--- rows, and after them other rows
-then_rows : {A B : Type 0} (read : Result A Path) (next : A → Result B Path) (xs ys : Rows)
-    → fault read ≡ first_of xs → ((x : A) → fault (next x) ≡ first_of ys) → fault (read >>= next) ≡ first_of (xs ++ ys)
-then_rows (Ok x) next xs ys first others = others x ∙ sym (passed xs ys (sym first))
-then_rows (Err path) next xs ys first others = sym (stopped xs ys path (sym first))
-
--- a row, and after it other rows
-then_row : {A B : Type 0} (read : Result A Path) (next : A → Result B Path) (ys : Rows)
-    → ((x : A) → fault (next x) ≡ first_of ys) → fault (read >>= next) ≡ first_of (fault read ∷ ys)
-then_row (Ok x) next ys others = others x
-then_row (Err path) next ys others = refl
-
--- rows, and after them what can't fail
-ended : {A B : Type 0} (read : Result A Path) (next : A → Result B Path) (row : Option Path)
-    → fault read ≡ row → ((x : A) → fault (next x) ≡ None) → fault (read >>= next) ≡ row
-ended (Ok x) next row first fine = fine x ∙ first
-ended (Err path) next row first fine = first
-
-pool_rows : (d : Data) → fault (pool_spec_of d) ≡ first_of (
-    fault (list_at text_of (codes "spec.addresses") d) ∷
-    fault (default_at bool_of (codes "spec.autoAssign") true d) ∷
-    fault (default_at bool_of (codes "spec.avoidBuggyIPs") false d) ∷
-    fault (optional_at allocation_of (codes "spec.serviceAllocation") d) ∷ [])
-unfolding pool_spec_of
-pool_rows d =
-    then_row (list_at text_of (codes "spec.addresses") d) _ _ (λ entries.
-    then_row (default_at bool_of (codes "spec.autoAssign") true d) _ _ (λ auto.
-    then_row (default_at bool_of (codes "spec.avoidBuggyIPs") false d) _ _ (λ avoid.
-    then_row (optional_at allocation_of (codes "spec.serviceAllocation") d) _ [] (λ allocation. refl))))
-
-pool_key : (d : Data) → fault (key_of kinds.Pool d) ≡ first_of (fault (name_at (codes "metadata.name") d) ∷ [])
-unfolding key_of
-pool_key d = then_row (name_at (codes "metadata.name") d) _ [] (λ name. refl)
-
-service_key : (d : Data) → fault (key_of kinds.Service d) ≡ first_of (
-    fault (name_at (codes "metadata.name") d) ∷
-    fault (name_at (codes "metadata.namespace") d) ∷ [])
-unfolding key_of
-service_key d =
-    then_row (name_at (codes "metadata.name") d) _ _ (λ name.
-    then_row (name_at (codes "metadata.namespace") d) _ [] (λ namespace. refl))
-
-pub pool_fault_is_first : PoolFaultIsFirst
-unfolding changed_of spec_of
-pool_fault_is_first d =
-    then_rows (key_of kinds.Pool d) _ (fault (name_at (codes "metadata.name") d) ∷ []) _ (pool_key d) (λ key.
-    then_row (required_at version_of (codes "metadata.resourceVersion") d) _ _ (λ version.
-    then_row (labels_at (codes "metadata.labels") d) _ _ (λ labels.
-    ended (pool_spec_of d >>= λ x. Ok (specs.Pool x)) _ _ (ended (pool_spec_of d) _ _ (pool_rows d) (λ x. refl)) (λ spec. refl))))
-
-notes_row : (d : Data) → fault (notes_of d) ≡ first_of (fault (labels_at (codes "metadata.annotations") d) ∷ [])
-unfolding notes_of
-notes_row d = then_row (labels_at (codes "metadata.annotations") d) _ [] (λ annotations. refl)
-
-request_rows : (d : Data) → fault (request_of d) ≡ first_of (
-    fault (tells_at (codes "spec.type") (codes "LoadBalancer") d) ∷
-    fault (optional_at text_of (codes "spec.loadBalancerClass") d) ∷
-    fault (default_at text_of (codes "spec.loadBalancerIP") [] d) ∷ [])
-unfolding request_of
-request_rows d =
-    then_row (tells_at (codes "spec.type") (codes "LoadBalancer") d) _ _ (λ balancer.
-    then_row (optional_at text_of (codes "spec.loadBalancerClass") d) _ _ (λ class.
-    then_row (default_at text_of (codes "spec.loadBalancerIP") [] d) _ [] (λ address. refl)))
-
-traffic_rows : (d : Data) → fault (traffic_of d) ≡ first_of (
-    fault (families_at (codes "spec.ipFamilies") d) ∷
-    fault (tells_at (codes "spec.ipFamilyPolicy") (codes "PreferDualStack") d) ∷
-    fault (default_at policy_of (codes "spec.externalTrafficPolicy") Cluster d) ∷
-    fault (labels_at (codes "spec.selector") d) ∷
-    fault (list_at port_of (codes "spec.ports") d) ∷ [])
-unfolding traffic_of
-traffic_rows d =
-    then_row (families_at (codes "spec.ipFamilies") d) _ _ (λ families.
-    then_row (tells_at (codes "spec.ipFamilyPolicy") (codes "PreferDualStack") d) _ _ (λ prefer_dual.
-    then_row (default_at policy_of (codes "spec.externalTrafficPolicy") Cluster d) _ _ (λ policy.
-    then_row (labels_at (codes "spec.selector") d) _ _ (λ selector.
-    then_row (list_at port_of (codes "spec.ports") d) _ [] (λ ports. refl)))))
-
-ingress_row : (d : Data) → fault (ingress_at (codes "status.loadBalancer.ingress") d) ≡ first_of (fault (list_at ingress_of (codes "status.loadBalancer.ingress") d) ∷ [])
-unfolding ingress_at
-ingress_row d = then_row (list_at ingress_of (codes "status.loadBalancer.ingress") d) _ [] (λ places. refl)
-
-service_rows : (d : Data) → fault (service_spec_of d) ≡ first_of (
-    fault (labels_at (codes "metadata.annotations") d) ∷
-    fault (tells_at (codes "spec.type") (codes "LoadBalancer") d) ∷
-    fault (optional_at text_of (codes "spec.loadBalancerClass") d) ∷
-    fault (default_at text_of (codes "spec.loadBalancerIP") [] d) ∷
-    fault (families_at (codes "spec.ipFamilies") d) ∷
-    fault (tells_at (codes "spec.ipFamilyPolicy") (codes "PreferDualStack") d) ∷
-    fault (default_at policy_of (codes "spec.externalTrafficPolicy") Cluster d) ∷
-    fault (labels_at (codes "spec.selector") d) ∷
-    fault (list_at port_of (codes "spec.ports") d) ∷
-    fault (list_at ingress_of (codes "status.loadBalancer.ingress") d) ∷ [])
-unfolding service_spec_of
-service_rows d =
-    then_rows (notes_of d) _ (fault (labels_at (codes "metadata.annotations") d) ∷ []) _ (notes_row d) (λ notes.
-    then_rows (request_of d) _ (fault (tells_at (codes "spec.type") (codes "LoadBalancer") d) ∷
-    fault (optional_at text_of (codes "spec.loadBalancerClass") d) ∷
-    fault (default_at text_of (codes "spec.loadBalancerIP") [] d) ∷ []) _ (request_rows d) (λ request.
-    then_rows (traffic_of d) _ (fault (families_at (codes "spec.ipFamilies") d) ∷
-    fault (tells_at (codes "spec.ipFamilyPolicy") (codes "PreferDualStack") d) ∷
-    fault (default_at policy_of (codes "spec.externalTrafficPolicy") Cluster d) ∷
-    fault (labels_at (codes "spec.selector") d) ∷
-    fault (list_at port_of (codes "spec.ports") d) ∷ []) _ (traffic_rows d) (λ traffic.
-    ended (ingress_at (codes "status.loadBalancer.ingress") d) _ _ (ingress_row d) (λ addresses. refl))))
-
-pub service_fault_is_first : ServiceFaultIsFirst
-unfolding changed_of spec_of
-service_fault_is_first d =
-    then_rows (key_of kinds.Service d) _ (fault (name_at (codes "metadata.name") d) ∷ fault (name_at (codes "metadata.namespace") d) ∷ []) _ (service_key d) (λ key.
-    then_row (required_at version_of (codes "metadata.resourceVersion") d) _ _ (λ version.
-    then_row (labels_at (codes "metadata.labels") d) _ _ (λ labels.
-    ended (service_spec_of d >>= λ x. Ok (specs.Service x)) _ _ (ended (service_spec_of d) _ _ (service_rows d) (λ x. refl)) (λ spec. refl))))
+use Rattle.kube_events.specs.Naming.{ObjectsGoByName, LinesGoByName}
 
 key_by_name : (kind : Kind) (d e : Data) → is_some (as_object d) ≡ is_some (as_object e) → get (codes "metadata") d ≡ get (codes "metadata") e → key_of kind d ≡ key_of kind e
 unfolding key_of name_at required_at optional_at behind member_at

@@ -1,5 +1,5 @@
 -- BGP advertisements are read as they are spelled, and the first faulty field is named.
-use Rattle.std.proofs.Common.{◌≡◌, [], ◌∷◌, unwrap_or, Ok, codes, refl, arith}
+use Rattle.std.proofs.Common.{◌≡◌, [], unwrap_or, Ok, codes, refl, arith}
 use Rattle.serde_json.specs.Data.{Data}
 use Rattle.json_fields.specs.Reading.{list_at, default_at, text_of, number_in}
 use Rattle.kube_model.specs.declared.object.Kind.TheVariants as kinds
@@ -10,7 +10,7 @@ use Rattle.kube_events.specs.ObjectLines.{spelled, object_fields, selectors_spel
 use Rattle.std.proofs.lemmas.Option.{IfSome_then}
 use Rattle.kube_events.specs.BgpFields.{route_spec_of, choice_spec_of, bgp_spec_of}
 use Rattle.kube_events.specs.BgpLines.{bgp_fields, BgpAdvsAreRead}
-use Rattle.kube_events.specs.FieldOrder.{fault, Rows, first_of, bgp_rows, BgpFaultIsFirst}
+use Rattle.kube_events.specs.FieldOrder.{fault, first_of, route_rows, choice_rows, bgp_rows, BgpFaultIsFirst}
 use Rattle.kube_events.proofs.Spelled.{spec_value, head_read, texts_read, selectors_read, number_or_read}
 use Rattle.kube_events.proofs.Rows.{then_row, then_rows, ended, object_rows}
 
@@ -28,13 +28,6 @@ bgp_advs_are_read s n is_head in_range =
     let peers : list_at text_of (codes "spec.peers") d ≡ Ok (unwrap_or s.peers []) = texts_read (codes "spec.peers") d s.peers (spec_value (codes "spec.peers") (codes "peers") (codes "BGPAdvertisement") s.head (bgp_fields s) refl) in
     head_read kinds.Bgp s.head (bgp_fields s) n (specs.Bgp (record { route = record { length = unwrap_or s.length 32; length_v6 = unwrap_or s.length_v6 128; local_pref = unwrap_or s.local_pref 0; communities = unwrap_or s.communities [] }; choice = record { pools = unwrap_or s.pools []; pool_selectors = selectors_spelled s.pool_selectors; node_selectors = selectors_spelled s.node_selectors; peers = unwrap_or s.peers [] } })) (λ d. refl) is_head (rw (length, length_v6, local_pref, communities, pools, pool_selectors, node_selectors, peers) refl)
 
-abbrev route_rows : Data → Rows
-route_rows d =
-    fault (default_at (number_in 1 32) (codes "spec.aggregationLength") 32 d) ∷
-    fault (default_at (number_in 0 128) (codes "spec.aggregationLengthV6") 128 d) ∷
-    fault (default_at (number_in 0 4294967295) (codes "spec.localPref") 0 d) ∷
-    fault (list_at text_of (codes "spec.communities") d) ∷ []
-
 route_first : (d : Data) → fault (route_spec_of d) ≡ first_of (route_rows d)
 unfolding route_spec_of
 route_first d =
@@ -42,13 +35,6 @@ route_first d =
     then_row (default_at (number_in 0 128) (codes "spec.aggregationLengthV6") 128 d) _ _ (λ length_v6.
     then_row (default_at (number_in 0 4294967295) (codes "spec.localPref") 0 d) _ _ (λ local_pref.
     then_row (list_at text_of (codes "spec.communities") d) _ [] (λ communities. refl))))
-
-abbrev choice_rows : Data → Rows
-choice_rows d =
-    fault (list_at text_of (codes "spec.ipAddressPools") d) ∷
-    fault (list_at selector_of (codes "spec.ipAddressPoolSelectors") d) ∷
-    fault (list_at selector_of (codes "spec.nodeSelectors") d) ∷
-    fault (list_at text_of (codes "spec.peers") d) ∷ []
 
 choice_first : (d : Data) → fault (choice_spec_of d) ≡ first_of (choice_rows d)
 unfolding choice_spec_of

@@ -24,7 +24,7 @@ use Rattle.kube_events.specs.ObjectFields.{spec_of}
 use Rattle.kube_events.specs.ObjectLines.{Field, spelled, number_data, pairs_spelled}
 use Rattle.kube_events.specs.ServiceLines.{family_text, families_spelled, policy_text, protocol_text, PortLine, port_data, port_spelled, IsPortLine, PlaceLine, place_data, IsPlaceLine, addresses_spelled, service_head_fields, service_spec_fields, balancer_fields, status_fields, service_fields, noted, ServicesAreRead}
 use Rattle.kube_events.specs.Wanted.{wanted_of}
-use Rattle.kube_events.specs.FieldOrder.{fault, Rows, first_of, service_rows, ServiceFaultIsFirst}
+use Rattle.kube_events.specs.FieldOrder.{fault, first_of, request_rows, traffic_rows, service_rows, ServiceFaultIsFirst}
 use Rattle.kube_events.proofs.Spelled.{own_value, inner_value, innermost_value, optional_read, same_optional_read, default_read, required_read, number_read, tells_read, text_read, labels_read, same_list_read, list_read_if, name_read, version_read, object_read}
 use Rattle.kube_events.proofs.Rows.{then_rows, then_row, ended, object_rows}
 
@@ -121,26 +121,12 @@ notes_first : (d : Data) → fault (notes_of d) ≡ first_of (fault (labels_at (
 unfolding notes_of
 notes_first d = then_row (labels_at (codes "metadata.annotations") d) _ [] (λ annotations. refl)
 
-abbrev request_rows : Data → Rows
-request_rows d =
-    fault (tells_at (codes "spec.type") (codes "LoadBalancer") d) ∷
-    fault (optional_at text_of (codes "spec.loadBalancerClass") d) ∷
-    fault (default_at text_of (codes "spec.loadBalancerIP") [] d) ∷ []
-
 request_first : (d : Data) → fault (request_of d) ≡ first_of (request_rows d)
 unfolding request_of
 request_first d =
     then_row (tells_at (codes "spec.type") (codes "LoadBalancer") d) _ _ (λ balancer.
     then_row (optional_at text_of (codes "spec.loadBalancerClass") d) _ _ (λ class.
     then_row (default_at text_of (codes "spec.loadBalancerIP") [] d) _ [] (λ address. refl)))
-
-abbrev traffic_rows : Data → Rows
-traffic_rows d =
-    fault (families_at (codes "spec.ipFamilies") d) ∷
-    fault (tells_at (codes "spec.ipFamilyPolicy") (codes "PreferDualStack") d) ∷
-    fault (default_at policy_of (codes "spec.externalTrafficPolicy") Cluster d) ∷
-    fault (labels_at (codes "spec.selector") d) ∷
-    fault (list_at port_of (codes "spec.ports") d) ∷ []
 
 traffic_first : (d : Data) → fault (traffic_of d) ≡ first_of (traffic_rows d)
 unfolding traffic_of

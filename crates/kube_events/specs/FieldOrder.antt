@@ -1,5 +1,5 @@
 -- The order in which the first faulty field is named. A row is a field that may be faulty.
-use Rattle.std.specs.Prelude.{◌≡◌, List, [], ◌∷◌, true, false, Option, Some, None, Result, Ok, Err, codes}
+use Rattle.std.specs.Prelude.{◌≡◌, List, [], ◌∷◌, ◌++◌, true, false, Option, Some, None, Result, Ok, Err, codes}
 use Rattle.serde_json.specs.Data.{Data}
 use Rattle.json_fields.specs.Path.{Path}
 use Rattle.json_fields.specs.Reading.{optional_at, default_at, tells_at, required_at, list_at, labels_at, name_at, text_of, bool_of, number_in}
@@ -50,18 +50,26 @@ pool_rows d =
     fault (default_at bool_of (codes "spec.avoidBuggyIPs") false d) ∷
     fault (optional_at allocation_of (codes "spec.serviceAllocation") d) ∷ []
 
-abbrev pub service_rows : Data → Rows
-service_rows d =
-    fault (labels_at (codes "metadata.annotations") d) ∷
+-- whether a load balancer is asked for, and which
+abbrev pub request_rows : Data → Rows
+request_rows d =
     fault (tells_at (codes "spec.type") (codes "LoadBalancer") d) ∷
     fault (optional_at text_of (codes "spec.loadBalancerClass") d) ∷
-    fault (default_at text_of (codes "spec.loadBalancerIP") [] d) ∷
+    fault (default_at text_of (codes "spec.loadBalancerIP") [] d) ∷ []
+
+-- how traffic reaches the service
+abbrev pub traffic_rows : Data → Rows
+traffic_rows d =
     fault (families_at (codes "spec.ipFamilies") d) ∷
     fault (tells_at (codes "spec.ipFamilyPolicy") (codes "PreferDualStack") d) ∷
     fault (default_at policy_of (codes "spec.externalTrafficPolicy") Cluster d) ∷
     fault (labels_at (codes "spec.selector") d) ∷
-    fault (list_at port_of (codes "spec.ports") d) ∷
-    fault (list_at ingress_of (codes "status.loadBalancer.ingress") d) ∷ []
+    fault (list_at port_of (codes "spec.ports") d) ∷ []
+
+abbrev pub service_rows : Data → Rows
+service_rows d =
+    fault (labels_at (codes "metadata.annotations") d) ∷
+    (request_rows d ++ (traffic_rows d ++ fault (list_at ingress_of (codes "status.loadBalancer.ingress") d) ∷ []))
 
 abbrev pub l2_rows : Data → Rows
 l2_rows d =
@@ -70,16 +78,24 @@ l2_rows d =
     fault (list_at selector_of (codes "spec.nodeSelectors") d) ∷
     fault (list_at text_of (codes "spec.interfaces") d) ∷ []
 
-abbrev pub bgp_rows : Data → Rows
-bgp_rows d =
+-- how routes are made of addresses
+abbrev pub route_rows : Data → Rows
+route_rows d =
     fault (default_at (number_in 1 32) (codes "spec.aggregationLength") 32 d) ∷
     fault (default_at (number_in 0 128) (codes "spec.aggregationLengthV6") 128 d) ∷
     fault (default_at (number_in 0 4294967295) (codes "spec.localPref") 0 d) ∷
-    fault (list_at text_of (codes "spec.communities") d) ∷
+    fault (list_at text_of (codes "spec.communities") d) ∷ []
+
+-- which pools, nodes and peers are chosen
+abbrev pub choice_rows : Data → Rows
+choice_rows d =
     fault (list_at text_of (codes "spec.ipAddressPools") d) ∷
     fault (list_at selector_of (codes "spec.ipAddressPoolSelectors") d) ∷
     fault (list_at selector_of (codes "spec.nodeSelectors") d) ∷
     fault (list_at text_of (codes "spec.peers") d) ∷ []
+
+abbrev pub bgp_rows : Data → Rows
+bgp_rows d = route_rows d ++ choice_rows d
 
 abbrev pub peer_rows : Data → Rows
 peer_rows d =

@@ -50,7 +50,7 @@ refused_text fault = concat (
     codes ",\"name\":" ∷ quoted fault.name ∷
     codes ",\"op\":\"config\",\"result\":\"refused\"}" ∷ [])
 
--- an item of a lane was taken; items are numbered from 1
+-- the event of the lane's line of this number was taken
 abbrev pub took_text : LaneName → ℕ → List ℕ
 took_text lane n = concat (
     codes "{\"lane\":" ∷ quoted (lane_text lane) ∷

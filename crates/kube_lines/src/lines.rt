@@ -109,7 +109,7 @@ fn took_value(alloc: Global, lane: LaneName, number: u64) -> Result<Value, NoMem
     })?)
 }
 
-/// The line of an item that was taken of a lane. The items of a lane are numbered from 1.
+/// The line that tells that the event of a lane's line was taken: the line of this number, from 1.
 pub fn took_line(alloc: Global, lane: LaneName, number: u64) -> Result<Text, NoMemory>
     ensures { IfOk result (λ line. line ≡ took_text lane number) }
 {

@@ -1,5 +1,5 @@
 -- What a line is to the core, and what is written of it.
-use Rattle.std.proofs.Common.{◌≡◌, ℕ, ◌≤◌, Bool, true, false, List, [], ◌∷◌, ◌++◌, Option, Some, None, Result, Ok, Err, refl, sym, ap, ◌∙◌, inr}
+use Rattle.std.proofs.Common.{◌≡◌, ℕ, ◌≤◌, Bool, true, false, List, Option, Some, None, Ok, Err, refl, inr}
 use Rattle.std.specs.Prelude.{IsSome, IsErrOf}
 use Rattle.kube_model.specs.declared.event.Event.{Event}
 use Rattle.kube_model.specs.declared.put.Put.{Put}
@@ -9,12 +9,11 @@ use Rattle.kube_events.specs.Event.{event_of_line}
 use Rattle.kube_lines.specs.Reply.{reply_of}
 use Rattle.ctl_core.specs.Built.{is_built}
 use Rattle.ctl_core.specs.Core.{State}
-use Rattle.ctl_core.specs.Drive.{Item, Reply, driven, turns_from}
+use Rattle.ctl_core.specs.Drive.{Item, Reply, turns_from}
 use Rattle.mlb_controller.specs.Output.{output_of, note_text}
 use Rattle.ctl_core.specs.Reply.{core_reply}
 use Rattle.ctl_core.specs.Take.{core_take}
 use Rattle.ctl_core.specs.declared.turn.TakeNote.{TakeNote}
-use Rattle.ctl_core.specs.declared.turn.TakeFault.{TakeFault}
 use Rattle.ctl_core.specs.declared.turn.TakeFault.TheVariants.{NotBuilt}
 use Rattle.mlb_edge.specs.declared.lines.Line.{Line}
 use Rattle.mlb_edge.specs.Written.{Grows, Grows-append}

@@ -1,5 +1,5 @@
 -- What arrives by the lines of a stream may arrive, so its transcript is sound; and why a run stops at a line.
-use Rattle.std.proofs.Common.{◌≡◌, ℕ, Bool, true, false, cond, List, [], ◌∷◌, Option, Some, None, Result, Ok, Err, is_ok, is_err, refl, sym, ap, ◌∙◌, subst}
+use Rattle.std.proofs.Common.{◌≡◌, ℕ, Bool, true, false, cond, List, [], ◌∷◌, Option, Some, None, Result, Ok, Err, is_ok, is_err, refl, sym, ap, subst}
 use Rattle.kube_model.specs.declared.event.Event.{Event}
 use Rattle.kube_events.specs.Event.{event_of_line}
 use Rattle.kube_model.specs.declared.event.EventFault.{EventFault}

@@ -1,3 +1,4 @@
+pub mod AddressLaws
 pub mod BlockLemmas
 pub mod SpelledLemmas
 pub mod DecimalLemmas

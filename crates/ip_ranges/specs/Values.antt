@@ -1,5 +1,6 @@
 -- Addresses, ranges and prefixes, as contracts see them.
-use Rattle.std.specs.Prelude.{◌≡◌, ℕ, ◌+◌, ◌-◌, ◌*◌, ◌/◌, ◌%◌, ◌^◌, ◌<◌, ◌≤◌, Bool, true, false, ◌&&◌, ◌||◌, ◌==◌, nat_le}
+use Rattle.std.specs.Prelude.{◌≡◌, ℕ, ◌+◌, ◌-◌, ◌*◌, ◌/◌, ◌%◌, ◌^◌, ◌<◌, ◌≤◌, Bool, true, false, ◌&&◌, ◌||◌, ◌==◌, nat_le, List}
+use Rattle.std.specs.List.{list_any}
 use Rattle.ip_ranges.specs.declared.family.Family.{Family}
 use Rattle.ip_ranges.specs.declared.family.Family.TheVariants.{V4, V6}
 
@@ -23,6 +24,10 @@ pub record AddressValue : Type 0 where
 -- whether the addresses are one
 abbrev pub same_address : AddressValue → AddressValue → Bool
 same_address a b = same_family a.family b.family && (a.number == b.number)
+
+-- the address is one of the addresses
+abbrev pub has_address : List AddressValue → AddressValue → Bool
+has_address addresses a = list_any (same_address a) addresses
 
 -- all the numbers from the low one to the high one, both of them included
 pub record SpanValue : Type 0 where

@@ -1,5 +1,5 @@
 -- The first fault, as a function and as a relation.
-use Rattle.std.proofs.Common.{◌≡◌, ℕ, ◌+◌, List, [], ◌∷◌, ◌++◌, length, refl, sym, ap, subst, ◌∙◌, Option, Some, None, Result, Err, All, IsOk, ◌↔◌, arith}
+use Rattle.std.proofs.Common.{◌≡◌, ℕ, ◌+◌, List, [], ◌∷◌, ◌++◌, length, refl, sym, ap, subst, ◌∙◌, Option, Some, None, is_none, Decides, Result, Err, All, IsOk, ◌↔◌, arith}
 use Rattle.std.specs.Option.{option_or}
 use Rattle.std.proofs.lemmas.List.Elements.{All-nil, All-cons, All-head, All-tail}
 use Rattle.kube_labels.specs.declared.expression.Expression.{Expression}
@@ -153,3 +153,13 @@ selector_of_err pairs es r is fault =
     let a = err_from_some (first_fault es) (record { pairs = pairs; expressions = es }) fault in
     let b = first_fault_some es fault in
     rw is (λ h. b.0 (a.0 h), λ h. a.1 (b.1 h))
+
+none_Decides : (found : Option SelectorFault) → Decides (is_none found) (found ≡ None)
+none_Decides None = (λ e. refl, λ e. refl)
+none_Decides (Some fault) = (λ e. absurd (cc), λ e. absurd (cc))
+
+-- the test that none is at fault
+pub well_formed-Decides : (es : List Expression) → Decides (is_none (first_fault es)) (All IsWellFormed es)
+well_formed-Decides es =
+    let none = none_Decides (first_fault es) in
+    (λ passes. (first_fault_none es).0 (none.0 passes), λ all. none.1 ((first_fault_none es).1 all))

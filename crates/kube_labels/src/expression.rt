@@ -1,6 +1,6 @@
-ghost use Rattle.std.specs.Prelude.{◌≡◌};
+ghost use Rattle.std.specs.Prelude.{◌≡◌, ◌↔◌, IsTrue, All, is_none};
 ghost use Rattle.std.specs.List.{list_all};
-ghost use Rattle.kube_labels.specs.Expressions.{fault_of, first_fault, holds_of};
+ghost use Rattle.kube_labels.specs.Expressions.{fault_of, first_fault, holds_of, IsWellFormed};
 
 use crate::{Labels, Operator, SelectorFault, Text, TextList};
 use mlb_base::{NoMemory, Sequence, TryCopy};
@@ -48,6 +48,14 @@ impl Expression {
             Some(Operator::DoesNotExist) => found.is_none(),
         }
     }
+}
+
+/// Whether a selector may have these expressions, which `Selector::new` takes exactly then.
+pub fn are_well_formed(expressions: &[Expression]) -> bool
+    ensures value { result ≡ is_none (first_fault expressions.now) }
+    ensures meaning { IsTrue result ↔ All IsWellFormed expressions.now }
+{
+    first_fault(expressions).is_none()
 }
 
 /// The fault of the first expression at fault.

@@ -8,7 +8,7 @@ mod operator;
 mod selector;
 mod text;
 
-pub use expression::{Expression, ExpressionList};
+pub use expression::{Expression, ExpressionList, are_well_formed};
 pub use fault::SelectorFault;
 pub use labels::Labels;
 pub use operator::Operator;

@@ -2,10 +2,12 @@ pub mod AllocationFields
 pub mod EndpointFields
 pub mod EventFaults
 pub mod Families
+pub mod Keys
 pub mod Kinds
 pub mod Lengths
 pub mod Named
 pub mod PortFields
+pub mod Records
 pub mod SelectorFields
 pub mod Service
 pub mod Status

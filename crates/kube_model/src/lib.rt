@@ -35,6 +35,7 @@ pub use config_fault::{Cause, ConfigFault};
 pub use event::{Event, EventFault, Group};
 pub use families::FamilyList;
 pub use key::Key;
+pub use kube_labels::{ExpressionList, Labels, Text, TextList};
 pub use l2::L2Adv;
 pub use lengths::{LengthV4, LengthV6};
 pub use namespace::Namespace;

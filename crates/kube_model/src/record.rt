@@ -1,8 +1,10 @@
 //! What is recorded of a service's addresses.
+ghost use Rattle.std.specs.Prelude.{◌≡◌};
 
 use ip_ranges::AddressList;
 use kube_labels::Text;
-use mlb_base::{NoMemory, TryCopy};
+use mlb_base::{NoMemory, Sequence, TryCopy};
+use std::alloc::Global;
 
 /// The addresses that a service's status holds, with the pool that they are from and the terms under
 /// which they were given. An empty record has no addresses, no pool and no mark.
@@ -14,6 +16,35 @@ pub struct Record {
     pub pool: Text,
     /// The annotation `metallb.io/ip-held-as`, empty where it is absent.
     pub mark: Text,
+}
+
+impl Record {
+    ghost use Rattle.kube_model.specs.Records.{empty_record, is_assigned, same_record};
+
+    /// The record without addresses, pool and mark, which takes no memory.
+    pub fn empty(alloc: Global) -> Record
+        ensures { result ≡ empty_record }
+    {
+        Record {
+            addresses: Sequence::new(alloc),
+            pool: Text::from_string(String::new(alloc)),
+            mark: Text::from_string(String::new(alloc)),
+        }
+    }
+
+    /// Whether it has an address.
+    pub fn is_assigned(&self) -> bool
+        ensures { result ≡ is_assigned self.now }
+    {
+        !self.addresses.as_slice().is_empty()
+    }
+
+    /// Whether the records are one.
+    pub fn is_same(&self, other: &Record) -> bool
+        ensures { result ≡ same_record self.now other.now }
+    {
+        self == other
+    }
 }
 
 impl TryCopy for Record {

@@ -24,6 +24,3 @@ pub use prefix::{Prefix, PrefixList, mask};
 pub use span::{Span, SpanList};
 pub use text::{parse_address, print_address};
 pub use written::write_address;
-
-#[cfg(test)]
-mod tests;

@@ -14,6 +14,3 @@ pub use labels::Labels;
 pub use operator::Operator;
 pub use selector::{Selector, SelectorList, any_matches};
 pub use text::{NamedValues, Text, TextList};
-
-#[cfg(test)]
-mod tests;

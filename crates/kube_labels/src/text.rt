@@ -7,7 +7,6 @@ use mlb_base::{NoMemory, Sequence, TryCopy};
 use std::alloc::{AllocError, Global};
 use std::cmp::Ordering;
 use std::fmt;
-use std::hash::{Hash, Hasher};
 use std::marker::Model;
 
 /// An owned text, which contracts see as its UTF-8 bytes. Equality and order are those of the bytes, unsigned.
@@ -92,20 +91,6 @@ impl PartialEq for Text {
 
 impl Eq for Text {
     ghost laws = { nat_list_eq_equiv };
-}
-
-impl Hash for Text {
-    ghost use Rattle.std.proofs.Common.{ap};
-    ghost use Rattle.std.proofs.lemmas.Slice.Eq.{bytes_eq-Decides};
-    ghost use Rattle.std.specs.Hash as fed;
-
-    ghost hash_input = { fed.str };
-
-    ghost respects_eq = { λ x y same. ap fed.str ((bytes_eq-Decides x y).0 same) };
-
-    fn hash<H: Hasher>(&self, state: &mut H) {
-        self.text.hash(state);
-    }
 }
 
 impl PartialOrd for Text {

@@ -6,6 +6,3 @@ mod sequence;
 
 pub use memory::{NoMemory, TryCopy};
 pub use sequence::{ByteList, Sequence};
-
-#[cfg(test)]
-mod tests;

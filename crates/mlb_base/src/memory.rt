@@ -34,20 +34,8 @@ impl TryCopy for u8 {
     }
 }
 
-impl TryCopy for u16 {
-    fn copy(&self) -> Result<u16, NoMemory> {
-        Ok(*self)
-    }
-}
-
 impl TryCopy for u32 {
     fn copy(&self) -> Result<u32, NoMemory> {
-        Ok(*self)
-    }
-}
-
-impl TryCopy for bool {
-    fn copy(&self) -> Result<bool, NoMemory> {
         Ok(*self)
     }
 }

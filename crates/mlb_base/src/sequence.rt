@@ -88,7 +88,7 @@ impl<T: Drop> Sequence<T> {
 
 impl<T: TryCopy> TryCopy for Sequence<T> {
     fn copy(&self) -> Result<Sequence<T>, NoMemory> {
-        let mut items = Vec::new(*self.items.allocator());
+        let mut items = Vec::with_capacity(*self.items.allocator(), self.items.len())?;
         for item in &self.items {
             items.push(item.copy()?)?;
         }

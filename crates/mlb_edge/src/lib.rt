@@ -25,6 +25,3 @@ pub use real_files::{NamedSource, RealFiles};
 pub use safe::{SafeSink, SafeSource};
 pub use sink::{Sink, WriteFailed, put_all};
 pub use source::{ReadFailed, Source};
-
-#[cfg(test)]
-mod tests;

@@ -4,7 +4,7 @@ ghost use Rattle.std.specs.Prelude.{◌≡◌, ◌≢◌, ◌≤◌, ◌<◌, �
 ghost use Rattle.mlb_edge.specs.Causes.{Rose};
 ghost use Rattle.std.specs.Io.KnownBytes.{Consumes, IsAtEnd, Keeps};
 ghost use Rattle.mlb_edge.specs.Rows.{is_blank, CutsRow, HasNoNewline};
-ghost use Rattle.mlb_edge.specs.Laws.{IsAllLines};
+ghost use Rattle.mlb_edge.specs.Laws.{IsAllLines, IsCut};
 
 use crate::lines::{INPUT_LIMIT, LINE_LIMIT, Line, LineEnd};
 use crate::{ByteList, NoMemory, Source};
@@ -218,9 +218,11 @@ impl LineReader {
         }
     }
 
-    /// Reads a block from the source. `Ok(0)` says that it has no more bytes.
+    /// Reads a block from the source, which is done only where no whole line is held. `Ok(0)` says that it has no more
+    /// bytes.
     fn fill<S: Source>(&mut self, source: &mut S) -> Result<usize, LineEnd>
-        requires { length self.old.held ≤ 1048576 }
+        requires none_held { HasNoNewline self.old.held }
+        requires short { length self.old.held ≤ 1048576 }
         ensures bytes { IfOk result (λ n. (read : List ℕ) × (self.new.held ≡ self.old.held ++ read)
             × (length read ≡ n) × Consumes (S.left source.old) (S.left source.new) read) }
         ensures end { IfOk result (λ n. n ≡ 0 → IsAtEnd (S.left source.new)) }
@@ -273,7 +275,9 @@ impl LineReader {
     }
 }
 
-/// A law: where all can be read, the lines that are read are all the lines that aren't blank, with their numbers.
+/// A law: the lines that are read are all the lines of the text that aren't blank, with their numbers, up to the first
+/// line of all that breaks a limit, which is the one that the fault names.
 pub fn reads_all_lines()
-    ensures { IsAllLines }
+    ensures lines { IsAllLines }
+    ensures cut { IsCut }
 {}

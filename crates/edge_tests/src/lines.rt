@@ -35,6 +35,18 @@ fn blank_lines_are_passed_over_and_counted(rt: HostRuntime) -> Result<(), Fail> 
     Ok(())
 }
 
+/// A reader that read on although it holds a line would fail at the second read.
+#[test]
+fn a_line_is_given_before_the_next_read(rt: HostRuntime) -> Result<(), Fail> {
+    let alloc = rt.alloc();
+    let failing = vec![in alloc; 2]?;
+    let mut source = MemSource::new(bytes_of(alloc, "\na\nb")?, 4, failing);
+    let mut reader = LineReader::new(alloc)?;
+    check_line(&rt, &mut reader, &mut source, 2, "a")?;
+    assert!(rt; !source.has_failed());
+    Ok(())
+}
+
 /// A reader that looked at each byte again after each read would take hours.
 #[test]
 fn a_long_line_comes_in_single_bytes(rt: HostRuntime) -> Result<(), Fail> {

@@ -1,13 +1,12 @@
 -- What can be read of a text: the lines of its cut before the first that breaks a limit.
-use Rattle.std.proofs.Common.{◌≡◌, ℕ, zero, suc, ◌+◌, ◌^◌, ◌<◌, ◌≤◌, Bool, true, false, cond, eqb, ltb, IsTrue, List, [], ◌∷◌, ◌++◌, length, get_or, ap, sym, ◌∙◌, refl, subst, arith, add_assoc, append_assoc, zero-add, add-zero}
-use Rattle.std.specs.List.{AllByRecursion, flat_map}
+use Rattle.std.proofs.Common.{◌≡◌, ℕ, zero, suc, ◌+◌, ◌^◌, ◌<◌, ◌≤◌, Bool, true, false, cond, eqb, ltb, List, [], ◌∷◌, ◌++◌, length, ap, ◌∙◌, refl, subst, arith, add_assoc, zero-add}
+use Rattle.std.specs.List.{AllByRecursion}
 use Rattle.std.proofs.lemmas.Bool.{eqb-true, eqb-false}
 use Rattle.std.proofs.lemmas.Bool.Decides.{nat_tests}
-use Rattle.std.proofs.lemmas.List.{append-nil}
 use Rattle.mlb_edge.specs.declared.lines.Line.{Line}
 use Rattle.mlb_edge.specs.Rows.{RawLine, lengthened, raw_lines, size_of, is_blank, HasNoNewline}
 use Rattle.mlb_edge.specs.Lines.{Input, Ending, Whole, LongLine, LongInput, no_lines, with_line, input_from, input_of, numbered}
-use Rattle.mlb_edge.specs.Laws.{text_of, total, AreEnded, IsCutInto, KeepLimits, StopsBefore, IsRead}
+use Rattle.mlb_edge.specs.Laws.{total, AreEnded, IsCutInto, KeepLimits, IsRead}
 
 -- behind so many bytes and lines, the lines before the first that breaks a limit
 record StopsBehind (passed number : ℕ) (raws : List RawLine) (lines : List Line) (Breaks : ℕ → ℕ → RawLine → Type 0) : Type 0 where
@@ -124,12 +123,22 @@ kept raws short near = record { short = short; near = omega (arith, near) }
 from_start : (raws : List RawLine) (lines : List Line) (ending : Ending) → IsReadBehind 0 0 raws lines ending → IsRead raws lines ending
 from_start raws lines Whole r = (kept raws r.0 r.1, r.2)
 from_start raws lines (LongLine n) s = record {
-  before = s.before; first = s.first; after = s.after; split = s.split; kept = kept s.before s.short s.near;
-  breaks = (s.breaks.0, s.breaks.1 ∙ ap (λ (k : ℕ). k + 1) (zero-add (length s.before))); given = s.given;
+  before = s.before;
+  first = s.first;
+  after = s.after;
+  split = s.split;
+  kept = kept s.before s.short s.near;
+  breaks = (s.breaks.0, s.breaks.1 ∙ ap (λ (k : ℕ). k + 1) (zero-add (length s.before)));
+  given = s.given;
 }
 from_start raws lines LongInput s = record {
-  before = s.before; first = s.first; after = s.after; split = s.split; kept = kept s.before s.short s.near;
-  breaks = (s.breaks.0, omega (arith, s.breaks.1)); given = s.given;
+  before = s.before;
+  first = s.first;
+  after = s.after;
+  split = s.split;
+  kept = kept s.before s.short s.near;
+  breaks = (s.breaks.0, omega (arith, s.breaks.1));
+  given = s.given;
 }
 
 pub all_lines : (bytes : List ℕ) → IsRead (raw_lines bytes) (input_of bytes).lines (input_of bytes).ending

@@ -1,13 +1,13 @@
 //! Reads the lines of a source, one after the other.
 
-ghost use Rattle.std.specs.Prelude.{◌≡◌, ◌≢◌, ◌≤◌, ◌<◌, ◌+◌, ◌^◌, ◌++◌, ◌∷◌, ℕ, List, [], length, slice_index, IfSome, IfNone, OnSome, ◌⊎◌, IfOk, OnOk, IfErr, OnErr, IsErrOf, IsTrue, take};
-ghost use Rattle.mlb_edge.specs.Causes.{Rose};
+ghost use Rattle.std.specs.Prelude.{◌≡◌, ◌≢◌, ◌≤◌, ◌<◌, ◌+◌, ◌^◌, ◌++◌, ◌∷◌, ℕ, List, [], length, slice_index, IfSome, IfNone, OnSome, ◌⊎◌, IfOk, OnOk, IfErr, OnErr, IsErrOf, IsTrue, MatchResult, take, drop, slice_range, ◌-◌, vec_len};
+ghost use Rattle.mlb_edge.specs.Causes.{HasCause, Rose};
 ghost use Rattle.std.specs.Io.KnownBytes.{Consumes, IsAtEnd, Keeps};
 ghost use Rattle.mlb_edge.specs.Rows.{is_blank, CutsRow, HasNoNewline};
 ghost use Rattle.mlb_edge.specs.Laws.{IsAllLines, IsCut};
 
 use crate::lines::{INPUT_LIMIT, LINE_LIMIT, Line, LineEnd};
-use crate::{ByteList, NoMemory, Source};
+use crate::{ByteList, NoMemory, ReadFailed, Source};
 use std::alloc::Global;
 use std::marker::Model;
 
@@ -48,25 +48,76 @@ fn is_blank(bytes: &[u8]) -> bool
 #[derive(Drop)]
 pub struct LineReader {
     alloc: Global,
-    bytes: Vec<u8>,
-    // what stands before was passed
+    // the source is read into it, so that a line is copied once where it is moved to the front, and once as it is given
+    buffer: Vec<u8>,
+    // what stands from start to end is held
     start: usize,
+    end: usize,
     // so many of the bytes held are known to have no 0x0A, and aren't looked at again
     looked: usize,
-    block: Vec<u8>,
     passed: u64,
     number: u64,
 }
 
 impl Model for LineReader {
-    ghost use Rattle.std.specs.Prelude.{drop};
+    ghost use Rattle.std.specs.Prelude.{slice_range};
     ghost use Rattle.mlb_edge.specs.Reading.{Reading, IsSound};
 
     ghost Value = { Reading };
 
-    ghost view = { λ r. record { held = drop r.start r.bytes.items; passed = r.passed; number = r.number } };
+    ghost view = { λ r. record {
+      held = slice_range r.buffer.items r.start r.end;
+      passed = r.passed;
+      number = r.number;
+    } };
 
-    ghost invariant = { λ r. IsSound r.bytes.items r.start r.looked r.block.items r.passed r.number };
+    ghost invariant = { λ r. IsSound r.buffer.items r.start r.end r.looked r.passed r.number };
+}
+
+/// Moves what stands from start to end to the front.
+fn move_to_front(buffer: &mut Vec<u8>, start: usize, end: usize)
+    requires order { start ≤ end }
+    requires within { end ≤ vec_len buffer.old }
+    ensures front { take (end - start) buffer.new.items ≡ slice_range buffer.old.items start end }
+    ensures len { vec_len buffer.new ≡ vec_len buffer.old }
+{
+    if start > 0 {
+        buffer.copy_within(start..end, 0);
+    }
+}
+
+/// Makes room for a block behind what stands before the end.
+fn make_room(buffer: &mut Vec<u8>, end: usize) -> Result<(), NoMemory>
+    requires within { end ≤ vec_len buffer.old }
+    requires short { end ≤ 1048576 }
+    ensures front { take end buffer.new.items ≡ take end buffer.old.items }
+    ensures within { end ≤ vec_len buffer.new }
+    ensures room { OnOk result (end + 65536 ≤ vec_len buffer.new) }
+{
+    if buffer.len() < end + BLOCK {
+        buffer.resize(end + BLOCK, 0)?;
+    }
+    Ok(())
+}
+
+/// Reads at most a block from the source, behind what stands before the end.
+fn read_behind<S: Source>(
+    source: &mut S,
+    buffer: &mut Vec<u8>,
+    end: usize,
+) -> Result<usize, ReadFailed>
+    requires { end + 65536 ≤ vec_len buffer.old }
+    ensures front { take end buffer.new.items ≡ take end buffer.old.items }
+    ensures len { vec_len buffer.new ≡ vec_len buffer.old }
+    ensures bound { IfOk result (λ n. n ≤ 65536) }
+    ensures bytes { MatchResult result
+        (λ n. Consumes (S.left source.old) (S.left source.new) (take n (drop end buffer.new.items)))
+        (λ _. Keeps (S.left source.old) (S.left source.new)) }
+    ensures end { IfOk result (λ n. n ≡ 0 → IsAtEnd (S.left source.new)) }
+    ensures name { S.name source.new ≡ S.name source.old }
+    ensures cause { HasCause (S.faults source.old) (S.faults source.new) result }
+{
+    source.read(&mut buffer[end..end + BLOCK])
 }
 
 impl LineReader {
@@ -80,10 +131,10 @@ impl LineReader {
     {
         Ok(LineReader {
             alloc,
-            bytes: Vec::new(alloc),
+            buffer: vec![in alloc; 0; BLOCK]?,
             start: 0,
+            end: 0,
             looked: 0,
-            block: vec![in alloc; 0; BLOCK]?,
             passed: 0,
             number: 0,
         })
@@ -151,7 +202,7 @@ impl LineReader {
         ensures near { self.old.passed ≤ 2 ^ 40 }
         ensures bounded { length self.old.held ≤ 1048576 + 65536 }
     {
-        let held = &self.bytes[self.start..];
+        let held = &self.buffer[self.start..self.end];
         let len = held.len();
         match newline_at(held, self.looked) {
             Some(i) => {
@@ -172,7 +223,7 @@ impl LineReader {
     fn held(&self) -> &[u8]
         ensures { result.now ≡ self.now.held }
     {
-        &self.bytes[self.start..]
+        &self.buffer[self.start..self.end]
     }
 
     /// Passes over the first line, which takes so many bytes.
@@ -200,22 +251,12 @@ impl LineReader {
         ensures err { OnErr result (self.new ≡ self.old) }
     {
         let end = self.start + len;
-        let bytes = ByteList::from_slice(self.alloc, &self.bytes[self.start..end])?;
+        let bytes = ByteList::from_slice(self.alloc, &self.buffer[self.start..end])?;
         self.pass(size);
         Ok(Line {
             number: self.number,
             bytes,
         })
-    }
-
-    /// Lets go of what was passed. This is done once a block, and what moves then is less than the last block read.
-    fn let_go(&mut self)
-        ensures { self.new ≡ self.old }
-    {
-        if self.start > 0 {
-            self.bytes.drain(..self.start);
-            self.start = 0;
-        }
     }
 
     /// Reads a block from the source, which is done only where no whole line is held. `Ok(0)` says that it has no more
@@ -233,10 +274,12 @@ impl LineReader {
         ensures cause { IsErrOf result LineEnd.ReadFault → Rose (S.faults source.old) (S.faults source.new) }
         ensures fault { IfErr result (λ e. (e ≡ LineEnd.ReadFault) ⊎ (e ≡ LineEnd.NoMemory)) }
     {
-        self.let_go();
-        self.bytes.reserve(self.block.len())?;
-        let count = source.read(&mut self.block)?;
-        self.bytes.extend_from_slice(&self.block[..count])?;
+        move_to_front(&mut self.buffer, self.start, self.end);
+        self.end -= self.start;
+        self.start = 0;
+        make_room(&mut self.buffer, self.end)?;
+        let count = read_behind(source, &mut self.buffer, self.end)?;
+        self.end += count;
         Ok(count)
     }
 

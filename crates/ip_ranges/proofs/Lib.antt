@@ -3,6 +3,7 @@ pub mod BlockLemmas
 pub mod SpelledLemmas
 pub mod DecimalLemmas
 pub mod BytesLemmas
+pub mod CanonicalLemmas
 pub mod PrintedLemmas
 pub mod EntryLemmas
 pub mod SpanLemmas

@@ -1,8 +1,10 @@
 //! The texts of addresses (RFC 4291, section 2.2; RFC 5952, section 4).
-ghost use Rattle.std.specs.Prelude.{◌≡◌, ◌↔◌, ◌⊎◌, Some, Ok, IfOk, IfErr, IfSome, string_bytes};
+ghost use Rattle.std.specs.Prelude.{◌≡◌, ◌<◌, ◌↔◌, ◌⊎◌, All, Some, Ok, IfOk, IfErr, IfSome, string_bytes};
 ghost use Rattle.ip_ranges.specs.Values.{AddressValue, IsOfFamily, IsMapped, meets_mapped, only};
-ghost use Rattle.ip_ranges.specs.AddressText.{IsAddressText, address_of, spelled, unmapped, canonical_text, text_in};
+ghost use Rattle.ip_ranges.specs.AddressText.{IsAddressText, address_of, spelled, unmapped, canonical_text};
+ghost use Rattle.ip_ranges.specs.Canonical.{IsCanonical};
 
+use crate::written::write_address;
 use crate::{Address, Family, RangeFault, Span};
 use mlb_base::NoMemory;
 use std::alloc::Global;
@@ -75,26 +77,25 @@ fn unmapped(address: Address) -> Result<Address, RangeFault>
 /// with no dotted tail.
 pub fn print_address(alloc: Global, address: &Address) -> Result<String, NoMemory>
     ensures text { IfOk result (λ text. string_bytes text ≡ canonical_text address.now) }
+    ensures canonical { IfOk result (λ text. IsCanonical (string_bytes text) address.now) }
 
     // Reading the text gives the address back.
     ensures reads_back { (¬ IsMapped address.now)
         → IfOk result (λ text. address_of (string_bytes text) ≡ Ok address.now) }
     ensures in_family { IsOfFamily address.now }
 {
-    match address.family {
-        Family::V4 => ipv4_text(alloc, address.number as u32),
-        Family::V6 => ipv6_text(alloc, address.number),
+    let mut buf = [0; 39];
+    let len = write_address(address, &mut buf);
+    from_ascii(alloc, &buf[..len])
+}
+
+fn from_ascii(alloc: Global, bytes: &[u8]) -> Result<String, NoMemory>
+    requires { All (λ byte. byte < 128) bytes.now }
+    ensures { IfOk result (λ text. string_bytes text ≡ bytes.now) }
+{
+    let mut text = String::with_capacity(alloc, bytes.len())?;
+    for byte in bytes {
+        text.push(char::from(*byte))?;
     }
-}
-
-fn ipv4_text(alloc: Global, number: u32) -> Result<String, NoMemory>
-    ensures { IfOk result (λ text. string_bytes text ≡ text_in Family.V4 number) }
-{
-    Ok(Ipv4Addr::from_bits(number).to_string(alloc)?)
-}
-
-fn ipv6_text(alloc: Global, number: u128) -> Result<String, NoMemory>
-    ensures { IfOk result (λ text. string_bytes text ≡ text_in Family.V6 number) }
-{
-    Ok(Ipv6Addr::from_bits(number).hex_groups().to_string(alloc)?)
+    Ok(text)
 }

@@ -1,8 +1,10 @@
 //! The text of an address in a buffer of the caller's.
-ghost use Rattle.std.specs.Prelude.{◌≡◌, ◌+◌, ◌*◌, ◌-◌, ◌<◌, ◌≤◌, ◌++◌, ◌∷◌, [], length, take, drop, decimal};
+ghost use Rattle.std.specs.Prelude.{◌≡◌, ◌+◌, ◌*◌, ◌-◌, ◌<◌, ◌≤◌, ◌++◌, ◌∷◌, [], length, take, drop, decimal, All, Ok};
 ghost use Rattle.std.specs.Char.{digit_char};
 ghost use Rattle.std.specs.Net.Text.{hex, groups_text, longest_zero_run};
-ghost use Rattle.ip_ranges.specs.AddressText.{canonical_text, text_in};
+ghost use Rattle.ip_ranges.specs.AddressText.{address_of, canonical_text, text_in};
+ghost use Rattle.ip_ranges.specs.Canonical.{IsCanonical};
+ghost use Rattle.ip_ranges.specs.Values.{IsMapped, IsOfFamily};
 
 use crate::{Address, Family};
 use std::net::{Ipv4Addr, Ipv6Addr};
@@ -11,7 +13,14 @@ use std::net::{Ipv4Addr, Ipv6Addr};
 /// takes no memory. What the buffer has behind the text is not stated.
 pub fn write_address(address: &Address, buf: &mut [u8; 39]) -> usize
     ensures text { take result buf.new ≡ canonical_text address.now }
+    ensures canonical { IsCanonical (take result buf.new) address.now }
+
+    // Reading the text gives the address back.
+    ensures reads_back { (¬ IsMapped address.now)
+        → address_of (take result buf.new) ≡ Ok address.now }
+    ensures ascii { All (λ byte. byte < 128) (take result buf.new) }
     ensures within { result ≤ 39 }
+    ensures in_family { IsOfFamily address.now }
 {
     match address.family {
         Family::V4 => write_ipv4(address.number as u32, buf),

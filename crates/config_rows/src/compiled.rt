@@ -1,0 +1,87 @@
+//! What objects are compiled to, as lines.
+
+use anyhow::Result;
+use ip_ranges::{Address, Span, print_address};
+use mlb_base::NoMemory;
+use pool_config::{CompileFault, CompiledBgp, CompiledL2, CompiledPool, Config, ObjectSet, compile};
+use std::alloc::Global;
+
+/// Prints what the objects are compiled to: the cause, kind and name of the fault, or each item of the lists with what was read of it.
+pub fn print(rt: &(impl Print + AllocGlobal), objects: &ObjectSet) -> Result<()> {
+    match compile(rt.alloc(), objects) {
+        Ok(config) => print_config(rt, &config),
+        Err(CompileFault::Refused { fault }) => {
+            println!(rt; "{} {} {}", fault.cause.as_str(), fault.kind.as_str(), fault.name)?;
+            Ok(())
+        }
+        Err(CompileFault::NoMemory) => Err(NoMemory)?,
+    }
+}
+
+fn print_config(rt: &(impl Print + AllocGlobal), config: &Config) -> Result<()> {
+    println!(rt; "accepted")?;
+    for pool in config.pools.as_slice() {
+        print_pool(rt, pool)?;
+    }
+    for advertisement in config.l2.as_slice() {
+        print_l2(rt, advertisement, config)?;
+    }
+    for advertisement in config.bgp.as_slice() {
+        print_bgp(rt, advertisement, config)?;
+    }
+    for peer in config.peers.as_slice() {
+        println!(rt; "peer {}", peer.name)?;
+    }
+    Ok(())
+}
+
+fn print_pool(rt: &(impl Print + AllocGlobal), pool: &CompiledPool) -> Result<()> {
+    print!(rt; "pool {}", pool.name)?;
+    for span in pool.spans.as_slice() {
+        let (low, high) = ends_of(rt.alloc(), span)?;
+        print!(rt; " {low}-{high}")?;
+    }
+    println!(rt; "")?;
+    Ok(())
+}
+
+/// The first and the last address of a range.
+fn ends_of(alloc: Global, span: &Span) -> Result<(String, String), NoMemory> {
+    let low = Address {
+        family: span.family,
+        number: span.low,
+    };
+    let high = Address {
+        family: span.family,
+        number: span.high,
+    };
+    Ok((print_address(alloc, &low)?, print_address(alloc, &high)?))
+}
+
+/// The advertisement's name, and those of the pools that it chooses.
+fn print_l2(rt: &impl Print, advertisement: &CompiledL2, config: &Config) -> Result<()> {
+    print!(rt; "l2 {} chooses", advertisement.name)?;
+    for pool in config.pools.as_slice() {
+        if advertisement.chooses(pool) {
+            print!(rt; " {}", pool.name)?;
+        }
+    }
+    println!(rt; "")?;
+    Ok(())
+}
+
+/// The advertisement's name, the numbers of its communities, and the names of the pools that it chooses.
+fn print_bgp(rt: &impl Print, advertisement: &CompiledBgp, config: &Config) -> Result<()> {
+    print!(rt; "bgp {}", advertisement.name)?;
+    for number in advertisement.communities.as_slice() {
+        print!(rt; " {number}")?;
+    }
+    print!(rt; " chooses")?;
+    for pool in config.pools.as_slice() {
+        if advertisement.chooses(pool) {
+            print!(rt; " {}", pool.name)?;
+        }
+    }
+    println!(rt; "")?;
+    Ok(())
+}

@@ -1,0 +1,425 @@
+//! What is held of a cluster.
+ghost use Rattle.std.specs.Prelude.{◌≡◌, ◌↔◌, ◌&&◌, ℕ, true, Some, IfOk, OnOk, OnErr, IsErrOf};
+ghost use Rattle.std.specs.Option.{option_copied};
+ghost use Rattle.kube_model.specs.declared.event.Event.TheVariants.{Changed, Deleted, ListEnd, Expired as ExpiredEvent};
+ghost use Rattle.kube_model.specs.declared.object.Kind.{Kind};
+ghost use Rattle.versioned_map.specs.Entries.{object_at, version_at};
+ghost use Rattle.kube_labels.specs.Names.{name_cmp};
+ghost use Rattle.kube_model.specs.Keys.{key_cmp};
+ghost use Rattle.pool_config.specs.Objects.{set_shown, set_shows, set_without, set_listed};
+ghost use Rattle.object_history.specs.Observations.{Watched, WatchExpired, Written};
+ghost use Rattle.object_history.specs.Cache.{Cached, nothing, cached_after};
+ghost use Rattle.object_cache.specs.Change.{applied, config_applied, with_objects, has_ended};
+ghost use Rattle.object_cache.specs.Limits.{limit_of, object_limit};
+
+use crate::change::{Applied, ApplyFault, Change, TakeNote};
+use crate::kinds::{is_newer, show_namespace, show_node, show_service, show_slice, store_record};
+use crate::limits::{MOST_NODES, MOST_SERVICES, passes};
+use kube_labels::Text;
+use kube_model::{
+    EndpointSlice, Event, Group, Key, Kind, Namespace, Node, Object, Record, Service,
+};
+use mlb_base::{NoMemory, Sequence, TryCopy};
+use pool_config::{CompileFault, Config, ObjectSet, compile};
+use std::alloc::Global;
+use std::marker::Model;
+use versioned_map::VersionedMap;
+
+/// The objects of a cluster as they were last shown, which lists have ended, and the configuration in force.
+#[derive(Drop)]
+pub struct ObjectCache {
+    alloc: Global,
+    services: VersionedMap<Key, Service>,
+    objects: ObjectSet,
+    namespaces: VersionedMap<Text, Namespace>,
+    nodes: VersionedMap<Text, Node>,
+    slices: VersionedMap<Key, EndpointSlice>,
+    config: Option<Config>,
+    config_ended: bool,
+    services_ended: bool,
+    endpoints_ended: bool,
+}
+
+impl Model for ObjectCache {
+    ghost use Rattle.object_history.specs.Cache.{Cached};
+
+    ghost Value = { Cached };
+
+    ghost view = { λ c. record {
+      services = c.services;
+      objects = c.objects;
+      namespaces = c.namespaces;
+      nodes = c.nodes;
+      slices = c.slices;
+      config = c.config;
+      config_ended = c.config_ended;
+      services_ended = c.services_ended;
+      endpoints_ended = c.endpoints_ended;
+    } };
+}
+
+impl ObjectCache {
+    /// A cache that holds nothing, which takes no memory.
+    pub fn new(alloc: Global) -> ObjectCache
+        ensures { result ≡ nothing }
+    {
+        ObjectCache {
+            alloc,
+            services: VersionedMap::new(alloc),
+            objects: ObjectSet::new(alloc),
+            namespaces: VersionedMap::new(alloc),
+            nodes: VersionedMap::new(alloc),
+            slices: VersionedMap::new(alloc),
+            config: None,
+            config_ended: false,
+            services_ended: false,
+            endpoints_ended: false,
+        }
+    }
+
+    /// The held service of the key.
+    pub fn service(&self, key: &Key) -> Option<&Service>
+        ensures { option_copied result ≡ object_at key_cmp self.now.services key.now }
+    {
+        self.services.get(key)
+    }
+
+    /// The held services, by key.
+    pub fn services(&self) -> &VersionedMap<Key, Service>
+        ensures { result.now ≡ self.now.services }
+    {
+        &self.services
+    }
+
+    /// The held endpoint slices, by key.
+    pub fn slices(&self) -> &VersionedMap<Key, EndpointSlice>
+        ensures { result.now ≡ self.now.slices }
+    {
+        &self.slices
+    }
+
+    /// The held namespace of the name.
+    pub fn namespace(&self, name: &Text) -> Option<&Namespace>
+        ensures { option_copied result ≡ object_at name_cmp self.now.namespaces name.now }
+    {
+        self.namespaces.get(name)
+    }
+
+    /// The held node of the name.
+    pub fn node(&self, name: &Text) -> Option<&Node>
+        ensures { option_copied result ≡ object_at name_cmp self.now.nodes name.now }
+    {
+        self.nodes.get(name)
+    }
+
+    /// Whether the list of the group has ended, and its watch hasn't expired since.
+    pub fn has_ended(&self, group: Group) -> bool
+        ensures { result ≡ has_ended self.now group }
+    {
+        match group {
+            Group::Config => self.config_ended,
+            Group::Service => self.services_ended,
+            Group::Endpoint => self.endpoints_ended,
+        }
+    }
+
+    /// The configuration in force.
+    pub fn config(&self) -> Option<&Config>
+        ensures { option_copied result ≡ self.now.config }
+    {
+        self.config.as_ref()
+    }
+
+    /// The watch of this list has expired, and begins anew: what came in it is held at version 0, and the list hasn't ended.
+    /// This takes no memory.
+    pub fn expire(&mut self, group: Group)
+        ensures { self.new ≡ cached_after (WatchExpired group) self.old }
+    {
+        match group {
+            Group::Config => self.expire_config(),
+            Group::Service => self.expire_services(),
+            Group::Endpoint => self.expire_endpoints(),
+        }
+    }
+
+    fn expire_config(&mut self)
+        ensures { self.new ≡ cached_after (WatchExpired Group.Config) self.old }
+    {
+        self.objects.expire();
+        self.namespaces.expire();
+        self.nodes.expire();
+        self.config_ended = false;
+    }
+
+    fn expire_services(&mut self)
+        ensures { self.new ≡ cached_after (WatchExpired Group.Service) self.old }
+    {
+        self.services.expire();
+        self.services_ended = false;
+    }
+
+    fn expire_endpoints(&mut self)
+        ensures { self.new ≡ cached_after (WatchExpired Group.Endpoint) self.old }
+    {
+        self.slices.expire();
+        self.endpoints_ended = false;
+    }
+
+    /// The service's record was replaced by this one, which made it this version. Where the service isn't held, nothing changes.
+    pub fn store(&mut self, key: &Key, version: u64, holding: Record)
+        ensures { self.new ≡ cached_after (Written key.now version holding) self.old }
+    {
+        store_record(&mut self.services, key, version, holding);
+    }
+
+    /// Applies an event. A changed object whose version isn't greater than the held one is passed over; a key that isn't held
+    /// counts as held at version 0, so an object at version 0 is never taken. A deletion applies whatever its version, and also
+    /// where nothing is held. After a refusal the cache is unchanged.
+    pub fn apply(&mut self, event: Event) -> Result<Applied, ApplyFault>
+        ensures applied { IfOk result (λ a. a ≡ applied self.old event) }
+        ensures ok { OnOk result (self.new ≡ cached_after (Watched event) self.old) }
+        ensures limit { (kind : Kind) (count : ℕ)
+            → IsErrOf result (ApplyFault.Limit kind count) ↔ (limit_of self.old event ≡ Some (kind, count)) }
+        ensures err { OnErr result (self.new ≡ self.old) }
+    {
+        if let Some((kind, count)) = self.limit_of(&event) {
+            return Err(ApplyFault::Limit { kind, count });
+        }
+        Ok(self.apply_within(event)?)
+    }
+
+    /// The limit that the event would pass: the kind of which one more would be held than may be, and how many that were.
+    pub fn limit_of(&self, event: &Event) -> Option<(Kind, u64)>
+        ensures { result ≡ limit_of self.now event.now }
+    {
+        match event {
+            Event::Changed { version, object } => self.limit_of_object(*version, object),
+            Event::Deleted { .. }
+            | Event::ListEnd { .. }
+            | Event::Expired
+            | Event::Members { .. }
+            | Event::Frame { .. }
+            | Event::Ignored => None,
+        }
+    }
+
+    fn limit_of_object(&self, version: u64, object: &Object) -> Option<(Kind, u64)>
+        ensures { result ≡ object_limit self.now version object.now }
+    {
+        match object {
+            Object::Service(service) => {
+                if !passes(&self.services, MOST_SERVICES, version, &service.key) {
+                    return None;
+                }
+                Some((Kind::Service, MOST_SERVICES + 1))
+            }
+            Object::Node(node) => {
+                if !passes(&self.nodes, MOST_NODES, version, &node.name) {
+                    return None;
+                }
+                Some((Kind::Node, MOST_NODES + 1))
+            }
+            Object::Pool(_)
+            | Object::L2(_)
+            | Object::Bgp(_)
+            | Object::Peer(_)
+            | Object::Community(_)
+            | Object::Namespace(_)
+            | Object::Slice(_) => None,
+        }
+    }
+
+    fn apply_within(&mut self, event: Event) -> Result<Applied, NoMemory>
+        ensures applied { IfOk result (λ a. a ≡ applied self.old event) }
+        ensures ok { OnOk result (self.new ≡ cached_after (Watched event) self.old) }
+        ensures err { OnErr result (self.new ≡ self.old) }
+    {
+        match event {
+            Event::Changed { version, object } => self.show(version, object),
+            Event::Deleted { kind, key } => self.delete(kind, key),
+            Event::ListEnd { group } => self.end_list(group),
+            Event::Expired => {
+                self.expire_config();
+                self.expire_services();
+                self.expire_endpoints();
+                Ok(quietly(Change::Other))
+            }
+            Event::Members { .. } | Event::Frame { .. } | Event::Ignored => {
+                Ok(quietly(Change::Other))
+            }
+        }
+    }
+
+    fn show(&mut self, version: u64, object: Object) -> Result<Applied, NoMemory>
+        ensures applied { IfOk result (λ a. a ≡ applied self.old (Changed version object)) }
+        ensures ok { OnOk result (self.new ≡ cached_after (Watched (Changed version object)) self.old) }
+        ensures err { OnErr result (self.new ≡ self.old) }
+    {
+        match object {
+            Object::Service(service) => {
+                Ok(quietly(show_service(&mut self.services, version, service)?))
+            }
+            Object::Namespace(namespace) => Ok(quietly(show_namespace(
+                &mut self.namespaces,
+                version,
+                namespace,
+            )?)),
+            Object::Node(node) => {
+                show_node(&mut self.nodes, version, node)?;
+                Ok(quietly(Change::Other))
+            }
+            Object::Slice(slice) => {
+                show_slice(&mut self.slices, version, slice)?;
+                Ok(quietly(Change::Other))
+            }
+            Object::Pool(pool) => self.show_config(version, Object::Pool(pool)),
+            Object::L2(advertisement) => self.show_config(version, Object::L2(advertisement)),
+            Object::Bgp(advertisement) => self.show_config(version, Object::Bgp(advertisement)),
+            Object::Peer(peer) => self.show_config(version, Object::Peer(peer)),
+            Object::Community(community) => {
+                self.show_config(version, Object::Community(community))
+            }
+        }
+    }
+
+    /// An object of the configuration is shown.
+    fn show_config(&mut self, version: u64, object: Object) -> Result<Applied, NoMemory>
+        ensures applied { IfOk result (λ a. a ≡ config_applied
+            (set_shows self.old.objects version object && self.old.config_ended)
+            (set_shown self.old.objects version object)) }
+        ensures ok { OnOk result (self.new ≡ with_objects self.old
+            (set_shows self.old.objects version object && self.old.config_ended)
+            (set_shown self.old.objects version object)) }
+        ensures err { OnErr result (self.new ≡ self.old) }
+    {
+        if !is_newer(&self.objects, version, &object) {
+            return Ok(quietly(Change::Other));
+        }
+        if !self.config_ended {
+            let _is_held = self.objects.show(version, object)?;
+            return Ok(quietly(Change::Other));
+        }
+        let mut objects = self.objects.copy()?;
+        let _is_held = objects.show(version, object)?;
+        self.compile_objects(objects)
+    }
+
+    /// The configuration is compiled from these objects, which are held from now on. Where it is accepted, it is in force.
+    fn compile_objects(&mut self, objects: ObjectSet) -> Result<Applied, NoMemory>
+        ensures applied { IfOk result (λ a. a ≡ config_applied true objects) }
+        ensures ok { OnOk result (self.new ≡ with_objects self.old true objects) }
+        ensures err { OnErr result (self.new ≡ self.old) }
+    {
+        match compile(self.alloc, &objects) {
+            Ok(config) => {
+                self.objects = objects;
+                self.config = Some(config);
+                Ok(Applied {
+                    change: Change::Other,
+                    note: TakeNote::Accepted,
+                })
+            }
+            Err(CompileFault::Refused { fault }) => {
+                self.objects = objects;
+                Ok(Applied {
+                    change: Change::Other,
+                    note: TakeNote::Refused { fault },
+                })
+            }
+            Err(CompileFault::NoMemory) => Err(NoMemory),
+        }
+    }
+
+    fn delete(&mut self, kind: Kind, key: Key) -> Result<Applied, NoMemory>
+        ensures applied { IfOk result (λ a. a ≡ applied self.old (Deleted kind key)) }
+        ensures ok { OnOk result (self.new ≡ cached_after (Watched (Deleted kind key)) self.old) }
+        ensures err { OnErr result (self.new ≡ self.old) }
+    {
+        match kind {
+            Kind::Service => {
+                let before = self.services.remove(&key);
+                Ok(quietly(Change::Service { key, before }))
+            }
+            Kind::Namespace => {
+                let _before = self.namespaces.remove(&key.name);
+                Ok(quietly(Change::Namespace { name: key.name }))
+            }
+            Kind::Node => {
+                let _before = self.nodes.remove(&key.name);
+                Ok(quietly(Change::Other))
+            }
+            Kind::Slice => {
+                let _before = self.slices.remove(&key);
+                Ok(quietly(Change::Other))
+            }
+            Kind::Pool => self.delete_config(Kind::Pool, &key.name),
+            Kind::L2 => self.delete_config(Kind::L2, &key.name),
+            Kind::Bgp => self.delete_config(Kind::Bgp, &key.name),
+            Kind::Peer => self.delete_config(Kind::Peer, &key.name),
+            Kind::Community => self.delete_config(Kind::Community, &key.name),
+        }
+    }
+
+    /// An object of the configuration is deleted.
+    fn delete_config(&mut self, kind: Kind, name: &Text) -> Result<Applied, NoMemory>
+        ensures applied { IfOk result (λ a. a ≡ config_applied
+            self.old.config_ended (set_without self.old.objects kind name.now)) }
+        ensures ok { OnOk result (self.new ≡ with_objects self.old
+            self.old.config_ended (set_without self.old.objects kind name.now)) }
+        ensures err { OnErr result (self.new ≡ self.old) }
+    {
+        if !self.config_ended {
+            self.objects.remove(kind, name);
+            return Ok(quietly(Change::Other));
+        }
+        let mut objects = self.objects.copy()?;
+        objects.remove(kind, name);
+        self.compile_objects(objects)
+    }
+
+    fn end_list(&mut self, group: Group) -> Result<Applied, NoMemory>
+        ensures applied { IfOk result (λ a. a ≡ applied self.old (ListEnd group)) }
+        ensures ok { OnOk result (self.new ≡ cached_after (Watched (ListEnd group)) self.old) }
+        ensures err { OnErr result (self.new ≡ self.old) }
+    {
+        match group {
+            Group::Config => self.end_config(),
+            Group::Service => {
+                let unlisted = self.services.unlisted(self.alloc)?;
+                self.services.drop_unlisted();
+                self.services_ended = true;
+                Ok(quietly(Change::Services {
+                    unlisted: Sequence::from_vec(unlisted),
+                }))
+            }
+            Group::Endpoint => {
+                self.slices.drop_unlisted();
+                self.endpoints_ended = true;
+                Ok(quietly(Change::Other))
+            }
+        }
+    }
+
+    fn end_config(&mut self) -> Result<Applied, NoMemory>
+        ensures applied { IfOk result (λ a. a ≡ applied self.old (ListEnd Group.Config)) }
+        ensures ok { OnOk result (self.new ≡ cached_after (Watched (ListEnd Group.Config)) self.old) }
+        ensures err { OnErr result (self.new ≡ self.old) }
+    {
+        let mut objects = self.objects.copy()?;
+        objects.drop_unlisted();
+        let applied = self.compile_objects(objects)?;
+        self.namespaces.drop_unlisted();
+        self.nodes.drop_unlisted();
+        self.config_ended = true;
+        Ok(applied)
+    }
+}
+
+fn quietly(change: Change) -> Applied
+    ensures { result ≡ record { change = change; note = TakeNote.Quiet } }
+{
+    Applied {
+        change,
+        note: TakeNote::Quiet,
+    }
+}

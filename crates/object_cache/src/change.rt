@@ -1,0 +1,57 @@
+//! What an event comes to.
+
+use kube_labels::Text;
+use kube_model::{ConfigFault, Key, Kind, Service};
+use mlb_base::{NoMemory, Sequence};
+use thiserror::Error;
+
+/// What is to be told of an event.
+#[derive(Debug, Drop)]
+pub enum TakeNote {
+    Quiet,
+    /// A configuration was compiled, and is in force.
+    Accepted,
+    /// A configuration was refused; the last one stays in force.
+    Refused { fault: ConfigFault },
+}
+
+/// What changed of what is held.
+#[derive(Drop)]
+pub enum Change {
+    /// A service was shown or deleted, also one that wasn't held. This was held of it before.
+    Service { key: Key, before: Option<Service> },
+    /// The list of services has ended. These weren't listed, and aren't held any more; they ascend.
+    Services { unlisted: Sequence<Key> },
+    /// A namespace was shown or deleted, also one that wasn't held.
+    Namespace { name: Text },
+    /// Something else, or nothing.
+    Other,
+}
+
+/// What an event came to.
+#[derive(Drop)]
+pub struct Applied {
+    pub change: Change,
+    pub note: TakeNote,
+}
+
+/// Why an event isn't applied.
+#[derive(Clone, Copy, Debug, PartialEq, Eq, Error)]
+pub enum ApplyFault {
+    /// So many objects of the kind would be held, which is one more than may be.
+    #[error("more objects of a kind than are held")]
+    Limit { kind: Kind, count: u64 },
+    #[error("out of memory")]
+    NoMemory,
+}
+
+impl From<NoMemory> for ApplyFault {
+    ghost use Rattle.std.specs.Prelude.{◌≡◌};
+    ghost use Rattle.object_cache.specs.declared.change.ApplyFault.TheVariants.{NoMemory as Memory};
+
+    ghost from_gives = { λ _ e. e ≡ Memory };
+
+    fn from(_refused: NoMemory) -> Self {
+        ApplyFault::NoMemory
+    }
+}

@@ -1,0 +1,4 @@
+pub mod Cached
+pub mod Force
+pub mod Held
+pub mod Seen

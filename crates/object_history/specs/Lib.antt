@@ -1,0 +1,5 @@
+pub mod AsShown
+pub mod Cache
+pub mod Kinds
+pub mod LookBack
+pub mod Observations

@@ -1,0 +1,7 @@
+use Rattle.std.proofs.Common.{◌≡◌, drop}
+use Rattle.kube_labels.specs.Names.{name_cmp}
+use Rattle.pool_config.specs.KeySets.{keys_with}
+use Rattle.pool_config.proofs.communities.add_texts.Given as goal
+
+abbrev pub invariant-loop-text : goal.invariant-loop-text
+invariant-loop-text l = keys_with name_cmp l.held.keys (drop l.text-index l.texts) ≡ keys_with name_cmp l.initial.held.keys l.texts

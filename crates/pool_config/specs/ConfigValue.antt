@@ -1,0 +1,42 @@
+-- A configuration as contracts see it.
+use Rattle.std.specs.Prelude.{ℕ, ◌<◌, List, map}
+use Rattle.std.specs.List.{flat_map}
+use Rattle.std.specs.List.Sorted.{IsStrictlySortedBy}
+use Rattle.ip_ranges.specs.Values.{AddressValue, SpanValue, Holds}
+use Rattle.pool_config.specs.declared.compiled.CompiledPool.{CompiledPool}
+use Rattle.pool_config.specs.declared.compiled.CompiledL2.{CompiledL2}
+use Rattle.pool_config.specs.declared.compiled.CompiledBgp.{CompiledBgp}
+use Rattle.pool_config.specs.declared.compiled.CompiledPeer.{CompiledPeer}
+use Rattle.kube_labels.specs.Names.{name_cmp}
+use Rattle.mlb_base.specs.Items.{ItemAt}
+
+pub record ConfigValue : Type 0 where
+  pub pools : List CompiledPool
+  pub l2 : List CompiledL2
+  pub bgp : List CompiledBgp
+  pub peers : List CompiledPeer
+
+-- all spans, of the pools in their order, each with its pool's name
+abbrev pub placed_spans : List CompiledPool → List (List ℕ × SpanValue)
+placed_spans pools = flat_map (λ pool. map (λ span. (pool.name, span)) pool.spans) pools
+
+-- the spans overlap: some address is in both
+abbrev pub Overlaps : SpanValue → SpanValue → Type 0
+Overlaps s t = (a : AddressValue) × Holds s a × Holds t a
+
+-- no two of the spans overlap
+abbrev pub AreApart : List (List ℕ × SpanValue) → Type 0
+AreApart spans =
+    (i j : ℕ) (a b : List ℕ × SpanValue) → i < j → ItemAt spans i a → ItemAt spans j b
+    → ¬ Overlaps a.1 b.1
+
+-- the names ascend, so that no two are the same
+abbrev pub Ascend : List (List ℕ) → Type 0
+Ascend names = IsStrictlySortedBy name_cmp names
+
+-- in each list the names ascend, and no two spans, of one pool or of two, overlap
+abbrev pub IsConfig : ConfigValue → Type 0
+IsConfig c =
+    Ascend (map (λ p. p.name) c.pools) × Ascend (map (λ a. a.name) c.l2)
+    × Ascend (map (λ a. a.name) c.bgp) × Ascend (map (λ p. p.name) c.peers)
+    × AreApart (placed_spans c.pools)

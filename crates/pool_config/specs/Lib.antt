@@ -1,0 +1,12 @@
+pub mod Choice
+pub mod Compile
+pub mod ConfigValue
+pub mod Faults
+pub mod KeySets
+pub mod Laws
+pub mod Lists
+pub mod Numbers
+pub mod Objects
+pub mod PoolOf
+pub mod Search
+pub mod Sweep

@@ -1,0 +1,207 @@
+//! The communities of advertisements, and what is wrong with them.
+ghost use Rattle.std.specs.Prelude.{◌≡◌, [], IfOk, OnOk};
+ghost use Rattle.std.specs.Option.{option_copied};
+ghost use Rattle.std.specs.Bool.{OnFalse};
+ghost use Rattle.std.specs.Map.{lookup};
+ghost use Rattle.std.specs.Str.{bytes_eq};
+ghost use Rattle.std.specs.List.{list_any, filter_map};
+ghost use Rattle.pool_config.specs.Objects.{named};
+ghost use Rattle.kube_labels.specs.Names.{name_cmp};
+ghost use Rattle.pool_config.specs.KeySets.{keys_with};
+ghost use Rattle.pool_config.specs.Lists.{named_value, number_in, numbers_in};
+ghost use Rattle.pool_config.specs.Search.{first_name, first_past, is_unknown, is_bad_text, has_bad_value, repeats, names_with, first_repeat};
+
+use crate::numbers::{CommunityNumbers, has_colon, numbers_from, read_number};
+use kube_labels::Text;
+use kube_model::{BgpAdv, CommunityList};
+use mlb_base::{NoMemory, TryCopy};
+use std::alloc::Global;
+use std::collections::BTreeSet;
+use versioned_map::VersionedMap;
+
+/// The most distinct community texts of all advertisements.
+const MOST_TEXTS: usize = 512;
+
+/// The value of a community's name, in the first list that has it.
+fn named_value<'a>(
+    communities: &'a VersionedMap<Text, CommunityList>,
+    name: &Text,
+) -> Option<&'a Text>
+    ensures { option_copied result ≡ named_value (named communities.now) name.now }
+{
+    for (_, held) in communities.iter() {
+        if let Some(value) = value_in(held.object.values.as_slice(), name) {
+            return Some(value);
+        }
+    }
+    None
+}
+
+fn value_in<'a>(values: &'a [(Text, Text)], name: &Text) -> Option<&'a Text>
+    ensures { option_copied result ≡ lookup (λ n. bytes_eq n name.now) values.now }
+{
+    for (known, value) in values {
+        if known == name {
+            return Some(value);
+        }
+    }
+    None
+}
+
+/// The number that an advertisement's community stands for.
+fn number_in(communities: &VersionedMap<Text, CommunityList>, text: &Text) -> Option<u32>
+    ensures { result ≡ number_in (named communities.now) text.now }
+{
+    if has_colon(text.as_str()) {
+        return read_number(text.as_str());
+    }
+    match named_value(communities, text) {
+        Some(value) => read_number(value.as_str()),
+        None => None,
+    }
+}
+
+/// The numbers of an advertisement's communities, ascending, each once.
+pub(crate) fn read_communities(
+    alloc: Global,
+    communities: &VersionedMap<Text, CommunityList>,
+    texts: &[Text],
+) -> Result<CommunityNumbers, NoMemory>
+    ensures { IfOk result (λ numbers. numbers ≡ numbers_in (named communities.now) texts.now) }
+{
+    let mut numbers = BTreeSet::new(alloc);
+    for text in texts {
+        if let Some(number) = number_in(communities, text) {
+            let _is_new = numbers.insert(number)?;
+        }
+    }
+    numbers_from(alloc, &numbers)
+}
+
+/// The first advertisement with which there are more texts than there may be.
+pub(crate) fn bgp_of_many_texts(
+    alloc: Global,
+    bgps: &VersionedMap<Text, BgpAdv>,
+) -> Result<Option<&Text>, NoMemory>
+    ensures { IfOk result (λ found. option_copied found ≡ first_past 512 [] (named bgps.now)) }
+{
+    let mut texts = BTreeSet::new(alloc);
+    for (name, held) in bgps.iter() {
+        add_texts(&mut texts, held.object.communities.as_slice())?;
+        if texts.len() > MOST_TEXTS {
+            return Ok(Some(name));
+        }
+    }
+    Ok(None)
+}
+
+fn add_texts(held: &mut BTreeSet<Text>, texts: &[Text]) -> Result<(), NoMemory>
+    ensures { OnOk result (held.new.keys ≡ keys_with name_cmp held.old.keys texts.now) }
+{
+    for text in texts {
+        let _is_new = held.insert(text.copy()?)?;
+    }
+    Ok(())
+}
+
+/// The first advertisement with a text that has no colon and is no name.
+pub(crate) fn bgp_of_unknown<'a>(
+    communities: &VersionedMap<Text, CommunityList>,
+    bgps: &'a VersionedMap<Text, BgpAdv>,
+) -> Option<&'a Text>
+    ensures { option_copied result ≡ first_name (λ adv. list_any (is_unknown (named communities.now)) adv.communities) (named bgps.now) }
+{
+    for (name, held) in bgps.iter() {
+        if has_unknown(communities, held.object.communities.as_slice()) {
+            return Some(name);
+        }
+    }
+    None
+}
+
+fn has_unknown(communities: &VersionedMap<Text, CommunityList>, texts: &[Text]) -> bool
+    ensures { result ≡ list_any (is_unknown (named communities.now)) texts.now }
+{
+    for text in texts {
+        if !has_colon(text.as_str()) && named_value(communities, text).is_none() {
+            return true;
+        }
+    }
+    false
+}
+
+/// The first list of communities with a value that isn't `A:B`.
+pub(crate) fn list_of_bad_value(communities: &VersionedMap<Text, CommunityList>) -> Option<&Text>
+    ensures { option_copied result ≡ first_name has_bad_value (named communities.now) }
+{
+    for (name, held) in communities.iter() {
+        if has_bad_value(&held.object) {
+            return Some(name);
+        }
+    }
+    None
+}
+
+fn has_bad_value(list: &CommunityList) -> bool
+    ensures { result ≡ has_bad_value list.now }
+{
+    for (_, value) in list.values.as_slice() {
+        if read_number(value.as_str()).is_none() {
+            return true;
+        }
+    }
+    false
+}
+
+/// The first advertisement with a text that has a colon and isn't `A:B`.
+pub(crate) fn bgp_of_bad_text(bgps: &VersionedMap<Text, BgpAdv>) -> Option<&Text>
+    ensures { option_copied result ≡ first_name (λ adv. list_any is_bad_text adv.communities) (named bgps.now) }
+{
+    for (name, held) in bgps.iter() {
+        if has_bad_text(held.object.communities.as_slice()) {
+            return Some(name);
+        }
+    }
+    None
+}
+
+fn has_bad_text(texts: &[Text]) -> bool
+    ensures { result ≡ list_any is_bad_text texts.now }
+{
+    for text in texts {
+        if has_colon(text.as_str()) && read_number(text.as_str()).is_none() {
+            return true;
+        }
+    }
+    false
+}
+
+/// The first list of communities with a name that stood before.
+pub(crate) fn list_of_repeat(
+    alloc: Global,
+    communities: &VersionedMap<Text, CommunityList>,
+) -> Result<Option<&Text>, NoMemory>
+    ensures { IfOk result (λ found. option_copied found ≡ first_repeat [] (named communities.now)) }
+{
+    let mut names = BTreeSet::new(alloc);
+    for (name, held) in communities.iter() {
+        if add_names(&mut names, held.object.values.as_slice())? {
+            return Ok(Some(name));
+        }
+    }
+    Ok(None)
+}
+
+/// Adds the names, up to one that is there already. Whether there is one.
+fn add_names(held: &mut BTreeSet<Text>, values: &[(Text, Text)]) -> Result<bool, NoMemory>
+    ensures repeated { IfOk result (λ repeated. repeated ≡ repeats held.old.keys values.now) }
+    ensures added { IfOk result (λ repeated. OnFalse repeated (held.new.keys ≡ names_with held.old.keys values.now)) }
+{
+    for (name, _) in values {
+        let is_new = held.insert(name.copy()?)?;
+        if !is_new {
+            return Ok(true);
+        }
+    }
+    Ok(false)
+}

@@ -1,0 +1,145 @@
+//! The objects of a configuration, with their entries, selectors and communities read.
+ghost use Rattle.std.specs.Prelude.{◌≡◌, ◌↔◌, IsTrue};
+ghost use Rattle.pool_config.specs.Choice.{Chooses, chooses, Selects, selects};
+
+use crate::choice::{chooses_pool, selects_node};
+use crate::numbers::CommunityNumbers;
+use ip_ranges::SpanList;
+use kube_labels::{Labels, SelectorList, Text, TextList};
+use kube_model::{LengthV4, LengthV6};
+use mlb_base::Sequence;
+
+/// An IPAddressPool (MetalLB), with its entries and selectors read.
+#[derive(Drop)]
+pub struct CompiledPool {
+    pub name: Text,
+    pub labels: Labels,
+    /// What `addresses` has, as it is listed. No two ranges of a configuration overlap.
+    pub spans: SpanList,
+    /// Whether a service that asks for no pool may have an address of this one.
+    pub auto_assign: bool,
+    /// Whether IPv4 addresses whose last octet is 0 or 255 are passed over.
+    pub avoid_buggy: bool,
+    /// `serviceAllocation`; without it the pool serves every service.
+    pub allocation: Option<CompiledAllocation>,
+}
+
+/// Which services a pool serves, and when its turn comes (MetalLB, `serviceAllocation`).
+#[derive(Drop)]
+pub struct CompiledAllocation {
+    /// From 1, the least first; 0 comes last.
+    pub priority: u32,
+    /// Names of namespaces.
+    pub namespaces: TextList,
+    pub namespace_selectors: SelectorList,
+    pub service_selectors: SelectorList,
+}
+
+/// An L2Advertisement (MetalLB), with its selectors read.
+#[derive(Drop)]
+pub struct CompiledL2 {
+    pub name: Text,
+    /// Names of pools, which needn't be there.
+    pub pools: TextList,
+    pub pool_selectors: SelectorList,
+    pub node_selectors: SelectorList,
+    /// Names of the interfaces that answer; where none is named, all do.
+    pub interfaces: TextList,
+}
+
+/// A BGPAdvertisement (MetalLB), with its selectors and communities read.
+#[derive(Drop)]
+pub struct CompiledBgp {
+    pub name: Text,
+    /// How long the prefixes of IPv4 are, from 1 to 32.
+    pub length: LengthV4,
+    /// How long those of IPv6 are, up to 128.
+    pub length_v6: LengthV6,
+    /// LOCAL_PREF (RFC 4271, section 5.1.5), for peers of the same AS.
+    pub local_pref: u32,
+    /// COMMUNITIES (RFC 1997).
+    pub communities: CommunityNumbers,
+    /// Names of pools, which needn't be there.
+    pub pools: TextList,
+    pub pool_selectors: SelectorList,
+    pub node_selectors: SelectorList,
+    /// Names of peers; where none is named, all have it.
+    pub peers: TextList,
+}
+
+/// A BGPPeer (MetalLB), with its selectors read.
+#[derive(Drop)]
+pub struct CompiledPeer {
+    pub name: Text,
+    /// The AS number of this side, from 1 (RFC 6793).
+    pub my_asn: u32,
+    /// The AS number of the peer, from 1.
+    pub peer_asn: u32,
+    pub node_selectors: SelectorList,
+}
+
+/// A list of pools.
+pub type PoolList = Sequence<CompiledPool>;
+
+/// A list of advertisements on the local network.
+pub type L2List = Sequence<CompiledL2>;
+
+/// A list of advertisements by BGP.
+pub type BgpList = Sequence<CompiledBgp>;
+
+/// A list of peers.
+pub type PeerList = Sequence<CompiledPeer>;
+
+impl CompiledL2 {
+    /// Whether it chooses the pool: it names it, or one of its pool selectors matches the pool's labels;
+    /// where it has neither names nor selectors, it chooses every pool. It takes no memory.
+    pub fn chooses(&self, pool: &CompiledPool) -> bool
+        ensures value { result ≡ chooses self.now.pools self.now.pool_selectors pool.now.name pool.now.labels }
+        ensures meaning { IsTrue result ↔ Chooses self.now.pools self.now.pool_selectors pool.now.name pool.now.labels }
+    {
+        chooses_pool(&self.pools, &self.pool_selectors, &pool.name, &pool.labels)
+    }
+
+    /// Whether it selects the node of these labels: one of its node selectors matches them, or it has none.
+    /// It takes no memory.
+    #[tactic(auto, using(crate::proofs::Tests::selected))]
+    pub fn selects(&self, labels: &Labels) -> bool
+        ensures value { result ≡ selects self.now.node_selectors labels.now }
+        ensures meaning { IsTrue result ↔ Selects self.now.node_selectors labels.now }
+    {
+        selects_node(&self.node_selectors, labels)
+    }
+}
+
+impl CompiledBgp {
+    /// Whether it chooses the pool: it names it, or one of its pool selectors matches the pool's labels;
+    /// where it has neither names nor selectors, it chooses every pool. It takes no memory.
+    pub fn chooses(&self, pool: &CompiledPool) -> bool
+        ensures value { result ≡ chooses self.now.pools self.now.pool_selectors pool.now.name pool.now.labels }
+        ensures meaning { IsTrue result ↔ Chooses self.now.pools self.now.pool_selectors pool.now.name pool.now.labels }
+    {
+        chooses_pool(&self.pools, &self.pool_selectors, &pool.name, &pool.labels)
+    }
+
+    /// Whether it selects the node of these labels: one of its node selectors matches them, or it has none.
+    /// It takes no memory.
+    #[tactic(auto, using(crate::proofs::Tests::selected))]
+    pub fn selects(&self, labels: &Labels) -> bool
+        ensures value { result ≡ selects self.now.node_selectors labels.now }
+        ensures meaning { IsTrue result ↔ Selects self.now.node_selectors labels.now }
+    {
+        selects_node(&self.node_selectors, labels)
+    }
+}
+
+impl CompiledPeer {
+    /// Whether it selects the node of these labels: one of its node selectors matches them, or it has none.
+    /// It takes no memory.
+    #[tactic(auto, using(crate::proofs::Tests::selected))]
+    pub fn selects(&self, labels: &Labels) -> bool
+        ensures value { result ≡ selects self.now.node_selectors labels.now }
+        ensures meaning { IsTrue result ↔ Selects self.now.node_selectors labels.now }
+    {
+        selects_node(&self.node_selectors, labels)
+    }
+}

@@ -1,0 +1,60 @@
+//! A configuration that can be in force.
+use crate::compiled::{BgpList, CompiledPool, L2List, PeerList, PoolList};
+use crate::holders::{first_holder, pool_with};
+use ip_ranges::Address;
+use std::marker::Model;
+
+/// A configuration that can be in force. The names in each list ascend by their bytes, so that no two are the same, and no two spans
+/// overlap, of one pool or of two.
+#[derive(Drop)]
+pub struct Config {
+    pub pools: PoolList,
+    pub l2: L2List,
+    pub bgp: BgpList,
+    pub peers: PeerList,
+}
+
+impl Model for Config {
+    ghost use Rattle.pool_config.specs.ConfigValue.{ConfigValue, IsConfig};
+
+    ghost Value = { ConfigValue };
+
+    ghost view = { λ c. record { pools = c.pools; l2 = c.l2; bgp = c.bgp; peers = c.peers } };
+
+    ghost invariant = { λ c. IsConfig (record { pools = c.pools; l2 = c.l2; bgp = c.bgp; peers = c.peers }) };
+
+    ghost inverse = { λ v. record { pools = v.pools; l2 = v.l2; bgp = v.bgp; peers = v.peers } };
+}
+
+impl Config {
+    ghost use Rattle.std.specs.Prelude.{◌≡◌, ℕ, IfSome, IfNone, Some};
+    ghost use Rattle.pool_config.specs.declared.compiled.CompiledPool.{CompiledPool};
+    ghost use Rattle.pool_config.specs.ConfigValue.{IsConfig};
+    ghost use Rattle.mlb_base.specs.Items.{ItemAt, Has, IsIn};
+    ghost use Rattle.std.specs.Option.{option_copied};
+    ghost use Rattle.pool_config.specs.PoolOf.{HasAddress, pool_of, pool_with};
+
+    /// The place in `pools` of the one pool that has the address, and `None` where none has it. It takes no memory.
+    pub fn pool_of(&self, address: &Address) -> Option<usize>
+        ensures value { result ≡ pool_of self.now.pools address.now }
+        ensures found { IfSome result (λ place. (pool : CompiledPool)
+            × ItemAt self.now.pools place pool × HasAddress address.now pool) }
+        ensures only { (place : ℕ) (pool : CompiledPool) → ItemAt self.now.pools place pool
+            → HasAddress address.now pool → result ≡ Some place }
+        ensures none { IfNone result (¬ Has (HasAddress address.now) self.now.pools) }
+        ensures config { IsConfig self.now }
+    {
+        first_holder(self.pools.as_slice(), address)
+    }
+
+    /// The one pool that has the address, and `None` where none has it. It takes no memory.
+    pub fn pool_with(&self, address: &Address) -> Option<&CompiledPool>
+        ensures value { option_copied result ≡ pool_with self.now.pools address.now }
+        ensures found { IfSome (option_copied result) (λ pool. IsIn self.now.pools pool
+            × HasAddress address.now pool) }
+        ensures only { (pool : CompiledPool) → IsIn self.now.pools pool
+            → HasAddress address.now pool → option_copied result ≡ Some pool }
+    {
+        pool_with(self.pools.as_slice(), address)
+    }
+}

@@ -1,0 +1,30 @@
+//! The configuration: its objects, and what they are compiled to.
+#![tactic(auto)]
+
+mod advertised;
+mod choice;
+mod communities;
+mod compile_objects;
+mod compiled;
+mod config;
+mod holders;
+mod laws;
+mod numbers;
+mod object_set;
+mod overlap;
+mod pool_faults;
+mod reading;
+mod selector_faults;
+
+pub use compile_objects::{CompileFault, compile};
+pub use compiled::{
+    BgpList, CompiledAllocation, CompiledBgp, CompiledL2, CompiledPeer, CompiledPool, L2List,
+    PeerList, PoolList,
+};
+pub use config::Config;
+pub use laws::{
+    accepted_are_read_whole, communities_are_read, names_are_kept, numbers_are_read,
+    objects_are_compiled, removes_take_out, sets_put_in_place,
+};
+pub use numbers::{CommunityNumbers, numbers_from, read_number};
+pub use object_set::ObjectSet;

@@ -1,0 +1,192 @@
+//! The objects that make a configuration.
+ghost use Rattle.std.specs.Prelude.{◌≡◌, [], IfOk, OnOk, OnErr};
+ghost use Rattle.kube_labels.specs.Names.{name_cmp};
+ghost use Rattle.pool_config.specs.Objects.{no_objects, set_shown, set_shows, set_put, put_at, set_without, set_expired, set_listed};
+ghost use Rattle.versioned_map.specs.Entries.{is_newer, shown};
+
+use kube_labels::Text;
+use kube_model::{BgpAdv, BgpPeer, CommunityList, Kind, L2Adv, Object, Pool};
+use mlb_base::{NoMemory, TryCopy};
+use std::alloc::Global;
+use versioned_map::{Shown, VersionedMap};
+
+/// The objects that make a configuration (MetalLB's IPAddressPools, L2Advertisements, BGPAdvertisements, BGPPeers and Communities),
+/// of each kind by name, each at the version that it was last shown with.
+#[derive(Drop)]
+pub struct ObjectSet {
+    pub pools: VersionedMap<Text, Pool>,
+    pub l2s: VersionedMap<Text, L2Adv>,
+    pub bgps: VersionedMap<Text, BgpAdv>,
+    pub peers: VersionedMap<Text, BgpPeer>,
+    pub communities: VersionedMap<Text, CommunityList>,
+}
+
+impl ObjectSet {
+    /// No objects, which takes no memory.
+    pub fn new(alloc: Global) -> ObjectSet
+        ensures { result ≡ no_objects }
+    {
+        ObjectSet {
+            pools: VersionedMap::new(alloc),
+            l2s: VersionedMap::new(alloc),
+            bgps: VersionedMap::new(alloc),
+            peers: VersionedMap::new(alloc),
+            communities: VersionedMap::new(alloc),
+        }
+    }
+
+    /// An object is shown; one that isn't newer than the held one is passed over, as is one of another kind. Whether it is
+    /// held now. After want of memory the set is unchanged.
+    pub fn show(&mut self, version: u64, object: Object) -> Result<bool, NoMemory>
+        ensures is_held { IfOk result (λ is_held. is_held ≡ set_shows self.old version object) }
+        ensures ok { OnOk result (self.new ≡ set_shown self.old version object) }
+        ensures err { OnErr result (self.new ≡ self.old) }
+    {
+        match object {
+            Object::Pool(pool) => {
+                let name = pool.name.copy()?;
+                show_named(&mut self.pools, name, version, pool)
+            }
+            Object::L2(advertisement) => {
+                let name = advertisement.name.copy()?;
+                show_named(&mut self.l2s, name, version, advertisement)
+            }
+            Object::Bgp(advertisement) => {
+                let name = advertisement.name.copy()?;
+                show_named(&mut self.bgps, name, version, advertisement)
+            }
+            Object::Peer(peer) => {
+                let name = peer.name.copy()?;
+                show_named(&mut self.peers, name, version, peer)
+            }
+            Object::Community(community) => {
+                let name = community.name.copy()?;
+                show_named(&mut self.communities, name, version, community)
+            }
+            Object::Service(_) | Object::Namespace(_) | Object::Node(_) | Object::Slice(_) => {
+                Ok(false)
+            }
+        }
+    }
+
+    /// The object is put in place of the one of its kind and name, at the version that was held; one of another kind is passed
+    /// over. After want of memory the set is unchanged.
+    pub fn set(&mut self, object: Object) -> Result<(), NoMemory>
+        ensures ok { OnOk result (self.new ≡ set_put self.old object) }
+        ensures err { OnErr result (self.new ≡ self.old) }
+    {
+        match object {
+            Object::Pool(pool) => {
+                let name = pool.name.copy()?;
+                put_named(&mut self.pools, name, pool)
+            }
+            Object::L2(advertisement) => {
+                let name = advertisement.name.copy()?;
+                put_named(&mut self.l2s, name, advertisement)
+            }
+            Object::Bgp(advertisement) => {
+                let name = advertisement.name.copy()?;
+                put_named(&mut self.bgps, name, advertisement)
+            }
+            Object::Peer(peer) => {
+                let name = peer.name.copy()?;
+                put_named(&mut self.peers, name, peer)
+            }
+            Object::Community(community) => {
+                let name = community.name.copy()?;
+                put_named(&mut self.communities, name, community)
+            }
+            Object::Service(_) | Object::Namespace(_) | Object::Node(_) | Object::Slice(_) => Ok(
+                (),
+            ),
+        }
+    }
+
+    /// The object of the kind and name isn't there any more; every other one stays. It takes no memory.
+    pub fn remove(&mut self, kind: Kind, name: &Text)
+        ensures { self.new ≡ set_without self.old kind name.now }
+    {
+        match kind {
+            Kind::Pool => {
+                let _before = self.pools.remove(name);
+            }
+            Kind::L2 => {
+                let _before = self.l2s.remove(name);
+            }
+            Kind::Bgp => {
+                let _before = self.bgps.remove(name);
+            }
+            Kind::Peer => {
+                let _before = self.peers.remove(name);
+            }
+            Kind::Community => {
+                let _before = self.communities.remove(name);
+            }
+            Kind::Service | Kind::Namespace | Kind::Node | Kind::Slice => {}
+        }
+    }
+
+    /// The watch begins anew: every object is held at version 0.
+    pub fn expire(&mut self)
+        ensures { self.new ≡ set_expired self.old }
+    {
+        self.pools.expire();
+        self.l2s.expire();
+        self.bgps.expire();
+        self.peers.expire();
+        self.communities.expire();
+    }
+
+    /// The list has ended: what is held at version 0 is dropped.
+    pub fn drop_unlisted(&mut self)
+        ensures { self.new ≡ set_listed self.old }
+    {
+        self.pools.drop_unlisted();
+        self.l2s.drop_unlisted();
+        self.bgps.drop_unlisted();
+        self.peers.drop_unlisted();
+        self.communities.drop_unlisted();
+    }
+}
+
+impl TryCopy for ObjectSet {
+    fn copy(&self) -> Result<ObjectSet, NoMemory> {
+        Ok(ObjectSet {
+            pools: self.pools.copy()?,
+            l2s: self.l2s.copy()?,
+            bgps: self.bgps.copy()?,
+            peers: self.peers.copy()?,
+            communities: self.communities.copy()?,
+        })
+    }
+}
+
+/// An object is shown under its name. Whether it is held now.
+fn show_named<T: Drop>(
+    held: &mut VersionedMap<Text, T>,
+    name: Text,
+    version: u64,
+    object: T,
+) -> Result<bool, NoMemory>
+    ensures is_held { IfOk result (λ is_held. is_held ≡ is_newer name_cmp held.old name version) }
+    ensures ok { OnOk result (held.new ≡ shown name_cmp held.old name version object) }
+    ensures err { OnErr result (held.new ≡ held.old) }
+{
+    match held.show(name, version, object)? {
+        Shown::Held { .. } => Ok(true),
+        Shown::PassedOver { .. } => Ok(false),
+    }
+}
+
+/// An object is put in place of the one of its name.
+fn put_named<T: Drop>(
+    held: &mut VersionedMap<Text, T>,
+    name: Text,
+    object: T,
+) -> Result<(), NoMemory>
+    ensures ok { OnOk result (held.new ≡ put_at held.old name object) }
+    ensures err { OnErr result (held.new ≡ held.old) }
+{
+    let version = held.version_of(&name);
+    held.put(name, version, object)
+}

@@ -1,139 +1,117 @@
-//! What is read of whole objects.
+//! What is read of objects, in short.
 
-use crate::examples::{joined, object_of};
-use ip_ranges::Family;
-use kube_model::{
-    Allocation, BgpAdv, EndpointSlice, Object, Policy, Pool, Port, Protocol, Service,
-};
+use crate::parts::{show_addresses, show_labels, show_ports, show_selectors, show_wanted};
+use kube_model::{Allocation, BgpAdv, CommunityList, EndpointSlice, L2Adv, Object, Pool, Service};
 use std::alloc::Global;
-use std::test::Fail;
+use std::io;
 
-const SERVICE: &str =
-    "{\"type\":\"ADDED\",\"object\":{\"kind\":\"Service\",\"metadata\":{\"namespace\":\"d\",\"name\":\"s\",\"resourceVersion\":\"7\",\"labels\":{\"app\":\"a\"},\"annotations\":{\"metallb.io/allow-shared-ip\":\"k\",\"metallb.io/address-pool\":\"q\",\"metallb.io/loadBalancerIPs\":\"192.0.2.7\",\"metallb.io/ip-allocated-from-pool\":\"p\",\"metallb.io/ip-held-as\":\"m\"}},\"spec\":{\"type\":\"LoadBalancer\",\"loadBalancerClass\":\"c\",\"ipFamilies\":[\"IPv6\",\"IPv4\"],\"ipFamilyPolicy\":\"PreferDualStack\",\"externalTrafficPolicy\":\"Local\",\"selector\":{\"x\":\"y\"},\"ports\":[{\"protocol\":\"UDP\",\"port\":53},{\"port\":80}]},\"status\":{\"loadBalancer\":{\"ingress\":[{\"ip\":\"2001:db8::1\"},{},{\"ip\":\"192.0.2.1\"}]}}}}";
-
-/// The service that `SERVICE` spells, but for its lists.
-fn is_spelled(service: &Service) -> bool {
-    let notes = service.share_key.as_str() == "k" && service.pool_asked.as_str() == "q";
-    let record = service.holding.pool.as_str() == "p" && service.holding.mark.as_str() == "m";
-    let flags = service.balancer && service.prefer_dual && service.policy == Policy::Local;
-    service.key.namespace.as_str() == "d" && notes && record && flags
+fn show_traffic(rt: &impl Print, service: &Service) -> io::Result<()> {
+    let Service {
+        families,
+        prefer_dual,
+        policy,
+        ..
+    } = service;
+    print!(rt; " families={:?}", families.as_slice())?;
+    print!(rt; " prefer_dual={prefer_dual} policy={policy:?}")?;
+    show_labels(rt, "selector", &service.selector)?;
+    show_ports(rt, service.ports.as_slice())
 }
 
-fn families_are_spelled(families: &[Family]) -> bool {
-    matches!(families, [Family::V6, Family::V4])
+fn show_holding(rt: &impl Print, alloc: Global, service: &Service) -> io::Result<()> {
+    let holding = &service.holding;
+    print!(rt; " record=")?;
+    show_addresses(rt, alloc, holding.addresses.as_slice())?;
+    println!(rt; " pool={:?} mark={:?}", holding.pool, holding.mark)
 }
 
-fn ports_are_spelled(ports: &[Port]) -> bool {
-    match ports {
-        [first, second] => first.protocol == Protocol::Udp && second.port == 80,
-        _ => false,
-    }
-}
-
-#[test]
-fn service_fields(rt: HostRuntime) -> Result<(), Fail> {
-    match object_of(rt.alloc(), SERVICE)? {
-        Some(Object::Service(service)) => {
-            assert!(rt; is_spelled(&service));
-            assert!(rt; families_are_spelled(service.families.as_slice()));
-            assert!(rt; ports_are_spelled(service.ports.as_slice()));
-            Ok(())
-        }
-        _ => Err(Fail::new("no service")),
-    }
-}
-
-#[test]
-fn service_addresses(rt: HostRuntime) -> Result<(), Fail> {
-    let alloc = rt.alloc();
-    match object_of(alloc, SERVICE)? {
-        Some(Object::Service(service)) => {
-            let recorded = joined(alloc, &service.holding.addresses)?;
-            assert!(rt; recorded.as_str() == "2001:db8::1 192.0.2.1");
-            Ok(())
-        }
-        _ => Err(Fail::new("no service")),
-    }
-}
-
-const POOL: &str =
-    "{\"type\":\"MODIFIED\",\"object\":{\"kind\":\"IPAddressPool\",\"metadata\":{\"namespace\":7,\"name\":\"p\",\"resourceVersion\":\"9\"},\"spec\":{\"addresses\":[\"192.0.2.0/24\"],\"autoAssign\":false,\"avoidBuggyIPs\":true,\"serviceAllocation\":{\"priority\":5,\"namespaces\":[\"a\",\"b\"],\"serviceSelectors\":[{\"matchLabels\":{\"x\":\"y\"},\"matchExpressions\":[{\"key\":\"k\",\"operator\":\"In\",\"values\":[\"v\"]}]}]}}}}";
-
-fn pool_is_spelled(pool: &Pool) -> bool {
-    let flags = !pool.auto_assign && pool.avoid_buggy;
-    pool.name.as_str() == "p" && pool.entries.len() == 1 && flags
-}
-
-fn allocation_is_spelled(allocation: &Option<Allocation>) -> bool {
-    match allocation {
-        Some(allocation) => allocation.priority == 5 && allocation.service_selectors.len() == 1,
-        None => false,
-    }
-}
-
-#[test]
-fn pool_fields(rt: HostRuntime) -> Result<(), Fail> {
-    match object_of(rt.alloc(), POOL)? {
-        Some(Object::Pool(pool)) => {
-            assert!(rt; pool_is_spelled(&pool));
-            assert!(rt; allocation_is_spelled(&pool.allocation));
-            Ok(())
-        }
-        _ => Err(Fail::new("no pool")),
-    }
-}
-
-const ADVERTISEMENT: &str =
-    "{\"type\":\"ADDED\",\"object\":{\"kind\":\"BGPAdvertisement\",\"metadata\":{\"name\":\"b\",\"resourceVersion\":\"1\"},\"spec\":{\"aggregationLength\":24,\"localPref\":100,\"communities\":[\"no\"],\"peers\":[\"q\"]}}}";
-
-fn advertisement_is_spelled(bgp: &BgpAdv) -> bool {
-    let numbers = bgp.length.bits() == 24 && bgp.length_v6.bits() == 128 && bgp.local_pref == 100;
-    numbers && bgp.peers.len() == 1 && bgp.pools.is_empty()
-}
-
-#[test]
-fn advertisement_fields(rt: HostRuntime) -> Result<(), Fail> {
-    match object_of(rt.alloc(), ADVERTISEMENT)? {
-        Some(Object::Bgp(bgp)) => {
-            assert!(rt; advertisement_is_spelled(&bgp));
-            Ok(())
-        }
-        _ => Err(Fail::new("no advertisement")),
-    }
-}
-
-/// The conditions of an endpoint, and whether it is usable.
-const CONDITIONS: [(&str, bool); 6] = [
-    ("", true),
-    ("\"ready\":false", false),
-    ("\"ready\":false,\"serving\":true", true),
-    ("\"ready\":true,\"serving\":false", false),
-    ("\"ready\":null,\"serving\":null", true),
-    ("\"serving\":false", false),
-];
-
-fn is_usable(slice: &EndpointSlice) -> bool {
-    match slice.endpoints.as_slice() {
-        [endpoint] => slice.service.as_str() == "s" && endpoint.usable,
-        _ => false,
-    }
-}
-
-fn endpoint_is_usable(alloc: Global, conditions: &str) -> Result<bool, Fail> {
-    let line = format!(in alloc;
-        "{{\"type\":\"ADDED\",\"object\":{{\"kind\":\"EndpointSlice\",\"metadata\":{{\"namespace\":\"d\",\"name\":\"e\",\"resourceVersion\":\"1\",\"labels\":{{\"kubernetes.io/service-name\":\"s\"}}}},\"endpoints\":[{{\"nodeName\":\"n\",\"conditions\":{{{conditions}}}}}]}}}}"
+fn show_service(rt: &impl Print, alloc: Global, service: &Service) -> io::Result<()> {
+    print!(rt; "Service {}/{}", service.key.namespace, service.key.name)?;
+    show_labels(rt, "labels", &service.labels)?;
+    print!(rt; " balancer={} class={:?}", service.balancer, service.class)?;
+    show_traffic(rt, service)?;
+    print!(rt;
+        " share={:?} asked={:?}",
+        service.share_key, service.pool_asked
     )?;
-    match object_of(alloc, line.as_str())? {
-        Some(Object::Slice(slice)) => Ok(is_usable(&slice)),
-        _ => Err(Fail::new("no slice")),
-    }
+    show_wanted(rt, alloc, &service.wanted)?;
+    show_holding(rt, alloc, service)
 }
 
-#[test]
-fn endpoint_conditions(rt: HostRuntime) -> Result<(), Fail> {
-    for (conditions, usable) in CONDITIONS {
-        let found = endpoint_is_usable(rt.alloc(), conditions)?;
-        assert!(rt; found == usable, "{conditions}");
+fn show_allocation(rt: &impl Print, allocation: &Allocation) -> io::Result<()> {
+    print!(rt; " priority={}", allocation.priority)?;
+    print!(rt; " namespaces={:?}", allocation.namespaces.as_slice())?;
+    show_selectors(rt, "namespaces", allocation.namespace_selectors.as_slice())?;
+    show_selectors(rt, "services", allocation.service_selectors.as_slice())
+}
+
+fn show_pool(rt: &impl Print, pool: &Pool) -> io::Result<()> {
+    print!(rt; "Pool {}", pool.name)?;
+    show_labels(rt, "labels", &pool.labels)?;
+    print!(rt; " entries={:?}", pool.entries.as_slice())?;
+    print!(rt; " auto={} avoid={}", pool.auto_assign, pool.avoid_buggy)?;
+    if let Some(allocation) = &pool.allocation {
+        show_allocation(rt, allocation)?;
     }
-    Ok(())
+    println!(rt; "")
+}
+
+fn show_l2(rt: &impl Print, adv: &L2Adv) -> io::Result<()> {
+    print!(rt; "L2 {} pools={:?}", adv.name, adv.pools.as_slice())?;
+    show_selectors(rt, "pools", adv.pool_selectors.as_slice())?;
+    show_selectors(rt, "nodes", adv.node_selectors.as_slice())?;
+    println!(rt; " interfaces={:?}", adv.interfaces.as_slice())
+}
+
+fn show_bgp(rt: &impl Print, adv: &BgpAdv) -> io::Result<()> {
+    print!(rt; "Bgp {} lengths={}", adv.name, adv.length.bits())?;
+    print!(rt; ",{} pref={}", adv.length_v6.bits(), adv.local_pref)?;
+    print!(rt; " communities={:?}", adv.communities.as_slice())?;
+    print!(rt; " pools={:?}", adv.pools.as_slice())?;
+    show_selectors(rt, "pools", adv.pool_selectors.as_slice())?;
+    show_selectors(rt, "nodes", adv.node_selectors.as_slice())?;
+    println!(rt; " peers={:?}", adv.peers.as_slice())
+}
+
+fn show_community(rt: &impl Print, list: &CommunityList) -> io::Result<()> {
+    print!(rt; "Community {}", list.name)?;
+    for (name, value) in list.values.as_slice() {
+        print!(rt; " {name:?}={value:?}")?;
+    }
+    println!(rt; "")
+}
+
+fn show_slice(rt: &impl Print, slice: &EndpointSlice) -> io::Result<()> {
+    print!(rt; "Slice {}/{}", slice.key.namespace, slice.key.name)?;
+    print!(rt; " service={:?}", slice.service)?;
+    for endpoint in slice.endpoints.as_slice() {
+        print!(rt; " {:?}={}", endpoint.node, endpoint.usable)?;
+    }
+    println!(rt; "")
+}
+
+pub(crate) fn show_object(rt: &impl Print, alloc: Global, object: &Object) -> io::Result<()> {
+    match object {
+        Object::Service(service) => show_service(rt, alloc, service),
+        Object::Pool(pool) => show_pool(rt, pool),
+        Object::L2(adv) => show_l2(rt, adv),
+        Object::Bgp(adv) => show_bgp(rt, adv),
+        Object::Peer(peer) => {
+            print!(rt; "Peer {} {} {}", peer.name, peer.my_asn, peer.peer_asn)?;
+            show_selectors(rt, "nodes", peer.node_selectors.as_slice())?;
+            println!(rt; "")
+        }
+        Object::Community(list) => show_community(rt, list),
+        Object::Namespace(namespace) => {
+            print!(rt; "Namespace {}", namespace.name)?;
+            show_labels(rt, "labels", &namespace.labels)?;
+            println!(rt; "")
+        }
+        Object::Node(node) => {
+            print!(rt; "Node {}", node.name)?;
+            show_labels(rt, "labels", &node.labels)?;
+            println!(rt; "")
+        }
+        Object::Slice(slice) => show_slice(rt, slice),
+    }
 }

@@ -1,15 +1,3 @@
 pub mod AskedParts
-pub mod BareLaws
-pub mod BgpLaws
-pub mod CommunityLaws
-pub mod L2Laws
-pub mod NameLaws
-pub mod PartLaws
-pub mod PeerLaws
-pub mod PoolLaws
-pub mod Rows
-pub mod ServiceLaws
-pub mod SliceLaws
-pub mod Spelled
-pub mod TellingLaws
+pub mod Groups
 pub mod Versions

@@ -3,8 +3,7 @@ use Rattle.std.specs.Prelude.{ℕ, List, Result, Ok, codes}
 use Rattle.serde_json.specs.Data.{Data}
 use Rattle.json_fields.specs.Path.{Path}
 use Rattle.json_fields.specs.Reading.{◌>>=◌, required_at, list_at, object_of, text_of}
-use Rattle.kube_model.specs.declared.key.Key.{Key}
-use Rattle.kube_model.specs.declared.community.CommunityList.{CommunityList}
+use Rattle.kube_events.specs.Fields.{Pairs}
 
 -- a name and its value
 unfoldable pub named_value_of : Data → Result (List ℕ × List ℕ) Path
@@ -14,8 +13,5 @@ named_value_of d = do
   value ← required_at text_of (codes "value") d
   Ok (name, value)
 
-unfoldable pub named_values_at : Path → Data → Result (List (List ℕ × List ℕ)) Path
-named_values_at path d = list_at named_value_of path d
-
-abbrev pub community_with : Key → List (List ℕ × List ℕ) → CommunityList
-community_with key values = record { name = key.name; values = values }
+abbrev pub named_values_field : Data → Result Pairs Path
+named_values_field d = list_at named_value_of (codes "spec.communities") d

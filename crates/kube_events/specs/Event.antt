@@ -16,8 +16,6 @@ use Rattle.kube_model.specs.declared.object.Kind.{Kind}
 use Rattle.kube_model.specs.declared.object.Kind.TheVariants as kinds
 use Rattle.kube_events.specs.declared.reading.Change.{Change}
 use Rattle.kube_events.specs.declared.reading.Change.TheVariants as changes
-use Rattle.kube_events.specs.declared.reading.Verb.{Verb}
-use Rattle.kube_events.specs.declared.reading.Verb.TheVariants as verbs
 use Rattle.kube_model.specs.Named.{kind_named}
 use Rattle.kube_events.specs.ObjectFields.{changed_of, deleted_of}
 use Rattle.kube_events.specs.Members.{members_of}
@@ -41,17 +39,6 @@ abbrev pub GivesEvent : Result Event EventFault → Result Event EventFault → 
 GivesEvent (Ok event) read = read ≡ Ok event
 GivesEvent (Err fault) read = FailsEvent fault read
 
--- ---- types of lines
-
-abbrev pub verb_named : List ℕ → Option Verb
-verb_named name = if bytes_eq name (codes "ADDED") then Some (verbs.Watch changes.Set) else
-    if bytes_eq name (codes "MODIFIED") then Some (verbs.Watch changes.Set) else
-    if bytes_eq name (codes "DELETED") then Some (verbs.Watch changes.Deleted) else
-    if bytes_eq name (codes "BOOKMARK") then Some (verbs.Watch changes.Bookmark) else
-    if bytes_eq name (codes "ERROR") then Some verbs.Error else
-    if bytes_eq name (codes "MEMBERS") then Some verbs.Members else
-    if bytes_eq name (codes "FRAME") then Some verbs.Frame else None
-
 -- ---- bookmarks
 
 -- the group whose list a bookmark of this kind may end
@@ -69,9 +56,13 @@ listed_in kinds.Node = None
 abbrev pub text_in : List ℕ → Data → Option (List ℕ)
 text_in name d = option_and_then as_str (get name d)
 
--- A bookmark ends a list where an annotation says so (Kubernetes, WatchList).
+-- the annotation that says whether a list ends (Kubernetes, WatchList), where it is a text
+abbrev pub end_annotation : Data → Option (List ℕ)
+end_annotation d = option_and_then as_str (option_and_then (get (codes "k8s.io/initial-events-end")) (option_and_then (get (codes "annotations")) (get (codes "metadata") d)))
+
+-- A bookmark ends a list where that annotation is true.
 unfoldable pub ends_list : Data → Bool
-ends_list d = is_text (option_and_then as_str (option_and_then (get (codes "k8s.io/initial-events-end")) (option_and_then (get (codes "annotations")) (get (codes "metadata") d)))) (codes "true")
+ends_list d = is_text (end_annotation d) (codes "true")
 
 abbrev pub list_end : Option Group → Bool → Event
 list_end (Some group) true = ListEnd group
@@ -83,33 +74,50 @@ bookmark_of kind d = list_end (listed_in kind) (ends_list d)
 
 -- ---- lines
 
-abbrev pub change_of : Change → Kind → Data → Result Event EventFault
-change_of changes.Set kind d = in_field (changed_of kind d)
-change_of changes.Deleted kind d = in_field (deleted_of kind d)
-change_of changes.Bookmark kind d = Ok (bookmark_of kind d)
+abbrev pub Says : Type 0
+Says = Kind → Data → Result Event EventFault
+
+-- The object is there.
+abbrev pub set_event : Says
+set_event kind d = in_field (changed_of kind d)
+
+-- The object is gone.
+abbrev pub deleted_event : Says
+deleted_event kind d = in_field (deleted_of kind d)
+
+abbrev pub bookmark_event : Says
+bookmark_event kind d = Ok (bookmark_of kind d)
 
 -- An object of a kind that isn't read is ignored.
-abbrev pub of_kind : Change → Option Kind → Data → Result Event EventFault
-of_kind change None d = Ok Ignored
-of_kind change (Some kind) d = change_of change kind d
+abbrev pub of_kind : Says → Option Kind → Data → Result Event EventFault
+of_kind says None d = Ok Ignored
+of_kind says (Some kind) d = says kind d
 
-abbrev pub of_object : Change → Option (List ℕ) → Data → Result Event EventFault
-of_object change None d = Err NotEvent
-of_object change (Some name) d = of_kind change (kind_named name) d
+abbrev pub of_object : Says → Option (List ℕ) → Data → Result Event EventFault
+of_object says None d = Err NotEvent
+of_object says (Some name) d = of_kind says (kind_named name) d
 
-abbrev pub watched : Change → Option Data → Result Event EventFault
-watched change None = Err NotEvent
-watched change (Some d) = of_object change (text_in (codes "kind") d) d
+-- what is said of the object of a line
+abbrev pub watched : Says → Option Data → Result Event EventFault
+watched says None = Err NotEvent
+watched says (Some d) = of_object says (text_in (codes "kind") d) d
 
-abbrev pub of_verb : Option Verb → Data → Result Event EventFault
-of_verb None line = Err NotEvent
-of_verb (Some (verbs.Watch change)) line = watched change (get (codes "object") line)
-of_verb (Some verbs.Error) line = Ok Expired
-of_verb (Some verbs.Members) line = in_field (members_of line)
-of_verb (Some verbs.Frame) line = in_field (frame_of line)
+-- a line of this type
+abbrev pub of_type : List ℕ → Data → Result Event EventFault
+of_type name line = if bytes_eq name (codes "ADDED") then watched set_event (get (codes "object") line) else
+    if bytes_eq name (codes "MODIFIED") then watched set_event (get (codes "object") line) else
+    if bytes_eq name (codes "DELETED") then watched deleted_event (get (codes "object") line) else
+    if bytes_eq name (codes "BOOKMARK") then watched bookmark_event (get (codes "object") line) else
+    if bytes_eq name (codes "ERROR") then Ok Expired else
+    if bytes_eq name (codes "MEMBERS") then in_field (members_of line) else
+    if bytes_eq name (codes "FRAME") then in_field (frame_of line) else Err NotEvent
+
+abbrev pub of_type_if : Option (List ℕ) → Data → Result Event EventFault
+of_type_if None line = Err NotEvent
+of_type_if (Some name) line = of_type name line
 
 unfoldable pub event_of : Data → Result Event EventFault
-event_of line = of_verb (option_and_then verb_named (text_in (codes "type") line)) line
+event_of line = of_type_if (text_in (codes "type") line) line
 
 abbrev pub event_if : Option Data → Result Event EventFault
 event_if None = Err NotJson
@@ -118,3 +126,10 @@ event_if (Some d) = event_of d
 -- the event of a line, or what is wrong with it
 unfoldable pub event_of_line : List ℕ → Result Event EventFault
 event_of_line line = event_if (value_of_line line)
+
+-- ---- as it is read
+
+abbrev pub says : Change → Says
+says changes.Set = set_event
+says changes.Deleted = deleted_event
+says changes.Bookmark = bookmark_event

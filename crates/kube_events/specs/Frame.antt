@@ -13,8 +13,14 @@ use Rattle.kube_model.specs.declared.event.Event.TheVariants.{Frame}
 unfoldable pub bytes_of : Data → Result (List ℕ) Path
 bytes_of d = or_itself (option_and_then (λ text. result_ok (decode_of text)) (as_str d))
 
+abbrev pub interface_field : Data → Result (List ℕ) Path
+interface_field line = required_at text_of (codes "interface") line
+
+abbrev pub bytes_field : Data → Result (List ℕ) Path
+bytes_field line = required_at bytes_of (codes "bytes") line
+
 unfoldable pub frame_of : Data → Result Event Path
 frame_of line = do
-  interface ← required_at text_of (codes "interface") line
-  bytes ← required_at bytes_of (codes "bytes") line
+  interface ← interface_field line
+  bytes ← bytes_field line
   Ok (Frame interface bytes)

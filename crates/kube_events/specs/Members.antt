@@ -16,7 +16,11 @@ names_with found names = fold (insert_key (slice_cmp nat_cmp)) found names
 abbrev pub distinct_names : List (List ℕ) → List (List ℕ)
 distinct_names names = names_with [] names
 
+-- the names, if the line says them
+abbrev pub members_field : Data → Result (List (List ℕ)) Path
+members_field line = list_at text_of (codes "members") line
+
 unfoldable pub members_of : Data → Result Event Path
 members_of line = do
-  names ← list_at text_of (codes "members") line
+  names ← members_field line
   Ok (Members (distinct_names names))

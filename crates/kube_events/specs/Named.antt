@@ -12,21 +12,20 @@ use Rattle.ip_ranges.specs.declared.family.Family.{Family}
 use Rattle.ip_ranges.specs.declared.family.Family.TheVariants.{V4, V6}
 use Rattle.ip_ranges.specs.Values.{AddressValue}
 use Rattle.ip_ranges.specs.AddressText.{address_of}
-use Rattle.kube_events.specs.declared.named.Version.{Version}
 
 abbrev pub family_named : List ℕ → Option Family
 family_named name = if bytes_eq name (codes "IPv4") then Some V4 else
     if bytes_eq name (codes "IPv6") then Some V6 else None
 
 -- a decimal number from 1 to 2 ^ 64 - 1 without leading zeros
-abbrev pub version_named : List ℕ → Option Version
+abbrev pub version_named : List ℕ → Option ℕ
 version_named text = if nat_lt 0 (length text) && not (slice_index text 0 == 48) && list_all is_ascii_digit text && nat_lt (digits_value 10 text) (2 ^ 64)
-    then Some (record { 0 = digits_value 10 text }) else None
+    then Some (digits_value 10 text) else None
 
 unfoldable pub family_of : Data → Result Family Path
 family_of d = one_of family_named d
 
-unfoldable pub version_of : Data → Result Version Path
+unfoldable pub version_of : Data → Result ℕ Path
 version_of d = one_of version_named d
 
 -- an address by one of its texts (RFC 4291, section 2.2), unless it is IPv4-mapped

@@ -1,19 +1,26 @@
 -- The fields of an endpoint slice beside its key.
-use Rattle.std.specs.Prelude.{Result, Ok, codes}
+use Rattle.std.specs.Prelude.{List, Result, Ok, codes}
 use Rattle.serde_json.specs.Data.{Data}
 use Rattle.json_fields.specs.Path.{Path}
-use Rattle.json_fields.specs.Reading.{◌>>=◌, list_at, labels_at}
+use Rattle.json_fields.specs.Reading.{◌>>=◌, list_at}
 use Rattle.kube_model.specs.declared.key.Key.{Key}
+use Rattle.kube_model.specs.declared.slice.Endpoint.{Endpoint}
 use Rattle.kube_model.specs.declared.slice.EndpointSlice.{EndpointSlice}
-use Rattle.kube_events.specs.declared.slice_fields.SliceSpec.{SliceSpec}
 use Rattle.kube_model.specs.EndpointFields.{endpoint_of}
-use Rattle.kube_events.specs.Fields.{pair_value}
+use Rattle.kube_events.specs.Fields.{labels_field, pair_value}
+use Rattle.kube_events.specs.declared.slice_fields.SliceSpec.{SliceSpec}
 
-unfoldable pub slice_spec_of : Data → Result SliceSpec Path
-slice_spec_of d = do
-  labels ← labels_at (codes "metadata.labels") d
-  endpoints ← list_at endpoint_of (codes "endpoints") d
-  Ok (record { service = pair_value (codes "kubernetes.io/service-name") labels; endpoints = endpoints })
+abbrev pub endpoints_field : Data → Result (List Endpoint) Path
+endpoints_field d = list_at endpoint_of (codes "endpoints") d
 
-abbrev pub slice_with : Key → SliceSpec → EndpointSlice
-slice_with key spec = record { key = key; service = spec.service; endpoints = spec.endpoints }
+-- the slice of a key; a label names its service
+unfoldable pub slice_of : Data → Result (Key → EndpointSlice) Path
+slice_of d = do
+  labels ← labels_field d
+  endpoints ← endpoints_field d
+  Ok (λ key. record { key = key; service = pair_value (codes "kubernetes.io/service-name") labels; endpoints = endpoints })
+
+-- ---- as it is read
+
+abbrev pub slice_with : SliceSpec → Key → EndpointSlice
+slice_with s key = record { key = key; service = s.service; endpoints = s.endpoints }

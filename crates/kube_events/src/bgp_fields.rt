@@ -2,7 +2,7 @@
 ghost use Rattle.std.specs.Prelude.{◌≡◌};
 ghost use Rattle.serde_json.specs.View.{view};
 ghost use Rattle.json_fields.specs.Reading.{Gives};
-ghost use Rattle.kube_events.specs.BgpFields.{route_spec_of, bgp_spec_of, choice_spec_of, bgp_with};
+ghost use Rattle.kube_events.specs.BgpFields.{route_spec_of, choice_spec_of, bgp_of, bgp_with};
 
 use json_fields::{FieldFault, list, number_or, with_default};
 use kube_labels::TextList;
@@ -67,9 +67,8 @@ pub(crate) struct BgpSpec {
     choice: ChoiceSpec,
 }
 
-#[tactic(auto, unfolding(crate::specs::BgpFields::bgp_spec_of))]
 pub(crate) fn bgp_spec(alloc: Global, object: &Value) -> Result<BgpSpec, FieldFault>
-    ensures { Gives (λ x. x) result (bgp_spec_of (view object.now)) }
+    ensures { Gives bgp_with result (bgp_of (view object.now)) }
 {
     let route = route_spec(alloc, object)?;
     let choice = choice_spec(alloc, object)?;
@@ -77,7 +76,7 @@ pub(crate) fn bgp_spec(alloc: Global, object: &Value) -> Result<BgpSpec, FieldFa
 }
 
 pub(crate) fn bgp_with(key: Key, spec: BgpSpec) -> BgpAdv
-    ensures { result ≡ bgp_with key spec }
+    ensures { result ≡ bgp_with spec key }
 {
     let Key { name, .. } = key;
     let BgpSpec { route, choice } = spec;

@@ -2,11 +2,10 @@
 ghost use Rattle.std.specs.Prelude.{◌≡◌, IfOk};
 ghost use Rattle.serde_json.specs.View.{view};
 ghost use Rattle.json_fields.specs.Reading.{Gives};
-ghost use Rattle.kube_events.specs.CommunityFields.{named_value_of, named_values_at, community_with};
+ghost use Rattle.kube_events.specs.CommunityFields.{named_value_of, named_values_field};
 
 use json_fields::{FieldFault, FromValue, list, require_object, required};
 use kube_labels::{NamedValues, Text};
-use kube_model::{CommunityList, Key};
 use mlb_base::{NoMemory, Sequence};
 use serde_json::Value;
 use std::alloc::Global;
@@ -50,21 +49,10 @@ fn pairs_from(alloc: Global, named: Sequence<NamedValue>) -> Result<NamedValues,
     Ok(pairs)
 }
 
-#[tactic(auto, unfolding(crate::specs::CommunityFields::named_values_at))]
-pub(crate) fn named_values(
-    alloc: Global,
-    object: &Value,
-    path: &str,
-) -> Result<NamedValues, FieldFault>
-    ensures { Gives (λ x. x) result (named_values_at path.now (view object.now)) }
+/// The names with their values, in their order.
+pub(crate) fn named_values(alloc: Global, object: &Value) -> Result<NamedValues, FieldFault>
+    ensures { Gives (λ x. x) result (named_values_field (view object.now)) }
 {
-    let named = list(alloc, object, path)?;
+    let named = list(alloc, object, "spec.communities")?;
     Ok(pairs_from(alloc, named)?)
-}
-
-pub(crate) fn community_with(key: Key, values: NamedValues) -> CommunityList
-    ensures { result ≡ community_with key values }
-{
-    let Key { name, .. } = key;
-    CommunityList { name, values }
 }

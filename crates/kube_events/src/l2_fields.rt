@@ -2,7 +2,7 @@
 ghost use Rattle.std.specs.Prelude.{◌≡◌};
 ghost use Rattle.serde_json.specs.View.{view};
 ghost use Rattle.json_fields.specs.Reading.{Gives};
-ghost use Rattle.kube_events.specs.L2Fields.{l2_spec_of, l2_with};
+ghost use Rattle.kube_events.specs.L2Fields.{l2_of, l2_with};
 
 use json_fields::{FieldFault, list};
 use kube_labels::TextList;
@@ -19,9 +19,9 @@ pub(crate) struct L2Spec {
     interfaces: TextList,
 }
 
-#[tactic(auto, unfolding(crate::specs::L2Fields::l2_spec_of))]
+#[tactic(auto, unfolding(crate::specs::L2Fields::l2_of))]
 pub(crate) fn l2_spec(alloc: Global, object: &Value) -> Result<L2Spec, FieldFault>
-    ensures { Gives (λ x. x) result (l2_spec_of (view object.now)) }
+    ensures { Gives l2_with result (l2_of (view object.now)) }
 {
     let pools = list(alloc, object, "spec.ipAddressPools")?;
     let pool_selectors = list(alloc, object, "spec.ipAddressPoolSelectors")?;
@@ -36,7 +36,7 @@ pub(crate) fn l2_spec(alloc: Global, object: &Value) -> Result<L2Spec, FieldFaul
 }
 
 pub(crate) fn l2_with(key: Key, spec: L2Spec) -> L2Adv
-    ensures { result ≡ l2_with key spec }
+    ensures { result ≡ l2_with spec key }
 {
     let Key { name, .. } = key;
     L2Adv {

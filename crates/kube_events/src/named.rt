@@ -55,9 +55,29 @@ impl FromValue for NamedFamily {
     }
 }
 
-/// The version of an object, at least 1.
+/// The version of an object, at least 1, which contracts see as the number.
 #[derive(Clone, Copy)]
-pub(crate) struct Version(pub(crate) u64);
+pub(crate) struct Version {
+    number: u64,
+}
+
+impl Model for Version {
+    ghost use Rattle.std.specs.Prelude.{ℕ};
+
+    ghost Value = { ℕ };
+
+    ghost view = { λ v. v.number };
+
+    ghost inverse = { λ number. record { number = number } };
+}
+
+impl Version {
+    pub(crate) fn number(self) -> u64
+        ensures { result ≡ self }
+    {
+        self.number
+    }
+}
 
 fn is_decimal(digits: &[u8]) -> bool
     ensures { result ≡ list_all is_ascii_digit digits.now }
@@ -73,7 +93,7 @@ fn version_named(text: &str) -> Option<Version>
         return None;
     }
     match text.parse() {
-        Ok(number) => Some(Version(number)),
+        Ok(number) => Some(Version { number }),
         Err(_) => None,
     }
 }

@@ -2,10 +2,10 @@
 ghost use Rattle.std.specs.Prelude.{◌≡◌};
 ghost use Rattle.serde_json.specs.View.{view};
 ghost use Rattle.json_fields.specs.Reading.{Gives};
-ghost use Rattle.kube_events.specs.ObjectFields.{spec_of, object_with, stated_object, changed_of, deleted_of};
+ghost use Rattle.kube_events.specs.ObjectFields.{body_of, object_with, stated_object, changed_of, deleted_of};
 
 use crate::bgp_fields::{BgpSpec, bgp_spec, bgp_with};
-use crate::community_fields::{community_with, named_values};
+use crate::community_fields::named_values;
 use crate::fields::key_from;
 use crate::l2_fields::{L2Spec, l2_spec, l2_with};
 use crate::named::Version;
@@ -15,7 +15,7 @@ use crate::service_fields::{ServiceSpec, service_spec, service_with};
 use crate::slice_fields::{SliceSpec, slice_spec, slice_with};
 use json_fields::{FieldFault, labels, required};
 use kube_labels::{Labels, NamedValues};
-use kube_model::{Event, Key, Kind, Namespace, Node, Object};
+use kube_model::{CommunityList, Event, Key, Kind, Namespace, Node, Object};
 use serde_json::Value;
 use std::alloc::Global;
 
@@ -33,9 +33,9 @@ enum Spec {
     Slice(SliceSpec),
 }
 
-#[tactic(auto, unfolding(crate::specs::ObjectFields::spec_of))]
+#[tactic(auto, unfolding(crate::specs::ObjectFields::body_of))]
 fn spec_from(alloc: Global, kind: Kind, object: &Value) -> Result<Spec, FieldFault>
-    ensures { Gives (λ x. x) result (spec_of kind (view object.now)) }
+    ensures { Gives object_with result (body_of kind (view object.now)) }
 {
     match kind {
         Kind::Service => Ok(Spec::Service(service_spec(alloc, object)?)),
@@ -43,10 +43,7 @@ fn spec_from(alloc: Global, kind: Kind, object: &Value) -> Result<Spec, FieldFau
         Kind::L2 => Ok(Spec::L2(l2_spec(alloc, object)?)),
         Kind::Bgp => Ok(Spec::Bgp(bgp_spec(alloc, object)?)),
         Kind::Peer => Ok(Spec::Peer(peer_spec(alloc, object)?)),
-        Kind::Community => {
-            let values = named_values(alloc, object, "spec.communities")?;
-            Ok(Spec::Community(values))
-        }
+        Kind::Community => Ok(Spec::Community(named_values(alloc, object)?)),
         Kind::Namespace => Ok(Spec::Namespace),
         Kind::Node => Ok(Spec::Node),
         Kind::Slice => Ok(Spec::Slice(slice_spec(alloc, object)?)),
@@ -54,7 +51,7 @@ fn spec_from(alloc: Global, kind: Kind, object: &Value) -> Result<Spec, FieldFau
 }
 
 fn object_with(key: Key, labels: Labels, spec: Spec) -> Object
-    ensures { result ≡ object_with key labels spec }
+    ensures { result ≡ object_with spec key labels }
 {
     match spec {
         Spec::Service(spec) => Object::Service(service_with(key, labels, spec)),
@@ -62,7 +59,10 @@ fn object_with(key: Key, labels: Labels, spec: Spec) -> Object
         Spec::L2(spec) => Object::L2(l2_with(key, spec)),
         Spec::Bgp(spec) => Object::Bgp(bgp_with(key, spec)),
         Spec::Peer(spec) => Object::Peer(peer_with(key, spec)),
-        Spec::Community(values) => Object::Community(community_with(key, values)),
+        Spec::Community(values) => {
+            let Key { name, .. } = key;
+            Object::Community(CommunityList { name, values })
+        }
         Spec::Namespace => {
             let Key { name, .. } = key;
             Object::Namespace(Namespace { name, labels })
@@ -95,7 +95,7 @@ pub(crate) fn changed_from(alloc: Global, kind: Kind, object: &Value) -> Result<
     let labels = labels(alloc, object, "metadata.labels")?;
     let spec = spec_from(alloc, kind, object)?;
     Ok(Event::Changed {
-        version: version.0,
+        version: version.number(),
         object: object_with(key, labels, spec),
     })
 }

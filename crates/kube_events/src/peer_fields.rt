@@ -2,7 +2,7 @@
 ghost use Rattle.std.specs.Prelude.{◌≡◌};
 ghost use Rattle.serde_json.specs.View.{view};
 ghost use Rattle.json_fields.specs.Reading.{Gives};
-ghost use Rattle.kube_events.specs.PeerFields.{peer_spec_of, peer_with};
+ghost use Rattle.kube_events.specs.PeerFields.{peer_of, peer_with};
 
 use json_fields::{FieldFault, list, required_number};
 use kube_model::{BgpPeer, Key, SelectorTexts};
@@ -17,9 +17,9 @@ pub(crate) struct PeerSpec {
     node_selectors: SelectorTexts,
 }
 
-#[tactic(auto, unfolding(crate::specs::PeerFields::peer_spec_of))]
+#[tactic(auto, unfolding(crate::specs::PeerFields::peer_of))]
 pub(crate) fn peer_spec(alloc: Global, object: &Value) -> Result<PeerSpec, FieldFault>
-    ensures { Gives (λ x. x) result (peer_spec_of (view object.now)) }
+    ensures { Gives peer_with result (peer_of (view object.now)) }
 {
     let my_asn = required_number(alloc, object, "spec.myASN", 1, 4294967295)?;
     let peer_asn = required_number(alloc, object, "spec.peerASN", 1, 4294967295)?;
@@ -32,7 +32,7 @@ pub(crate) fn peer_spec(alloc: Global, object: &Value) -> Result<PeerSpec, Field
 }
 
 pub(crate) fn peer_with(key: Key, spec: PeerSpec) -> BgpPeer
-    ensures { result ≡ peer_with key spec }
+    ensures { result ≡ peer_with spec key }
 {
     let Key { name, .. } = key;
     BgpPeer {

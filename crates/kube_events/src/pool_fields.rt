@@ -2,7 +2,7 @@
 ghost use Rattle.std.specs.Prelude.{◌≡◌};
 ghost use Rattle.serde_json.specs.View.{view};
 ghost use Rattle.json_fields.specs.Reading.{Gives};
-ghost use Rattle.kube_events.specs.PoolFields.{pool_spec_of, pool_with};
+ghost use Rattle.kube_events.specs.PoolFields.{pool_of, pool_with};
 
 use json_fields::{FieldFault, list, optional, with_default};
 use kube_labels::{Labels, TextList};
@@ -19,9 +19,9 @@ pub(crate) struct PoolSpec {
     allocation: Option<Allocation>,
 }
 
-#[tactic(auto, unfolding(crate::specs::PoolFields::pool_spec_of))]
+#[tactic(auto, unfolding(crate::specs::PoolFields::pool_of))]
 pub(crate) fn pool_spec(alloc: Global, object: &Value) -> Result<PoolSpec, FieldFault>
-    ensures { Gives (λ x. x) result (pool_spec_of (view object.now)) }
+    ensures { Gives pool_with result (pool_of (view object.now)) }
 {
     let entries = list(alloc, object, "spec.addresses")?;
     let auto_assign = with_default(alloc, object, "spec.autoAssign", true)?;
@@ -36,7 +36,7 @@ pub(crate) fn pool_spec(alloc: Global, object: &Value) -> Result<PoolSpec, Field
 }
 
 pub(crate) fn pool_with(key: Key, labels: Labels, spec: PoolSpec) -> Pool
-    ensures { result ≡ pool_with key labels spec }
+    ensures { result ≡ pool_with spec key labels }
 {
     let Key { name, .. } = key;
     Pool {

@@ -2,7 +2,7 @@
 ghost use Rattle.std.specs.Prelude.{◌≡◌, codes};
 ghost use Rattle.serde_json.specs.Find.{get};
 ghost use Rattle.serde_json.specs.View.{view};
-ghost use Rattle.kube_events.specs.Event.{GivesEvent, verb_named, bookmark_of, ends_list, listed_in, watched, event_of, event_of_line};
+ghost use Rattle.kube_events.specs.Event.{GivesEvent, bookmark_of, ends_list, listed_in, says, watched, of_type, event_of, event_of_line};
 
 use crate::frame::frame_from;
 use crate::members::members_from;
@@ -18,29 +18,6 @@ enum Change {
     Set,
     Deleted,
     Bookmark,
-}
-
-/// What a line's type says.
-#[derive(Clone, Copy)]
-enum Verb {
-    Watch(Change),
-    Error,
-    Members,
-    Frame,
-}
-
-fn verb_named(name: &str) -> Option<Verb>
-    ensures { result ≡ verb_named name.now }
-{
-    match name {
-        "ADDED" | "MODIFIED" => Some(Verb::Watch(Change::Set)),
-        "DELETED" => Some(Verb::Watch(Change::Deleted)),
-        "BOOKMARK" => Some(Verb::Watch(Change::Bookmark)),
-        "ERROR" => Some(Verb::Error),
-        "MEMBERS" => Some(Verb::Members),
-        "FRAME" => Some(Verb::Frame),
-        _ => None,
-    }
 }
 
 /// The group whose list a bookmark of this kind may end.
@@ -81,7 +58,7 @@ fn bookmark_from(kind: Kind, object: &Value) -> Event
 }
 
 fn watched(alloc: Global, change: Change, line: &Value) -> Result<Event, EventFault>
-    ensures { GivesEvent result (watched change (get (codes "object") (view line.now))) }
+    ensures { GivesEvent result (watched (says change) (get (codes "object") (view line.now))) }
 {
     let Some(object) = line.get("object") else {
         return Err(EventFault::NotEvent);
@@ -99,20 +76,28 @@ fn watched(alloc: Global, change: Change, line: &Value) -> Result<Event, EventFa
     }
 }
 
+/// What a line of this type says.
+fn event_of_type(alloc: Global, name: &str, line: &Value) -> Result<Event, EventFault>
+    ensures { GivesEvent result (of_type name.now (view line.now)) }
+{
+    match name {
+        "ADDED" | "MODIFIED" => watched(alloc, Change::Set, line),
+        "DELETED" => watched(alloc, Change::Deleted, line),
+        "BOOKMARK" => watched(alloc, Change::Bookmark, line),
+        "ERROR" => Ok(Event::Expired),
+        "MEMBERS" => Ok(members_from(alloc, line)?),
+        "FRAME" => Ok(frame_from(alloc, line)?),
+        _ => Err(EventFault::NotEvent),
+    }
+}
+
 #[tactic(auto, unfolding(crate::specs::Event::event_of))]
 fn event_from(alloc: Global, line: &Value) -> Result<Event, EventFault>
     ensures { GivesEvent result (event_of (view line.now)) }
 {
-    match line
-        .get("type")
-        .and_then(Value::as_str)
-        .and_then(verb_named)
-    {
+    match line.get("type").and_then(Value::as_str) {
+        Some(name) => event_of_type(alloc, name, line),
         None => Err(EventFault::NotEvent),
-        Some(Verb::Error) => Ok(Event::Expired),
-        Some(Verb::Members) => Ok(members_from(alloc, line)?),
-        Some(Verb::Frame) => Ok(frame_from(alloc, line)?),
-        Some(Verb::Watch(change)) => watched(alloc, change, line),
     }
 }
 

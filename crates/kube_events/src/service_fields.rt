@@ -2,7 +2,7 @@
 ghost use Rattle.std.specs.Prelude.{◌≡◌, IfOk};
 ghost use Rattle.serde_json.specs.View.{view};
 ghost use Rattle.json_fields.specs.Reading.{Gives};
-ghost use Rattle.kube_events.specs.ServiceFields.{families_at, notes_of, request_of, traffic_of, ingress_of, addresses_in, ingress_at, service_spec_of, service_with};
+ghost use Rattle.kube_events.specs.ServiceFields.{families_at, notes_of, request_of, traffic_of, ingress_of, addresses_in, recorded_of, service_of, service_with};
 
 use crate::fields::pair_value;
 use crate::named::{NamedFamily, SpelledAddress};
@@ -16,6 +16,7 @@ use kube_model::{FamilyList, Key, Policy, PortList, Record, Service, Wanted};
 use mlb_base::{NoMemory, Sequence};
 use serde_json::Value;
 use std::alloc::Global;
+use std::marker::Model;
 
 /// What the annotations say.
 #[derive(Drop)]
@@ -107,10 +108,19 @@ fn traffic_from(alloc: Global, object: &Value) -> Result<Traffic, FieldFault>
     })
 }
 
-/// One of the places where the service is reached, with its address where it has one.
+/// One of the places where the service is reached, which contracts see as its address, where it has one.
 #[derive(Drop)]
 struct Ingress {
     address: Option<SpelledAddress>,
+}
+
+impl Model for Ingress {
+    ghost use Rattle.std.specs.Prelude.{Option};
+    ghost use Rattle.ip_ranges.specs.Values.{AddressValue};
+
+    ghost Value = { Option AddressValue };
+
+    ghost view = { λ i. i.address };
 }
 
 impl FromValue for Ingress {
@@ -137,11 +147,12 @@ fn addresses_in(alloc: Global, ingress: Sequence<Ingress>) -> Result<AddressList
     Ok(addresses)
 }
 
-#[tactic(auto, unfolding(crate::specs::ServiceFields::ingress_at))]
-fn recorded(alloc: Global, object: &Value, path: &str) -> Result<AddressList, FieldFault>
-    ensures { Gives (λ x. x) result (ingress_at path.now (view object.now)) }
+/// The addresses of the record.
+#[tactic(auto, unfolding(crate::specs::ServiceFields::recorded_of))]
+fn recorded(alloc: Global, object: &Value) -> Result<AddressList, FieldFault>
+    ensures { Gives (λ x. x) result (recorded_of (view object.now)) }
 {
-    let places = list(alloc, object, path)?;
+    let places = list(alloc, object, "status.loadBalancer.ingress")?;
     Ok(addresses_in(alloc, places)?)
 }
 
@@ -157,14 +168,13 @@ pub(crate) struct ServiceSpec {
     holding: Record,
 }
 
-#[tactic(auto, unfolding(crate::specs::ServiceFields::service_spec_of))]
 pub(crate) fn service_spec(alloc: Global, object: &Value) -> Result<ServiceSpec, FieldFault>
-    ensures { Gives (λ x. x) result (service_spec_of (view object.now)) }
+    ensures { Gives service_with result (service_of (view object.now)) }
 {
     let notes = notes_from(alloc, object)?;
     let request = request_from(alloc, object)?;
     let traffic = traffic_from(alloc, object)?;
-    let addresses = recorded(alloc, object, "status.loadBalancer.ingress")?;
+    let addresses = recorded(alloc, object)?;
     let wanted = wanted_from(
         alloc,
         notes.addresses_asked.as_str(),
@@ -186,7 +196,7 @@ pub(crate) fn service_spec(alloc: Global, object: &Value) -> Result<ServiceSpec,
 }
 
 pub(crate) fn service_with(key: Key, labels: Labels, spec: ServiceSpec) -> Service
-    ensures { result ≡ service_with key labels spec }
+    ensures { result ≡ service_with spec key labels }
 {
     let ServiceSpec {
         balancer,

@@ -2,7 +2,7 @@
 ghost use Rattle.std.specs.Prelude.{◌≡◌};
 ghost use Rattle.serde_json.specs.View.{view};
 ghost use Rattle.json_fields.specs.Reading.{Gives};
-ghost use Rattle.kube_events.specs.SliceFields.{slice_spec_of, slice_with};
+ghost use Rattle.kube_events.specs.SliceFields.{slice_of, slice_with};
 
 use crate::fields::pair_value;
 use json_fields::{FieldFault, labels, list};
@@ -18,9 +18,9 @@ pub(crate) struct SliceSpec {
     endpoints: EndpointList,
 }
 
-#[tactic(auto, unfolding(crate::specs::SliceFields::slice_spec_of))]
+#[tactic(auto, unfolding(crate::specs::SliceFields::slice_of))]
 pub(crate) fn slice_spec(alloc: Global, object: &Value) -> Result<SliceSpec, FieldFault>
-    ensures { Gives (λ x. x) result (slice_spec_of (view object.now)) }
+    ensures { Gives slice_with result (slice_of (view object.now)) }
 {
     let labels = labels(alloc, object, "metadata.labels")?;
     let endpoints = list(alloc, object, "endpoints")?;
@@ -31,7 +31,7 @@ pub(crate) fn slice_spec(alloc: Global, object: &Value) -> Result<SliceSpec, Fie
 }
 
 pub(crate) fn slice_with(key: Key, spec: SliceSpec) -> EndpointSlice
-    ensures { result ≡ slice_with key spec }
+    ensures { result ≡ slice_with spec key }
 {
     EndpointSlice {
         key,

@@ -1,5 +1,5 @@
 -- Lines that are written: compact JSON, the members in the byte order of their names.
-use Rattle.std.specs.Prelude.{ℕ, List, [], ◌∷◌, ◌++◌, codes, decimal, map}
+use Rattle.std.specs.Prelude.{ℕ, List, [], ◌∷◌, ◌++◌, Bool, true, false, codes, decimal, map}
 use Rattle.std.specs.List.{concat}
 use Rattle.json.specs.Print.{quoted}
 use Rattle.serde_json.specs.Data.{Data, string, number, unsigned, array, object, Items, member, no_members}
@@ -12,6 +12,7 @@ use Rattle.kube_model.specs.declared.reason.Reason.{Reason}
 use Rattle.kube_model.specs.declared.config_fault.ConfigFault.{ConfigFault}
 use Rattle.hex.specs.Hex.{encode_lower}
 use Rattle.kube_model.specs.declared.status.LaneName.{LaneName}
+use Rattle.kube_model.specs.declared.status.LaneName.TheVariants as lanes
 use Rattle.kube_model.specs.Status.{lane_text}
 use Rattle.kube_model.specs.Words.{reason_text, cause_text, kind_text}
 
@@ -49,6 +50,14 @@ refused_text fault = concat (
     codes ",\"kind\":" ∷ quoted (kind_text fault.kind) ∷
     codes ",\"name\":" ∷ quoted fault.name ∷
     codes ",\"op\":\"config\",\"result\":\"refused\"}" ∷ [])
+
+-- whether events are taken of the lane: of each but the input
+abbrev pub is_taken : LaneName → Bool
+is_taken lanes.Input = false
+is_taken lanes.Config = true
+is_taken lanes.Service = true
+is_taken lanes.Watch = true
+is_taken lanes.Frame = true
 
 -- the event of the lane's line of this number was taken
 abbrev pub took_text : LaneName → ℕ → List ℕ

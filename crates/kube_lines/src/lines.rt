@@ -1,9 +1,9 @@
 //! The lines that are written, compact JSON without their ends.
-ghost use Rattle.std.specs.Prelude.{◌≡◌, IfOk, false};
+ghost use Rattle.std.specs.Prelude.{◌≡◌, IfOk, IsTrue, false};
 ghost use Rattle.serde_json.specs.View.{view};
 ghost use Rattle.serde_json.specs.Data.{array};
 ghost use Rattle.serde_json.specs.Written.{has_float, compact_text};
-ghost use Rattle.kube_lines.specs.Lines.{put_text, put_data, address_strings, pending_text, pending_data, accepted_text, refused_text, refused_data, took_text, took_data, announce_text, withdraw_text, address_data, send_text, send_data, update_text, update_data, record_text, record_data, trial_text, trial_data};
+ghost use Rattle.kube_lines.specs.Lines.{put_text, put_data, address_strings, pending_text, pending_data, accepted_text, refused_text, refused_data, is_taken, took_text, took_data, announce_text, withdraw_text, address_data, send_text, send_data, update_text, update_data, record_text, record_data, trial_text, trial_data};
 
 use ip_ranges::{Address, print_address};
 use kube_labels::Text;
@@ -109,8 +109,10 @@ fn took_value(alloc: Global, lane: LaneName, number: u64) -> Result<Value, NoMem
     })?)
 }
 
-/// The line that tells that the event of a lane's line was taken: the line of this number, from 1.
+/// The line that tells that the event of a lane's line was taken: the line of this number, from 1. Events are taken
+/// of each lane but the input.
 pub fn took_line(alloc: Global, lane: LaneName, number: u64) -> Result<Text, NoMemory>
+    requires { IsTrue (is_taken lane) }
     ensures { IfOk result (λ line. line ≡ took_text lane number) }
 {
     let value = took_value(alloc, lane, number)?;

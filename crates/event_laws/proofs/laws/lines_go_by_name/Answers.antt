@@ -1,0 +1,5 @@
+use Rattle.event_laws.proofs.NameLaws.{lines_go_by_name}
+use Rattle.event_laws.proofs.laws.lines_go_by_name.Goals as goal
+
+pub returns : goal.returns
+returns c = lines_go_by_name

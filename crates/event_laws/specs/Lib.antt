@@ -1,0 +1,13 @@
+pub mod BareLines
+pub mod BgpLines
+pub mod CommunityLines
+pub mod FieldOrder
+pub mod L2Lines
+pub mod Naming
+pub mod ObjectLines
+pub mod PartOrder
+pub mod PeerLines
+pub mod PoolLines
+pub mod ServiceLines
+pub mod SliceLines
+pub mod Telling

@@ -1,0 +1,121 @@
+//! What holds of the events and objects that are read.
+ghost use Rattle.event_laws.specs.BareLines.{NamespacesAreRead, NodesAreRead};
+ghost use Rattle.event_laws.specs.BgpLines.{BgpAdvsAreRead};
+ghost use Rattle.event_laws.specs.CommunityLines.{CommunitiesAreRead};
+ghost use Rattle.event_laws.specs.FieldOrder.{FaultIsFirst, StatedFaultIsFirst, DeletedFaultIsFirst};
+ghost use Rattle.event_laws.specs.L2Lines.{L2AdvsAreRead};
+ghost use Rattle.event_laws.specs.Naming.{ObjectsGoByName, LinesGoByName};
+ghost use Rattle.event_laws.specs.PartOrder.{ItemFaultsAreFirst, PartFaultIsFirst, port_rows, place_rows, allocation_rows, selector_rows, expression_rows, named_value_rows, endpoint_rows};
+ghost use Rattle.event_laws.specs.PeerLines.{PeersAreRead};
+ghost use Rattle.event_laws.specs.PoolLines.{PoolsAreRead};
+ghost use Rattle.event_laws.specs.ServiceLines.{ServicesAreRead};
+ghost use Rattle.event_laws.specs.SliceLines.{SlicesAreRead};
+ghost use Rattle.event_laws.specs.Telling.{SetLinesAreRead, DeletedLinesAreRead, SetObjectsAreStated};
+ghost use Rattle.json_fields.specs.Expressions.{expression_of};
+ghost use Rattle.kube_model.specs.AllocationFields.{allocation_of};
+ghost use Rattle.kube_model.specs.EndpointFields.{endpoint_of};
+ghost use Rattle.kube_model.specs.PortFields.{port_of};
+ghost use Rattle.kube_model.specs.SelectorFields.{selector_of};
+ghost use Rattle.kube_events.specs.CommunityFields.{named_value_of};
+ghost use Rattle.kube_events.specs.ServiceFields.{ingress_of};
+
+/// The line that spells a pool is read as that pool.
+pub fn pools_are_read()
+    ensures { PoolsAreRead }
+{}
+
+/// The line that spells a service is read as that service.
+pub fn services_are_read()
+    ensures { ServicesAreRead }
+{}
+
+/// The line that spells an L2 advertisement is read as that advertisement.
+pub fn l2_advs_are_read()
+    ensures { L2AdvsAreRead }
+{}
+
+/// The line that spells a BGP advertisement is read as that advertisement.
+pub fn bgp_advs_are_read()
+    ensures { BgpAdvsAreRead }
+{}
+
+/// The line that spells a BGP peer is read as that peer.
+pub fn peers_are_read()
+    ensures { PeersAreRead }
+{}
+
+/// The line that spells a community is read as that community.
+pub fn communities_are_read()
+    ensures { CommunitiesAreRead }
+{}
+
+/// The line that spells a namespace is read as that namespace.
+pub fn namespaces_are_read()
+    ensures { NamespacesAreRead }
+{}
+
+/// The line that spells a node is read as that node.
+pub fn nodes_are_read()
+    ensures { NodesAreRead }
+{}
+
+/// The line that spells an endpoint slice is read as that slice.
+pub fn slices_are_read()
+    ensures { SlicesAreRead }
+{}
+
+/// The fault of an object is that of its first faulty field.
+pub fn fault_is_first()
+    ensures { FaultIsFirst }
+{}
+
+/// The fault of an object that is stated, without its version, is that of its first faulty field.
+pub fn stated_fault_is_first()
+    ensures { StatedFaultIsFirst }
+{}
+
+/// The fault of an object that is gone is that of the first faulty field of its key and its version.
+pub fn deleted_fault_is_first()
+    ensures { DeletedFaultIsFirst }
+{}
+
+/// The fault of a part of an object is that of its first faulty member.
+pub fn part_fault_is_first()
+    ensures port { PartFaultIsFirst port_of port_rows }
+    ensures place { PartFaultIsFirst ingress_of place_rows }
+    ensures allocation { PartFaultIsFirst allocation_of allocation_rows }
+    ensures selector { PartFaultIsFirst selector_of selector_rows }
+    ensures expression { PartFaultIsFirst expression_of expression_rows }
+    ensures community { PartFaultIsFirst named_value_of named_value_rows }
+    ensures endpoint { PartFaultIsFirst endpoint_of endpoint_rows }
+{}
+
+/// The fault of a list is that of its first faulty item, named by the item's place.
+pub fn item_fault_is_first()
+    ensures { ItemFaultsAreFirst }
+{}
+
+/// A line that says that an object is there is read as its object is.
+pub fn set_lines_are_read()
+    ensures { SetLinesAreRead }
+{}
+
+/// A line that says that an object is gone is read by the object's key and version.
+pub fn deleted_lines_are_read()
+    ensures { DeletedLinesAreRead }
+{}
+
+/// An object that a line sets is stated so without its version.
+pub fn set_objects_are_stated()
+    ensures { SetObjectsAreStated }
+{}
+
+/// An object is read by the values at its named paths alone: no other member changes it, at any depth.
+pub fn objects_go_by_name()
+    ensures { ObjectsGoByName }
+{}
+
+/// A line is read by the values at its named paths alone: no other member changes it, at any depth.
+pub fn lines_go_by_name()
+    ensures { LinesGoByName }
+{}

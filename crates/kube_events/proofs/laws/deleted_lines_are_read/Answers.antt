@@ -1,5 +1,0 @@
-use Rattle.kube_events.proofs.TellingLaws.{deleted_lines_are_read}
-use Rattle.kube_events.proofs.laws.deleted_lines_are_read.Goals as goal
-
-pub returns : goal.returns
-returns c = deleted_lines_are_read

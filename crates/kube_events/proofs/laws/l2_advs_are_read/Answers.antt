@@ -1,5 +1,0 @@
-use Rattle.kube_events.proofs.L2Laws.{l2_advs_are_read}
-use Rattle.kube_events.proofs.laws.l2_advs_are_read.Goals as goal
-
-pub returns : goal.returns
-returns c = l2_advs_are_read

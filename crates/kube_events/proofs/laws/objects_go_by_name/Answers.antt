@@ -1,5 +1,0 @@
-use Rattle.kube_events.proofs.NameLaws.{objects_go_by_name}
-use Rattle.kube_events.proofs.laws.objects_go_by_name.Goals as goal
-
-pub returns : goal.returns
-returns c = objects_go_by_name

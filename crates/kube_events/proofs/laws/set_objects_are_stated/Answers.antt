@@ -1,5 +1,0 @@
-use Rattle.kube_events.proofs.TellingLaws.{set_objects_are_stated}
-use Rattle.kube_events.proofs.laws.set_objects_are_stated.Goals as goal
-
-pub returns : goal.returns
-returns c = set_objects_are_stated

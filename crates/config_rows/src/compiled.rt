@@ -3,7 +3,9 @@
 use anyhow::Result;
 use ip_ranges::{Address, Span, print_address};
 use mlb_base::NoMemory;
-use pool_config::{CompileFault, CompiledBgp, CompiledL2, CompiledPool, Config, ObjectSet, compile};
+use pool_config::{
+    CompileFault, CompiledBgp, CompiledL2, CompiledPool, Config, ObjectSet, compile,
+};
 use std::alloc::Global;
 
 /// Prints what the objects are compiled to: the cause, kind and name of the fault, or each item of the lists with what was read of it.
@@ -11,7 +13,12 @@ pub fn print(rt: &(impl Print + AllocGlobal), objects: &ObjectSet) -> Result<()>
     match compile(rt.alloc(), objects) {
         Ok(config) => print_config(rt, &config),
         Err(CompileFault::Refused { fault }) => {
-            println!(rt; "{} {} {}", fault.cause.as_str(), fault.kind.as_str(), fault.name)?;
+            println!(rt;
+                "{} {} {}",
+                fault.cause.as_str(),
+                fault.kind.as_str(),
+                fault.name
+            )?;
             Ok(())
         }
         Err(CompileFault::NoMemory) => Err(NoMemory)?,

@@ -1,5 +1,5 @@
 -- No two services have one address: an address that is put is left by all others, and nothing else gives one.
-use Rattle.std.proofs.Common.{◌≡◌, ℕ, Bool, true, false, cond, leb, List, [], ◌∷◌, ◌++◌, Some, Result, Ok, Err, ◌⊎◌, inl, inr, refl, sym, ap, ◌∙◌, subst, eqb-true, true≢false}
+use Rattle.std.proofs.Common.{◌≡◌, ℕ, Bool, true, false, cond, leb, List, [], ◌∷◌, ◌++◌, Option, Some, None, Result, Ok, Err, ◌⊎◌, inl, inr, refl, sym, ap, ◌∙◌, subst, eqb-true, true≢false}
 use Rattle.std.specs.List.{list_any}
 use Rattle.std.proofs.lemmas.List.Folds.{list_any-append}
 use Rattle.std.proofs.lemmas.Bool.{and_parts, or_cases}
@@ -18,7 +18,7 @@ use Rattle.kube_model.specs.declared.reply.PutReply.TheVariants.{Ok as Stored, S
 use Rattle.kube_model.specs.declared.service.Service.{Service}
 use Rattle.ctl_core.specs.declared.pool_config.CompiledPool.{CompiledPool}
 use Rattle.ctl_core.specs.declared.pool_config.Config.{Config}
-use Rattle.ctl_core.specs.Apart.{MayHave, AreApart}
+use Rattle.ctl_core.specs.Apart.{IsClaimed, MayGet, MayHave, AreApart}
 use Rattle.ctl_core.specs.Claims.{has_address, is_assigned, same_record}
 use Rattle.ctl_core.specs.Compile.{compiled}
 use Rattle.ctl_core.specs.Core.{State}
@@ -118,25 +118,48 @@ answer_has true reply put key before a s e = one (reply_has reply put before a e
     one (inr new) = inr (same_key-is put.key key s, new)
 answer_has false reply put key before a s e = inl e
 
--- a key that has an address which is left to another is that one
-the_same : (b : Bool) (key other : Key) (earlier : List Entry) (a : AddressValue) → same_key other key ≡ b → MayHave other earlier a → IsLeftTo key earlier a → other ≡ key
-the_same true key other earlier a s may left = same_key-is other key s
-the_same false key other earlier a s may left = absurd (true≢false (sym may ∙ left other s))
+-- no two keys claim one address
+abbrev pub ClaimsAreApart : List Entry → Type 0
+ClaimsAreApart earlier = (j k : Key) (a : AddressValue) → IsClaimed j earlier a → IsClaimed k earlier a → j ≡ k
 
-module _ (earlier : List Entry) (put : Put) (reply : PutReply) (waits : awaited earlier ≡ Some put) (left : (a : AddressValue) → has a put.holding ≡ true → IsLeftTo put.key earlier a) (apart : AreApart earlier) where
-  abbrev Had : Key → AddressValue → Type 0
-  Had key a = MayHave key earlier a ⊎ ((put.key ≡ key) × (has a put.holding ≡ true))
+-- the addresses of the put that is out are left to its key
+abbrev pub IsPutLeft : List Entry → Type 0
+IsPutLeft earlier = (put : Put) → awaited earlier ≡ Some put → (a : AddressValue) → has a put.holding ≡ true → IsLeftTo put.key earlier a
 
-  had : (key : Key) (a : AddressValue) → MayHave key (Heard reply ∷ earlier) a → Had key a
-  had key a may =
-      answer_has (same_key put.key key) reply put key (sight key earlier) a refl (subst (λ o. list_any (has a) (by_answer key o reply (sight key earlier)).claims ≡ true) waits may)
+-- a key that claims an address which is left to another is that one
+the_same : (b : Bool) (key other : Key) (earlier : List Entry) (a : AddressValue) → same_key other key ≡ b → IsClaimed other earlier a → IsLeftTo key earlier a → other ≡ key
+the_same true key other earlier a s claims left = same_key-is other key s
+the_same false key other earlier a s claims left = absurd (true≢false (sym claims ∙ left other s))
 
-  one_key : (j k : Key) (a : AddressValue) → Had j a → Had k a → j ≡ k
+module _ (earlier : List Entry) (left : IsPutLeft earlier) (apart : ClaimsAreApart earlier) where
+  -- one key claims the address, and the other may get it
+  claimed_and_put : (out : Option Put) (j k : Key) (a : AddressValue) → awaited earlier ≡ out → IsClaimed j earlier a → MayGet k out a → j ≡ k
+  claimed_and_put None j k a is claims gets = absurd gets
+  claimed_and_put (Some put) j k a is claims gets = the_same (same_key j put.key) put.key j earlier a refl claims (left put is a gets.1) ∙ gets.0
+
+  both_put : (out : Option Put) (j k : Key) (a : AddressValue) → MayGet j out a → MayGet k out a → j ≡ k
+  both_put None j k a first then = absurd first
+  both_put (Some put) j k a first then = sym first.0 ∙ then.0
+
+  one_key : (j k : Key) (a : AddressValue) → MayHave j earlier a → MayHave k earlier a → j ≡ k
   one_key j k a (inl old) (inl older) = apart j k a old older
-  one_key j k a (inl old) (inr new) = the_same (same_key j put.key) put.key j earlier a refl old (left a new.1) ∙ new.0
-  one_key j k a (inr new) (inl old) = sym new.0 ∙ sym (the_same (same_key k put.key) put.key k earlier a refl old (left a new.1))
-  one_key j k a (inr new) (inr newer) = sym new.0 ∙ newer.0
+  one_key j k a (inl old) (inr new) = claimed_and_put (awaited earlier) j k a refl old new
+  one_key j k a (inr new) (inl old) = sym (claimed_and_put (awaited earlier) k j a refl old new)
+  one_key j k a (inr new) (inr newer) = both_put (awaited earlier) j k a new newer
 
-  -- a reply leaves the keys apart
-  pub heard_apart : AreApart (Heard reply ∷ earlier)
-  heard_apart j k a first then = one_key j k a (had j a first) (had k a then)
+  -- no two keys have one address, or may have it
+  pub keys_apart : AreApart earlier
+  keys_apart j k a first then = one_key j k a first then
+
+  module _ (put : Put) (reply : PutReply) (waits : awaited earlier ≡ Some put) where
+    asked : (key : Key) (a : AddressValue) → IsClaimed key earlier a ⊎ ((put.key ≡ key) × (has a put.holding ≡ true)) → MayHave key earlier a
+    asked key a (inl old) = inl old
+    asked key a (inr new) = inr (subst (λ (o : Option Put). MayGet key o a) (sym waits) new)
+
+    had : (key : Key) (a : AddressValue) → IsClaimed key (Heard reply ∷ earlier) a → MayHave key earlier a
+    had key a claims = asked key a
+        (answer_has (same_key put.key key) reply put key (sight key earlier) a refl (subst (λ o. list_any (has a) (by_answer key o reply (sight key earlier)).claims ≡ true) waits claims))
+
+    -- a reply leaves the claims apart
+    pub heard_apart : ClaimsAreApart (Heard reply ∷ earlier)
+    heard_apart j k a first then = one_key j k a (had j a first) (had k a then)

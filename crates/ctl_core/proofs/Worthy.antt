@@ -27,7 +27,7 @@ use Rattle.ctl_core.specs.Shown.{Sight, sight, awaited, claims_shown}
 use Rattle.ctl_core.specs.Take.{core_take}
 use Rattle.ctl_core.specs.Turn.{core_turn, turn_of, turn_at, after_turn, rest_of, put_in, wanted_record, reason_in}
 use Rattle.ctl_core.specs.Worth.{IsLeftTo, IsNew, IsWithdrawn, IsRightPut, ArePutsRight, PutsAreRight, ClaimsAreShown, behind}
-use Rattle.ctl_core.proofs.Aparts.{claims_kept, put_left, heard_apart}
+use Rattle.ctl_core.proofs.Aparts.{ClaimsAreApart, IsPutLeft, claims_kept, put_left, keys_apart, heard_apart}
 use Rattle.ctl_core.proofs.Chosen.{chosen}
 use Rattle.ctl_core.proofs.Sights.{Agrees, IsSeen, held_at, held-from, begins, takes, hears}
 
@@ -131,11 +131,14 @@ idle_agrees s earlier e out a =
       of_held = λ put is. held_put s put a.quiet is;
     }
 
--- The core is what is shown, no two keys have one address, and those of the put that is out are left to its key.
+-- The core is what is shown, no two keys claim one address, and those of the put that is out are left to its key.
 record Stands (s : State) (earlier : List Entry) : Type 0 where
   agrees : Agrees s earlier
-  apart : AreApart earlier
-  left : (put : Put) → awaited earlier ≡ Some put → (a : AddressValue) → has_address put.holding.addresses a ≡ true → IsLeftTo put.key earlier a
+  apart : ClaimsAreApart earlier
+  left : IsPutLeft earlier
+
+all_apart : (s : State) (earlier : List Entry) → Stands s earlier → AreApart earlier
+all_apart s earlier now = keys_apart earlier now.left now.apart
 
 -- nothing is awaited
 not_awaited : {o : Option Put} {put : Put} → o ≡ None → o ≡ Some put → ⊥
@@ -184,7 +187,7 @@ hear_stands s put reply earlier out may now =
     let waits : awaited earlier ≡ Some put = sym now.agrees.out ∙ out in
     record {
       agrees = hears s put reply earlier out may now.agrees;
-      apart = heard_apart earlier put reply waits (now.left put waits) now.apart;
+      apart = heard_apart earlier now.left now.apart put reply waits;
       left = λ other is. absurd (not_awaited refl is);
     }
 
@@ -200,13 +203,13 @@ turned_lead : (turn : Turn) (s : State) (rest : Run) (earlier : List Entry) → 
 turned_lead Idle s rest earlier e out now ih = ih earlier (ap put_in e) (idle_stands s earlier e out now)
 turned_lead (NoPut key pending) s rest earlier e out now ih =
     let later = ih (Turned (NoPut key pending) ∷ earlier) (ap put_in e) (turn_stands (NoPut key pending) s earlier e now) in
-    record { right = (tt, later.right); apart = (now.apart, later.apart); stands = later.stands }
+    record { right = (tt, later.right); apart = (all_apart s earlier now, later.apart); stands = later.stands }
 turned_lead (Wants put pending) s rest earlier e out now ih =
     let after = turn_stands (Wants put pending) s earlier e now in
-    record { right = (right_put s put pending earlier e now.agrees, tt); apart = (now.apart, after.apart); stands = after }
+    record { right = (right_put s put pending earlier e now.agrees, tt); apart = (all_apart s earlier now, all_apart (after_turn s) (Turned (Wants put pending) ∷ earlier) after); stands = after }
 
 turns_lead : (queue : List Key) (s : State) (earlier : List Entry) → s.out ≡ None → Stands s earlier → Leads earlier (turns queue s).entries (turns queue s).core
-turns_lead [] s earlier out now = record { right = tt; apart = now.apart; stands = now }
+turns_lead [] s earlier out now = record { right = tt; apart = all_apart s earlier now; stands = now }
 turns_lead (key ∷ keys) s earlier out now =
     turned_lead (core_turn s) s (turns keys (after_turn s)) earlier refl out now (λ next none b. turns_lead keys (after_turn s) next none b)
 
@@ -214,11 +217,11 @@ driven_leads : (arrival : Arrival) (s : State) (earlier : List Entry) → MayArr
 driven_leads (Item lane number event) s earlier may now =
     let after = take_stands s lane number event earlier may.1 may.0 now in
     let later = turns_lead (core_take s event).core.queue (core_take s event).core (Noted (core_take s event).note ∷ Took lane number event ∷ earlier) after.agrees.out after in
-    record { right = (tt, (tt, later.right)); apart = (now.apart, (after.apart, later.apart)); stands = later.stands }
+    record { right = (tt, (tt, later.right)); apart = (all_apart s earlier now, (all_apart (core_take s event).core (Noted (core_take s event).note ∷ Took lane number event ∷ earlier) after, later.apart)); stands = later.stands }
 driven_leads (Reply reply) s earlier may now =
     let after = hear_stands s may.0 reply earlier may.1 may.2 now in
     let later = turns_lead (core_reply s reply).queue (core_reply s reply) (Heard reply ∷ earlier) after.agrees.out after in
-    record { right = (tt, later.right); apart = (now.apart, later.apart); stands = later.stands }
+    record { right = (tt, later.right); apart = (all_apart s earlier now, later.apart); stands = later.stands }
 
 right-append : (xs ys earlier : List Entry) → ArePutsRight xs earlier → ArePutsRight ys (behind xs earlier) → ArePutsRight (xs ++ ys) earlier
 right-append [] ys earlier first then = then
@@ -233,7 +236,7 @@ apart-append [] ys earlier first then = then
 apart-append (x ∷ xs) ys earlier first then = (first.0, apart-append xs ys (x ∷ earlier) first.1 then)
 
 drive_leads : (arrivals : List Arrival) (s : State) (earlier : List Entry) → MayAllArrive arrivals s → Stands s earlier → Leads earlier (drive arrivals s).entries (drive arrivals s).core
-drive_leads [] s earlier may now = record { right = tt; apart = now.apart; stands = now }
+drive_leads [] s earlier may now = record { right = tt; apart = all_apart s earlier now; stands = now }
 drive_leads (arrival ∷ more) s earlier may now =
     let first = driven_leads arrival s earlier may.0 now in
     let rest = drive_leads more (driven s arrival).core (behind (driven s arrival).entries earlier) may.1 first.stands in

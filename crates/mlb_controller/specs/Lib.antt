@@ -1,8 +1,6 @@
-pub mod Ended
-pub mod Explains
-pub mod Halted
-pub mod Lines
+pub mod Causes
+pub mod Clauses
 pub mod Output
+pub mod Sound
 pub mod Stream
 pub mod Words
-pub mod Written

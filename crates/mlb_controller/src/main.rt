@@ -1,7 +1,7 @@
 //! The controller: gives addresses to the services of a watch stream, and writes them as lines.
 #![tactic(auto)]
 
-mod halt;
+mod controller;
 mod line;
 mod output;
 mod run;
@@ -46,6 +46,3 @@ fn main(rt: HostRuntime) -> ExitCode {
     let status = run_controller(&rt, alloc, &words, &mut files, &mut input, &mut out);
     exit_code(&rt, &status)
 }
-
-#[cfg(test)]
-mod tests;

@@ -2,37 +2,21 @@
 ghost use Rattle.std.specs.Prelude.{◌≡◌, ◌≤◌, OnOk, IfErr};
 ghost use Rattle.mlb_edge.specs.Written.{Grows};
 ghost use Rattle.kube_lines.specs.Lines.{put_text};
-ghost use Rattle.mlb_controller.specs.Output.{line_of, note_text, reason_line, turn_text};
-ghost use Rattle.mlb_controller.specs.Lines.{Halts};
+ghost use Rattle.line_run.specs.Text.{line_of, Halts};
+ghost use Rattle.mlb_controller.specs.Output.{note_text, reason_line, turn_text};
 
-use crate::halt::Halt;
 use ctl_core::{TakeNote, Turn};
-use kube_labels::Text;
 use kube_lines::{accepted_line, pending_line, put_line, refused_line};
 use kube_model::{Key, Put, Reason};
-use mlb_edge::{Sink, put_all};
+use line_run::{Halt, write_line};
+use mlb_edge::Sink;
 use std::alloc::Global;
-
-/// Writes the text on a line of its own.
-fn write_line<K: Sink>(out: &mut K, text: Text) -> Result<(), Halt>
-    ensures ok { OnOk result (Grows (K.written out.old) (K.written out.new) (line_of text)) }
-    ensures err { IfErr result (λ halt. Halts halt (line_of text) (K.written out.old) (K.written out.new) (K.faults out.old) (K.faults out.new)) }
-    ensures later { K.faults out.old ≤ K.faults out.new }
-{
-    let mut line = text.into_string();
-    if line.push('\n').is_err() {
-        return Err(Halt::NoMemory);
-    }
-    match put_all(out, line.as_bytes()) {
-        Ok(()) => Ok(()),
-        Err(_) => Err(Halt::WriteFault),
-    }
-}
 
 /// Tells what became of a configuration.
 pub(crate) fn write_note<K: Sink>(alloc: Global, out: &mut K, note: &TakeNote) -> Result<(), Halt>
     ensures ok { OnOk result (Grows (K.written out.old) (K.written out.new) (note_text note.now)) }
-    ensures err { IfErr result (λ halt. Halts halt (note_text note.now) (K.written out.old) (K.written out.new) (K.faults out.old) (K.faults out.new)) }
+    ensures err { IfErr result (λ halt. Halts halt (note_text note.now)
+        (K.written out.old) (K.written out.new) (K.faults out.old) (K.faults out.new)) }
     ensures later { K.faults out.old ≤ K.faults out.new }
 {
     match note {
@@ -59,8 +43,10 @@ fn write_reason<K: Sink>(
     key: &Key,
     pending: Option<Reason>,
 ) -> Result<(), Halt>
-    ensures ok { OnOk result (Grows (K.written out.old) (K.written out.new) (reason_line key.now pending)) }
-    ensures err { IfErr result (λ halt. Halts halt (reason_line key.now pending) (K.written out.old) (K.written out.new) (K.faults out.old) (K.faults out.new)) }
+    ensures ok { OnOk result (Grows (K.written out.old) (K.written out.new)
+        (reason_line key.now pending)) }
+    ensures err { IfErr result (λ halt. Halts halt (reason_line key.now pending)
+        (K.written out.old) (K.written out.new) (K.faults out.old) (K.faults out.new)) }
     ensures later { K.faults out.old ≤ K.faults out.new }
 {
     let Some(reason) = pending else {
@@ -73,8 +59,10 @@ fn write_reason<K: Sink>(
 }
 
 fn write_put<K: Sink>(alloc: Global, out: &mut K, put: &Put) -> Result<(), Halt>
-    ensures ok { OnOk result (Grows (K.written out.old) (K.written out.new) (line_of (put_text put.now))) }
-    ensures err { IfErr result (λ halt. Halts halt (line_of (put_text put.now)) (K.written out.old) (K.written out.new) (K.faults out.old) (K.faults out.new)) }
+    ensures ok { OnOk result (Grows (K.written out.old) (K.written out.new)
+        (line_of (put_text put.now))) }
+    ensures err { IfErr result (λ halt. Halts halt (line_of (put_text put.now))
+        (K.written out.old) (K.written out.new) (K.faults out.old) (K.faults out.new)) }
     ensures later { K.faults out.old ≤ K.faults out.new }
 {
     let Ok(text) = put_line(alloc, put) else {
@@ -86,7 +74,8 @@ fn write_put<K: Sink>(alloc: Global, out: &mut K, put: &Put) -> Result<(), Halt>
 /// Tells the reason of a turn, if there is one, and then its put, if one is wanted.
 pub(crate) fn write_turn<K: Sink>(alloc: Global, out: &mut K, turn: &Turn) -> Result<(), Halt>
     ensures ok { OnOk result (Grows (K.written out.old) (K.written out.new) (turn_text turn.now)) }
-    ensures err { IfErr result (λ halt. Halts halt (turn_text turn.now) (K.written out.old) (K.written out.new) (K.faults out.old) (K.faults out.new)) }
+    ensures err { IfErr result (λ halt. Halts halt (turn_text turn.now)
+        (K.written out.old) (K.written out.new) (K.faults out.old) (K.faults out.new)) }
     ensures later { K.faults out.old ≤ K.faults out.new }
 {
     match turn {

@@ -1,150 +1,65 @@
 //! The run over one stream.
-ghost use Rattle.std.specs.Prelude.{◌≡◌, ◌≤◌, ◌⊎◌, ◌↔◌, ℕ, List, [], None, true, false, map, string_bytes};
-ghost use Rattle.std.specs.Io.KnownBytes.{IsAtEnd};
-ghost use Rattle.kube_model.specs.declared.put.Put.{Put};
-ghost use Rattle.kube_model.specs.declared.status.LaneName.{LaneName};
-ghost use Rattle.mlb_edge.specs.declared.lines.Line.{Line};
-ghost use Rattle.mlb_edge.specs.Causes.{Rose};
-ghost use Rattle.ctl_core.specs.Core.{fresh};
-ghost use Rattle.mlb_controller.specs.Ended.{status_of_end, end_of};
-ghost use Rattle.mlb_controller.specs.Explains.{Explains, IsStatusOf, status_for};
-ghost use Rattle.mlb_controller.specs.Stream.{AllRead, Bad, Unbuilt, NotReply, Unanswered, LineTooLong, InputTooLong};
-ghost use Rattle.mlb_controller.specs.Words.{are_known};
-ghost use Rattle.mlb_controller.specs.Written.{StopsAs, WritesInPart, WritesUpTo, WritesOnly, WritesRead, RunsSound, IsReadable};
+ghost use Rattle.std.specs.Prelude.{◌≡◌, ◌↔◌, false};
+ghost use Rattle.line_run.specs.Clauses.{AtEnd, AtReadFault, AtWriteFault};
+ghost use Rattle.mlb_controller.specs.Clauses.{CanEnd, AtDone, AtNoReply, AtBadLine, AtNotBuilt, AtBadReply, AtLongLine, AtTooLong, AfterRead, AfterWrite, AtNoMemory, WritesSound, RunsSound, IsExact, IsComplete};
+ghost use Rattle.mlb_controller.specs.Words.{texts_of, are_known};
 
-use crate::line::drive_line;
+use crate::controller::Controller;
 use crate::words::are_known;
-use ctl_core::Core;
-use kube_model::{LaneName, Status, What};
-use mlb_base::TryCopy;
-use mlb_edge::{INPUT_LIMIT, LINE_LIMIT, LineEnd, LineReader, Sink, Source};
+use kube_model::Status;
+use line_run::run_machine;
+use mlb_edge::{Sink, Source};
 use std::alloc::Global;
 
-/// The status of a refusal to read a line.
-fn status_of_end(end: LineEnd) -> Status
-    ensures { result ≡ status_of_end end }
-{
-    match end {
-        LineEnd::ReadFault => Status::ReadFault {
-            lane: LaneName::Input,
-        },
-        LineEnd::LineLimit { .. } => Status::Limit {
-            what: What::Line,
-            count: LINE_LIMIT as u64 + 1,
-        },
-        LineEnd::InputLimit => Status::Limit {
-            what: What::Input,
-            count: INPUT_LIMIT + 1,
-        },
-        LineEnd::NoMemory => Status::NoMemory,
-    }
-}
-
-/// The status at the end of the input.
-fn status_at_end(core: &Core) -> Status
-    ensures { (result ≡ end_of core.now.out) ⊎ (result ≡ Status.NoMemory) }
-{
-    let Some(put) = core.put_out() else {
-        return Status::Done;
-    };
-    match put.copy() {
-        Ok(put) => Status::NoReply { put },
-        Err(_) => Status::NoMemory,
-    }
-}
-
-/// Drives the core by the lines of the input until something ends the run.
-fn drive_lines<S: Source, K: Sink>(
-    alloc: Global,
-    reader: &mut LineReader,
-    core: &mut Core,
-    input: &mut S,
-    out: &mut K,
-) -> Status
-    requires begun { reader.old ≡ record { held = []; passed = 0; number = 0 } }
-    requires fresh { core.old ≡ fresh None }
-    ensures explains { Explains result (S.left input.old) (S.left input.new) (K.written out.old) (K.written out.new)
-        (S.faults input.old) (S.faults input.new) (K.faults out.old) (K.faults out.new) }
-    ensures only { WritesOnly (K.written out.old) (K.written out.new) }
-{
-    'lines: loop {
-        let line = match reader.next_line(input) {
-            Ok(Some(line)) => line,
-            Ok(None) => return status_at_end(core),
-            Err(end) => return status_of_end(end),
-        };
-        if let Err(status) = drive_line(alloc, core, line, out) {
-            return status;
-        }
-    }
-}
-
-/// The run of a core that holds nothing.
-fn run_lines<S: Source, K: Sink>(alloc: Global, input: &mut S, out: &mut K) -> Status
-    ensures explains { Explains result (S.left input.old) (S.left input.new) (K.written out.old) (K.written out.new)
-        (S.faults input.old) (S.faults input.new) (K.faults out.old) (K.faults out.new) }
-    ensures only { WritesOnly (K.written out.old) (K.written out.new) }
-{
-    let Ok(mut reader) = LineReader::new(alloc) else {
-        return Status::NoMemory;
-    };
-    let Ok(mut core) = Core::new(alloc, None) else {
-        return Status::NoMemory;
-    };
-    drive_lines(alloc, &mut reader, &mut core, input, out)
-}
-
-/// The work of the program on one stream: each line of the input is an event, or the reply to the put before it.
+/// The work of the program on one stream: each line of the input is an event, or the reply to the put
+/// before it. What a line comes to is written before the next line is read (`line_run::next_step`).
 pub fn stream_controller<S: Source, K: Sink>(
     alloc: Global,
     words: &[String],
     input: &mut S,
     out: &mut K,
 ) -> Status
-    ensures usage { (result ≡ Status.Usage) ↔ (are_known (map (λ word. string_bytes word) words.now) ≡ false) }
+    ensures can_end { CanEnd result }
+    ensures usage { (result ≡ Status.Usage) ↔ (are_known (texts_of words.now) ≡ false) }
     ensures unused { result ≡ Status.Usage → (input.new ≡ input.old) × (out.new ≡ out.old) }
 
     // At the end of the input: nothing of it is left, and just the text of its run was written.
-    ensures done { result ≡ Status.Done → StopsAs (S.left input.old) (K.written out.old) (K.written out.new) AllRead }
-    ensures at_end { result ≡ Status.Done → IsAtEnd (S.left input.new) }
+    ensures done { AtDone words.now result (S.left input.old) K.written out.old out.new }
+    ensures no_reply { AtNoReply words.now result (S.left input.old) K.written out.old out.new }
+    ensures at_end { AtEnd result (S.left input.new) }
 
     // A line that ends the run, and just the text of the run before it was written.
-    ensures bad_line { (lane : LaneName) (number : ℕ) (bytes : List ℕ) → result ≡ Status.BadLine lane number bytes
-        → (line : Line) × (result ≡ status_for (Bad line)) × StopsAs (S.left input.old) (K.written out.old) (K.written out.new) (Bad line) }
-    ensures not_built { (number : ℕ) (bytes : List ℕ) → result ≡ Status.NotBuilt number bytes
-        → (line : Line) × (result ≡ status_for (Unbuilt line)) × StopsAs (S.left input.old) (K.written out.old) (K.written out.new) (Unbuilt line) }
-    ensures bad_reply { (number : ℕ) (bytes : List ℕ) → result ≡ Status.BadReply number bytes
-        → (line : Line) × (result ≡ status_for (NotReply line)) × StopsAs (S.left input.old) (K.written out.old) (K.written out.new) (NotReply line) }
-    ensures no_reply { (put : Put) → result ≡ Status.NoReply put
-        → StopsAs (S.left input.old) (K.written out.old) (K.written out.new) (Unanswered put) }
-    ensures line_limit { (count : ℕ) → result ≡ Status.Limit What.Line count
-        → (result ≡ status_for LineTooLong) × StopsAs (S.left input.old) (K.written out.old) (K.written out.new) LineTooLong }
-    ensures input_limit { (count : ℕ) → result ≡ Status.Limit What.Input count
-        → (result ≡ status_for InputTooLong) × StopsAs (S.left input.old) (K.written out.old) (K.written out.new) InputTooLong }
+    ensures bad_line { AtBadLine words.now result (S.left input.old) K.written out.old out.new }
+    ensures not_built { AtNotBuilt words.now result (S.left input.old) K.written out.old out.new }
+    ensures bad_reply { AtBadReply words.now result (S.left input.old) K.written out.old out.new }
+    ensures line_limit { AtLongLine words.now result (S.left input.old) K.written out.old out.new }
+    ensures input_limit { AtTooLong words.now result (S.left input.old) K.written out.old out.new }
 
-    // A fault comes only where its count rose. Behind a failed read stands the text of the lines that were read whole, behind
-    // a failed write a beginning of the text, and not the whole.
-    ensures read_fault { (lane : LaneName) → result ≡ Status.ReadFault lane
-        → (lane ≡ LaneName.Input) × WritesRead (S.left input.old) (S.left input.new) (K.written out.old) (K.written out.new) × Rose (S.faults input.old) (S.faults input.new) }
-    ensures write_fault { result ≡ Status.WriteFault
-        → WritesInPart (S.left input.old) (K.written out.old) (K.written out.new) × Rose (K.faults out.old) (K.faults out.new) }
-    ensures no_memory { result ≡ Status.NoMemory → WritesUpTo (S.left input.old) (K.written out.old) (K.written out.new) }
+    // A fault comes only where its count rose. Behind a failed read stands the text of the lines
+    // that were read whole, behind a failed write a beginning of the text, and not the whole.
+    ensures read_fault { AtReadFault result (S.faults input.old) (S.faults input.new) }
+    ensures read { AfterRead words.now result S.left input.old input.new K.written out.old out.new }
+    ensures write_fault { AtWriteFault result (K.faults out.old) (K.faults out.new) }
+    ensures part { AfterWrite words.now result (S.left input.old) K.written out.old out.new }
+    ensures no_memory { AtNoMemory words.now result (S.left input.old) K.written out.old out.new }
 
-    // Over any input at all a beginning of the text of some lines' run was written, and that run is sound: each put is right by
-    // the transcript before it, and at no moment have two services one address. So is the run of the input, where the source
-    // tells its bytes.
-    ensures only { WritesOnly (K.written out.old) (K.written out.new) }
-    ensures sound { RunsSound (S.left input.old) }
+    // Over any input at all a beginning of the text of some lines' run was written, and that run is
+    // sound: each put is right by the transcript before it, and at no moment have two services one
+    // address. So is the run of the input, where the source tells its bytes.
+    ensures only { WritesSound words.now K.written out.old out.new }
+    ensures sound { RunsSound words.now (S.left input.old) }
 
-    // Without a fault the status is that of the lines, or memory was wanting; and where all can be driven, the run is done.
-    ensures exact { are_known (map (λ word. string_bytes word) words.now) ≡ true → ¬ Rose (S.faults input.old) (S.faults input.new)
-        → ¬ Rose (K.faults out.old) (K.faults out.new) → IsStatusOf (S.left input.old) result }
-    ensures complete { are_known (map (λ word. string_bytes word) words.now) ≡ true → IsReadable (S.left input.old)
-        → ¬ Rose (S.faults input.old) (S.faults input.new) → ¬ Rose (K.faults out.old) (K.faults out.new)
-        → (result ≡ Status.Done) ⊎ (result ≡ Status.NoMemory) }
+    // But for a fault or want of memory the status is that of the lines; and where all can be
+    // driven, the run is done.
+    ensures exact { IsExact words.now result (S.left input.old) }
+    ensures complete { IsComplete words.now result (S.left input.old) }
 {
     if !are_known(words) {
         return Status::Usage;
     }
-    run_lines(alloc, input, out)
+    // No word names a class.
+    let Ok(mut controller) = Controller::new(alloc, None) else {
+        return Status::NoMemory;
+    };
+    run_machine(alloc, &mut controller, input, out)
 }

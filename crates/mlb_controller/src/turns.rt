@@ -4,11 +4,11 @@ ghost use Rattle.mlb_edge.specs.Written.{Grows};
 ghost use Rattle.ctl_core.specs.Drive.{turns_from};
 ghost use Rattle.mlb_controller.specs.Output.{output_of};
 ghost use Rattle.ctl_core.specs.Turn.{put_in};
-ghost use Rattle.mlb_controller.specs.Lines.{Halts};
+ghost use Rattle.line_run.specs.Text.{Halts};
 
-use crate::halt::Halt;
 use crate::output::write_turn;
 use ctl_core::{Core, Turn};
+use line_run::Halt;
 use mlb_edge::Sink;
 use std::alloc::Global;
 
@@ -18,11 +18,13 @@ fn wants_put(turn: &Turn) -> bool
     matches!(turn, Turn::Wants { .. })
 }
 
-/// Makes turns up to the first that wants a put, or until nothing is queued, and writes what they come to.
+/// Makes turns up to the first that wants a put, or until nothing is queued, and writes what they
+/// come to.
 pub(crate) fn make_turns<K: Sink>(alloc: Global, core: &mut Core, out: &mut K) -> Result<(), Halt>
     requires { core.old.out ≡ None }
     ensures core { OnOk result (core.new ≡ (turns_from core.old).core) }
-    ensures ok { OnOk result (Grows (K.written out.old) (K.written out.new) (output_of (turns_from core.old).entries)) }
+    ensures ok { OnOk result (Grows (K.written out.old) (K.written out.new)
+        (output_of (turns_from core.old).entries)) }
     ensures err { IfErr result (λ halt. Halts halt (output_of (turns_from core.old).entries)
         (K.written out.old) (K.written out.new) (K.faults out.old) (K.faults out.new)) }
     ensures later { K.faults out.old ≤ K.faults out.new }

@@ -1,0 +1,6 @@
+pub mod Driven
+pub mod Endings
+pub mod Refusals
+pub mod Runs
+pub mod Texts
+pub mod Writing

@@ -1,0 +1,10 @@
+pub mod Clauses
+pub mod Ended
+pub mod Ends
+pub mod Explains
+pub mod Machine
+pub mod Run
+pub mod Statuses
+pub mod Steps
+pub mod Text
+pub mod Written

@@ -1,0 +1,19 @@
+//! The run of a machine over the lines of a source.
+//!
+//! What a line and the end of the input are to a machine is the machine's own. The reading of lines, the
+//! order of reasons to stop and what stands written at each of them is said and proved here, once for all
+//! machines.
+#![tactic(auto)]
+
+mod halt;
+mod machine;
+mod run;
+mod status;
+mod step;
+mod write;
+
+pub use halt::{Halt, Refusal};
+pub use machine::Machine;
+pub use run::run_machine;
+pub use step::next_step;
+pub use write::write_line;

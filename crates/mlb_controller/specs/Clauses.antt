@@ -1,0 +1,65 @@
+-- What the controller owes at each status: the clauses of a run over lines, with the controller's rules and the words' class.
+use Rattle.std.specs.Prelude.{◌≡◌, ◌⊎◌, ℕ, true, List, String, Option}
+use Rattle.kube_model.specs.declared.status.Status.{Status}
+use Rattle.kube_model.specs.declared.status.Status.TheVariants.{Usage}
+use Rattle.line_run.specs.Clauses as run
+use Rattle.ctl_core.specs.Core.{State, fresh}
+use Rattle.mlb_controller.specs.Sound as sound
+use Rattle.mlb_controller.specs.Stream.{controller_rules, IsCause}
+use Rattle.mlb_controller.specs.Words.{texts_of, are_known, class_of}
+
+-- the core that a run begins with
+abbrev pub begun_by : {Z : Type 0} → List (String Z) → State
+begun_by words = fresh (class_of (texts_of words))
+
+-- the words are faulty, or it is one of the statuses that a run of the controller may end with: no file is opened, no lane is
+-- known but the input, and nothing held has a limit
+abbrev pub CanEnd : Status → Type 0
+CanEnd status = (status ≡ Usage) ⊎ run.CanEnd IsCause status
+
+module _ {Z K : Type 0} (words : List (String Z)) (status : Status) (left : Option (List ℕ)) (written : K → Option (List ℕ)) (out out' : K) where
+  abbrev pub AtDone : Type 0
+  AtDone = run.AtDone controller_rules IsCause (begun_by words) status left (written out) (written out')
+
+  abbrev pub AtNoReply : Type 0
+  AtNoReply = run.AtNoReply controller_rules IsCause (begun_by words) status left (written out) (written out')
+
+  abbrev pub AtBadLine : Type 0
+  AtBadLine = run.AtBadLine controller_rules IsCause (begun_by words) status left (written out) (written out')
+
+  abbrev pub AtNotBuilt : Type 0
+  AtNotBuilt = run.AtNotBuilt controller_rules IsCause (begun_by words) status left (written out) (written out')
+
+  abbrev pub AtBadReply : Type 0
+  AtBadReply = run.AtBadReply controller_rules IsCause (begun_by words) status left (written out) (written out')
+
+  -- a line is too long
+  abbrev pub AtLongLine : Type 0
+  AtLongLine = run.AtLineLimit controller_rules (begun_by words) status left (written out) (written out')
+
+  -- the input is too long
+  abbrev pub AtTooLong : Type 0
+  AtTooLong = run.AtInputLimit controller_rules (begun_by words) status left (written out) (written out')
+
+  abbrev pub AfterWrite : Type 0
+  AfterWrite = run.AfterWrite controller_rules (begun_by words) status left (written out) (written out')
+
+  abbrev pub AtNoMemory : Type 0
+  AtNoMemory = run.AtNoMemory controller_rules (begun_by words) status left (written out) (written out')
+
+abbrev pub AfterRead : {Z S K : Type 0} → List (String Z) → Status → (S → Option (List ℕ)) → S → S → (K → Option (List ℕ)) → K → K → Type 0
+AfterRead words status left input input' written out out' = run.AfterRead controller_rules (begun_by words) status (left input) (left input') (written out) (written out')
+
+-- a beginning of the text of some lines' run was written, and the transcript of that run is sound
+abbrev pub WritesSound : {Z K : Type 0} → List (String Z) → (K → Option (List ℕ)) → K → K → Type 0
+WritesSound words written out out' = sound.WritesSound (class_of (texts_of words)) (written out) (written out')
+
+-- the transcript of the run is sound, where the source tells its bytes
+abbrev pub RunsSound : {Z : Type 0} → List (String Z) → Option (List ℕ) → Type 0
+RunsSound words left = sound.RunsSound (class_of (texts_of words)) left
+
+abbrev pub IsExact : {Z : Type 0} → List (String Z) → Status → Option (List ℕ) → Type 0
+IsExact words status left = are_known (texts_of words) ≡ true → run.IsExact controller_rules (begun_by words) status left
+
+abbrev pub IsComplete : {Z : Type 0} → List (String Z) → Status → Option (List ℕ) → Type 0
+IsComplete words status left = are_known (texts_of words) ≡ true → run.IsComplete controller_rules (begun_by words) status left

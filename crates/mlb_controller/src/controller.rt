@@ -1,0 +1,62 @@
+//! The controller, as a machine over lines.
+ghost use Rattle.std.specs.Prelude.{◌≡◌, IfOk};
+ghost use Rattle.ctl_core.specs.Core.{fresh};
+
+use crate::line::drive_line;
+use ctl_core::Core;
+use kube_labels::Text;
+use kube_model::Status;
+use line_run::{Machine, Refusal};
+use mlb_base::{NoMemory, TryCopy};
+use mlb_edge::{Line, Sink};
+use std::alloc::Global;
+
+/// Drives a core by lines: each is an event, or the reply to the put that is out.
+#[derive(Drop)]
+pub(crate) struct Controller {
+    core: Core,
+}
+
+impl Controller {
+    /// A controller whose core holds nothing. It handles the services of the class, or those without
+    /// one.
+    pub(crate) fn new(alloc: Global, class: Option<Text>) -> Result<Controller, NoMemory>
+        ensures { IfOk result (λ controller. controller.core ≡ fresh class) }
+    {
+        Ok(Controller {
+            core: Core::new(alloc, class)?,
+        })
+    }
+}
+
+impl Machine for Controller {
+    ghost use Rattle.ctl_core.specs.Core.{State as CoreState};
+    ghost use Rattle.ctl_core.specs.Drive.{Entry as CoreEntry};
+    ghost use Rattle.mlb_controller.specs.Stream.{controller_rules, IsCause};
+    ghost use Rattle.mlb_controller.specs.Causes.{line_causes, end_causes};
+
+    ghost State = { CoreState };
+
+    ghost Entry = { CoreEntry };
+
+    ghost state = { λ controller. controller.core };
+
+    ghost rules = { controller_rules };
+
+    ghost cause = { IsCause };
+
+    fn take<K: Sink>(&mut self, alloc: Global, line: Line, out: &mut K) -> Result<(), Refusal> {
+        drive_line(alloc, &mut self.core, line, out)
+    }
+
+    fn end(&self) -> Result<Status, NoMemory> {
+        let Some(put) = self.core.put_out() else {
+            return Ok(Status::Done);
+        };
+        Ok(Status::NoReply { put: put.copy()? })
+    }
+
+    ghost stops = { line_causes };
+
+    ghost ends = { end_causes };
+}

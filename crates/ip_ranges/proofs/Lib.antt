@@ -6,6 +6,7 @@ pub mod BytesLemmas
 pub mod CanonicalLemmas
 pub mod PrintedLemmas
 pub mod EntryLemmas
+pub mod EntryTheorem
 pub mod SpanLemmas
 pub mod WrittenLemmas
 pub mod CoverLemmas

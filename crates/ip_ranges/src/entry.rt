@@ -1,8 +1,10 @@
 //! The entries of pools: a range `low-high`, or a prefix `address/length`.
-ghost use Rattle.std.specs.Prelude.{◌≡◌, ◌<◌, ◌≤◌, ◌^◌, ◌-◌, ◌+◌, false, IfOk, IfSome};
+ghost use Rattle.std.specs.Prelude.{◌≡◌, ◌↔◌, Result, ◌<◌, ◌≤◌, ◌^◌, ◌-◌, ◌+◌, false, IfOk, IfSome};
 ghost use Rattle.std.specs.Net.Reader.{read_octet, whole_value};
-ghost use Rattle.ip_ranges.specs.Values.{AddressValue, IsOfFamily, IsRange, meets_mapped, width_of};
+ghost use Rattle.ip_ranges.specs.Values.{AddressValue, SpanValue, IsOfFamily, IsRange, meets_mapped, width_of};
+ghost use Rattle.ip_ranges.specs.declared.fault.RangeFault.{RangeFault};
 ghost use Rattle.ip_ranges.specs.AddressText.{address_of};
+ghost use Rattle.ip_ranges.specs.Entry.{IsEntry};
 ghost use Rattle.ip_ranges.specs.EntryText.{entry_of, written_span, range_of, prefix_of, span_between, trimmed, trim_start, trim_end, is_blank, length_within, is_padded};
 
 use crate::prefix::mask;
@@ -19,6 +21,10 @@ use crate::{Address, RangeFault, Span};
 /// Last, a span that has an address of `::ffff:0:0/96` is `Mapped`.
 pub fn parse_entry(text: &str) -> Result<Span, RangeFault>
     ensures value { result ≡ entry_of text.now }
+
+    // Each span and each fault is the answer exactly where the text is such an entry.
+    ensures exact { (outcome : Result SpanValue RangeFault)
+        → (result ≡ outcome) ↔ IsEntry text.now outcome }
     ensures in_family { IfOk result IsRange }
     ensures unmapped { IfOk result (λ span. meets_mapped span ≡ false) }
 {

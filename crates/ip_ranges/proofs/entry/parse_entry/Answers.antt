@@ -1,5 +1,6 @@
 use Rattle.std.proofs.Common.{sym, ◌∙◌}
 use Rattle.std.proofs.lemmas.Result.{err_from_is_err_and}
+use Rattle.ip_ranges.proofs.EntryTheorem.{entry_of-exact}
 use Rattle.ip_ranges.proofs.EntryLemmas.{entry_of-err, entry_of-mapped, entry_of-ok}
 use Rattle.ip_ranges.proofs.entry.parse_entry.Goals as goal
 
@@ -15,3 +16,12 @@ returns-then-meets_mapped-clause-value c =
 pub returns-clause-value : goal.returns-clause-value
 returns-clause-value c =
     entry_of-ok _ c.in_ok-span.span c.in_ok-span.ensures.value (sym c.meets_mapped.ensures ∙ c.if-meets_mapped.false)
+
+pub returns-in_err-span-clause-exact : goal.returns-in_err-span-clause-exact
+returns-in_err-span-clause-exact c = rw (returns-in_err-span-clause-value c) (entry_of-exact c.args.text.now)
+
+pub returns-then-meets_mapped-clause-exact : goal.returns-then-meets_mapped-clause-exact
+returns-then-meets_mapped-clause-exact c = rw (returns-then-meets_mapped-clause-value c) (entry_of-exact c.args.text.now)
+
+pub returns-clause-exact : goal.returns-clause-exact
+returns-clause-exact c = rw (returns-clause-value c) (entry_of-exact c.args.text.now)

@@ -1,13 +1,17 @@
+pub mod AskedLaws
 pub mod BareLaws
 pub mod BgpLaws
 pub mod CommunityLaws
 pub mod L2Laws
 pub mod NameLaws
+pub mod OtherLaws
 pub mod PartLaws
 pub mod PeerLaws
 pub mod PoolLaws
+pub mod ReplyLaws
 pub mod Rows
 pub mod ServiceLaws
 pub mod SliceLaws
 pub mod Spelled
 pub mod TellingLaws
+pub mod VersionLaws

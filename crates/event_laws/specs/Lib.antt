@@ -1,3 +1,4 @@
+pub mod Asked
 pub mod BareLines
 pub mod BgpLines
 pub mod CommunityLines
@@ -5,9 +6,12 @@ pub mod FieldOrder
 pub mod L2Lines
 pub mod Naming
 pub mod ObjectLines
+pub mod OtherLines
 pub mod PartOrder
 pub mod PeerLines
 pub mod PoolLines
+pub mod Replies
 pub mod ServiceLines
 pub mod SliceLines
 pub mod Telling
+pub mod Versions

@@ -1,4 +1,8 @@
 //! What holds of the events and objects that are read.
+ghost use Rattle.event_laws.specs.Asked.{AnnotationsAreRead, FieldsAreRead, NothingIsAsked};
+ghost use Rattle.event_laws.specs.OtherLines.{BookmarksAreRead, MembersAreRead, FramesAreRead, FramesReadBack};
+ghost use Rattle.event_laws.specs.Replies.{RepliesAreRead, RepliesAreJson};
+ghost use Rattle.event_laws.specs.Versions.{VersionsAreDecimal, SetVersionsAreVersions};
 ghost use Rattle.event_laws.specs.BareLines.{NamespacesAreRead, NodesAreRead};
 ghost use Rattle.event_laws.specs.BgpLines.{BgpAdvsAreRead};
 ghost use Rattle.event_laws.specs.CommunityLines.{CommunitiesAreRead};
@@ -118,4 +122,59 @@ pub fn objects_go_by_name()
 /// A line is read by the values at its named paths alone: no other member changes it, at any depth.
 pub fn lines_go_by_name()
     ensures { LinesGoByName }
+{}
+
+/// A version is a decimal number without leading zeros, from 1 below 2 ^ 64.
+pub fn versions_are_decimal()
+    ensures { VersionsAreDecimal }
+{}
+
+/// The version of an object that a line sets is at least 1.
+pub fn set_versions_are_versions()
+    ensures { SetVersionsAreVersions }
+{}
+
+/// An annotation asks for the addresses of its parts.
+pub fn annotations_are_read()
+    ensures { AnnotationsAreRead }
+{}
+
+/// Without an annotation the field asks for the address that it spells.
+pub fn fields_are_read()
+    ensures { FieldsAreRead }
+{}
+
+/// Nothing is asked for exactly where the annotation and the field are empty.
+pub fn nothing_is_asked()
+    ensures { NothingIsAsked }
+{}
+
+/// A bookmark of a kind that has a list ends it where its annotation is true.
+pub fn bookmarks_are_read()
+    ensures { BookmarksAreRead }
+{}
+
+/// A line of members is read as its names, ascending and distinct.
+pub fn members_are_read()
+    ensures { MembersAreRead }
+{}
+
+/// A line of a frame is read as the bytes that its digits stand for.
+pub fn frames_are_read()
+    ensures { FramesAreRead }
+{}
+
+/// The digits that bytes are written as stand for them.
+pub fn frames_read_back()
+    ensures { FramesReadBack }
+{}
+
+/// A reply is told by its word, and one that the record was stored by a newer version.
+pub fn replies_are_read()
+    ensures { RepliesAreRead }
+{}
+
+/// What is no JSON is no reply.
+pub fn replies_are_json()
+    ensures { RepliesAreJson }
 {}

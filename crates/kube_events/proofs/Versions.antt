@@ -8,14 +8,14 @@ use Rattle.std.proofs.lemmas.Str.Parse.{IsNumeralModel, numerals_by_value, tells
 use Rattle.std.proofs.lemmas.Bool.{lt-ltb, ne_eqb, le-ltb, cases_lt}
 use Rattle.kube_events.specs.Named.{version_named}
 
-own : IsNumeralModel (λ ds. all_ascii_digits ds ≡ true) (digits_value 10)
+pub own : IsNumeralModel (λ ds. all_ascii_digits ds ≡ true) (digits_value 10)
 own = numerals_by_value _ tells_all_ascii_digits
 
-same_test : (bs : List ℕ) → list_all is_ascii_digit bs ≡ all_ascii_digits bs
+pub same_test : (bs : List ℕ) → list_all is_ascii_digit bs ≡ all_ascii_digits bs
 same_test [] = refl
 same_test (b ∷ bs) = rw (same_test bs) refl
 
-chosen : (a b c d : Bool) (x : Option ℕ) → a ≡ true → b ≡ false → c ≡ true → d ≡ true → cond (a && not b && c && d) x None ≡ x
+pub chosen : (a b c d : Bool) (x : Option ℕ) → a ≡ true → b ≡ false → c ≡ true → d ≡ true → cond (a && not b && c && d) x None ≡ x
 chosen a b c d x ea eb ec ed = rw (ea, eb, ec, ed) refl
 
 unchosen : (a b c d : Bool) (x : Option ℕ) → d ≡ false → cond (a && not b && c && d) x None ≡ None

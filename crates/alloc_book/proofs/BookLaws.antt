@@ -1,0 +1,164 @@
+-- What a change of the claims leaves, and what it gives up.
+use Rattle.std.proofs.Common.{◌≡◌, ◌≢◌, ◌↔◌, Result, Ok, Err, IfOk, OnOk, ℕ, Bool, true, false, cond, not, ◌&&◌, eqb, List, [], ◌∷◌, ◌++◌, filter, ◌⊎◌, inl, inr, refl, sym, ap, ◌∙◌, subst, ⊎_elim}
+use Rattle.std.proofs.lemmas.Bool.{and_parts, and_from, not-true, not_from_false, false_from_ne_true, true≢false, cases_Bool}
+use Rattle.std.proofs.lemmas.Slice.Eq.{bytes_eq-Decides}
+use Rattle.std.proofs.lemmas.List.Elements.{Contains-append_cases, Contains-append_left, Contains-append_right}
+use Rattle.std.specs.Bool.{Decides}
+use Rattle.std.specs.Cmp.Lexicographic.{pointwise}
+use Rattle.std.specs.List.{Contains, list_any}
+use Rattle.std.specs.Str.{bytes_eq}
+use Rattle.kube_model.specs.declared.key.Key.{Key}
+use Rattle.kube_model.specs.declared.record.Record.{Record}
+use Rattle.mlb_base.proofs.Among.{contains-none, contains-cons, contains-first, contains-later, any-contains, any-found}
+use Rattle.alloc_book.specs.declared.choice.Loss.{Loss}
+use Rattle.alloc_book.specs.declared.choice.Loss.TheVariants.{Kept, Lost}
+use Rattle.alloc_book.specs.Asking.{Holders}
+use Rattle.alloc_book.specs.Book.{AreAssigned, HasLost, loss_of}
+use Rattle.alloc_book.specs.Claims.{ClaimValue, others, claim_of, settled, claims_it, doubted, loses, has_claims, claims_of, holders}
+use Rattle.kube_model.specs.Records.{is_assigned, same_record}
+use Rattle.alloc_book.specs.Granted.{HaveMore}
+use Rattle.kube_model.specs.Keys.{same_key}
+use Rattle.kube_model.proofs.KeyLaws.{same_key-is, same_key-itself, same_key-by}
+use Rattle.kube_model.proofs.RecordLaws.{same_record-is, same_record-itself}
+use Rattle.pool_choice.proofs.Filters.{filter-contains, filter-keeps}
+use Rattle.alloc_book.proofs.UsableLaws.{claim-of, record-of}
+
+claim_by : (b : Bool) (key : Key) (r : Record) (c : ClaimValue) → b ≡ is_assigned r → Contains (cond b (record { key = key; holding = r } ∷ []) []) c → (c ≡ record { key = key; holding = r }) × (is_assigned r ≡ true)
+claim_by true key r c s there = (⊎_elim (λ same. sym same) (λ none. absurd (contains-none c none)) (contains-cons (record { key = key; holding = r }) [] c there), sym s)
+claim_by false key r c s there = absurd (contains-none c there)
+
+-- the claim of a record is that of a key, and has an address
+pub claim_of-is : (key : Key) (r : Record) (c : ClaimValue) → Contains (claim_of key r) c → (c ≡ record { key = key; holding = r }) × (is_assigned r ≡ true)
+claim_of-is key r c there = claim_by (is_assigned r) key r c refl there
+
+claim_from : (b : Bool) (key : Key) (r : Record) → b ≡ true → Contains {X = ClaimValue} (cond b (record { key = key; holding = r } ∷ []) []) (record { key = key; holding = r })
+claim_from true key r s = contains-first {X = ClaimValue} (record { key = key; holding = r }) []
+claim_from false key r s = absurd (true≢false (sym s))
+
+pub claim_of-stands : (key : Key) (r : Record) → is_assigned r ≡ true → Contains {X = ClaimValue} (claim_of key r) (record { key = key; holding = r })
+claim_of-stands key r assigned = claim_from (is_assigned r) key r assigned
+
+pub assigned-others : (claims : List ClaimValue) (key : Key) → AreAssigned claims → AreAssigned (others key claims)
+assigned-others claims key all c there = all c (filter-contains (λ x. not (same_key x.key key)) claims c there).0
+
+pub assigned-added : (claims : List ClaimValue) (key : Key) (r : Record) → AreAssigned claims → AreAssigned (claims ++ claim_of key r)
+assigned-added claims key r all c there =
+    ⊎_elim
+    (λ before. all c before)
+    (λ new. let claim = claim_of-is key r c new in ap (λ (x : ClaimValue). is_assigned x.holding) claim.0 ∙ claim.1)
+    (Contains-append_cases claims (claim_of key r) c there)
+
+pub assigned-settled : (claims : List ClaimValue) (key : Key) (r : Record) → AreAssigned claims → AreAssigned (settled key r claims)
+assigned-settled claims key r all = assigned-added (others key claims) key r (assigned-others claims key all)
+
+doubted_assigned : (b : Bool) (claims : List ClaimValue) (key : Key) (r : Record) → AreAssigned claims → AreAssigned (cond b claims (claims ++ claim_of key r))
+doubted_assigned true claims key r all = all
+doubted_assigned false claims key r all = assigned-added claims key r all
+
+pub assigned-doubted : (claims : List ClaimValue) (key : Key) (r : Record) → AreAssigned claims → AreAssigned (doubted key r claims)
+assigned-doubted claims key r all = doubted_assigned (claims_it key r claims) claims key r all
+
+-- a claim of another key stays, whatever the key gives up
+other_stays : (claims : List ClaimValue) (key : Key) (c : ClaimValue) → Contains claims c → same_key c.key key ≡ false → Contains (others key claims) c
+other_stays claims key c there apart = filter-keeps (λ x. not (same_key x.key key)) claims c there (not_from_false (same_key c.key key) apart)
+
+lost_by : (x y : Bool) (before after : List ClaimValue) (c : ClaimValue) (key : Key) (r : Record) → x ≡ same_key c.key key → y ≡ same_record c.holding r → Contains before c → (x ≡ false → Contains after c) → (x ≡ true → y ≡ true → Contains after c) → ¬ (Contains after c) → (x && not y) ≡ true
+lost_by true true before after c key r s t there other own gone = absurd (gone (own refl refl))
+lost_by true false before after c key r s t there other own gone = refl
+lost_by false y before after c key r s t there other own gone = absurd (gone (other refl))
+
+-- a claim is lost exactly where the key has one with another record
+pub settled-lost : (claims : List ClaimValue) (key : Key) (r : Record) → AreAssigned claims → Decides (loses key r claims) (HasLost claims (settled key r claims))
+settled-lost claims key r all = (λ e. found (any-found (λ c. same_key c.key key && not (same_record c.holding r)) claims e), λ lost. any-contains (λ c. same_key c.key key && not (same_record c.holding r)) claims lost.0 lost.1 (from lost.0 lost.1 lost.2))
+  where
+    found : (c : ClaimValue) × Contains claims c × ((same_key c.key key && not (same_record c.holding r)) ≡ true) → HasLost claims (settled key r claims)
+    found f =
+        let parts = and_parts (same_key f.0.key key) (not (same_record f.0.holding r)) f.2 in (
+          f.0,
+          f.1,
+          λ there. ⊎_elim
+              (λ kept. true≢false (sym parts.0 ∙ not-true (same_key f.0.key key) (filter-contains (λ x. not (same_key x.key key)) claims f.0 kept).1))
+              (λ new. let claim = claim_of-is key r f.0 new in
+              true≢false (sym (same_record-itself r) ∙ ap (λ (h : Record). same_record h r) (sym (ap (λ (x : ClaimValue). x.holding) claim.0)) ∙ not-true (same_record f.0.holding r) parts.1))
+              (Contains-append_cases (others key claims) (claim_of key r) f.0 there),
+        )
+
+    from : (c : ClaimValue) → Contains claims c → ¬ (Contains (settled key r claims) c) → (same_key c.key key && not (same_record c.holding r)) ≡ true
+    from c there gone =
+        lost_by (same_key c.key key) (same_record c.holding r) claims (settled key r claims) c key r refl refl there
+        (λ apart. Contains-append_left (others key claims) (claim_of key r) c (other_stays claims key c there apart))
+        (λ own equal.
+        let keys : c.key ≡ key = same_key-is c.key key own in
+        let records : c.holding ≡ r = same_record-is c.holding r equal in
+        let with_key : Key → ClaimValue = λ k. record { key = k; holding = c.holding } in
+        let with_record : Record → ClaimValue = λ h. record { key = key; holding = h } in
+        let is : c ≡ record { key = key; holding = r } = ap with_key keys ∙ ap with_record records in
+        let assigned : is_assigned r ≡ true = ap is_assigned (sym records) ∙ all c there in
+        subst (Contains (settled key r claims)) (sym is) (Contains-append_right (others key claims) (claim_of key r) (record { key = key; holding = r }) (claim_of-stands key r assigned)))
+        gone
+
+-- dropping the key loses something exactly where it has a claim
+pub others-lost : (claims : List ClaimValue) (key : Key) → Decides (has_claims key claims) (HasLost claims (others key claims))
+others-lost claims key = (λ e. found (any-found (λ c. same_key c.key key) claims e), λ lost. any-contains (λ c. same_key c.key key) claims lost.0 lost.1 (from lost.0 lost.1 lost.2))
+  where
+    found : (c : ClaimValue) × Contains claims c × (same_key c.key key ≡ true) → HasLost claims (others key claims)
+    found f = (f.0, f.1, λ there. true≢false (sym f.2 ∙ not-true (same_key f.0.key key) (filter-contains (λ x. not (same_key x.key key)) claims f.0 there).1))
+
+    from : (c : ClaimValue) → Contains claims c → ¬ (Contains (others key claims) c) → same_key c.key key ≡ true
+    from c there gone = ⊎_elim (λ own. own) (λ apart. absurd (gone (other_stays claims key c there apart))) (cases_Bool (same_key c.key key))
+
+loss-is : {P : Type 0} (b : Bool) (loss : Loss) → loss ≡ loss_of b → Decides b P → (loss ≡ Lost → P) × (P → loss ≡ Lost)
+loss-is true answer e d = (λ _. d.0 refl, λ _. e)
+loss-is false answer e d = (λ lost. absurd (cc), λ p. absurd (true≢false (sym (d.1 p))))
+
+pub loss-settled : (claims : List ClaimValue) (key : Key) (r : Record) (loss : Loss) → AreAssigned claims → loss ≡ loss_of (loses key r claims) → (loss ≡ Lost → HasLost claims (settled key r claims)) × (HasLost claims (settled key r claims) → loss ≡ Lost)
+loss-settled claims key r loss all e = loss-is (loses key r claims) loss e (settled-lost claims key r all)
+
+pub loss-others : (claims : List ClaimValue) (key : Key) (loss : Loss) → loss ≡ loss_of (has_claims key claims) → (loss ≡ Lost → HasLost claims (others key claims)) × (HasLost claims (others key claims) → loss ≡ Lost)
+loss-others claims key loss e = loss-is (has_claims key claims) loss e (others-lost claims key)
+
+-- where no claim is lost, each key has what it had
+pub kept-more : (before after : List ClaimValue) (key : Key) → ((c : ClaimValue) → Contains before c → Contains after c) → HaveMore key (holders before) (holders after)
+kept-more before after key each other apart r there =
+    let claim = claim-of before other r there in
+    let here = record-of after claim.claim (each claim.claim claim.stands) in
+    subst (λ k. Contains (claims_of k after) r) claim.of_key (subst (Contains (claims_of claim.claim.key after)) claim.with_record here)
+
+pub answer-settled : (before after : List ClaimValue) (key : Key) (r : Record) (loss : Loss) → AreAssigned before → after ≡ settled key r before → loss ≡ loss_of (loses key r before) → (loss ≡ Lost) ↔ HasLost before after
+answer-settled before after key r loss all is e = subst (λ (cs : List ClaimValue). (loss ≡ Lost) ↔ HasLost before cs) (sym is) (loss-settled before key r loss all e)
+
+pub answer-loses : (claims : List ClaimValue) (key : Key) (r : Record) (is_lost : Bool) → AreAssigned claims → is_lost ≡ loses key r claims → (is_lost ≡ true) ↔ HasLost claims (settled key r claims)
+answer-loses claims key r is_lost all e = let lost = settled-lost claims key r all in (λ h. lost.0 (sym e ∙ h), λ h. e ∙ lost.1 h)
+
+pub answer-dropped : (before after : List ClaimValue) (key : Key) (loss : Loss) → after ≡ others key before → loss ≡ loss_of (has_claims key before) → (loss ≡ Lost) ↔ HasLost before after
+answer-dropped before after key loss is e = subst (λ (cs : List ClaimValue). (loss ≡ Lost) ↔ HasLost before cs) (sym is) (loss-others before key loss e)
+
+doubted_by : (b : Bool) (claims : List ClaimValue) (key : Key) (r : Record) (c : ClaimValue) → Contains claims c → Contains (cond b claims (claims ++ claim_of key r)) c
+doubted_by true claims key r c there = there
+doubted_by false claims key r c there = Contains-append_left claims (claim_of key r) c there
+
+stays_by : (x y : Bool) (claims : List ClaimValue) (key : Key) (r : Record) (c : ClaimValue) → x ≡ same_key c.key key → y ≡ same_record c.holding r → Contains claims c → (x && not y) ≡ false → AreAssigned claims → Contains (settled key r claims) c
+stays_by true true claims key r c s t there e all =
+    let keys : c.key ≡ key = same_key-is c.key key (sym s) in
+    let records : c.holding ≡ r = same_record-is c.holding r (sym t) in
+    let with_key : Key → ClaimValue = λ k. record { key = k; holding = c.holding } in
+    let with_record : Record → ClaimValue = λ h. record { key = key; holding = h } in
+    let is : c ≡ record { key = key; holding = r } = ap with_key keys ∙ ap with_record records in
+    let assigned : is_assigned r ≡ true = ap is_assigned (sym records) ∙ all c there in
+    subst (Contains (settled key r claims)) (sym is) (Contains-append_right (others key claims) (claim_of key r) (record { key = key; holding = r }) (claim_of-stands key r assigned))
+stays_by true false claims key r c s t there e all = absurd (true≢false e)
+stays_by false y claims key r c s t there e all = Contains-append_left (others key claims) (claim_of key r) c (other_stays claims key c there (sym s))
+
+-- a doubt takes nothing from anyone
+pub doubted-more : (claims : List ClaimValue) (key any : Key) (r : Record) → HaveMore any (holders claims) (holders (doubted key r claims))
+doubted-more claims key any r = kept-more claims (doubted key r claims) any (λ c there. doubted_by (claims_it key r claims) claims key r c there)
+
+-- nor does a settled record that no claim is lost by
+pub settled-more : (claims : List ClaimValue) (key any : Key) (r : Record) → AreAssigned claims → ¬ (HasLost claims (settled key r claims)) → HaveMore any (holders claims) (holders (settled key r claims))
+settled-more claims key any r all kept = kept-more claims (settled key r claims) any (λ c there. stays c there)
+  where
+    stays : (c : ClaimValue) → Contains claims c → Contains (settled key r claims) c
+    stays c there =
+        let quiet : (same_key c.key key && not (same_record c.holding r)) ≡ false =
+        false_from_ne_true (same_key c.key key && not (same_record c.holding r)) (λ e. kept ((settled-lost claims key r all).0 (any-contains (λ x. same_key x.key key && not (same_record x.holding r)) claims c there e))) in
+        stays_by (same_key c.key key) (same_record c.holding r) claims key r c refl refl there quiet all

@@ -1,0 +1,11 @@
+use Rattle.std.proofs.Common.{◌≡◌, List, ap, sym, ◌∙◌, subst, ◌↔◌, true}
+use Rattle.alloc_book.specs.Book.{AreAssigned, BookValue, HasLost}
+use Rattle.alloc_book.specs.Claims.{ClaimValue, settled, loses}
+use Rattle.alloc_book.proofs.BookLaws.{settled-lost, answer-loses}
+use Rattle.alloc_book.proofs.booking.Book.loses.Goals as goal
+
+pub returns-clause-meaning : goal.returns-clause-meaning
+returns-clause-meaning c =
+    let is : c.self.inside.claims.items ≡ c.args.self.now.claims = ap (λ (b : BookValue). b.claims) c.self.view_is in
+    let same : c.deref.result.now ≡ c.args.self.now.claims = c.deref.ensures.value ∙ is in
+    answer-loses c.args.self.now.claims c.args.key.now c.args.holding.now c.loses.result (subst AreAssigned is c.self.invariant) (rw same at c.loses.ensures)

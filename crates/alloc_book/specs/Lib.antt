@@ -1,0 +1,11 @@
+pub mod Asking
+pub mod Book
+pub mod Chosen
+pub mod Claims
+pub mod Choose
+pub mod First
+pub mod Granted
+pub mod Laws
+pub mod Least
+pub mod Search
+pub mod Usable

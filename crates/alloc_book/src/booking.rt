@@ -1,0 +1,221 @@
+//! The book of claims.
+ghost use Rattle.std.specs.Prelude.{◌≡◌, ◌<◌, ◌↔◌, [], IsTrue, IfOk, IfSome, IfNone, OnOk, OnErr};
+ghost use Rattle.std.specs.Option.{option_copied};
+ghost use Rattle.ip_ranges.specs.Values.{AddressValue};
+ghost use Rattle.kube_model.specs.declared.record.Record.{Record};
+ghost use Rattle.sharing_terms.specs.Marked.{AreTerms, IsMarkOf};
+ghost use Rattle.sharing_terms.specs.Terms.{terms_of};
+ghost use Rattle.alloc_book.specs.declared.choice.Choice.{Choice};
+ghost use Rattle.alloc_book.specs.Asking.{offer_of};
+ghost use Rattle.alloc_book.specs.Book.{AreAssigned, HasLost, loss_of};
+ghost use Rattle.alloc_book.specs.Choose.{choose};
+ghost use Rattle.alloc_book.specs.Chosen.{IsChosen};
+ghost use Rattle.alloc_book.specs.Claims.{others, settled, doubted, loses, has_claims, holders};
+ghost use Rattle.alloc_book.specs.Granted.{IsFor};
+ghost use Rattle.alloc_book.specs.Least.{IsLeast};
+ghost use Rattle.alloc_book.specs.Usable.{IsUsable, IsUsableOf};
+
+use crate::choice::{Choice, Loss};
+use crate::choosing::choose;
+use crate::claims::{Claim, doubt_claim, drop_claims, has_claims, loses, settle_claim};
+use crate::search::{least_usable, usable};
+use ip_ranges::{Address, Family};
+use kube_labels::{Labels, Text};
+use kube_model::{Key, Record, Service};
+use mlb_base::NoMemory;
+use pool_config::{CompiledPool, Config};
+use sharing_terms::Terms;
+use std::alloc::Global;
+use std::marker::Model;
+
+/// The records that each service has, or may have: those with an address. Contracts see the list of them, and for how many
+/// more there is room.
+#[derive(Drop)]
+pub struct Book {
+    claims: Vec<Claim>,
+}
+
+impl Model for Book {
+    ghost use Rattle.std.specs.Prelude.{◌-◌, vec_len, vec_capacity};
+    ghost use Rattle.alloc_book.specs.Book.{BookValue, AreAssigned};
+
+    ghost Value = { BookValue };
+
+    ghost view = { λ b. record { claims = b.claims.items; room = vec_capacity b.claims - vec_len b.claims } };
+
+    ghost invariant = { λ b. AreAssigned b.claims.items };
+}
+
+fn loss_of(is_lost: bool) -> Loss
+    ensures { result ≡ loss_of is_lost }
+{
+    if is_lost { Loss::Lost } else { Loss::Kept }
+}
+
+impl Book {
+    /// No claims, which takes no memory.
+    pub fn new(alloc: Global) -> Book
+        ensures { result.claims ≡ [] }
+    {
+        Book {
+            claims: Vec::new(alloc),
+        }
+    }
+
+    /// Makes room for one claim more.
+    pub fn reserve(&mut self) -> Result<(), NoMemory>
+        ensures claims { self.new.claims ≡ self.old.claims }
+        ensures room { OnOk result (0 < self.new.room) }
+    {
+        self.claims.reserve(1)?;
+        Ok(())
+    }
+
+    fn put(&mut self, claim: Claim) -> Loss
+        requires { 0 < self.old.room }
+        ensures claims { self.new.claims ≡ settled claim.key claim.holding self.old.claims }
+        ensures loss { result ≡ loss_of (loses claim.key claim.holding self.old.claims) }
+        ensures assigned { AreAssigned self.old.claims }
+    {
+        let is_lost = loses(&self.claims, claim.key(), claim.holding());
+        settle_claim(&mut self.claims, claim);
+        loss_of(is_lost)
+    }
+
+    /// The key's claims become this one, or none where its record has no address. There is room for it, so it takes no memory.
+    /// `Lost` is answered exactly where a claim that stood isn't there any more.
+    pub fn settle_prepared(&mut self, claim: Claim) -> Loss
+        requires { 0 < self.old.room }
+        ensures claims { self.new.claims ≡ settled claim.key claim.holding self.old.claims }
+        ensures loss { (result ≡ Loss.Lost) ↔ HasLost self.old.claims self.new.claims }
+    {
+        self.put(claim)
+    }
+
+    /// The key's claims become this record, or none where it has no address. `Lost` is answered exactly where a claim that stood
+    /// isn't there any more. Where there is no memory all claims stay.
+    pub fn settle(&mut self, key: &Key, holding: &Record) -> Result<Loss, NoMemory>
+        ensures ok { OnOk result (self.new.claims ≡ settled key.now holding.now self.old.claims) }
+        ensures loss { IfOk result (λ loss. (loss ≡ Loss.Lost) ↔ HasLost self.old.claims self.new.claims) }
+        ensures err { OnErr result (self.new.claims ≡ self.old.claims) }
+    {
+        let claim = Claim::of(*self.claims.allocator(), key, holding)?;
+        self.reserve()?;
+        Ok(self.settle_prepared(claim))
+    }
+
+    /// The claim's key may have its record too, unless that stands already or has no address. There is room for it, so it takes
+    /// no memory.
+    pub fn doubt_prepared(&mut self, claim: Claim)
+        requires { 0 < self.old.room }
+        ensures { self.new.claims ≡ doubted claim.key claim.holding self.old.claims }
+    {
+        doubt_claim(&mut self.claims, claim);
+    }
+
+    /// The key may have this record too, unless that stands already or has no address. Where there is no memory all claims stay.
+    pub fn doubt(&mut self, key: &Key, holding: &Record) -> Result<(), NoMemory>
+        ensures ok { OnOk result (self.new.claims ≡ doubted key.now holding.now self.old.claims) }
+        ensures err { OnErr result (self.new.claims ≡ self.old.claims) }
+    {
+        let claim = Claim::of(*self.claims.allocator(), key, holding)?;
+        self.reserve()?;
+        self.doubt_prepared(claim);
+        Ok(())
+    }
+
+    fn remove(&mut self, key: &Key) -> Loss
+        ensures claims { self.new.claims ≡ others key.now self.old.claims }
+        ensures loss { result ≡ loss_of (has_claims key.now self.old.claims) }
+    {
+        let is_lost = has_claims(&self.claims, key);
+        drop_claims(&mut self.claims, key);
+        loss_of(is_lost)
+    }
+
+    /// The key has no claims afterwards. `Lost` is answered exactly where it had one. It takes no memory.
+    pub fn drop_name(&mut self, key: &Key) -> Loss
+        ensures claims { self.new.claims ≡ others key.now self.old.claims }
+        ensures loss { (result ≡ Loss.Lost) ↔ HasLost self.old.claims self.new.claims }
+    {
+        self.remove(key)
+    }
+
+    /// Whether the key has a claim that settling this record gives up: one with another record.
+    pub fn loses(&self, key: &Key, holding: &Record) -> bool
+        ensures value { result ≡ loses key.now holding.now self.now.claims }
+        ensures meaning { IsTrue result
+            ↔ HasLost self.now.claims (settled key.now holding.now self.now.claims) }
+    {
+        loses(&self.claims, key, holding)
+    }
+
+    /// Whether the key has a claim.
+    pub fn has_claims(&self, key: &Key) -> bool
+        ensures { result ≡ has_claims key.now self.now.claims }
+    {
+        has_claims(&self.claims, key)
+    }
+
+    /// Whether a service of this key and these terms may use the address of the pool: it lies in the pool, isn't one that the
+    /// pool avoids, and each claim of another key that has it is marked with terms that may share. It takes no memory.
+    pub fn usable(&self, pool: &CompiledPool, key: &Key, terms: &Terms, address: &Address) -> bool
+        ensures { IsTrue result ↔ IsUsable (holders self.now.claims) key.now terms.now pool.now address.now }
+    {
+        usable(&self.claims, pool, key, terms, address)
+    }
+
+    /// The first address of the family that may be used: entries as listed, addresses of an entry ascending; `None` exactly where
+    /// none may. It takes no memory.
+    pub fn least_usable(
+        &self,
+        pool: &CompiledPool,
+        key: &Key,
+        terms: &Terms,
+        family: Family,
+    ) -> Option<Address>
+        ensures least { IfSome result (IsLeast (holders self.now.claims) key.now terms.now pool.now family) }
+        ensures none { IfNone result ((a : AddressValue)
+            → ¬ (IsUsableOf (holders self.now.claims) key.now terms.now pool.now family a)) }
+    {
+        least_usable(&self.claims, pool, key, terms, family)
+    }
+
+    fn chosen(
+        &self,
+        config: &Config,
+        class: Option<&Text>,
+        service: &Service,
+        namespace: &Labels,
+    ) -> Result<Choice, NoMemory>
+        ensures value { IfOk result (λ c. c
+            ≡ choose self.now.claims (offer_of config.now.pools service.now namespace.now) (option_copied class.entry) service.now) }
+        ensures terms { OnOk result (AreTerms (terms_of service.now)) }
+    {
+        let alloc = *self.claims.allocator();
+        choose(alloc, &self.claims, config, class, service, namespace)
+    }
+
+    /// What is chosen for the service, whose namespace has these labels, by the claims of the book: the first case of the table
+    /// that holds. A chosen record has the mark of the service's terms.
+    pub fn choose(
+        &self,
+        config: &Config,
+        class: Option<&Text>,
+        service: &Service,
+        namespace: &Labels,
+    ) -> Result<Choice, NoMemory>
+        ensures value { IfOk result (λ c. c
+            ≡ choose self.now.claims (offer_of config.now.pools service.now namespace.now) (option_copied class.entry) service.now) }
+        ensures chosen { IfOk result (IsChosen (holders self.now.claims)
+            (offer_of config.now.pools service.now namespace.now) (option_copied class.entry) service.now) }
+        ensures only { IfOk result (λ c. (d : Choice) → IsChosen (holders self.now.claims)
+            (offer_of config.now.pools service.now namespace.now) (option_copied class.entry) service.now d → d ≡ c) }
+
+        // The terms of the service are terms, so the mark of a chosen record is read back.
+        ensures terms { OnOk result (AreTerms (terms_of service.now)) }
+        ensures marked { IfOk result (λ c. (r : Record) → IsFor r c → IsMarkOf (terms_of service.now) r.mark) }
+    {
+        self.chosen(config, class, service, namespace)
+    }
+}

@@ -1,0 +1,191 @@
+//! What a service asks for, and which pools could meet it.
+ghost use Rattle.std.specs.Prelude.{◌≡◌, ◌≤◌, ◌+◌, [], filter, length, find};
+ghost use Rattle.std.specs.Option.{option_copied};
+ghost use Rattle.std.specs.List.{list_all};
+ghost use Rattle.ip_ranges.specs.Values.{same_family, has_address};
+ghost use Rattle.alloc_book.specs.Asking.{asked_in, is_asked, is_unreadable, is_given, asking, offering};
+ghost use Rattle.alloc_book.specs.Chosen.{named};
+ghost use Rattle.alloc_book.specs.Choose.{addresses_of, wanted_of, one_of_each, is_open, all_usable, same_addresses, is_kept, is_home, kept_in, home_of};
+ghost use Rattle.alloc_book.specs.Search.{usable};
+ghost use Rattle.alloc_book.specs.Usable.{is_in};
+
+use crate::claims::Claim;
+use crate::marked::MarkedTerms;
+use crate::search::{has_address, is_in, may_use};
+use ip_ranges::{Address, Family};
+use kube_labels::{Labels, Text};
+use kube_model::{Service, Wanted};
+use pool_choice::serves;
+use pool_config::CompiledPool;
+
+pub(crate) fn is_asked(wanted: &Wanted) -> bool
+    ensures { result ≡ is_asked wanted.now }
+{
+    matches!(wanted, Wanted::Asked { .. })
+}
+
+pub(crate) fn is_unreadable(wanted: &Wanted) -> bool
+    ensures { result ≡ is_unreadable wanted.now }
+{
+    matches!(wanted, Wanted::Unreadable)
+}
+
+/// The addresses that are asked for.
+pub(crate) fn asked_in(wanted: &Wanted) -> &[Address]
+    ensures { result.now ≡ asked_in wanted.now }
+{
+    match wanted {
+        Wanted::Asked { addresses } => addresses.as_slice(),
+        _ => &[],
+    }
+}
+
+pub(crate) fn is_given(text: &Text) -> bool
+    ensures { result ≡ is_given text.now }
+{
+    !text.as_str().is_empty()
+}
+
+fn addresses_of(family: Family, addresses: &[Address]) -> usize
+    ensures { result ≡ addresses_of family addresses.now }
+{
+    let mut count = 0;
+    for address in addresses {
+        if address.family == family {
+            count += 1;
+        }
+    }
+    count
+}
+
+fn wanted_of(family: Family, families: &[Family]) -> usize
+    ensures { result ≡ wanted_of family families.now }
+{
+    let mut count = 0;
+    for wanted in families {
+        if *wanted == family {
+            count += 1;
+        }
+    }
+    count
+}
+
+/// Whether the addresses are exactly one of each family.
+pub(crate) fn one_of_each(families: &[Family], addresses: &[Address]) -> bool
+    ensures { result ≡ one_of_each families.now addresses.now }
+{
+    addresses_of(Family::V4, addresses) == wanted_of(Family::V4, families)
+        && addresses_of(Family::V6, addresses) == wanted_of(Family::V6, families)
+}
+
+/// The pool of that name.
+pub(crate) fn named<'a>(pools: &'a [CompiledPool], name: &Text) -> Option<&'a CompiledPool>
+    ensures { option_copied result ≡ named pools.now name.now }
+{
+    for pool in pools {
+        if pool.name == *name {
+            return Some(pool);
+        }
+    }
+    None
+}
+
+/// Whether the service may use the pool: it is served, and asks for this pool, where it asks for one.
+fn is_open(service: &Service, terms: &MarkedTerms, namespace: &Labels, pool: &CompiledPool) -> bool
+    ensures { result ≡ is_open (offering [] [] service.now namespace.now) (asking service.now terms.now) pool.now }
+{
+    serves(pool, service, namespace)
+        && (!is_given(&service.pool_asked) || pool.name == service.pool_asked)
+}
+
+/// Whether all of the addresses may be used, from this pool.
+pub(crate) fn all_usable(
+    claims: &[Claim],
+    service: &Service,
+    terms: &MarkedTerms,
+    pool: &CompiledPool,
+    addresses: &[Address],
+) -> bool
+    ensures { result ≡ all_usable claims.now (asking service.now terms.now) pool.now addresses.now }
+{
+    let terms = terms.terms();
+    addresses.iter().all(|address| may_use(claims, pool, &service.key, terms, address))
+}
+
+fn all_have(addresses: &[Address], others: &[Address]) -> bool
+    ensures { result ≡ list_all (has_address addresses.now) others.now }
+{
+    others.iter().all(|address| has_address(addresses, address))
+}
+
+/// Whether the lists have the same addresses.
+fn same_addresses(xs: &[Address], ys: &[Address]) -> bool
+    ensures { result ≡ same_addresses xs.now ys.now }
+{
+    all_have(ys, xs) && all_have(xs, ys)
+}
+
+/// Whether the recorded addresses may stay as addresses of the pool.
+fn is_kept(
+    claims: &[Claim],
+    service: &Service,
+    terms: &MarkedTerms,
+    namespace: &Labels,
+    pool: &CompiledPool,
+) -> bool
+    ensures { result ≡ is_kept claims.now (offering [] [] service.now namespace.now) (asking service.now terms.now) pool.now }
+{
+    let recorded = service.holding.addresses.as_slice();
+    is_open(service, terms, namespace, pool)
+        && one_of_each(service.families.as_slice(), recorded)
+        && all_usable(claims, service, terms, pool, recorded)
+        && (!is_asked(&service.wanted) || same_addresses(recorded, asked_in(&service.wanted)))
+}
+
+/// Whether the addresses asked for lie in the pool, which the service may use.
+fn is_home(service: &Service, terms: &MarkedTerms, namespace: &Labels, pool: &CompiledPool) -> bool
+    ensures { result ≡ is_home (offering [] [] service.now namespace.now) (asking service.now terms.now) pool.now }
+{
+    is_open(service, terms, namespace, pool) && all_in(pool, asked_in(&service.wanted))
+}
+
+fn all_in(pool: &CompiledPool, addresses: &[Address]) -> bool
+    ensures { result ≡ list_all (is_in pool.now) addresses.now }
+{
+    addresses.iter().all(|address| is_in(pool, address))
+}
+
+/// The first pool in which the recorded addresses may stay.
+pub(crate) fn kept_in<'a>(
+    claims: &[Claim],
+    pools: &'a [CompiledPool],
+    service: &Service,
+    terms: &MarkedTerms,
+    namespace: &Labels,
+) -> Option<&'a CompiledPool>
+    ensures { option_copied result ≡ find (is_kept claims.now (offering [] [] service.now namespace.now) (asking service.now terms.now)) pools.now }
+{
+    for pool in pools {
+        if is_kept(claims, service, terms, namespace, pool) {
+            return Some(pool);
+        }
+    }
+    None
+}
+
+/// The first pool in which the addresses asked for lie.
+pub(crate) fn home_of<'a>(
+    pools: &'a [CompiledPool],
+    service: &Service,
+    terms: &MarkedTerms,
+    namespace: &Labels,
+) -> Option<&'a CompiledPool>
+    ensures { option_copied result ≡ find (is_home (offering [] [] service.now namespace.now) (asking service.now terms.now)) pools.now }
+{
+    for pool in pools {
+        if is_home(service, terms, namespace, pool) {
+            return Some(pool);
+        }
+    }
+    None
+}

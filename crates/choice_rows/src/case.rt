@@ -1,0 +1,137 @@
+//! One case of the table.
+
+use crate::written::choice_line;
+use alloc_book::{Book, Choice};
+use kube_events::read_event;
+use kube_labels::{Labels, Text};
+use kube_model::{Event, EventFault, Group, Namespace, Object, Pool, Record, Service};
+use mlb_base::NoMemory;
+use pool_config::{CompileFault, Config, ObjectSet, compile};
+use std::alloc::Global;
+
+/// The objects of a case, and the records that its services have.
+#[derive(Drop)]
+pub struct Case {
+    objects: ObjectSet,
+    config: Option<Config>,
+    namespaces: Vec<Namespace>,
+    services: Vec<Service>,
+    book: Book,
+}
+
+fn labels_of<'a>(namespaces: &'a [Namespace], name: &Text) -> Option<&'a Labels> {
+    for namespace in namespaces {
+        if namespace.name == *name {
+            return Some(&namespace.labels);
+        }
+    }
+    None
+}
+
+/// The record that is chosen, if one is.
+fn chosen(choice: &Choice) -> Option<&Record> {
+    match choice {
+        Choice::Keep { holding } => Some(holding),
+        Choice::New { holding } => Some(holding),
+        _ => None,
+    }
+}
+
+/// The line of what is chosen for the service, which has it from now on.
+fn choose(
+    alloc: Global,
+    book: &mut Book,
+    config: &Config,
+    namespaces: &[Namespace],
+    service: &Service,
+) -> Result<String, NoMemory> {
+    let none = Labels::new(alloc);
+    let labels = labels_of(namespaces, &service.key.namespace).unwrap_or(&none);
+    let choice = book.choose(config, None, service, labels)?;
+    if let Some(holding) = chosen(&choice) {
+        let _loss = book.settle(&service.key, holding)?;
+    }
+    choice_line(alloc, &service.key, &choice)
+}
+
+impl Case {
+    pub fn new(alloc: Global) -> Case {
+        Case {
+            objects: ObjectSet::new(alloc),
+            config: None,
+            namespaces: Vec::new(alloc),
+            services: Vec::new(alloc),
+            book: Book::new(alloc),
+        }
+    }
+
+    fn compile(&mut self, alloc: Global) -> Result<String, NoMemory> {
+        match compile(alloc, &self.objects) {
+            Ok(config) => {
+                self.config = Some(config);
+                Ok(String::new(alloc))
+            }
+            Err(CompileFault::NoMemory) => Err(NoMemory),
+            Err(CompileFault::Refused { .. }) => Ok(String::from_str(alloc, "refused\n")?),
+        }
+    }
+
+    fn choose_all(&mut self, alloc: Global) -> Result<String, NoMemory> {
+        let mut text = String::new(alloc);
+        let Some(config) = &self.config else {
+            return Ok(text);
+        };
+        for service in &self.services {
+            let line = choose(alloc, &mut self.book, config, &self.namespaces, service)?;
+            text.push_str(line.as_str())?;
+        }
+        Ok(text)
+    }
+
+    fn hold_pool(&mut self, pool: Pool) -> Result<(), NoMemory> {
+        self.objects.set(Object::Pool(pool))
+    }
+
+    fn hold_service(&mut self, service: Service) -> Result<(), NoMemory> {
+        let _loss = self.book.settle(&service.key, &service.holding)?;
+        self.services.push(service)?;
+        Ok(())
+    }
+
+    fn hold(&mut self, object: Object) -> Result<(), NoMemory> {
+        match object {
+            Object::Pool(pool) => self.hold_pool(pool),
+            Object::Service(service) => self.hold_service(service),
+            Object::Namespace(namespace) => {
+                self.namespaces.push(namespace)?;
+                Ok(())
+            }
+            _ => Ok(()),
+        }
+    }
+
+    fn happen(&mut self, alloc: Global, event: Event) -> Result<String, NoMemory> {
+        match event {
+            Event::Changed { object, .. } => {
+                self.hold(object)?;
+                Ok(String::new(alloc))
+            }
+            Event::ListEnd {
+                group: Group::Config,
+            } => self.compile(alloc),
+            Event::ListEnd {
+                group: Group::Service,
+            } => self.choose_all(alloc),
+            _ => Ok(String::new(alloc)),
+        }
+    }
+
+    /// What is written at the line.
+    pub fn take(&mut self, alloc: Global, line: &str) -> Result<String, NoMemory> {
+        match read_event(alloc, line.as_bytes()) {
+            Ok(event) => self.happen(alloc, event),
+            Err(EventFault::NoMemory) => Err(NoMemory),
+            Err(_) => Ok(format!(in alloc; "no event: {line}\n")?),
+        }
+    }
+}

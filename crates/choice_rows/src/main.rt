@@ -1,0 +1,32 @@
+//! Chooses addresses for the services of event lines, and writes what is chosen. A line that begins with `#` is written as it
+//! stands, and begins a case anew. At the end of the list of pools the configuration is compiled, and at the end of the list of
+//! services each of them gets its choice, in order, as if every put were accepted. No class is configured.
+#![tactic(auto)]
+
+mod case;
+mod written;
+
+use case::Case;
+use mlb_base::NoMemory;
+use std::alloc::Global;
+use std::io;
+
+fn taken(alloc: Global, case: &mut Case, line: &str) -> Result<String, NoMemory> {
+    if line.as_bytes().starts_with(b"#") {
+        *case = Case::new(alloc);
+        return Ok(format!(in alloc; "{line}\n")?);
+    }
+    case.take(alloc, line)
+}
+
+fn main(rt: HostRuntime) -> io::Result<()> {
+    let alloc = rt.alloc();
+    let mut case = Case::new(alloc);
+    for line in rt.lines(alloc) {
+        match taken(alloc, &mut case, line?.as_str()) {
+            Ok(text) => print!(rt; "{text}")?,
+            Err(_) => println!(rt; "out of memory")?,
+        }
+    }
+    Ok(())
+}

@@ -1,0 +1,4 @@
+pub mod Eligible
+pub mod Rank
+pub mod Serving
+pub mod Sorted

@@ -1,24 +1,20 @@
 -- What a change of the claims leaves, and what it gives up.
-use Rattle.std.proofs.Common.{◌≡◌, ◌≢◌, ◌↔◌, Result, Ok, Err, IfOk, OnOk, ℕ, Bool, true, false, cond, not, ◌&&◌, eqb, List, [], ◌∷◌, ◌++◌, filter, ◌⊎◌, inl, inr, refl, sym, ap, ◌∙◌, subst, ⊎_elim}
-use Rattle.std.proofs.lemmas.Bool.{and_parts, and_from, not-true, not_from_false, false_from_ne_true, true≢false, cases_Bool}
-use Rattle.std.proofs.lemmas.Slice.Eq.{bytes_eq-Decides}
+use Rattle.std.proofs.Common.{◌≡◌, ◌↔◌, Bool, true, false, cond, not, ◌&&◌, List, [], ◌∷◌, ◌++◌, filter, refl, sym, ap, ◌∙◌, subst, ⊎_elim}
+use Rattle.std.proofs.lemmas.Bool.{and_parts, not-true, not_from_false, false_from_ne_true, true≢false, cases_Bool}
 use Rattle.std.proofs.lemmas.List.Elements.{Contains-append_cases, Contains-append_left, Contains-append_right}
 use Rattle.std.specs.Bool.{Decides}
-use Rattle.std.specs.Cmp.Lexicographic.{pointwise}
-use Rattle.std.specs.List.{Contains, list_any}
-use Rattle.std.specs.Str.{bytes_eq}
+use Rattle.std.specs.List.{Contains}
 use Rattle.kube_model.specs.declared.key.Key.{Key}
 use Rattle.kube_model.specs.declared.record.Record.{Record}
-use Rattle.mlb_base.proofs.Among.{contains-none, contains-cons, contains-first, contains-later, any-contains, any-found}
+use Rattle.mlb_base.proofs.Among.{contains-none, contains-cons, contains-first, any-contains, any-found}
 use Rattle.alloc_book.specs.declared.choice.Loss.{Loss}
-use Rattle.alloc_book.specs.declared.choice.Loss.TheVariants.{Kept, Lost}
-use Rattle.alloc_book.specs.Asking.{Holders}
+use Rattle.alloc_book.specs.declared.choice.Loss.TheVariants.{Lost}
 use Rattle.alloc_book.specs.Book.{AreAssigned, HasLost, loss_of}
 use Rattle.alloc_book.specs.Claims.{ClaimValue, others, claim_of, settled, claims_it, doubted, loses, has_claims, claims_of, holders}
 use Rattle.kube_model.specs.Records.{is_assigned, same_record}
 use Rattle.alloc_book.specs.Granted.{HaveMore}
 use Rattle.kube_model.specs.Keys.{same_key}
-use Rattle.kube_model.proofs.KeyLaws.{same_key-is, same_key-itself, same_key-by}
+use Rattle.kube_model.proofs.KeyLaws.{same_key-is}
 use Rattle.kube_model.proofs.RecordLaws.{same_record-is, same_record-itself}
 use Rattle.pool_choice.proofs.Filters.{filter-contains, filter-keeps}
 use Rattle.alloc_book.proofs.UsableLaws.{claim-of, record-of}
@@ -38,8 +34,11 @@ claim_from false key r s = absurd (true≢false (sym s))
 pub claim_of-stands : (key : Key) (r : Record) → is_assigned r ≡ true → Contains {X = ClaimValue} (claim_of key r) (record { key = key; holding = r })
 claim_of-stands key r assigned = claim_from (is_assigned r) key r assigned
 
+pub assigned-filtered : (test : ClaimValue → Bool) (claims : List ClaimValue) → AreAssigned claims → AreAssigned (filter test claims)
+assigned-filtered test claims all c there = all c (filter-contains test claims c there).0
+
 pub assigned-others : (claims : List ClaimValue) (key : Key) → AreAssigned claims → AreAssigned (others key claims)
-assigned-others claims key all c there = all c (filter-contains (λ x. not (same_key x.key key)) claims c there).0
+assigned-others claims key all = assigned-filtered (λ x. not (same_key x.key key)) claims all
 
 pub assigned-added : (claims : List ClaimValue) (key : Key) (r : Record) → AreAssigned claims → AreAssigned (claims ++ claim_of key r)
 assigned-added claims key r all c there =

@@ -1,6 +1,6 @@
 -- What is computed is what is chosen.
-use Rattle.std.proofs.Common.{Bor, slice_get, drop, drop-cons, get_or, add-one, append_assoc, ◌++◌, ◌+◌, ◌<◌, ◌≡◌, ◌≢◌, ℕ, Bool, true, false, cond, not, ◌&&◌, ◌||◌, eqb, eqb-true, List, [], ◌∷◌, Option, Some, None, is_some, is_none, find, filter, length, ◌⊎◌, inl, inr, refl, sym, ap, ◌∙◌, subst, ⊎_elim}
-use Rattle.std.proofs.lemmas.Bool.{and_parts, and_from, or_cases, or_left, or_right, not-true, not-false, not_from_false, eq-eqb, true≢false, false_from_ne_true}
+use Rattle.std.proofs.Common.{Bor, slice_get, drop, drop-cons, get_or, add-one, append_assoc, ◌++◌, ◌+◌, ◌<◌, ◌≡◌, ◌≢◌, ℕ, Bool, true, false, not, ◌&&◌, ◌||◌, eqb, eqb-true, List, [], ◌∷◌, Option, Some, None, is_some, is_none, length, refl, sym, ap, ◌∙◌, subst}
+use Rattle.std.proofs.lemmas.Bool.{not-true, not-false, not_from_false, eq-eqb, true≢false}
 use Rattle.std.proofs.lemmas.Slice.Eq.{bytes_eq-Decides}
 use Rattle.std.specs.Bool.{Decides}
 use Rattle.std.proofs.lemmas.Bool.Decides.{Decides-and, Decides-not}
@@ -10,33 +10,32 @@ use Rattle.ip_ranges.specs.declared.family.Family.{Family}
 use Rattle.ip_ranges.specs.declared.family.Family.TheVariants.{V4, V6}
 use Rattle.ip_ranges.specs.Values.{AddressValue, has_address}
 use Rattle.kube_model.specs.Service.{same_class}
-use Rattle.kube_model.specs.declared.reason.Reason.TheVariants.{RequestUnreadable, RequestFamilies, PoolUnknown, PoolRefused, AddressOutside, AddressUnusable, PoolExhausted, NoPool, Exhausted}
+use Rattle.kube_model.specs.declared.reason.Reason.TheVariants.{PoolExhausted, Exhausted}
 use Rattle.kube_model.specs.declared.record.Record.{Record}
 use Rattle.kube_model.specs.declared.service.Service.{Service}
 use Rattle.kube_model.specs.declared.service.Wanted.{Wanted}
 use Rattle.kube_model.specs.declared.service.Wanted.TheVariants.{NotAsked, Unreadable, Asked}
 use Rattle.mlb_base.proofs.Among.{all-contains, all-from}
 use Rattle.alloc_book.specs.declared.choice.Choice.{Choice}
-use Rattle.alloc_book.specs.declared.choice.Choice.TheVariants.{Foreign, Clear, Pending, Keep, New}
+use Rattle.alloc_book.specs.declared.choice.Choice.TheVariants.{Keep, New}
 use Rattle.pool_config.specs.declared.compiled.CompiledPool.{CompiledPool}
-use Rattle.alloc_book.specs.Asking.{Asker, Holders, Offer, asking, asker_of, asked_in, is_asked, is_unreadable, is_given}
-use Rattle.mlb_base.specs.Cases.{Case, IsFirst, NoneIs}
-use Rattle.alloc_book.specs.Choose.{addresses_of, wanted_of, one_of_each, is_open, all_usable, same_addresses, is_kept, is_home, kept_in, home_of, is_refused, is_unusable, kept_from, asked_from, new_or, choose_for, choose}
-use Rattle.alloc_book.specs.Chosen.{named, asked_pools, AsksPool, AsksAddresses, Gives, IsChosenFor, IsChosen}
+use Rattle.alloc_book.specs.Asking.{Asker, Holders, Offer, asker_of, asked_in, is_asked, is_unreadable, is_given}
+use Rattle.mlb_base.specs.Cases.{IsFirst, NoneIs}
+use Rattle.alloc_book.specs.Choose.{addresses_of, wanted_of, one_of_each, is_open, all_usable, same_addresses, is_kept, is_home, kept_in, home_of, is_refused, is_unusable, kept_from, asked_from, choose_for, choose}
+use Rattle.alloc_book.specs.Chosen.{named, asked_pools, Gives, IsChosenFor, IsChosen}
 use Rattle.alloc_book.specs.Claims.{ClaimValue, holders}
 use Rattle.alloc_book.specs.First.{record_in, IsOneOfEach, IsOpen, AllUsable, AreSame, IsKept, IsHome}
-use Rattle.alloc_book.specs.Search.{usable, first_pool}
+use Rattle.alloc_book.specs.Search.{usable}
 use Rattle.mlb_base.specs.Items.{is_nil}
 use Rattle.pool_choice.proofs.ServingLaws.{nil-Decides}
 use Rattle.alloc_book.specs.Usable.{IsUsable, is_in}
-use Rattle.mlb_base.proofs.CaseLaws.{case-at, fails, find-first, find-none, first-none, first-only}
+use Rattle.mlb_base.proofs.CaseLaws.{case-at, find-first, find-none, first-none, first-only}
 use Rattle.alloc_book.proofs.ChosenLaws.{chosen_for-only, chosen_for-granted}
 use Rattle.alloc_book.proofs.SearchLaws.{gives-is}
 use Rattle.std.specs.Prelude.{Result, Ok, Err, IfOk, OnOk, map, filter_map}
 use Rattle.kube_model.specs.declared.record.Record.{Record}
 use Rattle.sharing_terms.specs.Marked.{AreTerms, IsMarkOf}
 use Rattle.alloc_book.specs.Granted.{IsFor}
-use Rattle.sharing_terms.specs.declared.terms.Terms.{Terms}
 use Rattle.sharing_terms.specs.Terms.{terms_of}
 use Rattle.alloc_book.proofs.UsableLaws.{usable-is, usable-from}
 use Rattle.ip_ranges.proofs.AddressLaws.{has_address-is, has_address-from}

@@ -1,31 +1,25 @@
 -- One thing at most is chosen; what is chosen may be used; what is pending stays so where no claim is lost.
-use Rattle.std.proofs.Common.{◌≡◌, ◌≢◌, ℕ, Bool, true, false, cond, List, [], ◌∷◌, Option, Some, None, ◌⊎◌, inl, inr, refl, sym, ap, ◌∙◌, subst, ⊎_elim}
+use Rattle.std.proofs.Common.{◌≡◌, ℕ, Bool, true, false, cond, List, [], ◌∷◌, Option, Some, ◌⊎◌, inl, inr, refl, sym, ap, ◌∙◌, subst, ⊎_elim}
 use Rattle.std.specs.List.{Contains, AllZip}
-use Rattle.ip_ranges.specs.declared.family.Family.{Family}
 use Rattle.ip_ranges.specs.Values.{AddressValue}
-use Rattle.kube_model.specs.declared.key.Key.{Key}
 use Rattle.kube_model.specs.declared.reason.Reason.{Reason}
 use Rattle.kube_model.specs.declared.reason.Reason.TheVariants.{RequestUnreadable, RequestFamilies, PoolUnknown, PoolRefused, AddressOutside, AddressUnusable, PoolExhausted, NoPool, Exhausted}
 use Rattle.kube_model.specs.declared.record.Record.{Record}
 use Rattle.kube_model.specs.declared.service.Service.{Service}
-use Rattle.kube_model.specs.declared.service.Wanted.TheVariants.{Unreadable}
-use Rattle.sharing_terms.specs.declared.terms.Terms.{Terms}
-use Rattle.sharing_terms.specs.Marks.{mark_of}
 use Rattle.mlb_base.proofs.Among.{contains-none, contains-cons, contains-first, contains-later}
 use Rattle.alloc_book.specs.declared.choice.Choice.{Choice}
 use Rattle.alloc_book.specs.declared.choice.Choice.TheVariants.{Foreign, Clear, Pending, Keep, New}
 use Rattle.pool_config.specs.declared.compiled.CompiledPool.{CompiledPool}
-use Rattle.alloc_book.specs.Asking.{Asker, Holders, Offer, asker_of, asked_in, is_asked}
-use Rattle.mlb_base.specs.Cases.{Case, IsFirst, NoneIs}
-use Rattle.alloc_book.specs.Chosen.{named, asked_pools, AsksPool, AsksAddresses, Gives, IsChosenFor, IsChosen}
-use Rattle.alloc_book.specs.First.{HasEach, record_in, IsNew, AreFull, IsOneOfEach, AllUsable, IsKept, IsHome}
-use Rattle.alloc_book.specs.Granted.{IsGranted, IsFor, IsTighter, HaveMore}
+use Rattle.alloc_book.specs.Asking.{Asker, Holders, Offer, asked_in}
+use Rattle.mlb_base.specs.Cases.{IsFirst}
+use Rattle.alloc_book.specs.Chosen.{named, asked_pools, Gives, IsChosenFor}
+use Rattle.alloc_book.specs.First.{HasEach, record_in, IsNew, AllUsable, IsKept, IsHome}
+use Rattle.alloc_book.specs.Granted.{IsGranted, IsFor}
 use Rattle.alloc_book.specs.Least.{IsLeast}
-use Rattle.alloc_book.specs.Usable.{IsLeftTo, IsUsable, IsUsableOf}
-use Rattle.mlb_base.proofs.CaseLaws.{IsOnly, only-is, only-case, case-has, first-only, first-none, first-holds, first-stands, none-fewer}
+use Rattle.alloc_book.specs.Usable.{IsUsable}
+use Rattle.mlb_base.proofs.CaseLaws.{IsOnly, only-is, only-case, case-has, first-only, first-none, first-holds, first-stands}
 use Rattle.alloc_book.proofs.LeastLaws.{least-only}
 use Rattle.std.specs.Option.{option_to_list}
-use Rattle.std.specs.Prelude.{find}
 use Rattle.std.specs.Str.{bytes_eq}
 
 zip-only : {X Y : Type 0} (R : X → Y → Type 0) (xs : List X) → ((x : X) → IsOnly (R x)) → IsOnly (AllZip R xs)

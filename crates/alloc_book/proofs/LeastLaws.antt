@@ -1,9 +1,8 @@
 -- What the search for the least address finds, and what it leaves out; the least is the only one.
-use Rattle.std.proofs.Common.{◌≡◌, ℕ, ◌+◌, ◌-◌, ◌<◌, ◌≤◌, suc, zero, Bool, true, false, cond, leb, ltb, ◌&&◌, ◌||◌, List, [], ◌∷◌, Option, Some, None, option_map, IfSome, IfNone, ◌⊎◌, inl, inr, refl, sym, ap, ◌∙◌, subst, arith, ⊎_elim, eq-or-lt_of_le, leb-true, true≢false}
-use Rattle.std.proofs.lemmas.Bool.{and_parts, and_from, or_cases, le-leb, cases_Bool, cases_order}
-use Rattle.std.specs.List.{list_any, list_all}
+use Rattle.std.proofs.Common.{◌≡◌, ℕ, ◌+◌, ◌-◌, ◌<◌, ◌≤◌, suc, zero, Bool, true, false, cond, leb, ◌&&◌, ◌||◌, List, [], ◌∷◌, Option, Some, None, option_map, IfSome, IfNone, ◌⊎◌, inl, inr, refl, sym, ap, ◌∙◌, subst, arith, ⊎_elim, eq-or-lt_of_le, leb-true, true≢false}
+use Rattle.std.proofs.lemmas.Bool.{and_parts, and_from, le-leb, cases_order}
+use Rattle.std.specs.List.{list_any}
 use Rattle.ip_ranges.specs.declared.family.Family.{Family}
-use Rattle.ip_ranges.specs.declared.family.Family.TheVariants.{V4, V6}
 use Rattle.ip_ranges.specs.Values.{AddressValue, SpanValue, same_family, holds, Holds}
 use Rattle.kube_model.specs.declared.key.Key.{Key}
 use Rattle.sharing_terms.specs.declared.terms.Terms.{Terms}
@@ -11,8 +10,8 @@ use Rattle.pool_config.specs.declared.compiled.CompiledPool.{CompiledPool}
 use Rattle.alloc_book.specs.Asking.{Holders}
 use Rattle.alloc_book.specs.Claims.{ClaimValue, holders}
 use Rattle.alloc_book.specs.Least.{StandsBefore, IsLeast}
-use Rattle.alloc_book.specs.Search.{leaves, usable, address_of, numbered, least_between, least_in, least_of, least_usable, or_else}
-use Rattle.alloc_book.specs.Usable.{IsUsable, IsUsableOf, is_in}
+use Rattle.alloc_book.specs.Search.{usable, address_of, numbered, least_between, least_in, least_of, least_usable, or_else}
+use Rattle.alloc_book.specs.Usable.{IsUsableOf}
 use Rattle.ip_ranges.proofs.AddressLaws.{same_family-is, same_family-itself}
 use Rattle.alloc_book.proofs.UsableLaws.{usable-is, usable-from}
 

@@ -1,23 +1,20 @@
 -- What is pending stays pending where nothing is left that wasn't left before; and equal holders make equal choices.
-use Rattle.std.proofs.Common.{◌≡◌, ◌≢◌, ℕ, Bool, true, false, List, [], ◌∷◌, Option, Some, None, ◌⊎◌, inl, inr, refl, sym, ap, ◌∙◌, subst, ⊎_elim}
-use Rattle.std.specs.List.{Contains, AllZip}
-use Rattle.ip_ranges.specs.declared.family.Family.{Family}
+use Rattle.std.proofs.Common.{◌≡◌, ℕ, List, [], ◌∷◌, Option, inl, inr, refl, subst, ⊎_elim}
 use Rattle.ip_ranges.specs.Values.{AddressValue}
 use Rattle.kube_model.specs.declared.key.Key.{Key}
 use Rattle.kube_model.specs.declared.reason.Reason.{Reason}
-use Rattle.kube_model.specs.declared.reason.Reason.TheVariants.{RequestUnreadable, RequestFamilies, PoolUnknown, PoolRefused, AddressOutside, AddressUnusable, PoolExhausted, NoPool, Exhausted}
-use Rattle.kube_model.specs.declared.record.Record.{Record}
+use Rattle.kube_model.specs.declared.reason.Reason.TheVariants.{AddressUnusable, PoolExhausted, Exhausted}
 use Rattle.kube_model.specs.declared.service.Service.{Service}
 use Rattle.sharing_terms.specs.declared.terms.Terms.{Terms}
 use Rattle.alloc_book.specs.declared.choice.Choice.{Choice}
-use Rattle.alloc_book.specs.declared.choice.Choice.TheVariants.{Foreign, Clear, Pending, Keep, New}
+use Rattle.alloc_book.specs.declared.choice.Choice.TheVariants.{Pending, New}
 use Rattle.pool_config.specs.declared.compiled.CompiledPool.{CompiledPool}
-use Rattle.alloc_book.specs.Asking.{Asker, Holders, Offer, asker_of, asked_in, is_asked}
+use Rattle.alloc_book.specs.Asking.{Asker, Holders, Offer, asked_in}
 use Rattle.mlb_base.specs.Cases.{Case, IsFirst, NoneIs}
-use Rattle.alloc_book.specs.Chosen.{asked_pools, AsksPool, AsksAddresses, Gives, IsChosenFor, IsChosen}
-use Rattle.alloc_book.specs.First.{HasEach, record_in, IsNew, AreFull, AllUsable, IsKept, IsHome}
+use Rattle.alloc_book.specs.Chosen.{asked_pools, AsksAddresses, Gives, IsChosenFor, IsChosen}
+use Rattle.alloc_book.specs.First.{HasEach, record_in, AreFull, AllUsable, IsKept, IsHome}
 use Rattle.alloc_book.specs.Granted.{IsTighter, HaveMore}
-use Rattle.alloc_book.specs.Usable.{IsLeftTo, IsUsable, IsUsableOf}
+use Rattle.alloc_book.specs.Usable.{IsUsable, IsUsableOf}
 use Rattle.mlb_base.proofs.CaseLaws.{first-none, none-fewer}
 use Rattle.alloc_book.proofs.ChosenLaws.{zip-map}
 

@@ -1,21 +1,15 @@
 -- What the search for a new record finds, and what it leaves out.
-use Rattle.std.proofs.Common.{◌≡◌, ◌≢◌, ℕ, Bool, true, false, cond, List, [], ◌∷◌, Option, Some, None, option_map, ◌⊎◌, inl, inr, refl, sym, ap, ◌∙◌, subst, ⊎_elim}
-use Rattle.std.specs.List.{Contains, AllZip}
-use Rattle.std.specs.Option.{IfSome, IfNone}
+use Rattle.std.proofs.Common.{◌≡◌, List, [], ◌∷◌, Option, Some, None, option_map, inl, inr, refl, sym, subst}
+use Rattle.std.specs.List.{AllZip}
 use Rattle.ip_ranges.specs.declared.family.Family.{Family}
 use Rattle.ip_ranges.specs.Values.{AddressValue}
-use Rattle.kube_model.specs.declared.key.Key.{Key}
 use Rattle.kube_model.specs.declared.reason.Reason.{Reason}
 use Rattle.kube_model.specs.declared.record.Record.{Record}
-use Rattle.sharing_terms.specs.declared.terms.Terms.{Terms}
-use Rattle.alloc_book.specs.declared.choice.Choice.{Choice}
-use Rattle.alloc_book.specs.declared.choice.Choice.TheVariants.{Pending, New}
 use Rattle.pool_config.specs.declared.compiled.CompiledPool.{CompiledPool}
-use Rattle.alloc_book.specs.Asking.{Asker, Holders}
+use Rattle.alloc_book.specs.Asking.{Asker}
 use Rattle.alloc_book.specs.Chosen.{Gives}
 use Rattle.alloc_book.specs.Choose.{new_or}
 use Rattle.alloc_book.specs.Claims.{ClaimValue, holders}
-use Rattle.mlb_base.specs.Cases.{IsFirst, NoneIs}
 use Rattle.alloc_book.specs.First.{HasEach, record_in, IsNew, AreFull}
 use Rattle.alloc_book.specs.Least.{IsLeast}
 use Rattle.alloc_book.specs.Search.{least_usable, least_each, both, first_pool, or_else}

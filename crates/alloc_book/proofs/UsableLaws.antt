@@ -1,10 +1,7 @@
 -- The tests of usable addresses are their relation.
-use Rattle.std.proofs.Common.{◌≡◌, ◌≢◌, ℕ, Bool, true, false, cond, not, ◌&&◌, ◌||◌, eqb, eqb-true, List, [], ◌∷◌, Option, Some, None, ◌⊎◌, inl, inr, refl, sym, ap, ◌∙◌, subst, ⊎_elim}
-use Rattle.std.proofs.lemmas.Bool.{and_parts, and_from, or_cases, or_left, or_right, not-true, not_from_false, eq-eqb, false_from_ne_true, true≢false, cases_Bool}
-use Rattle.std.proofs.lemmas.Slice.Eq.{bytes_eq-Decides}
-use Rattle.std.specs.Bool.{Decides}
-use Rattle.std.specs.List.{Contains, list_any, list_all}
-use Rattle.std.specs.Str.{bytes_eq}
+use Rattle.std.proofs.Common.{◌≡◌, ◌≢◌, ℕ, Bool, true, false, cond, not, ◌&&◌, ◌||◌, List, [], ◌∷◌, Option, Some, None, refl, sym, ap, ◌∙◌, subst, ⊎_elim}
+use Rattle.std.proofs.lemmas.Bool.{and_parts, and_from, or_cases, not-true, true≢false}
+use Rattle.std.specs.List.{Contains, list_all}
 use Rattle.ip_ranges.specs.Values.{AddressValue, is_buggy, has_address}
 use Rattle.ip_ranges.proofs.AddressLaws.{has_address-is, has_address-from}
 use Rattle.kube_model.proofs.KeyLaws.{same_key-is, same_key-by}
@@ -14,11 +11,10 @@ use Rattle.sharing_terms.specs.declared.terms.Terms.{Terms}
 use Rattle.sharing_terms.specs.Marked.{IsMarkOf}
 use Rattle.sharing_terms.specs.Spelled.{recorded_terms}
 use Rattle.sharing_terms.proofs.ReadBack.{recorded-exact}
-use Rattle.sharing_terms.specs.Sharing.{MayShare, may_share}
-use Rattle.mlb_base.proofs.Among.{contains-none, contains-cons, contains-first, contains-later, any-contains, any-found, all-contains, all-from}
+use Rattle.sharing_terms.specs.Sharing.{MayShare}
+use Rattle.mlb_base.proofs.Among.{contains-none, contains-cons, contains-first, contains-later, all-contains, all-from}
 use Rattle.sharing_terms.proofs.SharingLaws.{may_share-is, may_share-from}
 use Rattle.pool_config.specs.declared.compiled.CompiledPool.{CompiledPool}
-use Rattle.alloc_book.specs.Asking.{Holders}
 use Rattle.alloc_book.specs.Claims.{ClaimValue, claims_of, holders}
 use Rattle.kube_model.specs.Keys.{same_key}
 use Rattle.alloc_book.specs.Search.{shares_by, leaves, usable}

@@ -1,5 +1,5 @@
 -- The first of a list that something holds of, and what the first pool gives.
-use Rattle.std.specs.Prelude.{◌≡◌, ◌≢◌, ◌⊎◌, ℕ, Bool, true, false, List, [], ◌∷◌, filter, length, ⊤}
+use Rattle.std.specs.Prelude.{◌≡◌, ◌≢◌, true, List, [], filter, length}
 use Rattle.std.specs.List.{Contains, AllZip}
 use Rattle.ip_ranges.specs.declared.family.Family.{Family}
 use Rattle.ip_ranges.specs.Values.{AddressValue, same_family}

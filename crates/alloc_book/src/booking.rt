@@ -1,5 +1,6 @@
 //! The book of claims.
-ghost use Rattle.std.specs.Prelude.{◌≡◌, ◌<◌, ◌↔◌, [], IsTrue, IfOk, IfSome, IfNone, OnOk, OnErr};
+ghost use Rattle.std.specs.Prelude.{◌≡◌, ◌<◌, ◌↔◌, [], not, filter, IsTrue, IfOk, IfSome, IfNone, OnOk, OnErr};
+ghost use Rattle.std.specs.List.{list_any};
 ghost use Rattle.std.specs.Option.{option_copied};
 ghost use Rattle.ip_ranges.specs.Values.{AddressValue};
 ghost use Rattle.kube_model.specs.declared.record.Record.{Record};
@@ -44,6 +45,17 @@ impl Model for Book {
     ghost view = { λ b. record { claims = b.claims.items; room = vec_capacity b.claims - vec_len b.claims } };
 
     ghost invariant = { λ b. AreAssigned b.claims.items };
+}
+
+/// A list of objects, by which keys it shows.
+pub trait Listing {
+    ghost use Rattle.std.specs.Prelude.{◌≡◌, Bool};
+    ghost use Rattle.kube_model.specs.declared.key.Key.{Key};
+
+    ghost lists: { Self → Key → Bool };
+
+    fn lists(&self, key: &Key) -> bool
+        ensures { result ≡ lists self.now key.now };
 }
 
 fn loss_of(is_lost: bool) -> Loss
@@ -139,6 +151,20 @@ impl Book {
         ensures loss { (result ≡ Loss.Lost) ↔ HasLost self.old.claims self.new.claims }
     {
         self.remove(key)
+    }
+
+    /// The claims of the keys that the list shows stay, and no others. It takes no memory.
+    pub fn drop_unlisted<L: Listing>(&mut self, listing: &L)
+        ensures { self.new.claims ≡ filter (λ c. L.lists listing.now c.key) self.old.claims }
+    {
+        self.claims.retain(|claim| listing.lists(claim.key()));
+    }
+
+    /// Whether a key that the list doesn't show has a claim.
+    pub fn has_unlisted<L: Listing>(&self, listing: &L) -> bool
+        ensures { result ≡ list_any (λ c. not (L.lists listing.now c.key)) self.now.claims }
+    {
+        self.claims.iter().any(|claim| !listing.lists(claim.key()))
     }
 
     /// Whether the key has a claim that settling this record gives up: one with another record.

@@ -10,7 +10,7 @@ mod marked;
 mod requests;
 mod search;
 
-pub use booking::Book;
+pub use booking::{Book, Listing};
 pub use choice::{Choice, Loss};
 pub use claims::Claim;
 pub use laws::{chosen_by_same, chosen_is_granted, chosen_is_one, claims_are_kept, pending_stays};

@@ -7,7 +7,7 @@ use versioned_map::{Shown, VersionedMap};
 #[test]
 fn objects_are_shown_and_dropped(rt: HostRuntime) -> Result<(), Fail> {
     let alloc = rt.alloc();
-    let mut held: VersionedMap<u16, u32> = VersionedMap::new(alloc);
+    let mut held: VersionedMap<u32, u32> = VersionedMap::new(alloc);
     assert!(rt; held.is_empty());
     assert!(rt; matches!(held.show(7, 0, 70)?, Shown::PassedOver { object: 70 }));
     let _first = held.show(7, 3, 70)?;

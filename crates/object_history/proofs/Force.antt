@@ -101,7 +101,7 @@ module _ (earlier : List Observation) where
   newer version (objects.Node node) = never_compiles
   newer version (objects.Slice slice) = never_compiles
 
-  compiles-is : (observation : Observation) → (compiles (cached earlier).objects (cached earlier).config_ended observation ≡ true) ↔ Compiles earlier observation
+  pub compiles-is : (observation : Observation) → (compiles (cached earlier).objects (cached earlier).config_ended observation ≡ true) ↔ Compiles earlier observation
   compiles-is (Watched (Changed version object)) =
       both_hold (set_shows (cached earlier).objects version object) (cached earlier).config_ended (IsNewerConfig earlier version object) (HasEnded groups.Config earlier) (newer version object) ended
   compiles-is (Watched (Deleted kind key)) = kind_holds (is_config_kind kind) (cached earlier).config_ended (HasEnded groups.Config earlier) ended

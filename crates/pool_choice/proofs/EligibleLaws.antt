@@ -1,10 +1,7 @@
 -- The sorted list of the pools that are offered is what is eligible.
-use Rattle.std.proofs.Common.{◌≡◌, ◌↔◌, ℕ, Bool, true, false, cond, ◌&&◌, List, [], ◌∷◌, map, filter, slice_get, Option, Some, Ordering, Less, Equal, Greater, AllPairs, Contains, Decides, Result, Ok, Err, IfOk, IsPermutation, IsSorted, ◌⊎◌, inl, inr, ⊎_elim, refl, sym, ap, ◌∙◌, subst}
-use Rattle.std.proofs.lemmas.Bool.{true≢false}
+use Rattle.std.proofs.Common.{◌≡◌, ℕ, List, [], ◌∷◌, map, filter, slice_get, Some, Less, Equal, Decides, Result, Ok, Err, IfOk, IsPermutation, IsSorted, ap, ◌∙◌, subst}
 use Rattle.std.proofs.lemmas.Bool.Decides.{Decides-and}
-use Rattle.std.specs.List.{AllByRecursion}
 use Rattle.std.specs.List.Sorted.{IsStrictlySortedBy}
-use Rattle.mlb_base.proofs.Among.{contains-none, contains-cons, contains-first, contains-later}
 use Rattle.kube_labels.specs.Names.{name_cmp}
 use Rattle.kube_model.specs.declared.service.Service.{Service}
 use Rattle.pool_config.specs.declared.compiled.CompiledPool.{CompiledPool}

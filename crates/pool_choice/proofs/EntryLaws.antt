@@ -1,14 +1,13 @@
 -- Entries that are sorted are the places of the pools that are sorted.
-use Rattle.std.proofs.Common.{◌≡◌, ◌↔◌, ℕ, zero, suc, ◌+◌, ◌<◌, ◌≤◌, Bool, true, false, cond, length, List, [], ◌∷◌, ◌++◌, map, filter, slice_get, Option, Some, None, Ordering, Less, Equal, Greater, refl, sym, ap, ◌∙◌, subst, arith, append_assoc, length-append, drop, drop-cons, get_or, add-one}
+use Rattle.std.proofs.Common.{◌≡◌, ℕ, ◌+◌, ◌<◌, ◌≤◌, Bool, true, false, cond, length, List, [], ◌∷◌, ◌++◌, map, filter, slice_get, Option, Some, Less, Equal, refl, sym, ap, ◌∙◌, subst, arith, append_assoc, length-append}
 use Rattle.std.specs.Cmp.{nat_cmp_is}
 use Rattle.std.specs.List.{AllByRecursion, AllZip}
 use Rattle.std.specs.List.Sorted.{IsStrictlySortedBy}
-use Rattle.std.specs.Ordering.{nat_cmp, ordering_then, is_lt}
+use Rattle.std.specs.Ordering.{nat_cmp, is_lt}
 use Rattle.kube_labels.specs.Names.{name_cmp}
 use Rattle.kube_model.specs.declared.service.Service.{Service}
 use Rattle.pool_config.specs.declared.compiled.CompiledPool.{CompiledPool}
 use Rattle.pool_choice.specs.declared.choice.Entry.{Entry}
-use Rattle.pool_choice.specs.declared.choice.Rank.{Rank}
 use Rattle.pool_choice.specs.Eligible.{is_offered, entries_from, entry_cmp}
 use Rattle.pool_choice.specs.Rank.{rank_of, rank_cmp, pool_cmp}
 use Rattle.pool_choice.specs.Sorted.{placed, sorted}

@@ -1,5 +1,5 @@
 -- The tests of what a pool serves are its relation.
-use Rattle.std.proofs.Common.{◌≡◌, ℕ, Bool, true, ◌&&◌, ◌||◌, List, [], ◌∷◌, Option, Some, None, ◌⊎◌, Contains, Decides, refl, sym, subst}
+use Rattle.std.proofs.Common.{◌≡◌, ℕ, ◌&&◌, ◌||◌, List, [], ◌∷◌, Option, Some, None, Contains, Decides, refl, sym, subst}
 use Rattle.std.proofs.lemmas.Bool.{true≢false}
 use Rattle.std.proofs.lemmas.Bool.Decides.{Decides-and, Decides-or}
 use Rattle.std.proofs.lemmas.Slice.Eq.{bytes_eq-Decides}

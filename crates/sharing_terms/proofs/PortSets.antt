@@ -1,5 +1,5 @@
 -- Sets of ports: their order is the one that a set of the code goes by; they have exactly the ports that were put in, ascending.
-use Rattle.std.proofs.Common.{◌≡◌, ◌↔◌, ℕ, ◌+◌, ◌<◌, suc, length, get_or, drop, drop-cons, add-one, append-nil, append_assoc, List, [], ◌∷◌, ◌++◌, map, Ordering, Less, Equal, Greater, Contains, Result, Ok, Err, IfOk, ◌⊎◌, inl, inr, ⊎_elim, ◌∙◌, ap, refl, sym, subst}
+use Rattle.std.proofs.Common.{◌≡◌, ℕ, ◌+◌, ◌<◌, length, get_or, drop, drop-cons, add-one, append-nil, append_assoc, List, [], ◌∷◌, ◌++◌, map, Ordering, Less, Equal, Greater, Contains, Result, Ok, Err, IfOk, ◌⊎◌, inl, inr, ⊎_elim, ◌∙◌, ap, refl, sym, subst}
 use Rattle.std.proofs.lemmas.Map.Lookups.{CmpEqualImpliesEq, exact_unsigned}
 use Rattle.std.specs.BTreeMap.{insert_entry}
 use Rattle.std.specs.BTreeSet.{insert_key}

@@ -1,10 +1,9 @@
 -- A text is read as some terms exactly where it is their mark.
-use Rattle.std.proofs.Common.{◌≡◌, ◌≢◌, ◌↔◌, IfOk, IfSome, IfNone, OnOk, ℕ, ◌+◌, ◌-◌, ◌*◌, ◌<◌, ◌≤◌, ◌^◌, suc, zero, Bool, true, false, cond, not, ◌&&◌, eqb, leb, ltb, List, [], ◌∷◌, ◌++◌, map, Option, Some, None, Result, Ok, Err, Ordering, Less, Equal, Greater, decimal, codes, Contains, IsUtf8, ◌⊎◌, ⊎_elim, refl, sym, ap, ◌∙◌, subst, append_assoc, append-nil, arith}
+use Rattle.std.proofs.Common.{◌≡◌, ◌↔◌, IfOk, OnOk, ℕ, ◌+◌, ◌-◌, ◌*◌, ◌<◌, Bool, true, false, cond, ◌&&◌, eqb, leb, ltb, List, [], ◌∷◌, ◌++◌, map, Option, Some, None, Result, Ok, Err, Ordering, Less, Equal, Greater, codes, Contains, IsUtf8, ⊎_elim, refl, sym, ap, ◌∙◌, subst, append_assoc, append-nil, arith}
 use borrow.Author.Tests.{ltb-true}
-use Rattle.std.proofs.lemmas.Bool.{ne_eqb, and_parts, true≢false}
+use Rattle.std.proofs.lemmas.Bool.{ne_eqb, and_parts}
 use Rattle.std.proofs.lemmas.Slice.Eq.{bytes_eq-Decides}
 use Rattle.std.proofs.lemmas.Str.{is_utf8-from_IsUtf8, IsUtf8-from_is_utf8}
-use Rattle.std.specs.BTreeMap.{insert_entry}
 use Rattle.std.specs.Cmp.Lexicographic.{slice_cmp, nat_list_cmp_total}
 use Rattle.std.specs.List.{flat_map, AllByRecursion}
 use Rattle.std.specs.List.Sorted.{IsStrictlySortedBy}
@@ -24,8 +23,8 @@ use Rattle.sharing_terms.specs.declared.terms.Terms.{Terms}
 use Rattle.sharing_terms.specs.declared.terms.Backend.{Backend}
 use Rattle.sharing_terms.specs.declared.terms.Backend.TheVariants.{Cluster, Local}
 use Rattle.sharing_terms.specs.Marked.{AreSmall, AreTexts, IsBackend, AreTerms, IsMarkOf}
-use Rattle.sharing_terms.specs.Marks.{protocol_letter, port_text, ports_text, pair_text, backend_text, mark_of}
-use Rattle.sharing_terms.specs.Ports.{port_cmp, AreAscending, ports_in}
+use Rattle.sharing_terms.specs.Marks.{protocol_letter, port_text, ports_text, backend_text, mark_of}
+use Rattle.sharing_terms.specs.Ports.{ports_in}
 use Rattle.sharing_terms.specs.Spelled.{ahead_of, behind, text_of_bytes, text_of_hex, protocol_of_letter, number_from, port_by, port_of_text, pieces, ports_by, ports_from, ports_of_text, pair_by, pair_of_text, labels_from, local_by, local_from, backend_of_text, terms_by, spelled, if_marked, recorded_terms}
 use Rattle.sharing_terms.proofs.Bytes.{utf8-bytes}
 use Rattle.sharing_terms.proofs.Cuts.{Lacks, lacks-append, ahead-found, behind-found, pieces-flat, hex-lacks_59, hex-lacks_44, hex-lacks_61, decimal-lacks, number-decimal}

@@ -1,5 +1,3 @@
-use Rattle.std.proofs.Common.{option_copied}
-use Rattle.alloc_book.specs.Asking.{offer_of}
 use Rattle.alloc_book.specs.Claims.{holders}
 use Rattle.alloc_book.proofs.ChooseLaws.{answer-chosen, answer-only, answer-marked}
 use Rattle.alloc_book.proofs.booking.Book.choose.Goals as goal

@@ -1,7 +1,6 @@
-use Rattle.std.proofs.Common.{◌≡◌, List, ap, sym, ◌∙◌, subst, ◌↔◌, true}
-use Rattle.alloc_book.specs.Book.{AreAssigned, BookValue, HasLost}
-use Rattle.alloc_book.specs.Claims.{ClaimValue, settled, loses}
-use Rattle.alloc_book.proofs.BookLaws.{settled-lost, answer-loses}
+use Rattle.std.proofs.Common.{◌≡◌, ap, ◌∙◌, subst}
+use Rattle.alloc_book.specs.Book.{AreAssigned, BookValue}
+use Rattle.alloc_book.proofs.BookLaws.{answer-loses}
 use Rattle.alloc_book.proofs.booking.Book.loses.Goals as goal
 
 pub returns-clause-meaning : goal.returns-clause-meaning

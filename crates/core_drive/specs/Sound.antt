@@ -1,0 +1,41 @@
+-- That a transcript is sound.
+use Rattle.std.specs.Prelude.{◌≡◌, ◌≢◌, ℕ, true, List, [], ◌∷◌, ⊤, None, Some, Option, is_some}
+use Rattle.kube_model.specs.declared.event.Event.{Event}
+use Rattle.kube_model.specs.declared.reply.PutReply.{PutReply}
+use Rattle.sharing_terms.specs.Marked.{AreTerms}
+use Rattle.sharing_terms.specs.Terms.{terms_of}
+use Rattle.core_rules.specs.Core.{State}
+use Rattle.core_rules.specs.Take.{concern}
+use Rattle.core_rules.specs.Run.{Entry as CoreEntry, IsRun, core_after, observed}
+use Rattle.core_laws.specs.Shared.{AllShowTerms}
+use Rattle.core_laws.specs.Shown.{OfConcern}
+use Rattle.core_laws.specs.Sound.{IsSoundRun}
+use Rattle.core_laws.specs.Telling.{IsRightNote}
+use Rattle.core_drive.specs.Drive.{Driven, Entry, Took, Turned, Heard, core_entry, behind, taking, hearing}
+
+abbrev pub IsRightTelling : Entry → List CoreEntry → Type 0
+IsRightTelling (Took event note) earlier = IsRightNote note event (observed earlier)
+IsRightTelling (Turned turn) earlier = ⊤
+IsRightTelling (Heard reply) earlier = ⊤
+
+-- what is noted of each event is right, by what stands before it
+abbrev pub AreNotesRight : List Entry → List CoreEntry → Type 0
+AreNotesRight [] earlier = ⊤
+AreNotesRight (entry ∷ later) earlier = IsRightTelling entry earlier × AreNotesRight later (core_entry entry ∷ earlier)
+
+-- Each moment is right by the transcript before it, and so is each note.
+pub record IsSound (class : Option (List ℕ)) (transcript : List Entry) : Type 0 where
+  pub run : IsSoundRun class (behind transcript [])
+  pub notes : AreNotesRight transcript []
+
+-- the service that the event shows, if it shows one, has terms that there can be
+abbrev pub ShowsTerms : Event → Type 0
+ShowsTerms event = OfConcern (λ key service. AreTerms (terms_of service)) (concern event)
+
+-- What was told is a run of the core that leads to this state, with right notes; a put is out, or nothing is queued.
+pub record LeadsTo (class : Option (List ℕ)) (told : List Entry) (s : State) : Type 0 where
+  pub is : IsRun class (behind told [])
+  pub core : core_after class (behind told []) ≡ s
+  pub typed : AllShowTerms (behind told [])
+  pub notes : AreNotesRight told []
+  pub idle : s.out ≡ None → s.queue ≡ []

@@ -1,0 +1,44 @@
+-- Every run is sound.
+use Rattle.std.proofs.Common.{◌≡◌, ◌≢◌, ℕ, true, false, List, [], ◌∷◌, Option, Some, refl}
+use Rattle.kube_model.specs.declared.key.Key.{Key}
+use Rattle.kube_model.specs.declared.reason.Reason.{Reason}
+use Rattle.kube_model.specs.Keys.{same_key}
+use Rattle.kube_model.proofs.KeyLaws.{same_key-itself}
+use Rattle.core_rules.specs.declared.turn.Turn.{Turn}
+use Rattle.core_rules.specs.declared.turn.Turn.TheVariants.{Idle, NoPut, Wants}
+use Rattle.core_rules.specs.Run.{Entry, Took, Expired, Turned, Heard, IsRun}
+use Rattle.core_laws.specs.Shared.{AllShowTerms}
+use Rattle.core_laws.specs.Sound.{IsRightTurn, IsRightEntry, IsSoundRun, RunsAreSound}
+use Rattle.core_laws.specs.Telling.{Tells}
+use Rattle.core_laws.proofs.Puts.{puts_are_right, turns_are_ready}
+use Rattle.core_laws.proofs.Shared.{runs_are_shared}
+use Rattle.core_laws.proofs.Telling.{reasons_are_right}
+use Rattle.core_laws.proofs.Free.{turns_are_of_free_keys}
+
+turn-right : (class : Option (List ℕ)) (turn : Turn) (earlier : List Entry) → IsRun class (Turned turn ∷ earlier) → IsRightTurn class turn earlier
+turn-right class Idle earlier is = tt
+turn-right class (NoPut key pending) earlier is =
+    record {
+      ready = turns_are_ready class (NoPut key pending) earlier is (λ e. absurd (cc));
+      free = turns_are_of_free_keys class (NoPut key pending) earlier is key (same_key-itself key);
+      reason_is = λ reason e. reasons_are_right class (NoPut key pending) key reason earlier is (refl, e);
+    }
+turn-right class (Wants put pending) earlier is = (
+  record {
+    ready = turns_are_ready class (Wants put pending) earlier is (λ e. absurd (cc));
+    free = turns_are_of_free_keys class (Wants put pending) earlier is put.key (same_key-itself put.key);
+    reason_is = λ reason e. reasons_are_right class (Wants put pending) put.key reason earlier is (refl, e);
+  },
+  puts_are_right class put pending earlier is,
+)
+
+entry-right : (class : Option (List ℕ)) (entry : Entry) (earlier : List Entry) → IsRun class (entry ∷ earlier) → IsRightEntry class entry earlier
+entry-right class (Took event) earlier is = tt
+entry-right class (Expired group) earlier is = tt
+entry-right class (Turned turn) earlier is = turn-right class turn earlier is
+entry-right class (Heard reply) earlier is = tt
+
+pub runs_are_sound : RunsAreSound
+runs_are_sound class [] is all = tt
+runs_are_sound class (entry ∷ earlier) is all =
+    (record { right = entry-right class entry earlier is; shared = runs_are_shared class (entry ∷ earlier) is all }, runs_are_sound class earlier is.1 all.1)

@@ -1,0 +1,10 @@
+pub mod Puts
+pub mod Quiet
+pub mod QuietShown
+pub mod Served
+pub mod Shared
+pub mod Shown
+pub mod Sound
+pub mod Telling
+pub mod Waiting
+pub mod Waits

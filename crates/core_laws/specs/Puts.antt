@@ -1,0 +1,53 @@
+-- Each put is right by what the look back shows.
+use Rattle.std.specs.Prelude.{◌≡◌, ◌≢◌, ℕ, List, [], ◌∷◌, Option}
+use Rattle.std.specs.Option.{option_map_or}
+use Rattle.kube_model.specs.declared.event.Group.TheVariants as groups
+use Rattle.kube_model.specs.declared.put.Put.{Put}
+use Rattle.kube_model.specs.declared.reason.Reason.{Reason}
+use Rattle.kube_model.specs.declared.service.Service.{Service}
+use Rattle.versioned_map.specs.declared.map.Versioned.{Versioned}
+use Rattle.pool_config.specs.ConfigValue.{ConfigValue}
+use Rattle.object_history.specs.Observations.{Observation}
+use Rattle.object_history.specs.Kinds.{service_resource, namespace_resource}
+use Rattle.object_history.specs.LookBack.{last_shown, HasEnded, IsInForce, IsLastShown}
+use Rattle.alloc_book.specs.declared.choice.Choice.{Choice}
+use Rattle.alloc_book.specs.Chosen.{IsChosen}
+use Rattle.core_rules.specs.declared.turn.Turn.{Turn}
+use Rattle.core_rules.specs.declared.turn.Turn.TheVariants.{Idle, Wants}
+use Rattle.core_rules.specs.Core.{offer_at}
+use Rattle.core_rules.specs.Turn.{wanted_record, reason_in}
+use Rattle.core_rules.specs.Run.{Entry, Turned, IsRun, observed, claims_shown}
+
+-- the labels of the namespace as it was last shown; one that isn't held has none
+abbrev pub labels_shown : List ℕ → List Observation → List (List ℕ × List ℕ)
+labels_shown name observations = option_map_or (λ h. h.object.labels) (last_shown namespace_resource name observations) []
+
+-- The put's service is held as it was last shown, with the put's version. Its record is what is chosen for the service by the
+-- claims that the look back shows, the configuration in force and its namespace's labels as they were last shown.
+pub record IsRightPut (class : Option (List ℕ)) (put : Put) (pending : Option Reason) (earlier : List Entry) : Type 0 where
+  pub held : Versioned Service
+  pub shown : IsLastShown service_resource put.key held (observed earlier)
+  pub config : ConfigValue
+  pub in_force : IsInForce config (observed earlier)
+  pub choice : Choice
+  pub chosen : IsChosen (λ key. claims_shown key earlier) (offer_at config.pools (labels_shown held.object.key.namespace (observed earlier)) held.object) class held.object choice
+  pub version_is : put.version ≡ held.version
+  pub holding_is : put.holding ≡ wanted_record held.object.holding choice
+  pub reason_is : pending ≡ reason_in choice
+  pub differs : put.holding ≢ held.object.holding
+
+-- each put of each run
+abbrev pub PutsAreRight : Type 0
+PutsAreRight = (class : Option (List ℕ)) (put : Put) (pending : Option Reason) (earlier : List Entry) → IsRun class (Turned (Wants put pending) ∷ earlier)
+    → IsRightPut class put pending earlier
+
+-- Both lists have ended, and a configuration is in force.
+pub record IsReadyBy (observations : List Observation) : Type 0 where
+  pub configured : HasEnded groups.Config observations
+  pub listed : HasEnded groups.Service observations
+  pub config : ConfigValue
+  pub in_force : IsInForce config observations
+
+-- no key is chosen for before both lists have ended
+abbrev pub TurnsAreReady : Type 0
+TurnsAreReady = (class : Option (List ℕ)) (turn : Turn) (earlier : List Entry) → IsRun class (Turned turn ∷ earlier) → turn ≢ Idle → IsReadyBy (observed earlier)

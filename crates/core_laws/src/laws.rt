@@ -1,0 +1,72 @@
+//! What holds of every run.
+ghost use Rattle.core_laws.specs.Puts.{PutsAreRight, TurnsAreReady};
+ghost use Rattle.core_laws.specs.Quiet.{RunsAreQuiet};
+ghost use Rattle.core_laws.specs.QuietShown.{RunsAreQuietAsShown};
+ghost use Rattle.core_laws.specs.Served.{ChosenIsServed, RowsAreServed};
+ghost use Rattle.core_laws.specs.Shared.{RunsAreShared};
+ghost use Rattle.core_laws.specs.Sound.{RunsAreSound};
+ghost use Rattle.core_laws.specs.Telling.{ReasonsAreRight, NotesAreRight};
+ghost use Rattle.core_laws.specs.Waiting.{WaitsInVain};
+ghost use Rattle.core_laws.specs.Waits.{AwaitingIsShown, TurnsAreOfFreeKeys};
+
+/// No key is chosen for before the lists of the configuration and of the services have ended.
+pub fn turns_are_of_ready_cores()
+    ensures { TurnsAreReady }
+{}
+
+/// Each put is what is chosen for its service, by what the look back shows.
+pub fn puts_are_right()
+    ensures { PutsAreRight }
+{}
+
+/// Whatever arrives, each settled service has the record that is chosen for it, but the one that is being written.
+pub fn runs_are_quiet()
+    ensures { RunsAreQuiet }
+{}
+
+/// Whatever arrives, the keys that await a newer event are those that the look back shows.
+pub fn awaiting_is_shown()
+    ensures { AwaitingIsShown }
+{}
+
+/// No key is chosen for while it awaits a newer event.
+pub fn turns_are_of_free_keys()
+    ensures { TurnsAreOfFreeKeys }
+{}
+
+/// Whatever record is chosen has one address of each wanted family, of one pool that serves the service.
+pub fn chosen_is_served()
+    ensures chosen { ChosenIsServed }
+    ensures rows { RowsAreServed }
+{}
+
+/// At no moment have two services, or may they have, one address, unless they share it by their recorded terms, or the one
+/// that came to it later was shown with it by the cluster.
+pub fn runs_are_shared()
+    ensures { RunsAreShared }
+{}
+
+/// A handled service with an empty record is pending: its request can't be met, or no pool that it may use has a usable address
+/// of each wanted family.
+pub fn services_wait_in_vain()
+    ensures { WaitsInVain }
+{}
+
+/// Whenever nothing is queued and no put is out, each held service that doesn't await a newer event has what is chosen for it,
+/// by what the look back shows.
+pub fn runs_are_quiet_as_shown()
+    ensures { RunsAreQuietAsShown }
+{}
+
+/// Each reason that is told of a service without an address is the first case of the table that holds, and what is told of a
+/// configuration is right, by what the look back shows.
+pub fn what_is_told_is_right()
+    ensures reasons { ReasonsAreRight }
+    ensures notes { NotesAreRight }
+{}
+
+/// Every run of the core is sound: at each moment what was done is right by what the look back shows, and services that have, or
+/// may have, one address share it, or the cluster showed it so.
+pub fn runs_are_sound()
+    ensures { RunsAreSound }
+{}

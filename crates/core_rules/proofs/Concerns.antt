@@ -1,0 +1,102 @@
+-- Cases of events by what they are about.
+use Rattle.std.proofs.Common.{◌≡◌, ℕ, Bool, true, false, List, [], ◌∷◌, refl}
+use Rattle.kube_model.specs.declared.event.Event.{Event}
+use Rattle.kube_model.specs.declared.event.Event.TheVariants.{Changed, Deleted, ListEnd, Expired, Members, Frame, Ignored}
+use Rattle.kube_model.specs.declared.event.Group.TheVariants as groups
+use Rattle.kube_model.specs.declared.key.Key.{Key}
+use Rattle.kube_model.specs.declared.object.Kind.TheVariants as kinds
+use Rattle.kube_model.specs.declared.object.Object.TheVariants as objects
+use Rattle.kube_model.specs.declared.service.Service.{Service}
+use Rattle.object_history.specs.Cache.{Cached, cached_after}
+use Rattle.object_history.specs.Observations.{Watched}
+use Rattle.core_rules.specs.Take.{Concern, Shows, Drops, EndsServices, Configures, Lapses, Nothing, concern, shows}
+
+module _ (P : Event → Concern → Type 0)
+    (shown : (version : ℕ) (service : Service) → P (shows version service) (Shows version service))
+    (dropped : (key : Key) → P (Deleted kinds.Service key) (Drops key))
+    (ended : P (ListEnd groups.Service) EndsServices)
+    (configures : (event : Event) → concern event ≡ Configures → P event Configures)
+    (lapses : P Expired Lapses)
+    (other : (event : Event) → P event Nothing)
+  where
+    pub by_concern : (event : Event) → P event (concern event)
+    by_concern (Changed version (objects.Service service)) = shown version service
+    by_concern (Changed version (objects.Pool pool)) = configures (Changed version (objects.Pool pool)) refl
+    by_concern (Changed version (objects.L2 adv)) = configures (Changed version (objects.L2 adv)) refl
+    by_concern (Changed version (objects.Bgp adv)) = configures (Changed version (objects.Bgp adv)) refl
+    by_concern (Changed version (objects.Peer peer)) = configures (Changed version (objects.Peer peer)) refl
+    by_concern (Changed version (objects.Community community)) = configures (Changed version (objects.Community community)) refl
+    by_concern (Changed version (objects.Namespace namespace)) = configures (Changed version (objects.Namespace namespace)) refl
+    by_concern (Changed version (objects.Node node)) = other (Changed version (objects.Node node))
+    by_concern (Changed version (objects.Slice slice)) = other (Changed version (objects.Slice slice))
+    by_concern (Deleted kinds.Service key) = dropped key
+    by_concern (Deleted kinds.Pool key) = configures (Deleted kinds.Pool key) refl
+    by_concern (Deleted kinds.L2 key) = configures (Deleted kinds.L2 key) refl
+    by_concern (Deleted kinds.Bgp key) = configures (Deleted kinds.Bgp key) refl
+    by_concern (Deleted kinds.Peer key) = configures (Deleted kinds.Peer key) refl
+    by_concern (Deleted kinds.Community key) = configures (Deleted kinds.Community key) refl
+    by_concern (Deleted kinds.Namespace key) = configures (Deleted kinds.Namespace key) refl
+    by_concern (Deleted kinds.Node key) = other (Deleted kinds.Node key)
+    by_concern (Deleted kinds.Slice key) = other (Deleted kinds.Slice key)
+    by_concern (ListEnd groups.Service) = ended
+    by_concern (ListEnd groups.Config) = configures (ListEnd groups.Config) refl
+    by_concern (ListEnd groups.Endpoint) = other (ListEnd groups.Endpoint)
+    by_concern Expired = lapses
+    by_concern (Members names) = other (Members names)
+    by_concern (Frame interface bytes) = other (Frame interface bytes)
+    by_concern Ignored = other Ignored
+
+-- an event of the configuration or of a namespace leaves the services and their list as they were
+pub config-services : (event : Event) (s : Cached) → concern event ≡ Configures → (cached_after (Watched event) s).services ≡ s.services
+config-services (Changed version (objects.Service service)) s e = absurd (cc)
+config-services (Changed version (objects.Pool pool)) s e = refl
+config-services (Changed version (objects.L2 adv)) s e = refl
+config-services (Changed version (objects.Bgp adv)) s e = refl
+config-services (Changed version (objects.Peer peer)) s e = refl
+config-services (Changed version (objects.Community community)) s e = refl
+config-services (Changed version (objects.Namespace namespace)) s e = refl
+config-services (Changed version (objects.Node node)) s e = absurd (cc)
+config-services (Changed version (objects.Slice slice)) s e = absurd (cc)
+config-services (Deleted kinds.Service key) s e = absurd (cc)
+config-services (Deleted kinds.Pool key) s e = refl
+config-services (Deleted kinds.L2 key) s e = refl
+config-services (Deleted kinds.Bgp key) s e = refl
+config-services (Deleted kinds.Peer key) s e = refl
+config-services (Deleted kinds.Community key) s e = refl
+config-services (Deleted kinds.Namespace key) s e = refl
+config-services (Deleted kinds.Node key) s e = absurd (cc)
+config-services (Deleted kinds.Slice key) s e = absurd (cc)
+config-services (ListEnd groups.Service) s e = absurd (cc)
+config-services (ListEnd groups.Config) s e = refl
+config-services (ListEnd groups.Endpoint) s e = absurd (cc)
+config-services Expired s e = absurd (cc)
+config-services (Members names) s e = absurd (cc)
+config-services (Frame interface bytes) s e = absurd (cc)
+config-services Ignored s e = absurd (cc)
+
+pub config-services_ended : (event : Event) (s : Cached) → concern event ≡ Configures → (cached_after (Watched event) s).services_ended ≡ s.services_ended
+config-services_ended (Changed version (objects.Service service)) s e = absurd (cc)
+config-services_ended (Changed version (objects.Pool pool)) s e = refl
+config-services_ended (Changed version (objects.L2 adv)) s e = refl
+config-services_ended (Changed version (objects.Bgp adv)) s e = refl
+config-services_ended (Changed version (objects.Peer peer)) s e = refl
+config-services_ended (Changed version (objects.Community community)) s e = refl
+config-services_ended (Changed version (objects.Namespace namespace)) s e = refl
+config-services_ended (Changed version (objects.Node node)) s e = absurd (cc)
+config-services_ended (Changed version (objects.Slice slice)) s e = absurd (cc)
+config-services_ended (Deleted kinds.Service key) s e = absurd (cc)
+config-services_ended (Deleted kinds.Pool key) s e = refl
+config-services_ended (Deleted kinds.L2 key) s e = refl
+config-services_ended (Deleted kinds.Bgp key) s e = refl
+config-services_ended (Deleted kinds.Peer key) s e = refl
+config-services_ended (Deleted kinds.Community key) s e = refl
+config-services_ended (Deleted kinds.Namespace key) s e = refl
+config-services_ended (Deleted kinds.Node key) s e = absurd (cc)
+config-services_ended (Deleted kinds.Slice key) s e = absurd (cc)
+config-services_ended (ListEnd groups.Service) s e = absurd (cc)
+config-services_ended (ListEnd groups.Config) s e = refl
+config-services_ended (ListEnd groups.Endpoint) s e = absurd (cc)
+config-services_ended Expired s e = absurd (cc)
+config-services_ended (Members names) s e = absurd (cc)
+config-services_ended (Frame interface bytes) s e = absurd (cc)
+config-services_ended Ignored s e = absurd (cc)

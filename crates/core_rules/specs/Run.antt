@@ -1,0 +1,135 @@
+-- Runs of the core, and what a look back over them shows. The newest stands first.
+use Rattle.std.specs.Prelude.{◌≡◌, ◌≢◌, ◌↔◌, ℕ, Bool, true, false, ◌&&◌, ◌==◌, not, nat_le, if◌then◌else◌, List, [], ◌∷◌, Option, Some, None, is_some, ⊤}
+use Rattle.std.specs.List.{list_any}
+use Rattle.std.specs.Option.{option_map, option_map_or}
+use Rattle.kube_model.specs.declared.event.Event.{Event}
+use Rattle.kube_model.specs.declared.event.Group.{Group}
+use Rattle.kube_model.specs.declared.event.Group.TheVariants as groups
+use Rattle.kube_model.specs.declared.key.Key.{Key}
+use Rattle.kube_model.specs.declared.put.Put.{Put}
+use Rattle.kube_model.specs.declared.record.Record.{Record}
+use Rattle.kube_model.specs.declared.reason.Reason.{Reason}
+use Rattle.kube_model.specs.declared.reply.PutReply.{PutReply}
+use Rattle.kube_model.specs.declared.reply.PutReply.TheVariants.{Ok as StoredReply, Stale, Missing, Unknown}
+use Rattle.kube_model.specs.declared.service.Service.{Service}
+use Rattle.versioned_map.specs.declared.map.Versioned.{Versioned}
+use Rattle.pool_config.specs.ConfigValue.{ConfigValue}
+use Rattle.object_history.specs.Cache.{Cached, cached}
+use Rattle.object_history.specs.Observations.{Observation, Watched, WatchExpired, Written}
+use Rattle.object_history.specs.Kinds.{service_resource, namespace_resource}
+use Rattle.object_history.specs.LookBack.{last_shown, version_last_shown, HasEnded, IsInForce, IsLastShown}
+use Rattle.alloc_book.specs.declared.choice.Choice.{Choice}
+use Rattle.alloc_book.specs.Chosen.{IsChosen}
+use Rattle.alloc_book.specs.Claims.{claims_of, claimed_by, added}
+use Rattle.kube_model.specs.Keys.{same_key, has_key}
+use Rattle.core_rules.specs.declared.turn.Turn.{Turn}
+use Rattle.core_rules.specs.declared.turn.Turn.TheVariants.{Idle, NoPut, Wants}
+use Rattle.core_rules.specs.Core.{State, fresh, offer_at, service_of}
+use Rattle.core_rules.specs.Take.{Concern, Shows, Drops, EndsServices, Configures, Lapses, Nothing, concern, core_take, core_expired}
+use Rattle.core_rules.specs.Turn.{core_turn, after_turn, put_in, wanted_record, reason_in}
+use Rattle.core_rules.specs.Reply.{core_reply}
+
+-- what arrives at a core, and what it was made to do
+pub data Entry : Type 0 where
+  Took : (event : Event) → Entry  -- an event was taken
+  Expired : (group : Group) → Entry  -- the watch of one list has expired
+  Turned : (turn : Turn) → Entry  -- a turn was made, and came to this
+  Heard : (reply : PutReply) → Entry  -- the put that was out was answered
+
+abbrev pub entered : Entry → State → State
+entered (Took event) s = core_take s event
+entered (Expired group) s = core_expired s group
+entered (Turned turn) s = after_turn s
+entered (Heard reply) s = core_reply s reply
+
+abbrev pub core_after : Option (List ℕ) → List Entry → State
+core_after class [] = fresh class
+core_after class (e ∷ earlier) = entered e (core_after class earlier)
+
+-- events are taken and turns are made while no put is out; a reply comes to a put that is out; each turn is the core's
+abbrev pub MayEnter : Entry → State → Type 0
+MayEnter (Took event) s = s.out ≡ None
+MayEnter (Expired group) s = s.out ≡ None
+MayEnter (Turned turn) s = (s.out ≡ None) × (turn ≡ core_turn s)
+MayEnter (Heard reply) s = is_some s.out ≡ true
+
+abbrev pub IsRun : Option (List ℕ) → List Entry → Type 0
+IsRun class [] = ⊤
+IsRun class (e ∷ earlier) = MayEnter e (core_after class earlier) × IsRun class earlier
+
+-- ---- the look back
+-- the put that has no reply yet
+abbrev pub put_out : List Entry → Option Put
+put_out [] = None
+put_out (Took event ∷ earlier) = put_out earlier
+put_out (Expired group ∷ earlier) = put_out earlier
+put_out (Turned turn ∷ earlier) = put_in turn
+put_out (Heard reply ∷ earlier) = None
+
+abbrev pub told_by : Concern → Event → List Observation → List Observation
+told_by (Shows version service) event earlier = Watched event ∷ earlier
+told_by (Drops key) event earlier = Watched event ∷ earlier
+told_by EndsServices event earlier = Watched event ∷ earlier
+told_by Configures event earlier = Watched event ∷ earlier
+told_by Lapses event earlier = Watched event ∷ earlier
+told_by Nothing event earlier = earlier
+
+abbrev pub heard_of : Put → PutReply → List Observation → List Observation
+heard_of put (StoredReply version) earlier = Written put.key version put.holding ∷ earlier
+heard_of put Stale earlier = earlier
+heard_of put Missing earlier = earlier
+heard_of put Unknown earlier = earlier
+
+abbrev pub heard_by : Option Put → PutReply → List Observation → List Observation
+heard_by None reply earlier = earlier
+heard_by (Some put) reply earlier = heard_of put reply earlier
+
+-- what observed to what is held
+abbrev pub observed : List Entry → List Observation
+observed [] = []
+observed (Took event ∷ earlier) = told_by (concern event) event (observed earlier)
+observed (Expired group ∷ earlier) = WatchExpired group ∷ observed earlier
+observed (Turned turn ∷ earlier) = observed earlier
+observed (Heard reply ∷ earlier) = heard_by (put_out earlier) reply (observed earlier)
+
+-- the version that was last shown for the key, and 0 where none was
+abbrev pub version_shown : Key → List Entry → ℕ
+version_shown key run = version_last_shown service_resource key (observed run)
+
+abbrev pub claims_told : Key → Concern → ℕ → List Record → List Record
+claims_told key (Shows version service) shown before = if same_key service.key key && not (nat_le version shown) then claimed_by service.holding else before
+claims_told key (Drops k) shown before = if same_key k key then [] else before
+claims_told key EndsServices shown before = if shown == 0 then [] else before
+claims_told key Configures shown before = before
+claims_told key Lapses shown before = before
+claims_told key Nothing shown before = before
+
+abbrev pub claims_replied : Key → Put → PutReply → List Record → List Record
+claims_replied key put (StoredReply version) before = if same_key put.key key then claimed_by put.holding else before
+claims_replied key put Stale before = before
+claims_replied key put Missing before = before
+claims_replied key put Unknown before = if same_key put.key key then added put.holding before else before
+
+abbrev pub claims_heard : Key → Option Put → PutReply → List Record → List Record
+claims_heard key None reply before = before
+claims_heard key (Some put) reply before = claims_replied key put reply before
+
+-- The records that the key has, or may have: that of its last newer event or of its last put that was answered ok, whichever came
+-- later, and those of the puts since then that were answered unknown; none after its deletion.
+abbrev pub claims_shown : Key → List Entry → List Record
+claims_shown key [] = []
+claims_shown key (Took event ∷ earlier) = claims_told key (concern event) (version_shown key earlier) (claims_shown key earlier)
+claims_shown key (Expired group ∷ earlier) = claims_shown key earlier
+claims_shown key (Turned turn ∷ earlier) = claims_shown key earlier
+claims_shown key (Heard reply ∷ earlier) = claims_heard key (put_out earlier) reply (claims_shown key earlier)
+
+-- ---- laws
+-- whatever arrives, the core holds what observed
+abbrev pub HoldsWhatWasObserved : Type 0
+HoldsWhatWasObserved = (class : Option (List ℕ)) (run : List Entry) → IsRun class run
+    → ((core_after class run).held ≡ cached (observed run)) × ((core_after class run).out ≡ put_out run)
+
+-- whatever arrives, each key has the claims that the look back shows
+abbrev pub ClaimsAreShown : Type 0
+ClaimsAreShown = (class : Option (List ℕ)) (run : List Entry) → IsRun class run → (key : Key)
+    → claims_of key (core_after class run).claims ≡ claims_shown key run

@@ -1,0 +1,210 @@
+-- What an event makes of the core.
+use Rattle.std.specs.Prelude.{ℕ, Bool, true, false, ◌&&◌, ◌||◌, ◌==◌, not, nat_le, if◌then◌else◌, List, [], ◌∷◌, ◌++◌, filter, length, Option, Some, None, is_some}
+use Rattle.std.specs.List.{list_any}
+use Rattle.kube_model.specs.declared.event.Event.{Event}
+use Rattle.kube_model.specs.declared.event.Event.TheVariants.{Changed, Deleted, ListEnd, Expired, Members, Frame, Ignored}
+use Rattle.kube_model.specs.declared.event.Group.{Group}
+use Rattle.kube_model.specs.declared.event.Group.TheVariants as groups
+use Rattle.kube_model.specs.declared.key.Key.{Key}
+use Rattle.kube_model.specs.declared.object.Kind.{Kind}
+use Rattle.kube_model.specs.declared.object.Kind.TheVariants as kinds
+use Rattle.kube_model.specs.declared.object.Object.{Object}
+use Rattle.kube_model.specs.declared.object.Object.TheVariants as objects
+use Rattle.kube_model.specs.declared.service.Service.{Service}
+use Rattle.versioned_map.specs.declared.map.Versioned.{Versioned}
+use Rattle.versioned_map.specs.Entries.{is_newer, listed, version_at}
+use Rattle.object_history.specs.Cache.{Cached, cached_after}
+use Rattle.object_history.specs.Observations.{Observation, Watched, WatchExpired}
+use Rattle.kube_model.specs.Keys.{key_cmp, same_key, without}
+use Rattle.object_cache.specs.declared.change.Change.{Change}
+use Rattle.object_cache.specs.declared.change.Change.TheVariants.{Service as ServiceChange, Services, Namespace as NamespaceChange, Other}
+use Rattle.object_cache.specs.declared.change.TakeNote.{TakeNote}
+use Rattle.object_cache.specs.declared.change.TakeNote.TheVariants.{Quiet, Accepted, Refused}
+use Rattle.object_cache.specs.declared.change.Applied.{Applied}
+use Rattle.object_cache.specs.Change.{applied}
+use Rattle.object_cache.specs.Limits.{most_services, passes}
+use Rattle.alloc_book.specs.Claims.{ClaimValue, others, settled, loses, has_claims}
+use Rattle.core_rules.specs.Core.{State, is_ready, service_of, all_free, waiting}
+use Rattle.core_rules.specs.Keys.{own_key}
+
+-- what an event is about, for a controller
+pub data Concern : Type 0 where
+  Shows : (version : ℕ) → (service : Service) → Concern  -- a service
+  Drops : (key : Key) → Concern  -- a service that isn't there any more
+  EndsServices : Concern  -- their list has ended
+  Configures : Concern  -- the configuration or a namespace
+  Lapses : Concern  -- the watches have expired
+  Nothing : Concern  -- nodes, endpoint slices and their list, members, frames: a controller holds none of them
+
+abbrev pub shown_concern : ℕ → Object → Concern
+shown_concern version (objects.Service service) = Shows version service
+shown_concern version (objects.Node node) = Nothing
+shown_concern version (objects.Slice slice) = Nothing
+shown_concern version (objects.Pool pool) = Configures
+shown_concern version (objects.L2 adv) = Configures
+shown_concern version (objects.Bgp adv) = Configures
+shown_concern version (objects.Peer peer) = Configures
+shown_concern version (objects.Community community) = Configures
+shown_concern version (objects.Namespace namespace) = Configures
+
+abbrev pub deleted_concern : Kind → Key → Concern
+deleted_concern kinds.Service key = Drops key
+deleted_concern kinds.Node key = Nothing
+deleted_concern kinds.Slice key = Nothing
+deleted_concern kinds.Pool key = Configures
+deleted_concern kinds.L2 key = Configures
+deleted_concern kinds.Bgp key = Configures
+deleted_concern kinds.Peer key = Configures
+deleted_concern kinds.Community key = Configures
+deleted_concern kinds.Namespace key = Configures
+
+abbrev pub listed_concern : Group → Concern
+listed_concern groups.Config = Configures
+listed_concern groups.Service = EndsServices
+listed_concern groups.Endpoint = Nothing
+
+abbrev pub concern : Event → Concern
+concern (Changed version object) = shown_concern version object
+concern (Deleted kind key) = deleted_concern kind key
+concern (ListEnd group) = listed_concern group
+concern Expired = Lapses
+concern (Members names) = Nothing
+concern (Frame interface bytes) = Nothing
+concern Ignored = Nothing
+
+abbrev pub shows : ℕ → Service → Event
+shows version service = Changed version (objects.Service service)
+
+-- a key, and behind it the others that wait, where a claim was lost
+abbrev pub own_and_waiting : Bool → Bool → State → Key → List Key
+own_and_waiting ready lost s key =
+    if ready then own_key key s.queue ++ waiting lost s.class (same_key key) s.queue s.awaiting s.held.services else []
+
+-- The service is held in place of what was held, its record settles its claims, and the key stops awaiting and is queued. One
+-- that isn't newer than what is held is passed over. Where a claim is lost, the others that wait are queued behind it.
+abbrev pub with_service : State → ℕ → Service → State
+with_service s version service =
+    let newer = is_newer key_cmp s.held.services service.key version in
+    record s {
+      held = cached_after (Watched (shows version service)) s.held;
+      claims = if newer then settled service.key service.holding s.claims else s.claims;
+      awaiting = if newer then without service.key s.awaiting else s.awaiting;
+      queue = if newer then s.queue ++ own_and_waiting (is_ready s.held) (loses service.key service.holding s.claims) s service.key else s.queue;
+    }
+
+-- the service is dropped with its claims, its place in the queue and its awaiting
+abbrev pub without_service : State → Key → State
+without_service s key = record s {
+  held = cached_after (Watched (Deleted kinds.Service key)) s.held;
+  claims = others key s.claims;
+  awaiting = without key s.awaiting;
+  queue = without key s.queue ++ waiting (is_ready s.held && has_claims key s.claims) s.class (same_key key) s.queue s.awaiting s.held.services;
+}
+
+abbrev pub no_key : Key → Bool
+no_key key = false
+
+-- the service isn't held, or wasn't listed
+abbrev pub is_unlisted : List (Key × Versioned Service) → Key → Bool
+is_unlisted services key = version_at key_cmp services key == 0
+
+-- those that are held and were listed
+abbrev pub listed_keys : List (Key × Versioned Service) → List Key → List Key
+listed_keys services keys = filter (λ k. not (is_unlisted services k)) keys
+
+abbrev pub listed_claims : List (Key × Versioned Service) → List ClaimValue → List ClaimValue
+listed_claims services claims = filter (λ c. not (is_unlisted services c.key)) claims
+
+-- another has a claim
+abbrev pub have_claims : List (Key × Versioned Service) → List ClaimValue → Bool
+have_claims services claims = list_any (λ c. is_unlisted services c.key) claims
+
+-- Where the core becomes ready every free key is queued; where it was ready, and a claim was lost, those that wait.
+abbrev pub listed_and_free : Bool → Bool → Bool → State → List Key
+listed_and_free ready_before ready lost s =
+    if not ready then [] else
+    (if ready_before then waiting lost s.class no_key s.queue s.awaiting (listed s.held.services)
+    else all_free s.queue s.awaiting (listed s.held.services))
+
+-- The list of services has ended: those that weren't listed are dropped.
+abbrev pub with_services_listed : State → State
+with_services_listed s =
+    let after = cached_after (Watched (ListEnd groups.Service)) s.held in
+    record s {
+      held = after;
+      claims = listed_claims after.services s.claims;
+      awaiting = listed_keys after.services s.awaiting;
+      queue = listed_keys after.services s.queue
+          ++ listed_and_free (is_ready s.held) (s.held.config_ended && is_some s.held.config) (have_claims s.held.services s.claims) s;
+    }
+
+abbrev pub is_accepted : TakeNote → Bool
+is_accepted Accepted = true
+is_accepted Quiet = false
+is_accepted (Refused fault) = false
+
+abbrev pub is_namespace : Change → Bool
+is_namespace (NamespaceChange name) = true
+is_namespace (ServiceChange key before) = false
+is_namespace (Services unlisted) = false
+is_namespace Other = false
+
+-- the core becomes ready, a configuration is accepted, or a namespace changes
+abbrev pub wakes : Cached → Applied → Cached → Bool
+wakes before by after = is_ready after && (not (is_ready before) || is_accepted by.note || is_namespace by.change)
+
+-- the configuration or a namespace changes
+abbrev pub configured : State → Event → State
+configured s event =
+    let after = cached_after (Watched event) s.held in
+    record s {
+      held = after;
+      queue = if wakes s.held (applied s.held event) after then s.queue ++ all_free s.queue s.awaiting s.held.services else s.queue;
+    }
+
+-- the watches have expired
+abbrev pub lapsed : State → State
+lapsed s = record s { held = cached_after (Watched Expired) s.held; queue = [] }
+
+abbrev pub core_by : Concern → State → Event → State
+core_by (Shows version service) s event = with_service s version service
+core_by (Drops key) s event = without_service s key
+core_by EndsServices s event = with_services_listed s
+core_by Configures s event = configured s event
+core_by Lapses s event = lapsed s
+core_by Nothing s event = s
+
+-- the core after an event
+abbrev pub core_take : State → Event → State
+core_take s event = core_by (concern event) s event
+
+abbrev pub note_by : Concern → State → Event → TakeNote
+note_by Configures s event = (applied s.held event).note
+note_by (Shows version service) s event = Quiet
+note_by (Drops key) s event = Quiet
+note_by EndsServices s event = Quiet
+note_by Lapses s event = Quiet
+note_by Nothing s event = Quiet
+
+-- what is noted of an event
+abbrev pub core_note : State → Event → TakeNote
+core_note s event = note_by (concern event) s event
+
+abbrev pub limits_by : Concern → State → Bool
+limits_by (Shows version service) s = passes key_cmp most_services s.held.services service.key version
+limits_by (Drops key) s = false
+limits_by EndsServices s = false
+limits_by Configures s = false
+limits_by Lapses s = false
+limits_by Nothing s = false
+
+-- the event would have one more service held than may be
+abbrev pub limits : State → Event → Bool
+limits s event = limits_by (concern event) s
+
+-- The watch of one list has expired. What is held of it is at version 0 from now on, and where it was the list of the
+-- configuration or of the services, the queue is empty.
+abbrev pub core_expired : State → Group → State
+core_expired s group =
+    let after = cached_after (WatchExpired group) s.held in
+    record s { held = after; queue = if is_ready after then s.queue else [] }

@@ -1,15 +1,14 @@
 -- The numbers of an advertisement's communities are exactly those that its texts stand for.
-use Rattle.std.proofs.Common.{◌≡◌, ℕ, Bool, true, false, cond, List, [], ◌∷◌, ◌++◌, ◌⊎◌, inl, inr, ◌||◌, Option, Some, None, IsTrue, ◌↔◌, decimal, refl, sym, ◌∙◌, ap}
-use Rattle.std.proofs.lemmas.Bool.{false≢true, true≢false, cases_Bool}
+use Rattle.std.proofs.Common.{◌≡◌, ℕ, Bool, true, false, cond, List, [], ◌∷◌, ◌++◌, inl, inr, ◌||◌, Option, Some, None, decimal, refl, sym, ◌∙◌}
+use Rattle.std.proofs.lemmas.Bool.{false≢true, cases_Bool}
 use Rattle.std.proofs.lemmas.Cmp.{nat_cmp_total}
 use Rattle.std.proofs.lemmas.Map.Lookups.{exact_unsigned}
-use Rattle.std.specs.List.{filter_map, list_any}
+use Rattle.std.specs.List.{filter_map}
 use Rattle.std.specs.List.Sorted.{IsStrictlySortedBy}
 use Rattle.std.specs.Option.{option_and_then}
 use Rattle.std.specs.Ordering.{nat_cmp}
 use Rattle.kube_model.specs.declared.community.CommunityList.{CommunityList}
 use Rattle.mlb_base.specs.Items.{Has, IsIn}
-use Rattle.pool_config.specs.KeySets.{keys_with}
 use Rattle.pool_config.specs.Laws.{StandsFor, AreNumbersOf}
 use Rattle.pool_config.specs.Lists.{named_value, number_in, numbers_in}
 use Rattle.pool_config.specs.Numbers.{IsNumberText, number_of, has_colon, is_colon}

@@ -1,5 +1,5 @@
 -- What the objects are compiled to is the first fault, or else the lists.
-use Rattle.std.proofs.Common.{◌≡◌, ◌≢◌, ℕ, zero, suc, ◌<◌, ◌≤◌, List, [], ◌∷◌, ◌++◌, ◌⊎◌, inl, inr, length, All, Option, Some, None, Result, Ok, Err, IfOk, IfErr, ◌↔◌, refl, sym, ◌∙◌, ap, subst, arith}
+use Rattle.std.proofs.Common.{◌≡◌, ℕ, List, [], ◌∷◌, ◌++◌, inl, inr, All, Option, Some, None, Result, Ok, Err, IfOk, IfErr, ◌↔◌, refl, sym, ◌∙◌, ap, subst, arith}
 use Rattle.std.proofs.lemmas.Bool.{cases_order}
 use Rattle.std.proofs.lemmas.List.Elements.{All-nil, All-cons, All-head, All-tail}
 use Rattle.std.specs.Option.{option_map, option_or, MatchOption}
@@ -9,10 +9,9 @@ use Rattle.pool_config.specs.declared.compile_objects.CompileFault.{CompileFault
 use Rattle.pool_config.specs.declared.compile_objects.CompileFault.TheVariants.{Refused}
 use Rattle.pool_config.specs.Compile.{compiled, compiled_unless}
 use Rattle.pool_config.specs.ConfigValue.{ConfigValue}
-use Rattle.pool_config.specs.Faults.{Row, ManyPools, ManyEntries, ManyTexts, BadEntry, NoEntry, Overlap, PoolSelector, L2Selector, BgpSelector, PeerSelector, Aggregation, PrefClash, UnknownCommunity, BadValue, BadText, TwiceNamed, UnknownPeer, rows, fault_at, FaultAt, FaultyItem, FaultyPair, IsBefore, IsFirstOf, IsFirstFault, NoFaultAt, HasNoFault}
+use Rattle.pool_config.specs.Faults.{Row, ManyPools, ManyEntries, ManyTexts, BadEntry, NoEntry, Overlap, PoolSelector, L2Selector, BgpSelector, PeerSelector, Aggregation, PrefClash, UnknownCommunity, BadValue, BadText, TwiceNamed, UnknownPeer, rows, fault_at, FaultAt, FaultyItem, FaultyPair, IsFirstOf, IsFirstFault, NoFaultAt, HasNoFault}
 use Rattle.pool_config.specs.Lists.{lists_of}
 use Rattle.pool_config.specs.Objects.{Objects, objects_of}
-use Rattle.mlb_base.specs.Items.{ItemAt}
 use Rattle.pool_config.specs.Search.{found_at, found_among, first_fault}
 use Rattle.pool_config.proofs.Firsts.{Finds}
 use Rattle.pool_config.proofs.ItemLaws.{same_item}

@@ -1,6 +1,5 @@
 -- What is found first is the first fault.
-use Rattle.std.proofs.Common.{◌≡◌, ◌≢◌, ℕ, zero, suc, ◌+◌, ◌-◌, ◌<◌, ◌≤◌, Bool, true, false, ◌==◌, List, [], ◌∷◌, ◌++◌, ◌⊎◌, inl, inr, map, find, cond, Option, Some, None, refl, sym, ◌∙◌, ap, subst, arith, Decides, IsTrue}
-use Rattle.std.proofs.lemmas.Bool.{false≢true, true≢false, cases_Bool}
+use Rattle.std.proofs.Common.{◌≡◌, ℕ, zero, suc, ◌<◌, Bool, true, false, List, [], ◌∷◌, inl, inr, find, cond, Option, Some, None, refl, subst, arith, Decides}
 use Rattle.std.proofs.lemmas.Bool.Decides.{not_from_Decides}
 use Rattle.std.specs.Option.{option_map, option_or, MatchOption}
 use Rattle.pool_config.specs.Faults.{FaultyItem, FaultyPair, IsBefore, IsFirstOf, key_of}

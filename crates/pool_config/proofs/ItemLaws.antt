@@ -1,5 +1,5 @@
 -- The items of lists, by their places, and lists some item of which is so.
-use Rattle.std.proofs.Common.{◌≡◌, ℕ, zero, suc, List, [], ◌∷◌, ◌++◌, ◌⊎◌, ◌<◌, ◌+◌, inl, inr, length, arith, Option, Some, None, ◌↔◌, refl, sym, ◌∙◌, ap, subst}
+use Rattle.std.proofs.Common.{◌≡◌, ℕ, zero, suc, List, [], ◌∷◌, ◌++◌, ◌<◌, inl, inr, length, arith, Option, Some, None, refl, sym, ◌∙◌, ap, subst}
 use Rattle.std.specs.List.{filter_map, cons_option}
 use Rattle.mlb_base.specs.Items.{ItemAt, Has, IsIn}
 

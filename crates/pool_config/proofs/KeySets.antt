@@ -1,5 +1,5 @@
 -- Sets, as lists of keys that ascend: what is among them once a key is put in, and that they still ascend.
-use Rattle.std.proofs.Common.{◌≡◌, Bool, true, false, List, [], ◌∷◌, ◌⊎◌, inl, inr, Ordering, Less, Equal, Greater, refl, sym, ◌∙◌, ap, Decides}
+use Rattle.std.proofs.Common.{◌≡◌, List, [], ◌∷◌, ◌⊎◌, inl, inr, Ordering, Less, Equal, Greater, refl, sym, ◌∙◌, ap, Decides}
 use Rattle.std.proofs.lemmas.Map.Lookups.{CmpEqualImpliesEq}
 use Rattle.std.specs.Ordering.{match_ordering, ordering_reverse}
 use Rattle.std.specs.List.{AllByRecursion, list_any}

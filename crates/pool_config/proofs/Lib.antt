@@ -1,5 +1,6 @@
 pub mod ByName
 pub mod CommunitySets
+pub mod Counts
 pub mod FirstFault
 pub mod Firsts
 pub mod Halves
@@ -15,7 +16,7 @@ pub mod Repeats
 pub mod Rows
 pub mod Sets
 pub mod Shared
+pub mod Spans
 pub mod Stages
-pub mod Sweeps
 pub mod Tests
 pub mod TextSets

@@ -1,22 +1,17 @@
 -- The first pool, and the first advertisement, past a limit; the first name that stood before.
-use Rattle.std.proofs.Common.{◌≡◌, ◌≢◌, ℕ, zero, suc, ◌+◌, ◌-◌, ◌<◌, ◌≤◌, ◌==◌, Bool, true, false, ◌||◌, List, [], ◌∷◌, ◌++◌, ◌⊎◌, inl, inr, map, cond, length, All, Option, Some, None, refl, sym, ◌∙◌, ap, subst, arith, Decides, append_assoc}
-use Rattle.std.proofs.lemmas.Bool.{false≢true, true≢false, cases_Bool, cases_lt, ltb-true, ltb-false, ne_eqb}
-use Rattle.std.proofs.lemmas.Bool.Decides.{not_from_Decides}
+use Rattle.std.proofs.Common.{◌≡◌, ℕ, zero, suc, ◌-◌, ◌<◌, ◌≤◌, ◌==◌, Bool, true, false, List, [], ◌∷◌, ◌++◌, ◌⊎◌, inl, inr, cond, length, All, Option, Some, None, refl, sym, ◌∙◌, ap, subst, arith, append_assoc}
+use Rattle.std.proofs.lemmas.Bool.{cases_lt, ltb-true, ltb-false, ne_eqb}
 use Rattle.std.proofs.lemmas.List.Elements.{All-nil, All-cons, All-head, All-tail}
 use Rattle.std.specs.Prelude.{nat_lt}
-use Rattle.std.specs.List.{flat_map, list_any}
 use Rattle.std.specs.List.Sorted.{IsStrictlySortedBy}
-use Rattle.std.specs.BTreeMap.{is_at}
-use Rattle.std.specs.BTreeSet.{insert_key}
 use Rattle.kube_model.specs.declared.bgp.BgpAdv.{BgpAdv}
-use Rattle.kube_model.specs.declared.community.CommunityList.{CommunityList}
-use Rattle.pool_config.specs.Faults.{FaultyItem, IsBefore, IsFirstOf, key_of, Differ, HasText, HaveMore, community_entries}
+use Rattle.pool_config.specs.Faults.{FaultyItem, IsBefore, key_of, HasText, HaveMore}
 use Rattle.kube_labels.specs.Names.{name_cmp}
 use Rattle.kube_labels.proofs.NameLaws.{name_cmp-total, name_cmp-exact}
 use Rattle.mlb_base.specs.Items.{ItemAt, Has, IsIn}
 use Rattle.pool_config.specs.KeySets.{keys_with}
-use Rattle.pool_config.specs.Search.{name_at, first_past, first_repeat, repeats, names_with}
-use Rattle.pool_config.proofs.Firsts.{NoneOf, Finds}
+use Rattle.pool_config.specs.Search.{name_at, first_past}
+use Rattle.pool_config.proofs.Firsts.{Finds}
 use Rattle.pool_config.proofs.ItemLaws.{item_at_length, item_bound, length_push, append_nil}
 use Rattle.pool_config.proofs.KeySets.{in_keys, keys_in, ascending-keys_with}
 use Rattle.pool_config.proofs.TextSets.{ascending_differ, no_more}

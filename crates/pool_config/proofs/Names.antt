@@ -1,7 +1,6 @@
 -- Each object stays under its own name.
-use Rattle.std.proofs.Common.{◌≡◌, ℕ, Bool, true, false, cond, List, [], ◌∷◌, map, filter, Ordering, Less, Equal, Greater, refl, sym, ◌∙◌}
+use Rattle.std.proofs.Common.{◌≡◌, ℕ, Bool, true, false, cond, List, [], ◌∷◌, Ordering, Less, Equal, Greater, refl, ◌∙◌}
 use Rattle.std.specs.BTreeMap.{insert_entry, is_at}
-use Rattle.std.specs.List.{AllByRecursion}
 use Rattle.std.specs.Map.{remove_entry}
 use Rattle.std.specs.Ordering.{match_ordering}
 use Rattle.std.specs.Prelude.{nat_le}
@@ -12,10 +11,10 @@ use Rattle.kube_model.specs.declared.object.Object.TheVariants as objects
 use Rattle.kube_model.specs.declared.object.Kind.{Kind}
 use Rattle.kube_model.specs.declared.object.Kind.TheVariants as kinds
 use Rattle.versioned_map.specs.declared.map.Versioned.{Versioned}
-use Rattle.versioned_map.specs.Entries.{shown, expired, listed, is_listed, version_at, at_version}
+use Rattle.versioned_map.specs.Entries.{shown, expired, listed, is_listed, version_at}
 use Rattle.pool_config.specs.declared.object_set.ObjectSet.{ObjectSet}
 use Rattle.pool_config.specs.Laws.{AreNamed, IsNamed, NamesAreKept}
-use Rattle.pool_config.specs.Objects.{no_objects, set_put, set_shown, set_without, set_expired, set_listed}
+use Rattle.pool_config.specs.Objects.{set_put, set_shown, set_without}
 
 module _ {T : Type 0} (name_of : T → List ℕ) where
   put_by : (r : Ordering) (name : List ℕ) (v : Versioned T) (e : List ℕ × Versioned T) (es : List (List ℕ × Versioned T)) → name_cmp name e.0 ≡ r

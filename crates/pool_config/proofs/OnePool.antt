@@ -1,12 +1,9 @@
 -- The one pool that has an address.
-use Rattle.std.proofs.Common.{◌≡◌, ◌≢◌, ℕ, zero, suc, ◌+◌, ◌<◌, ◌≤◌, Bool, true, false, ◌&&◌, List, [], ◌∷◌, ◌++◌, inl, inr, map, cond, length, Option, Some, None, refl, sym, ◌∙◌, ap, subst, arith, Decides, IsTrue, IfSome, IfNone}
-use Rattle.std.proofs.lemmas.Bool.{false≢true, true≢false, cases_order, and_parts, and_from, leb-true, le-leb}
-use Rattle.std.proofs.lemmas.Bool.Decides.{Decides-and, Decides-like, not_from_Decides}
-use Rattle.std.specs.List.{position_from, flat_map}
-use Rattle.std.specs.Prelude.{nat_le}
-use Rattle.ip_ranges.specs.declared.family.Family.{Family}
-use Rattle.ip_ranges.specs.declared.family.Family.TheVariants.{V4, V6}
-use Rattle.ip_ranges.specs.Values.{AddressValue, SpanValue, Holds, holds, same_family}
+use Rattle.std.proofs.Common.{◌≡◌, ℕ, zero, suc, ◌+◌, ◌<◌, ◌≤◌, Bool, true, false, List, [], ◌∷◌, ◌++◌, inl, inr, map, cond, length, Option, Some, None, refl, sym, ◌∙◌, ap, subst, arith, Decides, IfSome, IfNone}
+use Rattle.std.proofs.lemmas.Bool.{cases_order, and_parts, and_from, leb-true, le-leb}
+use Rattle.std.proofs.lemmas.Bool.Decides.{not_from_Decides}
+use Rattle.std.specs.List.{position_from}
+use Rattle.ip_ranges.specs.Values.{AddressValue, SpanValue, Holds, holds}
 use Rattle.ip_ranges.proofs.AddressLaws.{same_family-is, same_family-itself}
 use Rattle.pool_config.specs.declared.compiled.CompiledPool.{CompiledPool}
 use Rattle.pool_config.specs.ConfigValue.{AreApart, placed_spans}

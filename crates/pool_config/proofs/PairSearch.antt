@@ -1,12 +1,17 @@
 -- The first pair of spans that overlap, as it is sought pool by pool.
-use Rattle.std.proofs.Common.{◌≡◌, ℕ, Bool, true, false, ◌||◌, cond, List, [], ◌∷◌, ◌++◌, map, find, Option, Some, None, refl, sym, ◌∙◌, ap}
-use Rattle.std.specs.List.{list_any, flat_map}
+use Rattle.std.proofs.Common.{◌≡◌, ℕ, Bool, true, false, ◌||◌, cond, List, [], ◌∷◌, ◌++◌, map, find, Option, Some, None, refl, sym, ◌∙◌, ap, append_assoc}
+use Rattle.std.proofs.lemmas.Bool.{or_parts}
+use Rattle.std.proofs.lemmas.List.Folds.{list_any-append}
+use Rattle.std.specs.List.{list_any}
 use Rattle.std.specs.Option.{option_map, option_or}
 use Rattle.ip_ranges.specs.Values.{SpanValue, overlaps}
 use Rattle.pool_config.specs.declared.compiled.CompiledPool.{CompiledPool}
 use Rattle.pool_config.specs.ConfigValue.{placed_spans}
 use Rattle.pool_config.specs.Search.{first_pair, meet, key_of}
-use Rattle.pool_config.specs.Sweep.{met_behind, met_within, first_met}
+use Rattle.pool_config.specs.Bounds.{all_spans}
+use Rattle.pool_config.specs.Meeting.{AreBoundsOf, meets_another, met_behind, met_from, met_within, first_met}
+use Rattle.pool_config.specs.declared.bounds.Bounds.{Bounds}
+use Rattle.pool_config.proofs.Counts.{alone_behind}
 
 abbrev Placed : Type 0
 Placed = List ℕ × SpanValue
@@ -62,13 +67,48 @@ behind name s others pools =
     go true = refl
     go false = refl
 
-within : (name : List ℕ) (spans : List SpanValue) (pools : List CompiledPool) →
-    first_pair key_of meet (map (λ t. (name, t)) spans ++ placed_spans pools) ≡ option_or (met_within name spans pools) (first_pair key_of meet (placed_spans pools))
-within name [] pools = refl
-within name (s ∷ ss) pools =
-    rw (behind name s ss pools, within name ss pools)
-    (sym (or_or (met_behind s name ss pools) (met_within name ss pools) (first_pair key_of meet (placed_spans pools))))
+-- a span that overlaps none of those behind it
+none_in_pools : (s : SpanValue) (pools : List CompiledPool) → list_any (overlaps s) (all_spans pools) ≡ false → find (λ p. list_any (overlaps s) p.spans) pools ≡ None
+none_in_pools s [] none = refl
+none_in_pools s (p ∷ ps) none =
+    let parts : (list_any (overlaps s) p.spans || list_any (overlaps s) (all_spans ps)) ≡ false = sym (list_any-append (overlaps s) p.spans (all_spans ps)) ∙ none in
+    let here : list_any (overlaps s) p.spans ≡ false = (or_parts _ _ parts).0 in
+    rw here (none_in_pools s ps (or_parts _ _ parts).1)
 
-pub first_met-is : (pools : List CompiledPool) → first_met pools ≡ first_pair key_of meet (placed_spans pools)
-first_met-is [] = refl
-first_met-is (p ∷ ps) = rw (first_met-is ps) (sym (within p.name p.spans ps))
+none_behind : (name : List ℕ) (s : SpanValue) (others : List SpanValue) (pools : List CompiledPool) → list_any (overlaps s) (others ++ all_spans pools) ≡ false
+    → met_behind s name others pools ≡ None
+none_behind name s others pools none =
+    let parts : (list_any (overlaps s) others || list_any (overlaps s) (all_spans pools)) ≡ false = sym (list_any-append (overlaps s) others (all_spans pools)) ∙ none in
+    let here : list_any (overlaps s) others ≡ false = (or_parts _ _ parts).0 in
+    rw here (ap (option_map (λ p. p.name)) (none_in_pools s pools (or_parts _ _ parts).1))
+
+-- the spans that overlap no other one are passed over
+passed_over : (before : List SpanValue) (name : List ℕ) (s : SpanValue) (others : List SpanValue) (pools : List CompiledPool) (bounds : Bounds)
+    → AreBoundsOf (before ++ s ∷ (others ++ all_spans pools)) bounds
+    → met_behind s name others pools ≡ met_from bounds s name others pools
+unfolding met_from
+passed_over before name s others pools bounds are = go (meets_another bounds s) refl
+  where
+    go : (b : Bool) → meets_another bounds s ≡ b → met_behind s name others pools ≡ cond b (met_behind s name others pools) None
+    go true e = refl
+    go false e = none_behind name s others pools (alone_behind before s (others ++ all_spans pools) bounds are e)
+
+within : (before : List SpanValue) (name : List ℕ) (spans : List SpanValue) (pools : List CompiledPool) (bounds : Bounds)
+    → AreBoundsOf (before ++ (spans ++ all_spans pools)) bounds
+    → first_pair key_of meet (map (λ t. (name, t)) spans ++ placed_spans pools) ≡ option_or (met_within bounds name spans pools) (first_pair key_of meet (placed_spans pools))
+within before name [] pools bounds are = refl
+within before name (s ∷ ss) pools bounds are =
+    let later : AreBoundsOf ((before ++ s ∷ []) ++ (ss ++ all_spans pools)) bounds = rw append_assoc are in
+    let here = behind name s ss pools ∙ passed_over before name s ss pools bounds are in
+    rw (here, within (before ++ s ∷ []) name ss pools bounds later)
+    (sym (or_or (met_from bounds s name ss pools) (met_within bounds name ss pools) (first_pair key_of meet (placed_spans pools))))
+
+met-is : (before : List SpanValue) (pools : List CompiledPool) (bounds : Bounds) → AreBoundsOf (before ++ all_spans pools) bounds
+    → first_met bounds pools ≡ first_pair key_of meet (placed_spans pools)
+met-is before [] bounds are = refl
+met-is before (p ∷ ps) bounds are =
+    let later : AreBoundsOf ((before ++ p.spans) ++ all_spans ps) bounds = rw append_assoc are in
+    rw (met-is (before ++ p.spans) ps bounds later) (sym (within before p.name p.spans ps bounds are))
+
+pub first_met-is : (pools : List CompiledPool) (bounds : Bounds) → AreBoundsOf (all_spans pools) bounds → first_met bounds pools ≡ first_pair key_of meet (placed_spans pools)
+first_met-is pools bounds are = met-is [] pools bounds are

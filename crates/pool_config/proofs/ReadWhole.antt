@@ -1,6 +1,6 @@
 -- Where there is no fault, everything is read: every entry, every selector and every community.
-use Rattle.std.proofs.Common.{◌≡◌, ℕ, Bool, true, false, cond, zero, suc, List, [], ◌∷◌, ◌++◌, ◌⊎◌, inl, inr, map, Option, Some, None, Result, Ok, Err, is_err, is_some, IsErr, IsOk, is_ok, IsTrue, refl, sym, ◌∙◌, ap, subst}
-use Rattle.std.proofs.lemmas.Bool.{cases_Bool, true≢false, false≢true}
+use Rattle.std.proofs.Common.{◌≡◌, ℕ, Bool, true, false, cond, List, [], ◌∷◌, ◌++◌, ◌⊎◌, inl, inr, map, Option, Some, None, Result, Ok, Err, is_err, is_some, IsErr, IsOk, refl, sym, ◌∙◌, ap, subst}
+use Rattle.std.proofs.lemmas.Bool.{false≢true}
 use Rattle.std.proofs.lemmas.Bool.Decides.{not_from_Decides}
 use Rattle.std.specs.List.{filter_map, cons_option}
 use Rattle.std.specs.Map.{lookup}
@@ -9,16 +9,12 @@ use Rattle.std.specs.Result.{result_ok}
 use Rattle.std.specs.Str.{bytes_eq}
 use Rattle.ip_ranges.specs.EntryText.{entry_of}
 use Rattle.kube_labels.specs.Selectors.{selector_of}
-use Rattle.kube_model.specs.declared.pool.Pool.{Pool}
-use Rattle.kube_model.specs.declared.pool.Allocation.{Allocation}
-use Rattle.kube_model.specs.declared.l2.L2Adv.{L2Adv}
 use Rattle.kube_model.specs.declared.bgp.BgpAdv.{BgpAdv}
-use Rattle.kube_model.specs.declared.peer.BgpPeer.{BgpPeer}
 use Rattle.kube_model.specs.declared.community.CommunityList.{CommunityList}
 use Rattle.kube_model.specs.declared.selector.SelectorText.{SelectorText}
-use Rattle.pool_config.specs.Faults.{HasNoFault, BadEntry, PoolSelector, L2Selector, BgpSelector, PeerSelector, UnknownCommunity, BadValue, BadText, IsBadEntry, IsBadSelector, IsCommunityName, IsNoNumber, IsUnknownText, IsBadText, allocation_selectors}
+use Rattle.pool_config.specs.Faults.{HasNoFault, BadEntry, PoolSelector, L2Selector, BgpSelector, PeerSelector, UnknownCommunity, BadValue, BadText, IsBadSelector, IsCommunityName, IsNoNumber, IsUnknownText, IsBadText}
 use Rattle.pool_config.specs.Laws.{AreRead, IsReadWhole}
-use Rattle.pool_config.specs.Lists.{spans_of, selectors_of, read_selector, number_in, named_value}
+use Rattle.pool_config.specs.Lists.{number_in, named_value}
 use Rattle.pool_config.specs.Numbers.{has_colon, number_of}
 use Rattle.pool_config.specs.Objects.{Objects}
 use Rattle.mlb_base.specs.Items.{ItemAt, Has}

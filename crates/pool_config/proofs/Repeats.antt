@@ -1,17 +1,17 @@
 -- The first list of communities with a name that stood before.
-use Rattle.std.proofs.Common.{◌≡◌, ◌≢◌, ℕ, zero, suc, ◌+◌, ◌<◌, ◌≤◌, Bool, true, false, ◌||◌, List, [], ◌∷◌, ◌++◌, ◌⊎◌, inl, inr, map, cond, length, Option, Some, None, refl, sym, ◌∙◌, ap, subst, arith, Decides, append_assoc}
+use Rattle.std.proofs.Common.{◌≡◌, ℕ, zero, suc, ◌<◌, Bool, true, false, ◌||◌, List, [], ◌∷◌, ◌++◌, ◌⊎◌, inl, inr, map, cond, length, Option, Some, None, refl, sym, ◌∙◌, ap, subst, arith, Decides, append_assoc}
 use Rattle.std.proofs.lemmas.Bool.{cases_lt}
 use Rattle.std.proofs.lemmas.Bool.Decides.{not_from_Decides}
-use Rattle.std.specs.List.{flat_map, list_any}
+use Rattle.std.specs.List.{list_any}
 use Rattle.std.specs.BTreeMap.{is_at}
 use Rattle.std.specs.BTreeSet.{insert_key}
 use Rattle.kube_model.specs.declared.community.CommunityList.{CommunityList}
-use Rattle.pool_config.specs.Faults.{FaultyItem, IsBefore, IsFirstOf, key_of, community_entries}
+use Rattle.pool_config.specs.Faults.{FaultyItem, IsBefore, key_of, community_entries}
 use Rattle.kube_labels.specs.Names.{name_cmp}
 use Rattle.kube_labels.proofs.NameLaws.{name_cmp-total, name_cmp-exact}
 use Rattle.mlb_base.specs.Items.{ItemAt, Has, IsIn}
 use Rattle.pool_config.specs.Search.{first_repeat, repeats, names_with}
-use Rattle.pool_config.proofs.Firsts.{NoneOf, Finds}
+use Rattle.pool_config.proofs.Firsts.{Finds}
 use Rattle.pool_config.proofs.ItemLaws.{item_at_length, item_bound, length_push, append_nil}
 use Rattle.pool_config.proofs.KeySets.{held-Decides, in_insert, insert_in}
 

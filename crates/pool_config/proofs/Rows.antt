@@ -1,35 +1,29 @@
 -- Each condition, and what is found for it.
-use Rattle.std.proofs.Common.{◌≡◌, ◌≢◌, ℕ, zero, suc, ◌<◌, ◌≤◌, ◌==◌, Bool, true, false, not, ◌||◌, ◌&&◌, List, [], ◌∷◌, ◌++◌, ◌⊎◌, inl, inr, map, cond, length, All, Option, Some, None, is_some, is_none, is_err, Result, Ok, Err, IsTrue, refl, sym, ◌∙◌, ap, subst, arith, Decides}
-use Rattle.std.proofs.lemmas.Bool.{false≢true, cases_order}
-use Rattle.std.proofs.lemmas.Bool.Decides.{Decides-and, Decides-or, Decides-not, Decides-at, Decides-ltb, Decides-eqb}
-use Rattle.std.proofs.lemmas.List.Elements.{All-nil, All-cons, All-head, All-tail}
+use Rattle.std.proofs.Common.{◌≡◌, ℕ, ◌<◌, ◌==◌, Bool, true, false, ◌&&◌, List, [], ◌∷◌, ◌++◌, ◌⊎◌, inl, inr, map, cond, length, Option, Some, None, is_some, is_none, refl, arith, Decides}
+use Rattle.std.proofs.lemmas.Bool.{false≢true}
+use Rattle.std.proofs.lemmas.Bool.Decides.{Decides-and, Decides-not, Decides-at, Decides-ltb, Decides-eqb}
 use Rattle.std.proofs.lemmas.Map.Made.{is_some-lookup}
 use Rattle.std.proofs.lemmas.Slice.Eq.{bytes_eq-Decides}
 use Rattle.std.specs.List.{list_any}
 use Rattle.std.specs.Map.{lookup, keys_of}
-use Rattle.std.specs.Option.{option_map, option_or, MatchOption}
+use Rattle.std.specs.Option.{option_or}
 use Rattle.std.specs.BTreeMap.{is_at}
 use Rattle.std.specs.Str.{bytes_eq}
-use Rattle.ip_ranges.specs.Values.{overlaps}
 use Rattle.ip_ranges.specs.Cover.{least_length_of}
 use Rattle.kube_model.specs.declared.pool.Pool.{Pool}
 use Rattle.kube_model.specs.declared.selector.SelectorText.{SelectorText}
 use Rattle.kube_model.specs.declared.peer.BgpPeer.{BgpPeer}
 use Rattle.kube_model.specs.declared.community.CommunityList.{CommunityList}
-use Rattle.kube_model.specs.declared.config_fault.ConfigFault.{ConfigFault}
 use Rattle.pool_config.specs.declared.compiled.CompiledPool.{CompiledPool}
 use Rattle.pool_config.specs.declared.compiled.CompiledBgp.{CompiledBgp}
-use Rattle.pool_config.specs.declared.object_set.ObjectSet.{ObjectSet}
-use Rattle.pool_config.specs.Compile.{compiled, compiled_unless}
-use Rattle.pool_config.specs.ConfigValue.{ConfigValue, placed_spans}
-use Rattle.pool_config.specs.Faults.{Row, ManyPools, ManyEntries, ManyTexts, BadEntry, NoEntry, Overlap, PoolSelector, L2Selector, BgpSelector, PeerSelector, Aggregation, PrefClash, UnknownCommunity, BadValue, BadText, TwiceNamed, UnknownPeer, rows, fault_at, key_of, FaultAt, FaultyItem, FaultyPair, IsBefore, IsFirstOf, IsFirstFault, NoFaultAt, HasNoFault, IsBadEntry, IsBadSelector, allocation_selectors, AggregatesTooFar, Clash, ChoosesPool, length_for, IsTooShort, HaveEqualLength, IsCommunityName, IsNoNumber, IsUnknownText, IsBadText}
+use Rattle.pool_config.specs.Faults.{Row, ManyPools, ManyEntries, ManyTexts, BadEntry, NoEntry, Overlap, PoolSelector, L2Selector, BgpSelector, PeerSelector, Aggregation, PrefClash, UnknownCommunity, BadValue, BadText, TwiceNamed, UnknownPeer, key_of, FaultAt, IsBadEntry, IsBadSelector, allocation_selectors, AggregatesTooFar, Clash, ChoosesPool, length_for, IsTooShort, HaveEqualLength, IsCommunityName, IsNoNumber, IsUnknownText, IsBadText}
 use Rattle.pool_config.specs.Lists.{lists_of, named_value}
 use Rattle.pool_config.specs.Numbers.{has_colon, number_of}
-use Rattle.pool_config.specs.Objects.{Objects, objects_of}
+use Rattle.pool_config.specs.Objects.{Objects}
 use Rattle.kube_labels.specs.Names.{name_cmp}
-use Rattle.mlb_base.specs.Items.{ItemAt, Has, IsIn}
-use Rattle.pool_config.specs.Search.{found_at, found_among, first_fault, meet, clash, aggregates_too_far, has_many_entries, has_bad_entry, has_no_entry, has_bad_selector, has_bad_allocation, has_bad_in_l2, has_bad_in_bgp, has_bad_in_peer, is_bad_selector, is_bad_entry, is_unknown, has_bad_value, is_bad_text, is_unknown_peer, is_too_short, chooses_pool, has_equal_length}
-use Rattle.pool_config.proofs.Firsts.{NoneOf, Finds, finds_item, finds_named, finds_pair}
+use Rattle.mlb_base.specs.Items.{Has, IsIn}
+use Rattle.pool_config.specs.Search.{found_at, clash, aggregates_too_far, has_many_entries, has_bad_entry, has_no_entry, has_bad_selector, has_bad_allocation, has_bad_in_l2, has_bad_in_bgp, has_bad_in_peer, is_bad_selector, is_bad_entry, is_unknown, has_bad_value, is_bad_text, is_unknown_peer, is_too_short, chooses_pool, has_equal_length}
+use Rattle.pool_config.proofs.Firsts.{Finds, finds_item, finds_named, finds_pair}
 use Rattle.pool_config.proofs.Limits.{finds_at, finds_past}
 use Rattle.pool_config.proofs.NumberTexts.{no_number-Decides}
 use Rattle.pool_config.proofs.Repeats.{finds_repeat}

@@ -1,14 +1,11 @@
 -- Spans that share an address, and the test of it on spans that are read of entries.
-use Rattle.std.proofs.Common.{◌≡◌, ℕ, zero, suc, ◌+◌, ◌-◌, ◌<◌, ◌≤◌, Bool, true, false, List, [], ◌∷◌, ◌++◌, length, map, cond, not, Option, Some, None, Result, Ok, Err, max, refl, sym, ◌∙◌, subst, arith}
-use Rattle.std.proofs.lemmas.Bool.{false≢true, and_parts, and_from, leb-true, le-leb, ltb-false}
-use Rattle.std.specs.List.{AllByRecursion, filter_map, flat_map, cons_option}
-use Rattle.std.specs.Prelude.{nat_le, nat_lt}
-use Rattle.std.specs.Option.{MatchOption}
+use Rattle.std.proofs.Common.{◌≡◌, ℕ, zero, suc, ◌+◌, ◌≤◌, Bool, true, false, List, [], ◌∷◌, ◌++◌, length, map, cond, not, Option, Some, None, Result, Ok, Err, max, refl, sym, ◌∙◌, subst, arith}
+use Rattle.std.proofs.lemmas.Bool.{and_parts, and_from, leb-true, le-leb, ltb-false}
+use Rattle.std.specs.List.{AllByRecursion, cons_option}
+use Rattle.std.specs.Prelude.{nat_lt}
 use Rattle.std.specs.Result.{result_ok}
 use Rattle.ip_ranges.specs.declared.fault.RangeFault.{RangeFault}
 use Rattle.ip_ranges.specs.declared.fault.RangeFault.TheVariants.{Mapped, MixedFamilies, Backwards}
-use Rattle.ip_ranges.specs.declared.family.Family.{Family}
-use Rattle.ip_ranges.specs.declared.family.Family.TheVariants.{V4, V6}
 use Rattle.ip_ranges.specs.Values.{AddressValue, SpanValue, Holds, overlaps, same_family, meets_mapped, masked, span_of, width_of}
 use Rattle.std.specs.Net.Reader.{read_octet, whole_value}
 use Rattle.std.specs.List.{position_or_len, before_first, after_first}
@@ -19,10 +16,10 @@ use Rattle.ip_ranges.proofs.AddressLaws.{same_family-is, same_family-itself}
 use Rattle.kube_model.specs.declared.pool.Pool.{Pool}
 use Rattle.mlb_base.specs.Items.{ItemAt}
 use Rattle.pool_config.specs.ConfigValue.{Overlaps, placed_spans}
-use Rattle.pool_config.specs.Faults.{FaultyPair, IsFirstOf, key_of}
+use Rattle.pool_config.specs.Faults.{FaultyPair, key_of}
 use Rattle.pool_config.specs.Lists.{compiled_pool, spans_of}
 use Rattle.pool_config.specs.Search.{first_pair, meet}
-use Rattle.pool_config.proofs.Firsts.{Finds, NoneOf, finds_pair}
+use Rattle.pool_config.proofs.Firsts.{Finds, finds_pair}
 use Rattle.pool_config.proofs.Tests.{Decides-itself}
 
 -- an address in both is found by the test

@@ -1,17 +1,15 @@
 -- The rows, stage by stage.
-use Rattle.std.proofs.Common.{◌≡◌, ℕ, List, [], ◌∷◌, ◌++◌, Option, Some, None, Result, Ok, Err, OnOk, Bool, true, false, refl, sym, ◌∙◌, ap, inl, inr}
-use Rattle.std.proofs.lemmas.Bool.{cases_Bool}
+use Rattle.std.proofs.Common.{◌≡◌, ℕ, List, [], ◌∷◌, ◌++◌, Option, Some, None, Result, Ok, Err, OnOk, true, refl, sym, ◌∙◌, ap}
 use Rattle.std.specs.Option.{option_map, option_or}
 use Rattle.kube_model.specs.declared.config_fault.ConfigFault.{ConfigFault}
-use Rattle.ip_ranges.specs.Values.{SpanValue, overlaps}
+use Rattle.ip_ranges.specs.Values.{SpanValue}
 use Rattle.pool_config.specs.declared.object_set.ObjectSet.{ObjectSet}
 use Rattle.pool_config.specs.Compile.{compiled, compiled_unless}
-use Rattle.pool_config.specs.ConfigValue.{AreApart, placed_spans}
-use Rattle.pool_config.specs.Faults.{Row, ManyPools, ManyEntries, ManyTexts, BadEntry, NoEntry, Overlap, PoolSelector, L2Selector, BgpSelector, PeerSelector, Aggregation, PrefClash, UnknownCommunity, BadValue, BadText, TwiceNamed, UnknownPeer, rows, fault_at, key_of, FaultyPair}
+use Rattle.pool_config.specs.ConfigValue.{AreApart}
+use Rattle.pool_config.specs.Faults.{Row, rows, fault_at, key_of, FaultyPair}
 use Rattle.pool_config.specs.Lists.{lists_of}
 use Rattle.pool_config.specs.Objects.{Objects, objects_of}
 use Rattle.pool_config.specs.Search.{found_among, found_at, first_fault, first_pair, meet, pool_rows, overlap_rows, selector_rows, advertised_rows, name_rows}
-use Rattle.mlb_base.specs.Items.{ItemAt}
 use Rattle.pool_config.proofs.Firsts.{Finds, finds_pair}
 use Rattle.pool_config.proofs.PairSearch.{or_or}
 use Rattle.pool_config.proofs.Shared.{overlaps-from}

@@ -1,5 +1,5 @@
 -- Which pools an advertisement chooses, and which nodes it, or a peer, selects.
-use Rattle.std.specs.Prelude.{◌≡◌, ℕ, Bool, ◌&&◌, ◌||◌, List, [], ◌∷◌, ◌⊎◌, IsTrue}
+use Rattle.std.specs.Prelude.{◌≡◌, ℕ, Bool, ◌&&◌, ◌||◌, List, [], ◌⊎◌, IsTrue}
 use Rattle.kube_labels.specs.SelectorValue.{SelectorValue}
 use Rattle.kube_labels.specs.Selectors.{matches, any_matches}
 use Rattle.mlb_base.specs.Items.{Has, IsIn, is_nil}

@@ -1,5 +1,5 @@
 -- What is wrong with the objects of a configuration, and which fault comes first.
-use Rattle.std.specs.Prelude.{◌≡◌, ◌≢◌, ℕ, suc, ◌<◌, ◌⊎◌, List, [], ◌∷◌, ◌++◌, length, map, Option, Some, None, All, IsTrue, IsErr, is_err}
+use Rattle.std.specs.Prelude.{◌≡◌, ◌≢◌, ℕ, suc, ◌<◌, ◌⊎◌, List, [], ◌∷◌, ◌++◌, length, map, Option, Some, None, All, IsTrue, IsErr}
 use Rattle.std.specs.List.{flat_map}
 use Rattle.ip_ranges.specs.declared.family.Family.{Family}
 use Rattle.ip_ranges.specs.declared.family.Family.TheVariants.{V4, V6}
@@ -7,11 +7,8 @@ use Rattle.ip_ranges.specs.Values.{SpanValue}
 use Rattle.ip_ranges.specs.EntryText.{entry_of}
 use Rattle.ip_ranges.specs.Cover.{least_length_of}
 use Rattle.kube_labels.specs.Expressions.{IsWellFormed}
-use Rattle.kube_model.specs.declared.pool.Pool.{Pool}
 use Rattle.kube_model.specs.declared.pool.Allocation.{Allocation}
-use Rattle.kube_model.specs.declared.l2.L2Adv.{L2Adv}
 use Rattle.kube_model.specs.declared.bgp.BgpAdv.{BgpAdv}
-use Rattle.kube_model.specs.declared.peer.BgpPeer.{BgpPeer}
 use Rattle.kube_model.specs.declared.community.CommunityList.{CommunityList}
 use Rattle.kube_model.specs.declared.selector.SelectorText.{SelectorText}
 use Rattle.kube_model.specs.declared.object.Kind.{Kind}

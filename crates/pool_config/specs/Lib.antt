@@ -1,3 +1,4 @@
+pub mod Bounds
 pub mod Choice
 pub mod Compile
 pub mod ConfigValue
@@ -5,8 +6,8 @@ pub mod Faults
 pub mod KeySets
 pub mod Laws
 pub mod Lists
+pub mod Meeting
 pub mod Numbers
 pub mod Objects
 pub mod PoolOf
 pub mod Search
-pub mod Sweep

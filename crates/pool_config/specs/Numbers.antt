@@ -1,5 +1,5 @@
 -- The numbers of BGP communities (RFC 1997): `A:B` is A times 65536 plus B.
-use Rattle.std.specs.Prelude.{◌≡◌, ℕ, ◌+◌, ◌*◌, ◌<◌, Bool, ◌&&◌, List, [], ◌∷◌, ◌++◌, length, Option, Some, None, if◌then◌else◌, ◌==◌, nat_lt, decimal}
+use Rattle.std.specs.Prelude.{◌≡◌, ℕ, ◌+◌, ◌*◌, ◌<◌, Bool, ◌&&◌, List, ◌∷◌, ◌++◌, length, Option, Some, None, if◌then◌else◌, ◌==◌, nat_lt, decimal}
 use Rattle.std.specs.List.{list_any, before_first, after_first}
 use Rattle.std.specs.Ordering.{nat_cmp}
 use Rattle.std.specs.Str.{all_ascii_digits}

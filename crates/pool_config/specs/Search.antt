@@ -1,11 +1,10 @@
 -- The first fault, as it is found.
-use Rattle.std.specs.Prelude.{◌≡◌, ℕ, ◌-◌, Bool, true, false, ◌&&◌, ◌||◌, not, List, [], ◌∷◌, ◌++◌, length, map, find, Option, Some, None, is_err, is_none, is_some, if◌then◌else◌, ◌==◌, nat_lt}
+use Rattle.std.specs.Prelude.{◌≡◌, ℕ, ◌-◌, Bool, false, ◌&&◌, ◌||◌, not, List, [], ◌∷◌, ◌++◌, length, map, find, Option, Some, None, is_err, is_none, if◌then◌else◌, ◌==◌, nat_lt}
 use Rattle.std.specs.List.{list_any}
 use Rattle.std.specs.Option.{option_map, option_or}
 use Rattle.std.specs.Map.{lookup}
 use Rattle.std.specs.BTreeMap.{is_at}
 use Rattle.std.specs.BTreeSet.{insert_key}
-use Rattle.ip_ranges.specs.declared.family.Family.{Family}
 use Rattle.ip_ranges.specs.Values.{SpanValue, overlaps}
 use Rattle.ip_ranges.specs.EntryText.{entry_of}
 use Rattle.ip_ranges.specs.Cover.{least_length_of}
@@ -29,8 +28,6 @@ use Rattle.pool_config.specs.Numbers.{has_colon, number_of}
 use Rattle.pool_config.specs.Objects.{Objects}
 use Rattle.kube_labels.specs.Names.{name_cmp}
 use Rattle.pool_config.specs.KeySets.{keys_with}
-use Rattle.kube_labels.specs.Names.{has_text}
-use Rattle.mlb_base.specs.Items.{is_nil}
 
 -- the name of the first item that passes
 abbrev pub first_name : {T : Type 0} → (T → Bool) → List (List ℕ × T) → Option (List ℕ)

@@ -2,6 +2,7 @@
 use crate::compiled::{BgpList, CompiledPool, L2List, PeerList, PoolList};
 use crate::holders::{first_holder, pool_with};
 use ip_ranges::Address;
+use std::alloc::Global;
 use std::marker::Model;
 
 /// A configuration that can be in force. The names in each list ascend by their bytes, so that no two are the same, and no two spans
@@ -27,12 +28,24 @@ impl Model for Config {
 }
 
 impl Config {
-    ghost use Rattle.std.specs.Prelude.{◌≡◌, ℕ, IfSome, IfNone, Some};
+    ghost use Rattle.std.specs.Prelude.{◌≡◌, ℕ, IfSome, IfNone, Some, []};
     ghost use Rattle.pool_config.specs.declared.compiled.CompiledPool.{CompiledPool};
     ghost use Rattle.pool_config.specs.ConfigValue.{IsConfig};
     ghost use Rattle.mlb_base.specs.Items.{ItemAt, Has, IsIn};
     ghost use Rattle.std.specs.Option.{option_copied};
     ghost use Rattle.pool_config.specs.PoolOf.{HasAddress, pool_of, pool_with};
+
+    /// A configuration without a pool, an advertisement or a peer, which takes no memory.
+    pub fn empty(alloc: Global) -> Config
+        ensures { result ≡ record { pools = []; l2 = []; bgp = []; peers = [] } }
+    {
+        Config {
+            pools: PoolList::new(alloc),
+            l2: L2List::new(alloc),
+            bgp: BgpList::new(alloc),
+            peers: PeerList::new(alloc),
+        }
+    }
 
     /// The place in `pools` of the one pool that has the address, and `None` where none has it. It takes no memory.
     pub fn pool_of(&self, address: &Address) -> Option<usize>

@@ -2,6 +2,7 @@
 #![tactic(auto)]
 
 mod advertised;
+mod bounds;
 mod choice;
 mod communities;
 mod compile_objects;

@@ -1,28 +1,24 @@
 -- What is driven goes on from a run of the core, so it is sound, and where no put is out nothing is left waiting.
-use Rattle.std.proofs.Common.{◌≡◌, ◌≢◌, ℕ, Bool, true, false, cond, List, [], ◌∷◌, ◌++◌, Option, Some, None, is_some, refl, sym, ap, ◌∙◌, subst}
+use Rattle.std.proofs.Common.{◌≡◌, ◌≢◌, ℕ, true, List, [], ◌∷◌, ◌++◌, Option, Some, None, is_some, refl, sym, ap, ◌∙◌, subst}
 use Rattle.kube_model.specs.declared.event.Event.{Event}
 use Rattle.kube_model.specs.declared.key.Key.{Key}
-use Rattle.kube_model.specs.declared.put.Put.{Put}
-use Rattle.kube_model.specs.declared.reason.Reason.{Reason}
 use Rattle.kube_model.specs.declared.reply.PutReply.{PutReply}
-use Rattle.kube_model.specs.declared.service.Service.{Service}
-use Rattle.kube_model.specs.Records.{same_record}
 use Rattle.core_rules.specs.declared.turn.Turn.{Turn}
 use Rattle.core_rules.specs.declared.turn.Turn.TheVariants.{Idle, NoPut, Wants}
-use Rattle.core_rules.specs.Core.{State, fresh, service_of}
+use Rattle.core_rules.specs.Core.{State}
 use Rattle.core_rules.specs.Take.{core_take}
-use Rattle.core_rules.specs.Turn.{core_turn, after_turn, chosen_at, put_in, rest_of, turn_at, turn_of, wanted_record}
+use Rattle.core_rules.specs.Turn.{core_turn, after_turn, put_in, rest_of, turn_of}
 use Rattle.core_rules.specs.Reply.{core_reply}
-use Rattle.core_rules.specs.Run.{Entry as CoreEntry, Took as TookByCore, Turned as TurnedByCore, Heard as HeardByCore, IsRun, core_after, observed}
+use Rattle.core_rules.specs.Run.{Entry as CoreEntry, Took as TookByCore, Turned as TurnedByCore, Heard as HeardByCore, IsRun, core_after}
 use Rattle.core_rules.proofs.Runs.{core_holds_what_was_observed, took-out, heard-out}
-use Rattle.core_laws.specs.QuietShown.{IsQuietAsShown}
 use Rattle.core_laws.specs.Shared.{AllShowTerms}
+use Rattle.core_laws.proofs.Puts.{idle-queue}
 use Rattle.core_laws.proofs.QuietShown.{runs_are_quiet_as_shown}
 use Rattle.core_laws.proofs.Sound.{runs_are_sound}
 use Rattle.core_laws.proofs.Telling.{notes_are_right}
-use Rattle.core_drive.specs.Drive.{Driven, Entry, Took, Turned, Heard, turned, turns, turns_from, taking, hearing, core_entry, behind}
+use Rattle.core_drive.specs.Drive.{Driven, Entry, turned, turns, taking, hearing, core_entry, behind}
 use Rattle.core_drive.specs.Laws.{BeginsFresh, EventsGoOn, RepliesGoOn, DrivesAreSound, DrivesAreQuiet}
-use Rattle.core_drive.specs.Sound.{AreNotesRight, IsSound, LeadsTo, ShowsTerms}
+use Rattle.core_drive.specs.Sound.{AreNotesRight, LeadsTo, ShowsTerms}
 
 -- ---- transcripts one behind the other
 behind-append : (xs ys : List Entry) (earlier : List CoreEntry) → behind (xs ++ ys) earlier ≡ behind ys (behind xs earlier)
@@ -42,18 +38,9 @@ record GoesOn (class : Option (List ℕ)) (run : List CoreEntry) (d : Driven) : 
   notes : AreNotesRight d.entries run
   idle : d.core.out ≡ None → d.core.queue ≡ []
 
-not-idle-by : (b : Bool) (key : Key) (pending : Option Reason) (put : Put) → cond b (NoPut key pending) (Wants put pending) ≢ Idle
-not-idle-by true key pending put e = absurd (cc)
-not-idle-by false key pending put e = absurd (cc)
-
-not-idle-at : (found : Option Service) (s : State) (key : Key) → turn_at s key found ≢ Idle
-not-idle-at None s key e = absurd (cc)
-not-idle-at (Some service) s key e = not-idle-by (same_record (wanted_record service.holding (chosen_at s service)) service.holding) key _ _ e
-
 -- something is queued, so there is a turn to make
 not-idle : (queue : List Key) (s : State) (key : Key) (keys : List Key) → key ∷ keys ≡ queue → turn_of s queue ≢ Idle
-not-idle [] s key keys e = absurd (cc)
-not-idle (k ∷ ks) s key keys e = not-idle-at (service_of s.held k) s k
+not-idle queue s key keys e idle = let none : queue ≡ [] = idle-queue s queue idle in absurd (cc)
 
 module _ (class : Option (List ℕ)) where
   turn-entered : (run : List CoreEntry) (turn : Turn) → IsRun class run → (core_after class run).out ≡ None → turn ≡ core_turn (core_after class run) → IsRun class (TurnedByCore turn ∷ run)

@@ -1,7 +1,6 @@
 -- That a transcript is sound.
-use Rattle.std.specs.Prelude.{◌≡◌, ◌≢◌, ℕ, true, List, [], ◌∷◌, ⊤, None, Some, Option, is_some}
+use Rattle.std.specs.Prelude.{◌≡◌, ℕ, List, [], ◌∷◌, ⊤, None, Option}
 use Rattle.kube_model.specs.declared.event.Event.{Event}
-use Rattle.kube_model.specs.declared.reply.PutReply.{PutReply}
 use Rattle.sharing_terms.specs.Marked.{AreTerms}
 use Rattle.sharing_terms.specs.Terms.{terms_of}
 use Rattle.core_rules.specs.Core.{State}
@@ -11,7 +10,7 @@ use Rattle.core_laws.specs.Shared.{AllShowTerms}
 use Rattle.core_laws.specs.Shown.{OfConcern}
 use Rattle.core_laws.specs.Sound.{IsSoundRun}
 use Rattle.core_laws.specs.Telling.{IsRightNote}
-use Rattle.core_drive.specs.Drive.{Driven, Entry, Took, Turned, Heard, core_entry, behind, taking, hearing}
+use Rattle.core_drive.specs.Drive.{Entry, Took, Turned, Heard, core_entry, behind}
 
 abbrev pub IsRightTelling : Entry → List CoreEntry → Type 0
 IsRightTelling (Took event note) earlier = IsRightNote note event (observed earlier)

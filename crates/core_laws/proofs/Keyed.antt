@@ -1,5 +1,5 @@
 -- What holds of each service that an event shows, whatever its record is, holds of each that is held.
-use Rattle.std.proofs.Common.{◌≡◌, ℕ, Bool, true, false, cond, List, [], ◌∷◌, Option, Some, None, is_eq, option_map, refl, sym, ap, subst, ◌∙◌}
+use Rattle.std.proofs.Common.{◌≡◌, ℕ, Bool, true, false, cond, List, [], ◌∷◌, Option, Some, None, is_eq, option_map, refl, sym, subst, ◌∙◌}
 use Rattle.std.specs.Prelude.{⊤}
 use Rattle.std.specs.Cmp.{Equal-is}
 use Rattle.kube_model.specs.declared.event.Event.{Event}

@@ -1,10 +1,13 @@
 pub mod Assigned
 pub mod Awaiting
+pub mod Expired
 pub mod Free
 pub mod Keyed
 pub mod Lines
+pub mod NoPuts
 pub mod Orderly
 pub mod Puts
+pub mod Queued
 pub mod Quiet
 pub mod QuietLists
 pub mod QuietReplies

@@ -13,22 +13,14 @@ use Rattle.versioned_map.specs.Entries.{held_at, object_at}
 use Rattle.kube_model.specs.Keys.{key_cmp, same_key, has_key}
 use Rattle.kube_model.proofs.KeyLaws.{key_cmp-total, key_cmp-exact, same_key-is, same_key-itself}
 use Rattle.object_cache.specs.Told.{passing}
-use Rattle.kube_model.specs.Records.{is_assigned}
+use Rattle.kube_model.specs.Records.{empty_record, same_record}
 use Rattle.core_rules.specs.Core.{waits, waiting}
+use Rattle.core_laws.specs.Queue.{AreApart, NoneAmong}
 use Rattle.core_laws.proofs.Awaiting.{has_key-kept, flip}
 use Rattle.core_laws.proofs.QuietReplies.{apart}
 use Rattle.core_laws.proofs.Rows.{has_key-append, passing-cons}
 
--- each key once
-abbrev pub AreApart : List Key → Type 0
-AreApart [] = Unit {0}
-AreApart (k ∷ keys) = (has_key keys k ≡ false) × AreApart keys
-
--- none of the keys is among the others
-abbrev pub NoneAmong : List Key → List Key → Type 0
-NoneAmong keys others = (key : Key) → has_key keys key ≡ true → has_key others key ≡ false
-
-or-either : (a b : Bool) → (a || b) ≡ true → (a ≡ true) ⊎ (b ≡ true)
+pub or-either : (a b : Bool) → (a || b) ≡ true → (a ≡ true) ⊎ (b ≡ true)
 or-either true b e = inl refl
 or-either false b e = inr e
 
@@ -72,7 +64,7 @@ pub cond-false : (b : Bool) (x : Bool) → x ≡ false → cond b false x ≡ fa
 cond-false true x e = refl
 cond-false false x e = e
 
-cond-true : (b : Bool) (x : Bool) → cond b false x ≡ true → x ≡ true
+pub cond-true : (b : Bool) (x : Bool) → cond b false x ≡ true → x ≡ true
 cond-true true x e = absurd (cc)
 cond-true false x e = e
 
@@ -130,7 +122,8 @@ module _ (test : Key → Service → Bool) where
   found-here true false e rest key found b h none ih there = ih (ap (λ x. x || has_key rest key) h ∙ there)
   found-here false false e rest key found b h none ih there = ih there
 
-eq-by : (b : Bool) (k key : Key) → b ≡ is_eq (key_cmp key k) → b ≡ same_key k key
+-- keys are tied where they are one
+pub eq-by : (b : Bool) (k key : Key) → b ≡ is_eq (key_cmp key k) → b ≡ same_key k key
 eq-by true k key b =
     let is : key ≡ k = key_cmp-exact key k ((Equal-is (key_cmp key k)).0 (sym b)) in
     sym (subst (λ x. same_key k x ≡ true) (sym is) (same_key-itself k))
@@ -186,7 +179,7 @@ passing-new : (class : Option (List ℕ)) (told : Key → Bool) (queue awaiting 
 passing-new class told queue awaiting es s =
     let of = λ (key : Key) (there : has_key (passing (waits class told queue awaiting) es) key ≡ true).
     (let found = passing-found (waits class told queue awaiting) es s key there in
-    waits-parts (told key) (has_key queue key) (has_key awaiting key) (is_handled class found.0) (not (is_assigned found.0.holding)) found.2) in
+    waits-parts (told key) (has_key queue key) (has_key awaiting key) (is_handled class found.0) (same_record found.0.holding empty_record) found.2) in
     record {
       once = passing-apart (waits class told queue awaiting) es s;
       unqueued = λ key there. (of key there).1;

@@ -25,8 +25,9 @@ use Rattle.core_rules.specs.Core.{State, is_ready, is_free_with, all_free, waiti
 use Rattle.core_rules.specs.Keys.{own_key}
 use Rattle.core_rules.specs.Take.{core_by, core_take, no_key, is_unlisted, listed_keys, have_claims, listed_and_free, own_and_waiting, wakes}
 use Rattle.core_rules.proofs.Concerns.{by_concern}
+use Rattle.core_laws.specs.Queue.{AreApart, NoneAmong}
 use Rattle.core_laws.proofs.Awaiting.{has_key-without}
-use Rattle.core_laws.proofs.Lines.{AreApart, NoneAmong, AreNew, apart-append, among-append, apart-kept, kept-among, among-kept, no-true, none-new, waiting-new, passing-apart, passing-found, and-left, free-parts, not-true}
+use Rattle.core_laws.proofs.Lines.{AreNew, apart-append, among-append, apart-kept, kept-among, among-kept, no-true, none-new, waiting-new, passing-apart, passing-found, and-left, free-parts, not-true}
 
 -- The additions are in order: each key once, none queued, none awaiting.
 pub record AreAdded (more queue awaiting : List Key) : Type 0 where
@@ -100,7 +101,7 @@ own-once : (b : Bool) (own : Key) → AreApart (cond b [] (own ∷ []))
 own-once true own = tt
 own-once false own = (refl, tt)
 
-own-same : (b : Bool) (own key : Key) → has_key (cond b [] (own ∷ [])) key ≡ true → (b ≡ false) × (same_key own key ≡ true)
+pub own-same : (b : Bool) (own key : Key) → has_key (cond b [] (own ∷ [])) key ≡ true → (b ≡ false) × (same_key own key ≡ true)
 own-same true own key e = absurd (cc)
 own-same false own key e = (refl, or-nothing (same_key own key) e)
   where

@@ -39,7 +39,7 @@ use Rattle.core_rules.specs.Run.{Entry, Took, Expired, Turned, Heard, core_after
 use Rattle.core_rules.proofs.Claims.{shown-held, claims_are_shown}
 use Rattle.core_rules.proofs.Concerns.{by_concern}
 use Rattle.core_rules.proofs.Runs.{core_holds_what_was_observed}
-use Rattle.core_laws.specs.Puts.{labels_shown, PutsAreRight, TurnsAreReady}
+use Rattle.core_laws.specs.Puts.{labels_shown, IsRightDecision, PutsAreRight, TurnsAreReady}
 use Rattle.core_laws.proofs.Ready.{runs-idle}
 
 -- ---- the class
@@ -146,6 +146,19 @@ queue-ready : (b : Bool) (queue : List Key) → (b ≡ false → queue ≡ []) �
 queue-ready true queue idle some = refl
 queue-ready false queue idle some = absurd (some (idle refl))
 
+-- a turn is idle only where nothing is queued
+busy-by : (b : Bool) (key : Key) (pending : Option Reason) (put : Put) → cond b (NoPut key pending) (Wants put pending) ≢ Idle
+busy-by true key pending put e = absurd (cc)
+busy-by false key pending put e = absurd (cc)
+
+busy-at : (found : Option Service) (s : State) (key : Key) → turn_at s key found ≢ Idle
+busy-at None s key e = absurd (cc)
+busy-at (Some service) s key e = busy-by (same_record (wanted_record service.holding (chosen_at s service)) service.holding) key _ _ e
+
+pub idle-queue : (s : State) (queue : List Key) → turn_of s queue ≡ Idle → queue ≡ []
+idle-queue s [] e = refl
+idle-queue s (key ∷ keys) e = absurd (busy-at (service_of s.held key) s key e)
+
 turn-queue : (s : State) (queue : List Key) (turn : Turn) → turn ≡ turn_of s queue → turn ≢ Idle → queue ≢ []
 turn-queue s queue turn e busy none = busy (e ∙ ap (turn_of s) none)
 
@@ -172,35 +185,64 @@ wants-busy put pending e = absurd (cc)
 differs-from : (a b : Record) → same_record a b ≡ false → a ≢ b
 differs-from a b d e = true≢false (sym (subst (λ x. same_record a x ≡ true) e (same_record-itself a)) ∙ d)
 
+-- What is decided for a held service, in the words of the look back.
+pub record IsDecidedAs (class : Option (List ℕ)) (key : Key) (pending : Option Reason) (earlier : List Entry) (service : Service) : Type 0 where
+  pub right : IsRightDecision class key pending earlier
+  pub object_is : service ≡ right.held.object
+  pub version_is : version_at key_cmp (core_after class earlier).held.services key ≡ right.held.version
+  pub choice_is : chosen_at (core_after class earlier) service ≡ right.choice
+
+-- a turn that isn't idle decides by what the look back shows
+pub decided : (class : Option (List ℕ)) (turn : Turn) (earlier : List Entry) → IsRun class (Turned turn ∷ earlier) → turn ≢ Idle
+    → (key : Key) (pending : Option Reason) (service : Service) → service_of (core_after class earlier).held key ≡ Some service
+    → pending ≡ reason_in (chosen_at (core_after class earlier) service) → IsDecidedAs class key pending earlier service
+decided class turn earlier is busy key pending service there reason =
+    let s = core_after class earlier in
+    let hs = observed earlier in
+    let ready : IsReadyAt s.held = ready-run class turn earlier is busy in
+    let holds = (core_holds_what_was_observed class earlier is.1).0 in
+    let found = held-of (held_at key_cmp s.held.services key) service there in
+    let held = found.0 in
+    let service_is : service ≡ held.object = sym found.2 in
+    let name = service.key.namespace in
+    let choice = chosen_at s service in
+    let chosen : IsChosen (holders s.claims) (offer_in s.held service) s.class service choice = choose-is s.claims (offer_in s.held service) s.class service choice refl in
+    let by_claims = chosen-by (holders s.claims) (λ k. claims_shown k earlier) (offer_in s.held service) s.class service choice (λ k. claims_are_shown class earlier is.1 k) chosen in
+    let offer_is : offer_in s.held service ≡ offer_at ready.config.pools (labels_shown name hs) service =
+    ap (λ (c : Option ConfigValue). offer_at (pools_in c) (labels_of s.held name) service) ready.in_force
+    ∙ ap (λ (labels : List (List ℕ × List ℕ)). offer_at ready.config.pools labels service) (labels-shown class earlier is.1 name) in
+    let by_offer = subst (λ (o : Offer). IsChosen (λ k. claims_shown k earlier) o s.class service choice) offer_is by_claims in
+    let by_class = subst (λ (c : Option (List ℕ)). IsChosen (λ k. claims_shown k earlier) (offer_at ready.config.pools (labels_shown name hs) service) c service choice) (class-is class earlier) by_offer in
+    record {
+      right = record {
+        held = held;
+        shown = last_shown-is service_resource key hs held (sym (shown-held class earlier is.1 key) ∙ found.1);
+        config = ready.config;
+        in_force = ((all_is_as_shown hs).config ready.config).0 (ap (λ (h : Cached). h.config) (sym holds) ∙ ready.in_force);
+        choice = choice;
+        chosen = subst (λ (x : Service). IsChosen (λ k. claims_shown k earlier) (offer_at ready.config.pools (labels_shown x.key.namespace hs) x) class x choice) service_is by_class;
+        reason_is = reason;
+      };
+      object_is = service_is;
+      version_is = ap (λ (h : Option (Versioned Service)). option_map_or (λ (v : Versioned Service). v.version) h 0) found.1;
+      choice_is = refl;
+    }
+
+-- so the record that is wanted is the one that the look back wants
+pub wanted-as : (class : Option (List ℕ)) (key : Key) (pending : Option Reason) (earlier : List Entry) (service : Service) (d : IsDecidedAs class key pending earlier service)
+    → wanted_record service.holding (chosen_at (core_after class earlier) service) ≡ wanted_record d.right.held.object.holding d.right.choice
+wanted-as class key pending earlier service d =
+    ap (λ (x : Service). wanted_record x.holding (chosen_at (core_after class earlier) service)) d.object_is ∙ ap (wanted_record d.right.held.object.holding) d.choice_is
+
 pub puts_are_right : PutsAreRight
 puts_are_right class put pending earlier is =
     let s = core_after class earlier in
-    let hs = observed earlier in
     let wanted : IsWanted s put pending s.queue = wanted-of s s.queue put pending is.0.1 in
-    let ready : IsReadyAt s.held = ready-run class (Wants put pending) earlier is (wants-busy put pending) in
-    let holds = (core_holds_what_was_observed class earlier is.1).0 in
-    let found = held-of (held_at key_cmp s.held.services put.key) wanted.service wanted.found in
-    let held = found.0 in
-    let service_is : wanted.service ≡ held.object = sym found.2 in
-    let name = wanted.service.key.namespace in
-    let chosen : IsChosen (holders s.claims) (offer_in s.held wanted.service) s.class wanted.service (chosen_at s wanted.service) =
-    choose-is s.claims (offer_in s.held wanted.service) s.class wanted.service (chosen_at s wanted.service) refl in
-    let by_claims = chosen-by (holders s.claims) (λ key. claims_shown key earlier) (offer_in s.held wanted.service) s.class wanted.service (chosen_at s wanted.service)
-    (λ key. claims_are_shown class earlier is.1 key) chosen in
-    let offer_is : offer_in s.held wanted.service ≡ offer_at ready.config.pools (labels_shown name hs) wanted.service =
-    ap (λ (c : Option ConfigValue). offer_at (pools_in c) (labels_of s.held name) wanted.service) ready.in_force
-    ∙ ap (λ (labels : List (List ℕ × List ℕ)). offer_at ready.config.pools labels wanted.service) (labels-shown class earlier is.1 name) in
-    let by_offer = subst (λ (o : Offer). IsChosen (λ key. claims_shown key earlier) o s.class wanted.service (chosen_at s wanted.service)) offer_is by_claims in
-    let by_class = subst (λ (c : Option (List ℕ)). IsChosen (λ key. claims_shown key earlier) (offer_at ready.config.pools (labels_shown name hs) wanted.service) c wanted.service (chosen_at s wanted.service)) (class-is class earlier) by_offer in
+    let d : IsDecidedAs class put.key pending earlier wanted.service =
+    decided class (Wants put pending) earlier is (wants-busy put pending) put.key pending wanted.service wanted.found wanted.reason_is in
     record {
-      held = held;
-      shown = last_shown-is service_resource put.key hs held (sym (shown-held class earlier is.1 put.key) ∙ found.1);
-      config = ready.config;
-      in_force = ((all_is_as_shown hs).config ready.config).0 (ap (λ (h : Cached). h.config) (sym holds) ∙ ready.in_force);
-      choice = chosen_at s wanted.service;
-      chosen = subst (λ (x : Service). IsChosen (λ key. claims_shown key earlier) (offer_at ready.config.pools (labels_shown x.key.namespace hs) x) class x (chosen_at s wanted.service)) service_is by_class;
-      version_is = wanted.version_is ∙ ap (λ (h : Option (Versioned Service)). option_map_or (λ (v : Versioned Service). v.version) h 0) found.1;
-      holding_is = wanted.holding_is ∙ ap (λ (x : Service). wanted_record x.holding (chosen_at s wanted.service)) service_is;
-      reason_is = wanted.reason_is;
-      differs = subst (λ (x : Service). put.holding ≢ x.holding) service_is (differs-from put.holding wanted.service.holding wanted.differs);
+      decision = d.right;
+      version_is = wanted.version_is ∙ d.version_is;
+      holding_is = wanted.holding_is ∙ wanted-as class put.key pending earlier wanted.service d;
+      differs = subst (λ (x : Service). put.holding ≢ x.holding) d.object_is (differs-from put.holding wanted.service.holding wanted.differs);
     }

@@ -16,7 +16,8 @@ use Rattle.alloc_book.specs.declared.choice.Choice.TheVariants.{Pending}
 use Rattle.alloc_book.specs.Asking.{Holders, Offer}
 use Rattle.alloc_book.specs.Chosen.{IsChosen}
 use Rattle.alloc_book.specs.Claims.{holders}
-use Rattle.kube_model.specs.Records.{is_assigned, same_record}
+use Rattle.kube_model.specs.declared.record.Record.{Record}
+use Rattle.kube_model.specs.Records.{empty_record, same_record}
 use Rattle.kube_model.proofs.RecordLaws.{same_record-is}
 use Rattle.mlb_base.proofs.CaseLaws.{case-has}
 use Rattle.alloc_book.proofs.ChooseLaws.{choose-is}
@@ -100,7 +101,7 @@ pending-balancer false same one two = absurd (two refl)
 
 -- a lost claim and a place that isn't taken can't be, where the service waits
 pub waits-queued : (class : Option (List ℕ)) (told : Key → Bool) (queue awaiting : List Key) (services : List (Key × Versioned Service)) (key : Key) (service : Service)
-    → object_at key_cmp services key ≡ Some service → told key ≡ false → has_key queue key ≡ false → has_key awaiting key ≡ false → is_handled class service ≡ true → is_assigned service.holding ≡ false
+    → object_at key_cmp services key ≡ Some service → told key ≡ false → has_key queue key ≡ false → has_key awaiting key ≡ false → is_handled class service ≡ true → same_record service.holding empty_record ≡ true
     → has_key (passing (waits class told queue awaiting) services) key ≡ true
 waits-queued class told queue awaiting services key service found t q a handled empty =
     passing-has (waits class told queue awaiting) services key service found (rw (t, q, a, handled, empty) refl)
@@ -120,10 +121,10 @@ pending-handled has o class service reason =
     case-has _ _ _ _ (λ _ is. absurd (cc)) (λ two _.
     pending-balancer service.balancer (same_class class service.class) (λ b s. one (b, same_class-of class service.class s)) two))
 
--- a row that waits is one of a handled service without addresses
+-- a row that waits is one of a handled service with an empty record
 pub row-handled : (class : Option (List ℕ)) (held : Cached) (has : Holders) (service : Service) (row : MeetsRow class (offer_in held) has service) (reason : Reason) → row.choice ≡ Pending reason → is_handled class service ≡ true
 row-handled class held has service row reason is =
     ap (is_handled class) row.only_record ∙ pending-handled has (offer_in held row.before) class row.before reason (row.pending_now reason is)
 
-pub row-empty : (class : Option (List ℕ)) (held : Cached) (has : Holders) (service : Service) (row : MeetsRow class (offer_in held) has service) (reason : Reason) → row.choice ≡ Pending reason → is_assigned service.holding ≡ false
-row-empty class held has service row reason is = ap is_assigned (row.holding_is ∙ ap (wanted_record row.before.holding) is)
+pub row-empty : (class : Option (List ℕ)) (held : Cached) (has : Holders) (service : Service) (row : MeetsRow class (offer_in held) has service) (reason : Reason) → row.choice ≡ Pending reason → same_record service.holding empty_record ≡ true
+row-empty class held has service row reason is = ap (λ (r : Record). same_record r empty_record) (row.holding_is ∙ ap (wanted_record row.before.holding) is)

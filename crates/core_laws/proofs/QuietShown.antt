@@ -1,5 +1,5 @@
 -- Quiet by what the look back shows, from quiet by what the core holds.
-use Rattle.std.proofs.Common.{◌≡◌, ℕ, Bool, true, false, ◌&&◌, not, List, [], Option, Some, None, is_some, option_map, refl, sym, ap, subst, ◌∙◌}
+use Rattle.std.proofs.Common.{◌≡◌, ℕ, Bool, true, false, ◌&&◌, List, [], Option, Some, None, is_some, option_map, refl, ap, subst, ◌∙◌}
 use Rattle.kube_model.specs.declared.key.Key.{Key}
 use Rattle.kube_model.specs.declared.put.Put.{Put}
 use Rattle.kube_model.specs.declared.service.Service.{Service}
@@ -8,20 +8,20 @@ use Rattle.versioned_map.specs.declared.map.Versioned.{Versioned}
 use Rattle.pool_config.specs.ConfigValue.{ConfigValue}
 use Rattle.object_history.specs.Cache.{Cached, cached}
 use Rattle.object_history.specs.Kinds.{service_resource}
-use Rattle.object_history.specs.LookBack.{IsLastShown, last_shown}
+use Rattle.object_history.specs.LookBack.{IsLastShown}
 use Rattle.object_history.proofs.Force.{all_is_as_shown}
 use Rattle.object_history.proofs.Seen.{is-last_shown}
 use Rattle.alloc_book.specs.Asking.{Holders, Offer}
 use Rattle.alloc_book.specs.Claims.{holders}
 use Rattle.alloc_book.proofs.PendingLaws.{holders-same}
-use Rattle.core_rules.specs.Core.{State, is_ready, is_settled, offer_at, offer_in, pools_in, labels_of, service_of}
+use Rattle.core_rules.specs.Core.{is_ready, is_settled, offer_at, offer_in, pools_in, labels_of, service_of}
 use Rattle.core_rules.specs.Keys.{is_free}
 use Rattle.core_rules.specs.Run.{Entry, core_after, IsRun, put_out, observed, claims_shown}
 use Rattle.core_rules.proofs.Claims.{shown-held, claims_are_shown}
 use Rattle.core_rules.proofs.Runs.{core_holds_what_was_observed}
-use Rattle.core_laws.specs.Puts.{IsReadyBy, labels_shown}
+use Rattle.core_laws.specs.Puts.{IsReadyBy}
 use Rattle.core_laws.specs.Quiet.{MeetsRow, is_put_of}
-use Rattle.core_laws.specs.QuietShown.{offer_shown, IsQuietAsShown, RunsAreQuietAsShown}
+use Rattle.core_laws.specs.QuietShown.{offer_shown, RunsAreQuietAsShown}
 use Rattle.core_laws.specs.Waits.{awaits_shown}
 use Rattle.core_laws.proofs.Awaiting.{awaiting-is}
 use Rattle.core_laws.proofs.Puts.{class-is, labels-shown}

@@ -1,6 +1,5 @@
 -- The eligible pools serve, and so a row whose choice is a record is served.
-use Rattle.std.proofs.Common.{◌≡◌, ℕ, Bool, true, false, cond, ◌&&◌, List, [], ◌∷◌, filter, ⊎_elim, refl, sym, ap, subst, ◌∙◌}
-use Rattle.std.specs.List.{Contains}
+use Rattle.std.proofs.Common.{◌≡◌, ℕ, Bool, true, false, ◌&&◌, List, filter, ⊎_elim, sym, ap, subst, ◌∙◌}
 use Rattle.kube_model.specs.declared.record.Record.{Record}
 use Rattle.kube_model.specs.declared.service.Service.{Service}
 use Rattle.pool_config.specs.declared.compiled.CompiledPool.{CompiledPool}

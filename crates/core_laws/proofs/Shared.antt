@@ -1,12 +1,11 @@
 -- Two services with one address share it, or the cluster showed it so: by what is new with each entry.
-use Rattle.std.proofs.Common.{◌≡◌, ◌≢◌, ℕ, ◌<◌, ◌+◌, suc, Bool, true, false, cond, ◌&&◌, eqb, List, [], ◌∷◌, ◌++◌, Option, Some, None, is_some, ◌⊎◌, inl, inr, ⊎_elim, refl, sym, ap, subst, ◌∙◌, arith}
+use Rattle.std.proofs.Common.{◌≡◌, ◌≢◌, ℕ, ◌<◌, suc, Bool, true, false, cond, ◌&&◌, eqb, List, [], ◌∷◌, ◌++◌, Option, Some, None, ◌⊎◌, inl, inr, ⊎_elim, refl, sym, ap, subst, ◌∙◌, arith}
 use Rattle.std.proofs.lemmas.Bool.{true≢false}
 use Rattle.std.proofs.lemmas.List.{append-nil}
 use Rattle.std.proofs.lemmas.List.Elements.{Contains-append_cases, Contains-append_left, Contains-append_right}
 use Rattle.std.specs.List.{Contains, list_any}
 use Rattle.mlb_base.proofs.Among.{contains-none, contains-cons, any-contains, any-found}
 use Rattle.ip_ranges.specs.Values.{AddressValue}
-use Rattle.kube_model.specs.declared.event.Event.{Event}
 use Rattle.kube_model.specs.declared.key.Key.{Key}
 use Rattle.kube_model.specs.declared.put.Put.{Put}
 use Rattle.kube_model.specs.declared.reason.Reason.{Reason}
@@ -20,7 +19,6 @@ use Rattle.kube_model.proofs.KeyLaws.{same_key-is}
 use Rattle.kube_model.proofs.RecordLaws.{same_record-is, same_record-itself}
 use Rattle.sharing_terms.specs.declared.terms.Terms.{Terms}
 use Rattle.sharing_terms.specs.Marked.{AreTerms, IsMarkOf}
-use Rattle.sharing_terms.specs.Marks.{mark_of}
 use Rattle.sharing_terms.specs.declared.terms.Backend.{Backend}
 use Rattle.sharing_terms.specs.Ports.{ports_in}
 use Rattle.sharing_terms.specs.Terms.{terms_of, backend_by}
@@ -32,20 +30,19 @@ use Rattle.object_history.proofs.Seen.{is-last_shown}
 use Rattle.object_history.specs.Kinds.{service_resource}
 use Rattle.alloc_book.specs.declared.choice.Choice.{Choice}
 use Rattle.alloc_book.specs.declared.choice.Choice.TheVariants.{Foreign, Clear, Pending, Keep, New}
-use Rattle.alloc_book.specs.Asking.{Holders, Offer, asker_of}
-use Rattle.alloc_book.specs.Chosen.{IsChosen}
+use Rattle.alloc_book.specs.Asking.{Holders, asker_of}
 use Rattle.alloc_book.specs.Claims.{claimed_by, added}
 use Rattle.alloc_book.specs.Granted.{IsFor, IsGranted}
 use Rattle.alloc_book.specs.Usable.{IsShared}
 use Rattle.alloc_book.proofs.ChosenLaws.{chosen_for-granted}
 use Rattle.core_rules.specs.declared.turn.Turn.{Turn}
 use Rattle.core_rules.specs.declared.turn.Turn.TheVariants.{Idle, NoPut, Wants}
-use Rattle.core_rules.specs.Core.{offer_at, service_of}
+use Rattle.core_rules.specs.Core.{offer_at}
 use Rattle.core_rules.specs.Take.{Concern, Shows, Drops, EndsServices, Configures, Lapses, Nothing, concern}
 use Rattle.core_rules.specs.Turn.{put_in, wanted_record}
-use Rattle.core_rules.specs.Run.{Entry, Took, Expired, Turned, Heard, core_after, IsRun, MayEnter, put_out, observed, version_shown, claims_shown, claims_told, claims_heard}
+use Rattle.core_rules.specs.Run.{Entry, Took, Expired, Turned, Heard, core_after, IsRun, put_out, observed, version_shown, claims_shown, claims_told, claims_heard}
 use Rattle.core_rules.proofs.Runs.{core_holds_what_was_observed}
-use Rattle.core_laws.specs.Puts.{IsRightPut, labels_shown}
+use Rattle.core_laws.specs.Puts.{IsRightDecision, IsRightPut, labels_shown}
 use Rattle.core_laws.specs.Shared.{record_out, may_have, has_record, age_of, is_event, was_shown, AreShared, CameShown, AreSharedOrShown, AllShowTerms, RunsAreShared}
 use Rattle.core_laws.proofs.Keyed.{own-keys, shown-holds, observed-all}
 use Rattle.core_laws.proofs.Puts.{puts_are_right}
@@ -213,14 +210,15 @@ put-shared : (class : Option (List ℕ)) (put : Put) (pending : Option Reason) (
     → (other : Key) → other ≢ put.key → (q : Record) → Contains (may_have other earlier) q → (a : AddressValue) → Contains put.holding.addresses a → Contains q.addresses a → AreShared put.holding q
 put-shared class put pending earlier is all other apart q there a in_put in_q =
     let right : IsRightPut class put pending earlier = puts_are_right class put pending earlier is in
-    let service = right.held.object in
-    let offer = offer_at right.config.pools (labels_shown service.key.namespace (observed earlier)) service in
+    let decision : IsRightDecision class put.key pending earlier = right.decision in
+    let service = decision.held.object in
+    let offer = offer_at decision.config.pools (labels_shown service.key.namespace (observed earlier)) service in
     let has : Holders = λ key. claims_shown key earlier in
-    let for : IsFor put.holding right.choice = for-by right.choice service.holding put.holding a in_put right.differs right.holding_is in
-    let granted : IsGranted has offer (asker_of service) put.holding = chosen_for-granted has offer (asker_of service) class service put.holding right.choice for right.chosen in
-    let last = is-last_shown service_resource put.key (observed earlier) right.held right.shown in
-    let typed : AreTerms (terms_of service) = shown-holds Typed typed-kept (observed earlier) put.key right.held (observed-all Typed typed-kept earlier all) last in
-    let own : service.key ≡ put.key = shown-holds (λ k s. s.key ≡ k) (λ k s holding p. p) (observed earlier) put.key right.held (observed-all (λ k s. s.key ≡ k) (λ k s holding p. p) earlier (own-keys earlier)) last in
+    let for : IsFor put.holding decision.choice = for-by decision.choice service.holding put.holding a in_put right.differs right.holding_is in
+    let granted : IsGranted has offer (asker_of service) put.holding = chosen_for-granted has offer (asker_of service) class service put.holding decision.choice for decision.chosen in
+    let last = is-last_shown service_resource put.key (observed earlier) decision.held decision.shown in
+    let typed : AreTerms (terms_of service) = shown-holds Typed typed-kept (observed earlier) put.key decision.held (observed-all Typed typed-kept earlier all) last in
+    let own : service.key ≡ put.key = shown-holds (λ k s. s.key ≡ k) (λ k s holding p. p) (observed earlier) put.key decision.held (observed-all (λ k s. s.key ≡ k) (λ k s holding p. p) earlier (own-keys earlier)) last in
     let others : other ≢ service.key = λ same. apart (same ∙ own) in
     let claimed : Contains (claims_shown other earlier) q = subst (λ (rs : List Record). Contains rs q) (alone other earlier (none-out class earlier is.1 is.0.0)) there in
     let shared : IsShared (terms_of service) q = (granted.usable a in_put).left other others q claimed in_q in

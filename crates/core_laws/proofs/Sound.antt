@@ -1,28 +1,30 @@
 -- Every run is sound.
-use Rattle.std.proofs.Common.{◌≡◌, ◌≢◌, ℕ, true, false, List, [], ◌∷◌, Option, Some, refl}
-use Rattle.kube_model.specs.declared.key.Key.{Key}
-use Rattle.kube_model.specs.declared.reason.Reason.{Reason}
-use Rattle.kube_model.specs.Keys.{same_key}
+use Rattle.std.proofs.Common.{ℕ, List, [], ◌∷◌, Option, refl, sym, ◌∙◌}
 use Rattle.kube_model.proofs.KeyLaws.{same_key-itself}
 use Rattle.core_rules.specs.declared.turn.Turn.{Turn}
 use Rattle.core_rules.specs.declared.turn.Turn.TheVariants.{Idle, NoPut, Wants}
-use Rattle.core_rules.specs.Run.{Entry, Took, Expired, Turned, Heard, IsRun}
-use Rattle.core_laws.specs.Shared.{AllShowTerms}
-use Rattle.core_laws.specs.Sound.{IsRightTurn, IsRightEntry, IsSoundRun, RunsAreSound}
-use Rattle.core_laws.specs.Telling.{Tells}
-use Rattle.core_laws.proofs.Puts.{puts_are_right, turns_are_ready}
+use Rattle.core_rules.specs.Run.{Entry, Took, Expired, Turned, Heard, IsRun, core_after}
+use Rattle.core_rules.proofs.Runs.{core_holds_what_was_observed}
+use Rattle.core_laws.specs.Sound.{IsRightTurn, IsRightEntry, RunsAreSound}
+use Rattle.core_laws.proofs.NoPuts.{no_puts_are_right}
+use Rattle.core_laws.proofs.Puts.{idle-queue, puts_are_right, turns_are_ready}
+use Rattle.core_laws.proofs.QuietShown.{runs_are_quiet_as_shown}
 use Rattle.core_laws.proofs.Shared.{runs_are_shared}
 use Rattle.core_laws.proofs.Telling.{reasons_are_right}
 use Rattle.core_laws.proofs.Free.{turns_are_of_free_keys}
 
 turn-right : (class : Option (List ℕ)) (turn : Turn) (earlier : List Entry) → IsRun class (Turned turn ∷ earlier) → IsRightTurn class turn earlier
-turn-right class Idle earlier is = tt
-turn-right class (NoPut key pending) earlier is =
-    record {
-      ready = turns_are_ready class (NoPut key pending) earlier is (λ e. absurd (cc));
-      free = turns_are_of_free_keys class (NoPut key pending) earlier is key (same_key-itself key);
-      reason_is = λ reason e. reasons_are_right class (NoPut key pending) key reason earlier is (refl, e);
-    }
+turn-right class Idle earlier is =
+    let s = core_after class earlier in
+    runs_are_quiet_as_shown class earlier is.1 (idle-queue s s.queue (sym is.0.1)) (sym (core_holds_what_was_observed class earlier is.1).1 ∙ is.0.0)
+turn-right class (NoPut key pending) earlier is = (
+  record {
+    ready = turns_are_ready class (NoPut key pending) earlier is (λ e. absurd (cc));
+    free = turns_are_of_free_keys class (NoPut key pending) earlier is key (same_key-itself key);
+    reason_is = λ reason e. reasons_are_right class (NoPut key pending) key reason earlier is (refl, e);
+  },
+  no_puts_are_right class key pending earlier is,
+)
 turn-right class (Wants put pending) earlier is = (
   record {
     ready = turns_are_ready class (Wants put pending) earlier is (λ e. absurd (cc));

@@ -1,5 +1,5 @@
 -- Reasons and notes are right.
-use Rattle.std.proofs.Common.{◌≡◌, ◌≢◌, ℕ, Bool, true, false, cond, ◌&&◌, List, [], ◌∷◌, Option, Some, None, Result, Ok, Err, option_map, refl, sym, ap, subst, ◌∙◌}
+use Rattle.std.proofs.Common.{◌≡◌, ◌≢◌, ℕ, Bool, true, false, cond, List, [], ◌∷◌, Option, Some, None, Result, Ok, Err, refl, sym, ap, subst, ◌∙◌}
 use Rattle.kube_model.specs.declared.config_fault.ConfigFault.{ConfigFault}
 use Rattle.kube_model.specs.declared.event.Event.{Event}
 use Rattle.kube_model.specs.declared.event.Event.TheVariants.{Changed, Deleted, ListEnd, Expired, Members, Frame, Ignored}
@@ -7,46 +7,32 @@ use Rattle.kube_model.specs.declared.event.Group.TheVariants as groups
 use Rattle.kube_model.specs.declared.key.Key.{Key}
 use Rattle.kube_model.specs.declared.object.Kind.TheVariants as kinds
 use Rattle.kube_model.specs.declared.object.Object.TheVariants as objects
-use Rattle.kube_model.specs.declared.put.Put.{Put}
 use Rattle.kube_model.specs.declared.reason.Reason.{Reason}
-use Rattle.kube_model.specs.declared.record.Record.{Record}
 use Rattle.kube_model.specs.declared.service.Service.{Service}
 use Rattle.kube_model.specs.Keys.{key_cmp}
 use Rattle.kube_model.specs.Records.{same_record}
-use Rattle.versioned_map.specs.declared.map.Versioned.{Versioned}
-use Rattle.versioned_map.specs.Entries.{held_at, version_at}
+use Rattle.versioned_map.specs.Entries.{version_at}
 use Rattle.pool_config.specs.Compile.{compiled}
 use Rattle.pool_config.specs.ConfigValue.{ConfigValue}
-use Rattle.object_history.specs.Cache.{Cached, cached, compiles, objects_after, event_compiles}
+use Rattle.object_history.specs.Cache.{Cached, cached, objects_after, event_compiles}
 use Rattle.object_history.specs.Observations.{Observation, Watched}
-use Rattle.object_history.specs.Kinds.{service_resource}
-use Rattle.object_history.specs.LookBack.{Compiles, HasEnded}
+use Rattle.object_history.specs.LookBack.{Compiles}
 use Rattle.object_history.proofs.Cached.{objects-as_shown}
-use Rattle.object_history.proofs.Force.{all_is_as_shown, compiles-is}
-use Rattle.object_history.proofs.Seen.{last_shown-is}
+use Rattle.object_history.proofs.Force.{compiles-is}
 use Rattle.object_cache.specs.Change.{applied, note_in, note_of}
-use Rattle.object_cache.specs.declared.change.TakeNote.{TakeNote}
-use Rattle.object_cache.specs.declared.change.TakeNote.TheVariants.{Quiet, Accepted, Refused}
 use Rattle.alloc_book.specs.declared.choice.Choice.{Choice}
 use Rattle.alloc_book.specs.declared.choice.Choice.TheVariants.{Foreign, Clear, Pending, Keep, New}
-use Rattle.alloc_book.specs.Asking.{Holders, Offer}
 use Rattle.alloc_book.specs.Chosen.{IsChosen}
-use Rattle.alloc_book.specs.Claims.{holders}
-use Rattle.alloc_book.proofs.ChooseLaws.{choose-is}
-use Rattle.alloc_book.proofs.PendingLaws.{holders-same}
 use Rattle.core_rules.specs.declared.turn.Turn.{Turn}
 use Rattle.core_rules.specs.declared.turn.Turn.TheVariants.{Idle, NoPut, Wants}
-use Rattle.core_rules.specs.Core.{State, is_ready, service_of, labels_of, offer_at, offer_in, pools_in}
-use Rattle.core_rules.specs.Take.{Concern, Shows, Drops, EndsServices, Configures, Lapses, Nothing, concern, core_note, note_by}
-use Rattle.core_rules.specs.Turn.{wanted_record, reason_in, chosen_at, turn_at, turn_of, core_turn}
-use Rattle.core_rules.specs.Run.{Entry, Turned, IsRun, core_after, observed, claims_shown}
-use Rattle.core_rules.proofs.Claims.{shown-held, claims_are_shown}
-use Rattle.core_rules.proofs.Concerns.{by_concern}
+use Rattle.core_rules.specs.Core.{State, service_of}
+use Rattle.core_rules.specs.Take.{Concern, Shows, Drops, EndsServices, Configures, Lapses, Nothing, concern, note_by}
+use Rattle.core_rules.specs.Turn.{wanted_record, reason_in, chosen_at, turn_at, turn_of}
+use Rattle.core_rules.specs.Run.{core_after, observed, claims_shown}
 use Rattle.core_rules.proofs.Runs.{core_holds_what_was_observed}
-use Rattle.core_laws.specs.Puts.{labels_shown}
 use Rattle.core_laws.specs.QuietShown.{offer_shown}
-use Rattle.core_laws.specs.Telling.{IsRightReason, Tells, ReasonsAreRight, IsRefused, IsRightNote, NotesAreRight}
-use Rattle.core_laws.proofs.Puts.{class-is, labels-shown, held-of, IsReadyAt, ready-run}
+use Rattle.core_laws.specs.Telling.{Tells, ReasonsAreRight, IsRightNote, NotesAreRight}
+use Rattle.core_laws.proofs.Puts.{IsDecidedAs, decided}
 
 -- ---- reasons
 pending-is : (c : Choice) (reason : Reason) → reason_in c ≡ Some reason → c ≡ Pending reason
@@ -91,28 +77,15 @@ pub reasons_are_right : ReasonsAreRight
 reasons_are_right class turn key reason earlier is tells =
     let s = core_after class earlier in
     let p : IsPendingAt s key reason = told-of s s.queue key turn reason is.0.1 tells in
-    let ready : IsReadyAt s.held = ready-run class turn earlier is (busy turn key reason tells) in
-    let holds = (core_holds_what_was_observed class earlier is.1).0 in
-    let found = held-of (held_at key_cmp s.held.services key) p.service p.found in
-    let held = found.0 in
-    let service_is : p.service ≡ held.object = sym found.2 in
-    let name = p.service.key.namespace in
-    let chosen : IsChosen (holders s.claims) (offer_in s.held p.service) s.class p.service (Pending reason) =
-    subst (IsChosen (holders s.claims) (offer_in s.held p.service) s.class p.service) p.chosen
-    (choose-is s.claims (offer_in s.held p.service) s.class p.service (chosen_at s p.service) refl) in
-    let by_claims = subst (λ (h : Holders). IsChosen h (offer_in s.held p.service) s.class p.service (Pending reason))
-    (holders-same (holders s.claims) (λ k. claims_shown k earlier) (claims_are_shown class earlier is.1)) chosen in
-    let offer_is : offer_in s.held p.service ≡ offer_shown ready.config (observed earlier) p.service =
-    ap (λ (c : Option ConfigValue). offer_at (pools_in c) (labels_of s.held name) p.service) ready.in_force
-    ∙ ap (λ (labels : List (List ℕ × List ℕ)). offer_at ready.config.pools labels p.service) (labels-shown class earlier is.1 name) in
-    let by_offer = subst (λ (o : Offer). IsChosen (λ k. claims_shown k earlier) o s.class p.service (Pending reason)) offer_is by_claims in
-    let by_class = subst (λ (c : Option (List ℕ)). IsChosen (λ k. claims_shown k earlier) (offer_shown ready.config (observed earlier) p.service) c p.service (Pending reason)) (class-is class earlier) by_offer in
+    let d : IsDecidedAs class key (Some reason) earlier p.service =
+    decided class turn earlier is (busy turn key reason tells) key (Some reason) p.service p.found (ap reason_in (sym p.chosen)) in
+    let held = d.right.held in
     record {
       held = held;
-      shown = last_shown-is service_resource key (observed earlier) held (sym (shown-held class earlier is.1 key) ∙ found.1);
-      config = ready.config;
-      in_force = ((all_is_as_shown (observed earlier)).config ready.config).0 (ap (λ (h : Cached). h.config) (sym holds) ∙ ready.in_force);
-      chosen = subst (λ (x : Service). IsChosen (λ k. claims_shown k earlier) (offer_shown ready.config (observed earlier) x) class x (Pending reason)) service_is by_class;
+      shown = d.right.shown;
+      config = d.right.config;
+      in_force = d.right.in_force;
+      chosen = subst (IsChosen (λ k. claims_shown k earlier) (offer_shown d.right.config (observed earlier) held.object) class held.object) (sym d.choice_is ∙ p.chosen) d.right.chosen;
     }
 
 -- ---- notes

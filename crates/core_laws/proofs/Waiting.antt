@@ -1,12 +1,11 @@
 -- A service that waits is pending: the record that it has doesn't matter.
-use Rattle.std.proofs.Common.{◌≡◌, ◌≢◌, ℕ, suc, Bool, true, false, cond, ◌&&◌, List, [], ◌∷◌, length, filter, Option, Some, None, ◌⊎◌, inl, inr, ⊎_elim, refl, sym, ap, subst, ◌∙◌}
+use Rattle.std.proofs.Common.{◌≡◌, ◌≢◌, ℕ, suc, true, cond, List, [], ◌∷◌, length, filter, Option, Some, None, inl, inr, ⊎_elim, refl, sym, ap, subst, ◌∙◌}
 use Rattle.std.proofs.lemmas.Bool.{and_parts, true≢false}
 use Rattle.std.proofs.lemmas.Slice.Eq.{bytes_eq-Decides}
 use Rattle.ip_ranges.specs.declared.family.Family.{Family}
 use Rattle.ip_ranges.specs.Values.{AddressValue, same_family}
 use Rattle.ip_ranges.proofs.AddressLaws.{same_family-itself}
 use Rattle.kube_model.specs.declared.reason.Reason.{Reason}
-use Rattle.kube_model.specs.declared.reason.Reason.TheVariants.{PoolExhausted, Exhausted, AddressUnusable}
 use Rattle.kube_model.specs.declared.record.Record.{Record}
 use Rattle.kube_model.specs.declared.service.Service.{Service}
 use Rattle.kube_model.specs.Records.{empty_record}
@@ -17,8 +16,8 @@ use Rattle.sharing_terms.specs.declared.terms.Terms.{Terms}
 use Rattle.pool_config.specs.declared.compiled.CompiledPool.{CompiledPool}
 use Rattle.alloc_book.specs.declared.choice.Choice.{Choice}
 use Rattle.alloc_book.specs.declared.choice.Choice.TheVariants.{Foreign, Clear, Pending, Keep, New}
-use Rattle.alloc_book.specs.Asking.{Asker, Holders, Offer, asker_of, asked_in, is_asked}
-use Rattle.alloc_book.specs.Chosen.{asked_pools, AsksAddresses, AsksPool, Gives, IsChosen, IsChosenFor}
+use Rattle.alloc_book.specs.Asking.{Asker, Holders, Offer, asker_of, asked_in}
+use Rattle.alloc_book.specs.Chosen.{AsksAddresses, Gives, IsChosen, IsChosenFor}
 use Rattle.alloc_book.specs.First.{AllUsable, IsHome, IsKept, IsOneOfEach, record_in}
 use Rattle.alloc_book.specs.Granted.{IsFor}
 use Rattle.core_rules.specs.Turn.{wanted_record}

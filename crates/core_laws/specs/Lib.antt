@@ -1,4 +1,6 @@
+pub mod Expired
 pub mod Puts
+pub mod Queue
 pub mod Quiet
 pub mod QuietShown
 pub mod Served

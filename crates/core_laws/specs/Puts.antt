@@ -2,6 +2,7 @@
 use Rattle.std.specs.Prelude.{◌≡◌, ◌≢◌, ℕ, List, [], ◌∷◌, Option}
 use Rattle.std.specs.Option.{option_map_or}
 use Rattle.kube_model.specs.declared.event.Group.TheVariants as groups
+use Rattle.kube_model.specs.declared.key.Key.{Key}
 use Rattle.kube_model.specs.declared.put.Put.{Put}
 use Rattle.kube_model.specs.declared.reason.Reason.{Reason}
 use Rattle.kube_model.specs.declared.service.Service.{Service}
@@ -13,7 +14,7 @@ use Rattle.object_history.specs.LookBack.{last_shown, HasEnded, IsInForce, IsLas
 use Rattle.alloc_book.specs.declared.choice.Choice.{Choice}
 use Rattle.alloc_book.specs.Chosen.{IsChosen}
 use Rattle.core_rules.specs.declared.turn.Turn.{Turn}
-use Rattle.core_rules.specs.declared.turn.Turn.TheVariants.{Idle, Wants}
+use Rattle.core_rules.specs.declared.turn.Turn.TheVariants.{Idle, NoPut, Wants}
 use Rattle.core_rules.specs.Core.{offer_at}
 use Rattle.core_rules.specs.Turn.{wanted_record, reason_in}
 use Rattle.core_rules.specs.Run.{Entry, Turned, IsRun, observed, claims_shown}
@@ -22,24 +23,39 @@ use Rattle.core_rules.specs.Run.{Entry, Turned, IsRun, observed, claims_shown}
 abbrev pub labels_shown : List ℕ → List Observation → List (List ℕ × List ℕ)
 labels_shown name observations = option_map_or (λ h. h.object.labels) (last_shown namespace_resource name observations) []
 
--- The put's service is held as it was last shown, with the put's version. Its record is what is chosen for the service by the
--- claims that the look back shows, the configuration in force and its namespace's labels as they were last shown.
-pub record IsRightPut (class : Option (List ℕ)) (put : Put) (pending : Option Reason) (earlier : List Entry) : Type 0 where
+-- What is decided of a key is right: its service is held as it was last shown, and this is chosen for it by the claims that the look
+-- back shows, the configuration in force and its namespace's labels as they were last shown. A reason is told exactly where the choice
+-- has one.
+pub record IsRightDecision (class : Option (List ℕ)) (key : Key) (pending : Option Reason) (earlier : List Entry) : Type 0 where
   pub held : Versioned Service
-  pub shown : IsLastShown service_resource put.key held (observed earlier)
+  pub shown : IsLastShown service_resource key held (observed earlier)
   pub config : ConfigValue
   pub in_force : IsInForce config (observed earlier)
   pub choice : Choice
-  pub chosen : IsChosen (λ key. claims_shown key earlier) (offer_at config.pools (labels_shown held.object.key.namespace (observed earlier)) held.object) class held.object choice
-  pub version_is : put.version ≡ held.version
-  pub holding_is : put.holding ≡ wanted_record held.object.holding choice
+  pub chosen : IsChosen (λ k. claims_shown k earlier) (offer_at config.pools (labels_shown held.object.key.namespace (observed earlier)) held.object) class held.object choice
   pub reason_is : pending ≡ reason_in choice
-  pub differs : put.holding ≢ held.object.holding
+
+-- The put has the version last shown and the record that is wanted, which is another than the one that is held.
+pub record IsRightPut (class : Option (List ℕ)) (put : Put) (pending : Option Reason) (earlier : List Entry) : Type 0 where
+  pub decision : IsRightDecision class put.key pending earlier
+  pub version_is : put.version ≡ decision.held.version
+  pub holding_is : put.holding ≡ wanted_record decision.held.object.holding decision.choice
+  pub differs : put.holding ≢ decision.held.object.holding
+
+-- No put is due: the record that is wanted is the one that is held.
+pub record IsRightNoPut (class : Option (List ℕ)) (key : Key) (pending : Option Reason) (earlier : List Entry) : Type 0 where
+  pub decision : IsRightDecision class key pending earlier
+  pub same : wanted_record decision.held.object.holding decision.choice ≡ decision.held.object.holding
 
 -- each put of each run
 abbrev pub PutsAreRight : Type 0
 PutsAreRight = (class : Option (List ℕ)) (put : Put) (pending : Option Reason) (earlier : List Entry) → IsRun class (Turned (Wants put pending) ∷ earlier)
     → IsRightPut class put pending earlier
+
+-- each turn that makes no put
+abbrev pub NoPutsAreRight : Type 0
+NoPutsAreRight = (class : Option (List ℕ)) (key : Key) (pending : Option Reason) (earlier : List Entry) → IsRun class (Turned (NoPut key pending) ∷ earlier)
+    → IsRightNoPut class key pending earlier
 
 -- Both lists have ended, and a configuration is in force.
 pub record IsReadyBy (observations : List Observation) : Type 0 where

@@ -1,5 +1,7 @@
 //! What holds of every run.
-ghost use Rattle.core_laws.specs.Puts.{PutsAreRight, TurnsAreReady};
+ghost use Rattle.core_laws.specs.Expired.{ExpiredIsBoth};
+ghost use Rattle.core_laws.specs.Puts.{PutsAreRight, NoPutsAreRight, TurnsAreReady};
+ghost use Rattle.core_laws.specs.Queue.{QueuesAreOrderly};
 ghost use Rattle.core_laws.specs.Quiet.{RunsAreQuiet};
 ghost use Rattle.core_laws.specs.QuietShown.{RunsAreQuietAsShown};
 ghost use Rattle.core_laws.specs.Served.{ChosenIsServed, RowsAreServed};
@@ -14,9 +16,22 @@ pub fn turns_are_of_ready_cores()
     ensures { TurnsAreReady }
 {}
 
-/// Each put is what is chosen for its service, by what the look back shows.
+/// Each put is what is chosen for its service, by what the look back shows; and where a turn makes no put, none is due.
 pub fn puts_are_right()
-    ensures { PutsAreRight }
+    ensures puts { PutsAreRight }
+    ensures no_puts { NoPutsAreRight }
+{}
+
+/// Whatever arrives, each key is queued once, is held and doesn't await a newer event, and none is queued while the core isn't
+/// ready.
+pub fn queues_are_orderly()
+    ensures { QueuesAreOrderly }
+{}
+
+/// Whatever arrives, where the watch of all lists expires, that is as if the watch of the configuration's list had expired, and
+/// then that of the services' list.
+pub fn expired_is_both()
+    ensures { ExpiredIsBoth }
 {}
 
 /// Whatever arrives, each settled service has the record that is chosen for it, but the one that is being written.

@@ -16,7 +16,7 @@ use Rattle.kube_model.specs.Keys.{key_cmp, has_key}
 use Rattle.object_cache.specs.Told.{passing}
 use Rattle.alloc_book.specs.Asking.{Offer, offer_of}
 use Rattle.alloc_book.specs.Claims.{ClaimValue}
-use Rattle.kube_model.specs.Records.{is_assigned}
+use Rattle.kube_model.specs.Records.{empty_record, is_assigned, same_record}
 use Rattle.core_rules.specs.Keys.{is_free}
 
 pub record State : Type 0 where
@@ -71,10 +71,10 @@ is_free_with queue awaiting assigned key service =
 abbrev pub all_free : List Key → List Key → List (Key × Versioned Service) → List Key
 all_free queue awaiting services = passing (is_free_with queue awaiting true) services ++ passing (is_free_with queue awaiting false) services
 
--- a handled service with no address, free, and another than these: it could use what was given up
+-- a handled service with an empty record, free, and another than these: it could use what was given up
 abbrev pub waits : Option (List ℕ) → (Key → Bool) → List Key → List Key → Key → Service → Bool
 waits class told queue awaiting key service =
-    not (told key) && (is_free queue awaiting key && (is_handled class service && not (is_assigned service.holding)))
+    not (told key) && (is_free queue awaiting key && (is_handled class service && same_record service.holding empty_record))
 
 -- the keys of those, by key, where a claim was lost
 abbrev pub waiting : Bool → Option (List ℕ) → (Key → Bool) → List Key → List Key → List (Key × Versioned Service) → List Key

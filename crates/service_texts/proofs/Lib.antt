@@ -1,0 +1,4 @@
+mod Fields
+pub mod Lines
+mod Objects
+mod Sets

@@ -1,0 +1,12 @@
+//! What holds of every service that a line shows.
+ghost use Rattle.service_texts.specs.Shown.{ServicesHaveTerms, EventsShowTerms};
+
+/// A service that a line shows has terms that there can be.
+pub fn services_have_terms()
+    ensures { ServicesHaveTerms }
+{}
+
+/// Whatever event a line is read as, a service that it shows has terms that there can be.
+pub fn events_show_terms()
+    ensures { EventsShowTerms }
+{}

@@ -1,0 +1,21 @@
+//! What is done to a store.
+
+use kube_model::{Key, Kind, Object};
+
+/// How a put went.
+#[derive(Clone, Copy, Debug, PartialEq, Eq)]
+pub enum Outcome {
+    /// It reached the store, and the reply came back.
+    Delivered,
+    /// No reply came back. The put reached the store if it is applied, and else it didn't.
+    Lost { applied: bool },
+}
+
+/// A change that is made to a cluster's objects from outside.
+#[derive(Drop)]
+pub enum Edit {
+    /// The object is created, or takes the place of the one of its kind and key.
+    Set { object: Object },
+    /// The object of this kind and key is deleted.
+    Delete { kind: Kind, key: Key },
+}

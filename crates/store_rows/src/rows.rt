@@ -1,0 +1,184 @@
+//! A store from its first object on, where memory is ample.
+
+use kube_events::read_event;
+use kube_model::{Event, Key, Kind, Object, Record, Text};
+use mlb_base::{NoMemory, Sequence};
+use status_store::{Edit, Outcome, Put, PutReply, Store, Stored};
+use std::alloc::Global;
+use std::test::Fail;
+
+#[derive(Clone, Copy)]
+enum Step {
+    /// The object of the event is set, whatever its version.
+    Set(&'static str),
+    Delete(Kind, &'static str, &'static str),
+    /// The service of this name in the namespace `d` is to have a record of the pool `p`.
+    Put(&'static str, u64, Outcome),
+}
+
+const A: &str =
+    r#"{"type":"ADDED","object":{"kind":"Service","metadata":{"namespace":"d","name":"a","resourceVersion":"70"},"spec":{"type":"LoadBalancer"}}}"#;
+
+const A_RECORDED: &str =
+    r#"{"type":"ADDED","object":{"kind":"Service","metadata":{"namespace":"d","name":"a","resourceVersion":"70","annotations":{"metallb.io/ip-allocated-from-pool":"q"}},"spec":{"type":"ClusterIP"}}}"#;
+
+const B_RECORDED: &str =
+    r#"{"type":"ADDED","object":{"kind":"Service","metadata":{"namespace":"d","name":"b","resourceVersion":"70","annotations":{"metallb.io/ip-allocated-from-pool":"q"}},"spec":{"type":"LoadBalancer"}}}"#;
+
+const NODE: &str =
+    r#"{"type":"ADDED","object":{"kind":"Node","metadata":{"name":"a","resourceVersion":"70"}}}"#;
+
+const LOST: Outcome = Outcome::Lost { applied: false };
+
+const LOST_LATER: Outcome = Outcome::Lost { applied: true };
+
+/// Each step, its answer, and what is stored then: names, versions and the pools of records.
+const ROWS: [(Step, &str, &str); 16] = [
+    (Step::Put("a", 0, Outcome::Delivered), "missing", ""),
+    (Step::Set(NODE), "true", "node a 1;"),
+    // the record that is handed in with a new service is dropped
+    (Step::Set(B_RECORDED), "true", "d/b 2 ;node a 1;"),
+    (Step::Set(A), "true", "d/a 3 ;d/b 2 ;node a 1;"),
+    (
+        Step::Put("a", 2, Outcome::Delivered),
+        "stale",
+        "d/a 3 ;d/b 2 ;node a 1;",
+    ),
+    (
+        Step::Put("a", 4, LOST_LATER),
+        "unknown",
+        "d/a 3 ;d/b 2 ;node a 1;",
+    ),
+    (
+        Step::Put("a", 3, LOST),
+        "unknown",
+        "d/a 3 ;d/b 2 ;node a 1;",
+    ),
+    (
+        Step::Put("a", 3, Outcome::Delivered),
+        "ok",
+        "d/a 4 p;d/b 2 ;node a 1;",
+    ),
+    (
+        Step::Put("b", 2, LOST_LATER),
+        "unknown",
+        "d/a 4 p;d/b 5 p;node a 1;",
+    ),
+    // a service that is there keeps its record
+    (Step::Set(A_RECORDED), "true", "d/a 6 p;d/b 5 p;node a 1;"),
+    (Step::Set(NODE), "true", "d/a 6 p;d/b 5 p;node a 7;"),
+    (
+        Step::Delete(Kind::Node, "d", "a"),
+        "false",
+        "d/a 6 p;d/b 5 p;node a 7;",
+    ),
+    (
+        Step::Delete(Kind::Pool, "", "a"),
+        "false",
+        "d/a 6 p;d/b 5 p;node a 7;",
+    ),
+    (
+        Step::Delete(Kind::Service, "d", "a"),
+        "true",
+        "d/b 5 p;node a 7;",
+    ),
+    // a service that is created again has an empty record
+    (Step::Set(A_RECORDED), "true", "d/a 9 ;d/b 5 p;node a 7;"),
+    (Step::Delete(Kind::Node, "", "a"), "true", "d/a 9 ;d/b 5 p;"),
+];
+
+fn key(alloc: Global, namespace: &str, name: &str) -> Result<Key, NoMemory> {
+    Ok(Key {
+        namespace: Text::new(alloc, namespace)?,
+        name: Text::new(alloc, name)?,
+    })
+}
+
+fn put(alloc: Global, name: &str, version: u64) -> Result<Put, NoMemory> {
+    Ok(Put {
+        key: key(alloc, "d", name)?,
+        version,
+        holding: Record {
+            addresses: Sequence::new(alloc),
+            pool: Text::new(alloc, "p")?,
+            mark: Text::new(alloc, "")?,
+        },
+    })
+}
+
+fn edited(store: &mut Store, edit: Edit) -> Result<&'static str, NoMemory> {
+    if store.counter() == u64::MAX {
+        return Ok("full");
+    }
+    Ok(if store.edit(edit)? { "true" } else { "false" })
+}
+
+fn written(store: &mut Store, put: &Put, outcome: Outcome) -> Result<&'static str, NoMemory> {
+    if store.counter() == u64::MAX {
+        return Ok("full");
+    }
+    Ok(match store.put(put, outcome)? {
+        PutReply::Ok { .. } => "ok",
+        PutReply::Stale => "stale",
+        PutReply::Missing => "missing",
+        PutReply::Unknown => "unknown",
+    })
+}
+
+fn answer(alloc: Global, store: &mut Store, step: Step) -> Result<&'static str, Fail> {
+    match step {
+        Step::Set(line) => match read_event(alloc, line.as_bytes())? {
+            Event::Changed { object, .. } => Ok(edited(store, Edit::Set { object })?),
+            _ => Ok("no object"),
+        },
+        Step::Delete(kind, namespace, name) => {
+            let key = key(alloc, namespace, name)?;
+            Ok(edited(store, Edit::Delete { kind, key })?)
+        }
+        Step::Put(name, version, outcome) => Ok(written(
+            store,
+            &put(alloc, name, version)?,
+            outcome,
+        )?),
+    }
+}
+
+fn shown(alloc: Global, stored: &Stored) -> Result<String, NoMemory> {
+    let version = stored.version;
+    match &stored.object {
+        Object::Service(service) => {
+            let key = &service.key;
+            let pool = &service.holding.pool;
+            Ok(format!(in alloc; "{}/{} {version} {pool};", key.namespace, key.name)?)
+        }
+        Object::Node(node) => Ok(format!(in alloc; "node {} {version};", node.name)?),
+        _ => Ok(String::from_str(alloc, "other;")?),
+    }
+}
+
+fn listed(alloc: Global, store: &Store) -> Result<String, NoMemory> {
+    let mut text = String::new(alloc);
+    for stored in store.list().as_slice() {
+        text.push_str(&shown(alloc, stored)?)?;
+    }
+    Ok(text)
+}
+
+#[test]
+fn a_store_keeps_what_is_set_and_put(rt: HostRuntime) -> Result<(), Fail> {
+    let mut store = Store::new(rt.alloc());
+    for (number, (step, answered, stored)) in ROWS.into_iter().enumerate() {
+        assert_eq!(rt;
+            answer(rt.alloc(), &mut store, step)?,
+            answered,
+            "row {number}"
+        );
+        assert_eq!(rt;
+            listed(rt.alloc(), &store)?.as_str(),
+            stored,
+            "row {number}"
+        );
+    }
+    assert_eq!(rt; store.counter(), 10);
+    Ok(())
+}

@@ -1,5 +1,6 @@
 pub mod Driven
 pub mod Endings
+pub mod Kept
 pub mod Refusals
 pub mod Runs
 pub mod Texts

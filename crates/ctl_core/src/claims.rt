@@ -1,48 +1,46 @@
-//! Lists of claims.
-ghost use Rattle.std.specs.Prelude.{◌≡◌, ◌≤◌, ◌<◌, vec_len, vec_capacity};
-ghost use Rattle.ctl_core.specs.Claims.{others, settled, doubted, loses, claims_it};
+//! What a change of services makes of the claims.
+ghost use Rattle.std.specs.Prelude.{◌≡◌};
+ghost use Rattle.alloc_book.specs.Claims.{loses};
+ghost use Rattle.core_rules.specs.Take.{have_claims, listed_claims};
 
-use crate::alloc_book::{Claim, is_assigned, same_record};
+use crate::keys::{Services, is_unlisted};
+use alloc_book::{Book, Listing};
 use kube_model::{Key, Record};
 
+/// The services that are held and were listed.
+#[derive(Drop)]
+struct Listed<'a> {
+    services: &'a Services,
+}
+
+impl Listing for Listed<'_> {
+    ghost use Rattle.std.specs.Prelude.{not};
+    ghost use Rattle.core_rules.specs.Take.{is_unlisted};
+
+    ghost lists = { λ listed key. not (is_unlisted listed.services.now key) };
+
+    fn lists(&self, key: &Key) -> bool {
+        !is_unlisted(self.services, key)
+    }
+}
+
 /// Whether the key has a claim with another record than this one.
-pub(crate) fn loses(claims: &[Claim], key: &Key, holding: &Record) -> bool
-    ensures { result ≡ loses key.now holding.now claims.now }
+pub(crate) fn loses(book: &Book, key: &Key, holding: &Record) -> bool
+    ensures { result ≡ loses key.now holding.now book.now.claims }
 {
-    claims.iter().any(|claim| claim.key == *key && !same_record(&claim.holding, holding))
+    book.loses(key, holding)
 }
 
-fn claims_it(claims: &[Claim], key: &Key, holding: &Record) -> bool
-    ensures { result ≡ claims_it key.now holding.now claims.now }
+/// Whether a service has a claim that isn't held, or wasn't listed.
+pub(crate) fn have_claims(book: &Book, services: &Services) -> bool
+    ensures { result ≡ have_claims services.now book.now.claims }
 {
-    claims.iter().any(|claim| claim.key == *key && same_record(&claim.holding, holding))
+    book.has_unlisted(&Listed { services })
 }
 
-fn drop_claims(claims: &mut Vec<Claim>, key: &Key)
-    ensures items { claims.new.items ≡ others key.now claims.old.items }
-    ensures capacity { vec_capacity claims.new ≡ vec_capacity claims.old }
-    ensures len { vec_len claims.new ≤ vec_len claims.old }
+/// The claims of the services that are held and were listed stay, and no others.
+pub(crate) fn keep_listed_claims(book: &mut Book, services: &Services)
+    ensures { book.new.claims ≡ listed_claims services.now book.old.claims }
 {
-    claims.retain(|claim| claim.key != *key);
-}
-
-/// The key has this claim and no other. There is room for one more.
-pub(crate) fn settle(claims: &mut Vec<Claim>, key: Key, holding: Record)
-    requires { vec_len claims.old < vec_capacity claims.old }
-    ensures { claims.new.items ≡ settled key holding claims.old.items }
-{
-    drop_claims(claims, &key);
-    if is_assigned(&holding) {
-        claims.push_reserved(Claim { key, holding });
-    }
-}
-
-/// The key has this claim too, unless it stands already. There is room for one more.
-pub(crate) fn doubt(claims: &mut Vec<Claim>, key: Key, holding: Record)
-    requires { vec_len claims.old < vec_capacity claims.old }
-    ensures { claims.new.items ≡ doubted key holding claims.old.items }
-{
-    if !claims_it(claims, &key, &holding) && is_assigned(&holding) {
-        claims.push_reserved(Claim { key, holding });
-    }
+    book.drop_unlisted(&Listed { services });
 }

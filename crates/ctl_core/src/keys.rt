@@ -1,18 +1,22 @@
-//! The lists of keys that the core keeps.
-ghost use Rattle.std.specs.Prelude.{◌≡◌, ◌≤◌, ◌<◌, ◌+◌, ◌++◌, ◌∷◌, [], IfOk, if◌then◌else◌, vec_len, vec_capacity};
+//! Lists of keys.
+ghost use Rattle.std.specs.Prelude.{◌≡◌, ◌≤◌, ◌++◌, if◌then◌else◌, [], not, IfOk, vec_len, vec_capacity};
 ghost use Rattle.std.specs.Option.{option_copied};
-ghost use Rattle.ctl_core.specs.Core.{is_free, is_free_with, all_queued, queued, waits, released};
-ghost use Rattle.ctl_core.specs.Keys.{has_key, keys_where};
+ghost use Rattle.object_cache.specs.Told.{passing};
+ghost use Rattle.versioned_map.specs.Entries.{listed};
+ghost use Rattle.kube_model.specs.Keys.{same_key, has_key, without};
+ghost use Rattle.kube_model.specs.Records.{empty_record, same_record};
+ghost use Rattle.core_rules.specs.Core.{is_free_with, all_free, waits, waiting};
+ghost use Rattle.core_rules.specs.Keys.{own_key, is_free};
+ghost use Rattle.core_rules.specs.Take.{no_key, is_unlisted, listed_keys};
 
-use crate::alloc_book::is_assigned;
-use crate::held::HeldService;
 use kube_labels::Text;
-use kube_model::Key;
+use kube_model::{Key, Record, Service};
 use mlb_base::{NoMemory, TryCopy};
 use std::alloc::Global;
-use std::collections::BTreeMap;
+use versioned_map::VersionedMap;
 
-pub(crate) type Services = BTreeMap<Key, HeldService>;
+/// The held services.
+pub(crate) type Services = VersionedMap<Key, Service>;
 
 fn has_key(keys: &[Key], key: &Key) -> bool
     ensures { result ≡ has_key keys.now key.now }
@@ -20,116 +24,267 @@ fn has_key(keys: &[Key], key: &Key) -> bool
     keys.iter().any(|k| k == key)
 }
 
-/// Neither queued nor awaiting.
-fn is_free(queue: &[Key], awaiting: &[Key], key: &Key) -> bool
+/// Whether the key is neither queued nor awaiting.
+pub(crate) fn is_free(queue: &[Key], awaiting: &[Key], key: &Key) -> bool
     ensures { result ≡ is_free queue.now awaiting.now key.now }
 {
     !has_key(queue, key) && !has_key(awaiting, key)
 }
 
-/// Whether the key is free, and its service has a recorded address or not.
+pub(crate) fn drop_key(keys: &mut Vec<Key>, key: &Key)
+    ensures items { keys.new.items ≡ without key.now keys.old.items }
+    ensures capacity { vec_capacity keys.new ≡ vec_capacity keys.old }
+    ensures len { vec_len keys.new ≤ vec_len keys.old }
+{
+    keys.retain(|k| k != key);
+}
+
+/// Whether the service isn't held, or wasn't listed.
+pub(crate) fn is_unlisted(services: &Services, key: &Key) -> bool
+    ensures { result ≡ is_unlisted services.now key.now }
+{
+    services.version_of(key) == 0
+}
+
+/// Those that aren't held, or weren't listed, are dropped.
+pub(crate) fn keep_listed(keys: &mut Vec<Key>, services: &Services)
+    ensures items { keys.new.items ≡ listed_keys services.now keys.old.items }
+    ensures capacity { vec_capacity keys.new ≡ vec_capacity keys.old }
+    ensures len { vec_len keys.new ≤ vec_len keys.old }
+{
+    keys.retain(|key| !is_unlisted(services, key));
+}
+
+/// The key, where it isn't in the list.
+fn own_key(alloc: Global, key: &Key, queue: &[Key]) -> Result<Vec<Key>, NoMemory>
+    ensures { IfOk result (λ keys. keys.items ≡ own_key key.now queue.now) }
+{
+    let mut keys = Vec::new(alloc);
+    if has_key(queue, key) {
+        return Ok(keys);
+    }
+    keys.push(key.copy()?)?;
+    Ok(keys)
+}
+
 fn is_free_with(
     queue: &[Key],
     awaiting: &[Key],
     assigned: bool,
     key: &Key,
-    held: &HeldService,
+    service: &Service,
 ) -> bool
-    ensures { result ≡ is_free_with queue.now awaiting.now assigned key.now held.now }
+    ensures { result ≡ is_free_with queue.now awaiting.now assigned key.now service.now }
 {
     is_free(queue, awaiting, key)
         && (if assigned {
-            is_assigned(&held.service.holding)
+            service.holding.is_assigned()
         } else {
-            !is_assigned(&held.service.holding)
+            !service.holding.is_assigned()
         })
 }
 
-/// The free keys by key, of the services with a recorded address or of the others.
-fn free_keys(
+fn free_with(
     alloc: Global,
-    services: &Services,
+    assigned: bool,
     queue: &[Key],
     awaiting: &[Key],
-    assigned: bool,
+    services: &Services,
 ) -> Result<Vec<Key>, NoMemory>
-    ensures { IfOk result (λ keys. keys.items ≡ keys_where (is_free_with queue.now awaiting.now assigned) services.now.entries) }
+    ensures { IfOk result (λ keys. keys.items ≡ passing (is_free_with queue.now awaiting.now assigned) services.now) }
 {
     let mut keys = Vec::new(alloc);
-    for (key, held) in services {
-        if is_free_with(queue, awaiting, assigned, key, held) {
-            keys.push(key.copy()?)?;
+    for (key, held) in services.iter() {
+        if !is_free_with(queue, awaiting, assigned, key, &held.object) {
+            continue;
         }
+        keys.push(key.copy()?)?;
     }
     Ok(keys)
 }
 
-/// Where the core becomes ready, the keys to queue behind the others: those with a recorded address first.
-pub(crate) fn ready_keys(
+/// Every free key: those with a recorded address first.
+pub(crate) fn all_free(
     alloc: Global,
-    becomes_ready: bool,
-    services: &Services,
     queue: &[Key],
     awaiting: &[Key],
+    services: &Services,
 ) -> Result<Vec<Key>, NoMemory>
-    ensures { IfOk result (λ more. queue.now ++ more.items ≡ (if becomes_ready then all_queued services.now.entries awaiting.now queue.now else queue.now)) }
+    ensures { IfOk result (λ keys. keys.items ≡ all_free queue.now awaiting.now services.now) }
 {
-    if !becomes_ready {
-        return Ok(Vec::new(alloc));
-    }
-    let mut keys = free_keys(alloc, services, queue, awaiting, true)?;
-    let mut others = free_keys(alloc, services, queue, awaiting, false)?;
+    let mut keys = free_with(alloc, true, queue, awaiting, services)?;
+    let mut others = free_with(alloc, false, queue, awaiting, services)?;
     keys.append(&mut others)?;
     Ok(keys)
 }
 
-/// Whether another service waits for what the key gave up.
-fn waits(
-    class: Option<&Text>,
-    gave_up: &Key,
-    queue: &[Key],
-    awaiting: &[Key],
-    key: &Key,
-    held: &HeldService,
-) -> bool
-    ensures { result ≡ waits (option_copied class.entry) gave_up.now queue.now awaiting.now key.now held.now }
-{
-    is_free(queue, awaiting, key)
-        && held.service.is_handled(class)
-        && !is_assigned(&held.service.holding)
-        && key != gave_up
-}
-
-/// Where a claim of the key was lost, the keys that wait for what it gave up, by key.
-pub(crate) fn waiting_keys(
+fn free_listed_with(
     alloc: Global,
-    is_lost: bool,
-    class: Option<&Text>,
-    gave_up: &Key,
-    services: &Services,
+    assigned: bool,
     queue: &[Key],
     awaiting: &[Key],
+    services: &Services,
 ) -> Result<Vec<Key>, NoMemory>
-    ensures { IfOk result (λ more. queue.now ++ more.items ≡ released is_lost (option_copied class.entry) gave_up.now services.now.entries awaiting.now queue.now) }
+    ensures { IfOk result (λ keys. keys.items ≡ passing (is_free_with queue.now awaiting.now assigned) (listed services.now)) }
 {
     let mut keys = Vec::new(alloc);
-    if !is_lost {
-        return Ok(keys);
-    }
-    for (key, held) in services {
-        if waits(class, gave_up, queue, awaiting, key, held) {
-            keys.push(key.copy()?)?;
+    for (key, held) in services.iter() {
+        if held.version == 0 || !is_free_with(queue, awaiting, assigned, key, &held.object) {
+            continue;
         }
+        keys.push(key.copy()?)?;
     }
     Ok(keys)
 }
 
-/// Where the core is ready, the key goes to the back of the queue, unless it is queued. There is room for it.
-pub(crate) fn queue_key(queue: &mut Vec<Key>, is_ready: bool, key: Key)
-    requires { vec_len queue.old < vec_capacity queue.old }
-    ensures { queue.new.items ≡ (if is_ready then queued key queue.old.items else queue.old.items) }
+fn all_free_listed(
+    alloc: Global,
+    queue: &[Key],
+    awaiting: &[Key],
+    services: &Services,
+) -> Result<Vec<Key>, NoMemory>
+    ensures { IfOk result (λ keys. keys.items ≡ all_free queue.now awaiting.now (listed services.now)) }
 {
-    if is_ready && !has_key(queue, &key) {
-        queue.push_reserved(key);
+    let mut keys = free_listed_with(alloc, true, queue, awaiting, services)?;
+    let mut others = free_listed_with(alloc, false, queue, awaiting, services)?;
+    keys.append(&mut others)?;
+    Ok(keys)
+}
+
+/// Whether the record has no address, no pool and no mark.
+fn is_empty(holding: &Record) -> bool
+    ensures { result ≡ same_record holding.now empty_record }
+{
+    holding.addresses.is_empty()
+        && holding.pool.as_str().is_empty()
+        && holding.mark.as_str().is_empty()
+}
+
+fn could_use(
+    class: Option<&Text>,
+    queue: &[Key],
+    awaiting: &[Key],
+    key: &Key,
+    service: &Service,
+) -> bool
+    ensures { result ≡ waits (option_copied class.entry) no_key queue.now awaiting.now key.now service.now }
+{
+    is_free(queue, awaiting, key) && (service.is_handled(class) && is_empty(&service.holding))
+}
+
+fn waits(
+    class: Option<&Text>,
+    own: &Key,
+    queue: &[Key],
+    awaiting: &[Key],
+    key: &Key,
+    service: &Service,
+) -> bool
+    ensures { result ≡ waits (option_copied class.entry) (same_key own.now) queue.now awaiting.now key.now service.now }
+{
+    own != key && could_use(class, queue, awaiting, key, service)
+}
+
+fn others_waiting(
+    alloc: Global,
+    class: Option<&Text>,
+    own: &Key,
+    queue: &[Key],
+    awaiting: &[Key],
+    services: &Services,
+) -> Result<Vec<Key>, NoMemory>
+    ensures { IfOk result (λ keys. keys.items ≡ passing (waits (option_copied class.entry) (same_key own.now) queue.now awaiting.now) services.now) }
+{
+    let mut keys = Vec::new(alloc);
+    for (key, held) in services.iter() {
+        if !waits(class, own, queue, awaiting, key, &held.object) {
+            continue;
+        }
+        keys.push(key.copy()?)?;
     }
+    Ok(keys)
+}
+
+/// Where a claim of the key was lost, the others that wait.
+pub(crate) fn waiting(
+    alloc: Global,
+    is_lost: bool,
+    class: Option<&Text>,
+    own: &Key,
+    queue: &[Key],
+    awaiting: &[Key],
+    services: &Services,
+) -> Result<Vec<Key>, NoMemory>
+    ensures { IfOk result (λ keys. keys.items ≡ waiting is_lost (option_copied class.entry) (same_key own.now) queue.now awaiting.now services.now) }
+{
+    if !is_lost {
+        return Ok(Vec::new(alloc));
+    }
+    others_waiting(alloc, class, own, queue, awaiting, services)
+}
+
+fn listed_waiting(
+    alloc: Global,
+    class: Option<&Text>,
+    queue: &[Key],
+    awaiting: &[Key],
+    services: &Services,
+) -> Result<Vec<Key>, NoMemory>
+    ensures { IfOk result (λ keys. keys.items ≡ passing (waits (option_copied class.entry) no_key queue.now awaiting.now) (listed services.now)) }
+{
+    let mut keys = Vec::new(alloc);
+    for (key, held) in services.iter() {
+        if held.version == 0 || !could_use(class, queue, awaiting, key, &held.object) {
+            continue;
+        }
+        keys.push(key.copy()?)?;
+    }
+    Ok(keys)
+}
+
+/// What is queued where a service is shown: its own key, and behind it the others that wait where a claim was lost.
+pub(crate) fn own_and_waiting(
+    alloc: Global,
+    is_ready: bool,
+    is_lost: bool,
+    class: Option<&Text>,
+    own: &Key,
+    queue: &[Key],
+    awaiting: &[Key],
+    services: &Services,
+) -> Result<Vec<Key>, NoMemory>
+    ensures { IfOk result (λ keys. keys.items ≡ (if is_ready then own_key own.now queue.now ++ waiting is_lost (option_copied class.entry) (same_key own.now) queue.now awaiting.now services.now else [])) }
+{
+    if !is_ready {
+        return Ok(Vec::new(alloc));
+    }
+    let mut keys = own_key(alloc, own, queue)?;
+    let mut others = waiting(alloc, is_lost, class, own, queue, awaiting, services)?;
+    keys.append(&mut others)?;
+    Ok(keys)
+}
+
+/// What is queued where the list of services ends.
+pub(crate) fn listed_and_free(
+    alloc: Global,
+    was_ready: bool,
+    is_ready: bool,
+    is_lost: bool,
+    class: Option<&Text>,
+    queue: &[Key],
+    awaiting: &[Key],
+    services: &Services,
+) -> Result<Vec<Key>, NoMemory>
+    ensures { IfOk result (λ keys. keys.items ≡ (if not is_ready then [] else (if was_ready then waiting is_lost (option_copied class.entry) no_key queue.now awaiting.now (listed services.now) else all_free queue.now awaiting.now (listed services.now)))) }
+{
+    if !is_ready {
+        return Ok(Vec::new(alloc));
+    }
+    if !was_ready {
+        return all_free_listed(alloc, queue, awaiting, services);
+    }
+    if !is_lost {
+        return Ok(Vec::new(alloc));
+    }
+    listed_waiting(alloc, class, queue, awaiting, services)
 }

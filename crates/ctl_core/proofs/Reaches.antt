@@ -1,0 +1,52 @@
+-- What a reached core comes to is reached, and each reached core is quiet.
+use Rattle.std.proofs.Common.{◌≡◌, ℕ, true, List, [], ◌∷◌, Option, Some, None, Result, Ok, Err, is_some, refl, sym, ap, ◌∙◌, subst}
+use Rattle.std.specs.Prelude.{IsSome, OnOk, OnErr}
+use Rattle.kube_model.specs.declared.event.Event.{Event}
+use Rattle.kube_model.specs.declared.event.Group.{Group}
+use Rattle.kube_model.specs.declared.put.Put.{Put}
+use Rattle.kube_model.specs.declared.reply.PutReply.{PutReply}
+use Rattle.core_rules.specs.Core.{State, fresh}
+use Rattle.core_rules.specs.Reply.{core_reply}
+use Rattle.core_rules.specs.Take.{core_take, core_expired}
+use Rattle.core_rules.specs.Turn.{core_turn, after_turn}
+use Rattle.core_rules.specs.Run.{Entry, Took, Expired, Turned, Heard, IsRun, MayEnter, core_after, entered}
+use Rattle.core_laws.specs.Quiet.{IsQuiet}
+use Rattle.core_laws.proofs.QuietRuns.{runs_are_quiet}
+use Rattle.ctl_core.specs.Reached.{IsReached}
+
+pub reached-fresh : (class : Option (List ℕ)) → IsReached (fresh class)
+reached-fresh class = record { class = class; run = []; is = tt; leads = refl }
+
+-- what may enter leads from a reached state to a reached one
+goes_on : (s : State) (e : Entry) → IsReached s → MayEnter e s → IsReached (entered e s)
+goes_on s e r may = record {
+  class = r.class;
+  run = e ∷ r.run;
+  is = (subst (MayEnter e) (sym r.leads) may, r.is);
+  leads = ap (entered e) r.leads;
+}
+
+pub reached-quiet : (s : State) → IsReached s → IsQuiet s
+reached-quiet s r = subst IsQuiet r.leads (runs_are_quiet r.class r.run r.is)
+
+-- after a call that is refused, the state is as before, and after one that isn't it is where the entry leads
+by_result : {T E : Type 0} (result : Result T E) (s t u : State) → IsReached s → IsReached u → OnOk result (t ≡ u) → OnErr result (t ≡ s) → IsReached t
+by_result (Ok value) s t u before after ok err = subst IsReached (sym ok) after
+by_result (Err fault) s t u before after ok err = subst IsReached (sym err) before
+
+some-out : {X : Type 0} (o : Option X) → IsSome o → is_some o ≡ true
+some-out None some = absurd (cc)
+some-out (Some x) some = refl
+
+module _ {T E : Type 0} (result : Result T E) (s t : State) (before : IsReached s) where
+  pub reached-take : (event : Event) → s.out ≡ None → OnOk result (t ≡ core_take s event) → OnErr result (t ≡ s) → IsReached t
+  reached-take event none ok err = by_result result s t (core_take s event) before (goes_on s (Took event) before none) ok err
+
+  pub reached-turn : s.out ≡ None → OnOk result (t ≡ after_turn s) → OnErr result (t ≡ s) → IsReached t
+  reached-turn none ok err = by_result result s t (after_turn s) before (goes_on s (Turned (core_turn s)) before (none, refl)) ok err
+
+  pub reached-reply : (reply : PutReply) → IsSome s.out → OnOk result (t ≡ core_reply s reply) → OnErr result (t ≡ s) → IsReached t
+  reached-reply reply some ok err = by_result result s t (core_reply s reply) before (goes_on s (Heard reply) before (some-out s.out some)) ok err
+
+pub reached-expired : (s t : State) (group : Group) → IsReached s → s.out ≡ None → t ≡ core_expired s group → IsReached t
+reached-expired s t group before none is = subst IsReached (sym is) (goes_on s (Expired group) before none)

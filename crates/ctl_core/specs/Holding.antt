@@ -1,0 +1,18 @@
+-- A newer service is held.
+use Rattle.std.specs.Prelude.{ℕ, ◌++◌}
+use Rattle.kube_model.specs.declared.service.Service.{Service}
+use Rattle.object_history.specs.Cache.{cached_after}
+use Rattle.object_history.specs.Observations.{Watched}
+use Rattle.alloc_book.specs.Claims.{settled, loses}
+use Rattle.core_rules.specs.Core.{State, is_ready}
+use Rattle.kube_model.specs.Keys.{without}
+use Rattle.core_rules.specs.Take.{shows, own_and_waiting}
+
+-- the service is newer than what is held
+abbrev pub held_service : State → ℕ → Service → State
+held_service s version service = record s {
+  held = cached_after (Watched (shows version service)) s.held;
+  claims = settled service.key service.holding s.claims;
+  awaiting = without service.key s.awaiting;
+  queue = s.queue ++ own_and_waiting (is_ready s.held) (loses service.key service.holding s.claims) s service.key;
+}

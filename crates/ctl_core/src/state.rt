@@ -1,0 +1,104 @@
+//! What the core holds, and what it still has to decide.
+ghost use Rattle.std.specs.Prelude.{◌≡◌, ◌↔◌, ◌<◌, length, IfOk, IsTrue};
+ghost use Rattle.std.specs.Option.{option_copied};
+ghost use Rattle.core_rules.specs.Core.{fresh, is_ready, record_of, is_settled};
+
+use crate::keys::is_free;
+use alloc_book::Book;
+use kube_labels::Text;
+use kube_model::{Group, Key, Put, Record};
+use mlb_base::NoMemory;
+use object_cache::ObjectCache;
+use std::alloc::Global;
+use std::marker::Model;
+
+/// What the core holds of the cluster, and what it still has to decide.
+#[derive(Drop)]
+pub(crate) struct CoreState {
+    pub(crate) alloc: Global,
+    pub(crate) class: Option<Text>,
+    pub(crate) cache: ObjectCache,
+    pub(crate) book: Book,
+    pub(crate) queue: Vec<Key>,
+    pub(crate) awaiting: Vec<Key>,
+    pub(crate) out: Option<Put>,
+}
+
+impl Model for CoreState {
+    ghost use Rattle.core_rules.specs.Core.{State};
+
+    ghost Value = { State };
+
+    ghost view = { λ c. record {
+      class = c.class;
+      held = c.cache;
+      claims = c.book.claims;
+      queue = c.queue.items;
+      awaiting = c.awaiting.items;
+      out = c.out;
+    } };
+}
+
+impl CoreState {
+    /// A core that holds nothing. It handles the services of the class (`spec.loadBalancerClass`), and with none those that name
+    /// none.
+    pub(crate) fn new(alloc: Global, class: Option<Text>) -> Result<CoreState, NoMemory>
+        ensures { IfOk result (λ core. core ≡ fresh class) }
+    {
+        Ok(CoreState {
+            alloc,
+            class,
+            cache: ObjectCache::new(alloc),
+            book: Book::new(alloc),
+            queue: Vec::new(alloc),
+            awaiting: Vec::new(alloc),
+            out: None,
+        })
+    }
+
+    /// Whether the lists of the configuration and of the services have ended, and a configuration is in force.
+    pub(crate) fn is_ready(&self) -> bool
+        ensures { result ≡ is_ready self.now.held }
+    {
+        is_ready(&self.cache)
+    }
+
+    /// Whether a service is queued, so that there is a turn to make.
+    pub(crate) fn has_turn(&self) -> bool
+        ensures { IsTrue result ↔ (0 < length self.now.queue) }
+    {
+        !self.queue.is_empty()
+    }
+
+    /// The record last shown for a held service.
+    pub(crate) fn record_of(&self, key: &Key) -> Option<&Record>
+        ensures { option_copied result ≡ record_of self.now.held key.now }
+    {
+        match self.cache.service(key) {
+            Some(service) => Some(&service.holding),
+            None => None,
+        }
+    }
+
+    /// Whether the core is ready and holds the service, which is neither queued nor awaits a newer event.
+    pub(crate) fn is_settled(&self, key: &Key) -> bool
+        ensures { result ≡ is_settled self.now key.now }
+    {
+        is_ready(&self.cache)
+            && self.cache.service(key).is_some()
+            && is_free(&self.queue, &self.awaiting, key)
+    }
+
+    /// The put that has no reply yet.
+    pub(crate) fn put_out(&self) -> Option<&Put>
+        ensures { option_copied result ≡ self.now.out }
+    {
+        self.out.as_ref()
+    }
+}
+
+pub(crate) fn is_ready(cache: &ObjectCache) -> bool
+    ensures { result ≡ is_ready cache.now }
+{
+    cache.has_ended(Group::Config) && cache.has_ended(Group::Service) && cache.config().is_some()
+}

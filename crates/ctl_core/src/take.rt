@@ -1,0 +1,439 @@
+//! Events that are taken.
+ghost use Rattle.std.specs.Prelude.{◌≡◌, ◌↔◌, ◌⊎◌, ◌++◌, ◌&&◌, ◌||◌, not, is_some, None, true, IsErrOf, OnOk, OnErr, IfOk, IfErr};
+ghost use Rattle.kube_model.specs.declared.event.Event.TheVariants.{Changed as ChangedEvent, Deleted as DeletedEvent, ListEnd as ListEndEvent};
+ghost use Rattle.kube_model.specs.Keys.{same_key, key_cmp, without};
+ghost use Rattle.object_history.specs.Observations.{Watched, WatchExpired};
+ghost use Rattle.object_history.specs.Cache.{cached_after};
+ghost use Rattle.object_cache.specs.Change.{applied};
+ghost use Rattle.object_cache.specs.Limits.{passes, most_services};
+ghost use Rattle.object_cache.specs.declared.change.TakeNote.TheVariants.{Quiet as QuietNote};
+ghost use Rattle.alloc_book.specs.Claims.{loses, has_claims, settled};
+ghost use Rattle.core_rules.specs.Core.{waiting, all_free, is_ready};
+ghost use Rattle.core_rules.specs.Take.{core_take, core_note, core_expired, limits, with_service, without_service, with_services_listed, own_and_waiting, listed_and_free, have_claims, shows, is_accepted, is_namespace, configured};
+ghost use Rattle.ctl_core.specs.Holding.{held_service};
+
+use crate::claims::{have_claims, keep_listed_claims, loses};
+use crate::keys::{all_free, drop_key, keep_listed, listed_and_free, own_and_waiting, waiting};
+use crate::room::{append_all, append_where, clear_unless, make_room};
+use crate::state::{CoreState, is_ready};
+use alloc_book::Claim;
+use core_rules::TakeFault;
+use kube_model::{Event, Group, Key, Kind, Object, Service};
+use mlb_base::{NoMemory, TryCopy};
+use object_cache::{Applied, Change, MOST_SERVICES, ObjectCache, TakeNote};
+
+/// What there is to do where a service is held: its claim, and the keys that are queued.
+#[derive(Drop)]
+struct Prepared {
+    key: Key,
+    claim: Claim,
+    more: Vec<Key>,
+}
+
+impl CoreState {
+    /// Takes an event: what it shows of the cluster is held. It is refused where one service more would be held than may be,
+    /// with their number. After a refusal the core is unchanged.
+    pub(crate) fn take(&mut self, event: Event) -> Result<TakeNote, TakeFault>
+        requires { self.old.out ≡ None }
+        ensures note { IfOk result (λ note. note ≡ core_note self.old event) }
+        ensures ok { OnOk result (self.new ≡ core_take self.old event) }
+        ensures limit { IsErrOf result (TakeFault.Limit 65537) ↔ (limits self.old event ≡ true) }
+        ensures faults { IfErr result (λ fault. (fault ≡ TakeFault.Limit 65537) ⊎ (fault ≡ TakeFault.NoMemory)) }
+        ensures err { OnErr result (self.new ≡ self.old) }
+    {
+        if self.limits(&event) {
+            drop(event);
+            return Err(TakeFault::Limit { count: 65_537 });
+        }
+        match self.apply(event) {
+            Ok(note) => Ok(note),
+            Err(NoMemory) => Err(TakeFault::NoMemory),
+        }
+    }
+
+    /// Whether the event would have one service more held than may be.
+    fn limits(&self, event: &Event) -> bool
+        ensures { result ≡ limits self.now event.now }
+    {
+        match event {
+            Event::Changed { version, object } => match object {
+                Object::Service(service) => self.passes(*version, &service.key),
+                _ => false,
+            },
+            _ => false,
+        }
+    }
+
+    fn passes(&self, version: u64, key: &Key) -> bool
+        ensures { result ≡ passes key_cmp most_services self.now.held.services key.now version }
+    {
+        version > 0
+            && self.cache.services().len() as u64 >= MOST_SERVICES
+            && self.cache.service(key).is_none()
+    }
+
+    fn apply(&mut self, event: Event) -> Result<TakeNote, NoMemory>
+        ensures note { IfOk result (λ note. note ≡ core_note self.old event) }
+        ensures ok { OnOk result (self.new ≡ core_take self.old event) }
+        ensures err { OnErr result (self.new ≡ self.old) }
+    {
+        match event {
+            Event::Changed { version, object } => self.show(version, object),
+            Event::Deleted { kind, key } => self.delete(kind, key),
+            Event::ListEnd { group } => self.end_list(group),
+            Event::Expired => self.lapse(),
+            Event::Members { names } => {
+                drop(names);
+                Ok(TakeNote::Quiet)
+            }
+            Event::Frame { interface, bytes } => {
+                drop(interface);
+                drop(bytes);
+                Ok(TakeNote::Quiet)
+            }
+            Event::Ignored => Ok(TakeNote::Quiet),
+        }
+    }
+
+    /// The watch of this list has expired, and begins anew.
+    pub(crate) fn take_expired(&mut self, group: Group)
+        requires { self.old.out ≡ None }
+        ensures { self.new ≡ core_expired self.old group }
+    {
+        self.cache.expire(group);
+        clear_unless(is_ready(&self.cache), &mut self.queue);
+    }
+
+    fn show(&mut self, version: u64, object: Object) -> Result<TakeNote, NoMemory>
+        ensures note { IfOk result (λ note. note ≡ core_note self.old (ChangedEvent version object)) }
+        ensures ok { OnOk result (self.new ≡ core_take self.old (ChangedEvent version object)) }
+        ensures err { OnErr result (self.new ≡ self.old) }
+    {
+        match object {
+            Object::Service(service) => self.show_service(version, service),
+            Object::Node(node) => {
+                drop(node);
+                Ok(TakeNote::Quiet)
+            }
+            Object::Slice(slice) => {
+                drop(slice);
+                Ok(TakeNote::Quiet)
+            }
+            Object::Pool(pool) => self.configure(Event::Changed {
+                version,
+                object: Object::Pool(pool),
+            }),
+            Object::L2(advertisement) => self.configure(Event::Changed {
+                version,
+                object: Object::L2(advertisement),
+            }),
+            Object::Bgp(advertisement) => self.configure(Event::Changed {
+                version,
+                object: Object::Bgp(advertisement),
+            }),
+            Object::Peer(peer) => self.configure(Event::Changed {
+                version,
+                object: Object::Peer(peer),
+            }),
+            Object::Community(community) => self.configure(Event::Changed {
+                version,
+                object: Object::Community(community),
+            }),
+            Object::Namespace(namespace) => self.configure(Event::Changed {
+                version,
+                object: Object::Namespace(namespace),
+            }),
+        }
+    }
+
+    fn show_service(&mut self, version: u64, service: Service) -> Result<TakeNote, NoMemory>
+        ensures note { IfOk result (λ note. note ≡ QuietNote) }
+        ensures ok { OnOk result (self.new ≡ with_service self.old version service) }
+        ensures err { OnErr result (self.new ≡ self.old) }
+    {
+        if version <= self.cache.services().version_of(&service.key) {
+            return Ok(TakeNote::Quiet);
+        }
+        self.hold_service(version, service)?;
+        Ok(TakeNote::Quiet)
+    }
+
+    /// The service is newer than what is held.
+    fn hold_service(&mut self, version: u64, service: Service) -> Result<(), NoMemory>
+        ensures ok { OnOk result (self.new ≡ held_service self.old version service) }
+        ensures err { OnErr result (self.new ≡ self.old) }
+    {
+        match self.prepare(&service) {
+            Ok(prepared) => self.hold_prepared(version, service, prepared),
+            Err(NoMemory) => {
+                drop(service);
+                Err(NoMemory)
+            }
+        }
+    }
+
+    /// What there is to do where the service is held.
+    fn prepare(&self, service: &Service) -> Result<Prepared, NoMemory>
+        ensures { IfOk result (λ p. (p.key ≡ service.now.key) × (p.claim ≡ record { key = service.now.key; holding = service.now.holding })
+            × (p.more.items ≡ own_and_waiting (is_ready self.now.held) (loses service.now.key service.now.holding self.now.claims) self.now service.now.key)) }
+    {
+        let more = self.own_and_waiting(service)?;
+        let key = service.key.copy()?;
+        let claim = Claim::of(self.alloc, &service.key, &service.holding)?;
+        Ok(Prepared { key, claim, more })
+    }
+
+    fn hold_prepared(
+        &mut self,
+        version: u64,
+        service: Service,
+        prepared: Prepared,
+    ) -> Result<(), NoMemory>
+        ensures ok { OnOk result (self.new ≡ record self.old {
+          held = cached_after (Watched (shows version service)) self.old.held;
+          claims = settled prepared.claim.key prepared.claim.holding self.old.claims;
+          awaiting = without prepared.key self.old.awaiting;
+          queue = self.old.queue ++ prepared.more.items;
+        }) }
+        ensures err { OnErr result (self.new ≡ self.old) }
+    {
+        if make_room(&mut self.book, &mut self.queue, prepared.more.len()).is_err() {
+            drop(service);
+            drop(prepared);
+            return Err(NoMemory);
+        }
+        let object = Object::Service(service);
+        match self.cache.apply(Event::Changed { version, object }) {
+            Ok(applied) => drop(applied),
+            Err(_) => {
+                drop(prepared);
+                return Err(NoMemory);
+            }
+        }
+        self.book.settle_prepared(prepared.claim);
+        drop_key(&mut self.awaiting, &prepared.key);
+        append_all(&mut self.queue, prepared.more);
+        Ok(())
+    }
+
+    /// What is queued where the service is shown.
+    fn own_and_waiting(&self, service: &Service) -> Result<Vec<Key>, NoMemory>
+        ensures { IfOk result (λ more. more.items ≡ own_and_waiting (is_ready self.now.held) (loses service.now.key service.now.holding self.now.claims) self.now service.now.key) }
+    {
+        own_and_waiting(
+            self.alloc,
+            is_ready(&self.cache),
+            loses(&self.book, &service.key, &service.holding),
+            self.class.as_ref(),
+            &service.key,
+            &self.queue,
+            &self.awaiting,
+            self.cache.services(),
+        )
+    }
+
+    fn delete(&mut self, kind: Kind, key: Key) -> Result<TakeNote, NoMemory>
+        ensures note { IfOk result (λ note. note ≡ core_note self.old (DeletedEvent kind key)) }
+        ensures ok { OnOk result (self.new ≡ core_take self.old (DeletedEvent kind key)) }
+        ensures err { OnErr result (self.new ≡ self.old) }
+    {
+        match kind {
+            Kind::Service => self.drop_service(key),
+            Kind::Node | Kind::Slice => Ok(TakeNote::Quiet),
+            Kind::Pool => self.configure(Event::Deleted {
+                kind: Kind::Pool,
+                key,
+            }),
+            Kind::L2 => self.configure(Event::Deleted {
+                kind: Kind::L2,
+                key,
+            }),
+            Kind::Bgp => self.configure(Event::Deleted {
+                kind: Kind::Bgp,
+                key,
+            }),
+            Kind::Peer => self.configure(Event::Deleted {
+                kind: Kind::Peer,
+                key,
+            }),
+            Kind::Community => self.configure(Event::Deleted {
+                kind: Kind::Community,
+                key,
+            }),
+            Kind::Namespace => self.configure(Event::Deleted {
+                kind: Kind::Namespace,
+                key,
+            }),
+        }
+    }
+
+    fn drop_service(&mut self, key: Key) -> Result<TakeNote, NoMemory>
+        ensures note { IfOk result (λ note. note ≡ QuietNote) }
+        ensures ok { OnOk result (self.new ≡ without_service self.old key) }
+        ensures err { OnErr result (self.new ≡ self.old) }
+    {
+        let gone = key.copy()?;
+        let more = self.waiting_beside(&key)?;
+        make_room(&mut self.book, &mut self.queue, more.len())?;
+        let applied = apply(
+            &mut self.cache,
+            Event::Deleted {
+                kind: Kind::Service,
+                key,
+            },
+        )?;
+        drop(applied);
+        self.book.drop_name(&gone);
+        drop_key(&mut self.awaiting, &gone);
+        drop_key(&mut self.queue, &gone);
+        append_all(&mut self.queue, more);
+        Ok(TakeNote::Quiet)
+    }
+
+    /// What is queued where the service is deleted.
+    fn waiting_beside(&self, key: &Key) -> Result<Vec<Key>, NoMemory>
+        ensures { IfOk result (λ more. more.items ≡ waiting (is_ready self.now.held && has_claims key.now self.now.claims) self.now.class (same_key key.now) self.now.queue self.now.awaiting self.now.held.services) }
+    {
+        waiting(
+            self.alloc,
+            is_ready(&self.cache) && self.book.has_claims(key),
+            self.class.as_ref(),
+            key,
+            &self.queue,
+            &self.awaiting,
+            self.cache.services(),
+        )
+    }
+
+    fn end_list(&mut self, group: Group) -> Result<TakeNote, NoMemory>
+        ensures note { IfOk result (λ note. note ≡ core_note self.old (ListEndEvent group)) }
+        ensures ok { OnOk result (self.new ≡ core_take self.old (ListEndEvent group)) }
+        ensures err { OnErr result (self.new ≡ self.old) }
+    {
+        match group {
+            Group::Config => self.configure(Event::ListEnd {
+                group: Group::Config,
+            }),
+            Group::Service => self.end_services(),
+            Group::Endpoint => Ok(TakeNote::Quiet),
+        }
+    }
+
+    fn end_services(&mut self) -> Result<TakeNote, NoMemory>
+        ensures note { IfOk result (λ note. note ≡ QuietNote) }
+        ensures ok { OnOk result (self.new ≡ with_services_listed self.old) }
+        ensures err { OnErr result (self.new ≡ self.old) }
+    {
+        let more = self.listed_and_free()?;
+        make_room(&mut self.book, &mut self.queue, more.len())?;
+        let applied = apply(
+            &mut self.cache,
+            Event::ListEnd {
+                group: Group::Service,
+            },
+        )?;
+        drop(applied);
+        keep_listed_claims(&mut self.book, self.cache.services());
+        keep_listed(&mut self.awaiting, self.cache.services());
+        keep_listed(&mut self.queue, self.cache.services());
+        append_all(&mut self.queue, more);
+        Ok(TakeNote::Quiet)
+    }
+
+    /// What is queued where the list of services ends.
+    fn listed_and_free(&self) -> Result<Vec<Key>, NoMemory>
+        ensures { IfOk result (λ more. more.items ≡ listed_and_free (is_ready self.now.held) (self.now.held.config_ended && is_some self.now.held.config) (have_claims self.now.held.services self.now.claims) self.now) }
+    {
+        listed_and_free(
+            self.alloc,
+            is_ready(&self.cache),
+            is_configured(&self.cache),
+            have_claims(&self.book, self.cache.services()),
+            self.class.as_ref(),
+            &self.queue,
+            &self.awaiting,
+            self.cache.services(),
+        )
+    }
+
+    /// An event of the configuration, or of a namespace.
+    fn configure(&mut self, event: Event) -> Result<TakeNote, NoMemory>
+        ensures note { IfOk result (λ note. note ≡ (applied self.old.held event).note) }
+        ensures ok { OnOk result (self.new ≡ configured self.old event) }
+        ensures err { OnErr result (self.new ≡ self.old) }
+    {
+        let was_ready = is_ready(&self.cache);
+        let free = match self.all_free() {
+            Ok(free) => free,
+            Err(NoMemory) => {
+                drop(event);
+                return Err(NoMemory);
+            }
+        };
+        if make_room(&mut self.book, &mut self.queue, free.len()).is_err() {
+            drop(event);
+            return Err(NoMemory);
+        }
+        let applied = apply(&mut self.cache, event)?;
+        let wakes = wakes(was_ready, &applied, is_ready(&self.cache));
+        append_where(wakes, &mut self.queue, free);
+        Ok(note_of(applied))
+    }
+
+    fn all_free(&self) -> Result<Vec<Key>, NoMemory>
+        ensures { IfOk result (λ keys. keys.items ≡ all_free self.now.queue self.now.awaiting self.now.held.services) }
+    {
+        all_free(
+            self.alloc,
+            &self.queue,
+            &self.awaiting,
+            self.cache.services(),
+        )
+    }
+
+    /// The watches have expired.
+    fn lapse(&mut self) -> Result<TakeNote, NoMemory>
+        ensures note { IfOk result (λ note. note ≡ QuietNote) }
+        ensures ok { OnOk result (self.new ≡ core_take self.old Event.Expired) }
+        ensures err { OnErr result (self.new ≡ self.old) }
+    {
+        let applied = apply(&mut self.cache, Event::Expired)?;
+        drop(applied);
+        self.queue.clear();
+        Ok(TakeNote::Quiet)
+    }
+}
+
+fn note_of(applied: Applied) -> TakeNote
+    ensures { result ≡ applied.note }
+{
+    drop(applied.change);
+    applied.note
+}
+
+fn is_configured(cache: &ObjectCache) -> bool
+    ensures { result ≡ (cache.now.config_ended && is_some cache.now.config) }
+{
+    cache.has_ended(Group::Config) && cache.config().is_some()
+}
+
+fn wakes(was_ready: bool, applied: &Applied, is_ready: bool) -> bool
+    ensures { result ≡ (is_ready && (not was_ready || is_accepted applied.now.note || is_namespace applied.now.change)) }
+{
+    is_ready
+        && (!was_ready
+            || matches!(applied.note, TakeNote::Accepted)
+            || matches!(applied.change, Change::Namespace { .. }))
+}
+
+/// The event is applied. One that isn't within the limits was refused before.
+fn apply(cache: &mut ObjectCache, event: Event) -> Result<Applied, NoMemory>
+    ensures applied { IfOk result (λ a. a ≡ applied cache.old event) }
+    ensures ok { OnOk result (cache.new ≡ cached_after (Watched event) cache.old) }
+    ensures err { OnErr result (cache.new ≡ cache.old) }
+{
+    match cache.apply(event) {
+        Ok(applied) => Ok(applied),
+        Err(_) => Err(NoMemory),
+    }
+}

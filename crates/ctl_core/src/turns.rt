@@ -1,0 +1,139 @@
+//! Turns.
+ghost use Rattle.std.specs.Prelude.{◌≡◌, [], IfOk, OnOk, OnErr, None};
+ghost use Rattle.kube_model.specs.declared.record.Record.{Record};
+ghost use Rattle.core_rules.specs.Core.{service_of, pools_in, labels_of};
+ghost use Rattle.core_rules.specs.Turn.{wanted_record, reason_in, turn_for, put_in, core_turn, after_turn, turn_at, chosen_at};
+
+use crate::state::CoreState;
+use alloc_book::Choice;
+use core_rules::Turn;
+use kube_labels::{Labels, Text};
+use kube_model::{Key, Put, Reason, Record, Service};
+use mlb_base::{NoMemory, TryCopy};
+use pool_config::Config;
+use std::alloc::Global;
+
+impl CoreState {
+    /// Makes the next turn: the front key is taken out of the queue and chosen for. A put that is wanted is out until it is
+    /// answered. After want of memory the core is unchanged.
+    pub(crate) fn next_put(&mut self) -> Result<Turn, NoMemory>
+        requires { self.old.out ≡ None }
+        ensures turn { IfOk result (λ turn. turn ≡ core_turn self.old) }
+        ensures ok { OnOk result (self.new ≡ after_turn self.old) }
+        ensures err { OnErr result (self.new ≡ self.old) }
+    {
+        if self.queue.is_empty() {
+            return Ok(Turn::Idle);
+        }
+        let turn = self.turn_at(&self.queue[0])?;
+        let out = put_in(&turn)?;
+        let _front = self.queue.remove(0);
+        self.out = out;
+        Ok(turn)
+    }
+
+    /// What the service of a key comes to.
+    fn turn_at(&self, key: &Key) -> Result<Turn, NoMemory>
+        ensures { IfOk result (λ turn. turn ≡ turn_at self.now key.now (service_of self.now.held key.now)) }
+    {
+        match self.cache.service(key) {
+            None => Ok(Turn::NoPut {
+                key: key.copy()?,
+                pending: None,
+            }),
+            Some(service) => {
+                let choice = self.choose_for(service)?;
+                let version = self.cache.services().version_of(key);
+                turn_for(self.alloc, key, version, &service.holding, choice)
+            }
+        }
+    }
+
+    /// What is chosen for a held service.
+    fn choose_for(&self, service: &Service) -> Result<Choice, NoMemory>
+        ensures { IfOk result (λ choice. choice ≡ chosen_at self.now service.now) }
+    {
+        let no_config = Config::empty(self.alloc);
+        let no_labels = Labels::new(self.alloc);
+        let config = self.config_or(&no_config);
+        let labels = self.labels_or(&no_labels, &service.key.namespace);
+        self.book
+            .choose(config, self.class.as_ref(), service, labels)
+    }
+
+    /// The configuration in force, or this one, which has no pools.
+    fn config_or<'a>(&'a self, none: &'a Config) -> &'a Config
+        requires { none.now.pools ≡ [] }
+        ensures { result.now.pools ≡ pools_in self.now.held.config }
+    {
+        match self.cache.config() {
+            None => none,
+            Some(config) => config,
+        }
+    }
+
+    /// The labels of the namespace; one that isn't held has none.
+    fn labels_or<'a>(&'a self, none: &'a Labels, name: &Text) -> &'a Labels
+        requires { none.now ≡ [] }
+        ensures { result.now ≡ labels_of self.now.held name.now }
+    {
+        match self.cache.namespace(name) {
+            None => none,
+            Some(namespace) => &namespace.labels,
+        }
+    }
+}
+
+/// The record that a choice wants, where this one is held.
+fn wanted_record(alloc: Global, held: &Record, choice: Choice) -> Result<Record, NoMemory>
+    ensures { IfOk result (λ wanted. wanted ≡ wanted_record held.now choice) }
+{
+    match choice {
+        Choice::Foreign => held.copy(),
+        Choice::Clear | Choice::Pending { .. } => Ok(Record::empty(alloc)),
+        Choice::Keep { holding } => Ok(holding),
+        Choice::New { holding } => Ok(holding),
+    }
+}
+
+fn reason_in(choice: &Choice) -> Option<Reason>
+    ensures { result ≡ reason_in choice.now }
+{
+    match choice {
+        Choice::Pending { reason } => Some(*reason),
+        _ => None,
+    }
+}
+
+/// A put is wanted where the chosen record isn't the held one.
+fn turn_for(
+    alloc: Global,
+    key: &Key,
+    version: u64,
+    held: &Record,
+    choice: Choice,
+) -> Result<Turn, NoMemory>
+    ensures { IfOk result (λ turn. turn ≡ turn_for key.now version held.now choice) }
+{
+    let pending = reason_in(&choice);
+    let holding = wanted_record(alloc, held, choice)?;
+    let key = key.copy()?;
+    if holding.is_same(held) {
+        return Ok(Turn::NoPut { key, pending });
+    }
+    let put = Put {
+        key,
+        version,
+        holding,
+    };
+    Ok(Turn::Wants { put, pending })
+}
+
+fn put_in(turn: &Turn) -> Result<Option<Put>, NoMemory>
+    ensures { IfOk result (λ put. put ≡ put_in turn.now) }
+{
+    match turn {
+        Turn::Wants { put, .. } => Ok(Some(put.copy()?)),
+        _ => Ok(None),
+    }
+}

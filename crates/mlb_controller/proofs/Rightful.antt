@@ -1,91 +1,99 @@
--- What arrives by the lines of a stream may arrive, so its transcript is sound.
-use Rattle.std.proofs.Common.{◌≡◌, ℕ, Bool, true, false, cond, List, [], ◌∷◌, ◌++◌, Option, Some, None, Result, Ok, Err, refl, sym, ap, ◌∙◌, subst}
+-- What the lines of a stream lead to is a run of the core, so its transcript is sound, and a run that is done leaves nothing waiting.
+use Rattle.std.proofs.Common.{◌≡◌, ℕ, Bool, true, false, cond, List, [], ◌∷◌, ◌++◌, Option, Some, None, Result, Ok, Err, ◌⊎◌, inl, inr, is_some, refl, sym, ap, ◌∙◌}
 use Rattle.kube_model.specs.declared.event.Event.{Event}
 use Rattle.kube_model.specs.declared.event.EventFault.{EventFault}
 use Rattle.kube_model.specs.declared.put.Put.{Put}
 use Rattle.kube_model.specs.declared.reply.PutReply.{PutReply}
-use Rattle.kube_model.specs.declared.reply.PutReply.TheVariants as replies
-use Rattle.kube_model.specs.declared.status.LaneName.TheVariants as lanes
-use Rattle.kube_model.specs.declared.status.Status.TheVariants.{NotBuilt}
+use Rattle.kube_model.specs.declared.status.Status.{Status}
+use Rattle.kube_model.specs.declared.status.Status.TheVariants.{Done, Limit}
+use Rattle.kube_model.specs.declared.status.What.TheVariants as whats
 use Rattle.kube_events.specs.Event.{event_of_line}
 use Rattle.kube_lines.specs.Reply.{reply_of}
-use Rattle.kube_lines.proofs.Replies.{reply_newer}
-use Rattle.ctl_core.specs.Arrivals.{MayAnswer, MayArrive, MayAllArrive}
-use Rattle.ctl_core.specs.Built.{is_built}
-use Rattle.ctl_core.specs.Core.{State, fresh}
-use Rattle.ctl_core.specs.Drive.{Arrival, Item, Reply, Entry, driven, drive}
-use Rattle.ctl_core.proofs.Worthy.{puts_are_right, services_are_apart}
+use Rattle.core_rules.specs.Core.{State, fresh}
+use Rattle.core_rules.specs.Take.{limits}
+use Rattle.core_drive.specs.Drive.{Driven, Entry, taking, hearing}
+use Rattle.core_drive.specs.Sound.{IsSound, LeadsTo, ShowsTerms}
+use Rattle.core_drive.proofs.Goes.{begins_fresh, events_go_on, replies_go_on, drives_are_sound, drives_are_quiet}
 use Rattle.line_run.specs.Machine.{Step, Goes, Stops}
-use Rattle.line_run.specs.Run.{Run, runs_on, run_from}
-use Rattle.line_run.specs.Written.{WritesOnly}
+use Rattle.line_run.specs.Run.{run_from, status_at}
+use Rattle.line_run.specs.Statuses.{IsLineStatus}
+use Rattle.line_run.proofs.Kept.{Kept, StopsIn, run-keeps}
+use Rattle.line_run.specs.Written.{WritesOnly, StopsAs}
 use Rattle.mlb_edge.specs.declared.lines.Line.{Line}
-use Rattle.mlb_edge.specs.Lines.{Ending, Whole, input_of}
-use Rattle.mlb_controller.specs.Stream.{goes_by, event_step, reply_step, step_where, line_step, controller_rules}
-use Rattle.mlb_controller.specs.Sound.{IsSound, WritesSound, RunsSound}
-
-may_answer : (reply : PutReply) (put : Put) (line : List ℕ) → reply_of put line ≡ Some reply → MayAnswer put reply
-may_answer (replies.Ok version) put line e = reply_newer put line version e
-may_answer replies.Stale put line e = tt
-may_answer replies.Missing put line e = tt
-may_answer replies.Unknown put line e = tt
-
--- What goes on from a core is the drive of something that may arrive at it.
-record Arrives (s : State) (step : Step State Entry) : Type 0 where
-  arrival : Arrival
-  may : MayArrive s arrival
-  by : step ≡ goes_by (driven s arrival)
-
-built_arrives : (b : Bool) (s : State) (line : Line) (event : Event) (next : State) (entries : List Entry) → s.out ≡ None → b ≡ is_built s event
-    → cond b (goes_by (driven s (Item lanes.Input line.number event))) (Stops (NotBuilt line.number line.bytes)) ≡ Goes next entries
-    → Arrives s (cond b (goes_by (driven s (Item lanes.Input line.number event))) (Stops (NotBuilt line.number line.bytes)))
-built_arrives true s line event next entries out t e = record { arrival = Item lanes.Input line.number event; may = (out, sym t); by = refl }
-built_arrives false s line event next entries out t e = absurd (cc)
-
-event_arrives : (read : Result Event EventFault) (s : State) (line : Line) (next : State) (entries : List Entry) → s.out ≡ None → event_step s line read ≡ Goes next entries → Arrives s (event_step s line read)
-event_arrives (Err fault) s line next entries out e = absurd (cc)
-event_arrives (Ok event) s line next entries out e = built_arrives (is_built s event) s line event next entries out refl e
-
-reply_arrives : (read : Option PutReply) (put : Put) (s : State) (line : Line) (next : State) (entries : List Entry) → s.out ≡ Some put → read ≡ reply_of put line.bytes → reply_step s line read ≡ Goes next entries
-    → Arrives s (reply_step s line read)
-reply_arrives None put s line next entries out r e = absurd (cc)
-reply_arrives (Some reply) put s line next entries out r e = record { arrival = Reply reply; may = (put, out, may_answer reply put line.bytes (sym r)); by = refl }
-
-where_arrives : (o : Option Put) (s : State) (line : Line) (next : State) (entries : List Entry) → s.out ≡ o → step_where o s line ≡ Goes next entries → Arrives s (step_where o s line)
-where_arrives None s line next entries out e = event_arrives (event_of_line line.bytes) s line next entries out e
-where_arrives (Some put) s line next entries out e = reply_arrives (reply_of put line.bytes) put s line next entries out refl e
-
--- a run's transcript is the drive of what may arrive
-abbrev IsDriven : State → List Entry → Type 0
-IsDriven s entries = (arrivals : List Arrival) × MayAllArrive arrivals s × (entries ≡ (drive arrivals s).entries)
-
-run_driven : (step : Step State Entry) (s : State) (rest : State → Run Entry) → ((next : State) (entries : List Entry) → step ≡ Goes next entries → Arrives s step) → ((next : State) → IsDriven next (rest next).entries)
-    → IsDriven s (runs_on step rest).entries
-run_driven (Goes next entries) s rest first then =
-    let a = first next entries refl in
-    let core : next ≡ (driven s a.arrival).core = cc (a.by) in
-    let told : entries ≡ (driven s a.arrival).entries = cc (a.by) in
-    let more = then next in (
-      a.arrival ∷ more.0,
-      (a.may, subst (MayAllArrive more.0) core more.1),
-      ap (λ (es : List Entry). es ++ (rest next).entries) told ∙ ap (λ (es : List Entry). (driven s a.arrival).entries ++ es) more.2 ∙ ap (λ (t : State). (driven s a.arrival).entries ++ (drive more.0 t).entries) core,
-    )
-run_driven (Stops status) s rest first then = ([], tt, refl)
-
-stream_driven : (lines : List Line) (ending : Ending) (s : State) → IsDriven s (run_from controller_rules lines ending s).entries
-stream_driven [] ending s = ([], tt, refl)
-stream_driven (line ∷ lines) ending s =
-    run_driven (line_step s line) s (λ next. run_from controller_rules lines ending next) (λ next entries e. where_arrives s.out s line next entries refl e) (λ next. stream_driven lines ending next)
+use Rattle.mlb_edge.specs.Lines.{Ending, Whole, LongLine, LongInput, input_of}
+use Rattle.service_texts.proofs.Lines.{events_show_terms}
+use Rattle.mlb_controller.specs.Causes.{line_causes}
+use Rattle.mlb_controller.specs.Stream.{goes_by, event_step, reply_step, step_where, line_step, controller_rules, end_of}
+use Rattle.mlb_controller.specs.Sound.{WritesSound, RunsSound, LeavesNothing, EndsQuiet}
 
 module _ (class : Option (List ℕ)) where
-  -- the transcript of a stream is sound
-  sound_in : (lines : List Line) (ending : Ending) → IsSound (run_from controller_rules lines ending (fresh class)).entries
-  sound_in lines ending =
-      let d = stream_driven lines ending (fresh class) in
-      subst IsSound (sym d.2) (puts_are_right class d.0 d.1, services_are_apart class d.0 d.1)
+  -- what goes on from a core goes on from what was told of it
+  abbrev GoesOn : State → Step State Entry → Type 0
+  GoesOn s step = (next : State) (entries told : List Entry) → step ≡ Goes next entries → LeadsTo class told s → LeadsTo class (told ++ entries) next
+
+  by_driven : (d : Driven) (next : State) (entries told : List Entry) → goes_by d ≡ Goes next entries → LeadsTo class (told ++ d.entries) d.core → LeadsTo class (told ++ entries) next
+  by_driven d next entries told e leads =
+      let core : d.core ≡ next = cc in
+      let same : d.entries ≡ entries = cc in
+      rw (← core, ← same) leads
+
+  within_goes : (b : Bool) (s : State) (line : Line) (event : Event) → s.out ≡ None → event_of_line line.bytes ≡ Ok event → GoesOn s (cond b (Stops (Limit whats.Services 65537)) (goes_by (taking s event)))
+  within_goes true s line event none reads next entries told e leads = absurd (cc)
+  within_goes false s line event none reads next entries told e leads =
+      by_driven (taking s event) next entries told e (events_go_on class told s event leads none (events_show_terms line.bytes event reads))
+
+  event_goes : (read : Result Event EventFault) (s : State) (line : Line) → s.out ≡ None → event_of_line line.bytes ≡ read → GoesOn s (event_step s line read)
+  event_goes (Err fault) s line none reads next entries told e leads = absurd (cc)
+  event_goes (Ok event) s line none reads next entries told e leads = within_goes (limits s event) s line event none reads next entries told e leads
+
+  reply_goes : (read : Option PutReply) (put : Put) (s : State) (line : Line) → s.out ≡ Some put → GoesOn s (reply_step s line read)
+  reply_goes None put s line out next entries told e leads = absurd (cc)
+  reply_goes (Some reply) put s line out next entries told e leads =
+      by_driven (hearing s reply) next entries told e (replies_go_on class told s reply leads (ap is_some out))
+
+  where_goes : (o : Option Put) (s : State) (line : Line) → s.out ≡ o → GoesOn s (step_where o s line)
+  where_goes None s line out = event_goes (event_of_line line.bytes) s line out refl
+  where_goes (Some put) s line out = reply_goes (reply_of put line.bytes) put s line out
+
+  -- the transcript of a stream leads to a state
+  leads_in : (lines : List Line) (ending : Ending) → Kept controller_rules (LeadsTo class) [] (run_from controller_rules lines ending (fresh class))
+  leads_in lines ending =
+      run-keeps controller_rules (LeadsTo class) (λ s next line entries told e leads. where_goes s.out s line refl next entries told e leads)
+      lines ending (fresh class) [] (begins_fresh class)
+
+  -- so it is sound
+  sound_in : (lines : List Line) (ending : Ending) → IsSound class (run_from controller_rules lines ending (fresh class)).entries
+  sound_in lines ending = let led = leads_in lines ending in drives_are_sound class (run_from controller_rules lines ending (fresh class)).entries led.state led.kept
+
+  ends_done : (o : Option Put) → Done ≡ end_of o → o ≡ None
+  ends_done None e = refl
+  ends_done (Some put) e = absurd (cc)
+
+  at_ending : (ending : Ending) (s : State) → Done ≡ status_at controller_rules ending s → s.out ≡ None
+  at_ending Whole s e = ends_done s.out e
+  at_ending (LongLine number) s e = absurd (cc)
+  at_ending LongInput s e = absurd (cc)
+
+  -- a run that is done stops where no put is out
+  done_in : (s : State) → StopsIn controller_rules s Done → s.out ≡ None
+  done_in s (inl ended) = at_ending ended.0 s ended.1
+  done_in s (inr stopped) = absurd ((line_causes s stopped.0 Done stopped.1).0)
+
+  -- and nothing is left waiting
+  quiet_in : (lines : List Line) (ending : Ending) → (run_from controller_rules lines ending (fresh class)).stop ≡ Done → LeavesNothing class (run_from controller_rules lines ending (fresh class)).entries
+  quiet_in lines ending done =
+      let led = leads_in lines ending in
+      let stops : StopsIn controller_rules led.state Done = rw done at led.stops in
+      drives_are_quiet class (run_from controller_rules lines ending (fresh class)).entries led.state led.kept (done_in led.state stops)
 
   pub sound_where_told : (left : Option (List ℕ)) → RunsSound class left
   sound_where_told None = tt
   sound_where_told (Some bytes) = sound_in (input_of bytes).lines (input_of bytes).ending
+
+  pub quiet_where_done : (left before after : Option (List ℕ)) → StopsAs controller_rules (fresh class) left before after Done → EndsQuiet class left before after
+  quiet_where_done None before after stops =
+      record { lines = stops.0; ending = stops.1; stops = stops.2; quiet = quiet_in stops.0 stops.1 stops.2.0 }
+  quiet_where_done (Some bytes) before after stops = quiet_in (input_of bytes).lines (input_of bytes).ending stops.0
 
   pub only_sound : (before after : Option (List ℕ)) → WritesOnly controller_rules (fresh class) before after → WritesSound class before after
   only_sound before after only = record { lines = only.lines; wrote = only.wrote; sound = sound_in only.lines Whole }

@@ -1,19 +1,19 @@
 -- What the controller owes at each status: the clauses of a run over lines, with the controller's rules and the words' class.
-use Rattle.std.specs.Prelude.{◌≡◌, ◌⊎◌, ℕ, true, List, String, Option}
+use Rattle.std.specs.Prelude.{◌≡◌, ◌⊎◌, ℕ, List, String, Option}
 use Rattle.kube_model.specs.declared.status.Status.{Status}
-use Rattle.kube_model.specs.declared.status.Status.TheVariants.{Usage}
+use Rattle.kube_model.specs.declared.status.Status.TheVariants.{Done, Usage}
 use Rattle.line_run.specs.Clauses as run
-use Rattle.ctl_core.specs.Core.{State, fresh}
+use Rattle.core_rules.specs.Core.{State, fresh}
 use Rattle.mlb_controller.specs.Sound as sound
 use Rattle.mlb_controller.specs.Stream.{controller_rules, IsCause}
-use Rattle.mlb_controller.specs.Words.{texts_of, are_known, class_of}
+use Rattle.mlb_controller.specs.Words.{texts_of, AreKnown, SaysClass, class_of}
 
 -- the core that a run begins with
 abbrev pub begun_by : {Z : Type 0} → List (String Z) → State
 begun_by words = fresh (class_of (texts_of words))
 
 -- the words are faulty, or it is one of the statuses that a run of the controller may end with: no file is opened, no lane is
--- known but the input, and nothing held has a limit
+-- known but the input, and of what is held services alone have a limit
 abbrev pub CanEnd : Status → Type 0
 CanEnd status = (status ≡ Usage) ⊎ run.CanEnd IsCause status
 
@@ -27,11 +27,12 @@ module _ {Z K : Type 0} (words : List (String Z)) (status : Status) (left : Opti
   abbrev pub AtBadLine : Type 0
   AtBadLine = run.AtBadLine controller_rules IsCause (begun_by words) status left (written out) (written out')
 
-  abbrev pub AtNotBuilt : Type 0
-  AtNotBuilt = run.AtNotBuilt controller_rules IsCause (begun_by words) status left (written out) (written out')
-
   abbrev pub AtBadReply : Type 0
   AtBadReply = run.AtBadReply controller_rules IsCause (begun_by words) status left (written out) (written out')
+
+  -- one service more would be held than may be
+  abbrev pub AtServiceLimit : Type 0
+  AtServiceLimit = run.AtHeldLimit controller_rules IsCause (begun_by words) status left (written out) (written out')
 
   -- a line is too long
   abbrev pub AtLongLine : Type 0
@@ -58,8 +59,16 @@ WritesSound words written out out' = sound.WritesSound (class_of (texts_of words
 abbrev pub RunsSound : {Z : Type 0} → List (String Z) → Option (List ℕ) → Type 0
 RunsSound words left = sound.RunsSound (class_of (texts_of words)) left
 
+-- where the run is done, nothing is left waiting that could be served
+abbrev pub EndsQuiet : {Z K : Type 0} → List (String Z) → Status → Option (List ℕ) → (K → Option (List ℕ)) → K → K → Type 0
+EndsQuiet words status left written out out' = status ≡ Done → sound.EndsQuiet (class_of (texts_of words)) left (written out) (written out')
+
+-- the class that the run handles is the one that the words name, if they name one
+abbrev pub HandlesNamed : {Z : Type 0} → List (String Z) → Type 0
+HandlesNamed words = (class : Option (List ℕ)) → SaysClass (texts_of words) class → class_of (texts_of words) ≡ class
+
 abbrev pub IsExact : {Z : Type 0} → List (String Z) → Status → Option (List ℕ) → Type 0
-IsExact words status left = are_known (texts_of words) ≡ true → run.IsExact controller_rules (begun_by words) status left
+IsExact words status left = AreKnown (texts_of words) → run.IsExact controller_rules (begun_by words) status left
 
 abbrev pub IsComplete : {Z : Type 0} → List (String Z) → Status → Option (List ℕ) → Type 0
-IsComplete words status left = are_known (texts_of words) ≡ true → run.IsComplete controller_rules (begun_by words) status left
+IsComplete words status left = AreKnown (texts_of words) → run.IsComplete controller_rules (begun_by words) status left

@@ -1,27 +1,40 @@
--- That the transcript of a run is sound.
+-- That the transcript of a run is sound, and that a run that is done leaves nothing waiting.
 use Rattle.std.specs.Prelude.{ℕ, List, [], ⊤, None, Some, Option}
-use Rattle.ctl_core.specs.Core.{fresh}
-use Rattle.ctl_core.specs.Apart.{AreAlwaysApart}
-use Rattle.ctl_core.specs.Drive.{Entry}
-use Rattle.ctl_core.specs.Worth.{ArePutsRight}
+use Rattle.kube_model.specs.declared.status.Status.TheVariants.{Done}
+use Rattle.core_rules.specs.Core.{fresh}
+use Rattle.core_laws.specs.QuietShown.{IsQuietAsShown}
+use Rattle.core_drive.specs.Drive.{Entry, behind}
+use Rattle.core_drive.specs.Sound.{IsSound}
 use Rattle.mlb_edge.specs.declared.lines.Line.{Line}
-use Rattle.mlb_edge.specs.Lines.{Whole}
+use Rattle.mlb_edge.specs.Lines.{Ending, Whole}
 use Rattle.line_run.specs.Run.{run_from, run_of}
 use Rattle.line_run.specs.Text.{GrowsUpTo}
-use Rattle.line_run.specs.Written.{text_by}
+use Rattle.line_run.specs.Written.{text_by, StopsOn}
 use Rattle.mlb_controller.specs.Stream.{controller_rules}
-
--- each put of the transcript is right, and at no moment of it have two services one address
-abbrev pub IsSound : List Entry → Type 0
-IsSound transcript = ArePutsRight transcript [] × AreAlwaysApart transcript []
 
 -- A beginning of the text of some lines' run was written, whatever the source tells, and the transcript of that run is sound.
 pub record WritesSound (class before after : Option (List ℕ)) : Type 0 where
   pub lines : List Line
   pub wrote : GrowsUpTo before after (text_by controller_rules (fresh class) lines)
-  pub sound : IsSound (run_from controller_rules lines Whole (fresh class)).entries
+  pub sound : IsSound class (run_from controller_rules lines Whole (fresh class)).entries
 
 -- the transcript of the run is sound, where the source tells its bytes
 abbrev pub RunsSound : (class left : Option (List ℕ)) → Type 0
 RunsSound class None = ⊤
-RunsSound class (Some bytes) = IsSound (run_of controller_rules (fresh class) bytes).entries
+RunsSound class (Some bytes) = IsSound class (run_of controller_rules (fresh class) bytes).entries
+
+-- nothing is left waiting that could be served, by what the transcript shows
+abbrev pub LeavesNothing : Option (List ℕ) → List Entry → Type 0
+LeavesNothing class transcript = IsQuietAsShown class (behind transcript [])
+
+-- Where the source doesn't tell its bytes: so it is with some lines whose run is done, and just its text was written.
+pub record SomeLeaveNothing (class before after : Option (List ℕ)) : Type 0 where
+  pub lines : List Line
+  pub ending : Ending
+  pub stops : StopsOn controller_rules (run_from controller_rules lines ending (fresh class)) before after Done
+  pub quiet : LeavesNothing class (run_from controller_rules lines ending (fresh class)).entries
+
+-- the run of the bytes leaves nothing waiting
+abbrev pub EndsQuiet : (class left before after : Option (List ℕ)) → Type 0
+EndsQuiet class None before after = SomeLeaveNothing class before after
+EndsQuiet class (Some bytes) before after = LeavesNothing class (run_of controller_rules (fresh class) bytes).entries

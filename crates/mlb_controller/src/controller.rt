@@ -1,6 +1,7 @@
 //! The controller, as a machine over lines.
 ghost use Rattle.std.specs.Prelude.{◌≡◌, IfOk};
-ghost use Rattle.ctl_core.specs.Core.{fresh};
+ghost use Rattle.std.specs.Option.{option_map};
+ghost use Rattle.core_rules.specs.Core.{fresh};
 
 use crate::line::drive_line;
 use ctl_core::Core;
@@ -20,24 +21,34 @@ pub(crate) struct Controller {
 impl Controller {
     /// A controller whose core holds nothing. It handles the services of the class, or those without
     /// one.
-    pub(crate) fn new(alloc: Global, class: Option<Text>) -> Result<Controller, NoMemory>
-        ensures { IfOk result (λ controller. controller.core ≡ fresh class) }
+    pub(crate) fn new(alloc: Global, class: Option<&str>) -> Result<Controller, NoMemory>
+        ensures { IfOk result (λ controller. controller.core ≡ fresh (option_map (λ c. c.now) class.entry)) }
     {
         Ok(Controller {
-            core: Core::new(alloc, class)?,
+            core: Core::new(alloc, owned(alloc, class)?)?,
         })
     }
 }
 
+/// The class as a text of its own.
+fn owned(alloc: Global, class: Option<&str>) -> Result<Option<Text>, NoMemory>
+    ensures { IfOk result (λ text. text ≡ option_map (λ c. c.now) class.entry) }
+{
+    let Some(class) = class else {
+        return Ok(None);
+    };
+    Ok(Some(Text::new(alloc, class)?))
+}
+
 impl Machine for Controller {
-    ghost use Rattle.ctl_core.specs.Core.{State as CoreState};
-    ghost use Rattle.ctl_core.specs.Drive.{Entry as CoreEntry};
+    ghost use Rattle.core_rules.specs.Core.{State as CoreState};
+    ghost use Rattle.core_drive.specs.Drive.{Entry as DriveEntry};
     ghost use Rattle.mlb_controller.specs.Stream.{controller_rules, IsCause};
     ghost use Rattle.mlb_controller.specs.Causes.{line_causes, end_causes};
 
     ghost State = { CoreState };
 
-    ghost Entry = { CoreEntry };
+    ghost Entry = { DriveEntry };
 
     ghost state = { λ controller. controller.core };
 

@@ -7,10 +7,11 @@ ghost use Rattle.mlb_controller.specs.Stream.{controller_rules};
 
 use crate::output::write_note;
 use crate::turns::make_turns;
-use ctl_core::{Core, TakeFault};
+use core_rules::TakeFault;
+use ctl_core::Core;
 use kube_events::read_event;
 use kube_lines::{ReplyFault, read_reply};
-use kube_model::{EventFault, LaneName, PutReply, Status};
+use kube_model::{EventFault, LaneName, PutReply, Status, What};
 use line_run::{Halt, Refusal};
 use mlb_edge::{Line, Sink};
 use std::alloc::Global;
@@ -51,11 +52,11 @@ fn take_line<K: Sink>(
         Err(TakeFault::NoMemory) => return Err(Refusal::Halted {
             halt: Halt::NoMemory,
         }),
-        Err(TakeFault::NotBuilt) => {
+        Err(TakeFault::Limit { count }) => {
             return Err(Refusal::Stopped {
-                status: Status::NotBuilt {
-                    number: line.number,
-                    bytes: line.bytes,
+                status: Status::Limit {
+                    what: What::Services,
+                    count,
                 },
             });
         }

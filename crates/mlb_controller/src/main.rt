@@ -20,6 +20,15 @@ fn words_given(rt: &(impl Env + AllocGlobal)) -> io::Result<Vec<String>> {
     Ok(env::args(rt)?.skip(1).collect(rt.alloc())?)
 }
 
+/// The status where the words can't be had: there is no memory for them, or one isn't UTF-8, and so
+/// is no word of the table.
+fn status_without_words(error: &io::Error) -> Status {
+    match error.kind() {
+        io::ErrorKind::OutOfMemory => Status::NoMemory,
+        _ => Status::Usage,
+    }
+}
+
 /// Tells why the program ends, and the exit status that says so.
 fn exit_code(rt: &HostRuntime, status: &Status) -> ExitCode {
     if !status.is_done()
@@ -33,9 +42,9 @@ fn exit_code(rt: &HostRuntime, status: &Status) -> ExitCode {
 
 fn main(rt: HostRuntime) -> ExitCode {
     let alloc = rt.alloc();
-    // A word that isn't UTF-8 is no word of the table.
-    let Ok(words) = words_given(&rt) else {
-        return exit_code(&rt, &Status::Usage);
+    let words = match words_given(&rt) {
+        Ok(words) => words,
+        Err(error) => return exit_code(&rt, &status_without_words(&error)),
     };
     let Ok(owned) = rt.clone() else {
         return exit_code(&rt, &Status::NoMemory);

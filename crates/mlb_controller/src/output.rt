@@ -5,11 +5,12 @@ ghost use Rattle.kube_lines.specs.Lines.{put_text};
 ghost use Rattle.line_run.specs.Text.{line_of, Halts};
 ghost use Rattle.mlb_controller.specs.Output.{note_text, reason_line, turn_text};
 
-use ctl_core::{TakeNote, Turn};
+use core_rules::Turn;
 use kube_lines::{accepted_line, pending_line, put_line, refused_line};
 use kube_model::{Key, Put, Reason};
 use line_run::{Halt, write_line};
 use mlb_edge::Sink;
+use object_cache::TakeNote;
 use std::alloc::Global;
 
 /// Tells what became of a configuration.

@@ -1,8 +1,8 @@
 //! The top call.
-ghost use Rattle.std.specs.Prelude.{◌≡◌, ◌↔◌, false};
+ghost use Rattle.std.specs.Prelude.{◌≡◌, ◌↔◌};
 ghost use Rattle.line_run.specs.Clauses.{AtEnd, AtReadFault, AtWriteFault};
-ghost use Rattle.mlb_controller.specs.Clauses.{CanEnd, AtDone, AtNoReply, AtBadLine, AtNotBuilt, AtBadReply, AtLongLine, AtTooLong, AfterRead, AfterWrite, AtNoMemory, WritesSound, RunsSound, IsExact, IsComplete};
-ghost use Rattle.mlb_controller.specs.Words.{texts_of, are_known};
+ghost use Rattle.mlb_controller.specs.Clauses.{CanEnd, AtDone, AtNoReply, AtBadLine, AtBadReply, AtServiceLimit, AtLongLine, AtTooLong, AfterRead, AfterWrite, AtNoMemory, WritesSound, RunsSound, EndsQuiet, HandlesNamed, IsExact, IsComplete};
+ghost use Rattle.mlb_controller.specs.Words.{texts_of, AreKnown};
 
 use crate::stream::stream_controller;
 use kube_model::Status;
@@ -22,7 +22,8 @@ pub fn run_controller<R: Threads + Wait + Sync, F: Files, S: Source + Send, K: S
 ) -> Status
     ensures no_file { files.new ≡ files.old }
     ensures can_end { CanEnd result }
-    ensures usage { (result ≡ Status.Usage) ↔ (are_known (texts_of words.now) ≡ false) }
+    ensures usage { (result ≡ Status.Usage) ↔ (¬ (AreKnown (texts_of words.now))) }
+    ensures named { HandlesNamed words.now }
     ensures unused { result ≡ Status.Usage → (input.new ≡ input.old) × (out.new ≡ out.old) }
 
     // At the end of the input: nothing of it is left, and just the text of its run was written.
@@ -32,8 +33,8 @@ pub fn run_controller<R: Threads + Wait + Sync, F: Files, S: Source + Send, K: S
 
     // A line that ends the run, and just the text of the run before it was written.
     ensures bad_line { AtBadLine words.now result (S.left input.old) K.written out.old out.new }
-    ensures not_built { AtNotBuilt words.now result (S.left input.old) K.written out.old out.new }
     ensures bad_reply { AtBadReply words.now result (S.left input.old) K.written out.old out.new }
+    ensures service_limit { AtServiceLimit words.now result (S.left input.old) K.written out.old out.new }
     ensures line_limit { AtLongLine words.now result (S.left input.old) K.written out.old out.new }
     ensures input_limit { AtTooLong words.now result (S.left input.old) K.written out.old out.new }
 
@@ -46,10 +47,15 @@ pub fn run_controller<R: Threads + Wait + Sync, F: Files, S: Source + Send, K: S
     ensures no_memory { AtNoMemory words.now result (S.left input.old) K.written out.old out.new }
 
     // Over any input at all a beginning of the text of some lines' run was written, and that run is
-    // sound: each put is right by the transcript before it, and at no moment have two services one
-    // address. So is the run of the input, where the source tells its bytes.
+    // sound: each put, each reason and each note is right by the transcript before it, no key is
+    // chosen for too early, and at each moment two services that have or may have one address share
+    // it by their recorded terms, or the cluster showed it so. So is the run of the input, where the
+    // source tells its bytes.
     ensures only { WritesSound words.now K.written out.old out.new }
     ensures sound { RunsSound words.now (S.left input.old) }
+
+    // Where the run is done, no service is left waiting that could be served.
+    ensures quiet { EndsQuiet words.now result (S.left input.old) K.written out.old out.new }
 
     // But for a fault or want of memory the status is that of the lines; and where all can be
     // driven, the run is done.

@@ -1,13 +1,14 @@
 //! Turns, up to the first that wants a put.
 ghost use Rattle.std.specs.Prelude.{◌≡◌, ◌≤◌, OnOk, IfErr, None, is_some};
 ghost use Rattle.mlb_edge.specs.Written.{Grows};
-ghost use Rattle.ctl_core.specs.Drive.{turns_from};
+ghost use Rattle.core_drive.specs.Drive.{turns_from};
 ghost use Rattle.mlb_controller.specs.Output.{output_of};
-ghost use Rattle.ctl_core.specs.Turn.{put_in};
+ghost use Rattle.core_rules.specs.Turn.{put_in};
 ghost use Rattle.line_run.specs.Text.{Halts};
 
 use crate::output::write_turn;
-use ctl_core::{Core, Turn};
+use core_rules::Turn;
+use ctl_core::Core;
 use line_run::Halt;
 use mlb_edge::Sink;
 use std::alloc::Global;

@@ -1,2 +1,5 @@
+pub mod KeyLists
+pub mod Kept
 pub mod Reaches
 pub mod Steps
+pub mod Wakes

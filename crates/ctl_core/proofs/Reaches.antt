@@ -1,15 +1,14 @@
 -- What a reached core comes to is reached, and each reached core is quiet.
-use Rattle.std.proofs.Common.{◌≡◌, ℕ, true, List, [], ◌∷◌, Option, Some, None, Result, Ok, Err, is_some, refl, sym, ap, ◌∙◌, subst}
+use Rattle.std.proofs.Common.{◌≡◌, ℕ, true, List, [], ◌∷◌, Option, Some, None, Result, Ok, Err, is_some, refl, sym, ap, subst}
 use Rattle.std.specs.Prelude.{IsSome, OnOk, OnErr}
 use Rattle.kube_model.specs.declared.event.Event.{Event}
 use Rattle.kube_model.specs.declared.event.Group.{Group}
-use Rattle.kube_model.specs.declared.put.Put.{Put}
 use Rattle.kube_model.specs.declared.reply.PutReply.{PutReply}
 use Rattle.core_rules.specs.Core.{State, fresh}
 use Rattle.core_rules.specs.Reply.{core_reply}
 use Rattle.core_rules.specs.Take.{core_take, core_expired}
 use Rattle.core_rules.specs.Turn.{core_turn, after_turn}
-use Rattle.core_rules.specs.Run.{Entry, Took, Expired, Turned, Heard, IsRun, MayEnter, core_after, entered}
+use Rattle.core_rules.specs.Run.{Entry, Took, Expired, Turned, Heard, MayEnter, entered}
 use Rattle.core_laws.specs.Quiet.{IsQuiet}
 use Rattle.core_laws.proofs.QuietRuns.{runs_are_quiet}
 use Rattle.ctl_core.specs.Reached.{IsReached}

@@ -1,5 +1,5 @@
 -- Whether a service is newer than what is held.
-use Rattle.std.proofs.Common.{◌≡◌, ℕ, Bool, true, false, leb, refl, sym, ap, ◌∙◌}
+use Rattle.std.proofs.Common.{◌≡◌, ℕ, true, false, leb, refl}
 use Rattle.kube_model.specs.declared.service.Service.{Service}
 use Rattle.versioned_map.specs.Entries.{version_at}
 use Rattle.kube_model.specs.Keys.{key_cmp}

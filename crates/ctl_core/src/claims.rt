@@ -3,26 +3,10 @@ ghost use Rattle.std.specs.Prelude.{◌≡◌};
 ghost use Rattle.alloc_book.specs.Claims.{loses};
 ghost use Rattle.core_rules.specs.Take.{have_claims, listed_claims};
 
-use crate::keys::{Services, is_unlisted};
-use alloc_book::{Book, Listing};
+use crate::keys::Services;
+use crate::listing::Listed;
+use alloc_book::Book;
 use kube_model::{Key, Record};
-
-/// The services that are held and were listed.
-#[derive(Drop)]
-struct Listed<'a> {
-    services: &'a Services,
-}
-
-impl Listing for Listed<'_> {
-    ghost use Rattle.std.specs.Prelude.{not};
-    ghost use Rattle.core_rules.specs.Take.{is_unlisted};
-
-    ghost lists = { λ listed key. not (is_unlisted listed.services.now key) };
-
-    fn lists(&self, key: &Key) -> bool {
-        !is_unlisted(self.services, key)
-    }
-}
 
 /// Whether the key has a claim with another record than this one.
 pub(crate) fn loses(book: &Book, key: &Key, holding: &Record) -> bool

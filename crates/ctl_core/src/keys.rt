@@ -1,5 +1,5 @@
 //! Lists of keys.
-ghost use Rattle.std.specs.Prelude.{◌≡◌, ◌≤◌, ◌++◌, if◌then◌else◌, [], not, IfOk, vec_len, vec_capacity};
+ghost use Rattle.std.specs.Prelude.{◌≡◌, ◌++◌, if◌then◌else◌, [], not, IfOk};
 ghost use Rattle.std.specs.Option.{option_copied};
 ghost use Rattle.object_cache.specs.Told.{passing};
 ghost use Rattle.versioned_map.specs.Entries.{listed};
@@ -9,6 +9,8 @@ ghost use Rattle.core_rules.specs.Core.{is_free_with, all_free, waits, waiting};
 ghost use Rattle.core_rules.specs.Keys.{own_key, is_free};
 ghost use Rattle.core_rules.specs.Take.{no_key, is_unlisted, listed_keys};
 
+use crate::listing::Listed;
+use key_queue::KeyQueue;
 use kube_labels::Text;
 use kube_model::{Key, Record, Service};
 use mlb_base::{NoMemory, TryCopy};
@@ -18,25 +20,26 @@ use versioned_map::VersionedMap;
 /// The held services.
 pub(crate) type Services = VersionedMap<Key, Service>;
 
-fn has_key(keys: &[Key], key: &Key) -> bool
+/// Keys that are queued, or that await a newer event.
+pub(crate) type Keys = KeyQueue<Key>;
+
+fn has_key(keys: &Keys, key: &Key) -> bool
     ensures { result ≡ has_key keys.now key.now }
 {
-    keys.iter().any(|k| k == key)
+    keys.contains(key)
 }
 
 /// Whether the key is neither queued nor awaiting.
-pub(crate) fn is_free(queue: &[Key], awaiting: &[Key], key: &Key) -> bool
+pub(crate) fn is_free(queue: &Keys, awaiting: &Keys, key: &Key) -> bool
     ensures { result ≡ is_free queue.now awaiting.now key.now }
 {
     !has_key(queue, key) && !has_key(awaiting, key)
 }
 
-pub(crate) fn drop_key(keys: &mut Vec<Key>, key: &Key)
-    ensures items { keys.new.items ≡ without key.now keys.old.items }
-    ensures capacity { vec_capacity keys.new ≡ vec_capacity keys.old }
-    ensures len { vec_len keys.new ≤ vec_len keys.old }
+pub(crate) fn drop_key(keys: &mut Keys, key: &Key)
+    ensures { keys.new ≡ without key.now keys.old }
 {
-    keys.retain(|k| k != key);
+    keys.remove(key);
 }
 
 /// Whether the service isn't held, or wasn't listed.
@@ -47,16 +50,14 @@ pub(crate) fn is_unlisted(services: &Services, key: &Key) -> bool
 }
 
 /// Those that aren't held, or weren't listed, are dropped.
-pub(crate) fn keep_listed(keys: &mut Vec<Key>, services: &Services)
-    ensures items { keys.new.items ≡ listed_keys services.now keys.old.items }
-    ensures capacity { vec_capacity keys.new ≡ vec_capacity keys.old }
-    ensures len { vec_len keys.new ≤ vec_len keys.old }
+pub(crate) fn keep_listed(keys: &mut Keys, services: &Services)
+    ensures { keys.new ≡ listed_keys services.now keys.old }
 {
-    keys.retain(|key| !is_unlisted(services, key));
+    keys.retain(&Listed { services });
 }
 
 /// The key, where it isn't in the list.
-fn own_key(alloc: Global, key: &Key, queue: &[Key]) -> Result<Vec<Key>, NoMemory>
+fn own_key(alloc: Global, key: &Key, queue: &Keys) -> Result<Vec<Key>, NoMemory>
     ensures { IfOk result (λ keys. keys.items ≡ own_key key.now queue.now) }
 {
     let mut keys = Vec::new(alloc);
@@ -67,28 +68,18 @@ fn own_key(alloc: Global, key: &Key, queue: &[Key]) -> Result<Vec<Key>, NoMemory
     Ok(keys)
 }
 
-fn is_free_with(
-    queue: &[Key],
-    awaiting: &[Key],
-    assigned: bool,
-    key: &Key,
-    service: &Service,
-) -> bool
+fn is_free_with(queue: &Keys, awaiting: &Keys, assigned: bool, key: &Key, service: &Service) -> bool
     ensures { result ≡ is_free_with queue.now awaiting.now assigned key.now service.now }
 {
-    is_free(queue, awaiting, key)
-        && (if assigned {
-            service.holding.is_assigned()
-        } else {
-            !service.holding.is_assigned()
-        })
+    let is_asked = service.holding.is_assigned() == assigned;
+    is_asked && is_free(queue, awaiting, key)
 }
 
 fn free_with(
     alloc: Global,
     assigned: bool,
-    queue: &[Key],
-    awaiting: &[Key],
+    queue: &Keys,
+    awaiting: &Keys,
     services: &Services,
 ) -> Result<Vec<Key>, NoMemory>
     ensures { IfOk result (λ keys. keys.items ≡ passing (is_free_with queue.now awaiting.now assigned) services.now) }
@@ -106,8 +97,8 @@ fn free_with(
 /// Every free key: those with a recorded address first.
 pub(crate) fn all_free(
     alloc: Global,
-    queue: &[Key],
-    awaiting: &[Key],
+    queue: &Keys,
+    awaiting: &Keys,
     services: &Services,
 ) -> Result<Vec<Key>, NoMemory>
     ensures { IfOk result (λ keys. keys.items ≡ all_free queue.now awaiting.now services.now) }
@@ -121,8 +112,8 @@ pub(crate) fn all_free(
 fn free_listed_with(
     alloc: Global,
     assigned: bool,
-    queue: &[Key],
-    awaiting: &[Key],
+    queue: &Keys,
+    awaiting: &Keys,
     services: &Services,
 ) -> Result<Vec<Key>, NoMemory>
     ensures { IfOk result (λ keys. keys.items ≡ passing (is_free_with queue.now awaiting.now assigned) (listed services.now)) }
@@ -139,8 +130,8 @@ fn free_listed_with(
 
 fn all_free_listed(
     alloc: Global,
-    queue: &[Key],
-    awaiting: &[Key],
+    queue: &Keys,
+    awaiting: &Keys,
     services: &Services,
 ) -> Result<Vec<Key>, NoMemory>
     ensures { IfOk result (λ keys. keys.items ≡ all_free queue.now awaiting.now (listed services.now)) }
@@ -162,21 +153,21 @@ fn is_empty(holding: &Record) -> bool
 
 fn could_use(
     class: Option<&Text>,
-    queue: &[Key],
-    awaiting: &[Key],
+    queue: &Keys,
+    awaiting: &Keys,
     key: &Key,
     service: &Service,
 ) -> bool
     ensures { result ≡ waits (option_copied class.entry) no_key queue.now awaiting.now key.now service.now }
 {
-    is_free(queue, awaiting, key) && (service.is_handled(class) && is_empty(&service.holding))
+    (is_empty(&service.holding) && service.is_handled(class)) && is_free(queue, awaiting, key)
 }
 
 fn waits(
     class: Option<&Text>,
     own: &Key,
-    queue: &[Key],
-    awaiting: &[Key],
+    queue: &Keys,
+    awaiting: &Keys,
     key: &Key,
     service: &Service,
 ) -> bool
@@ -189,8 +180,8 @@ fn others_waiting(
     alloc: Global,
     class: Option<&Text>,
     own: &Key,
-    queue: &[Key],
-    awaiting: &[Key],
+    queue: &Keys,
+    awaiting: &Keys,
     services: &Services,
 ) -> Result<Vec<Key>, NoMemory>
     ensures { IfOk result (λ keys. keys.items ≡ passing (waits (option_copied class.entry) (same_key own.now) queue.now awaiting.now) services.now) }
@@ -211,8 +202,8 @@ pub(crate) fn waiting(
     is_lost: bool,
     class: Option<&Text>,
     own: &Key,
-    queue: &[Key],
-    awaiting: &[Key],
+    queue: &Keys,
+    awaiting: &Keys,
     services: &Services,
 ) -> Result<Vec<Key>, NoMemory>
     ensures { IfOk result (λ keys. keys.items ≡ waiting is_lost (option_copied class.entry) (same_key own.now) queue.now awaiting.now services.now) }
@@ -226,8 +217,8 @@ pub(crate) fn waiting(
 fn listed_waiting(
     alloc: Global,
     class: Option<&Text>,
-    queue: &[Key],
-    awaiting: &[Key],
+    queue: &Keys,
+    awaiting: &Keys,
     services: &Services,
 ) -> Result<Vec<Key>, NoMemory>
     ensures { IfOk result (λ keys. keys.items ≡ passing (waits (option_copied class.entry) no_key queue.now awaiting.now) (listed services.now)) }
@@ -249,8 +240,8 @@ pub(crate) fn own_and_waiting(
     is_lost: bool,
     class: Option<&Text>,
     own: &Key,
-    queue: &[Key],
-    awaiting: &[Key],
+    queue: &Keys,
+    awaiting: &Keys,
     services: &Services,
 ) -> Result<Vec<Key>, NoMemory>
     ensures { IfOk result (λ keys. keys.items ≡ (if is_ready then own_key own.now queue.now ++ waiting is_lost (option_copied class.entry) (same_key own.now) queue.now awaiting.now services.now else [])) }
@@ -271,8 +262,8 @@ pub(crate) fn listed_and_free(
     is_ready: bool,
     is_lost: bool,
     class: Option<&Text>,
-    queue: &[Key],
-    awaiting: &[Key],
+    queue: &Keys,
+    awaiting: &Keys,
     services: &Services,
 ) -> Result<Vec<Key>, NoMemory>
     ensures { IfOk result (λ keys. keys.items ≡ (if not is_ready then [] else (if was_ready then waiting is_lost (option_copied class.entry) no_key queue.now awaiting.now (listed services.now) else all_free queue.now awaiting.now (listed services.now)))) }

@@ -4,6 +4,7 @@
 
 mod claims;
 mod keys;
+mod listing;
 mod reached;
 mod replies;
 mod room;

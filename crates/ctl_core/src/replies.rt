@@ -7,7 +7,7 @@ ghost use Rattle.core_rules.specs.Reply.{core_reply, stored, refused, in_doubt};
 
 use crate::claims::loses;
 use crate::keys::waiting;
-use crate::room::{append_all, make_room};
+use crate::room::{make_room, make_room_for};
 use crate::state::CoreState;
 use alloc_book::Claim;
 use kube_model::{Key, Put, PutReply};
@@ -36,13 +36,12 @@ impl CoreState {
         ensures err { OnErr result (self.new ≡ self.old) }
     {
         let more = self.waiting_for(&put)?;
-        make_room(&mut self.book, &mut self.queue, more.len())?;
         let claim = Claim::of(self.alloc, &put.key, &put.holding)?;
+        make_room(&mut self.book, &mut self.queue, &more)?;
         let key = put.key;
         let holding = put.holding;
         self.cache.store(&key, version, holding);
         self.book.settle_prepared(claim);
-        append_all(&mut self.queue, more);
         self.out = None;
         Ok(())
     }
@@ -78,9 +77,8 @@ impl CoreState {
         ensures ok { OnOk result (self.new ≡ in_doubt self.old put) }
         ensures err { OnErr result (self.new ≡ self.old) }
     {
-        make_room(&mut self.book, &mut self.queue, 1)?;
         let claim = Claim::of(self.alloc, &put.key, &put.holding)?;
-        self.queue.push_reserved(put.key);
+        make_room_for(&mut self.book, &mut self.queue, put.key)?;
         self.book.doubt_prepared(claim);
         self.out = None;
         Ok(())

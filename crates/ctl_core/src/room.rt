@@ -1,44 +1,44 @@
-//! Room, made before anything changes.
-ghost use Rattle.std.specs.Prelude.{◌≡◌, ◌≤◌, ◌<◌, ◌+◌, ◌++◌, [], if◌then◌else◌, OnOk, vec_len, vec_capacity};
+//! Room and keys, made before anything else changes, and taken back where nothing does.
+ghost use Rattle.std.specs.Prelude.{◌≡◌, ◌<◌, ◌++◌, ◌∷◌, [], if◌then◌else◌, take, OnOk, OnErr};
 
+use crate::keys::Keys;
 use alloc_book::Book;
 use kube_model::Key;
 use mlb_base::NoMemory;
 
-/// Room for one claim more, and for so many keys.
-pub(crate) fn make_room(book: &mut Book, queue: &mut Vec<Key>, more: usize) -> Result<(), NoMemory>
+/// Room for one claim more, and the keys to the back of the queue. After want of memory the queue is unchanged.
+pub(crate) fn make_room(book: &mut Book, queue: &mut Keys, more: &[Key]) -> Result<(), NoMemory>
     ensures claims { book.new.claims ≡ book.old.claims }
-    ensures queue { queue.new.items ≡ queue.old.items }
     ensures claim_room { OnOk result (0 < book.new.room) }
-    ensures queue_room { OnOk result (vec_len queue.new + more ≤ vec_capacity queue.new) }
+    ensures ok { OnOk result (queue.new ≡ queue.old ++ more.now) }
+    ensures err { OnErr result (queue.new ≡ queue.old) }
 {
     book.reserve()?;
-    queue.reserve(more)?;
-    Ok(())
+    queue.append(more)
 }
 
-/// The keys to the back of the list, in which there is room for them.
-pub(crate) fn append_all(keys: &mut Vec<Key>, mut more: Vec<Key>)
-    requires { vec_len keys.old + vec_len more ≤ vec_capacity keys.old }
-    ensures { keys.new.items ≡ keys.old.items ++ more.items }
+/// Room for one claim more, and the key to the back of the queue. After want of memory the queue is unchanged.
+pub(crate) fn make_room_for(book: &mut Book, queue: &mut Keys, key: Key) -> Result<(), NoMemory>
+    ensures claims { book.new.claims ≡ book.old.claims }
+    ensures claim_room { OnOk result (0 < book.new.room) }
+    ensures ok { OnOk result (queue.new ≡ queue.old ++ key ∷ []) }
+    ensures err { OnErr result (queue.new ≡ queue.old) }
 {
-    match keys.append(&mut more) {
-        Ok(()) => {}
-        Err(_) => {}
+    book.reserve()?;
+    queue.push(key)
+}
+
+/// The first keys alone, so many of them, unless all are kept.
+pub(crate) fn truncate_unless(keeps: bool, queue: &mut Keys, len: usize)
+    ensures { queue.new ≡ (if keeps then queue.old else take len queue.old) }
+{
+    if !keeps {
+        queue.truncate(len);
     }
 }
 
-pub(crate) fn append_where(wakes: bool, queue: &mut Vec<Key>, more: Vec<Key>)
-    requires { vec_len queue.old + vec_len more ≤ vec_capacity queue.old }
-    ensures { queue.new.items ≡ (if wakes then queue.old.items ++ more.items else queue.old.items) }
-{
-    if wakes {
-        append_all(queue, more);
-    }
-}
-
-pub(crate) fn clear_unless(keeps: bool, queue: &mut Vec<Key>)
-    ensures { queue.new.items ≡ (if keeps then queue.old.items else []) }
+pub(crate) fn clear_unless(keeps: bool, queue: &mut Keys)
+    ensures { queue.new ≡ (if keeps then queue.old else []) }
 {
     if !keeps {
         queue.clear();

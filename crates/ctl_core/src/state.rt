@@ -3,7 +3,7 @@ ghost use Rattle.std.specs.Prelude.{◌≡◌, ◌↔◌, ◌<◌, length, IfOk,
 ghost use Rattle.std.specs.Option.{option_copied};
 ghost use Rattle.core_rules.specs.Core.{fresh, is_ready, record_of, is_settled};
 
-use crate::keys::is_free;
+use crate::keys::{Keys, is_free};
 use alloc_book::Book;
 use kube_labels::Text;
 use kube_model::{Group, Key, Put, Record};
@@ -19,8 +19,8 @@ pub(crate) struct CoreState {
     pub(crate) class: Option<Text>,
     pub(crate) cache: ObjectCache,
     pub(crate) book: Book,
-    pub(crate) queue: Vec<Key>,
-    pub(crate) awaiting: Vec<Key>,
+    pub(crate) queue: Keys,
+    pub(crate) awaiting: Keys,
     pub(crate) out: Option<Put>,
 }
 
@@ -33,8 +33,8 @@ impl Model for CoreState {
       class = c.class;
       held = c.cache;
       claims = c.book.claims;
-      queue = c.queue.items;
-      awaiting = c.awaiting.items;
+      queue = c.queue;
+      awaiting = c.awaiting;
       out = c.out;
     } };
 }
@@ -50,8 +50,8 @@ impl CoreState {
             class,
             cache: ObjectCache::new(alloc),
             book: Book::new(alloc),
-            queue: Vec::new(alloc),
-            awaiting: Vec::new(alloc),
+            queue: Keys::new(alloc),
+            awaiting: Keys::new(alloc),
             out: None,
         })
     }

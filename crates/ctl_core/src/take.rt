@@ -1,5 +1,5 @@
 //! Events that are taken.
-ghost use Rattle.std.specs.Prelude.{◌≡◌, ◌↔◌, ◌⊎◌, ◌++◌, ◌&&◌, ◌||◌, not, is_some, None, true, IsErrOf, OnOk, OnErr, IfOk, IfErr};
+ghost use Rattle.std.specs.Prelude.{◌≡◌, ◌↔◌, ◌⊎◌, ◌++◌, ◌&&◌, ◌||◌, [], if◌then◌else◌, not, is_some, None, true, IsErrOf, OnOk, OnErr, IfOk, IfErr};
 ghost use Rattle.kube_model.specs.declared.event.Event.TheVariants.{Changed as ChangedEvent, Deleted as DeletedEvent, ListEnd as ListEndEvent};
 ghost use Rattle.kube_model.specs.Keys.{same_key, key_cmp, without};
 ghost use Rattle.object_history.specs.Observations.{Watched, WatchExpired};
@@ -9,12 +9,13 @@ ghost use Rattle.object_cache.specs.Limits.{passes, most_services};
 ghost use Rattle.object_cache.specs.declared.change.TakeNote.TheVariants.{Quiet as QuietNote};
 ghost use Rattle.alloc_book.specs.Claims.{loses, has_claims, settled};
 ghost use Rattle.core_rules.specs.Core.{waiting, all_free, is_ready};
-ghost use Rattle.core_rules.specs.Take.{core_take, core_note, core_expired, limits, with_service, without_service, with_services_listed, own_and_waiting, listed_and_free, have_claims, shows, is_accepted, is_namespace, configured};
+ghost use Rattle.core_rules.specs.Take.{Configures, concern, core_take, core_note, core_expired, limits, with_service, without_service, with_services_listed, own_and_waiting, listed_and_free, have_claims, shows, is_accepted, is_namespace, configured};
 ghost use Rattle.ctl_core.specs.Holding.{held_service};
+ghost use Rattle.ctl_core.specs.Waking.{may_wake, ends_config};
 
 use crate::claims::{have_claims, keep_listed_claims, loses};
 use crate::keys::{all_free, drop_key, keep_listed, listed_and_free, own_and_waiting, waiting};
-use crate::room::{append_all, append_where, clear_unless, make_room};
+use crate::room::{clear_unless, make_room, truncate_unless};
 use crate::state::{CoreState, is_ready};
 use alloc_book::Claim;
 use core_rules::TakeFault;
@@ -197,7 +198,8 @@ impl CoreState {
         }) }
         ensures err { OnErr result (self.new ≡ self.old) }
     {
-        if make_room(&mut self.book, &mut self.queue, prepared.more.len()).is_err() {
+        let queued = self.queue.len();
+        if make_room(&mut self.book, &mut self.queue, &prepared.more).is_err() {
             drop(service);
             drop(prepared);
             return Err(NoMemory);
@@ -207,12 +209,12 @@ impl CoreState {
             Ok(applied) => drop(applied),
             Err(_) => {
                 drop(prepared);
+                self.queue.truncate(queued);
                 return Err(NoMemory);
             }
         }
         self.book.settle_prepared(prepared.claim);
         drop_key(&mut self.awaiting, &prepared.key);
-        append_all(&mut self.queue, prepared.more);
         Ok(())
     }
 
@@ -274,19 +276,15 @@ impl CoreState {
     {
         let gone = key.copy()?;
         let more = self.waiting_beside(&key)?;
-        make_room(&mut self.book, &mut self.queue, more.len())?;
-        let applied = apply(
-            &mut self.cache,
-            Event::Deleted {
-                kind: Kind::Service,
-                key,
-            },
-        )?;
+        let event = Event::Deleted {
+            kind: Kind::Service,
+            key,
+        };
+        let applied = self.queue_and_apply(&more, event)?;
         drop(applied);
         self.book.drop_name(&gone);
         drop_key(&mut self.awaiting, &gone);
         drop_key(&mut self.queue, &gone);
-        append_all(&mut self.queue, more);
         Ok(TakeNote::Quiet)
     }
 
@@ -325,18 +323,14 @@ impl CoreState {
         ensures err { OnErr result (self.new ≡ self.old) }
     {
         let more = self.listed_and_free()?;
-        make_room(&mut self.book, &mut self.queue, more.len())?;
-        let applied = apply(
-            &mut self.cache,
-            Event::ListEnd {
-                group: Group::Service,
-            },
-        )?;
+        let event = Event::ListEnd {
+            group: Group::Service,
+        };
+        let applied = self.queue_and_apply(&more, event)?;
         drop(applied);
         keep_listed_claims(&mut self.book, self.cache.services());
         keep_listed(&mut self.awaiting, self.cache.services());
         keep_listed(&mut self.queue, self.cache.services());
-        append_all(&mut self.queue, more);
         Ok(TakeNote::Quiet)
     }
 
@@ -358,26 +352,57 @@ impl CoreState {
 
     /// An event of the configuration, or of a namespace.
     fn configure(&mut self, event: Event) -> Result<TakeNote, NoMemory>
+        requires { concern event ≡ Configures }
         ensures note { IfOk result (λ note. note ≡ (applied self.old.held event).note) }
         ensures ok { OnOk result (self.new ≡ configured self.old event) }
         ensures err { OnErr result (self.new ≡ self.old) }
     {
         let was_ready = is_ready(&self.cache);
-        let free = match self.all_free() {
-            Ok(free) => free,
+        let queued = self.queue.len();
+        let woken = match self.may_be_woken(&event) {
+            Ok(woken) => woken,
             Err(NoMemory) => {
                 drop(event);
                 return Err(NoMemory);
             }
         };
-        if make_room(&mut self.book, &mut self.queue, free.len()).is_err() {
+        let applied = self.queue_and_apply(&woken, event)?;
+        let wakes = wakes(was_ready, &applied, is_ready(&self.cache));
+        truncate_unless(wakes, &mut self.queue, queued);
+        Ok(note_of(applied))
+    }
+
+    /// The keys that are queued where the event wakes them: every free key, and none while it can't.
+    fn may_be_woken(&self, event: &Event) -> Result<Vec<Key>, NoMemory>
+        ensures { IfOk result (λ keys. keys.items ≡ (if may_wake self.now.held event.now then all_free self.now.queue self.now.awaiting self.now.held.services else [])) }
+    {
+        if !may_wake(&self.cache, event) {
+            return Ok(Vec::new(self.alloc));
+        }
+        self.all_free()
+    }
+
+    /// The keys are queued, and the event is applied.
+    fn queue_and_apply(&mut self, more: &[Key], event: Event) -> Result<Applied, NoMemory>
+        ensures applied { IfOk result (λ a. a ≡ applied self.old.held event) }
+        ensures ok { OnOk result (self.new ≡ record self.old {
+          held = cached_after (Watched event) self.old.held;
+          queue = self.old.queue ++ more.now;
+        }) }
+        ensures err { OnErr result (self.new ≡ self.old) }
+    {
+        let queued = self.queue.len();
+        if self.queue.append(more).is_err() {
             drop(event);
             return Err(NoMemory);
         }
-        let applied = apply(&mut self.cache, event)?;
-        let wakes = wakes(was_ready, &applied, is_ready(&self.cache));
-        append_where(wakes, &mut self.queue, free);
-        Ok(note_of(applied))
+        match self.cache.apply(event) {
+            Ok(applied) => Ok(applied),
+            Err(_) => {
+                self.queue.truncate(queued);
+                Err(NoMemory)
+            }
+        }
     }
 
     fn all_free(&self) -> Result<Vec<Key>, NoMemory>
@@ -402,6 +427,24 @@ impl CoreState {
         self.queue.clear();
         Ok(TakeNote::Quiet)
     }
+}
+
+/// Whether the core may be ready after an event of the configuration.
+fn may_wake(cache: &ObjectCache, event: &Event) -> bool
+    ensures { result ≡ may_wake cache.now event.now }
+{
+    cache.has_ended(Group::Service) && (cache.has_ended(Group::Config) || ends_config(event))
+}
+
+fn ends_config(event: &Event) -> bool
+    ensures { result ≡ ends_config event.now }
+{
+    matches!(
+        event,
+        Event::ListEnd {
+            group: Group::Config
+        }
+    )
 }
 
 fn note_of(applied: Applied) -> TakeNote

@@ -22,12 +22,12 @@ impl CoreState {
         ensures ok { OnOk result (self.new ≡ after_turn self.old) }
         ensures err { OnErr result (self.new ≡ self.old) }
     {
-        if self.queue.is_empty() {
+        let Some(front) = self.queue.first() else {
             return Ok(Turn::Idle);
-        }
-        let turn = self.turn_at(&self.queue[0])?;
+        };
+        let turn = self.turn_at(front)?;
         let out = put_in(&turn)?;
-        let _front = self.queue.remove(0);
+        let _front = self.queue.pop_first();
         self.out = out;
         Ok(turn)
     }

@@ -1,6 +1,6 @@
-use Rattle.std.proofs.Common.{rules}
-use Rattle.std.proofs.lemmas.Fn.{filter_same}
+use Rattle.std.proofs.Common.{◌∙◌}
+use Rattle.ctl_core.proofs.KeyLists.{without-at}
 use Rattle.ctl_core.proofs.keys.drop_key.Goals as goal
 
-pub returns-clause-items : goal.returns-clause-items
-returns-clause-items c = filter_same _ _ _ (λ x b f' k. search rules) _ _ c.retain.ensures.filtered
+pub returns : goal.returns
+returns c = c.remove.ensures ∙ without-at c.args.keys.now c.args.key.now

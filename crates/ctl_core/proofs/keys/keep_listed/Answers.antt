@@ -1,6 +1,7 @@
-use Rattle.std.proofs.Common.{rules}
-use Rattle.std.proofs.lemmas.Fn.{filter_same}
+use Rattle.std.proofs.Common.{ap, not}
+use Rattle.kube_model.proofs.KeyLaws.{key_cmp-exact}
+use Rattle.core_rules.specs.Take.{is_unlisted}
 use Rattle.ctl_core.proofs.keys.keep_listed.Goals as goal
 
-pub returns-clause-items : goal.returns-clause-items
-returns-clause-items c = filter_same _ _ _ (λ x b f' k. search rules) _ _ c.retain.ensures.filtered
+pub retain-requires : goal.retain-requires
+retain-requires c a b e = ap (λ k. not (is_unlisted c.args.services.now k)) (key_cmp-exact a b e)

@@ -1,4 +1,3 @@
-use Rattle.ctl_core.specs.Reached.{IsReached}
 use Rattle.ctl_core.proofs.Reaches.{reached-reply, reached-quiet}
 use Rattle.ctl_core.proofs.reached.Core.answered.Goals as goal
 

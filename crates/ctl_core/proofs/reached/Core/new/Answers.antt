@@ -1,4 +1,3 @@
-use Rattle.ctl_core.specs.Reached.{IsReached}
 use Rattle.ctl_core.proofs.Reaches.{reached-fresh}
 use Rattle.ctl_core.proofs.reached.Core.new.Goals as goal
 

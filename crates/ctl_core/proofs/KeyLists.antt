@@ -1,0 +1,31 @@
+-- Lists of keys: what stands in them, and what is left of them.
+use Rattle.std.proofs.Common.{◌≡◌, cond, not, ◌||◌, List, [], ◌∷◌, drop, filter, Some, None, refl, ap, ◌∙◌}
+use Rattle.std.specs.List.{list_any}
+use Rattle.std.specs.BTreeMap.{is_at}
+use Rattle.std.specs.Prelude.{slice_get}
+use Rattle.kube_model.specs.declared.key.Key.{Key}
+use Rattle.kube_model.specs.Keys.{key_cmp, same_key, has_key, without}
+use Rattle.kube_model.proofs.KeyLaws.{is_eq-key_cmp, same_key-flip}
+
+-- ---- a key in a list, by the order and by the test
+at-is : (key k : Key) → is_at (key_cmp key) k ≡ same_key k key
+at-is key k = is_eq-key_cmp key k ∙ same_key-flip key k
+
+pub has-at : (keys : List Key) (key : Key) → list_any (is_at (key_cmp key)) keys ≡ has_key keys key
+has-at [] key = refl
+has-at (k ∷ keys) key = ap (λ b. b || list_any (is_at (key_cmp key)) keys) (at-is key k) ∙ ap (λ b. same_key k key || b) (has-at keys key)
+
+pub without-at : (keys : List Key) (key : Key) → filter (λ k. not (is_at (key_cmp key) k)) keys ≡ without key keys
+without-at [] key = refl
+without-at (k ∷ keys) key =
+    ap (λ b. cond (not b) (k ∷ filter (λ k. not (is_at (key_cmp key) k)) keys) (filter (λ k. not (is_at (key_cmp key) k)) keys)) (at-is key k)
+    ∙ ap (λ (ks : List Key). cond (not (same_key k key)) (k ∷ ks) ks) (without-at keys key)
+
+-- ---- the front of a queue
+pub front-none : (queue : List Key) → None ≡ slice_get queue 0 → queue ≡ []
+front-none [] none = refl
+front-none (k ∷ keys) none = absurd (cc)
+
+pub front-some : (queue : List Key) (key : Key) → Some key ≡ slice_get queue 0 → queue ≡ key ∷ drop 1 queue
+front-some [] key some = absurd (cc)
+front-some (k ∷ keys) key some = let is : k ≡ key = cc in ap (λ x. x ∷ keys) is

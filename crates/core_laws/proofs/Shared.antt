@@ -162,10 +162,10 @@ heard-by (Some put) key Unknown before r there =
     (added-by (list_any (λ q. same_record q put.holding) before) (claimed_by put.holding) before r) there
 
 -- no put is out where an event is taken or a turn is made
-none-out : (class : Option (List ℕ)) (run : List Entry) → IsRun class run → (core_after class run).out ≡ None → put_out run ≡ None
+pub none-out : (class : Option (List ℕ)) (run : List Entry) → IsRun class run → (core_after class run).out ≡ None → put_out run ≡ None
 none-out class run is e = sym (core_holds_what_was_observed class run is).1 ∙ e
 
-alone : (key : Key) (run : List Entry) → put_out run ≡ None → may_have key run ≡ claims_shown key run
+pub alone : (key : Key) (run : List Entry) → put_out run ≡ None → may_have key run ≡ claims_shown key run
 alone key run e = ap (λ (o : Option Put). claims_shown key run ++ record_out key o) e ∙ append-nil (claims_shown key run)
 
 came : (class : Option (List ℕ)) (x : Entry) (earlier : List Entry) → IsRun class (x ∷ earlier) → (key : Key) (r : Record) → Contains (may_have key (x ∷ earlier)) r → ¬ (Contains (may_have key earlier) r) → Came x key r
@@ -206,7 +206,7 @@ terms-kept service holding =
 typed-kept : (key : Key) (service : Service) (holding : Record) → Typed key service → Typed key (with_holding holding service)
 typed-kept key service holding t = subst AreTerms (sym (terms-kept service holding)) t
 
-put-shared : (class : Option (List ℕ)) (put : Put) (pending : Option Reason) (earlier : List Entry) → IsRun class (Turned (Wants put pending) ∷ earlier) → AllShowTerms earlier
+pub put-shared : (class : Option (List ℕ)) (put : Put) (pending : Option Reason) (earlier : List Entry) → IsRun class (Turned (Wants put pending) ∷ earlier) → AllShowTerms earlier
     → (other : Key) → other ≢ put.key → (q : Record) → Contains (may_have other earlier) q → (a : AddressValue) → Contains put.holding.addresses a → Contains q.addresses a → AreShared put.holding q
 put-shared class put pending earlier is all other apart q there a in_put in_q =
     let right : IsRightPut class put pending earlier = puts_are_right class put pending earlier is in
@@ -226,7 +226,7 @@ put-shared class put pending earlier is all other apart q there a in_put in_q =
     (terms_of service, shared.0, mark, shared.1, shared.2)
 
 -- ---- one entry more
-turned : (r q : Record) → AreShared r q → AreShared q r
+pub turned : (r q : Record) → AreShared r q → AreShared q r
 turned r q s = (s.1, s.0, s.3, s.2, may_share-turned s.0 s.1 s.4)
 
 module _ (class : Option (List ℕ)) (x : Entry) (earlier : List Entry) (is : IsRun class (x ∷ earlier)) (all : AllShowTerms earlier) where

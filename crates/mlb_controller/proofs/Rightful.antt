@@ -11,9 +11,11 @@ use Rattle.kube_events.specs.Event.{event_of_line}
 use Rattle.kube_lines.specs.Reply.{reply_of}
 use Rattle.core_rules.specs.Core.{State, fresh}
 use Rattle.core_rules.specs.Take.{limits}
-use Rattle.core_drive.specs.Drive.{Driven, Entry, taking, hearing}
+use Rattle.core_rules.specs.Run.{Entry as CoreEntry, IsRun}
+use Rattle.core_drive.specs.Drive.{Driven, Entry, taking, hearing, core_entry, behind}
 use Rattle.core_drive.specs.Sound.{IsSound, LeadsTo, ShowsTerms}
 use Rattle.core_drive.proofs.Goes.{begins_fresh, events_go_on, replies_go_on, drives_are_sound, drives_are_quiet}
+use Rattle.world_rules.proofs.Explaining.{runs_are_safe_in_worlds}
 use Rattle.line_run.specs.Machine.{Step, Goes, Stops}
 use Rattle.line_run.specs.Run.{run_from, status_at}
 use Rattle.line_run.specs.Statuses.{IsLineStatus}
@@ -24,7 +26,7 @@ use Rattle.mlb_edge.specs.Lines.{Ending, Whole, LongLine, LongInput, input_of}
 use Rattle.service_texts.proofs.Lines.{events_show_terms}
 use Rattle.mlb_controller.specs.Causes.{line_causes}
 use Rattle.mlb_controller.specs.Stream.{goes_by, event_step, reply_step, step_where, line_step, controller_rules, end_of}
-use Rattle.mlb_controller.specs.Sound.{WritesSound, RunsSound, LeavesNothing, EndsQuiet}
+use Rattle.mlb_controller.specs.Sound.{WritesSound, RunsSound, IsSafeThroughout, RunsSafe, LeavesNothing, EndsQuiet}
 
 module _ (class : Option (List ℕ)) where
   -- what goes on from a core goes on from what was told of it
@@ -65,6 +67,21 @@ module _ (class : Option (List ℕ)) where
   sound_in : (lines : List Line) (ending : Ending) → IsSound class (run_from controller_rules lines ending (fresh class)).entries
   sound_in lines ending = let led = leads_in lines ending in drives_are_sound class (run_from controller_rules lines ending (fresh class)).entries led.state led.kept
 
+  -- a beginning of a run is one
+  begun_run : (later : List Entry) (earlier : List CoreEntry) → IsRun class (behind later earlier) → IsRun class earlier
+  begun_run [] earlier is = is
+  begun_run (entry ∷ later) earlier is = (begun_run later (core_entry entry ∷ earlier) is).1
+
+  beginning_run : (first later : List Entry) (earlier : List CoreEntry) → IsRun class (behind (first ++ later) earlier) → IsRun class (behind first earlier)
+  beginning_run [] later earlier is = begun_run later earlier is
+  beginning_run (entry ∷ first) later earlier is = beginning_run first later (core_entry entry ∷ earlier) is
+
+  -- and it is safe in every world
+  safe_in : (lines : List Line) (ending : Ending) → IsSafeThroughout class (run_from controller_rules lines ending (fresh class)).entries
+  safe_in lines ending first later e =
+      let led = leads_in lines ending in
+      runs_are_safe_in_worlds class (behind first []) (beginning_run first later [] (rw e at led.kept.is))
+
   ends_done : (o : Option Put) → Done ≡ end_of o → o ≡ None
   ends_done None e = refl
   ends_done (Some put) e = absurd (cc)
@@ -90,10 +107,14 @@ module _ (class : Option (List ℕ)) where
   sound_where_told None = tt
   sound_where_told (Some bytes) = sound_in (input_of bytes).lines (input_of bytes).ending
 
+  pub safe_where_told : (left : Option (List ℕ)) → RunsSafe class left
+  safe_where_told None = tt
+  safe_where_told (Some bytes) = safe_in (input_of bytes).lines (input_of bytes).ending
+
   pub quiet_where_done : (left before after : Option (List ℕ)) → StopsAs controller_rules (fresh class) left before after Done → EndsQuiet class left before after
   quiet_where_done None before after stops =
       record { lines = stops.0; ending = stops.1; stops = stops.2; quiet = quiet_in stops.0 stops.1 stops.2.0 }
   quiet_where_done (Some bytes) before after stops = quiet_in (input_of bytes).lines (input_of bytes).ending stops.0
 
   pub only_sound : (before after : Option (List ℕ)) → WritesOnly controller_rules (fresh class) before after → WritesSound class before after
-  only_sound before after only = record { lines = only.lines; wrote = only.wrote; sound = sound_in only.lines Whole }
+  only_sound before after only = record { lines = only.lines; wrote = only.wrote; sound = sound_in only.lines Whole; safe = safe_in only.lines Whole }

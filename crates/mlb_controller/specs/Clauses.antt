@@ -51,13 +51,17 @@ module _ {Z K : Type 0} (words : List (String Z)) (status : Status) (left : Opti
 abbrev pub AfterRead : {Z S K : Type 0} → List (String Z) → Status → (S → Option (List ℕ)) → S → S → (K → Option (List ℕ)) → K → K → Type 0
 AfterRead words status left input input' written out out' = run.AfterRead controller_rules (begun_by words) status (left input) (left input') (written out) (written out')
 
--- a beginning of the text of some lines' run was written, and the transcript of that run is sound
+-- a beginning of the text of some lines' run was written, and the transcript of that run is sound, and safe in every world that explains it
 abbrev pub WritesSound : {Z K : Type 0} → List (String Z) → (K → Option (List ℕ)) → K → K → Type 0
 WritesSound words written out out' = sound.WritesSound (class_of (texts_of words)) (written out) (written out')
 
 -- the transcript of the run is sound, where the source tells its bytes
 abbrev pub RunsSound : {Z : Type 0} → List (String Z) → Option (List ℕ) → Type 0
 RunsSound words left = sound.RunsSound (class_of (texts_of words)) left
+
+-- in every world that explains a beginning of the transcript, services recorded with one address share it
+abbrev pub RunsSafe : {Z : Type 0} → List (String Z) → Option (List ℕ) → Type 0
+RunsSafe words left = sound.RunsSafe (class_of (texts_of words)) left
 
 -- where the run is done, nothing is left waiting that could be served
 abbrev pub EndsQuiet : {Z K : Type 0} → List (String Z) → Status → Option (List ℕ) → (K → Option (List ℕ)) → K → K → Type 0

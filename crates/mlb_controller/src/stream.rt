@@ -1,7 +1,7 @@
 //! The run over one stream.
 ghost use Rattle.std.specs.Prelude.{◌≡◌, ◌↔◌};
 ghost use Rattle.line_run.specs.Clauses.{AtEnd, AtReadFault, AtWriteFault};
-ghost use Rattle.mlb_controller.specs.Clauses.{CanEnd, AtDone, AtNoReply, AtBadLine, AtBadReply, AtServiceLimit, AtLongLine, AtTooLong, AfterRead, AfterWrite, AtNoMemory, WritesSound, RunsSound, EndsQuiet, HandlesNamed, IsExact, IsComplete};
+ghost use Rattle.mlb_controller.specs.Clauses.{CanEnd, AtDone, AtNoReply, AtBadLine, AtBadReply, AtServiceLimit, AtLongLine, AtTooLong, AfterRead, AfterWrite, AtNoMemory, WritesSound, RunsSound, RunsSafe, EndsQuiet, HandlesNamed, IsExact, IsComplete};
 ghost use Rattle.mlb_controller.specs.Words.{texts_of, AreKnown};
 
 use crate::controller::Controller;
@@ -51,6 +51,11 @@ pub fn stream_controller<S: Source, K: Sink>(
     // source tells its bytes.
     ensures only { WritesSound words.now K.written out.old out.new }
     ensures sound { RunsSound words.now (S.left input.old) }
+
+    // Whatever store there is, whoever else edits it, and however late its changes are shown: where
+    // that explains what was read so far, services recorded with one address share it by their
+    // recorded terms, also where a last put that has no reply yet reached the store.
+    ensures safe { RunsSafe words.now (S.left input.old) }
 
     // Where the run is done, no service is left waiting that could be served.
     ensures quiet { EndsQuiet words.now result (S.left input.old) K.written out.old out.new }

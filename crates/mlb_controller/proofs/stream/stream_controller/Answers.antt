@@ -5,7 +5,7 @@ use Rattle.line_run.specs.Explains.{StopsFor}
 use Rattle.line_run.specs.Written.{WritesOnly}
 use Rattle.mlb_controller.specs.Stream.{controller_rules, IsCause}
 use Rattle.mlb_controller.specs.Words.{texts_of, class_of}
-use Rattle.mlb_controller.proofs.Rightful.{sound_where_told, quiet_where_done, only_sound}
+use Rattle.mlb_controller.proofs.Rightful.{sound_where_told, safe_where_told, quiet_where_done, only_sound}
 use Rattle.mlb_controller.proofs.stream.stream_controller.Goals as goal
 
 pub returns-in_default-clause-only : goal.returns-in_default-clause-only
@@ -16,6 +16,9 @@ returns-in_default-clause-only g c =
 pub returns-in_default-clause-sound : goal.returns-in_default-clause-sound
 returns-in_default-clause-sound g c = sound_where_told (class_of (texts_of c.args.words.now)) (g.S.Source.left c.args.input.now)
 
+pub returns-in_default-clause-safe : goal.returns-in_default-clause-safe
+returns-in_default-clause-safe g c = safe_where_told (class_of (texts_of c.args.words.now)) (g.S.Source.left c.args.input.now)
+
 pub returns-in_default-new-clause-only : goal.returns-in_default-new-clause-only
 returns-in_default-new-clause-only g c =
     let class = class_of (texts_of c.args.words.now) in
@@ -23,6 +26,9 @@ returns-in_default-new-clause-only g c =
 
 pub returns-in_default-new-clause-sound : goal.returns-in_default-new-clause-sound
 returns-in_default-new-clause-sound g c = sound_where_told (class_of (texts_of c.args.words.now)) (g.S.Source.left c.args.input.now)
+
+pub returns-in_default-new-clause-safe : goal.returns-in_default-new-clause-safe
+returns-in_default-new-clause-safe g c = safe_where_told (class_of (texts_of c.args.words.now)) (g.S.Source.left c.args.input.now)
 
 pub returns-clause-service_limit : goal.returns-clause-service_limit
 returns-clause-service_limit g c =
@@ -38,6 +44,9 @@ returns-clause-only g c =
 
 pub returns-clause-sound : goal.returns-clause-sound
 returns-clause-sound g c = sound_where_told (class_of (texts_of c.args.words.now)) (g.S.Source.left c.args.input.now)
+
+pub returns-clause-safe : goal.returns-clause-safe
+returns-clause-safe g c = safe_where_told (class_of (texts_of c.args.words.now)) (g.S.Source.left c.args.input.now)
 
 pub returns-clause-quiet : goal.returns-clause-quiet
 returns-clause-quiet g c = λ done.

@@ -1,0 +1,355 @@
+-- A world that explains a run goes through that run.
+use Rattle.std.proofs.Common.{◌≡◌, ℕ, true, List, [], ◌∷◌, ◌++◌, map, Option, Some, None, is_some, refl, sym, ap, subst, ◌∙◌}
+use Rattle.std.specs.List.{AllByRecursion}
+use Rattle.kube_model.specs.declared.event.Event.{Event}
+use Rattle.kube_model.specs.declared.event.Event.TheVariants.{Changed, Deleted, ListEnd, Expired as WatchesExpired, Members, Frame, Ignored}
+use Rattle.kube_model.specs.declared.event.Group.{Group}
+use Rattle.kube_model.specs.declared.event.Group.TheVariants as groups
+use Rattle.kube_model.specs.declared.key.Key.{Key}
+use Rattle.kube_model.specs.declared.object.Kind.{Kind}
+use Rattle.kube_model.specs.declared.object.Kind.TheVariants as kinds
+use Rattle.kube_model.specs.declared.object.Object.{Object}
+use Rattle.kube_model.specs.declared.object.Object.TheVariants as objects
+use Rattle.kube_model.specs.declared.put.Put.{Put}
+use Rattle.kube_model.specs.Kinds.{kind_of, group_of}
+use Rattle.status_store.specs.declared.change.Outcome.{Outcome}
+use Rattle.status_store.specs.Changes.{after_put, reply_to}
+use Rattle.core_rules.specs.declared.turn.Turn.{Turn}
+use Rattle.core_rules.specs.declared.turn.Turn.TheVariants.{Idle, NoPut, Wants}
+use Rattle.core_rules.specs.Core.{State}
+use Rattle.core_rules.specs.Take.{core_take, core_expired}
+use Rattle.core_rules.specs.Turn.{core_turn, after_turn, put_in, rest_of}
+use Rattle.core_rules.specs.Reply.{core_reply}
+use Rattle.core_rules.specs.Run.{Entry, Took, Expired, Turned, Heard, core_after, put_out, MayEnter, IsRun}
+use Rattle.core_rules.proofs.Runs.{core_holds_what_was_observed, took-out, heard-out}
+use Rattle.core_laws.proofs.Expired.{expired_is_both}
+use Rattle.core_laws.proofs.Puts.{idle-queue}
+use Rattle.world_rules.specs.declared.step.Step.{Step}
+use Rattle.world_rules.specs.declared.step.Step.TheVariants.{Edit as Edits, Take, Turn as Turns, Crash, Restart, Expire}
+use Rattle.world_rules.specs.Explaining.{Act, Shown, Lapsed, Decided, Answered, shown_of, acts_of_event, acts_of_turn, acts_of_entry, acts_of, answered, puts_of_entry, puts_of, entries_taken, entries_put, entries_turned, entries_of_step, run_along, IsRunning, IsExplained, RunsAreSafeInWorlds}
+use Rattle.world_rules.specs.Good.{IsGood}
+use Rattle.world_rules.proofs.Worlds.{starts_are_good, steps_keep_good, good-steps}
+use Rattle.world_rules.specs.Safe.{IsSafe}
+use Rattle.world_rules.specs.World.{WorldValue, lane_of, told, turned, after_turning, started, world_step, after_steps}
+
+-- ---- the same run, without what is passed over
+abbrev normal_shown : Group → Event → List Entry
+normal_shown groups.Config event = Took event ∷ []
+normal_shown groups.Service event = Took event ∷ []
+normal_shown groups.Endpoint event = []
+
+abbrev normal_event : Event → List Entry
+normal_event (Changed version object) = normal_shown (group_of (kind_of object)) (Changed version object)
+normal_event (Deleted kind key) = normal_shown (group_of kind) (Deleted kind key)
+normal_event (ListEnd group) = normal_shown group (ListEnd group)
+normal_event WatchesExpired = Expired groups.Service ∷ Expired groups.Config ∷ []
+normal_event (Members names) = []
+normal_event (Frame interface bytes) = []
+normal_event Ignored = []
+
+abbrev normal_turn : Turn → List Entry
+normal_turn Idle = []
+normal_turn (NoPut key pending) = Turned (NoPut key pending) ∷ []
+normal_turn (Wants put pending) = Turned (Wants put pending) ∷ []
+
+abbrev normal_entry : Entry → List Entry
+normal_entry (Took event) = normal_event event
+normal_entry (Expired group) = Expired group ∷ []
+normal_entry (Turned turn) = normal_turn turn
+normal_entry (Heard reply) = Heard reply ∷ []
+
+abbrev normal : List Entry → List Entry
+normal [] = []
+normal (entry ∷ earlier) = normal_entry entry ++ normal earlier
+
+-- what an entry of it is
+abbrev act_of : Entry → Act
+act_of (Took event) = Shown event
+act_of (Expired group) = Lapsed group
+act_of (Turned turn) = Decided
+act_of (Heard reply) = Answered reply
+
+shown-acts : (group : Group) (event : Event) (more : List Entry) → map act_of (normal_shown group event ++ more) ≡ shown_of group event ++ map act_of more
+shown-acts groups.Config event more = refl
+shown-acts groups.Service event more = refl
+shown-acts groups.Endpoint event more = refl
+
+event-acts : (event : Event) (more : List Entry) → map act_of (normal_event event ++ more) ≡ acts_of_event event ++ map act_of more
+event-acts (Changed version object) more = shown-acts (group_of (kind_of object)) (Changed version object) more
+event-acts (Deleted kind key) more = shown-acts (group_of kind) (Deleted kind key) more
+event-acts (ListEnd group) more = shown-acts group (ListEnd group) more
+event-acts WatchesExpired more = refl
+event-acts (Members names) more = refl
+event-acts (Frame interface bytes) more = refl
+event-acts Ignored more = refl
+
+turn-acts : (turn : Turn) (more : List Entry) → map act_of (normal_turn turn ++ more) ≡ acts_of_turn turn ++ map act_of more
+turn-acts Idle more = refl
+turn-acts (NoPut key pending) more = refl
+turn-acts (Wants put pending) more = refl
+
+entry-acts : (entry : Entry) (more : List Entry) → map act_of (normal_entry entry ++ more) ≡ acts_of_entry entry ++ map act_of more
+entry-acts (Took event) more = event-acts event more
+entry-acts (Expired group) more = refl
+entry-acts (Turned turn) more = turn-acts turn more
+entry-acts (Heard reply) more = refl
+
+acts-normal : (run : List Entry) → map act_of (normal run) ≡ acts_of run
+acts-normal [] = refl
+acts-normal (entry ∷ earlier) = entry-acts entry (normal earlier) ∙ ap (λ (acts : List Act). acts_of_entry entry ++ acts) (acts-normal earlier)
+
+-- its puts are the same
+shown-puts : (group : Group) (event : Event) (more : List Entry) → puts_of (normal_shown group event ++ more) ≡ puts_of more
+shown-puts groups.Config event more = refl
+shown-puts groups.Service event more = refl
+shown-puts groups.Endpoint event more = refl
+
+event-puts : (event : Event) (more : List Entry) → puts_of (normal_event event ++ more) ≡ puts_of more
+event-puts (Changed version object) more = shown-puts (group_of (kind_of object)) (Changed version object) more
+event-puts (Deleted kind key) more = shown-puts (group_of kind) (Deleted kind key) more
+event-puts (ListEnd group) more = shown-puts group (ListEnd group) more
+event-puts WatchesExpired more = refl
+event-puts (Members names) more = refl
+event-puts (Frame interface bytes) more = refl
+event-puts Ignored more = refl
+
+entry-puts : (entry : Entry) (more : List Entry) → puts_of (normal_entry entry ++ more) ≡ puts_of_entry entry ++ puts_of more
+entry-puts (Took event) more = event-puts event more
+entry-puts (Expired group) more = refl
+entry-puts (Turned Idle) more = refl
+entry-puts (Turned (NoPut key pending)) more = refl
+entry-puts (Turned (Wants put pending)) more = refl
+entry-puts (Heard reply) more = refl
+
+puts-normal : (run : List Entry) → puts_of (normal run) ≡ puts_of run
+puts-normal [] = refl
+puts-normal (entry ∷ earlier) = entry-puts entry (normal earlier) ∙ ap (λ (puts : List Put). puts_of_entry entry ++ puts) (puts-normal earlier)
+
+-- ---- it leads to the same core
+-- a turn that is idle changes nothing
+idle-same : (s : State) → s.out ≡ None → Idle ≡ core_turn s → after_turn s ≡ s
+idle-same s none idle =
+    let empty : s.queue ≡ [] = idle-queue s s.queue (sym idle) in
+    let rest : rest_of s.queue ≡ s.queue = ap rest_of empty ∙ sym empty in
+    let out : put_in (core_turn s) ≡ s.out = ap put_in (sym idle) ∙ sym none in
+    ap (λ (queue : List Key). record s { queue = queue; out = put_in (core_turn s) }) rest
+    ∙ ap (λ (o : Option Put). record s { queue = s.queue; out = o }) out
+
+module _ (class : Option (List ℕ)) where
+  -- a run, and the core behind it
+  abbrev LeadsTo : List Entry → State → Type 0
+  LeadsTo run s = IsRun class run × (core_after class run ≡ s)
+
+  object-leads : (version : ℕ) (object : Object) (n : List Entry) → IsRun class n → (core_after class n).out ≡ None
+      → LeadsTo (normal_event (Changed version object) ++ n) (core_take (core_after class n) (Changed version object))
+  object-leads version (objects.Service service) n is none = ((none, is), refl)
+  object-leads version (objects.Pool pool) n is none = ((none, is), refl)
+  object-leads version (objects.L2 adv) n is none = ((none, is), refl)
+  object-leads version (objects.Bgp adv) n is none = ((none, is), refl)
+  object-leads version (objects.Peer peer) n is none = ((none, is), refl)
+  object-leads version (objects.Community community) n is none = ((none, is), refl)
+  object-leads version (objects.Namespace namespace) n is none = ((none, is), refl)
+  object-leads version (objects.Node node) n is none = ((none, is), refl)
+  object-leads version (objects.Slice slice) n is none = (is, refl)
+
+  deletion-leads : (kind : Kind) (key : Key) (n : List Entry) → IsRun class n → (core_after class n).out ≡ None
+      → LeadsTo (normal_event (Deleted kind key) ++ n) (core_take (core_after class n) (Deleted kind key))
+  deletion-leads kinds.Service key n is none = ((none, is), refl)
+  deletion-leads kinds.Pool key n is none = ((none, is), refl)
+  deletion-leads kinds.L2 key n is none = ((none, is), refl)
+  deletion-leads kinds.Bgp key n is none = ((none, is), refl)
+  deletion-leads kinds.Peer key n is none = ((none, is), refl)
+  deletion-leads kinds.Community key n is none = ((none, is), refl)
+  deletion-leads kinds.Namespace key n is none = ((none, is), refl)
+  deletion-leads kinds.Node key n is none = ((none, is), refl)
+  deletion-leads kinds.Slice key n is none = (is, refl)
+
+  event-leads : (event : Event) (n : List Entry) → IsRun class n → (core_after class n).out ≡ None
+      → LeadsTo (normal_event event ++ n) (core_take (core_after class n) event)
+  event-leads (Changed version object) n is none = object-leads version object n is none
+  event-leads (Deleted kind key) n is none = deletion-leads kind key n is none
+  event-leads (ListEnd groups.Config) n is none = ((none, is), refl)
+  event-leads (ListEnd groups.Service) n is none = ((none, is), refl)
+  event-leads (ListEnd groups.Endpoint) n is none = (is, refl)
+  event-leads WatchesExpired n is none = ((none, (none, is)), sym (expired_is_both class n is))
+  event-leads (Members names) n is none = (is, refl)
+  event-leads (Frame interface bytes) n is none = (is, refl)
+  event-leads Ignored n is none = (is, refl)
+
+  turn-leads : (turn : Turn) (n : List Entry) → IsRun class n → (core_after class n).out ≡ None → turn ≡ core_turn (core_after class n)
+      → LeadsTo (normal_turn turn ++ n) (after_turn (core_after class n))
+  turn-leads Idle n is none e = (is, sym (idle-same (core_after class n) none e))
+  turn-leads (NoPut key pending) n is none e = (((none, e), is), refl)
+  turn-leads (Wants put pending) n is none e = (((none, e), is), refl)
+
+  normal-leads : (run : List Entry) → IsRun class run → LeadsTo (normal run) (core_after class run)
+  normal-leads [] is = (tt, refl)
+  normal-leads (Took event ∷ earlier) is =
+      let ih = normal-leads earlier is.1 in
+      let here = event-leads event (normal earlier) ih.0 (ap (λ (s : State). s.out) ih.1 ∙ is.0) in
+      (here.0, here.1 ∙ ap (λ (s : State). core_take s event) ih.1)
+  normal-leads (Expired group ∷ earlier) is =
+      let ih = normal-leads earlier is.1 in
+      ((ap (λ (s : State). s.out) ih.1 ∙ is.0, ih.0), ap (λ (s : State). core_expired s group) ih.1)
+  normal-leads (Turned turn ∷ earlier) is =
+      let ih = normal-leads earlier is.1 in
+      let here = turn-leads turn (normal earlier) ih.0 (ap (λ (s : State). s.out) ih.1 ∙ is.0.0) (is.0.1 ∙ ap core_turn (sym ih.1)) in
+      (here.0, here.1 ∙ ap after_turn ih.1)
+  normal-leads (Heard reply ∷ earlier) is =
+      let ih = normal-leads earlier is.1 in
+      ((ap (λ (s : State). is_some s.out) ih.1 ∙ is.0, ih.0), ap (λ (s : State). core_reply s reply) ih.1)
+
+  -- ---- what happens decides the run
+  same-entry : (x y : Entry) (s : State) → MayEnter x s → MayEnter y s → act_of x ≡ act_of y → x ≡ y
+  same-entry (Took event) (Took other) s p q e = let same : event ≡ other = cc in ap Took same
+  same-entry (Took event) (Expired group) s p q e = absurd (cc)
+  same-entry (Took event) (Turned turn) s p q e = absurd (cc)
+  same-entry (Took event) (Heard reply) s p q e = absurd (cc)
+  same-entry (Expired group) (Took event) s p q e = absurd (cc)
+  same-entry (Expired group) (Expired other) s p q e = let same : group ≡ other = cc in ap Expired same
+  same-entry (Expired group) (Turned turn) s p q e = absurd (cc)
+  same-entry (Expired group) (Heard reply) s p q e = absurd (cc)
+  same-entry (Turned turn) (Took event) s p q e = absurd (cc)
+  same-entry (Turned turn) (Expired group) s p q e = absurd (cc)
+  same-entry (Turned turn) (Turned other) s p q e = ap Turned (p.1 ∙ sym q.1)
+  same-entry (Turned turn) (Heard reply) s p q e = absurd (cc)
+  same-entry (Heard reply) (Took event) s p q e = absurd (cc)
+  same-entry (Heard reply) (Expired group) s p q e = absurd (cc)
+  same-entry (Heard reply) (Turned turn) s p q e = absurd (cc)
+  same-entry (Heard reply) (Heard other) s p q e = let same : reply ≡ other = cc in ap Heard same
+
+  same-runs : (n m : List Entry) → IsRun class n → IsRun class m → map act_of n ≡ map act_of m → n ≡ m
+  same-runs [] [] p q e = refl
+  same-runs [] (y ∷ m) p q e = absurd (cc)
+  same-runs (x ∷ n) [] p q e = absurd (cc)
+  same-runs (x ∷ n) (y ∷ m) p q e =
+      let tails : map act_of n ≡ map act_of m = cc in
+      let heads : act_of x ≡ act_of y = cc in
+      let rest : n ≡ m = same-runs n m p.1 q.1 tails in
+      let may : MayEnter x (core_after class m) = subst (λ (r : List Entry). MayEnter x (core_after class r)) rest p.0 in
+      let first : x ≡ y = same-entry x y (core_after class m) may q.0 heads in
+      ap (λ (z : Entry). z ∷ n) first ∙ ap (λ (r : List Entry). y ∷ r) rest
+
+  -- ---- the run of a world's core
+  pub record GoesThrough (w : WorldValue) (run : List Entry) : Type 0 where
+    pub class_is : w.class ≡ class
+    pub is : IsRun class run
+    pub core : w.core ≡ Some (core_after class run)
+    pub none : (core_after class run).out ≡ None
+
+  taken-through : (lane : List Event) (run : List Entry) → IsRun class run → (core_after class run).out ≡ None
+      → IsRun class (entries_taken (Some (core_after class run)) lane ++ run)
+      × (told (Some (core_after class run)) lane ≡ Some (core_after class (entries_taken (Some (core_after class run)) lane ++ run)))
+      × ((core_after class (entries_taken (Some (core_after class run)) lane ++ run)).out ≡ None)
+  taken-through [] run is none = (is, refl, none)
+  taken-through (event ∷ more) run is none = ((none, is), refl, took-out (core_after class run) event ∙ none)
+
+  take-through : (group : Group) (w : WorldValue) (run : List Entry) → GoesThrough w run → GoesThrough (world_step (Take group) w) (entries_taken w.core (lane_of group w) ++ run)
+  take-through groups.Config w run g =
+      let t = taken-through w.config_lane run g.is g.none in
+      record { class_is = g.class_is; is = rw g.core t.0; core = rw g.core t.1; none = rw g.core t.2 }
+  take-through groups.Service w run g =
+      let t = taken-through w.service_lane run g.is g.none in
+      record { class_is = g.class_is; is = rw g.core t.0; core = rw g.core t.1; none = rw g.core t.2 }
+  take-through groups.Endpoint w run g =
+      let t = taken-through [] run g.is g.none in
+      record { class_is = g.class_is; is = rw g.core t.0; core = rw g.core refl; none = rw g.core t.2 }
+
+  put-through : (p : Option Put) (outcome : Outcome) (w : WorldValue) (run : List Entry) → p ≡ put_in (core_turn (core_after class run)) → GoesThrough w run
+      → GoesThrough (turned (after_turn (core_after class run)) p outcome w) ((entries_put p outcome w.store ++ Turned (core_turn (core_after class run)) ∷ []) ++ run)
+  put-through None outcome w run e g = record { class_is = g.class_is; is = ((g.none, refl), g.is); core = refl; none = sym e }
+  put-through (Some put) outcome w run e g =
+      let s = core_after class run in
+      let out : is_some (after_turn s).out ≡ true = ap is_some (sym e) in
+      record {
+        class_is = g.class_is;
+        is = (out, ((g.none, refl), g.is));
+        core = refl;
+        none = heard-out (after_turn s).out (reply_to put outcome w.store) (after_turn s) out;
+      }
+
+  turn-through : (outcome : Outcome) (w : WorldValue) (run : List Entry) → GoesThrough w run → GoesThrough (world_step (Turns outcome) w) (entries_turned w.core outcome w.store ++ run)
+  turn-through outcome w run g =
+      subst (λ (c : Option State). GoesThrough (after_turning c outcome w) (entries_turned c outcome w.store ++ run)) (sym g.core)
+      (put-through (put_in (core_turn (core_after class run))) outcome w run refl g)
+
+  step-through : (step : Step) (w : WorldValue) (run : List Entry) → IsRunning step → GoesThrough w run → GoesThrough (world_step step w) (entries_of_step step w ++ run)
+  step-through (Edits edit) w run r g = record { class_is = g.class_is; is = g.is; core = g.core; none = g.none }
+  step-through (Take group) w run r g = take-through group w run g
+  step-through (Turns outcome) w run r g = turn-through outcome w run g
+  step-through (Crash applied) w run r g = absurd r
+  step-through Restart w run r g = absurd r
+  step-through (Expire group) w run r g =
+      record { class_is = g.class_is; is = rw g.core (g.none, g.is); core = rw g.core refl; none = rw g.core g.none }
+
+  steps-through : (steps : List Step) (w : WorldValue) (run : List Entry) → AllByRecursion IsRunning steps → GoesThrough w run → GoesThrough (after_steps steps w) (run_along steps w run)
+  steps-through [] w run all g = g
+  steps-through (step ∷ steps) w run all g = steps-through steps (world_step step w) (entries_of_step step w ++ run) all.1 (step-through step w run all.0 g)
+
+  -- ---- a world that explains a run
+  answered-run : (run : List Entry) → IsRun class run → IsRun class (answered run)
+  answered-run [] is = is
+  answered-run (Took event ∷ earlier) is = is
+  answered-run (Expired group ∷ earlier) is = is
+  answered-run (Turned Idle ∷ earlier) is = is
+  answered-run (Turned (NoPut key pending) ∷ earlier) is = is
+  answered-run (Turned (Wants put pending) ∷ earlier) is = is.1
+  answered-run (Heard reply ∷ earlier) is = is
+
+  none-out : (run : List Entry) → IsRun class run → (core_after class run).out ≡ None → put_out run ≡ None
+  none-out run is none = sym (core_holds_what_was_observed class run is).1 ∙ none
+
+  -- no put is out
+  calm : (w : WorldValue) (along run : List Entry) → w.core ≡ Some (core_after class run) → puts_of along ≡ puts_of run → answered run ≡ run → IsSafe w.store → put_out run ≡ None
+      → IsExplained class w along run
+  calm w along run core puts same safe none =
+      record {
+        puts = puts ∙ ap puts_of (sym same);
+        core = λ out. core;
+        about = λ put out. (let no : Some put ≡ None = sym out ∙ none in absurd (cc no));
+        safe = safe;
+        last = λ put out outcome. (let no : Some put ≡ None = sym out ∙ none in absurd (cc no));
+      }
+
+  -- the store behind a turn that wants a put
+  turned-store : (c : Option State) (s : State) (put : Put) (outcome : Outcome) (w : WorldValue) → c ≡ Some s → put_in (core_turn s) ≡ Some put → (after_turning c outcome w).store ≡ after_put put outcome w.store
+  turned-store c s put outcome w up wants = rw (up, wants) refl
+
+  -- a put is out
+  about-put : (w : WorldValue) (along earlier : List Entry) (put : Put) → w.core ≡ Some (core_after class earlier) → puts_of along ≡ puts_of earlier → IsGood w
+      → (turn : Turn) → turn ≡ core_turn (core_after class earlier) → put_in turn ≡ Some put → answered (Turned turn ∷ earlier) ≡ earlier
+      → IsExplained class w along (Turned turn ∷ earlier)
+  about-put w along earlier put core puts good turn is wants same =
+      let s = core_after class earlier in
+      let turns : (other : Put) → put_in turn ≡ Some other → put_in (core_turn s) ≡ Some other = λ other out. ap put_in (sym is) ∙ out in
+      record {
+        puts = puts ∙ ap puts_of (sym same);
+        core = λ out. (let no : Some put ≡ None = sym wants ∙ out in absurd (cc no));
+        about = λ other out. record { state = s; up = core; wants = turns other out; then = refl };
+        safe = good.stored.safe;
+        last = λ other out outcome. subst IsSafe (turned-store w.core s other outcome w core (turns other out)) (steps_keep_good w (Turns outcome) tt good).stored.safe;
+      }
+
+  explains : (w : WorldValue) (along run : List Entry) → IsRun class run → w.core ≡ Some (core_after class (answered run)) → puts_of along ≡ puts_of (answered run) → IsGood w
+      → IsExplained class w along run
+  explains w along [] is core puts good = calm w along [] core puts refl good.stored.safe refl
+  explains w along (Took event ∷ earlier) is core puts good = calm w along (Took event ∷ earlier) core puts refl good.stored.safe (none-out earlier is.1 is.0)
+  explains w along (Expired group ∷ earlier) is core puts good = calm w along (Expired group ∷ earlier) core puts refl good.stored.safe (none-out earlier is.1 is.0)
+  explains w along (Turned Idle ∷ earlier) is core puts good = calm w along (Turned Idle ∷ earlier) core puts refl good.stored.safe refl
+  explains w along (Turned (NoPut key pending) ∷ earlier) is core puts good = calm w along (Turned (NoPut key pending) ∷ earlier) core puts refl good.stored.safe refl
+  explains w along (Turned (Wants put pending) ∷ earlier) is core puts good = about-put w along earlier put core puts good (Wants put pending) is.0.1 refl refl
+  explains w along (Heard reply ∷ earlier) is core puts good = calm w along (Heard reply ∷ earlier) core puts refl good.stored.safe refl
+
+pub runs_are_safe_in_worlds : RunsAreSafeInWorlds
+runs_are_safe_in_worlds class run is store steps ex =
+    let w0 = started class store in
+    let along = run_along steps w0 [] in
+    let good : IsGood (after_steps steps w0) = good-steps steps w0 ex.typed (starts_are_good class store ex.good) in
+    let led : GoesThrough class (after_steps steps w0) along = steps-through class steps w0 [] ex.running (record { class_is = refl; is = tt; core = refl; none = refl }) in
+    let mine = normal-leads class along led.is in
+    let theirs = normal-leads class (answered run) (answered-run class run is) in
+    let acts : map act_of (normal along) ≡ map act_of (normal (answered run)) = acts-normal along ∙ ex.same ∙ sym (acts-normal (answered run)) in
+    let same : normal along ≡ normal (answered run) = same-runs class (normal along) (normal (answered run)) mine.0 theirs.0 acts in
+    let cores : core_after class along ≡ core_after class (answered run) = sym mine.1 ∙ ap (core_after class) same ∙ theirs.1 in
+    let puts : puts_of along ≡ puts_of (answered run) = sym (puts-normal along) ∙ ap puts_of same ∙ puts-normal (answered run) in
+    explains class (after_steps steps w0) along run is (led.core ∙ ap Some cores) puts good

@@ -1,0 +1,167 @@
+-- What is pending: what it is for each service, and whose list it is of.
+use Rattle.std.proofs.Common.{◌≡◌, ℕ, ◌≤◌, Bool, true, false, cond, List, [], ◌∷◌, ◌++◌, map, filter, Option, Some, None, option_map, is_eq, Less, refl, sym, ap, subst, ◌∙◌, append-nil, append_assoc, arith}
+use Rattle.std.specs.List.{AllByRecursion}
+use Rattle.std.specs.List.Sorted.{IsStrictlySortedBy}
+use Rattle.kube_model.specs.declared.event.Event.{Event}
+use Rattle.kube_model.specs.declared.event.Event.TheVariants.{ListEnd}
+use Rattle.kube_model.specs.declared.event.Group.{Group}
+use Rattle.kube_model.specs.declared.event.Group.TheVariants as groups
+use Rattle.kube_model.specs.declared.key.Key.{Key}
+use Rattle.kube_model.specs.declared.object.Object.{Object}
+use Rattle.kube_model.specs.declared.object.Object.TheVariants as objects
+use Rattle.kube_model.specs.declared.record.Record.{Record}
+use Rattle.kube_model.specs.declared.service.Service.{Service}
+use Rattle.kube_model.specs.Keys.{key_cmp, same_key}
+use Rattle.kube_model.specs.Kinds.{kind_of, group_of}
+use Rattle.kube_model.proofs.KeyLaws.{same_key-is, same_key-flip, is_eq-key_cmp}
+use Rattle.object_history.specs.Observations.{same_group}
+use Rattle.object_history.proofs.Cached.{same_group-is}
+use Rattle.status_store.specs.declared.stored.Stored.{Stored}
+use Rattle.status_store.specs.Places.{Place, place_of, place_cmp, service_at}
+use Rattle.status_store.specs.Objects.{IsAscending, AreCounted, places_of, is_of, stored_at}
+use Rattle.status_store.specs.Changes.{StoreValue}
+use Rattle.world_rules.specs.Sight.{Shown, News, Shows, End, IsBehind, IsTracked, version_at}
+use Rattle.world_rules.specs.Safe.{HasTerms}
+use Rattle.world_rules.specs.World.{as_shown, is_of_group, listing, to_lane}
+use Rattle.world_rules.specs.Good.{stored_as, stored_of, news_of, news_in, IsOfGroup, ShowsTerms}
+use Rattle.world_rules.proofs.Tracking.{listed_news}
+
+-- what holds of all of two lists holds of all of both together
+pub all-append : {X : Type 0} (P : X → Type 0) (xs ys : List X) → AllByRecursion P xs → AllByRecursion P ys → AllByRecursion P (xs ++ ys)
+all-append P [] ys all more = more
+all-append P (x ∷ xs) ys all more = (all.0, all-append P xs ys all.1 more)
+
+-- one list or the other
+pub all-either : {X : Type 0} (b : Bool) (P : X → Type 0) (xs ys : List X) → AllByRecursion P xs → AllByRecursion P ys → AllByRecursion P (cond b xs ys)
+all-either true P xs ys all others = all
+all-either false P xs ys all others = others
+
+-- ---- what is pending of a service
+pub news_in-append : (key : Key) (xs ys : List Event) → news_in key (xs ++ ys) ≡ news_in key xs ++ news_in key ys
+news_in-append key [] ys = refl
+news_in-append key (x ∷ xs) ys =
+    ap (λ (ns : List News). news_of key x ++ ns) (news_in-append key xs ys) ∙ sym (append_assoc (news_of key x) (news_in key xs) (news_in key ys))
+
+-- one event more
+pub news_in-push : (key : Key) (xs : List Event) (x : Event) → news_in key (xs ++ x ∷ []) ≡ news_in key xs ++ news_of key x
+news_in-push key xs x = news_in-append key xs (x ∷ []) ∙ ap (λ (ns : List News). news_in key xs ++ ns) (append-nil (news_of key x))
+
+-- one that is followed is followed in other words
+pub tracked-as : {n : ℕ} {ended : Bool} {s h : Option Shown} {claims : List Record} {news : List News} (s' h' : Option Shown) (claims' : List Record) (news' : List News)
+    → s' ≡ s → h' ≡ h → claims' ≡ claims → news' ≡ news → IsTracked n ended s h claims news → IsTracked n ended s' h' claims' news'
+tracked-as {n} {ended} {s} {h} {claims} {news} s' h' claims' news' a b c d t =
+    subst (λ (x : Option Shown). IsTracked n ended x h' claims' news') (sym a)
+    (subst (λ (x : Option Shown). IsTracked n ended s x claims' news') (sym b)
+    (subst (λ (x : List Record). IsTracked n ended s h x news') (sym c)
+    (subst (λ (x : List News). IsTracked n ended s h claims x) (sym d) t)))
+
+-- ---- what is stored of a service, and what its list shows
+counted_by : (b : Bool) (n : ℕ) (held : Stored) (rest : Option Stored) → (1 ≤ held.version) × (held.version ≤ n)
+    → (version_at (option_map stored_as rest) ≤ n) × IsBehind (option_map stored_as rest) 0
+    → (version_at (option_map stored_as (cond b (Some held) rest)) ≤ n) × IsBehind (option_map stored_as (cond b (Some held) rest)) 0
+counted_by true n held rest here later = (here.1, here.0)
+counted_by false n held rest here later = later
+
+-- a stored version is from 1 to the counter
+pub counted-at : (n : ℕ) (objects : List Stored) (place : Place) → AreCounted n objects
+    → (version_at (option_map stored_as (stored_at objects place)) ≤ n) × IsBehind (option_map stored_as (stored_at objects place)) 0
+counted-at n [] place all = (omega arith, tt)
+counted-at n (held ∷ more) place all = counted_by (is_of place held) n held (stored_at more place) all.0 (counted-at n more place all.1)
+
+-- nothing stands at a place that is below each
+none-later : (more : List Stored) (place : Place) → AllByRecursion (λ other. place_cmp place other ≡ Less) (places_of more) → stored_at more place ≡ None
+none-later [] place all = refl
+none-later (held ∷ more) place all =
+    let other : is_of place held ≡ false = ap is_eq all.0 in
+    ap (λ (b : Bool). cond b (Some held) (stored_at more place)) other ∙ none-later more place all.1
+
+abbrev one_news : Option Stored → List News
+one_news None = []
+one_news (Some held) = Shows (stored_as held) ∷ []
+
+abbrev shows_each : List Stored → List Event
+shows_each held = map as_shown (filter (is_of_group groups.Service) held)
+
+-- the service itself, or another
+listed_by : (b : Bool) (version : ℕ) (service : Service) (more : List Stored) (key : Key) → b ≡ same_key service.key key
+    → (b ≡ true → stored_at more (service_at key) ≡ None) → news_in key (shows_each more) ≡ one_news (stored_at more (service_at key))
+    → cond b (Shows (record { version = version; holding = service.holding }) ∷ []) [] ++ news_in key (shows_each more)
+    ≡ one_news (cond b (Some (record { version = version; object = objects.Service service })) (stored_at more (service_at key)))
+listed_by true version service more key e none ih =
+    ap (λ (ns : List News). Shows (record { version = version; holding = service.holding }) ∷ ns) (ih ∙ ap one_news (none refl))
+listed_by false version service more key e none ih = ih
+
+pub here-same : (key other : Key) → is_eq (key_cmp key other) ≡ same_key other key
+here-same key other = is_eq-key_cmp key other ∙ same_key-flip key other
+
+listed-object : (object : Object) (version : ℕ) (more : List Stored) (key : Key)
+    → AllByRecursion (λ other. place_cmp (place_of object) other ≡ Less) (places_of more)
+    → news_in key (shows_each more) ≡ one_news (stored_at more (service_at key))
+    → (let held : Stored = record { version = version; object = object } in news_in key (shows_each (held ∷ more)) ≡ one_news (stored_at (held ∷ more) (service_at key)))
+listed-object (objects.Service service) version more key below ih =
+    let held : Stored = record { version = version; object = objects.Service service } in
+    listed_by (same_key service.key key) version service more key refl
+    (λ same. none-later more (service_at key) (subst (λ k. AllByRecursion (λ other. place_cmp (service_at k) other ≡ Less) (places_of more)) (same_key-is service.key key same) below)) ih
+    ∙ ap (λ (b : Bool). one_news (cond b (Some held) (stored_at more (service_at key)))) (sym (here-same key service.key))
+listed-object (objects.Pool pool) version more key below ih = ih
+listed-object (objects.L2 adv) version more key below ih = ih
+listed-object (objects.Bgp adv) version more key below ih = ih
+listed-object (objects.Peer peer) version more key below ih = ih
+listed-object (objects.Community community) version more key below ih = ih
+listed-object (objects.Namespace namespace) version more key below ih = ih
+listed-object (objects.Node node) version more key below ih = ih
+listed-object (objects.Slice slice) version more key below ih = ih
+
+news-shown : (held : List Stored) (key : Key) → IsAscending held → news_in key (shows_each held) ≡ one_news (stored_at held (service_at key))
+unfolding IsStrictlySortedBy
+news-shown [] key s = refl
+news-shown (held ∷ more) key s = listed-object held.object held.version more key s.0 (news-shown more key s.1)
+
+ended_list : (found : Option Stored) → one_news found ++ End ∷ [] ≡ listed_news (option_map stored_as found)
+ended_list None = refl
+ended_list (Some held) = refl
+
+-- the list of the services shows each as it is stored, and ends
+pub news-listing : (store : StoreValue) (key : Key) → IsAscending store.objects → news_in key (listing groups.Service store) ≡ listed_news (stored_of store key)
+news-listing store key s =
+    news_in-push key (shows_each store.objects) (ListEnd groups.Service)
+    ∙ ap (λ (ns : List News). ns ++ End ∷ []) (news-shown store.objects key s)
+    ∙ ended_list (stored_at store.objects (service_at key))
+
+-- ---- whose list it is of
+of_by : (b : Bool) (group : Group) (held : Stored) (rest : List Stored) → b ≡ is_of_group group held
+    → AllByRecursion (IsOfGroup group) (map as_shown rest) → AllByRecursion (IsOfGroup group) (map as_shown (cond b (held ∷ rest) rest))
+of_by true group held rest e all = (same_group-is (group_of (kind_of held.object)) group (sym e), all)
+of_by false group held rest e all = all
+
+of-each : (group : Group) (held : List Stored) → AllByRecursion (IsOfGroup group) (map as_shown (filter (is_of_group group) held))
+of-each group [] = tt
+of-each group (held ∷ more) = of_by (is_of_group group held) group held (filter (is_of_group group) more) refl (of-each group more)
+
+pub of-listing : (group : Group) (store : StoreValue) → AllByRecursion (IsOfGroup group) (listing group store)
+of-listing group store =
+    all-append (IsOfGroup group) (map as_shown (filter (is_of_group group) store.objects)) (ListEnd group ∷ []) (of-each group store.objects) (refl, tt)
+
+typed_by : (b : Bool) (held : Stored) (rest : List Stored) → HasTerms held.object
+    → AllByRecursion ShowsTerms (map as_shown rest) → AllByRecursion ShowsTerms (map as_shown (cond b (held ∷ rest) rest))
+typed_by true held rest t all = (t, all)
+typed_by false held rest t all = all
+
+typed-each : (group : Group) (held : List Stored) → AllByRecursion (λ (x : Stored). HasTerms x.object) held → AllByRecursion ShowsTerms (map as_shown (filter (is_of_group group) held))
+typed-each group [] all = tt
+typed-each group (held ∷ more) all = typed_by (is_of_group group held) held (filter (is_of_group group) more) all.0 (typed-each group more all.1)
+
+pub typed-listing : (group : Group) (store : StoreValue) → AllByRecursion (λ (x : Stored). HasTerms x.object) store.objects → AllByRecursion ShowsTerms (listing group store)
+typed-listing group store all =
+    all-append ShowsTerms (map as_shown (filter (is_of_group group) store.objects)) (ListEnd group ∷ []) (typed-each group store.objects all) (tt, tt)
+
+to_by : (b : Bool) (lane group : Group) (events : List Event) → (b ≡ true → group ≡ lane) → AllByRecursion (IsOfGroup group) events → AllByRecursion (IsOfGroup lane) (cond b events [])
+to_by true lane group events same all = subst (λ g. AllByRecursion (IsOfGroup g) events) (same refl) all
+to_by false lane group events same all = tt
+
+-- what goes to a lane is of its group
+pub of-lane : (lane group : Group) (events : List Event) → AllByRecursion (IsOfGroup group) events → AllByRecursion (IsOfGroup lane) (to_lane lane group events)
+of-lane lane group events all = to_by (same_group group lane) lane group events (same_group-is group lane) all
+
+pub all-lane : (P : Event → Type 0) (lane group : Group) (events : List Event) → AllByRecursion P events → AllByRecursion P (to_lane lane group events)
+all-lane P lane group events all = all-either (same_group group lane) P events [] all tt

@@ -1,0 +1,12 @@
+pub mod Sights
+pub mod Tracking
+pub mod Lanes
+pub mod ConfigEnds
+pub mod Storing
+pub mod Edits
+pub mod Takes
+pub mod Turns
+pub mod Worlds
+pub mod Rows
+pub mod Places
+pub mod Explaining

@@ -1,0 +1,8 @@
+//! The world of a controller: a store that others edit, what of it is still to be shown, and a core that may stop.
+#![tactic(auto)]
+
+mod laws;
+mod step;
+
+pub use laws::{runs_are_safe_in_worlds, worlds_are_in_order, worlds_are_safe};
+pub use step::{Step, StepFault};

@@ -1,0 +1,47 @@
+//! What happens in a world.
+
+use kube_model::Group;
+use mlb_base::NoMemory;
+use status_store::{Edit, Outcome};
+use thiserror::Error;
+
+/// What happens next.
+#[derive(Drop)]
+pub enum Step {
+    /// Somebody changes an object of the cluster.
+    Edit { edit: Edit },
+    /// The controller takes the next event of a lane.
+    Take { group: Group },
+    /// The controller makes a turn. Where it wants a put, the put goes so, and its reply is heard.
+    Turn { outcome: Outcome },
+    /// The controller stops. The put that its next turn would want has reached the store, if it is applied.
+    Crash { applied: bool },
+    /// The controller is started anew, and is shown the lists of what is stored.
+    Restart,
+    /// The watch of a lane expires: what was pending in it is lost, and the list of what is stored is shown anew.
+    Expire { group: Group },
+}
+
+/// Why a step isn't made.
+#[derive(Clone, Copy, Debug, PartialEq, Eq, Error)]
+pub enum StepFault {
+    /// There is no such step in this state.
+    #[error("there is no such step in this state")]
+    NotEnabled,
+    /// One service more would be held than may be, or the versions are used up.
+    #[error("a limit is passed")]
+    Limit,
+    #[error("out of memory")]
+    NoMemory,
+}
+
+impl From<NoMemory> for StepFault {
+    ghost use Rattle.std.specs.Prelude.{◌≡◌};
+    ghost use Rattle.world_rules.specs.declared.step.StepFault.TheVariants.{NoMemory as Memory};
+
+    ghost from_gives = { λ _ e. e ≡ Memory };
+
+    fn from(_refused: NoMemory) -> StepFault {
+        StepFault::NoMemory
+    }
+}

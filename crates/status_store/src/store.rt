@@ -1,8 +1,9 @@
 //! The store of a cluster's objects.
-ghost use Rattle.std.specs.Prelude.{◌≡◌, ◌↔◌, ◌<◌, ◌+◌, ◌-◌, ◌^◌, ℕ, false, IfOk, IfErr, OnOk, OnErr, IsTrue, if◌then◌else◌};
+ghost use Rattle.std.specs.Prelude.{◌≡◌, ◌↔◌, ◌<◌, ◌+◌, ◌-◌, ◌^◌, ℕ, false, IfOk, IfErr, IfSome, IfNone, OnOk, OnErr, IsTrue, if◌then◌else◌};
 ghost use Rattle.std.specs.List.{slice_index_or};
+ghost use Rattle.std.specs.Option.{option_copied};
 ghost use Rattle.status_store.specs.Places.{place_of, service_at};
-ghost use Rattle.status_store.specs.Objects.{IsAbsent, SameElsewhere, IsAscending, AreCounted, IsAt, IsGapFor};
+ghost use Rattle.status_store.specs.Objects.{IsStored, IsAbsent, SameElsewhere, IsAscending, AreCounted, IsAt, IsGapFor, stored_at};
 ghost use Rattle.status_store.specs.Changes.{IsKept, empty_store, SetsObject, OnSet, OnDelete, DeletesNothing, edited_place, is_change, edited, IsLost, arrives, IsCurrent, IsOutdated, IsMade, RecordsPut, after_put, reply_to};
 
 use crate::change::{Edit, Outcome};
@@ -61,6 +62,20 @@ impl Store {
         ensures { result ≡ self.now.counter }
     {
         self.counter
+    }
+
+    /// What is stored of this kind and key.
+    pub fn get(&self, kind: Kind, key: &Key) -> Option<&Stored>
+        ensures stored { IfSome result (λ held. IsStored self.now.objects (kind, key.now) held.now) }
+        ensures absent { IfNone result (IsAbsent self.now.objects (kind, key.now)) }
+
+        // The same as one function.
+        ensures value { option_copied result ≡ stored_at self.now.objects (kind, key.now) }
+    {
+        match self.place(kind, key.namespace.as_str(), key.name.as_str()) {
+            Ok(at) => Some(&self.objects.as_slice()[at]),
+            Err(_) => None,
+        }
     }
 
     /// Makes the change, which takes the next version. A service keeps the record that is stored, whatever the one that is

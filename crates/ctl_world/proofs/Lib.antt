@@ -1,0 +1,4 @@
+pub mod Enabled
+pub mod Filled
+pub mod Refused
+pub mod TermLaws

@@ -1,0 +1,30 @@
+-- A store that was just filled.
+use Rattle.std.specs.Prelude.{◌≡◌, ◌≢◌, ◌+◌, ℕ, List, [], ◌∷◌, length, ⊤}
+use Rattle.std.specs.List.{Contains, AllByRecursion}
+use Rattle.kube_model.specs.declared.object.Object.{Object}
+use Rattle.kube_model.specs.Records.{empty_record}
+use Rattle.status_store.specs.declared.stored.Stored.{Stored}
+use Rattle.status_store.specs.Places.{place_of}
+use Rattle.status_store.specs.Objects.{IsStored}
+use Rattle.status_store.specs.Changes.{StoreValue, with_record}
+
+-- no two of the objects have one kind and key
+abbrev pub AreApart : List Object → Type 0
+AreApart [] = ⊤
+AreApart (object ∷ more) = AllByRecursion (λ other. place_of other ≢ place_of object) more × AreApart more
+
+-- the object as it is first stored, at this version: a service has an empty record
+abbrev pub first_stored : ℕ → Object → Stored
+first_stored version object = record { version = version; object = with_record empty_record object }
+
+-- each object is stored so, at its place in the list, behind so many others
+abbrev pub AreFirstStored : ℕ → List Object → StoreValue → Type 0
+AreFirstStored before [] store = ⊤
+AreFirstStored before (object ∷ more) store =
+    IsStored store.objects (place_of object) (first_stored (before + 1) object) × AreFirstStored (before + 1) more store
+
+-- The store has the objects, at the versions 1, 2 and so on in their order, and no others.
+pub record IsFilled (objects : List Object) (store : StoreValue) : Type 0 where
+  pub stored : AreFirstStored 0 objects store
+  pub only : (held : Stored) → Contains store.objects held → (object : Object) × Contains objects object × (place_of held.object ≡ place_of object)
+  pub counter : store.counter ≡ length objects

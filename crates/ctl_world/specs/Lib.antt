@@ -1,0 +1,5 @@
+pub mod Steps
+pub mod Listed
+pub mod Puts
+pub mod Faults
+pub mod Begun

@@ -1,0 +1,17 @@
+//! The world of a controller, in code: a store that others edit, what of it is still to be shown, and a core that may stop. It is
+//! made one step at a time, and no two services of its store are ever recorded with one address, unless they share it.
+#![tactic(auto)]
+
+mod edits;
+mod lanes;
+mod puts;
+mod starts;
+mod state;
+mod takes;
+mod terms;
+mod world;
+
+pub use status_store::{Edit, Outcome, Store};
+pub use terms::has_terms;
+pub use world::World;
+pub use world_rules::{Step, StepFault};

@@ -1,0 +1,108 @@
+//! What a world is made of, and which steps there are in it.
+ghost use Rattle.std.specs.Prelude.{◌≡◌, ◌<◌, ◌-◌, ◌^◌, false, IsTrue};
+ghost use Rattle.ctl_world.specs.Steps.{is_enabled, is_used_up, makes_change, has_event, has_lane, has_turn, takes_version};
+
+use ctl_core::Core;
+use kube_labels::Text;
+use kube_model::{Event, Group};
+use status_store::{Edit, Store};
+use std::alloc::Global;
+use std::collections::VecDeque;
+use std::marker::Model;
+use world_rules::Step;
+
+/// A store, what of it is still to be shown to the controller, and the controller's core while it is up.
+#[derive(Drop)]
+pub(crate) struct WorldState {
+    pub(crate) alloc: Global,
+    pub(crate) class: Option<Text>,
+    pub(crate) store: Store,
+    pub(crate) config_lane: VecDeque<Event>,
+    pub(crate) service_lane: VecDeque<Event>,
+    pub(crate) core: Option<Core>,
+}
+
+impl Model for WorldState {
+    ghost use Rattle.world_rules.specs.World.{WorldValue};
+
+    ghost Value = { WorldValue };
+
+    ghost view = { λ w. record {
+      class = w.class;
+      store = w.store;
+      config_lane = w.config_lane.items;
+      service_lane = w.service_lane.items;
+      core = w.core;
+    } };
+}
+
+impl WorldState {
+    /// Whether there is such a step.
+    pub(crate) fn is_enabled(&self, step: &Step) -> bool
+        ensures { result ≡ is_enabled step.now self.now }
+    {
+        match step {
+            Step::Edit { edit } => self.makes_change(edit),
+            Step::Take { group } => self.core.is_some() && self.has_event(*group),
+            Step::Turn { .. } => self.has_turn(),
+            Step::Crash { .. } => self.core.is_some(),
+            Step::Restart => self.core.is_none(),
+            Step::Expire { group } => self.core.is_some() && has_lane(*group),
+        }
+    }
+
+    fn makes_change(&self, edit: &Edit) -> bool
+        ensures { result ≡ makes_change edit.now self.now }
+    {
+        match edit {
+            Edit::Set { .. } => true,
+            Edit::Delete { kind, key } => self.store.get(*kind, key).is_some(),
+        }
+    }
+
+    fn has_event(&self, group: Group) -> bool
+        ensures { result ≡ has_event group self.now }
+    {
+        match group {
+            Group::Config => !self.config_lane.is_empty(),
+            Group::Service => !self.service_lane.is_empty(),
+            Group::Endpoint => false,
+        }
+    }
+
+    fn has_turn(&self) -> bool
+        ensures { result ≡ has_turn self.now.core }
+    {
+        match &self.core {
+            None => false,
+            Some(core) => core.has_turn(),
+        }
+    }
+
+    /// Whether the step would take a version, and every version has been given.
+    pub(crate) fn is_used_up(&self, step: &Step) -> bool
+        ensures value { result ≡ is_used_up step.now self.now }
+        ensures room { result ≡ false → IsTrue (takes_version step.now) → self.now.store.counter < 2 ^ 64 - 1 }
+    {
+        takes_version(step) && self.store.counter() == u64::MAX
+    }
+}
+
+fn has_lane(group: Group) -> bool
+    ensures { result ≡ has_lane group }
+{
+    match group {
+        Group::Config | Group::Service => true,
+        Group::Endpoint => false,
+    }
+}
+
+fn takes_version(step: &Step) -> bool
+    ensures { result ≡ takes_version step.now }
+{
+    match step {
+        Step::Edit { .. } | Step::Turn { .. } => true,
+        Step::Crash { applied } => *applied,
+        Step::Take { .. } | Step::Restart | Step::Expire { .. } => false,
+    }
+}

@@ -1,0 +1,68 @@
+-- Which nodes are eligible for an address.
+use Rattle.std.specs.Prelude.{◌≡◌, ℕ, Bool, false, ◌&&◌, List, Option, Some, None, Contains}
+use Rattle.std.specs.List.{list_any}
+use Rattle.ip_ranges.specs.Values.{AddressValue, has_address}
+use Rattle.kube_model.specs.declared.service.Service.{Service}
+use Rattle.pool_config.specs.declared.compiled.CompiledL2.{CompiledL2}
+use Rattle.pool_config.specs.declared.compiled.CompiledPool.{CompiledPool}
+use Rattle.pool_config.specs.Choice.{Chooses, Selects, chooses, selects}
+use Rattle.pool_config.specs.ConfigValue.{ConfigValue}
+use Rattle.pool_config.specs.PoolOf.{pool_with}
+use Rattle.speaker_view.specs.Held.{objects_of}
+use Rattle.speaker_view.specs.Endpoints.{CanAnnounce, can_announce, node_labels}
+use Rattle.speaker_view.specs.ViewValue.{ViewValue}
+
+-- The L2Advertisement is one of the configuration in force; it chooses the pool that has the address (`spec.ipAddressPools`,
+-- `spec.ipAddressPoolSelectors`), and selects the node (`spec.nodeSelectors`).
+pub record IsAdvertisedBy (v : ViewValue) (address : AddressValue) (node : List ℕ) (advertisement : CompiledL2) : Type 0 where
+  pub config : ConfigValue
+  pub in_force : v.held.config ≡ Some config
+  pub there : Contains config.l2 advertisement
+  pub pool : CompiledPool
+  pub pool_is : pool_with config.pools address ≡ Some pool
+  pub chosen : Chooses advertisement.pools advertisement.pool_selectors pool.name pool.labels
+  pub selected : Selects advertisement.node_selectors (node_labels v node)
+
+-- some advertisement is such a one
+abbrev pub IsAdvertised : ViewValue → AddressValue → List ℕ → Type 0
+IsAdvertised v address node = (advertisement : CompiledL2) × IsAdvertisedBy v address node advertisement
+
+-- Some held service is recorded with the address, and can be announced from the node.
+pub record IsRecorded (v : ViewValue) (address : AddressValue) (node : List ℕ) : Type 0 where
+  pub service : Service
+  pub held : Contains (objects_of v.held.services) service
+  pub recorded : Contains service.holding.addresses address
+  pub announces : CanAnnounce v service node
+
+-- The node is a member, the address is advertised from it, and a service that has the address can be announced from it.
+pub record IsEligible (v : ViewValue) (address : AddressValue) (node : List ℕ) : Type 0 where
+  pub member : Contains v.members node
+  pub advertised : IsAdvertised v address node
+  pub recorded : IsRecorded v address node
+
+-- ---- the same as tests; of members alone, that of eligibility
+-- the advertisement chooses the pool and selects the node
+abbrev pub advertises : ViewValue → List ℕ → CompiledPool → CompiledL2 → Bool
+advertises v node pool adv = chooses adv.pools adv.pool_selectors pool.name pool.labels && selects adv.node_selectors (node_labels v node)
+
+-- some of these advertisements passes, of those that are for the pool
+abbrev pub passes_for : (CompiledPool → CompiledL2 → Bool) → List CompiledL2 → Option CompiledPool → Bool
+passes_for test l2 None = false
+passes_for test l2 (Some pool) = list_any (test pool) l2
+
+-- some advertisement of the configuration passes, for the pool that has the address
+abbrev pub passes_in : (CompiledPool → CompiledL2 → Bool) → AddressValue → Option ConfigValue → Bool
+passes_in test address None = false
+passes_in test address (Some config) = passes_for test config.l2 (pool_with config.pools address)
+
+abbrev pub is_advertised : ViewValue → List ℕ → AddressValue → Bool
+is_advertised v node address = passes_in (advertises v node) address v.held.config
+
+abbrev pub recorded_in : ViewValue → List Service → List ℕ → AddressValue → Bool
+recorded_in v services node address = list_any (λ service. has_address service.holding.addresses address && can_announce v service node) services
+
+abbrev pub is_recorded : ViewValue → List ℕ → AddressValue → Bool
+is_recorded v node address = recorded_in v (objects_of v.held.services) node address
+
+abbrev pub is_eligible : ViewValue → AddressValue → List ℕ → Bool
+is_eligible v address node = is_advertised v node address && is_recorded v node address

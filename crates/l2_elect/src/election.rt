@@ -1,0 +1,109 @@
+//! The election.
+ghost use Rattle.std.specs.Prelude.{◌≡◌, ◌↔◌, ℕ, List, IsTrue, IfNone, Some};
+ghost use Rattle.std.specs.Option.{option_copied, option_map, ForSome};
+ghost use Rattle.ip_ranges.specs.AddressText.{canonical_text};
+ghost use Rattle.l2_elect.specs.Eligible.{IsEligible};
+ghost use Rattle.l2_elect.specs.Election.{announcer_of, announces_of, digest_of, elected, better, is_named, IsAnnouncer};
+
+use crate::eligible::is_eligible;
+use ip_ranges::{Address, write_address};
+use kube_labels::Text;
+use sha2::{Digest, Sha256};
+use speaker_view::View;
+use std::cmp::Ordering;
+
+/// A node and its digest.
+#[derive(Clone, Copy)]
+struct Candidate<'a> {
+    node: &'a Text,
+    digest: [u8; 32],
+}
+
+/// The eligible node with the least SHA-256 of its name, `#` and the printed address, compared as bytes; ties go by name. `None`
+/// exactly where no node is eligible. It takes no memory.
+pub fn announcer<'a>(view: &'a View, address: &Address) -> Option<&'a Text>
+    ensures value { option_copied result ≡ announcer_of view.now address.now }
+    ensures meaning { (node : List ℕ) → (option_copied result ≡ Some node) ↔ IsAnnouncer view.now address.now node }
+    ensures none { IfNone result ((node : List ℕ) → ¬ IsEligible view.now address.now node) }
+{
+    first(view, address)
+}
+
+/// The announcer of the address, by its text.
+pub(crate) fn first<'a>(view: &'a View, address: &Address) -> Option<&'a Text>
+    ensures { option_copied result ≡ announcer_of view.now address.now }
+{
+    let mut buffer = [0; 39];
+    let length = write_address(address, &mut buffer);
+    elected(view, address, &buffer[..length])
+}
+
+/// The best of the eligible members, where the address has this text.
+fn elected<'a>(view: &'a View, address: &Address, text: &[u8]) -> Option<&'a Text>
+    ensures { option_copied result ≡ elected view.now address.now text.now }
+{
+    let mut best: Option<Candidate<'a>> = None;
+    for node in view.members().as_slice() {
+        if is_eligible(view, node, address) {
+            best = Some(better(best, node, text));
+        }
+    }
+    match best {
+        Some(candidate) => Some(candidate.node),
+        None => None,
+    }
+}
+
+/// The better of the candidate that is best so far, if any, and the node.
+fn better<'a>(best: Option<Candidate<'a>>, node: &'a Text, text: &[u8]) -> Candidate<'a>
+    requires digest { ForSome best (λ c. c.digest ≡ digest_of text.now c.node.now) }
+    ensures node { result.node.now ≡ better text.now (option_map (λ c. c.node.now) best.entry) node.now }
+    ensures digest { result.digest ≡ digest_of text.now result.node.now }
+{
+    let candidate = Candidate {
+        node,
+        digest: digest(node, text),
+    };
+    match best {
+        None => candidate,
+        Some(best) => {
+            let order = candidate
+                .digest
+                .cmp(&best.digest)
+                .then(candidate.node.cmp(best.node));
+            if order == Ordering::Less {
+                candidate
+            } else {
+                best
+            }
+        }
+    }
+}
+
+#[tactic(auto, unfolding(crate::specs::Election::digest_of))]
+fn digest(node: &Text, text: &[u8]) -> [u8; 32]
+    ensures { result ≡ digest_of text.now node.now }
+{
+    let mut hasher = Sha256::new();
+    hasher.update(node.as_str());
+    hasher.update("#");
+    hasher.update(text);
+    hasher.finalize()
+}
+
+/// Whether the node announces the address. It takes no memory.
+pub fn announces(view: &View, node: &str, address: &Address) -> bool
+    ensures value { result ≡ announces_of view.now node.now address.now }
+    ensures meaning { IsTrue result ↔ IsAnnouncer view.now address.now node.now }
+{
+    is_named(node, first(view, address))
+}
+
+fn is_named(node: &str, announcer: Option<&Text>) -> bool
+    ensures { result ≡ is_named node.now (option_copied announcer.entry) }
+{
+    match announcer {
+        Some(announcer) => announcer.as_str() == node,
+        None => false,
+    }
+}

@@ -1,0 +1,12 @@
+//! What holds of every view and address.
+ghost use Rattle.l2_elect.specs.Election.{OneAnnounces, OnlyAnEligibleNodeAnnounces};
+
+/// Where a node is eligible, exactly one announces, by every speaker whose view is this one.
+pub fn one_announces()
+    ensures { OneAnnounces }
+{}
+
+/// Where no node is eligible, none announces.
+pub fn only_an_eligible_node_announces()
+    ensures { OnlyAnEligibleNodeAnnounces }
+{}

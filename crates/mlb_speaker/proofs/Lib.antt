@@ -1,0 +1,4 @@
+pub mod Listed
+pub mod NamedWords
+pub mod Steps
+pub mod Telling

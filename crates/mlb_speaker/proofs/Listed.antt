@@ -1,0 +1,157 @@
+-- The listed addresses are those that the node announces.
+use Rattle.std.proofs.Common.{◌≡◌, ℕ, Bool, true, List, [], ◌∷◌, refl, sym, ap, ◌∙◌, subst, Contains, inl, inr, ◌⊎◌, Decides}
+use Rattle.std.specs.declared.cmp.Ordering.{Ordering}
+use Rattle.std.specs.declared.cmp.Ordering.TheVariants.{Less, Equal, Greater}
+use Rattle.std.specs.Ordering.{nat_cmp, ordering_then, ordering_reverse}
+use Rattle.std.specs.Cmp.{IsTotalOrder, then_total, on_total, nat_cmp_total}
+use Rattle.std.specs.List.Sorted.{IsStrictlySortedBy}
+use Rattle.std.proofs.lemmas.Bool.Decides.{same_from_decides}
+use Rattle.std.proofs.lemmas.Map.Lookups.{CmpEqualImpliesEq, exact_unsigned}
+use Rattle.mlb_base.specs.Items.{IsIn}
+use Rattle.mlb_base.proofs.Among.{contains-first, contains-later, contains-cons, contains-none}
+use Rattle.ip_ranges.specs.declared.family.Family.{Family}
+use Rattle.ip_ranges.specs.declared.family.Family.TheVariants.{V4, V6}
+use Rattle.ip_ranges.specs.Values.{AddressValue, has_address}
+use Rattle.ip_ranges.proofs.AddressLaws.{has_address-is, has_address-from}
+use Rattle.kube_model.specs.declared.service.Service.{Service}
+use Rattle.pool_config.specs.KeySets.{keys_with}
+use Rattle.pool_config.proofs.KeySets.{in_keys, keys_in, ascending-keys_with}
+use Rattle.speaker_view.specs.Held.{objects_of}
+use Rattle.speaker_view.specs.ViewValue.{ViewValue}
+use Rattle.l2_elect.specs.Election.{IsAnnouncer, announces_of}
+use Rattle.l2_elect.proofs.Filters.{Contains-filter, filter-Contains}
+use Rattle.l2_elect.proofs.Least.{announces-announcer, announcer-announces}
+use Rattle.mlb_speaker.specs.Announced.{family_cmp, address_cmp, announced_of, announced_with, announced_by, AllAreAnnounced}
+
+-- ---- the order of addresses
+family_antisymm : (f g : Family) → family_cmp f g ≡ ordering_reverse (family_cmp g f)
+family_antisymm V4 V4 = refl
+family_antisymm V4 V6 = refl
+family_antisymm V6 V4 = refl
+family_antisymm V6 V6 = refl
+
+family_trans : (f g h : Family) → family_cmp f g ≡ Less → family_cmp g h ≡ Less → family_cmp f h ≡ Less
+family_trans V4 V4 h a b = absurd (cc)
+family_trans V4 V6 V4 a b = absurd (cc)
+family_trans V4 V6 V6 a b = absurd (cc)
+family_trans V6 V4 h a b = absurd (cc)
+family_trans V6 V6 h a b = absurd (cc)
+
+family_congr : (f g h : Family) → family_cmp f g ≡ Equal → family_cmp f h ≡ family_cmp g h
+family_congr V4 V4 h e = refl
+family_congr V4 V6 h e = absurd (cc)
+family_congr V6 V4 h e = absurd (cc)
+family_congr V6 V6 h e = refl
+
+family_total : IsTotalOrder family_cmp
+family_total = record { antisymm = family_antisymm; trans = family_trans; congr = family_congr }
+
+family_exact : (f g : Family) → family_cmp f g ≡ Equal → f ≡ g
+family_exact V4 V4 e = refl
+family_exact V4 V6 e = absurd (cc)
+family_exact V6 V4 e = absurd (cc)
+family_exact V6 V6 e = refl
+
+address_total : IsTotalOrder address_cmp
+address_total = then_total (on_total (λ (a : AddressValue). a.family) family_total) (on_total (λ (a : AddressValue). a.number) nat_cmp_total)
+
+both_equal : (r s : Ordering) → ordering_then r s ≡ Equal → (r ≡ Equal) × (s ≡ Equal)
+both_equal Less s e = absurd (cc)
+both_equal Equal s e = (refl, e)
+both_equal Greater s e = absurd (cc)
+
+address_exact : CmpEqualImpliesEq address_cmp
+address_exact a b e =
+    let both = both_equal (family_cmp a.family b.family) (nat_cmp a.number b.number) e in
+    let families : a.family ≡ b.family = family_exact a.family b.family both.0 in
+    let numbers : a.number ≡ b.number = exact_unsigned a.number b.number both.1 in
+    let family : Family → AddressValue = λ f. record { family = f; number = a.number } in
+    let number : ℕ → AddressValue = λ n. record { family = b.family; number = n } in
+    ap family families ∙ ap number numbers
+
+-- ---- items of lists
+in-contains : (xs : List AddressValue) (a : AddressValue) → IsIn xs a → Contains xs a
+in-contains [] a none = absurd none
+in-contains (x ∷ xs) a (inl here) = subst (λ (y : AddressValue). Contains (x ∷ xs) y) here (contains-first x xs)
+in-contains (x ∷ xs) a (inr later) = contains-later x xs a (in-contains xs a later)
+
+contains-in : (xs : List AddressValue) (a : AddressValue) → Contains xs a → IsIn xs a
+contains-in [] a there = absurd (contains-none a there)
+contains-in (x ∷ xs) a there = elim (contains-cons x xs a there) [ inl here ↦ inl here | inr later ↦ inr (contains-in xs a later) ]
+
+-- ---- those that the node announces
+nothing_ascends : IsStrictlySortedBy address_cmp []
+unfolding IsStrictlySortedBy
+nothing_ascends = tt
+
+module _ (v : ViewValue) (node : List ℕ) where
+  abbrev passes : AddressValue → Bool
+  passes a = announces_of v node a
+
+  listed-passes : (services : List Service) (found : List AddressValue) (a : AddressValue) → IsIn (announced_with v node found services) a → IsIn found a ⊎ (announces_of v node a ≡ true)
+  listed-passes [] found a there = inl there
+  listed-passes (s ∷ services) found a there =
+      let more = announced_of v node s.holding.addresses in
+      elim (listed-passes services (keys_with address_cmp found more) a there) [
+        | inl before ↦
+            elim (in_keys address_total address_exact found more a before) [
+              | inl old ↦ inl old
+              | inr new ↦ inr (filter-Contains passes s.holding.addresses a (in-contains more a new)).1
+            ]
+        | inr e ↦ inr e
+      ]
+
+  listed-keeps : (services : List Service) (found : List AddressValue) (a : AddressValue) → IsIn found a → IsIn (announced_with v node found services) a
+  listed-keeps [] found a there = there
+  listed-keeps (s ∷ services) found a there =
+      let more = announced_of v node s.holding.addresses in
+      listed-keeps services (keys_with address_cmp found more) a (keys_in address_total address_exact found more a (inl there))
+
+  listed-has : (services : List Service) (found : List AddressValue) (service : Service) (a : AddressValue) → Contains services service → Contains service.holding.addresses a → announces_of v node a ≡ true
+      → IsIn (announced_with v node found services) a
+  listed-has [] found service a there recorded e = absurd (contains-none service there)
+  listed-has (s ∷ services) found service a there recorded e =
+      let more = announced_of v node s.holding.addresses in
+      elim (contains-cons s services service there) [
+        | inl here ↦
+            let of_it : Contains s.holding.addresses a = subst (λ (x : Service). Contains x.holding.addresses a) (sym here) recorded in
+            let new : IsIn more a = contains-in more a (Contains-filter passes s.holding.addresses a of_it e) in
+            listed-keeps services (keys_with address_cmp found more) a (keys_in address_total address_exact found more a (inr new))
+        | inr later ↦ listed-has services (keys_with address_cmp found more) service a later recorded e
+      ]
+
+  listed-ascend : (services : List Service) (found : List AddressValue) → IsStrictlySortedBy address_cmp found → IsStrictlySortedBy address_cmp (announced_with v node found services)
+  listed-ascend [] found s = s
+  listed-ascend (service ∷ services) found s =
+      let more = announced_of v node service.holding.addresses in
+      listed-ascend services (keys_with address_cmp found more) (ascending-keys_with address_total address_exact found more s)
+
+  by_test : (a : AddressValue) → IsIn [] a ⊎ (announces_of v node a ≡ true) → IsAnnouncer v a node
+  by_test a (inl none) = absurd none
+  by_test a (inr e) = announces-announcer v a node e
+
+  listed-announcer : (a : AddressValue) → Contains (announced_by v node) a → IsAnnouncer v a node
+  listed-announcer a there = by_test a (listed-passes (objects_of v.held.services) [] a (contains-in (announced_by v node) a there))
+
+  announcer-listed : (a : AddressValue) → IsAnnouncer v a node → Contains (announced_by v node) a
+  announcer-listed a announcer =
+      let by = announcer.eligible.recorded in
+      in-contains (announced_by v node) a (listed-has (objects_of v.held.services) [] by.service a by.held by.recorded (announcer-announces v a node announcer))
+
+pub all_are_announced : AllAreAnnounced
+all_are_announced v node = record {
+  ascend = listed-ascend v node (objects_of v.held.services) [] nothing_ascends;
+  each = λ a. (listed-announcer v node a, announcer-listed v node a);
+}
+
+listed-Decides : (v : ViewValue) (node : List ℕ) (a : AddressValue) → Decides (has_address (announced_by v node) a) (IsAnnouncer v a node)
+listed-Decides v node a = (
+  λ e. listed-announcer v node a (has_address-is (announced_by v node) a e),
+  λ announcer. has_address-from (announced_by v node) a (announcer-listed v node a announcer),
+)
+
+-- an address is listed where the test says that the node announces it
+pub has-announced : (v : ViewValue) (node : List ℕ) (a : AddressValue) → has_address (announced_by v node) a ≡ announces_of v node a
+has-announced v node a =
+    same_from_decides (has_address (announced_by v node) a) (announces_of v node a) (listed-Decides v node a)
+    (announces-announcer v a node, announcer-announces v a node)

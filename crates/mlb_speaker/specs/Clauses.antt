@@ -1,0 +1,70 @@
+-- What the speaker owes at each status: the clauses of a run over lines, with the speaker's rules and the words' node and class.
+use Rattle.std.specs.Prelude.{◌≡◌, ◌⊎◌, ℕ, List, [], String, Option, Some, None}
+use Rattle.kube_model.specs.declared.status.Status.{Status}
+use Rattle.kube_model.specs.declared.status.Status.TheVariants.{Usage}
+use Rattle.command_options.specs.Options.{texts_of}
+use Rattle.line_run.specs.Clauses as run
+use Rattle.line_run.specs.Written as written
+use Rattle.mlb_speaker.specs.Stream.{SpeakerState, first_state, speaker_rules, IsCause}
+use Rattle.mlb_speaker.specs.Told as told
+use Rattle.mlb_speaker.specs.Words.{Said, Say, AreKnown, said_in}
+
+-- where the words aren't of the table there is no run
+abbrev pub begun_with : Option Said → SpeakerState
+begun_with None = first_state [] None
+begun_with (Some said) = first_state said.node said.class
+
+-- the state that a run begins with
+abbrev pub begun_by : {Z : Type 0} → List (String Z) → SpeakerState
+begun_by words = begun_with (said_in (texts_of words))
+
+-- the words are faulty, or it is one of the statuses that a run of the speaker may end with: no file is opened, no lane is known
+-- but the input, and there are no puts
+abbrev pub CanEnd : Status → Type 0
+CanEnd status = (status ≡ Usage) ⊎ run.CanEnd IsCause status
+
+-- the run is that of the node and the class that the words name
+abbrev pub SpeaksForNamed : {Z : Type 0} → List (String Z) → Type 0
+SpeaksForNamed words = (said : Said) → Say (texts_of words) said → begun_by words ≡ first_state said.node said.class
+
+module _ {Z K : Type 0} (words : List (String Z)) (status : Status) (left : Option (List ℕ)) (written : K → Option (List ℕ)) (out out' : K) where
+  abbrev pub AtDone : Type 0
+  AtDone = run.AtDone speaker_rules IsCause (begun_by words) status left (written out) (written out')
+
+  abbrev pub AtBadLine : Type 0
+  AtBadLine = run.AtBadLine speaker_rules IsCause (begun_by words) status left (written out) (written out')
+
+  -- one service or one node more would be held than may be
+  abbrev pub AtHeldLimit : Type 0
+  AtHeldLimit = run.AtHeldLimit speaker_rules IsCause (begun_by words) status left (written out) (written out')
+
+  -- a line is too long
+  abbrev pub AtLongLine : Type 0
+  AtLongLine = run.AtLineLimit speaker_rules (begun_by words) status left (written out) (written out')
+
+  -- the input is too long
+  abbrev pub AtTooLong : Type 0
+  AtTooLong = run.AtInputLimit speaker_rules (begun_by words) status left (written out) (written out')
+
+  abbrev pub AfterWrite : Type 0
+  AfterWrite = run.AfterWrite speaker_rules (begun_by words) status left (written out) (written out')
+
+  abbrev pub AtNoMemory : Type 0
+  AtNoMemory = run.AtNoMemory speaker_rules (begun_by words) status left (written out) (written out')
+
+abbrev pub AfterRead : {Z S K : Type 0} → List (String Z) → Status → (S → Option (List ℕ)) → S → S → (K → Option (List ℕ)) → K → K → Type 0
+AfterRead words status left input input' written out out' = run.AfterRead speaker_rules (begun_by words) status (left input) (left input') (written out) (written out')
+
+-- a beginning of the text of some lines' run was written
+abbrev pub WritesOnly : {Z K : Type 0} → List (String Z) → (K → Option (List ℕ)) → K → K → Type 0
+WritesOnly words told out out' = written.WritesOnly speaker_rules (begun_by words) (told out) (told out')
+
+-- after each line of a run the addresses with an announce line and no later withdraw line are those that the node announces
+abbrev pub TellsWhatIsAnnounced : {Z : Type 0} → List (String Z) → Type 0
+TellsWhatIsAnnounced words = told.TellsWhatIsAnnounced (begun_by words)
+
+abbrev pub IsExact : {Z : Type 0} → List (String Z) → Status → Option (List ℕ) → Type 0
+IsExact words status left = AreKnown (texts_of words) → run.IsExact speaker_rules (begun_by words) status left
+
+abbrev pub IsComplete : {Z : Type 0} → List (String Z) → Status → Option (List ℕ) → Type 0
+IsComplete words status left = AreKnown (texts_of words) → run.IsComplete speaker_rules (begun_by words) status left

@@ -1,0 +1,42 @@
+-- What is told of an event, and the text of it.
+use Rattle.std.specs.Prelude.{ℕ, not, List, [], ◌∷◌, ◌++◌, map, filter}
+use Rattle.ip_ranges.specs.Values.{AddressValue, has_address}
+use Rattle.kube_lines.specs.Lines.{accepted_text, refused_text, announce_text, withdraw_text}
+use Rattle.object_cache.specs.declared.change.TakeNote.{TakeNote}
+use Rattle.object_cache.specs.declared.change.TakeNote.TheVariants.{Quiet, Accepted, Refused}
+use Rattle.line_run.specs.Text.{line_of}
+use Rattle.mlb_speaker.specs.declared.entries.Entry.{Entry}
+use Rattle.mlb_speaker.specs.declared.entries.Entry.TheVariants.{Noted, Withdrawn, Announced}
+
+-- the addresses that aren't among the others
+abbrev pub difference : List AddressValue → List AddressValue → List AddressValue
+difference addresses others = filter (λ a. not (has_address others a)) addresses
+
+abbrev pub withdrawn : AddressValue → Entry
+withdrawn address = Withdrawn address
+
+abbrev pub announced : AddressValue → Entry
+announced address = Announced address
+
+-- what was announced before, and isn't after
+abbrev pub withdrawals : List AddressValue → List AddressValue → List Entry
+withdrawals before after = map withdrawn (difference before after)
+
+-- what is announced after, and wasn't before
+abbrev pub announcements : List AddressValue → List AddressValue → List Entry
+announcements before after = map announced (difference after before)
+
+-- what became of a configuration, then what isn't announced any more, then what is announced from now on
+abbrev pub entries_for : TakeNote → List AddressValue → List AddressValue → List Entry
+entries_for note before after = Noted note ∷ withdrawals before after ++ announcements before after
+
+-- what became of a configuration that was compiled is told
+abbrev pub note_text : TakeNote → List ℕ
+note_text Quiet = []
+note_text Accepted = line_of accepted_text
+note_text (Refused fault) = line_of (refused_text fault)
+
+abbrev pub entry_text : Entry → List ℕ
+entry_text (Noted note) = note_text note
+entry_text (Withdrawn address) = line_of (withdraw_text address)
+entry_text (Announced address) = line_of (announce_text address)

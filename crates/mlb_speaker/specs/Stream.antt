@@ -1,0 +1,90 @@
+-- What a line is to the speaker: an event, which its view takes.
+use Rattle.std.specs.Prelude.{◌≡◌, ℕ, ◌+◌, List, Option, Some, None, Result, Ok, Err, is_err, ⊤, true}
+use Rattle.kube_model.specs.declared.event.Event.{Event}
+use Rattle.kube_model.specs.declared.event.EventFault.{EventFault}
+use Rattle.kube_model.specs.declared.object.Kind.{Kind}
+use Rattle.kube_model.specs.declared.object.Kind.TheVariants as kinds
+use Rattle.kube_model.specs.declared.status.LaneName.TheVariants as lanes
+use Rattle.kube_model.specs.declared.status.What.{What}
+use Rattle.kube_model.specs.declared.status.What.TheVariants as whats
+use Rattle.kube_model.specs.declared.status.Status.{Status}
+use Rattle.kube_model.specs.declared.status.Status.TheVariants.{Done, Usage, OpenFault, ReadFault, WriteFault, BadLine, BadReply, NoReply, Limit, NoMemory, NotBuilt}
+use Rattle.kube_events.specs.Event.{event_of_line}
+use Rattle.object_cache.specs.Limits.{most_services, most_nodes}
+use Rattle.speaker_view.specs.ViewValue.{ViewValue}
+use Rattle.speaker_view.specs.View.{fresh, view_after, note_by, limit_by}
+use Rattle.line_run.specs.Machine.{Step, Goes, Stops, Rules}
+use Rattle.mlb_edge.specs.declared.lines.Line.{Line}
+use Rattle.mlb_speaker.specs.declared.entries.Entry.{Entry}
+use Rattle.mlb_speaker.specs.Announced.{announced_by}
+use Rattle.mlb_speaker.specs.Entries.{entries_for, entry_text}
+
+-- the view, and the node whose announcements are told
+pub record SpeakerState : Type 0 where
+  pub view : ViewValue
+  pub node : List ℕ
+
+abbrev pub state_of : ViewValue → List ℕ → SpeakerState
+state_of v node = record { view = v; node = node }
+
+-- nothing was shown yet
+abbrev pub first_state : List ℕ → Option (List ℕ) → SpeakerState
+first_state node class = state_of (fresh class) node
+
+abbrev pub state_after : SpeakerState → Event → SpeakerState
+state_after s event = state_of (view_after event s.view) s.node
+
+-- what is told of the event: its note, and what the node announced before it and announces after it
+abbrev pub entries_of : SpeakerState → Event → List Entry
+entries_of s event = entries_for (note_by s.view event) (announced_by s.view s.node) (announced_by (view_after event s.view) s.node)
+
+-- what there is too much of where a limit of the kind is passed; services and nodes alone have one
+abbrev pub what_of : Kind → What
+what_of kinds.Service = whats.Services
+what_of kinds.Node = whats.Nodes
+what_of kinds.Pool = whats.Nodes
+what_of kinds.L2 = whats.Nodes
+what_of kinds.Bgp = whats.Nodes
+what_of kinds.Peer = whats.Nodes
+what_of kinds.Community = whats.Nodes
+what_of kinds.Namespace = whats.Nodes
+what_of kinds.Slice = whats.Nodes
+
+-- with the event more would be held than may be, or it is applied
+abbrev pub limit_step : SpeakerState → Event → Option (Kind × ℕ) → Step SpeakerState Entry
+limit_step s event None = Goes (state_after s event) (entries_of s event)
+limit_step s event (Some p) = Stops (Limit (what_of p.0) p.1)
+
+-- it is no readable event, or it is one
+abbrev pub event_step : SpeakerState → Line → Result Event EventFault → Step SpeakerState Entry
+event_step s line (Err fault) = Stops (BadLine lanes.Input line.number line.bytes)
+event_step s line (Ok event) = limit_step s event (limit_by s.view event)
+
+-- what a line is to this state
+abbrev pub line_step : SpeakerState → Line → Step SpeakerState Entry
+line_step s line = event_step s line (event_of_line line.bytes)
+
+-- the speaker, as a machine over lines; a run is done where the input ends
+abbrev pub speaker_rules : Rules SpeakerState Entry
+speaker_rules = record { step = line_step; end = λ s. Done; text = entry_text }
+
+-- the first number past a limit of what the speaker holds
+abbrev pub IsLimit : What → ℕ → Type 0
+IsLimit whats.Line count = ⊥
+IsLimit whats.Input count = ⊥
+IsLimit whats.Services count = count ≡ most_services + 1
+IsLimit whats.Nodes count = count ≡ most_nodes + 1
+
+-- what is so where a run of the speaker stops with this status: the line is no event, or with it more would be held than may be
+abbrev pub IsCause : Status → Type 0
+IsCause Done = ⊤
+IsCause Usage = ⊥
+IsCause (OpenFault lane) = ⊥
+IsCause (ReadFault lane) = ⊥
+IsCause WriteFault = ⊥
+IsCause (BadLine lane number bytes) = is_err (event_of_line bytes) ≡ true
+IsCause (BadReply number bytes) = ⊥
+IsCause (NoReply put) = ⊥
+IsCause (Limit what count) = IsLimit what count
+IsCause NoMemory = ⊥
+IsCause (NotBuilt number bytes) = ⊥

@@ -1,0 +1,111 @@
+//! One line: an event that is applied to the view.
+ghost use Rattle.std.specs.Prelude.{◌≡◌, ◌≤◌, ℕ, None, Some, OnOk, IfOk, IfErr, IsErrOf};
+ghost use Rattle.kube_model.specs.declared.object.Kind.{Kind};
+ghost use Rattle.speaker_view.specs.View.{view_after, limit_by};
+ghost use Rattle.line_run.specs.Steps.{Takes, Refuses};
+ghost use Rattle.mlb_speaker.specs.Stream.{speaker_rules, state_of, entries_of, what_of};
+
+use crate::announced::announced;
+use crate::entries::{Entry, entries_for};
+use crate::output::write_entries;
+use kube_events::read_event;
+use kube_labels::Text;
+use kube_model::{Event, EventFault, Kind, LaneName, Status, What};
+use line_run::{Halt, Refusal};
+use mlb_base::Sequence;
+use mlb_edge::{Line, Sink};
+use object_cache::ApplyFault;
+use speaker_view::View;
+use std::alloc::Global;
+
+/// Applies the line's event to the view, and writes what comes of it.
+pub(crate) fn drive_line<K: Sink>(
+    alloc: Global,
+    view: &mut View,
+    node: &Text,
+    line: Line,
+    out: &mut K,
+) -> Result<(), Refusal>
+    ensures ok { OnOk result (Takes speaker_rules (state_of view.old node.now) (state_of view.new node.now) line
+        (K.written out.old) (K.written out.new)) }
+    ensures err { IfErr result (λ refusal. Refuses refusal speaker_rules (state_of view.old node.now) line
+        (K.written out.old) (K.written out.new) (K.faults out.old) (K.faults out.new)) }
+    ensures later { K.faults out.old ≤ K.faults out.new }
+{
+    let event = match read_event(alloc, line.bytes.as_slice()) {
+        Ok(event) => event,
+        Err(EventFault::NoMemory) => {
+            return Err(Refusal::Halted {
+                halt: Halt::NoMemory,
+            });
+        }
+        Err(_) => {
+            return Err(Refusal::Stopped {
+                status: Status::BadLine {
+                    lane: LaneName::Input,
+                    number: line.number,
+                    bytes: line.bytes,
+                },
+            });
+        }
+    };
+    let entries = match entries_by(alloc, view, node, event) {
+        Ok(entries) => entries,
+        Err(ApplyFault::NoMemory) => {
+            return Err(Refusal::Halted {
+                halt: Halt::NoMemory,
+            });
+        }
+        Err(ApplyFault::Limit { kind, count }) => {
+            return Err(Refusal::Stopped {
+                status: Status::Limit {
+                    what: what_of(kind),
+                    count,
+                },
+            });
+        }
+    };
+    match write_entries(alloc, out, entries.as_slice()) {
+        Ok(()) => Ok(()),
+        Err(halt) => Err(Refusal::Halted { halt }),
+    }
+}
+
+/// Applies the event. What is to be told of it.
+fn entries_by(
+    alloc: Global,
+    view: &mut View,
+    node: &Text,
+    event: Event,
+) -> Result<Sequence<Entry>, ApplyFault>
+    ensures ok { IfOk result (λ entries. entries ≡ entries_of (state_of view.old node.now) event) }
+    ensures view { OnOk result (view.new ≡ view_after event view.old) }
+    ensures within { OnOk result (limit_by view.old event ≡ None) }
+    ensures limit { (kind : Kind) (count : ℕ)
+        → IsErrOf result (ApplyFault.Limit kind count) → limit_by view.old event ≡ Some (kind, count) }
+{
+    let before = announced(alloc, view, node)?;
+    let note = match view.apply(event) {
+        Ok(note) => note,
+        Err(fault) => return Err(fault),
+    };
+    let after = announced(alloc, view, node)?;
+    Ok(entries_for(alloc, note, &before, &after)?)
+}
+
+/// What there is too much of where a limit of the kind is passed; services and nodes alone have one.
+fn what_of(kind: Kind) -> What
+    ensures { result ≡ what_of kind }
+{
+    match kind {
+        Kind::Service => What::Services,
+        Kind::Node
+        | Kind::Pool
+        | Kind::L2
+        | Kind::Bgp
+        | Kind::Peer
+        | Kind::Community
+        | Kind::Namespace
+        | Kind::Slice => What::Nodes,
+    }
+}

@@ -1,0 +1,60 @@
+//! The top call.
+ghost use Rattle.std.specs.Prelude.{◌≡◌, ◌↔◌};
+ghost use Rattle.line_run.specs.Clauses.{AtEnd, AtReadFault, AtWriteFault};
+ghost use Rattle.command_options.specs.Options.{texts_of};
+ghost use Rattle.mlb_speaker.specs.Clauses.{CanEnd, SpeaksForNamed, AtDone, AtBadLine, AtHeldLimit, AtLongLine, AtTooLong, AfterRead, AfterWrite, AtNoMemory, WritesOnly, TellsWhatIsAnnounced, IsExact, IsComplete};
+ghost use Rattle.mlb_speaker.specs.Words.{AreKnown};
+
+use crate::stream::stream_speaker;
+use kube_model::Status;
+use mlb_edge::{Files, Sink, Source};
+use std::alloc::Global;
+use std::sync::Wait;
+use std::thread::Threads;
+
+/// All that the program does: the run over one stream. No file is opened.
+pub fn run_speaker<R: Threads + Wait + Sync, F: Files, S: Source + Send, K: Sink + Send>(
+    _rt: &R,
+    alloc: Global,
+    words: &[String],
+    files: &mut F,
+    input: &mut S,
+    out: &mut K,
+) -> Status
+    ensures no_file { files.new ≡ files.old }
+    ensures can_end { CanEnd result }
+    ensures usage { (result ≡ Status.Usage) ↔ (¬ (AreKnown (texts_of words.now))) }
+    ensures named { SpeaksForNamed words.now }
+    ensures unused { result ≡ Status.Usage → (input.new ≡ input.old) × (out.new ≡ out.old) }
+
+    // At the end of the input: nothing of it is left, and just the text of its run was written.
+    ensures done { AtDone words.now result (S.left input.old) K.written out.old out.new }
+    ensures at_end { AtEnd result (S.left input.new) }
+
+    // A line that ends the run, and just the text of the run before it was written.
+    ensures bad_line { AtBadLine words.now result (S.left input.old) K.written out.old out.new }
+    ensures held_limit { AtHeldLimit words.now result (S.left input.old) K.written out.old out.new }
+    ensures line_limit { AtLongLine words.now result (S.left input.old) K.written out.old out.new }
+    ensures input_limit { AtTooLong words.now result (S.left input.old) K.written out.old out.new }
+
+    // A fault comes only where its count rose. Behind a failed read stands the text of the lines that were read whole, behind a
+    // failed write a beginning of the text, and not the whole.
+    ensures read_fault { AtReadFault result (S.faults input.old) (S.faults input.new) }
+    ensures read { AfterRead words.now result S.left input.old input.new K.written out.old out.new }
+    ensures write_fault { AtWriteFault result (K.faults out.old) (K.faults out.new) }
+    ensures part { AfterWrite words.now result (S.left input.old) K.written out.old out.new }
+    ensures no_memory { AtNoMemory words.now result (S.left input.old) K.written out.old out.new }
+
+    // Over any input at all a beginning of the text of some lines' run was written.
+    ensures only { WritesOnly words.now K.written out.old out.new }
+
+    // After each line of a run the addresses with an announce line and no later withdraw line are exactly those that the node of the
+    // words announces by what was shown.
+    ensures told { TellsWhatIsAnnounced words.now }
+
+    // But for a fault or want of memory the status is that of the lines; and where all can be read and held, the run is done.
+    ensures exact { IsExact words.now result (S.left input.old) }
+    ensures complete { IsComplete words.now result (S.left input.old) }
+{
+    stream_speaker(alloc, words, input, out)
+}

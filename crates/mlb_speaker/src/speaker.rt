@@ -1,0 +1,71 @@
+//! The speaker, as a machine over lines.
+ghost use Rattle.std.specs.Prelude.{◌≡◌, IfOk};
+ghost use Rattle.std.specs.Option.{option_map};
+ghost use Rattle.mlb_speaker.specs.Stream.{state_of, first_state};
+
+use crate::line::drive_line;
+use kube_labels::Text;
+use kube_model::Status;
+use line_run::{Machine, Refusal};
+use mlb_base::NoMemory;
+use mlb_edge::{Line, Sink};
+use speaker_view::View;
+use std::alloc::Global;
+
+/// Applies lines to a view, and tells what its node announces.
+#[derive(Drop)]
+pub(crate) struct Speaker {
+    view: View,
+    node: Text,
+}
+
+impl Speaker {
+    /// A speaker that was shown nothing, on this node. It announces services of the class, or those without one.
+    pub(crate) fn new(alloc: Global, node: &str, class: Option<&str>) -> Result<Speaker, NoMemory>
+        ensures { IfOk result (λ speaker. state_of speaker.view speaker.node ≡ first_state node.now (option_map (λ c. c.now) class.entry)) }
+    {
+        let class = owned(alloc, class)?;
+        Ok(Speaker {
+            view: View::new(alloc, class),
+            node: Text::new(alloc, node)?,
+        })
+    }
+}
+
+/// The class as a text of its own.
+fn owned(alloc: Global, class: Option<&str>) -> Result<Option<Text>, NoMemory>
+    ensures { IfOk result (λ text. text ≡ option_map (λ c. c.now) class.entry) }
+{
+    let Some(class) = class else {
+        return Ok(None);
+    };
+    Ok(Some(Text::new(alloc, class)?))
+}
+
+impl Machine for Speaker {
+    ghost use Rattle.mlb_speaker.specs.Stream.{SpeakerState, state_of, speaker_rules, IsCause};
+    ghost use Rattle.mlb_speaker.specs.Causes.{line_causes, end_causes};
+    ghost use Rattle.mlb_speaker.specs.declared.entries.Entry.{Entry as SpeakerEntry};
+
+    ghost State = { SpeakerState };
+
+    ghost Entry = { SpeakerEntry };
+
+    ghost state = { λ speaker. state_of speaker.view speaker.node };
+
+    ghost rules = { speaker_rules };
+
+    ghost cause = { IsCause };
+
+    fn take<K: Sink>(&mut self, alloc: Global, line: Line, out: &mut K) -> Result<(), Refusal> {
+        drive_line(alloc, &mut self.view, &self.node, line, out)
+    }
+
+    fn end(&self) -> Result<Status, NoMemory> {
+        Ok(Status::Done)
+    }
+
+    ghost stops = { line_causes };
+
+    ghost ends = { end_causes };
+}

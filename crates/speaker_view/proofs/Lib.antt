@@ -1,0 +1,3 @@
+pub mod Applying
+pub mod Serving
+pub mod Shown

@@ -1,0 +1,67 @@
+//! Which endpoints traffic reaches.
+ghost use Rattle.std.specs.Prelude.{◌≡◌};
+ghost use Rattle.std.specs.Option.{option_copied};
+ghost use Rattle.std.specs.List.{list_any};
+ghost use Rattle.speaker_view.specs.Held.{objects_of};
+ghost use Rattle.speaker_view.specs.Endpoints.{reaches, serves_from, is_slice_of, slice_serves, some_serves};
+
+use kube_labels::Text;
+use kube_model::{Endpoint, EndpointSlice, Key, Policy};
+use versioned_map::VersionedMap;
+
+/// Whether the policy lets the node's traffic go to an endpoint on that node, if any is named.
+fn reaches(policy: Policy, node: &Text, at: Option<&Text>) -> bool
+    ensures { result ≡ reaches policy node.now (option_copied at.entry) }
+{
+    match policy {
+        Policy::Cluster => true,
+        Policy::Local => match at {
+            None => false,
+            Some(at) => at == node,
+        },
+    }
+}
+
+fn serves_from(policy: Policy, node: &Text, endpoint: &Endpoint) -> bool
+    ensures { result ≡ serves_from policy node.now endpoint.now }
+{
+    endpoint.usable && reaches(policy, node, endpoint.node.as_ref())
+}
+
+fn one_serves(policy: Policy, node: &Text, endpoints: &[Endpoint]) -> bool
+    ensures { result ≡ list_any (serves_from policy node.now) endpoints.now }
+{
+    endpoints
+        .iter()
+        .any(|endpoint| serves_from(policy, node, endpoint))
+}
+
+/// Whether the slice is one of the service's.
+fn is_slice_of(key: &Key, slice: &EndpointSlice) -> bool
+    ensures { result ≡ is_slice_of key.now slice.now }
+{
+    slice.key.namespace == key.namespace && slice.service == key.name
+}
+
+fn slice_serves(key: &Key, policy: Policy, node: &Text, slice: &EndpointSlice) -> bool
+    ensures { result ≡ slice_serves key.now policy node.now slice.now }
+{
+    is_slice_of(key, slice) && one_serves(policy, node, slice.endpoints.as_slice())
+}
+
+/// Whether some slice of the service has an endpoint that serves the node.
+pub(crate) fn some_serves(
+    slices: &VersionedMap<Key, EndpointSlice>,
+    key: &Key,
+    policy: Policy,
+    node: &Text,
+) -> bool
+    ensures { result ≡ some_serves (objects_of slices.now) key.now policy node.now }
+{
+    for (_, held) in slices.iter() {
+        if slice_serves(key, policy, node, &held.object) {
+            return true;
+        }
+    }
+    false
+}

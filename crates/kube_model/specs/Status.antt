@@ -6,7 +6,7 @@ use Rattle.kube_model.specs.declared.status.LaneName.TheVariants as lanes
 use Rattle.kube_model.specs.declared.status.What.{What}
 use Rattle.kube_model.specs.declared.status.What.TheVariants as whats
 use Rattle.kube_model.specs.declared.status.Status.{Status}
-use Rattle.kube_model.specs.declared.status.Status.TheVariants.{Done, Usage, OpenFault, ReadFault, WriteFault, BadLine, BadReply, NoReply, Limit, NoMemory, NotBuilt}
+use Rattle.kube_model.specs.declared.status.Status.TheVariants.{Done, Usage, OpenFault, ReadFault, WriteFault, BadLine, BadReply, NoReply, Limit, NoMemory}
 
 abbrev pub lane_text : LaneName → List ℕ
 lane_text lanes.Input = codes "input"
@@ -32,7 +32,6 @@ is_done (BadReply number bytes) = false
 is_done (NoReply put) = false
 is_done (Limit what count) = false
 is_done NoMemory = false
-is_done (NotBuilt number bytes) = false
 
 abbrev pub status_code : Status → ℕ
 status_code Done = 0
@@ -45,7 +44,6 @@ status_code (BadReply number bytes) = 7
 status_code (NoReply put) = 8
 status_code (Limit what count) = 9
 status_code NoMemory = 10
-status_code (NotBuilt number bytes) = 11
 
 abbrev pub no_reply_text : Key → List ℕ
 no_reply_text key = codes "no reply to the put of " ++ (key.namespace ++ (codes "/" ++ key.name))
@@ -61,4 +59,3 @@ status_text (BadReply number bytes) = codes "bad reply at line " ++ decimal numb
 status_text (NoReply put) = no_reply_text put.key
 status_text (Limit what count) = codes "limit passed: " ++ what_text what
 status_text NoMemory = codes "out of memory"
-status_text (NotBuilt number bytes) = codes "not built at line " ++ decimal number

@@ -66,11 +66,6 @@ pub enum Status {
         count: u64,
     },
     NoMemory,
-    /// The line asks for what this program doesn't do.
-    NotBuilt {
-        number: u64,
-        bytes: ByteList,
-    },
 }
 
 impl LaneName {
@@ -130,7 +125,6 @@ impl Status {
             Status::NoReply { .. } => 8,
             Status::Limit { .. } => 9,
             Status::NoMemory => 10,
-            Status::NotBuilt { .. } => 11,
         }
     }
 
@@ -161,7 +155,6 @@ impl Status {
                 Ok(format!(in alloc; "limit passed: {what}")?)
             }
             Status::NoMemory => Ok(String::from_str(alloc, "out of memory")?),
-            Status::NotBuilt { number, .. } => Ok(format!(in alloc; "not built at line {number}")?),
         }
     }
 }

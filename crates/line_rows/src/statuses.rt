@@ -45,7 +45,6 @@ fn show_replies(rt: &impl Print, alloc: Global) -> io::Result<()> {
 }
 
 pub(crate) fn show_statuses(rt: &impl Print, alloc: Global) -> io::Result<()> {
-    let bytes = Sequence::new(alloc);
     show(rt, alloc, &Status::Done)?;
     show(rt, alloc, &Status::Usage)?;
     for lane in [LaneName::Input, LaneName::Config, LaneName::Watch] {
@@ -54,6 +53,5 @@ pub(crate) fn show_statuses(rt: &impl Print, alloc: Global) -> io::Result<()> {
     show(rt, alloc, &Status::WriteFault)?;
     show_replies(rt, alloc)?;
     show_limits(rt, alloc)?;
-    show(rt, alloc, &Status::NoMemory)?;
-    show(rt, alloc, &Status::NotBuilt { number: 3, bytes })
+    show(rt, alloc, &Status::NoMemory)
 }

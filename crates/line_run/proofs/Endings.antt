@@ -4,7 +4,7 @@ use Rattle.std.specs.Io.KnownBytes.{IsAtEnd}
 use Rattle.kube_model.specs.declared.status.What.{What}
 use Rattle.kube_model.specs.declared.status.What.TheVariants as whats
 use Rattle.kube_model.specs.declared.status.Status.{Status}
-use Rattle.kube_model.specs.declared.status.Status.TheVariants.{Done, Usage, OpenFault, ReadFault, WriteFault, BadLine, BadReply, NoReply, Limit, NoMemory, NotBuilt}
+use Rattle.kube_model.specs.declared.status.Status.TheVariants.{Done, Usage, OpenFault, ReadFault, WriteFault, BadLine, BadReply, NoReply, Limit, NoMemory}
 use Rattle.mlb_edge.specs.Causes.{Rose}
 use Rattle.mlb_edge.specs.declared.lines.Line.{Line}
 use Rattle.mlb_edge.specs.declared.lines.LineEnd.{LineEnd}
@@ -17,7 +17,7 @@ use Rattle.line_run.specs.declared.halt.Halt.TheVariants as halts
 use Rattle.line_run.specs.declared.halt.Refusal.{Refusal}
 use Rattle.line_run.specs.declared.halt.Refusal.TheVariants.{Stopped, Halted}
 use Rattle.line_run.specs.Ended.{status_of_end, status_of_halt, status_of_refusal}
-use Rattle.line_run.specs.Ends.{IsLast, IsUnread, IsUntaken, Ends}
+use Rattle.line_run.specs.Ends.{IsUnread, Ends}
 use Rattle.line_run.specs.Explains.{LimitStops, Explains}
 use Rattle.line_run.specs.Machine.{Stops, Rules}
 use Rattle.line_run.specs.Statuses.{IsHeld, IsLineStatus, IsEndStatus}
@@ -37,7 +37,6 @@ module _ {S E : Type 0} (rules : Rules S E) (cause : Status → Type 0) (first :
   line_stops : (status : Status) → IsLineStatus status → cause status → StopsAs rules first start before after status → Explains rules cause first status start left before after reads reads' writes writes'
   line_stops (BadLine lane number bytes) is caused stops = (is, record { caused = caused; stops = stops })
   line_stops (BadReply number bytes) is caused stops = record { caused = caused; stops = stops }
-  line_stops (NotBuilt number bytes) is caused stops = record { caused = caused; stops = stops }
   line_stops (Limit what count) is caused stops = held_stops what count is caused stops
   line_stops Done is caused stops = absurd is
   line_stops Usage is caused stops = absurd is
@@ -59,7 +58,6 @@ module _ {S E : Type 0} (rules : Rules S E) (cause : Status → Type 0) (first :
   end_stops (BadReply number bytes) is caused stops at = absurd is
   end_stops (Limit what count) is caused stops at = absurd is
   end_stops NoMemory is caused stops at = absurd is
-  end_stops (NotBuilt number bytes) is caused stops at = absurd is
 
   pub explains_end : (now : Option Input) (s : S) (status : Status) → Driven rules first start now s before after → EndsAs now Whole → IsAtEnd left → IsEndStatus (rules.end s) × cause (rules.end s)
       → (status ≡ rules.end s) ⊎ (status ≡ NoMemory) → Explains rules cause first status start left before after reads reads' writes writes'

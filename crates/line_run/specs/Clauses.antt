@@ -7,7 +7,7 @@ use Rattle.kube_model.specs.declared.status.LaneName.TheVariants as lanes
 use Rattle.kube_model.specs.declared.status.What.{What}
 use Rattle.kube_model.specs.declared.status.What.TheVariants.{Line, Input, Services, Nodes}
 use Rattle.kube_model.specs.declared.status.Status.{Status}
-use Rattle.kube_model.specs.declared.status.Status.TheVariants.{Done, Usage, OpenFault, ReadFault, WriteFault, BadLine, BadReply, NoReply, Limit, NoMemory, NotBuilt}
+use Rattle.kube_model.specs.declared.status.Status.TheVariants.{Done, Usage, OpenFault, ReadFault, WriteFault, BadLine, BadReply, NoReply, Limit, NoMemory}
 use Rattle.mlb_edge.specs.Causes.{Rose}
 use Rattle.line_run.specs.Explains.{StopsFor, IsStatusOf}
 use Rattle.line_run.specs.Machine.{Rules}
@@ -38,7 +38,6 @@ CanEnd cause (BadReply number bytes) = cause (BadReply number bytes)
 CanEnd cause (NoReply put) = cause (NoReply put)
 CanEnd cause (Limit what count) = CanPass cause what count
 CanEnd cause NoMemory = ⊤
-CanEnd cause (NotBuilt number bytes) = cause (NotBuilt number bytes)
 
 module _ {S E : Type 0} (rules : Rules S E) (cause : Status → Type 0) (s : S) (status : Status) (left before after : Option (List ℕ)) where
   abbrev pub AtDone : Type 0
@@ -46,9 +45,6 @@ module _ {S E : Type 0} (rules : Rules S E) (cause : Status → Type 0) (s : S) 
 
   abbrev pub AtBadLine : Type 0
   AtBadLine = (lane : LaneName) (number : ℕ) (bytes : List ℕ) → status ≡ BadLine lane number bytes → (lane ≡ lanes.Input) × StopsFor rules cause s left before after status
-
-  abbrev pub AtNotBuilt : Type 0
-  AtNotBuilt = (number : ℕ) (bytes : List ℕ) → status ≡ NotBuilt number bytes → StopsFor rules cause s left before after status
 
   abbrev pub AtBadReply : Type 0
   AtBadReply = (number : ℕ) (bytes : List ℕ) → status ≡ BadReply number bytes → StopsFor rules cause s left before after status

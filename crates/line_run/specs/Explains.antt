@@ -5,7 +5,7 @@ use Rattle.kube_model.specs.declared.status.LaneName.TheVariants as lanes
 use Rattle.kube_model.specs.declared.status.What.{What}
 use Rattle.kube_model.specs.declared.status.What.TheVariants.{Line, Input, Services, Nodes}
 use Rattle.kube_model.specs.declared.status.Status.{Status}
-use Rattle.kube_model.specs.declared.status.Status.TheVariants.{Done, Usage, OpenFault, ReadFault, WriteFault, BadLine, BadReply, NoReply, Limit, NoMemory, NotBuilt}
+use Rattle.kube_model.specs.declared.status.Status.TheVariants.{Done, Usage, OpenFault, ReadFault, WriteFault, BadLine, BadReply, NoReply, Limit, NoMemory}
 use Rattle.mlb_edge.specs.Causes.{Rose}
 use Rattle.line_run.specs.Machine.{Rules}
 use Rattle.line_run.specs.Run.{run_of}
@@ -28,7 +28,6 @@ Explains rules cause s Done left left' before after reads reads' writes writes' 
 Explains rules cause s (NoReply put) left left' before after reads reads' writes writes' = StopsFor rules cause s left before after (NoReply put) × IsAtEnd left'
 Explains rules cause s (BadLine lane number bytes) left left' before after reads reads' writes writes' = (lane ≡ lanes.Input) × StopsFor rules cause s left before after (BadLine lane number bytes)
 Explains rules cause s (BadReply number bytes) left left' before after reads reads' writes writes' = StopsFor rules cause s left before after (BadReply number bytes)
-Explains rules cause s (NotBuilt number bytes) left left' before after reads reads' writes writes' = StopsFor rules cause s left before after (NotBuilt number bytes)
 Explains rules cause s (Limit what count) left left' before after reads reads' writes writes' = LimitStops rules cause s left before after what count
 Explains rules cause s (ReadFault lane) left left' before after reads reads' writes writes' = (lane ≡ lanes.Input) × WritesRead rules s left left' before after × Rose reads reads'
 Explains rules cause s WriteFault left left' before after reads reads' writes writes' = WritesInPart rules s left before after × Rose writes writes'

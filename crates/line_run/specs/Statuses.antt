@@ -4,7 +4,7 @@ use Rattle.kube_model.specs.declared.status.LaneName.TheVariants as lanes
 use Rattle.kube_model.specs.declared.status.What.{What}
 use Rattle.kube_model.specs.declared.status.What.TheVariants.{Line, Input, Services, Nodes}
 use Rattle.kube_model.specs.declared.status.Status.{Status}
-use Rattle.kube_model.specs.declared.status.Status.TheVariants.{Done, Usage, OpenFault, ReadFault, WriteFault, BadLine, BadReply, NoReply, Limit, NoMemory, NotBuilt}
+use Rattle.kube_model.specs.declared.status.Status.TheVariants.{Done, Usage, OpenFault, ReadFault, WriteFault, BadLine, BadReply, NoReply, Limit, NoMemory}
 
 -- what a machine may have too many of
 abbrev pub IsHeld : What → Type 0
@@ -25,7 +25,6 @@ IsLineStatus (BadReply number bytes) = ⊤
 IsLineStatus (NoReply put) = ⊥
 IsLineStatus (Limit what count) = IsHeld what
 IsLineStatus NoMemory = ⊥
-IsLineStatus (NotBuilt number bytes) = ⊤
 
 -- a run may stop so at the end of the input
 abbrev pub IsEndStatus : Status → Type 0
@@ -39,7 +38,6 @@ IsEndStatus (BadReply number bytes) = ⊥
 IsEndStatus (NoReply put) = ⊤
 IsEndStatus (Limit what count) = ⊥
 IsEndStatus NoMemory = ⊥
-IsEndStatus (NotBuilt number bytes) = ⊥
 
 -- no line decides it: a fault of the source or the sink, or want of memory
 abbrev pub IsFault : Status → Type 0
@@ -53,4 +51,3 @@ IsFault (BadReply number bytes) = ⊥
 IsFault (NoReply put) = ⊥
 IsFault (Limit what count) = ⊥
 IsFault NoMemory = ⊤
-IsFault (NotBuilt number bytes) = ⊥

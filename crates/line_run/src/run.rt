@@ -1,6 +1,6 @@
 //! The run over the lines of a source.
 ghost use Rattle.std.specs.Prelude.{◌≡◌, []};
-ghost use Rattle.line_run.specs.Clauses.{CanEnd, AtDone, AtEnd, AtBadLine, AtNotBuilt, AtBadReply, AtNoReply, AtHeldLimit, AtLineLimit, AtInputLimit, AtReadFault, AfterRead, AtWriteFault, AfterWrite, AtNoMemory, IsExact, IsComplete};
+ghost use Rattle.line_run.specs.Clauses.{CanEnd, AtDone, AtEnd, AtBadLine, AtBadReply, AtNoReply, AtHeldLimit, AtLineLimit, AtInputLimit, AtReadFault, AfterRead, AtWriteFault, AfterWrite, AtNoMemory, IsExact, IsComplete};
 ghost use Rattle.line_run.specs.Explains.{Explains};
 ghost use Rattle.line_run.specs.Written.{WritesOnly};
 
@@ -71,8 +71,6 @@ pub fn run_machine<M: Machine, S: Source, K: Sink>(
 
     // A line that ends the run, and just the text of the run before it was written.
     ensures bad_line { AtBadLine M.rules M.cause (M.state machine.old) result (S.left input.old)
-        (K.written out.old) (K.written out.new) }
-    ensures not_built { AtNotBuilt M.rules M.cause (M.state machine.old) result (S.left input.old)
         (K.written out.old) (K.written out.new) }
     ensures bad_reply { AtBadReply M.rules M.cause (M.state machine.old) result (S.left input.old)
         (K.written out.old) (K.written out.new) }

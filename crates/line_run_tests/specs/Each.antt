@@ -1,7 +1,7 @@
 -- A machine that gives each byte of a line back on a line of its own.
 use Rattle.std.specs.Prelude.{◌≡◌, ℕ, List, [], ◌∷◌, ⊤}
 use Rattle.kube_model.specs.declared.status.Status.{Status}
-use Rattle.kube_model.specs.declared.status.Status.TheVariants.{Done, Usage, OpenFault, ReadFault, WriteFault, BadLine, BadReply, NoReply, Limit, NoMemory, NotBuilt}
+use Rattle.kube_model.specs.declared.status.Status.TheVariants.{Done, Usage, OpenFault, ReadFault, WriteFault, BadLine, BadReply, NoReply, Limit, NoMemory}
 use Rattle.mlb_edge.specs.declared.lines.Line.{Line}
 use Rattle.line_run.specs.Machine.{Goes, Stops, Rules}
 use Rattle.line_run.specs.Statuses.{IsLineStatus}
@@ -23,7 +23,6 @@ each_cause (BadReply number bytes) = ⊥
 each_cause (NoReply put) = ⊥
 each_cause (Limit what count) = ⊥
 each_cause NoMemory = ⊥
-each_cause (NotBuilt number bytes) = ⊥
 
 pub each_stops : (s : ⊤) (line : Line) (status : Status) → each_rules.step s line ≡ Stops status → IsLineStatus status × each_cause status
 each_stops s line status e = absurd (cc)

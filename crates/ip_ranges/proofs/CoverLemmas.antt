@@ -7,7 +7,7 @@ use Rattle.std.proofs.Math.Pow.{pow_pos}
 use Rattle.ip_ranges.specs.declared.family.Family.{Family}
 use Rattle.ip_ranges.specs.Values.{SpanValue, PrefixValue, width_of}
 use Rattle.ip_ranges.proofs.BlockLemmas.{width_le as width_lt}
-use Rattle.ip_ranges.specs.Cover.{block, is_apart, is_inside, cover_within}
+use Rattle.ip_ranges.specs.Cover.{IsPlaced, IsHalved, block, is_apart, is_inside, cover_within}
 
 pub within-apart : (s : SpanValue) (bits base : ℕ) → is_apart s bits base ≡ true → cover_within s bits base ≡ []
 unfolding cover_within
@@ -78,12 +78,6 @@ half_multiple half n e =
     let zero_sum : n % 2 ^ (1 + half) ≡ 0 = rw one e in
     omega arith
 
--- where 2^bits numbers from base on may stand
-pub record IsPlaced (s : SpanValue) (bits base : ℕ) : Type 0 where
-  pub bits_fit : bits ≤ width_of s.family
-  pub numbers_fit : base + 2 ^ bits ≤ 2 ^ width_of s.family
-  pub aligned : base % 2 ^ bits ≡ 0
-
 pub IsPlaced-lower : (s : SpanValue) (half base : ℕ) → IsPlaced s (suc half) base → IsPlaced s half base
 IsPlaced-lower s half base placed =
     let double = two_halves half in
@@ -130,19 +124,13 @@ module _ (s : SpanValue) (P : ℕ → ℕ → List PrefixValue → Type 0)
           let (low, high) = apart_no s (suc bits) base e in
           subst (P (suc bits) base) (sym (within-suc s bits base e f)) (both bits base placed low high (inside_no s (suc bits) base f) _ _ lower upper)
 
--- What holds where the code goes on to the halves.
+-- Where the code goes on to the halves.
 
 pub some_bits : (s : SpanValue) (bits base : ℕ) → is_apart s bits base ≡ false → is_inside s bits base ≡ false → bits ≡ suc (bits - 1)
 some_bits s zero base e f =
     let (low, high) = apart_no s 0 base e in
     absurd (⊎_elim (λ below. omega arith) (λ above. omega arith) (inside_no s 0 base f))
 some_bits s (suc bits) base e f = omega arith
-
-pub lower_half : (s : SpanValue) (bits base : ℕ) → bits ≡ suc (bits - 1) → bits ≤ width_of s.family → base + 2 ^ bits ≤ 2 ^ width_of s.family
-    → (bits - 1 ≤ width_of s.family) × (base + 2 ^ (bits - 1) ≤ 2 ^ width_of s.family)
-lower_half s bits base some h fits =
-    let double : 2 ^ bits ≡ 2 ^ (bits - 1) + 2 ^ (bits - 1) = ap (λ k. 2 ^ k) some ∙ two_halves (bits - 1) in
-    (omega arith, omega arith)
 
 pub middle_is : (half base ones : ℕ) → ones ≡ 2 ^ half - 1 → base + ones + 1 ≡ base + 2 ^ half
 middle_is half base ones e = let positive = pow_pos half in omega arith
@@ -153,19 +141,19 @@ middle_fits s bits base some fits =
     let positive = pow_pos (bits - 1) in
     width_lt s.family _ (omega arith)
 
-pub upper_half : (s : SpanValue) (bits base ones : ℕ) → bits ≡ suc (bits - 1) → base + 2 ^ bits ≤ 2 ^ width_of s.family → ones ≡ 2 ^ (bits - 1) - 1
-    → base + ones + 1 + 2 ^ (bits - 1) ≤ 2 ^ width_of s.family
-upper_half s bits base ones some fits e =
-    let double : 2 ^ bits ≡ 2 ^ (bits - 1) + 2 ^ (bits - 1) = ap (λ k. 2 ^ k) some ∙ two_halves (bits - 1) in
-    let positive = pow_pos (bits - 1) in
-    omega arith
+pub halved : (s : SpanValue) (bits base ones : ℕ) → is_apart s bits base ≡ false → is_inside s bits base ≡ false → ones ≡ 2 ^ (bits - 1) - 1
+    → IsHalved s bits base (bits - 1) (base + ones + 1)
+halved s bits base ones e f is =
+    let some = some_bits s bits base e f in
+    let middle = middle_is (bits - 1) base ones is in
+    record { halves = some; upper = middle; cover = within-halves s bits (bits - 1) base some e f ∙ ap (λ b. cover_within s (bits - 1) base ++ cover_within s (bits - 1) b) (sym middle) }
 
-pub lower_aligned : (bits base : ℕ) → bits ≡ suc (bits - 1) → base % 2 ^ bits ≡ 0 → base % 2 ^ (bits - 1) ≡ 0
-lower_aligned bits base some e = half_multiple (bits - 1) base (subst (λ k. base % 2 ^ k ≡ 0) some e)
+pub lower_placed : (s : SpanValue) (bits base half middle : ℕ) → IsPlaced s bits base → IsHalved s bits base half middle → IsPlaced s half base
+lower_placed s bits base half middle placed halved = IsPlaced-lower s half base (subst (λ k. IsPlaced s k base) halved.halves placed)
 
-pub upper_aligned : (bits base ones : ℕ) → bits ≡ suc (bits - 1) → base % 2 ^ bits ≡ 0 → ones ≡ 2 ^ (bits - 1) - 1 → (base + ones + 1) % 2 ^ (bits - 1) ≡ 0
-upper_aligned bits base ones some e is =
-    rw (middle_is (bits - 1) base ones is) (add-mod_right base (2 ^ (bits - 1)) ∙ lower_aligned bits base some e)
+pub upper_placed : (s : SpanValue) (bits base half middle : ℕ) → IsPlaced s bits base → IsHalved s bits base half middle → IsPlaced s half middle
+upper_placed s bits base half middle placed halved =
+    subst (IsPlaced s half) (sym halved.upper) (IsPlaced-upper s half base (subst (λ k. IsPlaced s k base) halved.halves placed))
 
 -- the prefix that the code makes of a block
 pub made_block : (f : Family) (low high bits base w : ℕ) (s : SpanValue) → record { family = f; low = low; high = high } ≡ s → w ≡ width_of f

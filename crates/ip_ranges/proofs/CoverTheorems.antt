@@ -11,9 +11,9 @@ use Rattle.std.specs.Prelude.{IsTrue, count_by}
 use Rattle.ip_ranges.specs.declared.family.Family.{Family}
 use Rattle.ip_ranges.specs.declared.family.Family.TheVariants.{V4, V6}
 use Rattle.ip_ranges.specs.Values.{SpanValue, PrefixValue, IsPrefix, IsRange, width_of}
-use Rattle.ip_ranges.specs.Cover.{size_of, has, IsAscending, IsCover, block, cover_within, cover_of, least_of, least_length_of}
+use Rattle.ip_ranges.specs.Cover.{IsPlaced, size_of, has, IsAscending, IsCover, block, cover_within, cover_of, least_of, least_length_of}
 use Rattle.ip_ranges.proofs.BlockLemmas.{multiple_within}
-use Rattle.ip_ranges.proofs.CoverLemmas.{IsPlaced, IsPlaced-upper, by_halves, two_halves}
+use Rattle.ip_ranges.proofs.CoverLemmas.{IsPlaced-upper, by_halves, two_halves}
 
 pub size_of-block : (s : SpanValue) (bits base : ℕ) → bits ≤ width_of s.family → size_of (block s bits base) ≡ 2 ^ bits
 size_of-block s bits base h =
@@ -413,9 +413,6 @@ least_length_of-found s range =
     let some = some_prefix (λ p. has p s.low) (cover_of s) ((made.numbers s.low).1 (omega arith, range.0)) in
     let small = all_map (IsOf s) (λ p. p.length ≤ 128) (λ p h. let fits = h.0.0 in let wide = width_le p.family in omega arith) (cover_of s) made.prefixes in
     least_found _ (cover_of s) refl some small
-
-pub least_of-block : (s : SpanValue) (bits base w : ℕ) → w ≡ width_of s.family → w - bits ≡ least_of (block s bits base ∷ [])
-least_of-block s bits base w e = let wide = width_le s.family in omega arith
 
 pub within_all : (s : SpanValue) (w : ℕ) → w ≡ width_of s.family → cover_within s w 0 ≡ cover_of s
 unfolding cover_of

@@ -1,7 +1,9 @@
 -- The shortest list of prefixes that has exactly the addresses of a span.
-use Rattle.std.specs.Prelude.{◌≡◌, ℕ, zero, suc, ◌+◌, ◌-◌, ◌^◌, ◌≤◌, ◌↔◌, ⊤, Bool, ◌&&◌, ◌||◌, nat_le, nat_lt, IsTrue, List, [], ◌∷◌, ◌++◌, length, min, if◌then◌else◌}
+use Rattle.std.specs.Prelude.{◌≡◌, ℕ, zero, suc, ◌+◌, ◌-◌, ◌^◌, ◌%◌, ◌≤◌, ◌↔◌, ⊤, Bool, ◌&&◌, ◌||◌, nat_le, nat_lt, IsTrue, List, [], ◌∷◌, ◌++◌, length, min, if◌then◌else◌}
 use Rattle.std.specs.List.{AllByRecursion, list_any}
 use Rattle.ip_ranges.specs.Values.{SpanValue, PrefixValue, IsPrefix, width_of, size_at}
+use Rattle.ip_ranges.specs.declared.covers.Part.{Part}
+use Rattle.ip_ranges.specs.declared.covers.Part.TheVariants.{Nothing, Whole, Halves}
 
 -- how many addresses a prefix has
 abbrev pub size_of : PrefixValue → ℕ
@@ -49,6 +51,24 @@ cover_within s (suc bits) base =
     if is_apart s (suc bits) base then []
     else (if is_inside s (suc bits) base then block s (suc bits) base ∷ []
     else cover_within s bits base ++ cover_within s bits (base + 2 ^ bits))
+
+-- 2^bits numbers from base on are a block of the span's family
+pub record IsPlaced (s : SpanValue) (bits base : ℕ) : Type 0 where
+  pub bits_fit : bits ≤ width_of s.family
+  pub numbers_fit : base + 2 ^ bits ≤ 2 ^ width_of s.family
+  pub aligned : base % 2 ^ bits ≡ 0
+
+-- the cover of a block is that of its halves
+pub record IsHalved (s : SpanValue) (bits base half middle : ℕ) : Type 0 where
+  pub halves : bits ≡ suc half
+  pub upper : middle ≡ base + 2 ^ half
+  pub cover : cover_within s bits base ≡ cover_within s half base ++ cover_within s half middle
+
+-- what a part says of the cover of a block
+abbrev pub IsPart : SpanValue → ℕ → ℕ → Part → Type 0
+IsPart s bits base Nothing = cover_within s bits base ≡ []
+IsPart s bits base (Whole prefix) = cover_within s bits base ≡ prefix ∷ []
+IsPart s bits base (Halves half middle) = IsHalved s bits base half middle
 
 -- the cover of a span: its part of all the family's numbers
 unfoldable pub cover_of : SpanValue → List PrefixValue

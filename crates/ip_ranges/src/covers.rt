@@ -2,7 +2,7 @@
 ghost use Rattle.std.specs.Prelude.{◌≡◌, ◌+◌, ◌*◌, ◌%◌, ◌^◌, ◌≤◌, ◌++◌, ◌&&◌, ◌||◌, nat_lt, nat_le, IsTrue, IfOk, OnOk, length, ◌==◌};
 ghost use Rattle.std.specs.List.{AllByRecursion, list_any};
 ghost use Rattle.ip_ranges.specs.Values.{IsRange, width_of};
-ghost use Rattle.ip_ranges.specs.Cover.{IsCover, cover_of, cover_within, least_of, least_length_of};
+ghost use Rattle.ip_ranges.specs.Cover.{IsCover, IsPart, IsPlaced, cover_of, cover_within, least_of, least_length_of};
 
 use crate::prefix::low_ones;
 use crate::{Prefix, PrefixList, Span};
@@ -32,47 +32,69 @@ pub fn least_length(span: &Span) -> u8
     least_within(span, span.family.width(), 0)
 }
 
-/// Appends the cover of those of the `2^bits` addresses from `base` on that are the range's.
-fn add_cover(span: &Span, bits: u8, base: u128, prefixes: &mut PrefixList) -> Result<(), NoMemory>
-    requires bits { bits ≤ width_of span.now.family }
-    requires base { base + 2 ^ bits ≤ 2 ^ width_of span.now.family }
-    requires aligned { base % 2 ^ bits ≡ 0 }
-    ensures { OnOk result (prefixes.new ≡ prefixes.old ++ cover_within span.now bits base) }
+/// Those addresses of a block that a range has.
+enum Part {
+    Nothing,
+    /// All of them.
+    Whole { prefix: Prefix },
+    /// Some of them: those of its two halves, of `2^half` addresses each, the upper one from `middle` on.
+    Halves { half: u8, middle: u128 },
+}
+
+/// What the range has of the `2^bits` addresses from `base` on.
+fn part_of(span: &Span, bits: u8, base: u128) -> Part
+    requires { IsPlaced span.now bits base }
+    ensures { IsPart span.now bits base result }
 {
     let last = base + low_ones(bits);
     if is_apart(span, base, last) {
-        return Ok(());
+        return Part::Nothing;
     }
     if is_inside(span, base, last) {
-        return prefixes.push(Prefix {
+        let prefix = Prefix {
             family: span.family,
             number: base,
             length: span.family.width() - bits,
-        });
+        };
+        return Part::Whole { prefix };
     }
     let half = bits - 1;
-    add_cover(span, half, base, prefixes)?;
-    add_cover(span, half, base + low_ones(half) + 1, prefixes)
+    Part::Halves {
+        half,
+        middle: base + low_ones(half) + 1,
+    }
+}
+
+/// Appends the cover of those of the `2^bits` addresses from `base` on that are the range's.
+fn add_cover(span: &Span, bits: u8, base: u128, prefixes: &mut PrefixList) -> Result<(), NoMemory>
+    requires { IsPlaced span.now bits base }
+    ensures { OnOk result (prefixes.new ≡ prefixes.old ++ cover_within span.now bits base) }
+{
+    match part_of(span, bits, base) {
+        Part::Nothing => Ok(()),
+        Part::Whole { prefix } => prefixes.push(prefix),
+        Part::Halves { half, middle } => {
+            add_cover(span, half, base, prefixes)?;
+            add_cover(span, half, middle, prefixes)
+        }
+    }
 }
 
 /// The least length in the cover of those of the `2^bits` addresses from `base` on that are the
 /// range's, and 128 where none is.
 fn least_within(span: &Span, bits: u8, base: u128) -> u8
-    requires bits { bits ≤ width_of span.now.family }
-    requires base { base + 2 ^ bits ≤ 2 ^ width_of span.now.family }
+    requires { IsPlaced span.now bits base }
     ensures { result ≡ least_of (cover_within span.now bits base) }
 {
-    let last = base + low_ones(bits);
-    if is_apart(span, base, last) {
-        return 128;
+    match part_of(span, bits, base) {
+        Part::Nothing => 128,
+        Part::Whole { prefix } => prefix.length,
+        Part::Halves { half, middle } => {
+            let lower = least_within(span, half, base);
+            let upper = least_within(span, half, middle);
+            lower.min(upper)
+        }
     }
-    if is_inside(span, base, last) {
-        return span.family.width() - bits;
-    }
-    let half = bits - 1;
-    let lower = least_within(span, half, base);
-    let upper = least_within(span, half, base + low_ones(half) + 1);
-    lower.min(upper)
 }
 
 /// Whether the range has none of the addresses from the first to the last.

@@ -1,5 +1,5 @@
 -- The claims of each key are those that the look back shows.
-use Rattle.std.proofs.Common.{◌≡◌, ℕ, Bool, true, false, cond, eqb, leb, ◌&&◌, not, List, [], ◌∷◌, Option, Some, None, is_some, filter, refl, sym, ap, subst, ◌∙◌}
+use Rattle.std.proofs.Common.{◌≡◌, ℕ, Bool, true, false, cond, eqb, leb, ◌&&◌, not, List, [], ◌∷◌, Option, Some, None, filter, refl, sym, ap, subst, ◌∙◌}
 use Rattle.std.specs.Option.{option_map_or}
 use Rattle.kube_model.specs.declared.event.Event.{Event}
 use Rattle.kube_model.specs.declared.event.Event.TheVariants.{ListEnd}
@@ -12,19 +12,19 @@ use Rattle.kube_model.specs.declared.reply.PutReply.TheVariants.{Ok as StoredRep
 use Rattle.kube_model.specs.declared.service.Service.{Service}
 use Rattle.versioned_map.specs.declared.map.Versioned.{Versioned}
 use Rattle.versioned_map.specs.Entries.{held_at, version_at}
-use Rattle.object_history.specs.Cache.{Cached, cached}
-use Rattle.object_history.specs.Observations.{Observation, Watched}
+use Rattle.object_history.specs.Cache.{Cached}
+use Rattle.object_history.specs.Observations.{Watched}
 use Rattle.kube_model.specs.Keys.{key_cmp, same_key}
 use Rattle.object_history.specs.Kinds.{service_resource}
 use Rattle.object_history.specs.LookBack.{last_shown, seen_after, version_of}
-use Rattle.object_history.proofs.Cached.{held_of, held_at-held_of, services-held}
+use Rattle.object_history.proofs.Cached.{held_at-held_of, services-held}
 use Rattle.kube_model.proofs.KeyLaws.{key_cmp-total, key_cmp-exact, same_key-is}
-use Rattle.alloc_book.specs.Claims.{ClaimValue, claims_of, claimed_by, added, settled, doubted, others}
+use Rattle.alloc_book.specs.Claims.{ClaimValue, claims_of, claimed_by, added, settled}
 use Rattle.alloc_book.proofs.ClaimLaws.{claims_of-settled, claims_of-doubted, claims_of-others}
 use Rattle.core_rules.specs.Core.{State}
-use Rattle.core_rules.specs.Take.{Concern, concern, core_by, core_take, is_unlisted}
+use Rattle.core_rules.specs.Take.{concern, core_by, core_take, is_unlisted}
 use Rattle.core_rules.specs.Reply.{replied_to}
-use Rattle.core_rules.specs.Run.{Entry, Took, Expired, Turned, Heard, core_after, IsRun, put_out, observed, version_shown, claims_told, claims_heard, claims_shown, ClaimsAreShown}
+use Rattle.core_rules.specs.Run.{Entry, Took, Expired, Turned, Heard, core_after, IsRun, observed, version_shown, claims_told, claims_heard, claims_shown, ClaimsAreShown}
 use Rattle.core_rules.proofs.Concerns.{by_concern}
 use Rattle.core_rules.proofs.Runs.{core_holds_what_was_observed}
 

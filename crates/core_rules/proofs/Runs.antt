@@ -1,20 +1,19 @@
 -- What the core holds along a run, and which put is out.
-use Rattle.std.proofs.Common.{◌≡◌, ℕ, Bool, true, false, cond, List, [], ◌∷◌, Option, Some, None, is_some, refl, sym, ap, subst, ◌∙◌}
+use Rattle.std.proofs.Common.{◌≡◌, true, List, [], ◌∷◌, Option, Some, None, is_some, refl, sym, ap, subst, ◌∙◌}
 use Rattle.kube_model.specs.declared.event.Event.{Event}
-use Rattle.kube_model.specs.declared.event.Group.{Group}
 use Rattle.kube_model.specs.declared.event.Group.TheVariants as groups
 use Rattle.kube_model.specs.declared.event.Event.TheVariants.{Deleted, ListEnd, Expired as ExpiredEvent}
 use Rattle.kube_model.specs.declared.object.Kind.TheVariants as kinds
 use Rattle.kube_model.specs.declared.put.Put.{Put}
 use Rattle.kube_model.specs.declared.reply.PutReply.{PutReply}
 use Rattle.kube_model.specs.declared.reply.PutReply.TheVariants.{Ok as StoredReply, Stale, Missing, Unknown}
-use Rattle.object_history.specs.Cache.{Cached, cached, cached_after}
+use Rattle.object_history.specs.Cache.{cached, cached_after}
 use Rattle.object_history.specs.Observations.{Observation, Watched, WatchExpired, Written}
 use Rattle.core_rules.specs.Core.{State}
 use Rattle.core_rules.specs.Take.{concern, core_by, core_take, shows}
 use Rattle.core_rules.specs.Turn.{put_in}
-use Rattle.core_rules.specs.Reply.{replied_to, core_reply}
-use Rattle.core_rules.specs.Run.{Entry, Took, Expired, Turned, Heard, core_after, IsRun, put_out, told_by, heard_by, observed, HoldsWhatWasObserved}
+use Rattle.core_rules.specs.Reply.{replied_to}
+use Rattle.core_rules.specs.Run.{Took, Expired, Turned, Heard, core_after, told_by, heard_by, observed, HoldsWhatWasObserved}
 use Rattle.core_rules.proofs.Concerns.{by_concern}
 
 took-held : (s : State) (earlier : List Observation) → s.held ≡ cached earlier → (event : Event) → (core_take s event).held ≡ cached (told_by (concern event) event earlier)

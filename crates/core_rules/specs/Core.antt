@@ -1,5 +1,5 @@
 -- The core: what it holds, and which keys wait in it.
-use Rattle.std.specs.Prelude.{ℕ, Bool, true, false, ◌&&◌, not, if◌then◌else◌, List, [], ◌∷◌, ◌++◌, filter, Option, Some, None, is_some}
+use Rattle.std.specs.Prelude.{ℕ, Bool, true, false, ◌&&◌, not, if◌then◌else◌, List, [], ◌++◌, Option, Some, None, is_some}
 use Rattle.std.specs.Option.{option_map, option_map_or}
 use Rattle.kube_model.specs.declared.key.Key.{Key}
 use Rattle.kube_model.specs.declared.put.Put.{Put}
@@ -12,7 +12,7 @@ use Rattle.pool_config.specs.ConfigValue.{ConfigValue}
 use Rattle.pool_config.specs.declared.compiled.CompiledPool.{CompiledPool}
 use Rattle.kube_labels.specs.Names.{name_cmp}
 use Rattle.object_history.specs.Cache.{Cached, nothing}
-use Rattle.kube_model.specs.Keys.{key_cmp, has_key}
+use Rattle.kube_model.specs.Keys.{key_cmp}
 use Rattle.object_cache.specs.Told.{passing}
 use Rattle.alloc_book.specs.Asking.{Offer, offer_of}
 use Rattle.alloc_book.specs.Claims.{ClaimValue}

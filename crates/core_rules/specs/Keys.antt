@@ -1,8 +1,7 @@
 -- Lists of keys.
-use Rattle.std.specs.Prelude.{Bool, ◌&&◌, not, if◌then◌else◌, List, [], ◌∷◌, ◌++◌, filter}
-use Rattle.std.specs.List.{list_any}
+use Rattle.std.specs.Prelude.{Bool, ◌&&◌, not, if◌then◌else◌, List, [], ◌∷◌}
 use Rattle.kube_model.specs.declared.key.Key.{Key}
-use Rattle.kube_model.specs.Keys.{same_key, has_key, without}
+use Rattle.kube_model.specs.Keys.{has_key}
 
 -- the key, where it isn't in the list
 abbrev pub own_key : Key → List Key → List Key

@@ -1,32 +1,23 @@
 -- Runs of the core, and what a look back over them shows. The newest stands first.
-use Rattle.std.specs.Prelude.{◌≡◌, ◌≢◌, ◌↔◌, ℕ, Bool, true, false, ◌&&◌, ◌==◌, not, nat_le, if◌then◌else◌, List, [], ◌∷◌, Option, Some, None, is_some, ⊤}
-use Rattle.std.specs.List.{list_any}
-use Rattle.std.specs.Option.{option_map, option_map_or}
+use Rattle.std.specs.Prelude.{◌≡◌, ℕ, true, ◌&&◌, ◌==◌, not, nat_le, if◌then◌else◌, List, [], ◌∷◌, Option, Some, None, is_some, ⊤}
 use Rattle.kube_model.specs.declared.event.Event.{Event}
 use Rattle.kube_model.specs.declared.event.Group.{Group}
 use Rattle.kube_model.specs.declared.event.Group.TheVariants as groups
 use Rattle.kube_model.specs.declared.key.Key.{Key}
 use Rattle.kube_model.specs.declared.put.Put.{Put}
 use Rattle.kube_model.specs.declared.record.Record.{Record}
-use Rattle.kube_model.specs.declared.reason.Reason.{Reason}
 use Rattle.kube_model.specs.declared.reply.PutReply.{PutReply}
 use Rattle.kube_model.specs.declared.reply.PutReply.TheVariants.{Ok as StoredReply, Stale, Missing, Unknown}
-use Rattle.kube_model.specs.declared.service.Service.{Service}
-use Rattle.versioned_map.specs.declared.map.Versioned.{Versioned}
-use Rattle.pool_config.specs.ConfigValue.{ConfigValue}
-use Rattle.object_history.specs.Cache.{Cached, cached}
+use Rattle.object_history.specs.Cache.{cached}
 use Rattle.object_history.specs.Observations.{Observation, Watched, WatchExpired, Written}
-use Rattle.object_history.specs.Kinds.{service_resource, namespace_resource}
-use Rattle.object_history.specs.LookBack.{last_shown, version_last_shown, HasEnded, IsInForce, IsLastShown}
-use Rattle.alloc_book.specs.declared.choice.Choice.{Choice}
-use Rattle.alloc_book.specs.Chosen.{IsChosen}
+use Rattle.object_history.specs.Kinds.{service_resource}
+use Rattle.object_history.specs.LookBack.{version_last_shown}
 use Rattle.alloc_book.specs.Claims.{claims_of, claimed_by, added}
-use Rattle.kube_model.specs.Keys.{same_key, has_key}
+use Rattle.kube_model.specs.Keys.{same_key}
 use Rattle.core_rules.specs.declared.turn.Turn.{Turn}
-use Rattle.core_rules.specs.declared.turn.Turn.TheVariants.{Idle, NoPut, Wants}
-use Rattle.core_rules.specs.Core.{State, fresh, offer_at, service_of}
+use Rattle.core_rules.specs.Core.{State, fresh}
 use Rattle.core_rules.specs.Take.{Concern, Shows, Drops, EndsServices, Configures, Lapses, Nothing, concern, core_take, core_expired}
-use Rattle.core_rules.specs.Turn.{core_turn, after_turn, put_in, wanted_record, reason_in}
+use Rattle.core_rules.specs.Turn.{core_turn, after_turn, put_in}
 use Rattle.core_rules.specs.Reply.{core_reply}
 
 -- what arrives at a core, and what it was made to do

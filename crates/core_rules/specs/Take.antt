@@ -1,5 +1,5 @@
 -- What an event makes of the core.
-use Rattle.std.specs.Prelude.{ℕ, Bool, true, false, ◌&&◌, ◌||◌, ◌==◌, not, nat_le, if◌then◌else◌, List, [], ◌∷◌, ◌++◌, filter, length, Option, Some, None, is_some}
+use Rattle.std.specs.Prelude.{ℕ, Bool, true, false, ◌&&◌, ◌||◌, ◌==◌, not, if◌then◌else◌, List, [], ◌++◌, filter, is_some}
 use Rattle.std.specs.List.{list_any}
 use Rattle.kube_model.specs.declared.event.Event.{Event}
 use Rattle.kube_model.specs.declared.event.Event.TheVariants.{Changed, Deleted, ListEnd, Expired, Members, Frame, Ignored}
@@ -14,7 +14,7 @@ use Rattle.kube_model.specs.declared.service.Service.{Service}
 use Rattle.versioned_map.specs.declared.map.Versioned.{Versioned}
 use Rattle.versioned_map.specs.Entries.{is_newer, listed, version_at}
 use Rattle.object_history.specs.Cache.{Cached, cached_after}
-use Rattle.object_history.specs.Observations.{Observation, Watched, WatchExpired}
+use Rattle.object_history.specs.Observations.{Watched, WatchExpired}
 use Rattle.kube_model.specs.Keys.{key_cmp, same_key, without}
 use Rattle.object_cache.specs.declared.change.Change.{Change}
 use Rattle.object_cache.specs.declared.change.Change.TheVariants.{Service as ServiceChange, Services, Namespace as NamespaceChange, Other}
@@ -24,7 +24,7 @@ use Rattle.object_cache.specs.declared.change.Applied.{Applied}
 use Rattle.object_cache.specs.Change.{applied}
 use Rattle.object_cache.specs.Limits.{most_services, passes}
 use Rattle.alloc_book.specs.Claims.{ClaimValue, others, settled, loses, has_claims}
-use Rattle.core_rules.specs.Core.{State, is_ready, service_of, all_free, waiting}
+use Rattle.core_rules.specs.Core.{State, is_ready, all_free, waiting}
 use Rattle.core_rules.specs.Keys.{own_key}
 
 -- what an event is about, for a controller

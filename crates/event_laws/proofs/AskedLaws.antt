@@ -1,5 +1,5 @@
 -- The addresses that a service asks for.
-use Rattle.std.proofs.Common.{◌≡◌, ◌≢◌, ℕ, suc, ◌+◌, List, [], ◌∷◌, map, length, eqb, false, Option, Some, None, option_map, option_and_then, Result, Ok, Err, refl, sym, ap, ◌∙◌, inl, inr, arith}
+use Rattle.std.proofs.Common.{◌≡◌, ◌≢◌, ℕ, List, [], ◌∷◌, map, length, eqb, false, Option, Some, None, option_map, option_and_then, Result, Ok, Err, refl, sym, ap, ◌∙◌, inl, inr, arith}
 use Rattle.std.proofs.lemmas.Bool.{ne_eqb}
 use Rattle.std.specs.Result.{result_ok}
 use Rattle.std.specs.Prelude.{IsErr}
@@ -9,7 +9,7 @@ use Rattle.ip_ranges.specs.Values.{AddressValue}
 use Rattle.ip_ranges.specs.AddressText.{address_of}
 use Rattle.kube_model.specs.declared.service.Wanted.TheVariants.{NotAsked, Unreadable, Asked}
 use Rattle.kube_events.specs.Wanted.{spelled_all, asked_of, single_of, wanted_of}
-use Rattle.event_laws.specs.Asked.{parts_of, part_address, AnnotationIsRead, FieldIsRead, AnnotationsAreRead, FieldsAreRead, NothingIsAsked}
+use Rattle.event_laws.specs.Asked.{parts_of, part_address, AnnotationsAreRead, FieldsAreRead, NothingIsAsked}
 
 both_there : (first : Option AddressValue) (others : Option (List AddressValue)) (addresses : List AddressValue)
     → option_and_then (λ a. option_map (λ rest. a ∷ rest) others) first ≡ Some addresses

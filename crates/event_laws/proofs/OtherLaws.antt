@@ -1,5 +1,5 @@
 -- Lines of bookmarks, members and frames.
-use Rattle.std.proofs.Common.{◌≡◌, ◌≢◌, ◌⊎◌, ℕ, Bool, true, false, List, [], ◌∷◌, Option, Some, None, Result, Ok, Ordering, Less, Equal, Greater, fold, refl, sym, ap, ◌∙◌, inl, inr, ⊎_elim, codes, bytes_eq}
+use Rattle.std.proofs.Common.{◌≡◌, ◌≢◌, ◌⊎◌, ℕ, Bool, true, false, List, [], ◌∷◌, Option, Some, None, Ok, Ordering, Less, Equal, Greater, refl, sym, ap, ◌∙◌, inl, inr, ⊎_elim, codes, bytes_eq}
 use Rattle.std.specs.Ordering.{match_ordering, ordering_reverse}
 use Rattle.std.specs.List.{AllByRecursion}
 use Rattle.std.specs.List.Sorted.{IsStrictlySortedBy}
@@ -12,13 +12,13 @@ use Rattle.json_fields.specs.Reading.{is_text, text_of}
 use Rattle.mlb_base.specs.Items.{IsIn}
 use Rattle.kube_labels.specs.Names.{name_cmp}
 use Rattle.kube_labels.proofs.NameLaws.{name_cmp-total, name_cmp-exact}
-use Rattle.kube_model.specs.declared.event.Event.TheVariants.{Members, Frame, Ignored}
+use Rattle.kube_model.specs.declared.event.Event.TheVariants.{Frame, Ignored}
 use Rattle.kube_model.specs.declared.event.Group.{Group}
 use Rattle.kube_model.specs.declared.object.Kind.{Kind}
 use Rattle.kube_events.specs.Members.{names_with, distinct_names, members_of}
 use Rattle.kube_events.specs.Frame.{bytes_of, interface_field, bytes_field, frame_of}
 use Rattle.kube_events.specs.Event.{list_end, listed_in, end_annotation, ends_list, event_of, event_of_line}
-use Rattle.event_laws.specs.ObjectLines.{Field, spelled, Spells}
+use Rattle.event_laws.specs.ObjectLines.{Field, spelled}
 use Rattle.event_laws.specs.Telling.{Tells}
 use Rattle.event_laws.specs.OtherLines.{BookmarksAreRead, AreMembers, MembersAreRead, frame_line, FramesAreRead, FramesReadBack}
 use Rattle.event_laws.proofs.Spelled.{kinds_named, own_value, required_read, text_read, from_bytes}

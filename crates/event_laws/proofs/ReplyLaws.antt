@@ -3,12 +3,11 @@ use Rattle.std.proofs.Common.{◌≡◌, ℕ, ◌<◌, Bool, true, false, cond, 
 use Rattle.std.proofs.lemmas.Bool.{lt-ltb}
 use Rattle.std.proofs.lemmas.Slice.Eq.{bytes_eq-Decides}
 use Rattle.serde_json.specs.Data.{Data}
-use Rattle.json_fields.specs.Line.{value_of_line}
 use Rattle.kube_model.specs.declared.put.Put.{Put}
 use Rattle.kube_model.specs.declared.reply.PutReply.{PutReply}
 use Rattle.kube_model.specs.declared.reply.PutReply.TheVariants as replies
 use Rattle.kube_events.specs.Event.{text_in}
-use Rattle.kube_lines.specs.Reply.{newer, version_in, reply_named, reply_in, reply_of}
+use Rattle.kube_lines.specs.Reply.{newer, version_in, reply_named, reply_of}
 use Rattle.event_laws.specs.Replies.{RepliesAreRead, RepliesAreJson}
 
 newer_by : (b : Bool) (n m : ℕ) → cond b (Some (replies.Ok n)) None ≡ Some (replies.Ok m) → (b ≡ true) × (n ≡ m)

@@ -1,5 +1,5 @@
 -- Versions are decimal numbers without leading zeros, from 1 below 2 ^ 64.
-use Rattle.std.proofs.Common.{◌≡◌, ◌≢◌, ℕ, zero, suc, ◌+◌, ◌^◌, ◌<◌, ◌≤◌, Bool, true, false, List, [], ◌∷◌, length, get_or, Option, Some, None, Result, Ok, Err, refl, sym, ap, subst, ◌∙◌, eqb, ltb, ltb-true, cond, ◌&&◌, not, arith, option_and_then, codes, bytes_eq, eq-eqb}
+use Rattle.std.proofs.Common.{◌≡◌, ℕ, zero, suc, ◌^◌, ◌<◌, ◌≤◌, Bool, true, false, List, [], ◌∷◌, length, get_or, Option, Some, None, Result, Ok, Err, refl, sym, ap, subst, ◌∙◌, eqb, ltb, ltb-true, cond, ◌&&◌, not, arith, option_and_then, codes, bytes_eq, eq-eqb}
 use Rattle.std.specs.Prelude.{decimal}
 use Rattle.std.specs.List.{list_all}
 use Rattle.std.specs.Char.{is_ascii_digit}
@@ -21,7 +21,7 @@ use Rattle.kube_model.specs.declared.object.Object.{Object}
 use Rattle.kube_model.specs.declared.key.Key.{Key}
 use Rattle.kube_model.specs.Named.{kind_named}
 use Rattle.kube_events.specs.Named.{version_named, version_of}
-use Rattle.kube_events.specs.Fields.{Pairs, key_of, version_field, labels_field}
+use Rattle.kube_events.specs.Fields.{key_of, version_field, labels_field}
 use Rattle.kube_events.specs.ObjectFields.{body_of, changed_of, deleted_of}
 use Rattle.kube_events.specs.Members.{members_field, members_of, distinct_names}
 use Rattle.kube_events.specs.Frame.{interface_field, bytes_field, frame_of}

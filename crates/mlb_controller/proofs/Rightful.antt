@@ -1,10 +1,9 @@
 -- What the lines of a stream lead to is a run of the core, so its transcript is sound, and a run that is done leaves nothing waiting.
-use Rattle.std.proofs.Common.{◌≡◌, ℕ, Bool, true, false, cond, List, [], ◌∷◌, ◌++◌, Option, Some, None, Result, Ok, Err, ◌⊎◌, inl, inr, is_some, refl, sym, ap, ◌∙◌}
+use Rattle.std.proofs.Common.{◌≡◌, ℕ, Bool, true, false, cond, List, [], ◌∷◌, ◌++◌, Option, Some, None, Result, Ok, Err, inl, inr, is_some, refl, ap}
 use Rattle.kube_model.specs.declared.event.Event.{Event}
 use Rattle.kube_model.specs.declared.event.EventFault.{EventFault}
 use Rattle.kube_model.specs.declared.put.Put.{Put}
 use Rattle.kube_model.specs.declared.reply.PutReply.{PutReply}
-use Rattle.kube_model.specs.declared.status.Status.{Status}
 use Rattle.kube_model.specs.declared.status.Status.TheVariants.{Done, Limit}
 use Rattle.kube_model.specs.declared.status.What.TheVariants as whats
 use Rattle.kube_events.specs.Event.{event_of_line}
@@ -13,19 +12,18 @@ use Rattle.core_rules.specs.Core.{State, fresh}
 use Rattle.core_rules.specs.Take.{limits}
 use Rattle.core_rules.specs.Run.{Entry as CoreEntry, IsRun}
 use Rattle.core_drive.specs.Drive.{Driven, Entry, taking, hearing, core_entry, behind}
-use Rattle.core_drive.specs.Sound.{IsSound, LeadsTo, ShowsTerms}
+use Rattle.core_drive.specs.Sound.{IsSound, LeadsTo}
 use Rattle.core_drive.proofs.Goes.{begins_fresh, events_go_on, replies_go_on, drives_are_sound, drives_are_quiet}
 use Rattle.world_rules.proofs.Explaining.{runs_are_safe_in_worlds}
 use Rattle.line_run.specs.Machine.{Step, Goes, Stops}
 use Rattle.line_run.specs.Run.{run_from, status_at}
-use Rattle.line_run.specs.Statuses.{IsLineStatus}
 use Rattle.line_run.proofs.Kept.{Kept, StopsIn, run-keeps}
 use Rattle.line_run.specs.Written.{WritesOnly, StopsAs}
 use Rattle.mlb_edge.specs.declared.lines.Line.{Line}
 use Rattle.mlb_edge.specs.Lines.{Ending, Whole, LongLine, LongInput, input_of}
 use Rattle.service_texts.proofs.Lines.{events_show_terms}
 use Rattle.mlb_controller.specs.Causes.{line_causes}
-use Rattle.mlb_controller.specs.Stream.{goes_by, event_step, reply_step, step_where, line_step, controller_rules, end_of}
+use Rattle.mlb_controller.specs.Stream.{goes_by, event_step, reply_step, step_where, controller_rules, end_of}
 use Rattle.mlb_controller.specs.Sound.{WritesSound, RunsSound, IsSafeThroughout, RunsSafe, LeavesNothing, EndsQuiet}
 
 module _ (class : Option (List ℕ)) where

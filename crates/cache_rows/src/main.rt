@@ -1,0 +1,77 @@
+//! Reads the lines of a watch, and writes what a cache makes of the event of each: the change, the note, how many services are held
+//! then, and how many pools are in force. A line that begins with `#` says what the next one shows, and is written as it stands.
+#![tactic(auto)]
+
+use kube_events::read_event;
+use mlb_base::NoMemory;
+use object_cache::{Applied, ApplyFault, Change, ObjectCache, TakeNote};
+use std::alloc::Global;
+use std::io;
+
+/// What the change is called. A service that wasn't held before is called new, also where it is deleted.
+fn change_name(change: &Change) -> &'static str {
+    match change {
+        Change::Service { before: None, .. } => "new service",
+        Change::Service {
+            before: Some(_),
+            ..
+        } => "held service",
+        Change::Services { unlisted } if unlisted.is_empty() => "services",
+        Change::Services { .. } => "unlisted services",
+        Change::Namespace { .. } => "namespace",
+        Change::Other => "other",
+    }
+}
+
+fn note_name(note: &TakeNote) -> &'static str {
+    match note {
+        TakeNote::Quiet => "quiet",
+        TakeNote::Accepted => "accepted",
+        TakeNote::Refused { .. } => "refused",
+    }
+}
+
+fn pools_in_force(cache: &ObjectCache) -> usize {
+    match cache.config() {
+        Some(config) => config.pools.as_slice().len(),
+        None => 0,
+    }
+}
+
+fn outcome(alloc: Global, cache: &ObjectCache, applied: &Applied) -> Result<String, NoMemory> {
+    let change = change_name(&applied.change);
+    let note = note_name(&applied.note);
+    let services = cache.services().len();
+    let pools = pools_in_force(cache);
+    Ok(format!(in alloc; "{change}, {note}; services {services}, pools {pools}\n")?)
+}
+
+fn applied(alloc: Global, cache: &mut ObjectCache, line: &str) -> Result<String, NoMemory> {
+    let Ok(event) = read_event(alloc, line.as_bytes()) else {
+        return Ok(String::from_str(alloc, "no event\n")?);
+    };
+    match cache.apply(event) {
+        Ok(applied) => outcome(alloc, cache, &applied),
+        Err(ApplyFault::NoMemory) => Err(NoMemory),
+        Err(ApplyFault::Limit { .. }) => Ok(String::from_str(alloc, "limit\n")?),
+    }
+}
+
+fn written(alloc: Global, cache: &mut ObjectCache, line: &str) -> Result<String, NoMemory> {
+    if line.as_bytes().starts_with(b"#") {
+        return Ok(format!(in alloc; "{line}\n")?);
+    }
+    applied(alloc, cache, line)
+}
+
+fn main(rt: HostRuntime) -> io::Result<()> {
+    let alloc = rt.alloc();
+    let mut cache = ObjectCache::new(alloc);
+    for line in rt.lines(alloc) {
+        match written(alloc, &mut cache, line?.as_str()) {
+            Ok(text) => print!(rt; "{text}")?,
+            Err(_) => println!(rt; "out of memory")?,
+        }
+    }
+    Ok(())
+}

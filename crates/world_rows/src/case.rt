@@ -1,0 +1,98 @@
+//! One case of the table.
+
+use crate::crashes::crash_lines;
+use crate::steps::{make, world_of};
+use crate::stored::{held_text, store_text};
+use ctl_world::World;
+use kube_labels::Text;
+use mlb_base::NoMemory;
+use std::alloc::Global;
+
+/// The lines of a case, and the world that they lead to.
+#[derive(Drop)]
+pub struct Case {
+    alloc: Global,
+    objects: Vec<Text>,
+    history: Vec<Text>,
+    world: Option<World>,
+}
+
+/// What the step is called: the line, or that it is an edit.
+fn step_name(line: &str) -> &str {
+    if line.as_bytes().starts_with(b"{") {
+        return "edit";
+    }
+    line
+}
+
+fn step_text(alloc: Global, world: &mut World, line: &str) -> Result<String, NoMemory> {
+    match make(alloc, world, line)? {
+        None => Ok(String::new(alloc)),
+        Some(fault) => Ok(format!(in alloc; "{}: {fault}\n", step_name(line))?),
+    }
+}
+
+impl Case {
+    pub fn new(alloc: Global) -> Case {
+        Case {
+            alloc,
+            objects: Vec::new(alloc),
+            history: Vec::new(alloc),
+            world: None,
+        }
+    }
+
+    fn begin(&mut self) -> Result<String, NoMemory> {
+        let world = world_of(self.alloc, &self.objects)?;
+        let earlier = self.world.replace(world);
+        drop(earlier);
+        Ok(String::new(self.alloc))
+    }
+
+    fn happen(&mut self, line: &str) -> Result<String, NoMemory> {
+        self.history.push(Text::new(self.alloc, line)?)?;
+        match &mut self.world {
+            None => Ok(String::new(self.alloc)),
+            Some(world) => step_text(self.alloc, world, line),
+        }
+    }
+
+    fn show(&self) -> Result<String, NoMemory> {
+        match &self.world {
+            None => Ok(String::new(self.alloc)),
+            Some(world) => {
+                let stored = store_text(self.alloc, world.store())?;
+                Ok(format!(in self.alloc; "stored:{stored}\n")?)
+            }
+        }
+    }
+
+    fn held(&self, name: &str) -> Result<String, NoMemory> {
+        match &self.world {
+            None => Ok(String::new(self.alloc)),
+            Some(world) => {
+                let held = held_text(self.alloc, world, name)?;
+                Ok(format!(in self.alloc; "held {name}: {held}\n")?)
+            }
+        }
+    }
+
+    fn add(&mut self, line: &str) -> Result<String, NoMemory> {
+        self.objects.push(Text::new(self.alloc, line)?)?;
+        Ok(String::new(self.alloc))
+    }
+
+    /// What is written at the line.
+    pub fn take(&mut self, line: &str) -> Result<String, NoMemory> {
+        if let Some(name) = line.strip_prefix("held ") {
+            return self.held(name);
+        }
+        match line {
+            "begin" => self.begin(),
+            "show" => self.show(),
+            "crashes" => crash_lines(self.alloc, &self.objects, &self.history),
+            _ if self.world.is_none() => self.add(line),
+            _ => self.happen(line),
+        }
+    }
+}

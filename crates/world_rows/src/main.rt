@@ -1,0 +1,46 @@
+//! Makes the steps of worlds, and writes what they leave. A line that begins with `#` is written as it stands, and begins a world
+//! anew. The event lines that follow are the objects that it begins with, up to the line `begin`. From there an event line is an
+//! edit, and the words of a step are that step, as `take config`, `turn lost applied` or `crash`; `show` writes what is stored, `held
+//! NAME` what the controller holds of a service of the namespace `default`, and `crashes` makes the steps up to each place anew,
+//! stops the controller there, once with its put applied and once without, and writes what is stored once it has been started
+//! again and has nothing left to do. No class is configured.
+#![tactic(auto)]
+
+mod case;
+mod crashes;
+mod steps;
+mod stored;
+
+use case::Case;
+use mlb_base::NoMemory;
+use std::alloc::Global;
+use std::io::Input;
+use std::{io, mem};
+
+fn written(alloc: Global, case: &mut Case, line: &str) -> Result<String, NoMemory> {
+    if line.as_bytes().starts_with(b"#") {
+        let earlier = mem::replace(case, Case::new(alloc));
+        drop(earlier);
+        return Ok(format!(in alloc; "{line}\n")?);
+    }
+    case.take(line)
+}
+
+/// The case is dropped in one place: each way out of a function that holds one would drop it anew.
+fn take_lines(rt: &(impl Print + Input), alloc: Global, case: &mut Case) -> io::Result<()> {
+    for line in rt.lines(alloc) {
+        match written(alloc, case, line?.as_str()) {
+            Ok(text) => print!(rt; "{text}")?,
+            Err(_) => println!(rt; "out of memory")?,
+        }
+    }
+    Ok(())
+}
+
+fn main(rt: HostRuntime) -> io::Result<()> {
+    let alloc = rt.alloc();
+    let mut case = Case::new(alloc);
+    let outcome = take_lines(&rt, alloc, &mut case);
+    drop(case);
+    outcome
+}

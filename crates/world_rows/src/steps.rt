@@ -1,0 +1,113 @@
+//! The steps that the lines say.
+
+use ctl_world::{Edit, Outcome, Step, StepFault, World};
+use kube_events::read_event;
+use kube_labels::Text;
+use kube_model::{Event, EventFault, Group, Object};
+use mlb_base::{NoMemory, Sequence};
+use std::alloc::Global;
+
+fn event_of(alloc: Global, line: &str) -> Result<Option<Event>, NoMemory> {
+    match read_event(alloc, line.as_bytes()) {
+        Ok(event) => Ok(Some(event)),
+        Err(EventFault::NoMemory) => Err(NoMemory),
+        Err(_) => Ok(None),
+    }
+}
+
+fn edit_of(event: Event) -> Option<Edit> {
+    match event {
+        Event::Changed { object, .. } => Some(Edit::Set { object }),
+        Event::Deleted { kind, key } => Some(Edit::Delete { kind, key }),
+        _ => None,
+    }
+}
+
+fn edit_step(alloc: Global, line: &str) -> Result<Option<Step>, NoMemory> {
+    match event_of(alloc, line)? {
+        None => Ok(None),
+        Some(event) => match edit_of(event) {
+            None => Ok(None),
+            Some(edit) => Ok(Some(Step::Edit { edit })),
+        },
+    }
+}
+
+fn group_of(word: &str) -> Option<Group> {
+    match word {
+        "config" => Some(Group::Config),
+        "service" => Some(Group::Service),
+        "endpoint" => Some(Group::Endpoint),
+        _ => None,
+    }
+}
+
+fn outcome_of(word: &str) -> Option<Outcome> {
+    match word {
+        "turn" => Some(Outcome::Delivered),
+        "turn lost" => Some(Outcome::Lost { applied: false }),
+        "turn lost applied" => Some(Outcome::Lost { applied: true }),
+        _ => None,
+    }
+}
+
+fn controller_step(line: &str) -> Option<Step> {
+    match line {
+        "crash" => Some(Step::Crash { applied: false }),
+        "crash applied" => Some(Step::Crash { applied: true }),
+        "restart" => Some(Step::Restart),
+        _ => None,
+    }
+}
+
+/// The step that the words say, if they say one.
+fn worded_step(line: &str) -> Option<Step> {
+    if let Some(outcome) = outcome_of(line) {
+        return Some(Step::Turn { outcome });
+    }
+    if let Some(word) = line.strip_prefix("take ") {
+        return group_of(word).map(|group| Step::Take { group });
+    }
+    if let Some(word) = line.strip_prefix("expire ") {
+        return group_of(word).map(|group| Step::Expire { group });
+    }
+    controller_step(line)
+}
+
+/// The step that the line says, if it says one.
+pub fn step_of(alloc: Global, line: &str) -> Result<Option<Step>, NoMemory> {
+    match worded_step(line) {
+        None => edit_step(alloc, line),
+        step => Ok(step),
+    }
+}
+
+fn object_of(alloc: Global, line: &str) -> Result<Option<Object>, NoMemory> {
+    match event_of(alloc, line)? {
+        Some(Event::Changed { object, .. }) => Ok(Some(object)),
+        _ => Ok(None),
+    }
+}
+
+/// A new world of the objects that these lines show.
+pub fn world_of(alloc: Global, lines: &[Text]) -> Result<World, NoMemory> {
+    let mut objects = Sequence::new(alloc);
+    for line in lines {
+        if let Some(object) = object_of(alloc, line.as_str())? {
+            objects.push(object)?;
+        }
+    }
+    World::new(alloc, objects, None)
+}
+
+/// Makes the step that the line says; one that isn't made is answered with its fault.
+pub fn make(alloc: Global, world: &mut World, line: &str) -> Result<Option<StepFault>, NoMemory> {
+    match step_of(alloc, line)? {
+        None => Ok(None),
+        Some(step) => match world.step(step) {
+            Ok(()) => Ok(None),
+            Err(StepFault::NoMemory) => Err(NoMemory),
+            Err(fault) => Ok(Some(fault)),
+        },
+    }
+}

@@ -1,0 +1,9 @@
+pub mod ArpMeaning
+pub mod Carry
+pub mod Filled
+pub mod NdpMeaning
+pub mod OptionWalk
+pub mod Places
+pub mod RightSums
+pub mod Sums
+pub mod Tests

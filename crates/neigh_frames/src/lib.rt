@@ -1,0 +1,14 @@
+//! Answers to ARP requests and neighbor solicitations, and what is sent unasked: Ethernet frames of fixed sizes, which take no
+//! memory. Numbers in frames are big-endian, and addresses stand as they are sent.
+#![tactic(auto)]
+
+mod advertisement;
+mod arp;
+mod checksum;
+mod filling;
+mod ndp;
+mod options;
+mod solicitation;
+
+pub use arp::{arp_answer, unasked_arp};
+pub use ndp::{ndp_answer, unasked_ndp};

@@ -1,0 +1,4 @@
+pub mod Folded
+pub mod Interfaces
+pub mod Macs
+pub mod NamedWords

@@ -1,0 +1,4 @@
+pub mod Interface
+pub mod Reading
+pub mod Seen
+pub mod Words

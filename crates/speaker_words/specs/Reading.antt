@@ -1,0 +1,91 @@
+-- What is said as a function of the words.
+use Rattle.std.specs.Prelude.{ℕ, Bool, ◌&&◌, not, nat_lt, if◌then◌else◌, List, [], ◌∷◌, ◌++◌, length, Option, Some, None, option_and_then, Result, Ok, Err}
+use Rattle.std.specs.List.{list_any}
+use Rattle.std.specs.Option.{option_map}
+use Rattle.std.specs.Str.{bytes_eq}
+use Rattle.command_options.specs.Options.{CommandOption, options_in}
+use Rattle.ip_ranges.specs.declared.family.Family.TheVariants.{V4}
+use Rattle.ip_ranges.specs.declared.fault.RangeFault.{RangeFault}
+use Rattle.ip_ranges.specs.Values.{AddressValue, same_family}
+use Rattle.ip_ranges.specs.AddressText.{address_of}
+use Rattle.speaker_words.specs.Interface.{InterfaceValue, interface_of}
+use Rattle.speaker_words.specs.Words.{Said, node_option, class_option, interface_option, next_hop_option}
+
+-- what options said so far
+pub record Given : Type 0 where
+  pub node : Option (List ℕ)
+  pub class : Option (List ℕ)
+  pub interfaces : List InterfaceValue
+  pub next_hop : Option AddressValue
+
+abbrev pub nothing_given : Given
+nothing_given = record { node = None; class = None; interfaces = []; next_hop = None }
+
+-- what a value that stands at most once reads as, where none stood before
+abbrev pub once : {A : Type 0} → (List ℕ → Option A) → List ℕ → Option A → Option (Option A)
+once read value None = option_map (λ a. Some a) (read value)
+once read value (Some held) = None
+
+-- a text is read as it is
+abbrev pub text_of : List ℕ → Option (List ℕ)
+text_of value = Some value
+
+abbrev pub with_node : List ℕ → Given → Option Given
+with_node value g =
+    option_map (λ node. record { node = node; class = g.class; interfaces = g.interfaces; next_hop = g.next_hop }) (once text_of value g.node)
+
+abbrev pub with_class : List ℕ → Given → Option Given
+with_class value g =
+    option_map (λ class. record { node = g.node; class = class; interfaces = g.interfaces; next_hop = g.next_hop }) (once text_of value g.class)
+
+-- whether one of the interfaces has the name
+abbrev pub is_named : List ℕ → List InterfaceValue → Bool
+is_named name interfaces = list_any (λ i. bytes_eq i.name name) interfaces
+
+-- one more of at most 16 interfaces of distinct names
+abbrev pub with_one : List InterfaceValue → InterfaceValue → Option (List InterfaceValue)
+with_one interfaces i =
+    if nat_lt (length interfaces) 16 && not (is_named i.name interfaces) then Some (interfaces ++ i ∷ []) else None
+
+abbrev pub one_more : List ℕ → List InterfaceValue → Option (List InterfaceValue)
+one_more value interfaces = option_and_then (with_one interfaces) (interface_of value)
+
+abbrev pub with_interface : List ℕ → Given → Option Given
+with_interface value g =
+    option_map (λ interfaces. record { node = g.node; class = g.class; interfaces = interfaces; next_hop = g.next_hop }) (one_more value g.interfaces)
+
+-- an IPv4 address
+abbrev pub only_v4 : Result AddressValue RangeFault → Option AddressValue
+only_v4 (Ok a) = if same_family a.family V4 then Some a else None
+only_v4 (Err fault) = None
+
+abbrev pub next_hop_of : List ℕ → Option AddressValue
+next_hop_of text = only_v4 (address_of text)
+
+abbrev pub with_next_hop : List ℕ → Given → Option Given
+with_next_hop value g =
+    option_map (λ hop. record { node = g.node; class = g.class; interfaces = g.interfaces; next_hop = hop }) (once next_hop_of value g.next_hop)
+
+abbrev pub with_option : List ℕ → List ℕ → Given → Option Given
+with_option name value g =
+    if bytes_eq name node_option then with_node value g
+    else if bytes_eq name class_option then with_class value g
+    else if bytes_eq name interface_option then with_interface value g
+    else if bytes_eq name next_hop_option then with_next_hop value g
+    else None
+
+abbrev pub given_by : List CommandOption → Given → Option Given
+given_by [] g = Some g
+given_by (o ∷ options) g = option_and_then (given_by options) (with_option o.name o.value g)
+
+-- what the words give, behind what was given
+abbrev pub given_in : List (List ℕ) → Given → Option Given
+given_in words g = option_and_then (λ options. given_by options g) (options_in words)
+
+-- a speaker has a node
+abbrev pub finished : Given → Option Said
+finished g = option_map (λ node. record { node = node; class = g.class; interfaces = g.interfaces; next_hop = g.next_hop }) g.node
+
+-- what the words say, where they are of the table
+abbrev pub said_in : List (List ℕ) → Option Said
+said_in words = option_and_then finished (given_in words nothing_given)

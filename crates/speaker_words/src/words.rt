@@ -1,0 +1,193 @@
+//! The words of the command line.
+ghost use Rattle.std.specs.Prelude.{◌≡◌, IfSome, IfNone};
+ghost use Rattle.std.specs.List.{list_any};
+ghost use Rattle.std.specs.Str.{bytes_eq};
+ghost use Rattle.std.specs.Option.{option_map};
+ghost use Rattle.command_options.specs.Options.{texts_of};
+ghost use Rattle.speaker_words.specs.Words.{Say, AreKnown};
+ghost use Rattle.speaker_words.specs.Reading.{said_in, given_in, nothing_given, with_option, with_node, with_class, with_interface, with_one, with_next_hop, next_hop_of, finished};
+ghost use Rattle.speaker_words.specs.Seen.{interface_seen, interfaces_seen, given_seen, said_seen};
+
+use crate::interface::{InterfaceWord, interface_of};
+use arrayvec::ArrayVec;
+use command_options::first_option;
+use ip_ranges::{Address, Family, parse_address};
+
+const NODE_OPTION: &str = "--node-name";
+
+const CLASS_OPTION: &str = "--lb-class";
+
+const INTERFACE_OPTION: &str = "--interface";
+
+const NEXT_HOP_OPTION: &str = "--next-hop";
+
+/// The interfaces that words name, 16 at most.
+pub type InterfaceWords<'a> = ArrayVec<InterfaceWord<'a>, 16>;
+
+/// What the words of a speaker say.
+#[derive(Drop)]
+pub struct SpeakerWords<'a> {
+    /// The name of the node that the speaker runs on: a text that isn't empty.
+    pub node: &'a str,
+    /// The class of the services that it announces, a text that isn't empty; with none, those that name none.
+    pub class: Option<&'a str>,
+    /// The interfaces that it answers on, as they stand in the words: 16 at most, of distinct names.
+    pub interfaces: InterfaceWords<'a>,
+    /// The IPv4 address that its routes lead to (RFC 4271, section 5.1.3); with none, it tells no routes.
+    pub next_hop: Option<Address>,
+}
+
+/// What options said so far.
+#[derive(Drop)]
+struct Given<'a> {
+    node: Option<&'a str>,
+    class: Option<&'a str>,
+    interfaces: InterfaceWords<'a>,
+    next_hop: Option<Address>,
+}
+
+/// What the words say, where they are of the speaker's table.
+///
+/// The table: `--node-name NODE` once; `--lb-class CLASS` and `--next-hop ADDRESS` at most once, the address an IPv4 one in dotted decimal
+/// without leading zeros; `--interface NAME=MAC` up to 16 times, split at the first `=`, with distinct names, of which one may be empty,
+/// and with six octets of two hexadecimal digits of either case and `:` between them. Each option is one word with `=`, or two.
+/// `None` where the words aren't of the table. It takes no memory.
+pub fn speaker_words(words: &[String]) -> Option<SpeakerWords<'_>>
+    ensures value { option_map said_seen result ≡ said_in (texts_of words.now) }
+
+    // What is said is what the words say, and nothing is where they aren't of the table.
+    ensures said { IfSome result (λ said. Say (texts_of words.now) (said_seen said)) }
+    ensures unknown { IfNone result (¬ (AreKnown (texts_of words.now))) }
+{
+    read_words(words)
+}
+
+fn read_words(words: &[String]) -> Option<SpeakerWords<'_>>
+    ensures { option_map said_seen result ≡ said_in (texts_of words.now) }
+{
+    let given = given_in(words)?;
+    finished(given)
+}
+
+fn given_in(words: &[String]) -> Option<Given<'_>>
+    ensures { option_map given_seen result ≡ given_in (texts_of words.now) nothing_given }
+{
+    let mut given = Given {
+        node: None,
+        class: None,
+        interfaces: ArrayVec::new(),
+        next_hop: None,
+    };
+    let mut rest = words;
+    'options: while !rest.is_empty() {
+        let option = first_option(rest)?;
+        given = with_option(given, option.name, option.value)?;
+        rest = option.rest;
+    }
+    Some(given)
+}
+
+/// The option is given too; each but `--interface` stands at most once.
+fn with_option<'a>(given: Given<'a>, name: &str, value: &'a str) -> Option<Given<'a>>
+    ensures { option_map given_seen result ≡ with_option name.now value.now (given_seen given.entry) }
+{
+    match name {
+        NODE_OPTION => with_node(given, value),
+        CLASS_OPTION => with_class(given, value),
+        INTERFACE_OPTION => with_interface(given, value),
+        NEXT_HOP_OPTION => with_next_hop(given, value),
+        _ => None,
+    }
+}
+
+fn with_node<'a>(given: Given<'a>, value: &'a str) -> Option<Given<'a>>
+    ensures { option_map given_seen result ≡ with_node value.now (given_seen given.entry) }
+{
+    match given.node {
+        Some(_) => None,
+        None => Some(Given {
+            node: Some(value),
+            ..given
+        }),
+    }
+}
+
+fn with_class<'a>(given: Given<'a>, value: &'a str) -> Option<Given<'a>>
+    ensures { option_map given_seen result ≡ with_class value.now (given_seen given.entry) }
+{
+    match given.class {
+        Some(_) => None,
+        None => Some(Given {
+            class: Some(value),
+            ..given
+        }),
+    }
+}
+
+fn with_interface<'a>(given: Given<'a>, value: &'a str) -> Option<Given<'a>>
+    ensures { option_map given_seen result ≡ with_interface value.now (given_seen given.entry) }
+{
+    let interface = interface_of(value)?;
+    let interfaces = with_one(given.interfaces, interface)?;
+    Some(Given {
+        node: given.node,
+        class: given.class,
+        interfaces,
+        next_hop: given.next_hop,
+    })
+}
+
+/// The interfaces with one more, where there is room for it and none has its name.
+fn with_one<'a>(
+    interfaces: InterfaceWords<'a>,
+    interface: InterfaceWord<'a>,
+) -> Option<InterfaceWords<'a>>
+    ensures { option_map interfaces_seen result ≡ with_one (interfaces_seen interfaces.entry) (interface_seen interface.entry) }
+{
+    let mut interfaces = interfaces;
+    if interfaces.is_full() || is_named(interfaces.as_slice(), interface.name) {
+        return None;
+    }
+    interfaces.push(interface);
+    Some(interfaces)
+}
+
+/// Whether one of the interfaces has the name.
+fn is_named(interfaces: &[InterfaceWord<'_>], name: &str) -> bool
+    ensures { result ≡ list_any (λ i. bytes_eq i.name.now name.now) interfaces.now }
+{
+    interfaces.iter().any(|interface| interface.name == name)
+}
+
+fn with_next_hop<'a>(given: Given<'a>, value: &str) -> Option<Given<'a>>
+    ensures { option_map given_seen result ≡ with_next_hop value.now (given_seen given.entry) }
+{
+    match given.next_hop {
+        Some(_) => None,
+        None => Some(Given {
+            next_hop: Some(next_hop_of(value)?),
+            ..given
+        }),
+    }
+}
+
+/// The IPv4 address that the text writes.
+fn next_hop_of(text: &str) -> Option<Address>
+    ensures { result ≡ next_hop_of text.now }
+{
+    match parse_address(text) {
+        Ok(address) if address.family == Family::V4 => Some(address),
+        _ => None,
+    }
+}
+
+fn finished(given: Given<'_>) -> Option<SpeakerWords<'_>>
+    ensures { option_map said_seen result ≡ finished (given_seen given.entry) }
+{
+    Some(SpeakerWords {
+        node: given.node?,
+        class: given.class,
+        interfaces: given.interfaces,
+        next_hop: given.next_hop,
+    })
+}

@@ -1,0 +1,7 @@
+pub mod Packing
+pub mod ReceivedLaws
+pub mod Joining
+pub mod SmallGroups
+pub mod Spelling
+pub mod Once
+pub mod Sizes

@@ -1,0 +1,19 @@
+//! Tables of BGP routes, and the UPDATE messages between them (RFC 4271, section 4.3).
+//!
+//! Routes are of IPv4, and AS numbers have four octets (RFC 6793).
+#![tactic(auto)]
+
+mod grouping;
+mod laws;
+mod octets;
+mod pack;
+mod prefix;
+mod route;
+mod updating;
+mod writing;
+
+pub use laws::{messages_fit, messages_give_the_table, messages_name_what_differs};
+pub use prefix::is_before;
+pub use route::{MessageList, Peering, Route, RouteTable, Terms};
+pub use updating::updates;
+pub use writing::{attribute_octets, message_octets, prefix_octets};

@@ -1,0 +1,104 @@
+//! Routes and tables of them.
+use ip_ranges::{Prefix, PrefixList};
+use mlb_base::{ByteList, Sequence};
+use pool_config::CommunityNumbers;
+use std::alloc::Global;
+use std::marker::Model;
+
+/// What a route tells beside its prefix.
+#[derive(Drop)]
+pub struct Terms {
+    /// LOCAL_PREF (RFC 4271, section 5.1.5), there for a peer of the same AS alone.
+    pub preference: Option<u32>,
+    /// COMMUNITIES (RFC 1997), ascending.
+    pub communities: CommunityNumbers,
+}
+
+/// A route, which contracts see as its prefix and its terms.
+#[derive(Drop)]
+pub struct Route {
+    pub prefix: Prefix,
+    /// LOCAL_PREF (RFC 4271, section 5.1.5), there for a peer of the same AS alone.
+    pub preference: Option<u32>,
+    /// COMMUNITIES (RFC 1997), ascending.
+    pub communities: CommunityNumbers,
+}
+
+impl Model for Route {
+    ghost use Rattle.ip_ranges.specs.Values.{PrefixValue};
+    ghost use Rattle.bgp_updates.specs.declared.route.Terms.{Terms};
+
+    ghost Value = { PrefixValue × Terms };
+
+    ghost view = { λ r. (r.prefix, record { preference = r.preference; communities = r.communities }) };
+}
+
+/// Routes of IPv4 prefixes, which ascend by number and then by length, one route a prefix.
+#[derive(Drop)]
+pub struct RouteTable {
+    routes: Sequence<Route>,
+}
+
+impl Model for RouteTable {
+    ghost use Rattle.std.specs.Prelude.{List};
+    ghost use Rattle.ip_ranges.specs.Values.{PrefixValue};
+    ghost use Rattle.bgp_updates.specs.declared.route.Terms.{Terms};
+    ghost use Rattle.bgp_updates.specs.Tables.{IsTable};
+
+    ghost Value = { List (PrefixValue × Terms) };
+
+    ghost view = { λ t. t.routes };
+
+    ghost invariant = { λ t. IsTable t.routes };
+}
+
+impl RouteTable {
+    ghost use Rattle.std.specs.Prelude.{◌≡◌, []};
+    ghost use Rattle.bgp_updates.specs.Tables.{IsTable};
+
+    /// The table without routes, which takes no memory.
+    pub fn empty(alloc: Global) -> RouteTable
+        ensures { result ≡ [] }
+    {
+        RouteTable {
+            routes: Sequence::new(alloc),
+        }
+    }
+
+    /// The table of these routes.
+    pub fn from_vec(routes: Vec<Route>) -> RouteTable
+        requires { IsTable routes.items }
+        ensures { result ≡ routes.items }
+    {
+        RouteTable {
+            routes: Sequence::from_vec(routes),
+        }
+    }
+
+    /// The routes, by ascending prefix.
+    pub fn as_slice(&self) -> &[Route]
+        ensures routes { result.now ≡ self.now }
+        ensures table { IsTable self.now }
+    {
+        self.routes.as_slice()
+    }
+}
+
+/// Prefixes whose routes have the same terms.
+#[derive(Drop)]
+pub struct Group {
+    pub terms: Terms,
+    pub prefixes: PrefixList,
+}
+
+/// What a message tells of its sender.
+#[derive(Clone, Copy, Debug)]
+pub struct Peering {
+    /// The own AS number where the peer has another, and `None` inside one AS.
+    pub own: Option<u32>,
+    /// The IPv4 address of the next hop.
+    pub next_hop: u32,
+}
+
+/// A list of messages.
+pub type MessageList = Sequence<ByteList>;

@@ -1,0 +1,4 @@
+pub mod Elements
+pub mod Listing
+pub mod Placing
+pub mod Stated

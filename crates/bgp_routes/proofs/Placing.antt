@@ -1,0 +1,150 @@
+-- A contribution finds its place.
+use Rattle.std.proofs.Common.{◌≡◌, ℕ, zero, suc, ◌+◌, Bool, true, false, cond, ◌&&◌, ◌<◌, ◌≤◌, ◌==◌, List, [], ◌∷◌, ◌++◌, length, get_or, take, drop, set, refl, sym, ◌∙◌, ap, arith, drop-cons}
+use Rattle.std.specs.List.{list_all, AllByRecursion, insert, flat_map}
+use Rattle.std.specs.Map.{keys_of}
+use Rattle.std.specs.Ordering.{nat_cmp}
+use Rattle.std.specs.BTreeSet.{insert_key}
+use Rattle.std.proofs.lemmas.Bool.Decides.{nat_tests}
+use Rattle.std.proofs.lemmas.List.{set_split, get_or_default, drop_all, take_all}
+use Rattle.ip_ranges.specs.declared.family.Family.{Family}
+use Rattle.ip_ranges.specs.declared.family.Family.TheVariants.{V4, V6}
+use Rattle.ip_ranges.specs.Values.{PrefixValue, same_family}
+use Rattle.bgp_updates.specs.declared.route.Terms.{Terms}
+use Rattle.bgp_updates.specs.Received.{same_prefix}
+use Rattle.bgp_routes.specs.Uniting.{united_terms, with_contribution, with_contributions, with_each}
+use Rattle.pool_config.specs.Numbers.{ascending_with}
+use Rattle.bgp_updates.specs.Tables.{Ascend, IsTable, IsV4, before}
+use Rattle.bgp_updates.proofs.ReceivedLaws.{both_true, by_bool}
+
+-- No route before the index is the contribution's place.
+pub record IsPlaced (routes start : List (PrefixValue × Terms)) (index : ℕ) (c : PrefixValue × Terms) : Type 0 where
+  pub same : routes ≡ start
+  pub rest : take index routes ++ with_contribution (drop index routes) c ≡ with_contribution start c
+
+at : (routes : List (PrefixValue × Terms)) (index : ℕ) (route : PrefixValue × Terms) → index < length routes → route ≡ get_or routes index route
+    → drop index routes ≡ route ∷ drop (suc index) routes
+at routes index route there is = drop-cons routes index route there ∙ ap (λ r. r ∷ drop (suc index) routes) (sym is)
+
+pub joined : (routes start : List (PrefixValue × Terms)) (index : ℕ) (c seen route made : PrefixValue × Terms) → IsPlaced routes start index c → index < length routes
+    → seen ≡ get_or routes index seen → route ≡ get_or routes index route → same_prefix c.0 seen.0 ≡ true → made ≡ (route.0, united_terms route.1 c.1)
+    → set routes index made ≡ with_contribution start c
+joined routes start index c seen route made held there is_seen is alike is_made =
+    let one : seen ≡ route = is_seen ∙ get_or_default routes index seen route there ∙ sym is in
+    let alike_route : same_prefix c.0 route.0 ≡ true = ap (λ r. same_prefix c.0 r.0) (sym one) ∙ alike in
+    let joins : with_contribution (route ∷ drop (suc index) routes) c ≡ (route.0, united_terms route.1 c.1) ∷ drop (suc index) routes = rw alike_route refl in
+    set_split routes index made there
+    ∙ ap (λ m. take index routes ++ m ∷ drop (suc index) routes) is_made
+    ∙ ap (λ rest. take index routes ++ rest) (sym (ap (λ rest. with_contribution rest c) (at routes index route there is) ∙ joins))
+    ∙ held.rest
+
+pub inserted : (routes start : List (PrefixValue × Terms)) (index : ℕ) (c seen route : PrefixValue × Terms) → IsPlaced routes start index c → index < length routes
+    → seen ≡ get_or routes index seen → route ≡ get_or routes index route → same_prefix c.0 seen.0 ≡ false → before c.0 route.0 ≡ true
+    → insert routes index c ≡ with_contribution start c
+inserted routes start index c seen route held there is_seen is other first =
+    let one : seen ≡ route = is_seen ∙ get_or_default routes index seen route there ∙ sym is in
+    let other_route : same_prefix c.0 route.0 ≡ false = ap (λ r. same_prefix c.0 r.0) (sym one) ∙ other in
+    let joins : with_contribution (route ∷ drop (suc index) routes) c ≡ c ∷ route ∷ drop (suc index) routes = rw (other_route, first) refl in
+    ap (λ rest. take index routes ++ c ∷ rest) (at routes index route there is)
+    ∙ ap (λ rest. take index routes ++ rest) (sym (ap (λ rest. with_contribution rest c) (at routes index route there is) ∙ joins))
+    ∙ held.rest
+
+pub appended : (routes start : List (PrefixValue × Terms)) (index : ℕ) (c : PrefixValue × Terms) → IsPlaced routes start index c → length routes ≤ index
+    → routes ++ c ∷ [] ≡ with_contribution start c
+appended routes start index c held past =
+    ap (λ front. front ++ c ∷ []) (sym (take_all index routes past))
+    ∙ ap (λ rest. take index routes ++ with_contribution rest c) (sym (drop_all index routes past))
+    ∙ held.rest
+
+-- ---- a table stays a table
+
+pub all-keys : (P : PrefixValue → Type 0) (routes : List (PrefixValue × Terms)) (c : PrefixValue × Terms) → AllByRecursion P (keys_of routes) → P c.0
+    → AllByRecursion P (keys_of (with_contribution routes c))
+all-keys P [] c all is = (is, tt)
+all-keys P (route ∷ routes) c all is =
+    elim (same_prefix c.0 route.0) as (λ u. AllByRecursion P (keys_of (cond u ((route.0, united_terms route.1 c.1) ∷ routes) (cond (before c.0 route.0) (c ∷ route ∷ routes) (route ∷ with_contribution routes c))))) [
+      | true ↦ all
+      | false ↦ elim (before c.0 route.0) as (λ v. AllByRecursion P (keys_of (cond v (c ∷ route ∷ routes) (route ∷ with_contribution routes c)))) [
+        | true ↦ (is, all)
+        | false ↦ (all.0, all-keys P routes c all.1 is)
+      ]
+    ]
+
+and_true : (a b : Bool) → a ≡ true → b ≡ true → (a && b) ≡ true
+and_true a b x y = rw (x, y) refl
+
+before-all : (p : PrefixValue) (routes : List (PrefixValue × Terms)) (c : PrefixValue × Terms) → list_all (before p) (keys_of routes) ≡ true → before p c.0 ≡ true
+    → list_all (before p) (keys_of (with_contribution routes c)) ≡ true
+before-all p [] c all is = and_true (before p c.0) true is refl
+before-all p (route ∷ routes) c all is =
+    let parts = both_true (before p route.0) (list_all (before p) (keys_of routes)) all in
+    elim (same_prefix c.0 route.0) as (λ u. list_all (before p) (keys_of (cond u ((route.0, united_terms route.1 c.1) ∷ routes) (cond (before c.0 route.0) (c ∷ route ∷ routes) (route ∷ with_contribution routes c)))) ≡ true) [
+      | true ↦ all
+      | false ↦ elim (before c.0 route.0) as (λ v. list_all (before p) (keys_of (cond v (c ∷ route ∷ routes) (route ∷ with_contribution routes c))) ≡ true) [
+        | true ↦ and_true (before p c.0) (list_all (before p) (keys_of (route ∷ routes))) is all
+        | false ↦ and_true (before p route.0) (list_all (before p) (keys_of (with_contribution routes c))) parts.0 (before-all p routes c parts.1 is)
+      ]
+    ]
+
+before-before : (p q r : PrefixValue) → before p q ≡ true → before q r ≡ true → before p r ≡ true
+before-before p q r a b = grind (arith, nat_tests)
+
+pub before-rest : (p q : PrefixValue) (prefixes : List PrefixValue) → before p q ≡ true → list_all (before q) prefixes ≡ true → list_all (before p) prefixes ≡ true
+before-rest p q [] first all = refl
+before-rest p q (r ∷ prefixes) first all =
+    let parts = both_true (before q r) (list_all (before q) prefixes) all in
+    and_true (before p r) (list_all (before p) prefixes) (before-before p q r first parts.0) (before-rest p q prefixes first parts.1)
+
+numbers-other : (a b l m : ℕ) → ((a == b) && (l == m)) ≡ false → before (record { family = V4; number = a; length = l }) (record { family = V4; number = b; length = m }) ≡ false
+    → before (record { family = V4; number = b; length = m }) (record { family = V4; number = a; length = l }) ≡ true
+numbers-other a b l m other late = grind (arith, nat_tests)
+
+same-numbers : (f g : Family) (a b l m : ℕ) → f ≡ V4 → g ≡ V4 → ((same_family f g && (a == b)) && (l == m)) ≡ ((a == b) && (l == m))
+same-numbers V4 V4 a b l m x y = refl
+same-numbers V4 V6 a b l m x y = absurd (cc)
+same-numbers V6 g a b l m x y = absurd (cc)
+
+-- as far as the order goes, the family is what matters
+abbrev pub OfV4 : PrefixValue → Type 0
+OfV4 p = p.family ≡ V4
+
+v4-keys : (prefixes : List PrefixValue) → AllByRecursion IsV4 prefixes → AllByRecursion OfV4 prefixes
+v4-keys [] all = tt
+v4-keys (p ∷ prefixes) all = (all.0.v4, v4-keys prefixes all.1)
+
+other-way : (p q : PrefixValue) → OfV4 p → OfV4 q → same_prefix p q ≡ false → before p q ≡ false → before q p ≡ true
+other-way p q is are other late =
+    numbers-other p.number q.number p.length q.length (sym (same-numbers p.family q.family p.number q.number p.length q.length is are) ∙ other) late
+
+pub ascend-with : (routes : List (PrefixValue × Terms)) (c : PrefixValue × Terms) → AllByRecursion OfV4 (keys_of routes) → OfV4 c.0 → Ascend (keys_of routes) → Ascend (keys_of (with_contribution routes c))
+ascend-with [] c all is ascend = (refl, tt)
+ascend-with (route ∷ routes) c all is ascend =
+    by_bool (Ascend (keys_of (with_contribution (route ∷ routes) c))) (same_prefix c.0 route.0)
+    (λ own. rw own ascend)
+    (λ other. by_bool (Ascend (keys_of (with_contribution (route ∷ routes) c))) (before c.0 route.0)
+    (λ first. rw (other, first) (and_true (before c.0 route.0) (list_all (before c.0) (keys_of routes)) first (before-rest c.0 route.0 (keys_of routes) first ascend.0), ascend))
+    (λ late. rw (other, late) (before-all route.0 routes c ascend.0 (other-way c.0 route.0 is all.0 other late), ascend-with routes c all.1 is ascend.1)))
+
+pub stays : (routes : List (PrefixValue × Terms)) (c : PrefixValue × Terms) → IsTable routes → IsV4 c.0 → IsTable (with_contribution routes c)
+stays routes c table is = (all-keys IsV4 routes c table.0 is, ascend-with routes c (v4-keys (keys_of routes) table.0) is.v4 table.1)
+
+-- ---- one contribution behind the other
+
+pub with-append : (routes a b : List (PrefixValue × Terms)) → with_contributions routes (a ++ b) ≡ with_contributions (with_contributions routes a) b
+with-append routes [] b = refl
+with-append routes (c ∷ a) b = with-append (with_contribution routes c) a b
+
+pub with_each_flat : {A : Type 0} (f : A → List (PrefixValue × Terms)) (routes : List (PrefixValue × Terms)) (xs : List A) → with_each f routes xs ≡ with_contributions routes (flat_map f xs)
+with_each_flat f routes [] = refl
+with_each_flat f routes (x ∷ more) = with_each_flat f (with_contributions routes (f x)) more ∙ sym (with-append routes (f x) (flat_map f more))
+
+pub next-number : (keys numbers : List ℕ) (index n : ℕ) → index < length numbers → n ≡ get_or numbers index 0
+    → ascending_with (insert_key nat_cmp keys n) (drop (suc index) numbers) ≡ ascending_with keys (drop index numbers)
+next-number keys [] index n there is = absurd (omega arith)
+next-number keys (m ∷ numbers) zero n there is = ap (λ k. ascending_with (insert_key nat_cmp keys k) numbers) is
+next-number keys (m ∷ numbers) (suc index) n there is = next-number keys numbers index n (omega arith) is
+
+pub number-after : (keys numbers : List ℕ) (index : ℕ) → index < length numbers
+    → ascending_with (insert_key nat_cmp keys (get_or numbers index 0)) (drop (index + 1) numbers) ≡ ascending_with keys (drop index numbers)
+number-after keys numbers index there =
+    let e : index + 1 ≡ suc index = omega arith in
+    ap (λ j. ascending_with (insert_key nat_cmp keys (get_or numbers index 0)) (drop j numbers)) e ∙ next-number keys numbers index (get_or numbers index 0) there refl

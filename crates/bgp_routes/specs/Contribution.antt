@@ -1,0 +1,55 @@
+-- What contributes to the routes of a node for a peer.
+use Rattle.std.specs.Prelude.{◌≡◌, ℕ, ◌==◌, if◌then◌else◌, List, [], Option, Some, None, ◌⊎◌}
+use Rattle.ip_ranges.specs.declared.family.Family.TheVariants.{V4}
+use Rattle.ip_ranges.specs.Values.{AddressValue, PrefixValue, masked}
+use Rattle.kube_model.specs.declared.service.Service.{Service}
+use Rattle.mlb_base.specs.Items.{IsIn}
+use Rattle.pool_config.specs.declared.compiled.CompiledBgp.{CompiledBgp}
+use Rattle.pool_config.specs.declared.compiled.CompiledPeer.{CompiledPeer}
+use Rattle.pool_config.specs.declared.compiled.CompiledPool.{CompiledPool}
+use Rattle.pool_config.specs.Choice.{Chooses, Selects}
+use Rattle.pool_config.specs.ConfigValue.{ConfigValue}
+use Rattle.pool_config.specs.PoolOf.{pool_with}
+use Rattle.speaker_view.specs.Endpoints.{CanAnnounce, node_labels}
+use Rattle.speaker_view.specs.Held.{objects_of}
+use Rattle.speaker_view.specs.ViewValue.{ViewValue}
+use Rattle.bgp_updates.specs.declared.route.Terms.{Terms}
+
+-- an IPv4 address that is recorded on some held service which can be announced from the node
+pub record IsAnnounced (v : ViewValue) (node : List ℕ) (address : AddressValue) : Type 0 where
+  pub v4 : address.family ≡ V4
+  pub service : Service
+  pub held : IsIn (objects_of v.held.services) service
+  pub recorded : IsIn service.holding.addresses address
+  pub announces : CanAnnounce v service node
+
+-- The BGPAdvertisement is one of the configuration in force; it chooses the pool that has the address (`spec.ipAddressPools`,
+-- `spec.ipAddressPoolSelectors`), selects the node (`spec.nodeSelectors`), and names the peer or none (`spec.peers`).
+pub record IsAdvertisedBy (v : ViewValue) (node : List ℕ) (peer : CompiledPeer) (address : AddressValue) (advertisement : CompiledBgp) : Type 0 where
+  pub config : ConfigValue
+  pub in_force : v.held.config ≡ Some config
+  pub there : IsIn config.bgp advertisement
+  pub pool : CompiledPool
+  pub pool_is : pool_with config.pools address ≡ Some pool
+  pub chosen : Chooses advertisement.pools advertisement.pool_selectors pool.name pool.labels
+  pub selected : Selects advertisement.node_selectors (node_labels v node)
+  pub named : (advertisement.peers ≡ []) ⊎ IsIn advertisement.peers peer.name
+
+-- a preference is told to a peer of the same AS alone
+abbrev pub told : CompiledPeer → ℕ → Option ℕ
+told peer preference = if peer.my_asn == peer.peer_asn then Some preference else None
+
+-- what the advertisement contributes for the address: the address masked to `spec.aggregationLength`, with `spec.localPref` and the
+-- communities
+abbrev pub contribution : CompiledPeer → AddressValue → CompiledBgp → PrefixValue × Terms
+contribution peer address adv =
+    (masked address adv.length, record { preference = told peer adv.local_pref; communities = adv.communities })
+
+-- The peer selects the node, and an advertisement contributes this for an address that is announced from the node.
+pub record IsContribution (v : ViewValue) (node : List ℕ) (peer : CompiledPeer) (c : PrefixValue × Terms) : Type 0 where
+  pub peer_selects : Selects peer.node_selectors (node_labels v node)
+  pub address : AddressValue
+  pub announced : IsAnnounced v node address
+  pub advertisement : CompiledBgp
+  pub advertised : IsAdvertisedBy v node peer address advertisement
+  pub is : c ≡ contribution peer address advertisement

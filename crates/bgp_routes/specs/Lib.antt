@@ -1,0 +1,4 @@
+pub mod Contribution
+pub mod Laws
+pub mod Routes
+pub mod Uniting

@@ -1,0 +1,38 @@
+-- Contributions, united to routes.
+use Rattle.std.specs.Prelude.{ℕ, if◌then◌else◌, max, List, [], ◌∷◌, Option, Some, None}
+use Rattle.ip_ranges.specs.Values.{PrefixValue}
+use Rattle.pool_config.specs.Numbers.{ascending_with}
+use Rattle.bgp_updates.specs.declared.route.Terms.{Terms}
+use Rattle.bgp_updates.specs.Received.{same_prefix}
+use Rattle.bgp_updates.specs.Tables.{before}
+
+-- the greater preference, where there is one
+abbrev pub greater : Option ℕ → Option ℕ → Option ℕ
+greater None b = b
+greater (Some a) None = Some a
+greater (Some a) (Some b) = Some (max a b)
+
+-- the numbers of both, ascending, each once
+abbrev pub united : List ℕ → List ℕ → List ℕ
+united a b = ascending_with (ascending_with [] a) b
+
+-- the greater preference and the communities of both
+abbrev pub united_terms : Terms → Terms → Terms
+united_terms s t = record { preference = greater s.preference t.preference; communities = united s.communities t.communities }
+
+-- A contribution is united with the route of its prefix, or is a route of its own in its place.
+abbrev pub with_contribution : List (PrefixValue × Terms) → PrefixValue × Terms → List (PrefixValue × Terms)
+with_contribution [] c = c ∷ []
+with_contribution (route ∷ routes) c =
+    if same_prefix c.0 route.0 then (route.0, united_terms route.1 c.1) ∷ routes
+    else (if before c.0 route.0 then c ∷ route ∷ routes else route ∷ with_contribution routes c)
+
+-- the same of contributions, one after the other
+abbrev pub with_contributions : List (PrefixValue × Terms) → List (PrefixValue × Terms) → List (PrefixValue × Terms)
+with_contributions routes [] = routes
+with_contributions routes (c ∷ more) = with_contributions (with_contribution routes c) more
+
+-- what each item contributes, one after the other
+abbrev pub with_each : {A : Type 0} → (A → List (PrefixValue × Terms)) → List (PrefixValue × Terms) → List A → List (PrefixValue × Terms)
+with_each f routes [] = routes
+with_each f routes (x ∷ more) = with_each f (with_contributions routes (f x)) more

@@ -1,0 +1,237 @@
+//! The routes of a node for a peer.
+ghost use Rattle.std.specs.Prelude.{◌≡◌, ◌||◌, IfOk, OnOk};
+ghost use Rattle.ip_ranges.specs.declared.family.Family.TheVariants.{V4};
+ghost use Rattle.kube_labels.specs.Names.{has_text};
+ghost use Rattle.speaker_view.specs.Held.{objects_of};
+ghost use Rattle.bgp_updates.specs.Tables.{IsTable, IsV4};
+ghost use Rattle.bgp_routes.specs.Contribution.{contribution, told};
+ghost use Rattle.bgp_routes.specs.Laws.{AreRoutes};
+ghost use Rattle.bgp_routes.specs.Routes.{advertises, is_for, of_address, of_pool, of_service, routes_of};
+ghost use Rattle.bgp_routes.specs.Uniting.{with_contributions, with_each};
+
+use crate::uniting::add;
+use bgp_updates::{Route, RouteTable};
+use ip_ranges::{Address, Family, mask};
+use kube_labels::Text;
+use kube_model::Service;
+use mlb_base::{NoMemory, TryCopy};
+use pool_config::{CompiledBgp, CompiledPeer, CompiledPool, Config};
+use speaker_view::View;
+use std::alloc::Global;
+
+/// The routes that the node announces to the peer.
+///
+/// Each IPv4 address that is recorded on some service which can be announced from the node, and each BGPAdvertisement (MetalLB) of the
+/// configuration in force that chooses the address's pool, selects the node and names the peer or none, contributes the address masked
+/// to `aggregationLength`. A route's communities are those of all contributions of its prefix, and its preference is the greatest of
+/// theirs for a peer of the same AS, else `None`. The table is empty where the peer doesn't select the node. `NoMemory` may come at any
+/// time.
+pub fn routes(
+    alloc: Global,
+    view: &View,
+    node: &str,
+    peer: &CompiledPeer,
+) -> Result<RouteTable, NoMemory>
+    ensures value { IfOk result (λ table. table ≡ routes_of view.now node.now peer.now) }
+    ensures meaning { IfOk result (λ table. AreRoutes view.now node.now peer.now table) }
+    ensures table { IfOk result (λ table. IsTable table) }
+{
+    let node = Text::new(alloc, node)?;
+    let routes = collected(alloc, view, &node, peer)?;
+    Ok(RouteTable::from_vec(routes))
+}
+
+#[tactic(auto, using(crate::proofs::Placing::with_each_flat))]
+fn collected(
+    alloc: Global,
+    view: &View,
+    node: &Text,
+    peer: &CompiledPeer,
+) -> Result<Vec<Route>, NoMemory>
+    ensures value { IfOk result (λ routes. routes.items ≡ routes_of view.now node.now peer.now) }
+    ensures table { IfOk result (λ routes. IsTable routes.items) }
+{
+    let mut routes = Vec::new(alloc);
+    if !peer.selects(view.node_labels(node)) {
+        return Ok(routes);
+    }
+    let Some(config) = view.config() else {
+        return Ok(routes);
+    };
+    add_services(alloc, &mut routes, view, node, peer, config)?;
+    Ok(routes)
+}
+
+fn add_services(
+    alloc: Global,
+    routes: &mut Vec<Route>,
+    view: &View,
+    node: &Text,
+    peer: &CompiledPeer,
+    config: &Config,
+) -> Result<(), NoMemory>
+    requires table { IsTable routes.old.items }
+    ensures value { OnOk result (routes.new.items ≡ with_each (of_service view.now node.now peer.now config.now) routes.old.items (objects_of view.now.held.services)) }
+    ensures table { OnOk result (IsTable routes.new.items) }
+{
+    for (_, held) in view.services().iter() {
+        add_service(alloc, routes, view, node, peer, config, &held.object)?;
+    }
+    Ok(())
+}
+
+#[tactic(auto, using(crate::proofs::Placing::with_each_flat))]
+fn add_service(
+    alloc: Global,
+    routes: &mut Vec<Route>,
+    view: &View,
+    node: &Text,
+    peer: &CompiledPeer,
+    config: &Config,
+    service: &Service,
+) -> Result<(), NoMemory>
+    requires table { IsTable routes.old.items }
+    ensures value { OnOk result (routes.new.items ≡ with_contributions routes.old.items (of_service view.now node.now peer.now config.now service.now)) }
+    ensures table { OnOk result (IsTable routes.new.items) }
+{
+    if !view.can_announce(service, node) {
+        return Ok(());
+    }
+    add_addresses(
+        alloc,
+        routes,
+        view,
+        node,
+        peer,
+        config,
+        service.holding.addresses.as_slice(),
+    )
+}
+
+fn add_addresses(
+    alloc: Global,
+    routes: &mut Vec<Route>,
+    view: &View,
+    node: &Text,
+    peer: &CompiledPeer,
+    config: &Config,
+    addresses: &[Address],
+) -> Result<(), NoMemory>
+    requires table { IsTable routes.old.items }
+    ensures value { OnOk result (routes.new.items ≡ with_each (of_address view.now node.now peer.now config.now) routes.old.items addresses.now) }
+    ensures table { OnOk result (IsTable routes.new.items) }
+{
+    for address in addresses {
+        add_address(alloc, routes, view, node, peer, config, address)?;
+    }
+    Ok(())
+}
+
+fn add_address(
+    alloc: Global,
+    routes: &mut Vec<Route>,
+    view: &View,
+    node: &Text,
+    peer: &CompiledPeer,
+    config: &Config,
+    address: &Address,
+) -> Result<(), NoMemory>
+    requires table { IsTable routes.old.items }
+    ensures value { OnOk result (routes.new.items ≡ with_contributions routes.old.items (of_address view.now node.now peer.now config.now address.now)) }
+    ensures table { OnOk result (IsTable routes.new.items) }
+{
+    match address.family {
+        Family::V6 => Ok(()),
+        Family::V4 => match config.pool_with(address) {
+            None => Ok(()),
+            Some(pool) => add_pool(
+                alloc,
+                routes,
+                view,
+                node,
+                peer,
+                address,
+                pool,
+                config.bgp.as_slice(),
+            ),
+        },
+    }
+}
+
+fn add_pool(
+    alloc: Global,
+    routes: &mut Vec<Route>,
+    view: &View,
+    node: &Text,
+    peer: &CompiledPeer,
+    address: &Address,
+    pool: &CompiledPool,
+    bgp: &[CompiledBgp],
+) -> Result<(), NoMemory>
+    requires v4 { address.now.family ≡ V4 }
+    requires table { IsTable routes.old.items }
+    ensures value { OnOk result (routes.new.items ≡ with_contributions routes.old.items (of_pool view.now node.now peer.now address.now pool.now bgp.now)) }
+    ensures table { OnOk result (IsTable routes.new.items) }
+{
+    for advertisement in bgp {
+        if advertises(view, node, peer, pool, advertisement) {
+            let route = contribution(peer, address, advertisement)?;
+            add(alloc, routes, route)?;
+        }
+    }
+    Ok(())
+}
+
+fn advertises(
+    view: &View,
+    node: &Text,
+    peer: &CompiledPeer,
+    pool: &CompiledPool,
+    advertisement: &CompiledBgp,
+) -> bool
+    ensures { result ≡ advertises view.now node.now peer.now pool.now advertisement.now }
+{
+    advertisement.chooses(pool)
+        && advertisement.selects(view.node_labels(node))
+        && is_for(peer, advertisement)
+}
+
+fn is_for(peer: &CompiledPeer, advertisement: &CompiledBgp) -> bool
+    ensures { result ≡ is_for peer.now advertisement.now }
+{
+    advertisement.peers.is_empty() || has_text(advertisement.peers.as_slice(), peer.name.as_str())
+}
+
+fn has_text(texts: &[Text], text: &str) -> bool
+    ensures { result ≡ has_text texts.now text.now }
+{
+    texts.iter().any(|held| held.as_str() == text)
+}
+
+fn told(peer: &CompiledPeer, preference: u32) -> Option<u32>
+    ensures { result ≡ told peer.now preference }
+{
+    if peer.my_asn == peer.peer_asn {
+        Some(preference)
+    } else {
+        None
+    }
+}
+
+fn contribution(
+    peer: &CompiledPeer,
+    address: &Address,
+    advertisement: &CompiledBgp,
+) -> Result<Route, NoMemory>
+    requires v4 { address.now.family ≡ V4 }
+    ensures value { IfOk result (λ route. route ≡ contribution peer.now address.now advertisement.now) }
+    ensures prefix { IfOk result (λ route. IsV4 route.0) }
+{
+    let prefix = mask(address, advertisement.length.bits());
+    let communities = advertisement.communities.copy()?;
+    Ok(Route {
+        prefix,
+        preference: told(peer, advertisement.local_pref),
+        communities,
+    })
+}

@@ -1,0 +1,19 @@
+//! What holds of the routes of every node for every peer.
+ghost use Rattle.bgp_routes.specs.Laws.{ContributionsAreListed, RoutesAreStated, RoutesUniteContributions};
+
+/// The table of a node for a peer says of each prefix what all contributions of the prefix do, united.
+pub fn routes_are_stated()
+    ensures { RoutesAreStated }
+{}
+
+/// What contributes is an IPv4 address recorded on some service that can be announced from the node, and a BGPAdvertisement that
+/// chooses its pool, selects the node and names the peer or none.
+pub fn contributions_are_listed()
+    ensures { ContributionsAreListed }
+{}
+
+/// Each contribution's prefix has a route, and no other prefix has one. Its communities are exactly those of all contributions of the
+/// prefix, and its preference is the greatest of theirs.
+pub fn routes_unite_contributions()
+    ensures { RoutesUniteContributions }
+{}

@@ -1,0 +1,6 @@
+//! The view of a speaker whose configuration keeps the limit on communities.
+#![tactic(auto)]
+
+mod view;
+
+pub use view::LimitedView;

@@ -1,0 +1,43 @@
+-- Octets are below 256, and what stands in four of them has 32 bits.
+use Rattle.std.proofs.Common.{ℕ, zero, suc, ◌+◌, ◌<◌, ◌^◌, List, [], ◌∷◌, get_or, take, drop, slice_index, arith}
+use Rattle.std.specs.List.{AllByRecursion}
+use Rattle.std.specs.Int.{w32, from_be_bytes}
+use Rattle.bgp_reading.specs.Places.{number_at, numbers_in}
+
+abbrev pub AreOctets : List ℕ → Type 0
+AreOctets bytes = AllByRecursion (λ b. b < 256) bytes
+
+pub octets-from : (bytes : List ℕ) → ((i : ℕ) → get_or bytes i 0 < 256) → AreOctets bytes
+octets-from [] each = tt
+octets-from (b ∷ rest) each = (each 0, octets-from rest (λ i. each (suc i)))
+
+pub octets-take : (count : ℕ) (bytes : List ℕ) → AreOctets bytes → AreOctets (take count bytes)
+octets-take zero bytes all = tt
+octets-take (suc count) [] all = tt
+octets-take (suc count) (b ∷ rest) all = (all.0, octets-take count rest all.1)
+
+pub octets-drop : (count : ℕ) (bytes : List ℕ) → AreOctets bytes → AreOctets (drop count bytes)
+octets-drop zero bytes all = all
+octets-drop (suc count) [] all = tt
+octets-drop (suc count) (b ∷ rest) all = octets-drop count rest all.1
+
+octet-at : (place : ℕ) (bytes : List ℕ) → AreOctets bytes → slice_index bytes place < 256
+octet-at place [] all = omega arith
+octet-at zero (b ∷ rest) all = all.0
+octet-at (suc place) (b ∷ rest) all = octet-at place rest all.1
+
+number-fits : (a b c d : ℕ) → a < 256 → b < 256 → c < 256 → d < 256 → from_be_bytes w32 (a ∷ b ∷ c ∷ d ∷ []) < 2 ^ 32
+number-fits a b c d fa fb fc fd = omega arith
+
+pub number_at-fits : (place : ℕ) (bytes : List ℕ) → AreOctets bytes → number_at place bytes < 2 ^ 32
+number_at-fits place bytes all =
+    number-fits (slice_index bytes place) (slice_index bytes (place + 1)) (slice_index bytes (place + 2)) (slice_index bytes (place + 3))
+    (octet-at place bytes all) (octet-at (place + 1) bytes all) (octet-at (place + 2) bytes all) (octet-at (place + 3) bytes all)
+
+pub numbers_in-fit : (bytes : List ℕ) → AreOctets bytes → AllByRecursion (λ n. n < 2 ^ 32) (numbers_in bytes)
+numbers_in-fit [] all = tt
+numbers_in-fit (a ∷ []) all = tt
+numbers_in-fit (a ∷ b ∷ []) all = tt
+numbers_in-fit (a ∷ b ∷ c ∷ []) all = tt
+numbers_in-fit (a ∷ b ∷ c ∷ d ∷ rest) all =
+    (number-fits a b c d all.0 all.1.0 all.1.1.0 all.1.1.1.0, numbers_in-fit rest all.1.1.1.1)

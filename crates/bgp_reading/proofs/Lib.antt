@@ -1,0 +1,13 @@
+pub mod Answered
+pub mod AttributesAgain
+pub mod Bytes
+pub mod Formed
+pub mod Meaning
+pub mod Messages
+pub mod Numbers
+pub mod Orders
+pub mod PrefixAgain
+pub mod PrefixWalk
+pub mod ReadAgain
+pub mod ReceivedAgain
+pub mod Spelled

@@ -1,0 +1,17 @@
+//! What holds of reading, whatever the octets and the tables.
+ghost use Rattle.bgp_reading.specs.Laws.{MessagesAreComputed, MessagesSayOneThing, UpdatesAreReceived};
+
+/// The definition that computes finds exactly the messages.
+pub fn messages_are_computed()
+    ensures { MessagesAreComputed }
+{}
+
+/// No octets are messages that say two things.
+pub fn messages_say_one_thing()
+    ensures { MessagesSayOneThing }
+{}
+
+/// After the joined octets of the messages between two tables, cut by their lengths and read, the old table is the new one.
+pub fn updates_are_received()
+    ensures { UpdatesAreReceived }
+{}

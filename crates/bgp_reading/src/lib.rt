@@ -1,0 +1,15 @@
+//! UPDATE messages of BGP, read (RFC 4271, section 4.3).
+#![tactic(auto)]
+
+mod attributes;
+mod forms;
+mod laws;
+mod octets;
+mod parts;
+mod prefixes;
+mod reading;
+mod spelling;
+
+pub use laws::{messages_are_computed, messages_say_one_thing, updates_are_received};
+pub use parts::{UpdateFault, UpdateParts};
+pub use reading::read_update;

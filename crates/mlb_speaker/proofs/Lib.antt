@@ -1,4 +1,6 @@
+pub mod Begun
 pub mod Listed
-pub mod NamedWords
+pub mod Meant
 pub mod Steps
+pub mod Tables
 pub mod Telling

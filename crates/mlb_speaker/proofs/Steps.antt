@@ -3,6 +3,7 @@ use Rattle.std.proofs.Common.{◌≡◌, ◌↔◌, ℕ, suc, ◌+◌, ◌<◌, 
 use Rattle.ip_ranges.specs.Values.{AddressValue}
 use Rattle.kube_events.specs.Event.{event_of_line}
 use Rattle.kube_model.specs.declared.event.Event.{Event}
+use Rattle.kube_model.specs.declared.event.Event.TheVariants.{Changed, Deleted, ListEnd, Expired, Members, Frame, Ignored}
 use Rattle.kube_model.specs.declared.object.Kind.{Kind}
 use Rattle.object_cache.specs.declared.change.TakeNote.{TakeNote}
 use Rattle.object_cache.specs.declared.change.ApplyFault.{ApplyFault}
@@ -16,9 +17,14 @@ use Rattle.line_run.specs.Run.{text_of}
 use Rattle.line_run.specs.Steps.{Breaks}
 use Rattle.line_run.specs.Text.{Halts}
 use Rattle.mlb_speaker.specs.declared.entries.Entry.{Entry}
+use Rattle.mlb_speaker.specs.declared.station.Station.{Station}
 use Rattle.mlb_speaker.specs.Announced.{announced_by}
 use Rattle.mlb_speaker.specs.Entries.{entries_for, entry_text}
-use Rattle.mlb_speaker.specs.Stream.{state_of, state_after, entries_of, line_step, speaker_rules}
+use Rattle.mlb_speaker.specs.declared.peers.PeerTable.{PeerTable}
+use Rattle.mlb_speaker.specs.PeerTables.{tables_of, updates_with}
+use Rattle.mlb_speaker.specs.Updates.{update_entries}
+use Rattle.mlb_speaker.proofs.Tables.{kept-tables}
+use Rattle.mlb_speaker.specs.Stream.{Received, state_of, state_after, frame_in, changes_of, entries_of, line_step, speaker_rules}
 
 abbrev noted : TakeNote → Result TakeNote ApplyFault
 noted note = Ok note
@@ -38,28 +44,50 @@ unmade fault = Err fault
 pub handed_on : (fault told : ApplyFault) → unmade fault ≡ unmade told → refused fault ≡ refused told
 handed_on fault told e = let same : fault ≡ told = cc in ap refused same
 
-module _ (v : ViewValue) (node : List ℕ) (event : Event) where
+module _ (v : ViewValue) (station : Station) (event : Event) where
   -- what is told is what the views before and after it say
-  pub entries-are : (note : TakeNote) (before after : List AddressValue) (v' : ViewValue) (entries : List Entry) → entries ≡ entries_for note before after
-      → before ≡ announced_by v node → after ≡ announced_by v' node → v' ≡ view_after event v → note ≡ note_by v event → entries ≡ entries_of (state_of v node) event
-  entries-are note before after v' entries is b a w n =
+  pub changes-are : (note : TakeNote) (before : List AddressValue) (tables : List PeerTable) (v' : ViewValue) (entries : List Entry)
+      → entries ≡ entries_for v' station note before (announced_by v' station.node) ++ updates_with tables v' station.node station.next_hop
+      → before ≡ announced_by v station.node → tables ≡ tables_of v station → v' ≡ view_after event v → note ≡ note_by v event → entries ≡ changes_of (state_of v station) event
+  changes-are note before tables v' entries is b t w n =
       is
-      ∙ ap (λ (t : TakeNote). entries_for t before after) n
-      ∙ ap (λ (xs : List AddressValue). entries_for (note_by v event) xs after) b
-      ∙ ap (λ (xs : List AddressValue). entries_for (note_by v event) (announced_by v node) xs) (a ∙ ap (λ (u : ViewValue). announced_by u node) w)
+      ∙ ap (λ (m : TakeNote). entries_for v' station m before (announced_by v' station.node) ++ updates_with tables v' station.node station.next_hop) n
+      ∙ ap (λ (xs : List AddressValue). entries_for v' station (note_by v event) xs (announced_by v' station.node) ++ updates_with tables v' station.node station.next_hop) b
+      ∙ ap (λ (ts : List PeerTable). entries_for v' station (note_by v event) (announced_by v station.node) (announced_by v' station.node) ++ updates_with ts v' station.node station.next_hop) t
+      ∙ ap (λ (es : List Entry). entries_for v' station (note_by v event) (announced_by v station.node) (announced_by v' station.node) ++ es) (kept-tables v v' station.node station.next_hop)
+      ∙ ap (λ (u : ViewValue). entries_for u station (note_by v event) (announced_by v station.node) (announced_by u station.node) ++ update_entries v u station) w
 
   module _ (line : Line) (reads : event_of_line line.bytes ≡ Ok event) (within : limit_by v event ≡ None) where
-    pub goes : line_step (state_of v node) line ≡ Goes (state_after (state_of v node) event) (entries_of (state_of v node) event)
+    pub goes : line_step (state_of v station) line ≡ Goes (state_after (state_of v station) event) (entries_of (state_of v station) event)
     goes = rw (reads, within) refl
 
-    pub breaks : (halt : Halt) (entries : List Entry) (before after : Option (List ℕ)) (k n : ℕ) → entries ≡ entries_of (state_of v node) event
-        → Halts halt (text_of speaker_rules entries) before after k n → Breaks halt speaker_rules (state_of v node) line before after k n
+    pub breaks : (halt : Halt) (entries : List Entry) (before after : Option (List ℕ)) (k n : ℕ) → entries ≡ entries_of (state_of v station) event
+        → Halts halt (text_of speaker_rules entries) before after k n → Breaks halt speaker_rules (state_of v station) line before after k n
     breaks halt entries before after k n is h = record {
-      next = state_after (state_of v node) event;
-      entries = entries_of (state_of v node) event;
+      next = state_after (state_of v station) event;
+      entries = entries_of (state_of v station) event;
       steps = goes;
       halts = rw is at h;
     }
+
+-- a frame changes nothing, and passes no limit
+pub frame_leaves : (event : Event) (received : Received) (v : ViewValue) → frame_in event ≡ Some received → view_after event v ≡ v
+frame_leaves (Frame interface bytes) received v e = refl
+frame_leaves (Changed version object) received v e = absurd (cc)
+frame_leaves (Deleted kind key) received v e = absurd (cc)
+frame_leaves (ListEnd group) received v e = absurd (cc)
+frame_leaves Expired received v e = absurd (cc)
+frame_leaves (Members names) received v e = absurd (cc)
+frame_leaves Ignored received v e = absurd (cc)
+
+pub frame_within : (event : Event) (received : Received) (v : ViewValue) → frame_in event ≡ Some received → limit_by v event ≡ None
+frame_within (Frame interface bytes) received v e = refl
+frame_within (Changed version object) received v e = absurd (cc)
+frame_within (Deleted kind key) received v e = absurd (cc)
+frame_within (ListEnd group) received v e = absurd (cc)
+frame_within Expired received v e = absurd (cc)
+frame_within (Members names) received v e = absurd (cc)
+frame_within Ignored received v e = absurd (cc)
 
 -- the text of the entries from one on
 pub next_is : (entries : List Entry) (i : ℕ) (e : Entry) → i < length entries → e ≡ get_or entries i e → text_of speaker_rules (drop i entries) ≡ entry_text e ++ text_of speaker_rules (drop (i + 1) entries)

@@ -6,12 +6,17 @@ use Rattle.std.proofs.lemmas.List.{append-nil}
 use Rattle.std.proofs.lemmas.List.Sums.{fold-append}
 use Rattle.mlb_base.proofs.Among.{contains-none}
 use Rattle.ip_ranges.specs.Values.{AddressValue, same_address, has_address}
+use Rattle.ip_ranges.specs.declared.family.Family.{Family}
+use Rattle.ip_ranges.specs.declared.family.Family.TheVariants.{V4, V6}
+use Rattle.pool_config.specs.declared.compiled.CompiledPeer.{CompiledPeer}
 use Rattle.ip_ranges.proofs.AddressLaws.{same_address-is, same_address-itself}
 use Rattle.kube_events.specs.Event.{event_of_line}
 use Rattle.kube_model.specs.declared.event.Event.{Event}
 use Rattle.kube_model.specs.declared.event.EventFault.{EventFault}
 use Rattle.kube_model.specs.declared.object.Kind.{Kind}
 use Rattle.object_cache.specs.declared.change.TakeNote.{TakeNote}
+use Rattle.std.specs.List.{flat_map}
+use Rattle.speaker_view.specs.ViewValue.{ViewValue}
 use Rattle.speaker_view.specs.View.{view_after, note_by, limit_by, fresh}
 use Rattle.l2_elect.specs.Election.{announces_of}
 use Rattle.l2_elect.proofs.Least.{announces-announcer, announcer-announces}
@@ -19,14 +24,20 @@ use Rattle.mlb_edge.specs.declared.lines.Line.{Line}
 use Rattle.line_run.specs.Machine.{Goes}
 use Rattle.line_run.specs.Run.{AreTaken}
 use Rattle.mlb_speaker.specs.declared.entries.Entry.{Entry}
-use Rattle.mlb_speaker.specs.declared.entries.Entry.TheVariants.{Noted, Withdrawn, Announced}
+use Rattle.mlb_speaker.specs.declared.entries.Entry.TheVariants.{Noted, Withdrawn, Announced, Sent, Updated}
 use Rattle.mlb_speaker.specs.Announced.{announced_by}
-use Rattle.mlb_speaker.specs.Clauses.{begun_with}
-use Rattle.mlb_speaker.specs.Entries.{difference, withdrawn, announced, withdrawals, announcements, entries_for}
-use Rattle.mlb_speaker.specs.Stream.{SpeakerState, first_state, state_after, entries_of, limit_step, event_step, line_step, speaker_rules}
+use Rattle.mlb_speaker.specs.Clauses.{nothing_said, begun_with}
+use Rattle.mlb_speaker.specs.declared.station.Interface.{Interface}
+use Rattle.mlb_speaker.specs.declared.station.Station.{Station}
+use Rattle.mlb_speaker.specs.Entries.{difference, withdrawn, withdrawals, announcements, entries_for}
+use Rattle.mlb_speaker.specs.Sends.{unasked_by, listening, announcement, answer_on, answer_by, sent_on, interface_of}
+use Rattle.mlb_speaker.specs.Stream.{SpeakerState, Received, first_state, state_after, frame_in, changes_of, entries_at, entries_of, limit_step, event_step, line_step, speaker_rules}
 use Rattle.mlb_speaker.specs.Told.{AllLeave, IsToldOf, TellsWhatIsAnnounced, LinesTellWhatIsAnnounced}
-use Rattle.mlb_speaker.specs.Words.{Said, said_in}
+use Rattle.speaker_words.specs.Reading.{said_in}
+use Rattle.speaker_words.specs.Words.{Said}
+use Rattle.mlb_speaker.specs.Updates.{peers_of, messages_to, updated, updates_to, updates_by, with_hop, update_entries}
 use Rattle.mlb_speaker.proofs.Listed.{has-announced}
+use Rattle.mlb_speaker.proofs.Steps.{frame_leaves}
 
 -- ---- tests
 
@@ -71,6 +82,8 @@ module _ (a : AddressValue) where
   says before (Noted note) = before
   says before (Withdrawn b) = cond (same_address a b) false before
   says before (Announced b) = cond (same_address a b) true before
+  says before (Sent interface frame) = before
+  says before (Updated peer message) = before
 
   stands : Bool → List Entry → Bool
   stands before told = fold says before told
@@ -91,9 +104,18 @@ module _ (a : AddressValue) where
   announced_bools false true d = refl
   announced_bools false false d = refl
 
-  stands-announced : (xs : List AddressValue) (b : Bool) → fold says b (map announced xs) ≡ (b || has_address xs a)
-  stands-announced [] b = or_false b
-  stands-announced (x ∷ xs) b = stands-announced xs (cond (same_address a x) true b) ∙ announced_bools b (same_address a x) (has_address xs a)
+  -- a frame tells nothing of it
+  stands-sent : (x : AddressValue) (interfaces : List Interface) (b : Bool) → fold says b (map (unasked_by x) interfaces) ≡ b
+  stands-sent x [] b = refl
+  stands-sent x (i ∷ interfaces) b = stands-sent x interfaces b
+
+  stands-announced : (v : ViewValue) (station : Station) (xs : List AddressValue) (b : Bool) → fold says b (flat_map (announcement v station) xs) ≡ (b || has_address xs a)
+  stands-announced v station [] b = or_false b
+  stands-announced v station (x ∷ xs) b =
+      fold-append says b (announcement v station x) (flat_map (announcement v station) xs)
+      ∙ ap (λ (c : Bool). fold says c (flat_map (announcement v station) xs)) (stands-sent x (listening v station x) (cond (same_address a x) true b))
+      ∙ stands-announced v station xs (cond (same_address a x) true b)
+      ∙ announced_bools b (same_address a x) (has_address xs a)
 
   has-difference : (xs ys : List AddressValue) → has_address (difference xs ys) a ≡ (has_address xs a && not (has_address ys a))
   has-difference xs ys = has-filter (λ b. not (has_address ys b)) xs
@@ -105,26 +127,53 @@ module _ (a : AddressValue) where
   turned false false = refl
 
   -- from what was announced before to what is announced now
-  stands-entries : (note : TakeNote) (before after : List AddressValue) → fold says (has_address before a) (entries_for note before after) ≡ has_address after a
-  stands-entries note before after =
-      fold-append says (has_address before a) (Noted note ∷ withdrawals before after) (announcements before after)
-      ∙ stands-announced (difference after before) (fold says (has_address before a) (withdrawals before after))
+  stands-entries : (v : ViewValue) (station : Station) (note : TakeNote) (before after : List AddressValue) → fold says (has_address before a) (entries_for v station note before after) ≡ has_address after a
+  stands-entries v station note before after =
+      fold-append says (has_address before a) (Noted note ∷ withdrawals before after) (announcements v station before after)
+      ∙ stands-announced v station (difference after before) (fold says (has_address before a) (withdrawals before after))
       ∙ ap (λ (b : Bool). b || has_address (difference after before) a) (stands-withdrawn (difference before after) (has_address before a))
       ∙ ap (λ (b : Bool). (has_address before a && not b) || has_address (difference after before) a) (has-difference before after)
       ∙ ap (λ (b : Bool). (has_address before a && not (has_address before a && not (has_address after a))) || b) (has-difference after before)
       ∙ turned (has_address before a) (has_address after a)
 
+  -- nor does what is told to peers
+  stands-messages : (peer : CompiledPeer) (messages : List (List ℕ)) (b : Bool) → fold says b (map (updated peer) messages) ≡ b
+  stands-messages peer [] b = refl
+  stands-messages peer (message ∷ messages) b = stands-messages peer messages b
+
+  stands-peers : (v v' : ViewValue) (node : List ℕ) (hop : AddressValue) (peers : List CompiledPeer) (b : Bool) → fold says b (flat_map (updates_to v v' node hop) peers) ≡ b
+  stands-peers v v' node hop [] b = refl
+  stands-peers v v' node hop (peer ∷ peers) b =
+      fold-append says b (updates_to v v' node hop peer) (flat_map (updates_to v v' node hop) peers)
+      ∙ ap (λ (c : Bool). fold says c (flat_map (updates_to v v' node hop) peers)) (stands-messages peer (messages_to v v' node hop peer) b)
+      ∙ stands-peers v v' node hop peers b
+
+  stands-hop : (family : Family) (entries : List Entry) (b : Bool) → fold says b entries ≡ b → fold says b (with_hop family entries) ≡ b
+  stands-hop V4 entries b stands = stands
+  stands-hop V6 entries b stands = refl
+
+  stands-updates : (v v' : ViewValue) (node : List ℕ) (hop : Option AddressValue) (b : Bool) → fold says b (updates_by v v' node hop) ≡ b
+  stands-updates v v' node None b = refl
+  stands-updates v v' node (Some hop) b = stands-hop hop.family (flat_map (updates_to v v' node hop) (peers_of v')) b (stands-peers v v' node hop (peers_of v') b)
+
+  stands-answer : (v : ViewValue) (node : List ℕ) (i : Option Interface) (frame : List ℕ) (b : Bool) → fold says b (answer_by v node i frame) ≡ b
+  stands-answer v node None frame b = refl
+  stands-answer v node (Some i) frame b = go (answer_on v node i frame) where
+    go : (answer : Option (List ℕ)) → fold says b (sent_on i answer) ≡ b
+    go None = refl
+    go (Some answer) = refl
+
   -- what stands told is what is announced
   Keeps : SpeakerState → List Entry → Type 0
-  Keeps s told = fold says false told ≡ announces_of s.view s.node a
+  Keeps s told = fold says false told ≡ announces_of s.view s.station.node a
 
 -- ---- runs
 
 -- a line that is taken is an event that is applied
-record Applies (s t : SpeakerState) (entries : List Entry) : Type 0 where
-  event : Event
-  leads : t ≡ state_after s event
-  tells : entries ≡ entries_of s event
+pub record Applies (s t : SpeakerState) (entries : List Entry) : Type 0 where
+  pub event : Event
+  pub leads : t ≡ state_after s event
+  pub tells : entries ≡ entries_of s event
 
 limit_applies : (o : Option (Kind × ℕ)) (s t : SpeakerState) (event : Event) (entries : List Entry) → limit_step s event o ≡ Goes t entries → Applies s t entries
 limit_applies None s t event entries e =
@@ -133,27 +182,42 @@ limit_applies None s t event entries e =
     record { event = event; leads = leads; tells = tells }
 limit_applies (Some p) s t event entries e = absurd (cc)
 
-event_applies : (read : Result Event EventFault) (s t : SpeakerState) (line : Line) (entries : List Entry) → event_step s line read ≡ Goes t entries → Applies s t entries
+pub event_applies : (read : Result Event EventFault) (s t : SpeakerState) (line : Line) (entries : List Entry) → event_step s line read ≡ Goes t entries → Applies s t entries
 event_applies (Err fault) s t line entries e = absurd (cc)
 event_applies (Ok event) s t line entries e = limit_applies (limit_by s.view event) s t event entries e
 
 module _ (a : AddressValue) where
-  kept : (s t : SpeakerState) (line : Line) (told entries : List Entry) → fold (says a) false told ≡ announces_of s.view s.node a → line_step s line ≡ Goes t entries
-      → fold (says a) false (told ++ entries) ≡ announces_of t.view t.node a
+  -- what is told of an event follows it
+  told_by_event : (o : Option Received) (s : SpeakerState) (event : Event) → frame_in event ≡ o
+      → fold (says a) (announces_of s.view s.station.node a) (entries_at o s event) ≡ announces_of (view_after event s.view) s.station.node a
+  told_by_event (Some received) s event is =
+      stands-answer a s.view s.station.node (interface_of s.station received.interface) received.frame (announces_of s.view s.station.node a)
+      ∙ ap (λ (u : ViewValue). announces_of u s.station.node a) (sym (frame_leaves event received s.view is))
+  told_by_event None s event is =
+      ap (λ (b : Bool). fold (says a) b (changes_of s event)) (sym (has-announced s.view s.station.node a))
+      ∙ fold-append (says a) (has_address (announced_by s.view s.station.node) a)
+      (entries_for (view_after event s.view) s.station (note_by s.view event) (announced_by s.view s.station.node) (announced_by (view_after event s.view) s.station.node))
+      (update_entries s.view (view_after event s.view) s.station)
+      ∙ ap (λ (b : Bool). fold (says a) b (update_entries s.view (view_after event s.view) s.station))
+      (stands-entries a (view_after event s.view) s.station (note_by s.view event) (announced_by s.view s.station.node) (announced_by (view_after event s.view) s.station.node))
+      ∙ stands-updates a s.view (view_after event s.view) s.station.node s.station.next_hop (has_address (announced_by (view_after event s.view) s.station.node) a)
+      ∙ has-announced (view_after event s.view) s.station.node a
+
+  kept : (s t : SpeakerState) (line : Line) (told entries : List Entry) → fold (says a) false told ≡ announces_of s.view s.station.node a → line_step s line ≡ Goes t entries
+      → fold (says a) false (told ++ entries) ≡ announces_of t.view t.station.node a
   kept s t line told entries keeps goes =
       let by = event_applies (event_of_line line.bytes) s t line entries goes in
       let event = by.event in
       fold-append (says a) false told entries
-      ∙ ap (λ (b : Bool). fold (says a) b entries) (keeps ∙ sym (has-announced s.view s.node a))
-      ∙ ap (λ (es : List Entry). fold (says a) (has_address (announced_by s.view s.node) a) es) by.tells
-      ∙ stands-entries a (note_by s.view event) (announced_by s.view s.node) (announced_by (view_after event s.view) s.node)
-      ∙ has-announced (view_after event s.view) s.node a
-      ∙ ap (λ (u : SpeakerState). announces_of u.view u.node a) (sym by.leads)
+      ∙ ap (λ (b : Bool). fold (says a) b entries) keeps
+      ∙ ap (λ (es : List Entry). fold (says a) (announces_of s.view s.station.node a) es) by.tells
+      ∙ told_by_event (frame_in event) s event refl
+      ∙ ap (λ (u : SpeakerState). announces_of u.view u.station.node a) (sym by.leads)
 
-  taken_keeps : (lines : List Line) (s t : SpeakerState) (told entries : List Entry) → fold (says a) false told ≡ announces_of s.view s.node a → AreTaken speaker_rules lines s t entries
-      → fold (says a) false (told ++ entries) ≡ announces_of t.view t.node a
+  taken_keeps : (lines : List Line) (s t : SpeakerState) (told entries : List Entry) → fold (says a) false told ≡ announces_of s.view s.station.node a → AreTaken speaker_rules lines s t entries
+      → fold (says a) false (told ++ entries) ≡ announces_of t.view t.station.node a
   taken_keeps [] s t told entries keeps taken =
-      ap (λ (es : List Entry). fold (says a) false (told ++ es)) taken.1 ∙ ap (λ (es : List Entry). fold (says a) false es) (append-nil told) ∙ keeps ∙ ap (λ (u : SpeakerState). announces_of u.view u.node a) (sym taken.0)
+      ap (λ (es : List Entry). fold (says a) false (told ++ es)) taken.1 ∙ ap (λ (es : List Entry). fold (says a) false es) (append-nil told) ∙ keeps ∙ ap (λ (u : SpeakerState). announces_of u.view u.station.node a) (sym taken.0)
   taken_keeps (line ∷ lines) s t told entries keeps (next, first, rest, goes, others, is) =
       ap (λ (es : List Entry). fold (says a) false (told ++ es)) is
       ∙ ap (λ (es : List Entry). fold (says a) false es) (sym (append_assoc told first rest))
@@ -174,6 +238,8 @@ module _ (a : AddressValue) where
   lasts_on (Announced b ∷ later) all = by_bool _ (same_address a b)
       (λ t. ap (λ (c : Bool). fold (says a) (cond c true true) later) t ∙ lasts_on later all.1)
       (λ f. ap (λ (c : Bool). fold (says a) (cond c true true) later) f ∙ lasts_on later all.1)
+  lasts_on (Sent interface frame ∷ later) all = lasts_on later all.1
+  lasts_on (Updated peer message ∷ later) all = lasts_on later all.1
 
   told-stands : (told : List Entry) → IsToldOf told a → fold (says a) false told ≡ true
   told-stands told is =
@@ -204,6 +270,14 @@ module _ (a : AddressValue) where
   announced_cases x b told (inl p) = announced_case (same_address a x) x b told refl p.0 p.1
   announced_cases x b told (inr is) = inr (behind (Announced x) told is)
 
+  sent_cases : (interface frame : List ℕ) (b : Bool) (told : List Entry) → ((b ≡ true) × AllLeave a told) ⊎ IsToldOf told a → ((b ≡ true) × AllLeave a (Sent interface frame ∷ told)) ⊎ IsToldOf (Sent interface frame ∷ told) a
+  sent_cases interface frame b told (inl p) = inl (p.0, (tt, p.1))
+  sent_cases interface frame b told (inr is) = inr (behind (Sent interface frame) told is)
+
+  updated_cases : (peer message : List ℕ) (b : Bool) (told : List Entry) → ((b ≡ true) × AllLeave a told) ⊎ IsToldOf told a → ((b ≡ true) × AllLeave a (Updated peer message ∷ told)) ⊎ IsToldOf (Updated peer message ∷ told) a
+  updated_cases peer message b told (inl p) = inl (p.0, (tt, p.1))
+  updated_cases peer message b told (inr is) = inr (behind (Updated peer message) told is)
+
   noted_cases : (note : TakeNote) (b : Bool) (told : List Entry) → ((b ≡ true) × AllLeave a told) ⊎ IsToldOf told a → ((b ≡ true) × AllLeave a (Noted note ∷ told)) ⊎ IsToldOf (Noted note ∷ told) a
   noted_cases note b told (inl p) = inl (p.0, (tt, p.1))
   noted_cases note b told (inr is) = inr (behind (Noted note) told is)
@@ -211,6 +285,8 @@ module _ (a : AddressValue) where
   stands_cases : (told : List Entry) (b : Bool) → fold (says a) b told ≡ true → ((b ≡ true) × AllLeave a told) ⊎ IsToldOf told a
   stands_cases [] b h = inl (h, tt)
   stands_cases (Noted note ∷ told) b h = noted_cases note b told (stands_cases told b h)
+  stands_cases (Sent interface frame ∷ told) b h = sent_cases interface frame b told (stands_cases told b h)
+  stands_cases (Updated peer message ∷ told) b h = updated_cases peer message b told (stands_cases told b h)
   stands_cases (Withdrawn x ∷ told) b h = withdrawn_cases x b told (stands_cases told (cond (same_address a x) false b) h)
   stands_cases (Announced x ∷ told) b h = announced_cases x b told (stands_cases told (cond (same_address a x) true b) h)
 
@@ -221,24 +297,24 @@ module _ (a : AddressValue) where
   stands-told : (told : List Entry) → fold (says a) false told ≡ true → IsToldOf told a
   stands-told told h = told_of told (stands_cases told false h)
 
--- the node stays
-node_kept : (lines : List Line) (s t : SpeakerState) (entries : List Entry) → AreTaken speaker_rules lines s t entries → t.node ≡ s.node
-node_kept [] s t entries taken = ap (λ (u : SpeakerState). u.node) taken.0
-node_kept (line ∷ lines) s t entries (next, first, rest, goes, others, is) =
-    node_kept lines next t rest others ∙ ap (λ (u : SpeakerState). u.node) (event_applies (event_of_line line.bytes) s next line first goes).leads
+-- the station stays
+station_kept : (lines : List Line) (s t : SpeakerState) (entries : List Entry) → AreTaken speaker_rules lines s t entries → t.station ≡ s.station
+station_kept [] s t entries taken = ap (λ (u : SpeakerState). u.station) taken.0
+station_kept (line ∷ lines) s t entries (next, first, rest, goes, others, is) =
+    station_kept lines next t rest others ∙ ap (λ (u : SpeakerState). u.station) (event_applies (event_of_line line.bytes) s next line first goes).leads
 
 pub lines_tell_what_is_announced : LinesTellWhatIsAnnounced
-lines_tell_what_is_announced node class lines s told taken a =
-    let by_test : fold (says a) false told ≡ announces_of s.view node a =
-    taken_keeps a lines (first_state node class) s [] told (nothing_yet a node class) taken
-    ∙ ap (λ (n : List ℕ). announces_of s.view n a) (node_kept lines (first_state node class) s told taken) in (
-      λ is. announces-announcer s.view a node (sym by_test ∙ told-stands a told is),
-      λ announcer. stands-told a told (by_test ∙ announcer-announces s.view a node announcer),
+lines_tell_what_is_announced said lines s told taken a =
+    let by_test : fold (says a) false told ≡ announces_of s.view said.node a =
+    taken_keeps a lines (first_state said) s [] told (nothing_yet a said.node said.class) taken
+    ∙ ap (λ (n : Station). announces_of s.view n.node a) (station_kept lines (first_state said) s told taken) in (
+      λ is. announces-announcer s.view a said.node (sym by_test ∙ told-stands a told is),
+      λ announcer. stands-told a told (by_test ∙ announcer-announces s.view a said.node announcer),
     )
 
 told_with : (said : Option Said) → TellsWhatIsAnnounced (begun_with said)
-told_with None = lines_tell_what_is_announced [] None
-told_with (Some said) = lines_tell_what_is_announced said.node said.class
+told_with None = lines_tell_what_is_announced nothing_said
+told_with (Some said) = lines_tell_what_is_announced said
 
 -- whatever the words say
 pub told_by : (words : List (List ℕ)) → TellsWhatIsAnnounced (begun_with (said_in words))

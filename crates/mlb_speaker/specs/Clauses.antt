@@ -6,13 +6,18 @@ use Rattle.command_options.specs.Options.{texts_of}
 use Rattle.line_run.specs.Clauses as run
 use Rattle.line_run.specs.Written as written
 use Rattle.mlb_speaker.specs.Stream.{SpeakerState, first_state, speaker_rules, IsCause}
+use Rattle.mlb_speaker.specs.Meant as meant
 use Rattle.mlb_speaker.specs.Told as told
-use Rattle.mlb_speaker.specs.Words.{Said, Say, AreKnown, said_in}
+use Rattle.speaker_words.specs.Reading.{said_in}
+use Rattle.speaker_words.specs.Words.{Said, Say, AreKnown}
+
+abbrev pub nothing_said : Said
+nothing_said = record { node = []; class = None; interfaces = []; next_hop = None }
 
 -- where the words aren't of the table there is no run
 abbrev pub begun_with : Option Said → SpeakerState
-begun_with None = first_state [] None
-begun_with (Some said) = first_state said.node said.class
+begun_with None = first_state nothing_said
+begun_with (Some said) = first_state said
 
 -- the state that a run begins with
 abbrev pub begun_by : {Z : Type 0} → List (String Z) → SpeakerState
@@ -23,9 +28,9 @@ begun_by words = begun_with (said_in (texts_of words))
 abbrev pub CanEnd : Status → Type 0
 CanEnd status = (status ≡ Usage) ⊎ run.CanEnd IsCause status
 
--- the run is that of the node and the class that the words name
+-- the run is that of what the words say: the node, the class, the interfaces
 abbrev pub SpeaksForNamed : {Z : Type 0} → List (String Z) → Type 0
-SpeaksForNamed words = (said : Said) → Say (texts_of words) said → begun_by words ≡ first_state said.node said.class
+SpeaksForNamed words = (said : Said) → Say (texts_of words) said → begun_by words ≡ first_state said
 
 module _ {Z K : Type 0} (words : List (String Z)) (status : Status) (left : Option (List ℕ)) (written : K → Option (List ℕ)) (out out' : K) where
   abbrev pub AtDone : Type 0
@@ -62,6 +67,10 @@ WritesOnly words told out out' = written.WritesOnly speaker_rules (begun_by word
 -- after each line of a run the addresses with an announce line and no later withdraw line are those that the node announces
 abbrev pub TellsWhatIsAnnounced : {Z : Type 0} → List (String Z) → Type 0
 TellsWhatIsAnnounced words = told.TellsWhatIsAnnounced (begun_by words)
+
+-- each frame that is sent says, unasked or as an answer, that an interface's hardware address has an address for which the node listens on it
+abbrev pub SendsWhatIsMeant : {Z : Type 0} → List (String Z) → Type 0
+SendsWhatIsMeant words = meant.SendsWhatIsMeant (begun_by words)
 
 abbrev pub IsExact : {Z : Type 0} → List (String Z) → Status → Option (List ℕ) → Type 0
 IsExact words status left = AreKnown (texts_of words) → run.IsExact speaker_rules (begun_by words) status left

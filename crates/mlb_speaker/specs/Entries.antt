@@ -1,12 +1,16 @@
 -- What is told of an event, and the text of it.
 use Rattle.std.specs.Prelude.{ℕ, not, List, [], ◌∷◌, ◌++◌, map, filter}
+use Rattle.std.specs.List.{flat_map}
 use Rattle.ip_ranges.specs.Values.{AddressValue, has_address}
-use Rattle.kube_lines.specs.Lines.{accepted_text, refused_text, announce_text, withdraw_text}
+use Rattle.kube_lines.specs.Lines.{accepted_text, refused_text, announce_text, withdraw_text, send_text, update_text}
 use Rattle.object_cache.specs.declared.change.TakeNote.{TakeNote}
 use Rattle.object_cache.specs.declared.change.TakeNote.TheVariants.{Quiet, Accepted, Refused}
+use Rattle.speaker_view.specs.ViewValue.{ViewValue}
 use Rattle.line_run.specs.Text.{line_of}
 use Rattle.mlb_speaker.specs.declared.entries.Entry.{Entry}
-use Rattle.mlb_speaker.specs.declared.entries.Entry.TheVariants.{Noted, Withdrawn, Announced}
+use Rattle.mlb_speaker.specs.declared.entries.Entry.TheVariants.{Noted, Withdrawn, Announced, Sent, Updated}
+use Rattle.mlb_speaker.specs.declared.station.Station.{Station}
+use Rattle.mlb_speaker.specs.Sends.{announcement}
 
 -- the addresses that aren't among the others
 abbrev pub difference : List AddressValue → List AddressValue → List AddressValue
@@ -15,20 +19,17 @@ difference addresses others = filter (λ a. not (has_address others a)) addresse
 abbrev pub withdrawn : AddressValue → Entry
 withdrawn address = Withdrawn address
 
-abbrev pub announced : AddressValue → Entry
-announced address = Announced address
-
 -- what was announced before, and isn't after
 abbrev pub withdrawals : List AddressValue → List AddressValue → List Entry
 withdrawals before after = map withdrawn (difference before after)
 
--- what is announced after, and wasn't before
-abbrev pub announcements : List AddressValue → List AddressValue → List Entry
-announcements before after = map announced (difference after before)
+-- what is announced after, and wasn't before, with the frames that are sent
+abbrev pub announcements : ViewValue → Station → List AddressValue → List AddressValue → List Entry
+announcements v station before after = flat_map (announcement v station) (difference after before)
 
 -- what became of a configuration, then what isn't announced any more, then what is announced from now on
-abbrev pub entries_for : TakeNote → List AddressValue → List AddressValue → List Entry
-entries_for note before after = Noted note ∷ withdrawals before after ++ announcements before after
+abbrev pub entries_for : ViewValue → Station → TakeNote → List AddressValue → List AddressValue → List Entry
+entries_for v station note before after = Noted note ∷ withdrawals before after ++ announcements v station before after
 
 -- what became of a configuration that was compiled is told
 abbrev pub note_text : TakeNote → List ℕ
@@ -40,3 +41,5 @@ abbrev pub entry_text : Entry → List ℕ
 entry_text (Noted note) = note_text note
 entry_text (Withdrawn address) = line_of (withdraw_text address)
 entry_text (Announced address) = line_of (announce_text address)
+entry_text (Sent interface frame) = line_of (send_text interface frame)
+entry_text (Updated peer message) = line_of (update_text peer message)

@@ -2,7 +2,11 @@ pub mod Announced
 pub mod Causes
 pub mod Clauses
 pub mod Entries
+pub mod Meant
+pub mod PeerTables
 pub mod Seen
+pub mod Sends
+pub mod Station
 pub mod Stream
 pub mod Told
-pub mod Words
+pub mod Updates

@@ -1,6 +1,7 @@
 -- What a line is to the speaker: an event, which its view takes.
-use Rattle.std.specs.Prelude.{◌≡◌, ℕ, ◌+◌, List, Option, Some, None, Result, Ok, Err, is_err, ⊤, true}
+use Rattle.std.specs.Prelude.{◌≡◌, ℕ, ◌+◌, List, ◌++◌, Option, Some, None, Result, Ok, Err, is_err, ⊤, true}
 use Rattle.kube_model.specs.declared.event.Event.{Event}
+use Rattle.kube_model.specs.declared.event.Event.TheVariants.{Changed, Deleted, ListEnd, Expired, Members, Frame, Ignored}
 use Rattle.kube_model.specs.declared.event.EventFault.{EventFault}
 use Rattle.kube_model.specs.declared.object.Kind.{Kind}
 use Rattle.kube_model.specs.declared.object.Kind.TheVariants as kinds
@@ -8,35 +9,67 @@ use Rattle.kube_model.specs.declared.status.LaneName.TheVariants as lanes
 use Rattle.kube_model.specs.declared.status.What.{What}
 use Rattle.kube_model.specs.declared.status.What.TheVariants as whats
 use Rattle.kube_model.specs.declared.status.Status.{Status}
-use Rattle.kube_model.specs.declared.status.Status.TheVariants.{Done, Usage, OpenFault, ReadFault, WriteFault, BadLine, BadReply, NoReply, Limit, NoMemory, NotBuilt}
+use Rattle.kube_model.specs.declared.status.Status.TheVariants.{Done, Usage, OpenFault, ReadFault, WriteFault, BadLine, BadReply, NoReply, Limit, NoMemory}
 use Rattle.kube_events.specs.Event.{event_of_line}
 use Rattle.object_cache.specs.Limits.{most_services, most_nodes}
 use Rattle.speaker_view.specs.ViewValue.{ViewValue}
 use Rattle.speaker_view.specs.View.{fresh, view_after, note_by, limit_by}
 use Rattle.line_run.specs.Machine.{Step, Goes, Stops, Rules}
 use Rattle.mlb_edge.specs.declared.lines.Line.{Line}
+use Rattle.speaker_words.specs.Words.{Said}
 use Rattle.mlb_speaker.specs.declared.entries.Entry.{Entry}
+use Rattle.mlb_speaker.specs.declared.station.Station.{Station}
 use Rattle.mlb_speaker.specs.Announced.{announced_by}
 use Rattle.mlb_speaker.specs.Entries.{entries_for, entry_text}
+use Rattle.mlb_speaker.specs.Sends.{answers}
+use Rattle.mlb_speaker.specs.Station.{station_of}
+use Rattle.mlb_speaker.specs.Updates.{update_entries}
 
--- the view, and the node whose announcements are told
+-- the view, and the node whose announcements are told, with its interfaces
 pub record SpeakerState : Type 0 where
   pub view : ViewValue
-  pub node : List ℕ
+  pub station : Station
 
-abbrev pub state_of : ViewValue → List ℕ → SpeakerState
-state_of v node = record { view = v; node = node }
+abbrev pub state_of : ViewValue → Station → SpeakerState
+state_of v station = record { view = v; station = station }
 
 -- nothing was shown yet
-abbrev pub first_state : List ℕ → Option (List ℕ) → SpeakerState
-first_state node class = state_of (fresh class) node
+abbrev pub first_state : Said → SpeakerState
+first_state said = state_of (fresh said.class) (station_of said)
 
 abbrev pub state_after : SpeakerState → Event → SpeakerState
-state_after s event = state_of (view_after event s.view) s.node
+state_after s event = state_of (view_after event s.view) s.station
 
--- what is told of the event: its note, and what the node announced before it and announces after it
+-- a frame that an interface received
+pub record Received : Type 0 where
+  pub interface : List ℕ
+  pub frame : List ℕ
+
+-- the frame of an event
+abbrev pub frame_in : Event → Option Received
+frame_in (Frame interface bytes) = Some (record { interface = interface; frame = bytes })
+frame_in (Changed version object) = None
+frame_in (Deleted kind key) = None
+frame_in (ListEnd group) = None
+frame_in Expired = None
+frame_in (Members names) = None
+frame_in Ignored = None
+
+-- what is told of what the event changes: its note, what the node announced before it and announces after it, and the routes of the
+-- peers
+abbrev pub changes_of : SpeakerState → Event → List Entry
+changes_of s event =
+    entries_for (view_after event s.view) s.station (note_by s.view event) (announced_by s.view s.station.node) (announced_by (view_after event s.view) s.station.node)
+    ++ update_entries s.view (view_after event s.view) s.station
+
+-- a frame changes nothing, and may be answered
+abbrev pub entries_at : Option Received → SpeakerState → Event → List Entry
+entries_at (Some received) s event = answers s.view s.station received.interface received.frame
+entries_at None s event = changes_of s event
+
+-- what is told of the event
 abbrev pub entries_of : SpeakerState → Event → List Entry
-entries_of s event = entries_for (note_by s.view event) (announced_by s.view s.node) (announced_by (view_after event s.view) s.node)
+entries_of s event = entries_at (frame_in event) s event
 
 -- what there is too much of where a limit of the kind is passed; services and nodes alone have one
 abbrev pub what_of : Kind → What
@@ -87,4 +120,3 @@ IsCause (BadReply number bytes) = ⊥
 IsCause (NoReply put) = ⊥
 IsCause (Limit what count) = IsLimit what count
 IsCause NoMemory = ⊥
-IsCause (NotBuilt number bytes) = ⊥

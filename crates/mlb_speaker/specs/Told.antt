@@ -2,10 +2,11 @@
 use Rattle.std.specs.Prelude.{◌≡◌, ◌≢◌, ◌↔◌, ℕ, List, [], ◌∷◌, ◌++◌, Option, ⊤}
 use Rattle.ip_ranges.specs.Values.{AddressValue}
 use Rattle.l2_elect.specs.Election.{IsAnnouncer}
+use Rattle.speaker_words.specs.Words.{Said}
 use Rattle.mlb_edge.specs.declared.lines.Line.{Line}
 use Rattle.line_run.specs.Run.{AreTaken}
 use Rattle.mlb_speaker.specs.declared.entries.Entry.{Entry}
-use Rattle.mlb_speaker.specs.declared.entries.Entry.TheVariants.{Noted, Withdrawn, Announced}
+use Rattle.mlb_speaker.specs.declared.entries.Entry.TheVariants.{Noted, Withdrawn, Announced, Sent, Updated}
 use Rattle.mlb_speaker.specs.Stream.{SpeakerState, first_state, speaker_rules}
 
 -- the entry isn't a withdraw line of the address
@@ -13,6 +14,8 @@ abbrev pub Leaves : AddressValue → Entry → Type 0
 Leaves a (Noted note) = ⊤
 Leaves a (Withdrawn b) = b ≢ a
 Leaves a (Announced b) = ⊤
+Leaves a (Sent interface frame) = ⊤
+Leaves a (Updated peer message) = ⊤
 
 abbrev pub AllLeave : AddressValue → List Entry → Type 0
 AllLeave a [] = ⊤
@@ -29,8 +32,8 @@ pub record IsToldOf (told : List Entry) (a : AddressValue) : Type 0 where
 -- those that the node announces.
 abbrev pub TellsWhatIsAnnounced : SpeakerState → Type 0
 TellsWhatIsAnnounced start = (lines : List Line) (s : SpeakerState) (told : List Entry) → AreTaken speaker_rules lines start s told
-    → (a : AddressValue) → IsToldOf told a ↔ IsAnnouncer s.view a start.node
+    → (a : AddressValue) → IsToldOf told a ↔ IsAnnouncer s.view a start.station.node
 
--- so it is of every node and class, where nothing was shown yet
+-- so it is whatever the words say, where nothing was shown yet
 abbrev pub LinesTellWhatIsAnnounced : Type 0
-LinesTellWhatIsAnnounced = (node : List ℕ) (class : Option (List ℕ)) → TellsWhatIsAnnounced (first_state node class)
+LinesTellWhatIsAnnounced = (said : Said) → TellsWhatIsAnnounced (first_state said)

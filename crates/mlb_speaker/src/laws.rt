@@ -1,5 +1,6 @@
 //! What holds of every run, and of every view.
 ghost use Rattle.mlb_speaker.specs.Announced.{AllAreAnnounced};
+ghost use Rattle.mlb_speaker.specs.Meant.{AllSendWhatIsMeant};
 ghost use Rattle.mlb_speaker.specs.Told.{LinesTellWhatIsAnnounced};
 
 /// The addresses that are told before and after an event are exactly those that the node announces, IPv4 before IPv6, each family
@@ -12,4 +13,10 @@ pub fn all_are_announced()
 /// announces.
 pub fn lines_tell_what_is_announced()
     ensures { LinesTellWhatIsAnnounced }
+{}
+
+/// Each frame that is sent at a line says, unasked or as an answer, that an interface's hardware address has an address for which the
+/// node listens on it.
+pub fn all_send_what_is_meant()
+    ensures { AllSendWhatIsMeant }
 {}

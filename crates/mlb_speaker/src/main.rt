@@ -2,14 +2,17 @@
 #![tactic(auto)]
 
 mod announced;
+mod changes;
 mod entries;
 mod laws;
 mod line;
 mod output;
+mod peers;
 mod run;
+mod sends;
 mod speaker;
+mod station;
 mod stream;
-mod words;
 
 use kube_model::Status;
 use mlb_edge::{RealFiles, RealSink, RealSource};

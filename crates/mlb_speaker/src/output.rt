@@ -1,14 +1,19 @@
 //! The lines that are written.
-ghost use Rattle.std.specs.Prelude.{◌≡◌, ◌≤◌, OnOk, IfErr};
+ghost use Rattle.std.specs.Prelude.{◌≡◌, ◌≤◌, OnOk, IfOk, IfErr};
 ghost use Rattle.mlb_edge.specs.Written.{Grows};
 ghost use Rattle.line_run.specs.Run.{text_of};
-ghost use Rattle.line_run.specs.Text.{Halts};
+ghost use Rattle.kube_lines.specs.Lines.{send_text, update_text};
+ghost use Rattle.line_run.specs.Text.{Halts, line_of};
 ghost use Rattle.mlb_speaker.specs.Entries.{note_text, entry_text};
 ghost use Rattle.mlb_speaker.specs.Stream.{speaker_rules};
 
 use crate::entries::Entry;
-use kube_lines::{accepted_line, announce_line, refused_line, withdraw_line};
+use kube_labels::Text;
+use kube_lines::{
+    accepted_line, announce_line, refused_line, send_line, update_line, withdraw_line,
+};
 use line_run::{Halt, write_line};
+use mlb_base::{ByteList, NoMemory};
 use mlb_edge::Sink;
 use object_cache::TakeNote;
 use std::alloc::Global;
@@ -52,7 +57,57 @@ fn write_entry<K: Sink>(alloc: Global, out: &mut K, entry: &Entry) -> Result<(),
             };
             write_line(out, text)
         }
+        Entry::Sent { interface, frame } => write_sent(alloc, out, interface, frame),
+        Entry::Updated { peer, message } => write_update(alloc, out, peer, message),
     }
+}
+
+/// Tells that the message is for the peer.
+fn write_update<K: Sink>(
+    alloc: Global,
+    out: &mut K,
+    peer: &Text,
+    message: &ByteList,
+) -> Result<(), Halt>
+    ensures ok { OnOk result (Grows (K.written out.old) (K.written out.new) (line_of (update_text peer.now message.now))) }
+    ensures err { IfErr result (λ halt. Halts halt (line_of (update_text peer.now message.now))
+        (K.written out.old) (K.written out.new) (K.faults out.old) (K.faults out.new)) }
+    ensures later { K.faults out.old ≤ K.faults out.new }
+{
+    let Ok(text) = updated_text(alloc, peer, message) else {
+        return Err(Halt::NoMemory);
+    };
+    write_line(out, text)
+}
+
+fn updated_text(alloc: Global, peer: &Text, message: &ByteList) -> Result<Text, NoMemory>
+    ensures { IfOk result (λ text. text ≡ update_text peer.now message.now) }
+{
+    update_line(alloc, peer, message.as_slice())
+}
+
+/// Tells that the frame is to be sent.
+fn write_sent<K: Sink>(
+    alloc: Global,
+    out: &mut K,
+    interface: &Text,
+    frame: &ByteList,
+) -> Result<(), Halt>
+    ensures ok { OnOk result (Grows (K.written out.old) (K.written out.new) (line_of (send_text interface.now frame.now))) }
+    ensures err { IfErr result (λ halt. Halts halt (line_of (send_text interface.now frame.now))
+        (K.written out.old) (K.written out.new) (K.faults out.old) (K.faults out.new)) }
+    ensures later { K.faults out.old ≤ K.faults out.new }
+{
+    let Ok(text) = sent_text(alloc, interface, frame) else {
+        return Err(Halt::NoMemory);
+    };
+    write_line(out, text)
+}
+
+fn sent_text(alloc: Global, interface: &Text, frame: &ByteList) -> Result<Text, NoMemory>
+    ensures { IfOk result (λ text. text ≡ send_text interface.now frame.now) }
+{
+    send_line(alloc, interface, frame.as_slice())
 }
 
 /// Tells what became of a configuration.

@@ -1,33 +1,37 @@
 //! The speaker, as a machine over lines.
 ghost use Rattle.std.specs.Prelude.{◌≡◌, IfOk};
 ghost use Rattle.std.specs.Option.{option_map};
+ghost use Rattle.speaker_words.specs.Seen.{said_seen};
 ghost use Rattle.mlb_speaker.specs.Stream.{state_of, first_state};
 
 use crate::line::drive_line;
+use crate::station::Station;
 use kube_labels::Text;
 use kube_model::Status;
+use limited_view::LimitedView;
 use line_run::{Machine, Refusal};
 use mlb_base::NoMemory;
 use mlb_edge::{Line, Sink};
-use speaker_view::View;
+use speaker_words::SpeakerWords;
 use std::alloc::Global;
 
 /// Applies lines to a view, and tells what its node announces.
 #[derive(Drop)]
 pub(crate) struct Speaker {
-    view: View,
-    node: Text,
+    view: LimitedView,
+    station: Station,
 }
 
 impl Speaker {
-    /// A speaker that was shown nothing, on this node. It announces services of the class, or those without one.
-    pub(crate) fn new(alloc: Global, node: &str, class: Option<&str>) -> Result<Speaker, NoMemory>
-        ensures { IfOk result (λ speaker. state_of speaker.view speaker.node ≡ first_state node.now (option_map (λ c. c.now) class.entry)) }
+    /// A speaker that was shown nothing, where the words say. It announces services of their class, or those without one.
+    pub(crate) fn new(alloc: Global, said: &SpeakerWords<'_>) -> Result<Speaker, NoMemory>
+        ensures { IfOk result (λ speaker. state_of speaker.view speaker.station ≡ first_state (said_seen said.now)) }
     {
-        let class = owned(alloc, class)?;
+        let class = owned(alloc, said.class)?;
+        let station = Station::new(alloc, said)?;
         Ok(Speaker {
-            view: View::new(alloc, class),
-            node: Text::new(alloc, node)?,
+            view: LimitedView::new(alloc, class),
+            station,
         })
     }
 }
@@ -51,14 +55,14 @@ impl Machine for Speaker {
 
     ghost Entry = { SpeakerEntry };
 
-    ghost state = { λ speaker. state_of speaker.view speaker.node };
+    ghost state = { λ speaker. state_of speaker.view speaker.station };
 
     ghost rules = { speaker_rules };
 
     ghost cause = { IsCause };
 
     fn take<K: Sink>(&mut self, alloc: Global, line: Line, out: &mut K) -> Result<(), Refusal> {
-        drive_line(alloc, &mut self.view, &self.node, line, out)
+        drive_line(alloc, &mut self.view, &self.station, line, out)
     }
 
     fn end(&self) -> Result<Status, NoMemory> {

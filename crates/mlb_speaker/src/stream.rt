@@ -2,19 +2,19 @@
 ghost use Rattle.std.specs.Prelude.{◌≡◌, ◌↔◌};
 ghost use Rattle.line_run.specs.Clauses.{AtEnd, AtReadFault, AtWriteFault};
 ghost use Rattle.command_options.specs.Options.{texts_of};
-ghost use Rattle.mlb_speaker.specs.Clauses.{CanEnd, SpeaksForNamed, AtDone, AtBadLine, AtHeldLimit, AtLongLine, AtTooLong, AfterRead, AfterWrite, AtNoMemory, WritesOnly, TellsWhatIsAnnounced, IsExact, IsComplete};
-ghost use Rattle.mlb_speaker.specs.Words.{AreKnown};
+ghost use Rattle.mlb_speaker.specs.Clauses.{CanEnd, SpeaksForNamed, AtDone, AtBadLine, AtHeldLimit, AtLongLine, AtTooLong, AfterRead, AfterWrite, AtNoMemory, WritesOnly, TellsWhatIsAnnounced, SendsWhatIsMeant, IsExact, IsComplete};
+ghost use Rattle.speaker_words.specs.Words.{AreKnown};
 
 use crate::speaker::Speaker;
-use crate::words::speaker_words;
 use kube_model::Status;
 use line_run::run_machine;
 use mlb_edge::{Sink, Source};
+use speaker_words::speaker_words;
 use std::alloc::Global;
 
 /// The work of the program on one stream: each line of the input is an event. What comes of it is written before the next line is read
 /// (`line_run::next_step`): the note of a configuration, a withdraw line for each address that isn't announced any more, an announce
-/// line for each that is from now on.
+/// line for each that is from now on, with the unasked frames that are sent, and the frame that is sent in answer to one that was received.
 pub fn stream_speaker<S: Source, K: Sink>(
     alloc: Global,
     words: &[String],
@@ -51,6 +51,10 @@ pub fn stream_speaker<S: Source, K: Sink>(
     // words announces by what was shown.
     ensures told { TellsWhatIsAnnounced words.now }
 
+    // Each frame that is sent says, unasked or as an answer, that the hardware address of an interface of the words has an address for
+    // which the node listens on it by what was shown then.
+    ensures sends { SendsWhatIsMeant words.now }
+
     // But for a fault or want of memory the status is that of the lines; and where all can be read and held, the run is done.
     ensures exact { IsExact words.now result (S.left input.old) }
     ensures complete { IsComplete words.now result (S.left input.old) }
@@ -58,7 +62,7 @@ pub fn stream_speaker<S: Source, K: Sink>(
     let Some(said) = speaker_words(words) else {
         return Status::Usage;
     };
-    let Ok(mut speaker) = Speaker::new(alloc, said.node, said.class) else {
+    let Ok(mut speaker) = Speaker::new(alloc, &said) else {
         return Status::NoMemory;
     };
     let status = run_machine(alloc, &mut speaker, input, out);

@@ -1,8 +1,9 @@
-use Rattle.std.proofs.Common.{◌≡◌, ◌∙◌}
+use Rattle.std.proofs.Common.{◌≡◌, ◌∙◌, ap}
 use Rattle.command_options.specs.Options.{texts_of}
-use Rattle.mlb_speaker.specs.Clauses.{begun_by}
+use Rattle.mlb_speaker.specs.Clauses.{begun_by, begun_with}
 use Rattle.mlb_speaker.specs.Stream.{state_of}
-use Rattle.mlb_speaker.proofs.NamedWords.{named-begun}
+use Rattle.mlb_speaker.proofs.Begun.{named-begun}
+use Rattle.mlb_speaker.proofs.Meant.{meant_by}
 use Rattle.mlb_speaker.proofs.Telling.{told_by}
 use Rattle.mlb_speaker.proofs.stream.stream_speaker.Goals as goal
 
@@ -26,5 +27,14 @@ returns-clause-told g c = told_by (texts_of c.args.words.now)
 
 pub returns-clause-held_limit : goal.returns-clause-held_limit
 returns-clause-held_limit g c =
-    let begun : state_of c.in-Ok.speaker.view c.in-Ok.speaker.node ≡ begun_by c.args.words.now = c.in-Ok.ensures ∙ c.in-Some.ensures.begun in
+    let begun : state_of c.in-Ok.speaker.view c.in-Ok.speaker.station ≡ begun_by c.args.words.now = c.in-Ok.ensures ∙ ap begun_with c.in-Some.ensures.value in
     rw begun at c.run_machine-status.ensures.held_limit
+
+pub returns-in_default-clause-sends : goal.returns-in_default-clause-sends
+returns-in_default-clause-sends g c = meant_by (texts_of c.args.words.now)
+
+pub returns-in_default-new-clause-sends : goal.returns-in_default-new-clause-sends
+returns-in_default-new-clause-sends g c = meant_by (texts_of c.args.words.now)
+
+pub returns-clause-sends : goal.returns-clause-sends
+returns-clause-sends g c = meant_by (texts_of c.args.words.now)

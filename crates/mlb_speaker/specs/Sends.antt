@@ -1,0 +1,59 @@
+-- The frames that are sent: unasked ones, and answers.
+use Rattle.std.specs.Prelude.{ℕ, List, [], ◌∷◌, map, filter, Option, Some, None}
+use Rattle.std.specs.List.{find}
+use Rattle.std.specs.Option.{option_or}
+use Rattle.std.specs.Str.{bytes_eq}
+use Rattle.ip_ranges.specs.declared.family.Family.{Family}
+use Rattle.ip_ranges.specs.declared.family.Family.TheVariants.{V4, V6}
+use Rattle.ip_ranges.specs.Values.{AddressValue}
+use Rattle.speaker_view.specs.ViewValue.{ViewValue}
+use Rattle.l2_elect.specs.Listening.{listens_of}
+use Rattle.neigh_frames.specs.Arp.{arp_answer_of, unasked_arp_of}
+use Rattle.neigh_frames.specs.Ndp.{ndp_answer_of}
+use Rattle.neigh_frames.specs.Advertisement.{unasked_ndp_of}
+use Rattle.mlb_speaker.specs.declared.entries.Entry.{Entry}
+use Rattle.mlb_speaker.specs.declared.entries.Entry.TheVariants.{Announced, Sent}
+use Rattle.mlb_speaker.specs.declared.station.Interface.{Interface}
+use Rattle.mlb_speaker.specs.declared.station.Station.{Station}
+
+-- the unasked frame that says that this hardware address has the address
+abbrev pub unasked_of : Family → List ℕ → ℕ → List ℕ
+unasked_of V4 mac number = unasked_arp_of mac number
+unasked_of V6 mac number = unasked_ndp_of mac number
+
+-- the same, by an interface
+abbrev pub unasked_by : AddressValue → Interface → Entry
+unasked_by a i = Sent i.name (unasked_of a.family i.mac a.number)
+
+-- the interfaces on which the node listens for the address
+abbrev pub listening : ViewValue → Station → AddressValue → List Interface
+listening v station a = filter (λ i. listens_of v station.node i.name a) station.interfaces
+
+-- what is sent where the address is announced from now on: an unasked frame by each of them
+abbrev pub unasked : ViewValue → Station → AddressValue → List Entry
+unasked v station a = map (unasked_by a) (listening v station a)
+
+-- an announce line, and what is sent with it
+abbrev pub announcement : ViewValue → Station → AddressValue → List Entry
+announcement v station a = Announced a ∷ unasked v station a
+
+-- the answer to a frame on an interface: that of ARP, else that of Neighbor Discovery
+abbrev pub answer_on : ViewValue → List ℕ → Interface → List ℕ → Option (List ℕ)
+answer_on v node i frame =
+    option_or (arp_answer_of (listens_of v node i.name) i.mac frame) (ndp_answer_of (listens_of v node i.name) i.mac frame)
+
+abbrev pub sent_on : Interface → Option (List ℕ) → List Entry
+sent_on i None = []
+sent_on i (Some answer) = Sent i.name answer ∷ []
+
+abbrev pub answer_by : ViewValue → List ℕ → Option Interface → List ℕ → List Entry
+answer_by v node None frame = []
+answer_by v node (Some i) frame = sent_on i (answer_on v node i frame)
+
+-- the interface of this name
+abbrev pub interface_of : Station → List ℕ → Option Interface
+interface_of station name = find (λ i. bytes_eq i.name name) station.interfaces
+
+-- what is sent where an interface receives a frame: the answer, where it is one of the words' and the frame has one
+abbrev pub answers : ViewValue → Station → List ℕ → List ℕ → List Entry
+answers v station name frame = answer_by v station.node (interface_of station name) frame

@@ -1,0 +1,121 @@
+//! The frames that are sent.
+ghost use Rattle.std.specs.Prelude.{◌≡◌, ◌++◌, ◌∷◌, [], IfOk, OnOk};
+ghost use Rattle.mlb_speaker.specs.declared.entries.Entry.TheVariants as told;
+ghost use Rattle.l2_elect.specs.Listening.{listens_of};
+ghost use Rattle.mlb_speaker.specs.Sends.{unasked_by, unasked, answer_on, sent_on, answers};
+
+use crate::entries::Entry;
+use crate::station::{Interface, Station};
+use ip_ranges::{Address, Family};
+use kube_labels::Text;
+use l2_elect::listens;
+use mlb_base::{ByteList, NoMemory, Sequence, TryCopy};
+use neigh_frames::{arp_answer, ndp_answer, unasked_arp, unasked_ndp};
+use speaker_view::View;
+use std::alloc::Global;
+
+/// Has the frame sent by the interface.
+fn push_sent(
+    alloc: Global,
+    entries: &mut Sequence<Entry>,
+    interface: &Interface,
+    frame: &[u8],
+) -> Result<(), NoMemory>
+    ensures { OnOk result (entries.new ≡ entries.old ++ told.Sent interface.now.name frame.now ∷ []) }
+{
+    let frame = ByteList::from_slice(alloc, frame)?;
+    let interface = interface.name.copy()?;
+    entries.push(Entry::Sent { interface, frame })
+}
+
+/// Has the unasked frame of the address sent by the interface.
+fn push_unasked(
+    alloc: Global,
+    entries: &mut Sequence<Entry>,
+    interface: &Interface,
+    address: &Address,
+) -> Result<(), NoMemory>
+    ensures { OnOk result (entries.new ≡ entries.old ++ unasked_by address.now interface.now ∷ []) }
+{
+    match address.family {
+        Family::V4 => push_sent(
+            alloc,
+            entries,
+            interface,
+            &unasked_arp(&interface.mac, address),
+        ),
+        Family::V6 => push_sent(
+            alloc,
+            entries,
+            interface,
+            &unasked_ndp(&interface.mac, address),
+        ),
+    }
+}
+
+/// Has the unasked frame of the address sent by each interface on which the node listens for it.
+pub(crate) fn push_all_unasked(
+    alloc: Global,
+    entries: &mut Sequence<Entry>,
+    view: &View,
+    station: &Station,
+    address: &Address,
+) -> Result<(), NoMemory>
+    ensures { OnOk result (entries.new ≡ entries.old ++ unasked view.now station.now address.now) }
+{
+    for interface in station.interfaces.as_slice() {
+        if is_listening(view, station, interface, address) {
+            push_unasked(alloc, entries, interface, address)?;
+        }
+    }
+    Ok(())
+}
+
+fn is_listening(view: &View, station: &Station, interface: &Interface, address: &Address) -> bool
+    ensures { result ≡ listens_of view.now station.now.node interface.now.name address.now }
+{
+    listens(
+        view,
+        station.node.as_str(),
+        interface.name.as_str(),
+        address,
+    )
+}
+
+/// What is sent where the interface receives the frame.
+pub(crate) fn answers(
+    alloc: Global,
+    view: &View,
+    station: &Station,
+    interface: &Text,
+    frame: &[u8],
+) -> Result<Sequence<Entry>, NoMemory>
+    ensures { IfOk result (λ entries. entries ≡ answers view.now station.now interface.now frame.now) }
+{
+    let mut entries = Sequence::new(alloc);
+    if let Some(interface) = station.interface(interface) {
+        push_answer(alloc, &mut entries, view, &station.node, interface, frame)?;
+    }
+    Ok(entries)
+}
+
+/// Has the answer to the frame sent by the interface that received it, where there is one: that of ARP, else that of Neighbor Discovery.
+fn push_answer(
+    alloc: Global,
+    entries: &mut Sequence<Entry>,
+    view: &View,
+    node: &Text,
+    interface: &Interface,
+    frame: &[u8],
+) -> Result<(), NoMemory>
+    ensures { OnOk result (entries.new ≡ entries.old ++ sent_on interface.now (answer_on view.now node.now interface.now frame.now)) }
+{
+    let name = interface.name.as_str();
+    if let Some(answer) = arp_answer(view, node.as_str(), name, &interface.mac, frame) {
+        return push_sent(alloc, entries, interface, &answer);
+    }
+    if let Some(answer) = ndp_answer(view, node.as_str(), name, &interface.mac, frame) {
+        return push_sent(alloc, entries, interface, &answer);
+    }
+    Ok(())
+}

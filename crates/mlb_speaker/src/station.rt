@@ -1,0 +1,69 @@
+//! Where a speaker runs, and by what it sends.
+ghost use Rattle.std.specs.Prelude.{◌≡◌, map, IfOk};
+ghost use Rattle.std.specs.Option.{option_map};
+ghost use Rattle.speaker_words.specs.Seen.{interface_seen, said_seen};
+ghost use Rattle.mlb_speaker.specs.Sends.{interface_of};
+ghost use Rattle.mlb_speaker.specs.Station.{interface_by, station_of};
+
+use ip_ranges::Address;
+use kube_labels::Text;
+use mlb_base::{NoMemory, Sequence};
+use speaker_words::{InterfaceWord, SpeakerWords};
+use std::alloc::Global;
+
+/// An interface by which frames are sent.
+#[derive(Drop)]
+pub(crate) struct Interface {
+    pub(crate) name: Text,
+    /// Its hardware address.
+    pub(crate) mac: [u8; 6],
+}
+
+/// The node of the speaker, the interfaces of the words, in their order, and the next hop of its routes.
+#[derive(Drop)]
+pub(crate) struct Station {
+    pub(crate) node: Text,
+    pub(crate) interfaces: Sequence<Interface>,
+    pub(crate) next_hop: Option<Address>,
+}
+
+impl Station {
+    pub(crate) fn new(alloc: Global, said: &SpeakerWords<'_>) -> Result<Station, NoMemory>
+        ensures { IfOk result (λ station. station ≡ station_of (said_seen said.now)) }
+    {
+        let node = Text::new(alloc, said.node)?;
+        let interfaces = owned_interfaces(alloc, said.interfaces.as_slice())?;
+        Ok(Station {
+            node,
+            interfaces,
+            next_hop: said.next_hop,
+        })
+    }
+
+    /// The interface of this name.
+    pub(crate) fn interface(&self, name: &Text) -> Option<&Interface>
+        ensures { option_map (λ i. i.now) result ≡ interface_of self.now name.now }
+    {
+        self.interfaces
+            .as_slice()
+            .iter()
+            .find(|interface| interface.name == *name)
+    }
+}
+
+/// The interfaces of the words, with names of their own.
+fn owned_interfaces(
+    alloc: Global,
+    words: &[InterfaceWord<'_>],
+) -> Result<Sequence<Interface>, NoMemory>
+    ensures { IfOk result (λ interfaces. interfaces ≡ map interface_by (map interface_seen words.now)) }
+{
+    let mut interfaces = Sequence::new(alloc);
+    for word in words {
+        interfaces.push(Interface {
+            name: Text::new(alloc, word.name)?,
+            mac: word.mac,
+        })?;
+    }
+    Ok(interfaces)
+}

@@ -1,13 +1,15 @@
 -- What the words say is what is read of them.
 use Rattle.std.proofs.Common.{◌≡◌, ℕ, ◌<◌, Bool, true, false, cond, List, [], ◌∷◌, Option, Some, None, Ok, Err, refl, sym, ap, ◌∙◌, subst, arith, inl, inr}
-use Rattle.std.specs.Prelude.{IfSome, IfNone, option_and_then, Result}
+use Rattle.std.specs.Prelude.{option_and_then, Result}
 use Rattle.std.specs.List.{AllByRecursion, AllZip}
 use Rattle.std.specs.Option.{option_map, option_to_list}
 use Rattle.std.specs.Str.{bytes_eq}
 use Rattle.std.proofs.lemmas.Option.{same_Some}
 use Rattle.std.proofs.lemmas.Slice.Eq.{bytes_eq-Decides}
-use Rattle.command_options.specs.Options.{CommandOption, First, options_in, first_of}
-use Rattle.command_options.proofs.Reading.{options_are_read, read-first, behind}
+use Rattle.command_options.specs.Options.{CommandOption, options_in}
+use Rattle.command_options.specs.Values.{values_of, once, text_of}
+use Rattle.command_options.proofs.Reading.{options_are_read}
+use Rattle.command_options.proofs.Values.{folded, through, mapped, goes, zip-each, once-read, read-once, texts-same, same-texts, sets}
 use Rattle.ip_ranges.specs.declared.family.Family.TheVariants.{V4, V6}
 use Rattle.ip_ranges.specs.declared.fault.RangeFault.{RangeFault}
 use Rattle.ip_ranges.specs.Values.{AddressValue, IsMapped, same_family}
@@ -15,9 +17,9 @@ use Rattle.ip_ranges.specs.AddressText.{address_of}
 use Rattle.ip_ranges.proofs.AddressLaws.{same_family-is}
 use Rattle.ip_ranges.proofs.SpelledLemmas.{address_of-ok}
 use Rattle.speaker_words.specs.Interface.{InterfaceValue}
-use Rattle.speaker_words.specs.Words.{Said, Say, AreKnown, IsKnown, IsNextHop, node_option, class_option, interface_option, next_hop_option, values_of}
-use Rattle.speaker_words.specs.Reading.{Given, nothing_given, once, text_of, one_more, only_v4, next_hop_of, with_node, with_class, with_interface, with_next_hop, with_option, given_by, given_in, finished, said_in}
-use Rattle.speaker_words.proofs.Folded.{folded, through, mapped, zip-each, once-read, read-once, texts-same, same-texts, fold-adds, adds-fold}
+use Rattle.speaker_words.specs.Words.{Said, Say, IsKnown, IsNextHop, node_option, class_option, interface_option, next_hop_option}
+use Rattle.speaker_words.specs.Reading.{Given, nothing_given, one_more, only_v4, next_hop_of, with_node, with_class, with_interface, with_next_hop, with_option, given_by, given_in, finished, said_in}
+use Rattle.speaker_words.proofs.Folded.{fold-adds, adds-fold}
 
 -- ---- the next hop
 read-hop : (text : List ℕ) (a : AddressValue) → next_hop_of text ≡ Some a → IsNextHop text a
@@ -53,11 +55,6 @@ ahead name value options = record { name = name; value = value } ∷ options
 -- the options give this behind whatever was given
 abbrev Follow : List CommandOption → Given → Type 0
 Follow options h = (next : Given) → given_by options next ≡ Some h → Gives options next h
-
--- the value is taken first, and the others after it
-goes : {A : Type 0} (step : List ℕ → A → Option A) (value : List ℕ) (values : List (List ℕ)) (held next : A) (end : Option A)
-    → step value held ≡ Some next → folded step values next ≡ end → folded step (value ∷ values) held ≡ end
-goes step value values held next end taken rest = ap (option_and_then (folded step values)) taken ∙ rest
 
 node-gives : (value : List ℕ) (options : List CommandOption) (g h : Given) → option_and_then (given_by options) (with_node value g) ≡ Some h → Follow options h → Gives (ahead node_option value options) g h
 node-gives value options g h e rest =
@@ -139,36 +136,32 @@ given-gives (o ∷ options) g h e = option-gives o options g h e (λ next. given
 abbrev Lead : List CommandOption → Given → Type 0
 Lead options h = (next : Given) → Gives options next h → given_by options next ≡ Some h
 
--- what is taken first is set, and the others come after it
-sets : {A : Type 0} (set : A → Given) (taken : Option A) (a : A) (options : List CommandOption) (h : Given) → taken ≡ Some a → given_by options (set a) ≡ Some h → option_and_then (given_by options) (option_map set taken) ≡ Some h
-sets set taken a options h is rest = ap (λ x. option_and_then (given_by options) (option_map set x)) is ∙ rest
-
 gives-node : (value : List ℕ) (options : List CommandOption) (g h : Given) → Gives (ahead node_option value options) g h → Lead options h → option_and_then (given_by options) (with_node value g) ≡ Some h
 gives-node value options g h gives rest =
     let (node, taken, end) = through (folded (once text_of) (values_of node_option options)) (once text_of value g.node) h.node gives.node in
     let next : Given = record { node = node; class = g.class; interfaces = g.interfaces; next_hop = g.next_hop } in
-    sets _ (once text_of value g.node) node options h taken
+    sets with_option _ (once text_of value g.node) node options h taken
     (rest next (record { known = gives.known.1; node = end; class = gives.class; interfaces = gives.interfaces; next_hop = gives.next_hop }))
 
 gives-class : (value : List ℕ) (options : List CommandOption) (g h : Given) → Gives (ahead class_option value options) g h → Lead options h → option_and_then (given_by options) (with_class value g) ≡ Some h
 gives-class value options g h gives rest =
     let (class, taken, end) = through (folded (once text_of) (values_of class_option options)) (once text_of value g.class) h.class gives.class in
     let next : Given = record { node = g.node; class = class; interfaces = g.interfaces; next_hop = g.next_hop } in
-    sets _ (once text_of value g.class) class options h taken
+    sets with_option _ (once text_of value g.class) class options h taken
     (rest next (record { known = gives.known.1; node = gives.node; class = end; interfaces = gives.interfaces; next_hop = gives.next_hop }))
 
 gives-interface : (value : List ℕ) (options : List CommandOption) (g h : Given) → Gives (ahead interface_option value options) g h → Lead options h → option_and_then (given_by options) (with_interface value g) ≡ Some h
 gives-interface value options g h gives rest =
     let (interfaces, taken, end) = through (folded one_more (values_of interface_option options)) (one_more value g.interfaces) h.interfaces gives.interfaces in
     let next : Given = record { node = g.node; class = g.class; interfaces = interfaces; next_hop = g.next_hop } in
-    sets _ (one_more value g.interfaces) interfaces options h taken
+    sets with_option _ (one_more value g.interfaces) interfaces options h taken
     (rest next (record { known = gives.known.1; node = gives.node; class = gives.class; interfaces = end; next_hop = gives.next_hop }))
 
 gives-next_hop : (value : List ℕ) (options : List CommandOption) (g h : Given) → Gives (ahead next_hop_option value options) g h → Lead options h → option_and_then (given_by options) (with_next_hop value g) ≡ Some h
 gives-next_hop value options g h gives rest =
     let (next_hop, taken, end) = through (folded (once next_hop_of) (values_of next_hop_option options)) (once next_hop_of value g.next_hop) h.next_hop gives.next_hop in
     let next : Given = record { node = g.node; class = g.class; interfaces = g.interfaces; next_hop = next_hop } in
-    sets _ (once next_hop_of value g.next_hop) next_hop options h taken
+    sets with_option _ (once next_hop_of value g.next_hop) next_hop options h taken
     (rest next (record { known = gives.known.1; node = gives.node; class = gives.class; interfaces = gives.interfaces; next_hop = end }))
 
 -- an option of this name is that option
@@ -241,38 +234,3 @@ read-say words said e =
       apart = adds.table.1;
       next_hop = zip-each read-hop (values_of next_hop_option options) (option_to_list said.next_hop) (once-read next_hop_of (values_of next_hop_option options) said.next_hop gives.next_hop);
     }
-
--- ---- what a call answers
-module _ {X : Type 0} (seen : X → Said) (words : List (List ℕ)) where
-  pub words-said : (answer : Option X) → option_map seen answer ≡ said_in words → IfSome answer (λ x. Say words (seen x))
-  words-said None is = tt
-  words-said (Some x) is = read-say words (seen x) (sym is)
-
-  pub words-unknown : (answer : Option X) → option_map seen answer ≡ said_in words → IfNone answer (¬ AreKnown words)
-  words-unknown None is = λ known. let none : None ≡ Some known.0 = is ∙ say-read words known.0 known.1 in absurd (cc)
-  words-unknown (Some x) is = tt
-
--- ---- one option after the other
-none-behind : {A B : Type 0} (x : Option A) → option_and_then {T = A} {U = B} (λ a. None) x ≡ None
-none-behind None = refl
-none-behind (Some a) = refl
-
--- the first option is given, and the others behind it
-next-given : (found : Option (List CommandOption)) (o : CommandOption) (g : Given)
-    → option_and_then (λ options. given_by options g) (option_map (λ more. o ∷ more) found) ≡ option_and_then (λ h. option_and_then (λ options. given_by options h) found) (with_option o.name o.value g)
-next-given None o g = sym (none-behind (with_option o.name o.value g))
-next-given (Some options) o g = refl
-
--- the words give what those behind the first option give to what is given with it
-goes-by : (words : List (List ℕ)) (first : First) (g : Given) → first_of words ≡ Some first
-    → given_in words g ≡ option_and_then (given_in first.rest) (with_option first.option.name first.option.value g)
-goes-by [] first g is = absurd (cc)
-goes-by (word ∷ rest) first g is =
-    ap (λ (x : Option (List CommandOption)). option_and_then (λ options. given_by options g) x) (read-first word rest ∙ ap behind is)
-    ∙ next-given (options_in first.rest) first.option g
-
-pub goes-on : (words : List (List ℕ)) (first : First) (g next : Given) → first_of words ≡ Some first → with_option first.option.name first.option.value g ≡ Some next → given_in words g ≡ given_in first.rest next
-goes-on words first g next is e = goes-by words first g is ∙ ap (option_and_then (given_in first.rest)) e
-
-pub goes-nowhere : (words : List (List ℕ)) (first : First) (g : Given) → first_of words ≡ Some first → with_option first.option.name first.option.value g ≡ None → given_in words g ≡ None
-goes-nowhere words first g is e = goes-by words first g is ∙ ap (option_and_then (given_in first.rest)) e

@@ -3,7 +3,8 @@ use Rattle.std.specs.Prelude.{ℕ, Bool, ◌&&◌, not, nat_lt, if◌then◌else
 use Rattle.std.specs.List.{list_any}
 use Rattle.std.specs.Option.{option_map}
 use Rattle.std.specs.Str.{bytes_eq}
-use Rattle.command_options.specs.Options.{CommandOption, options_in}
+use Rattle.command_options.specs.Options.{CommandOption}
+use Rattle.command_options.specs.Values.{once, text_of, taken_by, taken_in}
 use Rattle.ip_ranges.specs.declared.family.Family.TheVariants.{V4}
 use Rattle.ip_ranges.specs.declared.fault.RangeFault.{RangeFault}
 use Rattle.ip_ranges.specs.Values.{AddressValue, same_family}
@@ -20,15 +21,6 @@ pub record Given : Type 0 where
 
 abbrev pub nothing_given : Given
 nothing_given = record { node = None; class = None; interfaces = []; next_hop = None }
-
--- what a value that stands at most once reads as, where none stood before
-abbrev pub once : {A : Type 0} → (List ℕ → Option A) → List ℕ → Option A → Option (Option A)
-once read value None = option_map (λ a. Some a) (read value)
-once read value (Some held) = None
-
--- a text is read as it is
-abbrev pub text_of : List ℕ → Option (List ℕ)
-text_of value = Some value
 
 abbrev pub with_node : List ℕ → Given → Option Given
 with_node value g =
@@ -74,13 +66,13 @@ with_option name value g =
     else if bytes_eq name next_hop_option then with_next_hop value g
     else None
 
+-- what the options give, behind what was given
 abbrev pub given_by : List CommandOption → Given → Option Given
-given_by [] g = Some g
-given_by (o ∷ options) g = option_and_then (given_by options) (with_option o.name o.value g)
+given_by options g = taken_by with_option options g
 
 -- what the words give, behind what was given
 abbrev pub given_in : List (List ℕ) → Given → Option Given
-given_in words g = option_and_then (λ options. given_by options g) (options_in words)
+given_in words g = taken_in with_option words g
 
 -- a speaker has a node
 abbrev pub finished : Given → Option Said

@@ -1,9 +1,9 @@
 -- What the words of the command line say: `--node-name NODE`, and perhaps `--lb-class CLASS`, `--interface NAME=MAC` and `--next-hop ADDRESS`.
-use Rattle.std.specs.Prelude.{◌≡◌, ◌≢◌, ◌≤◌, ◌⊎◌, ℕ, List, [], ◌∷◌, map, filter, length, codes, Option}
+use Rattle.std.specs.Prelude.{◌≡◌, ◌≢◌, ◌≤◌, ◌⊎◌, ℕ, List, [], ◌∷◌, length, codes, Option}
 use Rattle.std.specs.List.{AllByRecursion, AllZip, AllPairs}
 use Rattle.std.specs.Option.{option_to_list}
-use Rattle.std.specs.Str.{bytes_eq}
 use Rattle.command_options.specs.Options.{CommandOption, AreOptions}
+use Rattle.command_options.specs.Values.{values_of}
 use Rattle.ip_ranges.specs.declared.family.Family.TheVariants.{V4}
 use Rattle.ip_ranges.specs.Values.{AddressValue}
 use Rattle.ip_ranges.specs.AddressText.{IsAddressText}
@@ -31,10 +31,6 @@ next_hop_option = codes "--next-hop"
 
 abbrev pub IsKnown : CommandOption → Type 0
 IsKnown o = (o.name ≡ node_option) ⊎ (o.name ≡ class_option) ⊎ (o.name ≡ interface_option) ⊎ (o.name ≡ next_hop_option)
-
--- the values of the option of this name, as often as it stands
-abbrev pub values_of : List ℕ → List CommandOption → List (List ℕ)
-values_of name options = map (λ o. o.value) (filter (λ o. bytes_eq o.name name) options)
 
 -- the text writes the IPv4 address
 abbrev pub IsNextHop : List ℕ → AddressValue → Type 0

@@ -1,0 +1,3 @@
+pub mod NamedWords
+pub mod NumberTexts
+pub mod SaidOptions

@@ -204,7 +204,7 @@ least_usable-none claims key terms pool family None e =
     λ a is_usable. least_of-none (usable claims key terms pool) family pool.spans (sym e) a is_usable.0 (usable-from claims key terms pool a is_usable.1) is_usable.1.in_pool
 least_usable-none claims key terms pool family (Some a) e = tt
 
-holds-from : (span : SpanValue) (a : AddressValue) → Holds span a → holds span a ≡ true
+pub holds-from : (span : SpanValue) (a : AddressValue) → Holds span a → holds span a ≡ true
 holds-from span a h =
     and_from (same_family span.family a.family && leb span.low a.number) (leb a.number span.high)
     (and_from (same_family span.family a.family) (leb span.low a.number) (subst (λ f. same_family span.family f ≡ true) h.0 (same_family-itself span.family)) (le-leb span.low a.number h.1))

@@ -5,6 +5,7 @@ pub mod Claims
 pub mod Choose
 pub mod First
 pub mod Granted
+pub mod Held
 pub mod Laws
 pub mod Least
 pub mod Search

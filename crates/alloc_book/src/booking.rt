@@ -1,5 +1,5 @@
 //! The book of claims.
-ghost use Rattle.std.specs.Prelude.{◌≡◌, ◌<◌, ◌↔◌, [], not, filter, IsTrue, IfOk, IfSome, IfNone, OnOk, OnErr};
+ghost use Rattle.std.specs.Prelude.{◌≡◌, ◌↔◌, [], not, filter, IsTrue, IfOk, IfSome, IfNone, OnOk, OnErr};
 ghost use Rattle.std.specs.List.{list_any};
 ghost use Rattle.std.specs.Option.{option_copied};
 ghost use Rattle.ip_ranges.specs.Values.{AddressValue};
@@ -8,17 +8,21 @@ ghost use Rattle.sharing_terms.specs.Marked.{AreTerms, IsMarkOf};
 ghost use Rattle.sharing_terms.specs.Terms.{terms_of};
 ghost use Rattle.alloc_book.specs.declared.choice.Choice.{Choice};
 ghost use Rattle.alloc_book.specs.Asking.{offer_of};
-ghost use Rattle.alloc_book.specs.Book.{AreAssigned, HasLost, loss_of};
+ghost use Rattle.alloc_book.specs.Book.{AreAssigned, HasLost, HasRoom, loss_of};
 ghost use Rattle.alloc_book.specs.Choose.{choose};
 ghost use Rattle.alloc_book.specs.Chosen.{IsChosen};
 ghost use Rattle.alloc_book.specs.Claims.{others, settled, doubted, loses, has_claims, holders};
 ghost use Rattle.alloc_book.specs.Granted.{IsFor};
+ghost use Rattle.alloc_book.specs.Held.{AscendFrom, TellFrom};
 ghost use Rattle.alloc_book.specs.Least.{IsLeast};
 ghost use Rattle.alloc_book.specs.Usable.{IsUsable, IsUsableOf};
 
 use crate::choice::{Choice, Loss};
 use crate::choosing::choose;
-use crate::claims::{Claim, doubt_claim, drop_claims, has_claims, loses, settle_claim};
+use crate::claims::{
+    Claim, Standing, add, claims_it, drop_claims, has_claims, loses, settle_claim,
+};
+use crate::held::{Held, drop_held, held_from, place_all};
 use crate::search::{least_usable, usable};
 use ip_ranges::{Address, Family};
 use kube_labels::{Labels, Text};
@@ -29,22 +33,29 @@ use sharing_terms::Terms;
 use std::alloc::Global;
 use std::marker::Model;
 
-/// The records that each service has, or may have: those with an address. Contracts see the list of them, and for how many
-/// more there is room.
+/// The records that each service has, or may have: those with an address. Beside them stands an entry for each of their
+/// addresses, by ascending number, so that the least usable address is found by a walk over the entries of a range. Contracts
+/// see the list of the records, and for how much more there is room.
 #[derive(Drop)]
 pub struct Book {
-    claims: Vec<Claim>,
+    claims: Vec<Standing>,
+    held: Vec<Held>,
 }
 
 impl Model for Book {
     ghost use Rattle.std.specs.Prelude.{◌-◌, vec_len, vec_capacity};
-    ghost use Rattle.alloc_book.specs.Book.{BookValue, AreAssigned};
+    ghost use Rattle.alloc_book.specs.Book.{BookValue};
+    ghost use Rattle.alloc_book.specs.Held.{IsIndexed};
 
     ghost Value = { BookValue };
 
-    ghost view = { λ b. record { claims = b.claims.items; room = vec_capacity b.claims - vec_len b.claims } };
+    ghost view = { λ b. record {
+      claims = b.claims.items;
+      claim_room = vec_capacity b.claims - vec_len b.claims;
+      address_room = vec_capacity b.held - vec_len b.held;
+    } };
 
-    ghost invariant = { λ b. AreAssigned b.claims.items };
+    ghost invariant = { λ b. IsIndexed b.claims.items b.held.items };
 }
 
 /// A list of objects, by which keys it shows.
@@ -71,33 +82,38 @@ impl Book {
     {
         Book {
             claims: Vec::new(alloc),
+            held: Vec::new(alloc),
         }
     }
 
-    /// Makes room for one claim more.
-    pub fn reserve(&mut self) -> Result<(), NoMemory>
+    /// Makes room for the claim. Where there is no memory all claims stay.
+    pub fn reserve(&mut self, claim: &Claim) -> Result<(), NoMemory>
         ensures claims { self.new.claims ≡ self.old.claims }
-        ensures room { OnOk result (0 < self.new.room) }
+        ensures room { OnOk result (HasRoom self.new claim.now) }
     {
         self.claims.reserve(1)?;
+        self.held.reserve(claim.entries.len())?;
         Ok(())
     }
 
     fn put(&mut self, claim: Claim) -> Loss
-        requires { 0 < self.old.room }
+        requires { HasRoom self.old claim }
         ensures claims { self.new.claims ≡ settled claim.key claim.holding self.old.claims }
         ensures loss { result ≡ loss_of (loses claim.key claim.holding self.old.claims) }
         ensures assigned { AreAssigned self.old.claims }
     {
-        let is_lost = loses(&self.claims, claim.key(), claim.holding());
-        settle_claim(&mut self.claims, claim);
+        let Claim { standing, entries } = claim;
+        let is_lost = loses(&self.claims, &standing.key, &standing.holding);
+        drop_held(&mut self.held, &standing.key);
+        place_all(&mut self.held, entries);
+        settle_claim(&mut self.claims, standing);
         loss_of(is_lost)
     }
 
     /// The key's claims become this one, or none where its record has no address. There is room for it, so it takes no memory.
     /// `Lost` is answered exactly where a claim that stood isn't there any more.
     pub fn settle_prepared(&mut self, claim: Claim) -> Loss
-        requires { 0 < self.old.room }
+        requires { HasRoom self.old claim }
         ensures claims { self.new.claims ≡ settled claim.key claim.holding self.old.claims }
         ensures loss { (result ≡ Loss.Lost) ↔ HasLost self.old.claims self.new.claims }
     {
@@ -112,17 +128,22 @@ impl Book {
         ensures err { OnErr result (self.new.claims ≡ self.old.claims) }
     {
         let claim = Claim::of(*self.claims.allocator(), key, holding)?;
-        self.reserve()?;
+        self.reserve(&claim)?;
         Ok(self.settle_prepared(claim))
     }
 
     /// The claim's key may have its record too, unless that stands already or has no address. There is room for it, so it takes
     /// no memory.
     pub fn doubt_prepared(&mut self, claim: Claim)
-        requires { 0 < self.old.room }
+        requires { HasRoom self.old claim }
         ensures { self.new.claims ≡ doubted claim.key claim.holding self.old.claims }
     {
-        doubt_claim(&mut self.claims, claim);
+        let Claim { standing, entries } = claim;
+        if claims_it(&self.claims, &standing.key, &standing.holding) {
+            return;
+        }
+        place_all(&mut self.held, entries);
+        add(&mut self.claims, standing);
     }
 
     /// The key may have this record too, unless that stands already or has no address. Where there is no memory all claims stay.
@@ -131,7 +152,7 @@ impl Book {
         ensures err { OnErr result (self.new.claims ≡ self.old.claims) }
     {
         let claim = Claim::of(*self.claims.allocator(), key, holding)?;
-        self.reserve()?;
+        self.reserve(&claim)?;
         self.doubt_prepared(claim);
         Ok(())
     }
@@ -141,6 +162,7 @@ impl Book {
         ensures loss { result ≡ loss_of (has_claims key.now self.old.claims) }
     {
         let is_lost = has_claims(&self.claims, key);
+        drop_held(&mut self.held, key);
         drop_claims(&mut self.claims, key);
         loss_of(is_lost)
     }
@@ -157,14 +179,15 @@ impl Book {
     pub fn drop_unlisted<L: Listing>(&mut self, listing: &L)
         ensures { self.new.claims ≡ filter (λ c. L.lists listing.now c.key) self.old.claims }
     {
-        self.claims.retain(|claim| listing.lists(claim.key()));
+        self.claims.retain(|claim| listing.lists(&claim.key));
+        self.held.retain(|entry| listing.lists(entry.key()));
     }
 
     /// Whether a key that the list doesn't show has a claim.
     pub fn has_unlisted<L: Listing>(&self, listing: &L) -> bool
         ensures { result ≡ list_any (λ c. not (L.lists listing.now c.key)) self.now.claims }
     {
-        self.claims.iter().any(|claim| !listing.lists(claim.key()))
+        self.claims.iter().any(|claim| !listing.lists(&claim.key))
     }
 
     /// Whether the key has a claim that settling this record gives up: one with another record.
@@ -183,12 +206,20 @@ impl Book {
         has_claims(&self.claims, key)
     }
 
+    /// The entries of addresses of this number and greater ones.
+    pub(crate) fn held_from(&self, number: u128) -> &[Held]
+        ensures ascend { AscendFrom number result.now }
+        ensures tell { TellFrom number result.now self.now.claims }
+    {
+        held_from(&self.held, number)
+    }
+
     /// Whether a service of this key and these terms may use the address of the pool: it lies in the pool, isn't one that the
     /// pool avoids, and each claim of another key that has it is marked with terms that may share. It takes no memory.
     pub fn usable(&self, pool: &CompiledPool, key: &Key, terms: &Terms, address: &Address) -> bool
         ensures { IsTrue result ↔ IsUsable (holders self.now.claims) key.now terms.now pool.now address.now }
     {
-        usable(&self.claims, pool, key, terms, address)
+        usable(self, pool, key, terms, address)
     }
 
     /// The first address of the family that may be used: entries as listed, addresses of an entry ascending; `None` exactly where
@@ -204,7 +235,7 @@ impl Book {
         ensures none { IfNone result ((a : AddressValue)
             → ¬ (IsUsableOf (holders self.now.claims) key.now terms.now pool.now family a)) }
     {
-        least_usable(&self.claims, pool, key, terms, family)
+        least_usable(self, pool, key, terms, family)
     }
 
     fn chosen(
@@ -219,7 +250,7 @@ impl Book {
         ensures terms { OnOk result (AreTerms (terms_of service.now)) }
     {
         let alloc = *self.claims.allocator();
-        choose(alloc, &self.claims, config, class, service, namespace)
+        choose(alloc, self, config, class, service, namespace)
     }
 
     /// What is chosen for the service, whose namespace has these labels, by the claims of the book: the first case of the table

@@ -10,8 +10,8 @@ ghost use Rattle.alloc_book.specs.Choose.{new_or, is_unusable, is_refused, asked
 ghost use Rattle.alloc_book.specs.Chosen.{named};
 ghost use Rattle.alloc_book.specs.Search.{first_pool};
 
+use crate::booking::Book;
 use crate::choice::Choice;
-use crate::claims::Claim;
 use crate::marked::MarkedTerms;
 use crate::requests::{
     all_usable, asked_in, home_of, is_asked, is_given, is_unreadable, kept_in, named, one_of_each,
@@ -37,18 +37,18 @@ fn new_or(reason: Reason, found: Option<Record>) -> Choice
 /// A new record from the pool that is asked for.
 fn from_asked(
     alloc: Global,
-    claims: &[Claim],
+    book: &Book,
     pools: &[CompiledPool],
     service: &Service,
     terms: &MarkedTerms,
 ) -> Result<Choice, NoMemory>
-    ensures { IfOk result (λ c. c ≡ new_or PoolExhausted (first_pool claims.now (asking service.now terms.now) (option_to_list (named pools.now service.now.pool_asked)))) }
+    ensures { IfOk result (λ c. c ≡ new_or PoolExhausted (first_pool book.now.claims (asking service.now terms.now) (option_to_list (named pools.now service.now.pool_asked)))) }
 {
     let reason = Reason::PoolExhausted;
     match named(pools, &service.pool_asked) {
         None => Ok(Choice::Pending { reason }),
         Some(pool) => {
-            let found = first_pool(alloc, claims, &[pool], service, terms)?;
+            let found = first_pool(alloc, book, &[pool], service, terms)?;
             Ok(new_or(reason, found))
         }
     }
@@ -57,39 +57,39 @@ fn from_asked(
 /// Cases 11 to 13: no addresses are asked for.
 fn unasked(
     alloc: Global,
-    claims: &[Claim],
+    book: &Book,
     pools: &[CompiledPool],
     eligible: &[&CompiledPool],
     service: &Service,
     terms: &MarkedTerms,
     namespace: &Labels,
 ) -> Result<Choice, NoMemory>
-    ensures { IfOk result (λ c. c ≡ unasked claims.now (offering pools.now (map (λ p. p.now) eligible.now) service.now namespace.now) (asking service.now terms.now)) }
+    ensures { IfOk result (λ c. c ≡ unasked book.now.claims (offering pools.now (map (λ p. p.now) eligible.now) service.now namespace.now) (asking service.now terms.now)) }
 {
     if is_given(&service.pool_asked) {
-        return from_asked(alloc, claims, pools, service, terms);
+        return from_asked(alloc, book, pools, service, terms);
     }
     if eligible.is_empty() {
         return Ok(Choice::Pending {
             reason: Reason::NoPool,
         });
     }
-    let found = first_pool(alloc, claims, eligible, service, terms)?;
+    let found = first_pool(alloc, book, eligible, service, terms)?;
     Ok(new_or(Reason::Exhausted, found))
 }
 
 /// Whether there is such a pool, from which not all the addresses asked for may be used.
 fn is_unusable(
-    claims: &[Claim],
+    book: &Book,
     service: &Service,
     terms: &MarkedTerms,
     home: Option<&CompiledPool>,
 ) -> bool
-    ensures { result ≡ is_unusable claims.now (asking service.now terms.now) (option_copied home.entry) }
+    ensures { result ≡ is_unusable book.now.claims (asking service.now terms.now) (option_copied home.entry) }
 {
     match home {
         None => false,
-        Some(pool) => !all_usable(claims, service, terms, pool, asked_in(&service.wanted)),
+        Some(pool) => !all_usable(book, service, terms, pool, asked_in(&service.wanted)),
     }
 }
 
@@ -131,17 +131,17 @@ fn kept_from(
 /// Cases 8 to 13: the recorded addresses may not stay.
 fn anew(
     alloc: Global,
-    claims: &[Claim],
+    book: &Book,
     pools: &[CompiledPool],
     eligible: &[&CompiledPool],
     service: &Service,
     terms: &MarkedTerms,
     namespace: &Labels,
 ) -> Result<Choice, NoMemory>
-    ensures { IfOk result (λ c. c ≡ anew claims.now (offering pools.now (map (λ p. p.now) eligible.now) service.now namespace.now) (asking service.now terms.now)) }
+    ensures { IfOk result (λ c. c ≡ anew book.now.claims (offering pools.now (map (λ p. p.now) eligible.now) service.now namespace.now) (asking service.now terms.now)) }
 {
     if !is_asked(&service.wanted) {
-        return unasked(alloc, claims, pools, eligible, service, terms, namespace);
+        return unasked(alloc, book, pools, eligible, service, terms, namespace);
     }
     let home = home_of(pools, service, terms, namespace);
     if home.is_none() {
@@ -149,7 +149,7 @@ fn anew(
             reason: Reason::AddressOutside,
         });
     }
-    if is_unusable(claims, service, terms, home) {
+    if is_unusable(book, service, terms, home) {
         return Ok(Choice::Pending {
             reason: Reason::AddressUnusable,
         });
@@ -160,20 +160,20 @@ fn anew(
 /// Cases 7 to 13: what is asked for can be read, and the pool asked for may be used.
 fn granted(
     alloc: Global,
-    claims: &[Claim],
+    book: &Book,
     pools: &[CompiledPool],
     eligible: &[&CompiledPool],
     service: &Service,
     terms: &MarkedTerms,
     namespace: &Labels,
 ) -> Result<Choice, NoMemory>
-    ensures { IfOk result (λ c. c ≡ granted claims.now (offering pools.now (map (λ p. p.now) eligible.now) service.now namespace.now) (asking service.now terms.now)) }
+    ensures { IfOk result (λ c. c ≡ granted book.now.claims (offering pools.now (map (λ p. p.now) eligible.now) service.now namespace.now) (asking service.now terms.now)) }
 {
-    let kept = kept_in(claims, pools, service, terms, namespace);
+    let kept = kept_in(book, pools, service, terms, namespace);
     if kept.is_some() {
         return kept_from(service, terms, kept);
     }
-    anew(alloc, claims, pools, eligible, service, terms, namespace)
+    anew(alloc, book, pools, eligible, service, terms, namespace)
 }
 
 fn is_refused(service: &Service, namespace: &Labels, asked: Option<&CompiledPool>) -> bool
@@ -188,7 +188,7 @@ fn is_refused(service: &Service, namespace: &Labels, asked: Option<&CompiledPool
 /// The whole table, for a service of these terms.
 fn choose_for(
     alloc: Global,
-    claims: &[Claim],
+    book: &Book,
     pools: &[CompiledPool],
     eligible: &[&CompiledPool],
     class: Option<&Text>,
@@ -196,7 +196,7 @@ fn choose_for(
     terms: &MarkedTerms,
     namespace: &Labels,
 ) -> Result<Choice, NoMemory>
-    ensures { IfOk result (λ c. c ≡ choose_for claims.now (offering pools.now (map (λ p. p.now) eligible.now) service.now namespace.now) (option_copied class.entry) service.now (asking service.now terms.now)) }
+    ensures { IfOk result (λ c. c ≡ choose_for book.now.claims (offering pools.now (map (λ p. p.now) eligible.now) service.now namespace.now) (option_copied class.entry) service.now (asking service.now terms.now)) }
 {
     if service.balancer && !service.is_handled(class) {
         return Ok(Choice::Foreign);
@@ -227,7 +227,7 @@ fn choose_for(
             reason: Reason::PoolRefused,
         });
     }
-    granted(alloc, claims, pools, eligible, service, terms, namespace)
+    granted(alloc, book, pools, eligible, service, terms, namespace)
 }
 
 fn pool_at(pools: &[CompiledPool], place: usize) -> Option<&CompiledPool>
@@ -270,14 +270,14 @@ fn eligible_pools<'a>(
 /// What is chosen for a service whose namespace has these labels.
 pub(crate) fn choose(
     alloc: Global,
-    claims: &[Claim],
+    book: &Book,
     config: &Config,
     class: Option<&Text>,
     service: &Service,
     namespace: &Labels,
 ) -> Result<Choice, NoMemory>
     ensures value { IfOk result (λ c. c
-        ≡ choose claims.now (offer_of config.now.pools service.now namespace.now) (option_copied class.entry) service.now) }
+        ≡ choose book.now.claims (offer_of config.now.pools service.now namespace.now) (option_copied class.entry) service.now) }
     ensures terms { OnOk result (AreTerms (terms_of service.now)) }
 {
     let terms = MarkedTerms::of(alloc, service)?;
@@ -285,7 +285,7 @@ pub(crate) fn choose(
     let pools = config.pools.as_slice();
     choose_for(
         alloc,
-        claims,
+        book,
         pools,
         found.as_slice(),
         class,

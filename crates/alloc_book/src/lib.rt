@@ -5,6 +5,7 @@ mod booking;
 mod choice;
 mod choosing;
 mod claims;
+mod held;
 mod laws;
 mod marked;
 mod requests;

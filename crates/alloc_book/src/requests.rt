@@ -9,7 +9,7 @@ ghost use Rattle.alloc_book.specs.Choose.{addresses_of, wanted_of, one_of_each, 
 ghost use Rattle.alloc_book.specs.Search.{usable};
 ghost use Rattle.alloc_book.specs.Usable.{is_in};
 
-use crate::claims::Claim;
+use crate::booking::Book;
 use crate::marked::MarkedTerms;
 use crate::search::{has_address, is_in, may_use};
 use ip_ranges::{Address, Family};
@@ -100,16 +100,16 @@ fn is_open(service: &Service, terms: &MarkedTerms, namespace: &Labels, pool: &Co
 
 /// Whether all of the addresses may be used, from this pool.
 pub(crate) fn all_usable(
-    claims: &[Claim],
+    book: &Book,
     service: &Service,
     terms: &MarkedTerms,
     pool: &CompiledPool,
     addresses: &[Address],
 ) -> bool
-    ensures { result ≡ all_usable claims.now (asking service.now terms.now) pool.now addresses.now }
+    ensures { result ≡ all_usable book.now.claims (asking service.now terms.now) pool.now addresses.now }
 {
     let terms = terms.terms();
-    addresses.iter().all(|address| may_use(claims, pool, &service.key, terms, address))
+    addresses.iter().all(|address| may_use(book, pool, &service.key, terms, address))
 }
 
 fn all_have(addresses: &[Address], others: &[Address]) -> bool
@@ -127,18 +127,18 @@ fn same_addresses(xs: &[Address], ys: &[Address]) -> bool
 
 /// Whether the recorded addresses may stay as addresses of the pool.
 fn is_kept(
-    claims: &[Claim],
+    book: &Book,
     service: &Service,
     terms: &MarkedTerms,
     namespace: &Labels,
     pool: &CompiledPool,
 ) -> bool
-    ensures { result ≡ is_kept claims.now (offering [] [] service.now namespace.now) (asking service.now terms.now) pool.now }
+    ensures { result ≡ is_kept book.now.claims (offering [] [] service.now namespace.now) (asking service.now terms.now) pool.now }
 {
     let recorded = service.holding.addresses.as_slice();
     is_open(service, terms, namespace, pool)
         && one_of_each(service.families.as_slice(), recorded)
-        && all_usable(claims, service, terms, pool, recorded)
+        && all_usable(book, service, terms, pool, recorded)
         && (!is_asked(&service.wanted) || same_addresses(recorded, asked_in(&service.wanted)))
 }
 
@@ -157,16 +157,16 @@ fn all_in(pool: &CompiledPool, addresses: &[Address]) -> bool
 
 /// The first pool in which the recorded addresses may stay.
 pub(crate) fn kept_in<'a>(
-    claims: &[Claim],
+    book: &Book,
     pools: &'a [CompiledPool],
     service: &Service,
     terms: &MarkedTerms,
     namespace: &Labels,
 ) -> Option<&'a CompiledPool>
-    ensures { option_copied result ≡ find (is_kept claims.now (offering [] [] service.now namespace.now) (asking service.now terms.now)) pools.now }
+    ensures { option_copied result ≡ find (is_kept book.now.claims (offering [] [] service.now namespace.now) (asking service.now terms.now)) pools.now }
 {
     for pool in pools {
-        if is_kept(claims, service, terms, namespace, pool) {
+        if is_kept(book, service, terms, namespace, pool) {
             return Some(pool);
         }
     }

@@ -1,23 +1,25 @@
 //! The addresses that claims leave, and the least of them.
-ghost use Rattle.std.specs.Prelude.{◌≡◌, ◌↔◌, IsTrue, IfOk, IfSome, IfNone, map, ◌+◌, ◌-◌};
-ghost use Rattle.std.specs.Option.{option_copied, option_map};
-ghost use Rattle.std.specs.List.{list_all, list_any};
-ghost use Rattle.ip_ranges.specs.Values.{AddressValue, holds, has_address};
+ghost use Rattle.std.specs.Prelude.{◌≡◌, ◌↔◌, ◌&&◌, not, IsTrue, IfOk, IfSome, IfNone, map, ◌+◌, ◌-◌};
+ghost use Rattle.std.specs.Option.{option_map};
+ghost use Rattle.std.specs.List.{Contains, list_all};
+ghost use Rattle.ip_ranges.specs.Values.{AddressValue, has_address, is_buggy};
 ghost use Rattle.sharing_terms.specs.declared.terms.Terms.{Terms};
 ghost use Rattle.sharing_terms.specs.Marks.{mark_of};
 ghost use Rattle.alloc_book.specs.Asking.{asking};
-ghost use Rattle.alloc_book.specs.Search.{shares_by, leaves, usable, address_of, numbered, least_between, least_in, least_usable, least_each, first_pool};
+ghost use Rattle.alloc_book.specs.Held.{gives_way};
+ghost use Rattle.alloc_book.specs.Search.{leaves, usable, address_of, numbered, least_between, least_in, least_usable, least_each, first_pool};
 ghost use Rattle.alloc_book.specs.Claims.{holders};
 ghost use Rattle.alloc_book.specs.Least.{IsLeast};
 ghost use Rattle.alloc_book.specs.Usable.{is_in, IsUsable, IsUsableOf};
 
-use crate::claims::Claim;
+use crate::booking::Book;
+use crate::held::{Held, all_give_way, split_at_number};
 use crate::marked::MarkedTerms;
 use ip_ranges::{Address, AddressList, Family, Span, is_buggy};
 use kube_model::{Key, Record, Service};
 use mlb_base::{NoMemory, TryCopy};
 use pool_config::CompiledPool;
-use sharing_terms::{Terms, may_share};
+use sharing_terms::Terms;
 use std::alloc::Global;
 
 pub(crate) fn has_address(addresses: &[Address], address: &Address) -> bool
@@ -26,29 +28,12 @@ pub(crate) fn has_address(addresses: &[Address], address: &Address) -> bool
     addresses.iter().any(|a| *address == *a)
 }
 
-fn shares(terms: &Terms, held: Option<&Terms>) -> bool
-    ensures { result ≡ shares_by terms.now (option_copied held.entry) }
+/// Whether each claim leaves the address to a service of this key and these terms.
+fn all_leave(book: &Book, key: &Key, terms: &Terms, address: &Address) -> bool
+    ensures { result ≡ list_all (leaves key.now terms.now address.now) book.now.claims }
 {
-    match held {
-        None => false,
-        Some(held) => may_share(terms, held),
-    }
-}
-
-fn leaves(claim: &Claim, key: &Key, terms: &Terms, address: &Address) -> bool
-    ensures { result ≡ leaves key.now terms.now address.now claim.now }
-{
-    claim.key == *key
-        || !has_address(claim.holding.addresses.as_slice(), address)
-        || shares(terms, claim.terms.as_ref())
-}
-
-fn all_leave(claims: &[Claim], key: &Key, terms: &Terms, address: &Address) -> bool
-    ensures { result ≡ list_all (leaves key.now terms.now address.now) claims.now }
-{
-    claims
-        .iter()
-        .all(|claim| leaves(claim, key, terms, address))
+    let (here, _rest) = split_at_number(book.held_from(address.number), address.number);
+    all_give_way(here, key, terms, address)
 }
 
 pub(crate) fn is_in(pool: &CompiledPool, address: &Address) -> bool
@@ -62,83 +47,95 @@ pub(crate) fn is_in(pool: &CompiledPool, address: &Address) -> bool
 
 /// Whether a service of this key and these terms may use the address: it lies in the pool, isn't one that the pool avoids,
 /// and each claim of another key leaves it or shares it. It takes no memory.
-pub fn usable(
-    claims: &[Claim],
-    pool: &CompiledPool,
-    key: &Key,
-    terms: &Terms,
-    address: &Address,
-) -> bool
-    ensures value { result ≡ usable claims.now key.now terms.now pool.now address.now }
-    ensures meaning { IsTrue result ↔ IsUsable (holders claims.now) key.now terms.now pool.now address.now }
+pub fn usable(book: &Book, pool: &CompiledPool, key: &Key, terms: &Terms, address: &Address) -> bool
+    ensures value { result ≡ usable book.now.claims key.now terms.now pool.now address.now }
+    ensures meaning { IsTrue result ↔ IsUsable (holders book.now.claims) key.now terms.now pool.now address.now }
 {
-    may_use(claims, pool, key, terms, address)
+    may_use(book, pool, key, terms, address)
 }
 
 pub(crate) fn may_use(
-    claims: &[Claim],
+    book: &Book,
     pool: &CompiledPool,
     key: &Key,
     terms: &Terms,
     address: &Address,
 ) -> bool
-    ensures { result ≡ usable claims.now key.now terms.now pool.now address.now }
+    ensures { result ≡ usable book.now.claims key.now terms.now pool.now address.now }
 {
-    is_in(pool, address)
-        && !(pool.avoid_buggy && is_buggy(address))
-        && all_leave(claims, key, terms, address)
+    is_in(pool, address) && !is_avoided(pool, address) && all_leave(book, key, terms, address)
 }
 
-/// The least number of the range that an address of the family may have to be used.
+fn is_avoided(pool: &CompiledPool, address: &Address) -> bool
+    ensures { result ≡ (pool.now.avoid_buggy && is_buggy address.now) }
+{
+    pool.avoid_buggy && is_buggy(address)
+}
+
+/// Whether the pool doesn't avoid the address, and each of the entries leaves it.
+fn is_free(here: &[Held], pool: &CompiledPool, key: &Key, terms: &Terms, address: &Address) -> bool
+    ensures { result ≡ (not (pool.now.avoid_buggy && is_buggy address.now)
+        && list_all (gives_way key.now terms.now address.now) here.now) }
+{
+    !is_avoided(pool, address) && all_give_way(here, key, terms, address)
+}
+
+/// The least number of the range, which is one of the pool's, that an address of the family may have to be used. It is found
+/// by a walk over the numbers and, beside them, over the entries of the range.
 fn least_number(
-    claims: &[Claim],
+    book: &Book,
     pool: &CompiledPool,
     key: &Key,
     terms: &Terms,
     family: Family,
     span: &Span,
 ) -> Option<Address>
-    requires { span.now.family ≡ family }
-    ensures { result ≡ option_map (address_of family) (least_between (numbered (usable claims.now key.now terms.now pool.now) family) span.now.low (span.now.high + 1 - span.now.low)) }
+    requires family { span.now.family ≡ family }
+    requires listed { Contains pool.now.spans span.now }
+    ensures { result ≡ option_map (address_of family) (least_between (numbered (usable book.now.claims key.now terms.now pool.now) family) span.now.low (span.now.high + 1 - span.now.low)) }
 {
+    let mut rest = book.held_from(span.low);
     for number in span.low..=span.high {
         let address = Address { family, number };
-        if may_use(claims, pool, key, terms, &address) {
+        let (here, behind) = split_at_number(rest, number);
+        if is_free(here, pool, key, terms, &address) {
             return Some(address);
         }
+        rest = behind;
     }
     None
 }
 
 /// The least address of one range of the pool that may be used.
 fn least_in(
-    claims: &[Claim],
+    book: &Book,
     pool: &CompiledPool,
     key: &Key,
     terms: &Terms,
     family: Family,
     span: &Span,
 ) -> Option<Address>
-    ensures { result ≡ least_in (usable claims.now key.now terms.now pool.now) family span.now }
+    requires { Contains pool.now.spans span.now }
+    ensures { result ≡ least_in (usable book.now.claims key.now terms.now pool.now) family span.now }
 {
     if span.family != family {
         return None;
     }
-    least_number(claims, pool, key, terms, family, span)
+    least_number(book, pool, key, terms, family, span)
 }
 
 /// The first address of the family that may be used, entry by entry.
 fn least_listed(
-    claims: &[Claim],
+    book: &Book,
     pool: &CompiledPool,
     key: &Key,
     terms: &Terms,
     family: Family,
 ) -> Option<Address>
-    ensures { result ≡ least_usable claims.now key.now terms.now pool.now family }
+    ensures { result ≡ least_usable book.now.claims key.now terms.now pool.now family }
 {
     for span in pool.spans.as_slice() {
-        let least = least_in(claims, pool, key, terms, family, span);
+        let least = least_in(book, pool, key, terms, family, span);
         if least.is_some() {
             return least;
         }
@@ -149,32 +146,32 @@ fn least_listed(
 /// The first address of the family that may be used: entries as listed, addresses of an entry ascending. It takes no
 /// memory.
 pub fn least_usable(
-    claims: &[Claim],
+    book: &Book,
     pool: &CompiledPool,
     key: &Key,
     terms: &Terms,
     family: Family,
 ) -> Option<Address>
-    ensures value { result ≡ least_usable claims.now key.now terms.now pool.now family }
-    ensures least { IfSome result (IsLeast (holders claims.now) key.now terms.now pool.now family) }
-    ensures none { IfNone result ((a : AddressValue) → ¬ (IsUsableOf (holders claims.now) key.now terms.now pool.now family a)) }
+    ensures value { result ≡ least_usable book.now.claims key.now terms.now pool.now family }
+    ensures least { IfSome result (IsLeast (holders book.now.claims) key.now terms.now pool.now family) }
+    ensures none { IfNone result ((a : AddressValue) → ¬ (IsUsableOf (holders book.now.claims) key.now terms.now pool.now family a)) }
 {
-    least_listed(claims, pool, key, terms, family)
+    least_listed(book, pool, key, terms, family)
 }
 
 /// The first address of each family that may be used, where there is one of each.
 fn least_each(
     alloc: Global,
-    claims: &[Claim],
+    book: &Book,
     pool: &CompiledPool,
     service: &Service,
     terms: &MarkedTerms,
 ) -> Result<Option<AddressList>, NoMemory>
-    ensures { IfOk result (λ found. found ≡ least_each claims.now service.now.key terms.now pool.now service.now.families) }
+    ensures { IfOk result (λ found. found ≡ least_each book.now.claims service.now.key terms.now pool.now service.now.families) }
 {
     let mut addresses = AddressList::new(alloc);
     for family in service.families.as_slice() {
-        match least_usable(claims, pool, &service.key, terms.terms(), *family) {
+        match least_usable(book, pool, &service.key, terms.terms(), *family) {
             Some(address) => addresses.push(address)?,
             None => return Ok(None),
         }
@@ -201,15 +198,15 @@ pub(crate) fn record_in(
 /// What the first pool gives that has an address of each family.
 pub(crate) fn first_pool(
     alloc: Global,
-    claims: &[Claim],
+    book: &Book,
     pools: &[&CompiledPool],
     service: &Service,
     terms: &MarkedTerms,
 ) -> Result<Option<Record>, NoMemory>
-    ensures { IfOk result (λ found. found ≡ first_pool claims.now (asking service.now terms.now) (map (λ p. p.now) pools.now)) }
+    ensures { IfOk result (λ found. found ≡ first_pool book.now.claims (asking service.now terms.now) (map (λ p. p.now) pools.now)) }
 {
     for pool in pools {
-        if let Some(addresses) = least_each(alloc, claims, pool, service, terms)? {
+        if let Some(addresses) = least_each(alloc, book, pool, service, terms)? {
             return Ok(Some(record_in(pool, terms, addresses)?));
         }
     }

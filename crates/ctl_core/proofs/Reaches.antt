@@ -5,7 +5,7 @@ use Rattle.kube_model.specs.declared.event.Event.{Event}
 use Rattle.kube_model.specs.declared.event.Group.{Group}
 use Rattle.kube_model.specs.declared.reply.PutReply.{PutReply}
 use Rattle.core_rules.specs.Core.{State, fresh}
-use Rattle.core_rules.specs.Reply.{core_reply}
+use Rattle.core_rules.specs.Replied.{core_reply}
 use Rattle.core_rules.specs.Take.{core_take, core_expired}
 use Rattle.core_rules.specs.Turn.{core_turn, after_turn}
 use Rattle.core_rules.specs.Run.{Entry, Took, Expired, Turned, Heard, MayEnter, entered}

@@ -3,7 +3,7 @@ ghost use Rattle.std.specs.Prelude.{◌≡◌, ◌↔◌, ◌⊎◌, ◌<◌, le
 ghost use Rattle.std.specs.Option.{option_copied};
 ghost use Rattle.core_laws.specs.Quiet.{IsQuiet};
 ghost use Rattle.core_rules.specs.Core.{fresh, is_ready, record_of, is_settled};
-ghost use Rattle.core_rules.specs.Reply.{core_reply};
+ghost use Rattle.core_rules.specs.Replied.{core_reply};
 ghost use Rattle.core_rules.specs.Take.{core_take, core_note, core_expired, limits};
 ghost use Rattle.core_rules.specs.Turn.{core_turn, after_turn};
 
@@ -100,6 +100,13 @@ impl Core {
         ensures quiet { IsQuiet self.new }
     {
         self.state.take_expired(group);
+    }
+
+    /// What the next turn comes to. It isn't made, and the core stays as it is.
+    pub fn next_turn(&self) -> Result<Turn, NoMemory>
+        ensures { IfOk result (λ turn. turn ≡ core_turn self.now) }
+    {
+        self.state.next_turn()
     }
 
     /// Makes the next turn: the front key is taken out of the queue and chosen for. A put that is wanted is out until it is

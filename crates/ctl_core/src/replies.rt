@@ -3,7 +3,7 @@ ghost use Rattle.std.specs.Prelude.{◌≡◌, IfOk, OnOk, OnErr, IsSome};
 ghost use Rattle.kube_model.specs.Keys.{same_key};
 ghost use Rattle.alloc_book.specs.Claims.{loses};
 ghost use Rattle.core_rules.specs.Core.{waiting};
-ghost use Rattle.core_rules.specs.Reply.{core_reply, stored, refused, in_doubt};
+ghost use Rattle.core_rules.specs.Replied.{core_reply, stored, refused, in_doubt};
 
 use crate::claims::loses;
 use crate::keys::waiting;
@@ -37,7 +37,7 @@ impl CoreState {
     {
         let more = self.waiting_for(&put)?;
         let claim = Claim::of(self.alloc, &put.key, &put.holding)?;
-        make_room(&mut self.book, &mut self.queue, &more)?;
+        make_room(&mut self.book, &claim, &mut self.queue, &more)?;
         let key = put.key;
         let holding = put.holding;
         self.cache.store(&key, version, holding);
@@ -78,7 +78,7 @@ impl CoreState {
         ensures err { OnErr result (self.new ≡ self.old) }
     {
         let claim = Claim::of(self.alloc, &put.key, &put.holding)?;
-        make_room_for(&mut self.book, &mut self.queue, put.key)?;
+        make_room_for(&mut self.book, &claim, &mut self.queue, put.key)?;
         self.book.doubt_prepared(claim);
         self.out = None;
         Ok(())

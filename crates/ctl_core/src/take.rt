@@ -199,7 +199,14 @@ impl CoreState {
         ensures err { OnErr result (self.new ≡ self.old) }
     {
         let queued = self.queue.len();
-        if make_room(&mut self.book, &mut self.queue, &prepared.more).is_err() {
+        if make_room(
+            &mut self.book,
+            &prepared.claim,
+            &mut self.queue,
+            &prepared.more,
+        )
+        .is_err()
+        {
             drop(service);
             drop(prepared);
             return Err(NoMemory);

@@ -22,14 +22,21 @@ impl CoreState {
         ensures ok { OnOk result (self.new ≡ after_turn self.old) }
         ensures err { OnErr result (self.new ≡ self.old) }
     {
-        let Some(front) = self.queue.first() else {
-            return Ok(Turn::Idle);
-        };
-        let turn = self.turn_at(front)?;
+        let turn = self.next_turn()?;
         let out = put_in(&turn)?;
         let _front = self.queue.pop_first();
         self.out = out;
         Ok(turn)
+    }
+
+    /// What the next turn comes to. It isn't made.
+    pub(crate) fn next_turn(&self) -> Result<Turn, NoMemory>
+        ensures { IfOk result (λ turn. turn ≡ core_turn self.now) }
+    {
+        match self.queue.first() {
+            None => Ok(Turn::Idle),
+            Some(front) => self.turn_at(front),
+        }
     }
 
     /// What the service of a key comes to.

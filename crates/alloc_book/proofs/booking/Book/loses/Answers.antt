@@ -7,4 +7,4 @@ pub returns-clause-meaning : goal.returns-clause-meaning
 returns-clause-meaning c =
     let is : c.self.inside.claims.items ≡ c.args.self.now.claims = ap (λ (b : BookValue). b.claims) c.self.view_is in
     let same : c.deref.result.now ≡ c.args.self.now.claims = c.deref.ensures.value ∙ is in
-    answer-loses c.args.self.now.claims c.args.key.now c.args.holding.now c.loses.result (subst AreAssigned is c.self.invariant) (rw same at c.loses.ensures)
+    answer-loses c.args.self.now.claims c.args.key.now c.args.holding.now c.loses.result (subst AreAssigned is c.self.invariant.assigned) (rw same at c.loses.ensures)

@@ -1,0 +1,100 @@
+-- Every world of a trial is good, and so safe.
+use Rattle.std.proofs.Common.{◌≡◌, true, ◌<◌, ◌+◌, ◌%◌, ℕ, nat_lt, List, [], ◌∷◌, Option, Some, None, is_some, codes, refl, arith}
+use Rattle.std.proofs.lemmas.Bool.{cond_both}
+use Rattle.std.proofs.lemmas.Str.{IsUtf8-from_is_utf8, IsUtf8-nil}
+use Rattle.std.specs.List.Sorted.{IsStrictlySortedBy}
+use Rattle.std.specs.Prelude.{IfSome, IsUtf8}
+use Rattle.std.specs.Str.{is_utf8, chars}
+use Rattle.kube_labels.specs.Pairs.{IsAscending}
+use Rattle.kube_model.specs.declared.object.Object.TheVariants as objects
+use Rattle.sharing_terms.specs.Marked.{AreTexts}
+use Rattle.status_store.specs.declared.change.Edit.{Edit}
+use Rattle.status_store.specs.declared.change.Edit.TheVariants.{Set, Delete}
+use Rattle.status_store.specs.Changes.{OnSet, empty_store}
+use Rattle.ctl_world.proofs.TermLaws.{terms-are}
+use Rattle.world_rules.specs.declared.step.Step.{Step}
+use Rattle.world_rules.specs.declared.step.Step.TheVariants.{Edit as Edits, Take, Turn, Crash, Restart, Expire}
+use Rattle.world_rules.specs.Good.{IsGood}
+use Rattle.world_rules.specs.Safe.{HasTerms, SetsTerms, StepsTerms}
+use Rattle.world_rules.specs.World.{WorldValue, world_step, store_of}
+use Rattle.world_rules.proofs.Storing.{good-store_of}
+use Rattle.world_rules.proofs.Worlds.{starts_are_good, steps_keep_good}
+use Rattle.world_trial.specs.Begun.{first_pools, first_world}
+use Rattle.world_trial.specs.Draws.{draws}
+use Rattle.world_trial.specs.Run.{is_made, after, step_in, after_draw, after_draws, trial_world}
+use Rattle.world_trial.specs.Services.{share_key_of, selector_of, numbered, service_of}
+use Rattle.world_trial.proofs.Sets.{Sets, step-sets}
+
+-- ---- services
+
+-- the texts that the services have
+default-text : is_utf8 (codes "default") ≡ true
+unfolding is_utf8 chars lib.Utf8.encode
+default-text = refl
+
+key-text : is_utf8 (codes "k") ≡ true
+unfolding is_utf8 chars lib.Utf8.encode
+key-text = refl
+
+name-text : is_utf8 (codes "app") ≡ true
+unfolding is_utf8 chars lib.Utf8.encode
+name-text = refl
+
+value-text : is_utf8 (codes "a") ≡ true
+unfolding is_utf8 chars lib.Utf8.encode
+value-text = refl
+
+share_key-text : (z : ℕ) → IsUtf8 (share_key_of z)
+share_key-text z = cond_both (nat_lt z 2) [] (codes "k") IsUtf8 (λ _. IsUtf8-nil) (λ _. IsUtf8-from_is_utf8 (codes "k") key-text)
+
+selector-ascends : (z : ℕ) → IsAscending (selector_of z)
+unfolding IsStrictlySortedBy
+selector-ascends z = cond_both (nat_lt z 6) [] ((codes "app", codes "a") ∷ []) IsAscending (λ _. tt) (λ _. (tt, tt))
+
+selector-texts : (z : ℕ) → AreTexts (selector_of z)
+selector-texts z =
+    cond_both (nat_lt z 6) [] ((codes "app", codes "a") ∷ []) AreTexts (λ _. tt) (λ _. ((IsUtf8-from_is_utf8 (codes "app") name-text, IsUtf8-from_is_utf8 (codes "a") value-text), tt))
+
+small-port : (z : ℕ) → 80 + z % 3 < 65536
+small-port z = omega arith
+
+service-terms : (y z : ℕ) → HasTerms (objects.Service (service_of y z))
+unfolding service_of numbered
+service-terms y z =
+    terms-are (service_of y z) (share_key-text z) (IsUtf8-from_is_utf8 (codes "default") default-text) (small-port z, tt) (selector-ascends z) (selector-texts z)
+
+-- ---- steps
+
+edit-typed : (edit : Edit) → OnSet edit HasTerms → SetsTerms edit
+edit-typed (Set object) t = t
+edit-typed (Delete kind key) t = tt
+
+typed : (step : Step) → Sets HasTerms step → StepsTerms step
+typed (Edits edit) t = edit-typed edit t
+typed (Take group) t = tt
+typed (Turn outcome) t = tt
+typed (Crash applied) t = tt
+typed Restart t = tt
+typed (Expire group) t = tt
+
+-- ---- worlds
+
+good-after : (step : Option Step) (w : WorldValue) → IfSome step (Sets HasTerms) → IsGood w → IsGood (after step w)
+good-after None w sets good = good
+good-after (Some step) w sets good =
+    cond_both (is_made step w) (world_step step w) w IsGood (λ _. steps_keep_good w step (typed step sets) good) (λ _. good)
+
+good-draw : (x : ℕ) (w : WorldValue) → IsGood w → IsGood (after_draw x w)
+unfolding after_draw
+good-draw x w good = good-after (step_in x w) w (step-sets HasTerms (λ y z few. service-terms y z) x (is_some w.core)) good
+
+good-draws : (xs : List ℕ) (w : WorldValue) → IsGood w → IsGood (after_draws xs w)
+good-draws [] w good = good
+good-draws (x ∷ xs) w good = good-draws xs (after_draw x w) (good-draw x w good)
+
+good-first : IsGood first_world
+unfolding first_world
+good-first = starts_are_good None (store_of first_pools empty_store) (good-store_of first_pools (tt, (tt, tt)))
+
+pub good-trial : (seed n : ℕ) → IsGood (trial_world seed n)
+good-trial seed n = good-draws (draws seed n) first_world good-first

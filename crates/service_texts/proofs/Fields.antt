@@ -1,14 +1,11 @@
 -- The fields of a service that is read of a value with texts.
 use Rattle.std.proofs.Common.{◌≤◌, ◌<◌, codes, arith}
-use Rattle.std.proofs.lemmas.Str.{IsUtf8-nil}
 use Rattle.std.specs.Bool.{⊤}
 use Rattle.std.specs.Str.{IsUtf8}
 use Rattle.json_fields.specs.Reading.{default_at, required_at, object_of, number_in}
 use Rattle.json_texts.specs.Texts.{AreLabels}
-use Rattle.json_texts.proofs.Readers.{Reads, then_ok, any_ok, reads-required_at, reads-number_in, reads-name_at, reads-list_at, reads-labels_at, value_text}
+use Rattle.json_texts.proofs.Readers.{Reads, then_ok, any_ok, reads-required_at, reads-number_in, reads-list_at, reads-labels_at, value_text}
 use Rattle.kube_model.specs.declared.key.Key.{Key}
-use Rattle.kube_model.specs.declared.object.Kind.{Kind}
-use Rattle.kube_model.specs.declared.object.Kind.TheVariants as kinds
 use Rattle.kube_model.specs.declared.port.Port.{Port}
 use Rattle.kube_model.specs.declared.port.Protocol.TheVariants.{Tcp}
 use Rattle.kube_model.specs.declared.service.Policy.{Policy}
@@ -16,16 +13,13 @@ use Rattle.kube_model.specs.declared.service.Policy.TheVariants.{Cluster, Local}
 use Rattle.kube_model.specs.declared.service.Service.{Service}
 use Rattle.kube_model.specs.Named.{protocol_of}
 use Rattle.kube_model.specs.PortFields.{port_of}
-use Rattle.kube_events.specs.Fields.{Pairs, name_field, namespace_field, key_of}
+use Rattle.kube_events.specs.Fields.{Pairs}
 use Rattle.kube_events.specs.ServiceFields.{annotations_field, balancer_field, class_field, address_field, families_field, prefer_dual_field, policy_field, selector_field, ports_field, places_field, service_of}
+use Rattle.line_events.proofs.Keys.{HasText}
 use Rattle.sharing_terms.specs.Marked.{AreSmall, IsBackend, AreTerms}
 use Rattle.sharing_terms.specs.Terms.{backend_by, terms_of}
 use Rattle.sharing_terms.proofs.PortSets.{ports_in-are}
 use Rattle.service_texts.proofs.Sets.{all-ports_in}
-
--- the namespace is a text
-abbrev pub HasText : Key → Type 0
-HasText key = IsUtf8 key.namespace
 
 -- the number has 16 bits
 abbrev IsSmall : Port → Type 0
@@ -57,23 +51,6 @@ terms_are service fields = record {
 }
 
 -- ---- fields
-
-reads-namespace : (kind : Kind) → Reads IsUtf8 (namespace_field kind)
-reads-namespace kinds.Service = reads-name_at (codes "metadata.namespace")
-reads-namespace kinds.Slice = reads-name_at (codes "metadata.namespace")
-reads-namespace kinds.Pool = λ d h. IsUtf8-nil
-reads-namespace kinds.L2 = λ d h. IsUtf8-nil
-reads-namespace kinds.Bgp = λ d h. IsUtf8-nil
-reads-namespace kinds.Peer = λ d h. IsUtf8-nil
-reads-namespace kinds.Community = λ d h. IsUtf8-nil
-reads-namespace kinds.Namespace = λ d h. IsUtf8-nil
-reads-namespace kinds.Node = λ d h. IsUtf8-nil
-
-pub reads-key_of : (kind : Kind) → Reads HasText (key_of kind)
-unfolding key_of
-reads-key_of kind d h =
-    then_ok (λ _. ⊤) HasText (name_field d) _ (any_ok (name_field d)) (λ name _.
-    then_ok IsUtf8 HasText (namespace_field kind d) _ (reads-namespace kind d h) (λ namespace text. text))
 
 reads-port_of : Reads IsSmall port_of
 unfolding port_of

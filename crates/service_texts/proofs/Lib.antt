@@ -1,4 +1,4 @@
 mod Fields
-pub mod Lines
+pub mod EventTerms
 mod Objects
 mod Sets

@@ -1,4 +1,4 @@
-use Rattle.service_texts.proofs.Lines.{services_have_terms}
+use Rattle.service_texts.proofs.EventTerms.{services_have_terms}
 use Rattle.service_texts.proofs.laws.services_have_terms.Goals as goal
 
 pub returns : goal.returns

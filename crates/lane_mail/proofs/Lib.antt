@@ -1,0 +1,5 @@
+mod LaneLists
+mod Carrying
+mod Marks
+mod Settled
+pub mod Merging

@@ -1,0 +1,8 @@
+//! The two lanes.
+
+/// One of the two streams of events that a program watches.
+#[derive(Clone, Copy, Debug, PartialEq, Eq)]
+pub enum Lane {
+    First,
+    Second,
+}

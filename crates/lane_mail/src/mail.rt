@@ -1,0 +1,214 @@
+//! An unbounded queue of items, and beside it one of two end marks.
+ghost use Rattle.std.specs.Prelude.{◌≡◌, ◌^◌, ◌<◌, ◌↔◌, [], ◌∷◌, ◌++◌, length, Some, None, IfOk, OnOk, IfErr, MatchOption};
+
+use crate::inbox_pass::InboxPass;
+use crate::item::Item;
+use crate::lane::Lane;
+use crate::lane_done::LaneDone;
+use crate::lane_pass::LanePass;
+use crate::lists::Lists;
+use crate::mark::Mark;
+use crate::put_back::PutBack;
+use crate::rules::{FirstLane, Gather, Get, Items, Marks, Put, SecondLane, Whole};
+use crate::taken::Taken;
+use mlb_base::NoMemory;
+use std::alloc::Global;
+use std::marker::Model;
+use std::sync::Wait;
+use std::thread;
+
+/// The mail of two lanes, which contracts see as the name by which it is told from any other.
+///
+/// It is shared by reference, and what each thread may do with it is its pass.
+pub struct Mail {
+    items: Items,
+    marks: Marks,
+}
+
+impl Model for Mail {
+    ghost use Rattle.std.specs.Prelude.{◌≡◌};
+    ghost use Rattle.lane_mail.specs.Values.{MailId};
+
+    ghost Value = { MailId };
+
+    ghost view = { λ m. record { web = m.items.web; heap = m.items.heap; table = m.marks.table.shared.table_id } };
+
+    ghost invariant = { λ m. m.marks.cap ≡ 2 };
+}
+
+impl Drop for Mail {
+    fn drop(self) {
+        let Self { items, marks: _ } = self;
+        items.destroy();
+    }
+}
+
+impl Mail {
+    ghost use Rattle.lane_mail.specs.Merges.{IsMerge};
+    ghost use Rattle.lane_mail.specs.Lanes.{items_of};
+    ghost use Rattle.lane_mail.specs.Values.{HasAll, EndsStay, sent_more, took_more};
+
+    /// A mail, the right to send of each lane, and the right to take.
+    pub fn new(alloc: Global) -> Result<(Mail, LanePass, LanePass, InboxPass), NoMemory>
+        ensures mail { IfOk result (λ m. (m.1.mail ≡ m.0) × (m.2.mail ≡ m.0) × (m.3.mail ≡ m.0)) }
+        ensures lanes { IfOk result (λ m. (m.1.lane ≡ Lane.First) × (m.2.lane ≡ Lane.Second)) }
+        ensures sent { IfOk result (λ m. (m.1.sent ≡ []) × (m.2.sent ≡ [])) }
+        ensures taken { IfOk result (λ m. m.3.taken ≡ []) }
+        ensures ends { IfOk result (λ m. (m.3.first_end ≡ None) × (m.3.second_end ≡ None)) }
+    {
+        let (marks, mut inbox_marks) = Marks::ruled(alloc, 2)?;
+        let (items, mut inbox_items) = Items::with_rule(alloc)?;
+        let first = LanePass {
+            lane: Lane::First,
+            count: 0,
+            items: items.another::<FirstLane>(&mut inbox_items),
+            marks: marks.another::<FirstLane>(&mut inbox_marks),
+        };
+        let second = LanePass {
+            lane: Lane::Second,
+            count: 0,
+            items: items.another::<SecondLane>(&mut inbox_items),
+            marks: marks.another::<SecondLane>(&mut inbox_marks),
+        };
+        let inbox = InboxPass {
+            items: inbox_items,
+            marks: inbox_marks,
+            first_count: 0,
+            second_count: 0,
+            first: None,
+            second: None,
+        };
+        Ok((Mail { items, marks }, first, second, inbox))
+    }
+
+    /// Sends the item. It comes back only for want of memory, and then nothing was sent. A lane may send 2^61 items.
+    pub fn put<R: Wait>(&self, rt: &R, pass: &mut LanePass, item: Item) -> Result<(), PutBack>
+        requires mail { pass.old.mail ≡ self.now }
+        requires lane { item.lane ≡ pass.old.lane }
+        requires room { length pass.old.sent < 2 ^ 61 }
+        ensures ok { OnOk result (pass.new ≡ sent_more pass.old item) }
+        ensures err { IfErr result (λ back. (back.item ≡ item) × (pass.new ≡ pass.old)) }
+    {
+        match self.items.push_as::<Put, R>(rt, &mut pass.items, item) {
+            Ok(()) => {
+                pass.count += 1;
+                Ok(())
+            }
+            Err(item) => Err(PutBack { item }),
+        }
+    }
+
+    /// Puts the lane's end mark, which tells the number of items that it sent.
+    pub fn end<R: Wait>(&self, rt: &R, pass: LanePass) -> LaneDone
+        requires { pass.mail ≡ self.now }
+        ensures { result ≡ pass }
+    {
+        let LanePass {
+            lane,
+            count,
+            items,
+            mut marks,
+        } = pass;
+        match self
+            .marks
+            .push_as::<Put, R>(rt, &mut marks, Mark { lane, count })
+        {
+            Ok(()) => LaneDone { lane, items, marks },
+            Err(_) => unreachable!(),
+        }
+    }
+
+    fn pop_item<R: Wait>(&self, rt: &R, pass: &mut InboxPass) -> Option<Item>
+        requires { pass.old.mail ≡ self.now }
+        ensures { MatchOption result (pass.new ≡ pass.old) (λ item. pass.new ≡ took_more pass.old item) }
+    {
+        let item = self.items.pop_as::<Get, R>(rt, &mut pass.items)?;
+        match item.lane {
+            Lane::First => pass.first_count += 1,
+            Lane::Second => pass.second_count += 1,
+        }
+        Some(item)
+    }
+
+    // Whether a mark was there.
+    fn pop_mark<R: Wait>(&self, rt: &R, pass: &mut InboxPass) -> bool
+        requires { pass.old.mail ≡ self.now }
+        ensures mail { pass.new.mail ≡ pass.old.mail }
+        ensures taken { pass.new.taken ≡ pass.old.taken }
+        ensures ends { EndsStay pass.old pass.new }
+    {
+        match self.marks.pop_as::<Get, R>(rt, &mut pass.marks) {
+            Some(mark) => {
+                match mark.lane {
+                    Lane::First => pass.first = Some(mark.count),
+                    Lane::Second => pass.second = Some(mark.count),
+                }
+                true
+            }
+            None => false,
+        }
+    }
+
+    /// The next item, or that both lanes have ended and each of their items was taken. It waits while neither is so.
+    ///
+    /// Items of one lane come in their order. End marks may come at any call, and tell how many items of the lane there are.
+    pub fn take<R: Wait>(&self, rt: &R, pass: &mut InboxPass) -> Taken
+        requires { pass.old.mail ≡ self.now }
+        ensures mail { pass.new.mail ≡ pass.old.mail }
+        ensures item { (item : Item) → result ≡ Taken.Item item → pass.new.taken ≡ pass.old.taken ++ item ∷ [] }
+        ensures ended { (result ≡ Taken.AllEnded) ↔ ((pass.new.taken ≡ pass.old.taken) × HasAll pass.new) }
+
+        // An end mark that came stays, and after the last item nothing changes any more.
+        ensures ends { EndsStay pass.old pass.new }
+        ensures at_end { HasAll pass.old → pass.new ≡ pass.old }
+    {
+        for _ in rt.forever() {
+            if pass.has_all() {
+                return Taken::AllEnded;
+            }
+            if let Some(item) = self.pop_item(rt, pass) {
+                return Taken::Item(item);
+            }
+            if !self.pop_mark(rt, pass) {
+                thread::yield_now();
+            }
+        }
+        unreachable!()
+    }
+
+    /// What was taken of each lane is what it sent, in its order, whole and once.
+    pub fn into_lists<R: Wait>(
+        self,
+        rt: &R,
+        inbox: InboxPass,
+        first: LaneDone,
+        second: LaneDone,
+    ) -> Lists
+        requires mail { (inbox.mail ≡ self) × (first.mail ≡ self) × (second.mail ≡ self) }
+        requires lanes { (first.lane ≡ Lane.First) × (second.lane ≡ Lane.Second) }
+        requires ended { HasAll inbox }
+        ensures first { (result.first ≡ first.sent) × (items_of Lane.First inbox.taken ≡ first.sent) }
+        ensures second { (result.second ≡ second.sent) × (items_of Lane.Second inbox.taken ≡ second.sent) }
+        ensures merge { IsMerge inbox.taken first.sent second.sent }
+    {
+        let Mail { items, marks } = self;
+        let InboxPass {
+            items: mut taken,
+            marks: mut ends,
+            first_count: _,
+            second_count: _,
+            first: _,
+            second: _,
+        } = inbox;
+        items.absorb::<Gather>(&mut taken, first.items);
+        items.len_as::<Whole, R>(rt, &mut taken);
+        marks.absorb::<Gather>(&mut ends, first.marks);
+        marks.learn_as::<Whole>(&mut ends);
+        items.absorb::<Gather>(&mut taken, second.items);
+        items.len_as::<Whole, R>(rt, &mut taken);
+        marks.absorb::<Gather>(&mut ends, second.marks);
+        marks.learn_as::<Whole>(&mut ends);
+        items.destroy();
+        Lists { items: taken }
+    }
+}

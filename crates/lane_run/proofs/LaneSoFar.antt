@@ -1,0 +1,131 @@
+-- How far a watcher has come, and what it has sent where its lane ends.
+use Rattle.std.proofs.Common.{◌≡◌, ℕ, ◌≤◌, Bool, List, [], ◌∷◌, ◌++◌, length, Option, Some, None, refl, sym, ap, ◌∙◌, arith}
+use Rattle.std.specs.Option.{option_map}
+use Rattle.std.proofs.lemmas.List.{append-nil}
+use Rattle.kube_model.specs.declared.event.Event.{Event}
+use Rattle.lane_mail.specs.declared.lane.Lane.{Lane}
+use Rattle.lane_mail.specs.declared.item.Item.{Item}
+use Rattle.lane_mail.specs.Values.{Sender}
+use Rattle.mlb_edge.specs.declared.lines.Line.{Line}
+use Rattle.mlb_edge.specs.Reading.{Reading}
+use Rattle.mlb_edge.specs.Rows.{HasNoNewline}
+use Rattle.mlb_edge.specs.InputLines.{Input, Ending, Whole, LongLine, LongInput, input_of, Follows, Follows-append, EndsAs, to_come, Passes}
+use Rattle.lane_run.specs.declared.lane_end.LaneEnd.{LaneEnd}
+use Rattle.lane_run.specs.declared.lane_end.LaneEnd.TheVariants.{Done, ReadFault, LineLimit, InputLimit, BadLine, NoMemory}
+use Rattle.lane_run.specs.LaneInputs.{AreItems, end_at, LaneInput, with_items, no_items, lane_input_from, lane_input}
+use Rattle.lane_run.specs.Steps.{SendsNext, EndsAt, IsBad}
+use Rattle.lane_run.specs.Views.{SourceView}
+use Rattle.lane_run.specs.Watched.{Begins, SendsRead, StopsAs, Sends, Ended}
+use Rattle.lane_run.proofs.Inputs.{items-push, input-behind}
+
+-- a reader that has read nothing
+abbrev pub fresh : Reading
+fresh = record { held = []; passed = 0; number = 0 }
+
+-- These lines were read, and their items sent.
+pub record Watching (belongs : Lane → Event → Bool) (lane : Lane) (start : Option (List ℕ)) (now : Option Input) (sent : List Item) : Type 0 where
+  pub done : List Line
+  pub are : AreItems belongs lane done sent
+  pub follows : Follows (option_map input_of start) done now
+
+begins_at : (start : Option (List ℕ)) → Follows (option_map input_of start) [] (to_come fresh start)
+begins_at None = tt
+begins_at (Some bytes) = (refl, refl)
+
+module _ (belongs : Lane → Event → Bool) (lane : Lane) where
+  pub begins : (start : Option (List ℕ)) → Watching belongs lane start (to_come fresh start) []
+  begins start = record { done = []; are = refl; follows = begins_at start }
+
+  pub goes_on : (start : Option (List ℕ)) (now next : Option Input) (old new : Sender) → Watching belongs lane start now old.sent → SendsNext belongs lane old new now next → Watching belongs lane start next new.sent
+  goes_on start now next old new w s = record {
+    done = w.done ++ s.line ∷ [];
+    are = rw (ap (λ (p : Sender). p.sent) s.sent) (items-push belongs lane w.done old.sent s.line s.item w.are s.is);
+    follows = Follows-append (option_map input_of start) now next w.done (s.line ∷ []) w.follows s.comes;
+  }
+
+  -- the lane's input, behind what was sent
+  input_is : (bytes : List ℕ) (now : Input) (done : List Line) (sent : List Item) → AreItems belongs lane done sent → Follows (Some (input_of bytes)) done (Some now)
+      → lane_input belongs lane bytes ≡ with_items sent (lane_input_from belongs lane now.lines now.ending)
+  input_is bytes now done sent are follows = rw (follows.0, follows.1) (input-behind belongs lane done now.lines now.ending sent are)
+
+  -- nothing comes behind what was sent
+  with_none : (sent : List Item) (end : LaneEnd) → record { items = sent; end = end } ≡ with_items sent (no_items end)
+  with_none sent end = rw (append-nil sent) refl
+
+  -- what was sent is a beginning
+  pub begins_so : (start : Option (List ℕ)) (now : Option Input) (sent : List Item) → Watching belongs lane start now sent → Begins belongs lane start sent
+  begins_so None now sent w = record {
+    input = lane_input_from belongs lane (w.done ++ []) Whole;
+    is = (w.done ++ [], Whole, refl);
+    begins = ([], ap (λ (i : LaneInput). i.items) (input-behind belongs lane w.done [] Whole sent w.are));
+  }
+  begins_so (Some bytes) None sent w = absurd w.follows
+  begins_so (Some bytes) (Some now) sent w = record {
+    input = lane_input belongs lane bytes;
+    is = refl;
+    begins = ((lane_input_from belongs lane now.lines now.ending).items, ap (λ (i : LaneInput). i.items) (input_is bytes now w.done sent w.are w.follows));
+  }
+
+  -- no line is left
+  stops : (start : Option (List ℕ)) (now : Option Input) (sent : List Item) (ending : Ending) → Watching belongs lane start now sent → EndsAs now ending → StopsAs belongs lane start sent (end_at ending)
+  stops None now sent ending w ends = (w.done ++ [], ending, with_none sent (end_at ending) ∙ sym (input-behind belongs lane w.done [] ending sent w.are))
+  stops (Some bytes) None sent ending w ends = absurd w.follows
+  stops (Some bytes) (Some now) sent ending w ends =
+      let whole : lane_input belongs lane bytes ≡ with_items sent (no_items (end_at ending)) =
+      input_is bytes now w.done sent w.are w.follows ∙ ap (λ (i : Input). with_items sent (lane_input_from belongs lane i.lines i.ending)) ends in
+      with_none sent (end_at ending) ∙ sym whole
+
+  -- the next line is none that the lane carries
+  stops_at : (start : Option (List ℕ)) (now next : Option Input) (sent : List Item) (number : ℕ) (bytes : List ℕ) → Watching belongs lane start now sent → IsBad belongs lane now next number bytes → StopsAs belongs lane start sent (BadLine number bytes)
+  stops_at None now next sent number bytes w bad =
+      let last : lane_input_from belongs lane (bad.line ∷ []) Whole ≡ no_items (BadLine number bytes) = rw (bad.none, bad.number_is, bad.bytes_are) refl in
+      (w.done ++ bad.line ∷ [], Whole, with_none sent (BadLine number bytes) ∙ (ap (with_items sent) (sym last) ∙ sym (input-behind belongs lane w.done (bad.line ∷ []) Whole sent w.are)))
+  stops_at (Some text) None next sent number bytes w bad = absurd w.follows
+  stops_at (Some text) (Some now) None sent number bytes w bad = absurd bad.comes
+  stops_at (Some text) (Some now) (Some next) sent number bytes w bad =
+      let last : lane_input_from belongs lane now.lines now.ending ≡ no_items (BadLine number bytes) = rw (bad.comes.0, bad.none, bad.number_is, bad.bytes_are) refl in
+      with_none sent (BadLine number bytes) ∙ (ap (with_items sent) (sym last) ∙ sym (input_is text now w.done sent w.are w.follows))
+
+  -- the source failed
+  sends_read : (start left : Option (List ℕ)) (r r' : Reading) (now : Option (List ℕ)) (sent : List Item) → Watching belongs lane start (to_come r now) sent → Follows (to_come r now) [] (to_come r' left)
+      → Passes fresh r' start left → HasNoNewline r'.held → SendsRead belongs lane start left sent
+  sends_read None left r r' now sent w same passes waits = (w.done, w.are)
+  sends_read (Some bytes) None r r' now sent w same passes waits = passes.eats
+  sends_read (Some bytes) (Some more) r r' now sent w same passes waits =
+      let follows : Follows (Some (input_of bytes)) (w.done ++ []) (to_come r' (Some more)) = Follows-append (Some (input_of bytes)) (to_come r now) (to_come r' (Some more)) w.done [] w.follows same in
+      let counted : r'.passed ≡ length passes.gone = omega (arith, passes.counted) in
+      record {
+        front = passes.gone;
+        rest = r'.held;
+        bytes_are = passes.eats ∙ ap (λ (t : List ℕ). t ++ more) passes.bytes;
+        waits = waits;
+        number = r'.number;
+        done = w.done;
+        lines_are = follows.0 ∙ rw (append-nil w.done, counted) refl;
+        are = w.are;
+      }
+
+  -- the lane ends
+  pub ended_by : (before now after : SourceView) (r r' : Reading) (sent : List Item) (end : LaneEnd) → Watching belongs lane before.left (to_come r now.left) sent → Passes fresh r' before.left after.left
+      → before.faults ≤ now.faults → EndsAt belongs lane (to_come r now.left) (to_come r' after.left) r'.held after.left now.faults after.faults end → Sends belongs lane before after sent end
+  ended_by before now after r r' sent Done w passes later e = (stops before.left (to_come r now.left) sent Whole w e.0, e.1)
+  ended_by before now after r r' sent ReadFault w passes later e = (sends_read before.left after.left r r' now.left sent w e.0 passes e.1, omega (arith, e.2, later))
+  ended_by before now after r r' sent (LineLimit number) w passes later e = stops before.left (to_come r now.left) sent (LongLine number) w e
+  ended_by before now after r r' sent InputLimit w passes later e = stops before.left (to_come r now.left) sent LongInput w e
+  ended_by before now after r r' sent (BadLine number bytes) w passes later e = stops_at before.left (to_come r now.left) (to_come r' after.left) sent number bytes w e
+  ended_by before now after r r' sent NoMemory w passes later e = tt
+
+  -- where nothing more is sent
+  pub ended_so : (before now after : SourceView) (r r' : Reading) (sent sent' : List Item) (end : LaneEnd) → Watching belongs lane before.left (to_come r now.left) sent → Passes fresh r' before.left after.left
+      → before.faults ≤ now.faults → now.name ≡ before.name → EndsAt belongs lane (to_come r now.left) (to_come r' after.left) r'.held after.left now.faults after.faults end → sent' ≡ sent → now.faults ≤ after.faults → after.name ≡ now.name
+      → Ended belongs lane before after sent' end
+  ended_so before now after r r' sent sent' end w passes later named e same later' named' = rw same (record {
+    sends = ended_by before now after r r' sent end w passes later e;
+    begins = begins_so before.left (to_come r now.left) sent w;
+    later = omega (arith, later, later');
+    named = named' ∙ named;
+  })
+
+  -- there was no memory for a reader
+  pub ended_unread : (view : SourceView) (sent : List Item) → sent ≡ [] → Ended belongs lane view view sent NoMemory
+  ended_unread view sent none = rw none (record { sends = tt; begins = begins_so view.left (to_come fresh view.left) [] (begins view.left); later = omega arith; named = refl })

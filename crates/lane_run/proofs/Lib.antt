@@ -1,0 +1,4 @@
+mod Inputs
+mod LaneSoFar
+mod DroveSoFar
+mod RanSo

@@ -1,0 +1,45 @@
+use Rattle.std.proofs.Common.{◌≡◌, ◌∷◌, [], ◌++◌, length, refl, ap, ◌∙◌, arith, length-append}
+use Rattle.lane_mail.specs.Values.{Sender}
+use Rattle.mlb_edge.specs.InputLines.{Passes-refl, Passes-append}
+use Rattle.lane_run.specs.Views.{source_view}
+use Rattle.lane_run.proofs.LaneSoFar.{begins, goes_on, ended_so}
+use Rattle.lane_run.proofs.watching.send_lines.Goals as goal
+
+pub lines-init : goal.lines-init
+lines-init g c = record {
+  mail = refl;
+  lane = refl;
+  watching = rw (c.requires.reader, c.requires.fresh) (begins g.L.Lanes.belongs c.args.lane (g.S.Source.left c.args.source.now));
+  passes = rw c.requires.reader (Passes-refl _ (g.S.Source.left c.args.source.now));
+  counted = rw c.requires.fresh (omega arith);
+  later = omega arith;
+  named = refl;
+}
+
+pub returns-in-Some-clause-ended : goal.returns-in-Some-clause-ended
+returns-in-Some-clause-ended g c =
+    let i = c.lines.invariant in
+    let left = g.S.Source.left in
+    let name = g.S.Source.name in
+    let faults = g.S.Source.faults in
+    let first = c.args.source.now in
+    let now = c.lines.source in
+    let after = c.send_next.new.source in
+    ended_so g.L.Lanes.belongs c.args.lane (source_view (left first) (name first) (faults first)) (source_view (left now) (name now) (faults now)) (source_view (left after) (name after) (faults after)) c.lines.reader c.send_next.new.reader
+    c.lines.pass.sent c.send_next.new.pass.sent c.in-Some.end i.watching (Passes-append _ c.lines.reader c.send_next.new.reader _ (left now) _ i.passes c.send_next.ensures.passes)
+    i.later i.named c.in-Some.ensures.ends (ap (λ (s : Sender). s.sent) c.in-Some.ensures.unsent) c.send_next.ensures.later c.send_next.ensures.name
+
+pub lines-preserved : goal.lines-preserved
+lines-preserved g c =
+    let i = c.lines.invariant in
+    let s = c.in_default.ensures.sends in
+    let more : c.send_next.new.pass.sent ≡ c.lines.pass.sent ++ s.item ∷ [] = ap (λ (s : Sender). s.sent) s.sent in
+    record {
+      mail = ap (λ (s : Sender). s.mail) s.sent ∙ i.mail;
+      lane = ap (λ (s : Sender). s.lane) s.sent ∙ i.lane;
+      watching = goes_on g.L.Lanes.belongs c.args.lane (g.S.Source.left c.args.source.now) _ _ c.lines.pass c.send_next.new.pass i.watching s;
+      passes = Passes-append _ c.lines.reader c.send_next.new.reader _ (g.S.Source.left c.lines.source) _ i.passes c.send_next.ensures.passes;
+      counted = omega (arith, i.counted, c.in_default.ensures.near.0, ap length more, length-append c.lines.pass.sent (s.item ∷ []));
+      later = omega (arith, i.later, c.send_next.ensures.later);
+      named = c.send_next.ensures.name ∙ i.named;
+    }

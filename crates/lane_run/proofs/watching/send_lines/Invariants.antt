@@ -1,0 +1,18 @@
+use Rattle.std.proofs.Common.{◌≡◌, ◌≤◌, ◌-◌, ◌^◌, length}
+use Rattle.mlb_edge.specs.InputLines.{to_come, Passes}
+use Rattle.lane_run.proofs.LaneSoFar.{fresh, Watching}
+use Rattle.lane_run.proofs.watching.send_lines.Given as goal
+
+abbrev pub invariant-lines : goal.invariant-lines
+invariant-lines g l = record {
+  mail : l.pass.mail ≡ l.fn.pass.mail;
+  lane : l.pass.lane ≡ l.fn.pass.lane;
+  watching : Watching g.L.Lanes.belongs l.lane (g.S.Source.left l.fn.source) (to_come l.reader (g.S.Source.left l.source)) l.pass.sent;
+  passes : Passes fresh l.reader (g.S.Source.left l.fn.source) (g.S.Source.left l.source);
+  counted : length l.pass.sent ≤ l.reader.passed;
+  later : g.S.Source.faults l.fn.source ≤ g.S.Source.faults l.source;
+  named : g.S.Source.name l.source ≡ g.S.Source.name l.fn.source;
+}
+
+abbrev pub decreases-lines : goal.decreases-lines
+decreases-lines g l = 2 ^ 40 - l.reader.passed

@@ -1,0 +1,37 @@
+-- What a reconciler makes of the items that it takes.
+use Rattle.std.specs.Prelude.{◌≡◌, List, [], ◌∷◌, ◌++◌, Result, Ok, Err, MatchResult}
+use Rattle.kube_model.specs.declared.status.Status.{Status}
+use Rattle.lane_mail.specs.declared.item.Item.{Item}
+use Rattle.lane_mail.specs.Values.{MailId, Receiver, HasAll}
+use Rattle.lane_run.specs.Views.{Outside}
+
+-- each of these items drives it, one after the other: they lead from one state to the other, and what is outside with them
+abbrev pub AreDriven : {S : Type 0} → (S → S → Item → Outside → Outside → Type 0) → List Item → S → S → Outside → Outside → Type 0
+AreDriven Drives [] s t before after = (t ≡ s) × (after ≡ before)
+AreDriven {S} Drives (item ∷ items) s t before after = (next : S) × (mid : Outside) × Drives s next item before mid × AreDriven Drives items next t mid after
+
+-- what is behind the driven items: nothing, or first the item that was refused
+abbrev pub Leaves : {S U : Type 0} → (Status → S → Item → Outside → Outside → Type 0) → Result U Status → List Item → S → S → Outside → Outside → Type 0
+Leaves Refuses (Ok done) behind s t before after = (behind ≡ []) × (t ≡ s) × (after ≡ before)
+Leaves Refuses (Err status) behind s t before after = (item : Item) × (more : List Item) × (behind ≡ item ∷ more) × Refuses status s item before after
+
+-- Of the items taken the first ones were driven: all, or those before the one that was refused.
+pub record Drove {S U : Type 0} (Drives : S → S → Item → Outside → Outside → Type 0) (Refuses : Status → S → Item → Outside → Outside → Type 0) (taken : List Item) (s t : S) (before after : Outside) (outcome : Result U Status) : Type 0 where
+  pub driven : List Item
+  pub behind : List Item
+  pub split : taken ≡ driven ++ behind
+  pub state : S
+  pub mid : Outside
+  pub drove : AreDriven Drives driven s state before mid
+  pub leaves : Leaves Refuses outcome behind state t mid after
+
+-- one item more: it is driven or refused, or dropped where one was refused before
+abbrev pub GoesOn : {S U : Type 0} → (S → S → Item → Outside → Outside → Type 0) → (Status → S → Item → Outside → Outside → Type 0) → (outcome outcome' : Result U Status) → Item → S → S → Outside → Outside → Type 0
+GoesOn Drives Refuses (Ok done) outcome' item s t before after = MatchResult outcome' (λ _. Drives s t item before after) (λ status. Refuses status s item before after)
+GoesOn Drives Refuses (Err status) outcome' item s t before after = (outcome' ≡ Err status) × (t ≡ s) × (after ≡ before)
+
+-- Both lanes have ended and each of their items was taken, and these were driven.
+pub record Reconciled {S U : Type 0} (Drives : S → S → Item → Outside → Outside → Type 0) (Refuses : Status → S → Item → Outside → Outside → Type 0) (mail : MailId) (inbox : Receiver) (s t : S) (before after : Outside) (outcome : Result U Status) : Type 0 where
+  pub mail_is : inbox.mail ≡ mail
+  pub ended : HasAll inbox
+  pub drove : Drove Drives Refuses inbox.taken s t before after outcome

@@ -1,0 +1,46 @@
+//! What is driven by the items of both lanes.
+ghost use Rattle.std.specs.Prelude.{OnOk, IfErr};
+ghost use Rattle.kube_model.specs.declared.status.Status.{Status};
+ghost use Rattle.lane_mail.specs.declared.item.Item.{Item};
+ghost use Rattle.lane_run.specs.Views.{Outside, outside, source_view};
+
+use kube_model::Status;
+use lane_mail::Item;
+use mlb_edge::{LineReader, Sink, Source};
+use std::alloc::Global;
+
+/// Is driven by items one after the other, and writes what comes of each. It may read replies meanwhile.
+pub trait Reconciler {
+    /// What its items lead from and to.
+    ghost State: { Type 0 };
+
+    /// The state that it has.
+    ghost state: { Self → State };
+
+    /// An item drives it from the one state to the other, and what is outside from the one to the other.
+    ghost Drives: { State → State → Item → Outside → Outside → Type 0 };
+
+    /// It refuses an item in this state with this status, and leads what is outside from the one to the other.
+    ghost Refuses: { Status → State → Item → Outside → Outside → Type 0 };
+
+    /// Is driven by the item, and writes what comes of it before it returns. `reader` reads the replies of
+    /// `input`. `Err` is the status that the run stops with.
+    fn take<I: Source, K: Sink>(
+        &mut self,
+        alloc: Global,
+        item: Item,
+        reader: &mut LineReader,
+        input: &mut I,
+        out: &mut K,
+    ) -> Result<(), Status>
+        ensures ok { OnOk result (Drives (state self.old) (state self.new) item
+            (outside reader.old (source_view (I.left input.old) (I.name input.old) (I.faults input.old))
+            (K.written out.old) (K.faults out.old))
+            (outside reader.new (source_view (I.left input.new) (I.name input.new) (I.faults input.new))
+            (K.written out.new) (K.faults out.new))) }
+        ensures err { IfErr result (λ status. Refuses status (state self.old) item
+            (outside reader.old (source_view (I.left input.old) (I.name input.old) (I.faults input.old))
+            (K.written out.old) (K.faults out.old))
+            (outside reader.new (source_view (I.left input.new) (I.name input.new) (I.faults input.new))
+            (K.written out.new) (K.faults out.new))) };
+}

@@ -1,0 +1,134 @@
+//! The run of two lanes: three threads, joined.
+ghost use Rattle.std.specs.Prelude.{◌≡◌, Ok, Err, IfOk, OnErr};
+ghost use Rattle.kube_model.specs.declared.status.Status.{Status};
+ghost use Rattle.lane_mail.specs.declared.lane.Lane.TheVariants.{First, Second};
+ghost use Rattle.lane_run.specs.Ran.{EndsSo, Ran, DrivesBeginnings, DrivesAll, DrivesInputs, RefusesNext};
+ghost use Rattle.lane_run.specs.Views.{outside, source_view};
+
+use crate::lane_end::LaneEnd;
+use crate::lane_run::LaneRun;
+use crate::lanes::Lanes;
+use crate::reconciler::Reconciler;
+use crate::threads::run_threads;
+use lane_mail::Mail;
+use mlb_base::NoMemory;
+use mlb_edge::{LineReader, Sink, Source};
+use std::alloc::Global;
+use std::sync::Wait;
+use std::thread::Threads;
+
+/// Drives the reconciler by the events of both sources' lines, in the order in which they come. Each lane's
+/// come in their order. `reader` reads the replies of `input` for the reconciler.
+///
+/// A lane that ends at a fault doesn't end the other, and what was sent before is still driven. Once the
+/// reconciler refuses an item it is driven by no other, and the lanes are read to their ends all the same.
+/// `Err` says that there was no memory for the mail, and then nothing was read or driven.
+pub fn run_lanes<
+    L: Lanes + Send,
+    M: Reconciler + Send,
+    R: Threads + Wait + Sync,
+    S: Source + Send,
+    I: Source + Send,
+    K: Sink + Send,
+>(
+    rt: &R,
+    alloc: Global,
+    first: &mut S,
+    second: &mut S,
+    machine: &mut M,
+    reader: &mut LineReader,
+    input: &mut I,
+    out: &mut K,
+) -> Result<LaneRun, NoMemory>
+    // What was driven, and how it ended: all that follows, of one list of items.
+    ensures ran { IfOk result (λ run. Ran L.belongs M.Drives M.Refuses
+        (source_view (S.left first.old) (S.name first.old) (S.faults first.old))
+        (source_view (S.left first.new) (S.name first.new) (S.faults first.new))
+        (source_view (S.left second.old) (S.name second.old) (S.faults second.old))
+        (source_view (S.left second.new) (S.name second.new) (S.faults second.new))
+        (M.state machine.old) (M.state machine.new)
+        (outside reader.old (source_view (I.left input.old) (I.name input.old) (I.faults input.old))
+        (K.written out.old) (K.faults out.old))
+        (outside reader.new (source_view (I.left input.new) (I.name input.new) (I.faults input.new))
+        (K.written out.new) (K.faults out.new)) run) }
+
+    // At every end the items driven are of each lane a beginning of its events, in order and each once.
+    ensures driven { IfOk result (λ run. DrivesBeginnings L.belongs M.Drives M.Refuses
+        (S.left first.old) (S.left second.old) (M.state machine.old) (M.state machine.new)
+        (outside reader.old (source_view (I.left input.old) (I.name input.old) (I.faults input.old))
+        (K.written out.old) (K.faults out.old))
+        (outside reader.new (source_view (I.left input.new) (I.name input.new) (I.faults input.new))
+        (K.written out.new) (K.faults out.new)) run.outcome) }
+
+    // Where nothing was refused, all that was sent was driven, also before a lane's fault.
+    ensures all { IfOk result (λ run. run.outcome ≡ Ok tt → DrivesAll L.belongs M.Drives
+        (source_view (S.left first.old) (S.name first.old) (S.faults first.old))
+        (source_view (S.left first.new) (S.name first.new) (S.faults first.new))
+        (source_view (S.left second.old) (S.name second.old) (S.faults second.old))
+        (source_view (S.left second.new) (S.name second.new) (S.faults second.new))
+        (M.state machine.old) (M.state machine.new)
+        (outside reader.old (source_view (I.left input.old) (I.name input.old) (I.faults input.old))
+        (K.written out.old) (K.faults out.old))
+        (outside reader.new (source_view (I.left input.new) (I.name input.new) (I.faults input.new))
+        (K.written out.new) (K.faults out.new)) run.first run.second) }
+
+    // Where nothing was refused and both lanes are done, a merge of both inputs' events was driven.
+    ensures done { IfOk result (λ run. run.outcome ≡ Ok tt → run.first ≡ LaneEnd.Done → run.second ≡ LaneEnd.Done
+        → DrivesInputs L.belongs M.Drives (S.left first.old) (S.left second.old)
+        (M.state machine.old) (M.state machine.new)
+        (outside reader.old (source_view (I.left input.old) (I.name input.old) (I.faults input.old))
+        (K.written out.old) (K.faults out.old))
+        (outside reader.new (source_view (I.left input.new) (I.name input.new) (I.faults input.new))
+        (K.written out.new) (K.faults out.new))) }
+
+    // A refusal is that of the item behind the driven ones.
+    ensures refused { IfOk result (λ run. (status : Status) → run.outcome ≡ Err status
+        → RefusesNext L.belongs M.Drives M.Refuses (S.left first.old) (S.left second.old)
+        (M.state machine.old)
+        (outside reader.old (source_view (I.left input.old) (I.name input.old) (I.faults input.old))
+        (K.written out.old) (K.faults out.old))
+        (outside reader.new (source_view (I.left input.new) (I.name input.new) (I.faults input.new))
+        (K.written out.new) (K.faults out.new)) status) }
+
+    // How each lane ends.
+    ensures first { IfOk result (λ run. EndsSo L.belongs First
+        (source_view (S.left first.old) (S.name first.old) (S.faults first.old))
+        (source_view (S.left first.new) (S.name first.new) (S.faults first.new)) run.first) }
+    ensures second { IfOk result (λ run. EndsSo L.belongs Second
+        (source_view (S.left second.old) (S.name second.old) (S.faults second.old))
+        (source_view (S.left second.new) (S.name second.new) (S.faults second.new)) run.second) }
+
+    // For want of memory nothing was done.
+    ensures unread { OnErr result ((first.new ≡ first.old) × (second.new ≡ second.old)) }
+    ensures undriven { OnErr result ((machine.new ≡ machine.old) × (reader.new ≡ reader.old)
+        × (input.new ≡ input.old) × (out.new ≡ out.old)) }
+{
+    let (mail, first_pass, second_pass, mut inbox) = Mail::new(alloc)?;
+    let (outcome, (first_done, first_end), (second_done, second_end)) = run_threads::<
+        L,
+        M,
+        R,
+        S,
+        I,
+        K,
+    >(
+        rt,
+        alloc,
+        &mail,
+        first_pass,
+        second_pass,
+        &mut inbox,
+        first,
+        second,
+        machine,
+        reader,
+        input,
+        out,
+    );
+    mail.into_lists(rt, inbox, first_done, second_done);
+    Ok(LaneRun {
+        outcome,
+        first: first_end,
+        second: second_end,
+    })
+}

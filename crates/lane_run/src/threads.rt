@@ -1,0 +1,106 @@
+//! The three threads.
+ghost use Rattle.std.specs.Prelude.{◌≡◌, []};
+ghost use Rattle.std.specs.Thread.{IsSync};
+ghost use Rattle.lane_mail.specs.declared.lane.Lane.TheVariants.{First, Second};
+ghost use Rattle.lane_run.specs.Reconciled.{Reconciled};
+ghost use Rattle.lane_run.specs.Views.{outside, source_view};
+ghost use Rattle.lane_run.specs.Watched.{CanWatch, Watched};
+
+use crate::lane_end::LaneEnd;
+use crate::lanes::Lanes;
+use crate::reconciler::Reconciler;
+use crate::reconciling::reconcile;
+use crate::watching::watch;
+use kube_model::Status;
+use lane_mail::{InboxPass, Lane, LaneDone, LanePass, Mail};
+use mlb_edge::{LineReader, Sink, Source};
+use std::alloc::Global;
+use std::sync::Wait;
+use std::thread::{Threads, join_mut};
+
+/// What a watcher leaves: what is left of its lane, and how it ended.
+pub(crate) type Watch = (LaneDone, LaneEnd);
+
+/// Joins the two watchers and the reconciler. Where no thread can be made they run one after another, the
+/// watchers first.
+pub(crate) fn run_threads<
+    L: Lanes + Send,
+    M: Reconciler + Send,
+    R: Threads + Wait + Sync,
+    S: Source + Send,
+    I: Source + Send,
+    K: Sink + Send,
+>(
+    rt: &R,
+    alloc: Global,
+    mail: &Mail,
+    first_pass: LanePass,
+    second_pass: LanePass,
+    inbox: &mut InboxPass,
+    first: &mut S,
+    second: &mut S,
+    machine: &mut M,
+    reader: &mut LineReader,
+    input: &mut I,
+    out: &mut K,
+) -> (Result<(), Status>, Watch, Watch)
+    requires first { (first_pass.mail ≡ mail.now) × (first_pass.lane ≡ First) × (first_pass.sent ≡ []) }
+    requires second { (second_pass.mail ≡ mail.now) × (second_pass.lane ≡ Second) × (second_pass.sent ≡ []) }
+    requires inbox { (inbox.old.mail ≡ mail.now) × (inbox.old.taken ≡ []) }
+    ensures inbox { Reconciled M.Drives M.Refuses mail.now inbox.new (M.state machine.old) (M.state machine.new)
+        (outside reader.old (source_view (I.left input.old) (I.name input.old) (I.faults input.old))
+        (K.written out.old) (K.faults out.old))
+        (outside reader.new (source_view (I.left input.new) (I.name input.new) (I.faults input.new))
+        (K.written out.new) (K.faults out.new)) result.0 }
+    ensures first { Watched L.belongs mail.now First
+        (source_view (S.left first.old) (S.name first.old) (S.faults first.old))
+        (source_view (S.left first.new) (S.name first.new) (S.faults first.new))
+        result.1.0 result.1.1 }
+    ensures second { Watched L.belongs mail.now Second
+        (source_view (S.left second.old) (S.name second.old) (S.faults second.old))
+        (source_view (S.left second.new) (S.name second.new) (S.faults second.new))
+        result.2.0 result.2.1 }
+{
+    let (mut first_slot, mut second_slot) = (Some(first_pass), Some(second_pass));
+    let (outcome, (second_end, first_end)) = join_mut(
+        rt,
+        &mut || -> Result<(), Status>
+            requires { (inbox.now.mail ≡ mail.now) × (inbox.now.taken ≡ []) }
+            ensures { Reconciled M.Drives M.Refuses mail.entry.now inbox.exit.now (M.state machine.entry.now) (M.state machine.exit.now)
+                (outside reader.entry.now (source_view (I.left input.entry.now) (I.name input.entry.now) (I.faults input.entry.now))
+                (K.written out.entry.now) (K.faults out.entry.now))
+                (outside reader.exit.now (source_view (I.left input.exit.now) (I.name input.exit.now) (I.faults input.exit.now))
+                (K.written out.exit.now) (K.faults out.exit.now)) result }
+        { reconcile::<M, R, I, K>(rt, alloc, mail, inbox, machine, reader, input, out) },
+        &mut || -> (Watch, Watch)
+            requires { IsSync R.row × CanWatch mail.now First first_slot × CanWatch mail.now Second second_slot }
+            ensures { Watched L.belongs mail.entry.now Second
+                (source_view (S.left second.entry.now) (S.name second.entry.now) (S.faults second.entry.now))
+                (source_view (S.left second.exit.now) (S.name second.exit.now) (S.faults second.exit.now))
+                result.0.0 result.0.1
+                × Watched L.belongs mail.entry.now First
+                (source_view (S.left first.entry.now) (S.name first.entry.now) (S.faults first.entry.now))
+                (source_view (S.left first.exit.now) (S.name first.exit.now) (S.faults first.exit.now))
+                result.1.0 result.1.1 }
+        {
+            join_mut(
+                rt,
+                &mut || -> Watch
+                    requires { CanWatch mail.now Second second_slot }
+                    ensures { Watched L.belongs mail.entry.now Second
+                        (source_view (S.left second.entry.now) (S.name second.entry.now) (S.faults second.entry.now))
+                        (source_view (S.left second.exit.now) (S.name second.exit.now) (S.faults second.exit.now))
+                        result.0 result.1 }
+                { watch::<L, R, S>(rt, alloc, Lane::Second, mail, &mut second_slot, second) },
+                &mut || -> Watch
+                    requires { CanWatch mail.now First first_slot }
+                    ensures { Watched L.belongs mail.entry.now First
+                        (source_view (S.left first.entry.now) (S.name first.entry.now) (S.faults first.entry.now))
+                        (source_view (S.left first.exit.now) (S.name first.exit.now) (S.faults first.exit.now))
+                        result.0 result.1 }
+                { watch::<L, R, S>(rt, alloc, Lane::First, mail, &mut first_slot, first) },
+            )
+        },
+    );
+    (outcome, first_end, second_end)
+}

@@ -1,0 +1,149 @@
+//! A watcher: it reads the lines of a source, and sends their events.
+ghost use Rattle.std.specs.Prelude.{◌≡◌, ◌≤◌, ◌<◌, ◌^◌, [], length, IfSome, IfNone, IsTrue, not};
+ghost use Rattle.lane_mail.specs.Values.{sent_more};
+ghost use Rattle.mlb_edge.specs.InputLines.{Passes, to_come};
+ghost use Rattle.lane_run.specs.Steps.{SendsNext, EndsAt};
+ghost use Rattle.lane_run.specs.Watched.{Ended, CanWatch, Watched};
+ghost use Rattle.lane_run.specs.Views.{source_view};
+
+use crate::lane_end::{LaneEnd, end_of};
+use crate::lanes::Lanes;
+use crate::line_items::item_of_line;
+use lane_mail::{Item, Lane, LaneDone, LanePass, Mail};
+use mlb_edge::{LineReader, Source};
+use std::alloc::Global;
+use std::sync::Wait;
+
+/// Sends the item, and answers whether there was memory for it.
+fn put_item<R: Wait>(rt: &R, mail: &Mail, pass: &mut LanePass, item: Item) -> bool
+    requires mail { pass.old.mail ≡ mail.now }
+    requires lane { item.lane ≡ pass.old.lane }
+    requires room { length pass.old.sent < 2 ^ 61 }
+    ensures sent { IsTrue result → pass.new ≡ sent_more pass.old item }
+    ensures unsent { IsTrue (not result) → pass.new ≡ pass.old }
+{
+    match mail.put(rt, pass, item) {
+        Ok(()) => true,
+        Err(back) => {
+            drop(back);
+            false
+        }
+    }
+}
+
+/// Reads one line and sends its event. `Some` says how the lane ended, and then nothing was sent.
+fn send_next<L: Lanes, R: Wait, S: Source>(
+    rt: &R,
+    alloc: Global,
+    lane: Lane,
+    mail: &Mail,
+    pass: &mut LanePass,
+    reader: &mut LineReader,
+    source: &mut S,
+) -> Option<LaneEnd>
+    requires mail { pass.old.mail ≡ mail.now }
+    requires lane { pass.old.lane ≡ lane }
+    requires room { length pass.old.sent ≤ reader.old.passed }
+    ensures sends { IfNone result (SendsNext L.belongs lane pass.old pass.new
+        (to_come reader.old (S.left source.old)) (to_come reader.new (S.left source.new))) }
+    ensures ends { IfSome result (λ end. EndsAt L.belongs lane
+        (to_come reader.old (S.left source.old)) (to_come reader.new (S.left source.new))
+        reader.new.held (S.left source.new) (S.faults source.old) (S.faults source.new) end) }
+    ensures unsent { IfSome result (λ _. pass.new ≡ pass.old) }
+    ensures passes { Passes reader.old reader.new (S.left source.old) (S.left source.new) }
+    ensures near { IfNone result
+        ((reader.old.passed < reader.new.passed) × (reader.new.passed ≤ 2 ^ 40)) }
+    ensures later { S.faults source.old ≤ S.faults source.new }
+    ensures name { S.name source.new ≡ S.name source.old }
+{
+    let line = match reader.next_line(source) {
+        Ok(Some(line)) => line,
+        Ok(None) => return Some(LaneEnd::Done),
+        Err(end) => return Some(end_of(end)),
+    };
+    let item = match item_of_line::<L>(alloc, lane, line) {
+        Ok(item) => item,
+        Err(end) => return Some(end),
+    };
+    if put_item(rt, mail, pass, item) {
+        None
+    } else {
+        Some(LaneEnd::NoMemory)
+    }
+}
+
+/// Sends the events of the lines, one after the other, until the lane ends.
+fn send_lines<L: Lanes, R: Wait, S: Source>(
+    rt: &R,
+    alloc: Global,
+    lane: Lane,
+    mail: &Mail,
+    pass: &mut LanePass,
+    reader: &mut LineReader,
+    source: &mut S,
+) -> LaneEnd
+    requires mail { pass.old.mail ≡ mail.now }
+    requires lane { pass.old.lane ≡ lane }
+    requires fresh { pass.old.sent ≡ [] }
+    requires reader { reader.old ≡ record { held = []; passed = 0; number = 0 } }
+    ensures mail { pass.new.mail ≡ pass.old.mail }
+    ensures lane { pass.new.lane ≡ pass.old.lane }
+    ensures ended { Ended L.belongs lane
+        (source_view (S.left source.old) (S.name source.old) (S.faults source.old))
+        (source_view (S.left source.new) (S.name source.new) (S.faults source.new))
+        pass.new.sent result }
+{
+    'lines: loop {
+        if let Some(end) = send_next::<L, R, S>(rt, alloc, lane, mail, pass, reader, source) {
+            return end;
+        }
+    }
+}
+
+/// Sends the events of the source, with a reader of its own.
+fn send_source<L: Lanes, R: Wait, S: Source>(
+    rt: &R,
+    alloc: Global,
+    lane: Lane,
+    mail: &Mail,
+    pass: &mut LanePass,
+    source: &mut S,
+) -> LaneEnd
+    requires mail { pass.old.mail ≡ mail.now }
+    requires lane { pass.old.lane ≡ lane }
+    requires fresh { pass.old.sent ≡ [] }
+    ensures mail { pass.new.mail ≡ pass.old.mail }
+    ensures lane { pass.new.lane ≡ pass.old.lane }
+    ensures ended { Ended L.belongs lane
+        (source_view (S.left source.old) (S.name source.old) (S.faults source.old))
+        (source_view (S.left source.new) (S.name source.new) (S.faults source.new))
+        pass.new.sent result }
+{
+    let Ok(mut reader) = LineReader::new(alloc) else {
+        return LaneEnd::NoMemory;
+    };
+    send_lines::<L, R, S>(rt, alloc, lane, mail, pass, &mut reader, source)
+}
+
+/// Sends the events of the source's lines until the input ends or something stops it, and then puts the
+/// lane's end mark. The lane's pass is taken out of its slot.
+pub(crate) fn watch<L: Lanes, R: Wait, S: Source>(
+    rt: &R,
+    alloc: Global,
+    lane: Lane,
+    mail: &Mail,
+    slot: &mut Option<LanePass>,
+    source: &mut S,
+) -> (LaneDone, LaneEnd)
+    requires { CanWatch mail.now lane slot.old }
+    ensures { Watched L.belongs mail.now lane
+        (source_view (S.left source.old) (S.name source.old) (S.faults source.old))
+        (source_view (S.left source.new) (S.name source.new) (S.faults source.new))
+        result.0 result.1 }
+{
+    let Some(mut pass) = slot.take() else {
+        unreachable!();
+    };
+    let end = send_source::<L, R, S>(rt, alloc, lane, mail, &mut pass, source);
+    (mail.end(rt, pass), end)
+}

@@ -1,0 +1,7 @@
+//! The mail of two lanes, step by step. This crate has tests alone.
+#![tactic(auto)]
+
+#[cfg(test)]
+mod shared;
+#[cfg(test)]
+mod steps;

@@ -14,6 +14,8 @@ use Rattle.std.specs.Ordering.{match_ordering, nat_cmp}
 use Rattle.std.specs.Str.{bytes_eq}
 use Rattle.pool_config.specs.KeySets.{keys_with}
 use Rattle.pool_config.proofs.KeySets.{ascending-keys_with}
+use Rattle.ip_ranges.specs.declared.family.Family.TheVariants.{V4}
+use Rattle.ip_ranges.specs.Values.{masked}
 use Rattle.bgp_updates.specs.Message.{announce_message, withdraw_message}
 use Rattle.bgp_updates.specs.Tables.{IsV4}
 use Rattle.bgp_reading.specs.declared.parts.UpdateParts.{UpdateParts}
@@ -32,16 +34,19 @@ multiple q size some =
     let plain : q * size ≡ 0 + q * size = omega arith in
     ap (λ n. n % size) plain ∙ add-mul-mod_self_right 0 q size ∙ mod-eq_of_lt some
 
-prefix-v4 : (bits : ℕ) (octets : List ℕ) → bits ≤ 32 → AreOctets octets → IsV4 (prefix_in bits octets)
-prefix-v4 bits octets short all =
-    let n = number_at 0 octets in
+-- an IPv4 address without its bits past a length
+pub masked-v4 : (n bits : ℕ) → bits ≤ 32 → n < 2 ^ 32 → IsV4 (masked (record { family = V4; number = n }) bits)
+masked-v4 n bits short fits =
     let size = 2 ^ (32 - bits) in
     record {
       v4 = refl;
       short = short;
-      fits = below n size (2 ^ 32) (number_at-fits 0 octets all);
+      fits = below n size (2 ^ 32) fits;
       masked = multiple (n / size) size (pow_pos (32 - bits));
     }
+
+prefix-v4 : (bits : ℕ) (octets : List ℕ) → bits ≤ 32 → AreOctets octets → IsV4 (prefix_in bits octets)
+prefix-v4 bits octets short all = masked-v4 (number_at 0 octets) bits short (number_at-fits 0 octets all)
 
 behind-v4 : (left : ℕ) (bytes : List ℕ) → AreOctets bytes → AllByRecursion IsV4 (prefixes_behind left bytes)
 behind-v4 zero [] all = tt

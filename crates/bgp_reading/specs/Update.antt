@@ -53,3 +53,17 @@ pub record IsAnnouncement (parts : UpdateParts) (bytes : List ℕ) : Type 0 wher
 pub record IsUpdate (parts : UpdateParts) (bytes : List ℕ) : Type 0 where
   pub form : IsWithdrawal parts bytes ⊎ IsAnnouncement parts bytes
   pub short : length bytes ≤ 4096
+
+-- withdrawn routes alone
+abbrev pub IsWithdrawnIn : List ℕ → Type 0
+IsWithdrawnIn bytes = (prefixes : List PrefixValue) × ArePrefixes prefixes × (bytes ≡ withdraw_message prefixes)
+
+-- one group of announced routes, with the sender's AS number and next hop
+abbrev pub IsAnnouncedBy : Peering → List ℕ → Type 0
+IsAnnouncedBy sender bytes =
+    (terms : Terms) × (prefixes : List PrefixValue) × AreValues sender terms × IsTold sender terms × ArePrefixes prefixes × (bytes ≡ announce_message sender terms prefixes)
+
+-- the octets, at most 4,096 (section 4.1), are one message of this sender
+pub record IsMessageOf (sender : Peering) (bytes : List ℕ) : Type 0 where
+  pub form : IsWithdrawnIn bytes ⊎ IsAnnouncedBy sender bytes
+  pub short : length bytes ≤ 4096

@@ -10,6 +10,8 @@ mod prefixes;
 mod reading;
 mod spelling;
 
-pub use laws::{messages_are_computed, messages_say_one_thing, updates_are_received};
+pub use laws::{
+    messages_are_computed, messages_say_one_thing, tables_are_received, updates_are_received,
+};
 pub use parts::{UpdateFault, UpdateParts};
 pub use reading::read_update;

@@ -29,7 +29,7 @@ use Rattle.bgp_routes.proofs.Stated.{Ordered, contributions-v4, routes-stated}
 
 -- ---- what united terms tell
 
-in_united : (a b : List ℕ) (n : ℕ) → IsIn (united a b) n → IsIn a n ⊎ IsIn b n
+pub in_united : (a b : List ℕ) (n : ℕ) → IsIn (united a b) n → IsIn a n ⊎ IsIn b n
 in_united a b n there = elim (in_keys nat_cmp_total exact_unsigned (ascending_with [] a) b n there) [
   | inl first ↦ elim (in_keys nat_cmp_total exact_unsigned [] a n first) [ inl none ↦ absurd none | inr one ↦ inl one ]
   | inr second ↦ inr second

@@ -25,11 +25,11 @@ use Rattle.bgp_routes.proofs.Elements.{routes-unite}
 use Rattle.bgp_routes.proofs.Listing.{contributions-listed}
 use Rattle.limited_view.specs.Limited.{HasNumber, IsLimited}
 
-all-from : {A : Type 0} (P : A → Type 0) (xs : List A) → ((x : A) → IsIn xs x → P x) → AllByRecursion P xs
+pub all-from : {A : Type 0} (P : A → Type 0) (xs : List A) → ((x : A) → IsIn xs x → P x) → AllByRecursion P xs
 all-from P [] each = tt
 all-from P (x ∷ xs) each = (each x (inl refl), all-from P xs (λ y there. each y (inr there)))
 
-each-of : {A : Type 0} (P : A → Type 0) (xs : List A) (x : A) → AllByRecursion P xs → IsIn xs x → P x
+pub each-of : {A : Type 0} (P : A → Type 0) (xs : List A) (x : A) → AllByRecursion P xs → IsIn xs x → P x
 each-of P [] x all none = absurd none
 each-of P (y ∷ xs) x all (inl here) = subst P here all.0
 each-of P (y ∷ xs) x all (inr later) = each-of P xs x all.1 later
@@ -47,7 +47,7 @@ no-numbers : IsStrictlySortedBy nat_cmp []
 unfolding IsStrictlySortedBy
 no-numbers = tt
 
-united-ascend : (a b : List ℕ) → IsStrictlySortedBy nat_cmp (united a b)
+pub united-ascend : (a b : List ℕ) → IsStrictlySortedBy nat_cmp (united a b)
 united-ascend a b = ascending-keys_with nat_cmp_total exact_unsigned (ascending_with [] a) b (ascending-keys_with nat_cmp_total exact_unsigned [] a no-numbers)
 
 one-ascends : (routes : List (PrefixValue × Terms)) (c : PrefixValue × Terms) → AllByRecursion Ascends routes → Ascends c → AllByRecursion Ascends (with_contribution routes c)

@@ -1,5 +1,5 @@
 -- Every event keeps the limit: a configuration comes into force by being compiled.
-use Rattle.std.proofs.Common.{◌≡◌, ℕ, List, Bool, true, false, cond, Option, Some, None, Result, Ok, Err, refl, sym, ap, ◌∙◌, subst}
+use Rattle.std.proofs.Common.{◌≡◌, ℕ, List, Bool, true, false, cond, Option, Some, None, Result, Ok, Err, refl, sym, subst}
 use Rattle.kube_model.specs.declared.config_fault.ConfigFault.{ConfigFault}
 use Rattle.kube_model.specs.declared.event.Event.{Event}
 use Rattle.object_history.specs.Observations.{Watched}
@@ -12,16 +12,18 @@ use Rattle.speaker_view.specs.View.{fresh, view_after}
 use Rattle.limited_view.specs.Limited.{IsLimitedConfig, IsLimited}
 use Rattle.limited_view.proofs.Few.{compiled-limited}
 
-abbrev Limited : Option ConfigValue → Type 0
-Limited config = (c : ConfigValue) → config ≡ Some c → IsLimitedConfig c
+-- what holds of a configuration that these objects are compiled to, and of the one in force before, holds of the one in force
+module _ (P : ConfigValue → Type 0) where
+  abbrev InForce : Option ConfigValue → Type 0
+  InForce config = (c : ConfigValue) → config ≡ Some c → P c
 
-forced-few : (s : ObjectSet) (before : Option ConfigValue) (r : Result ConfigValue ConfigFault) → compiled s ≡ r → Limited before → Limited (in_force before r)
-forced-few s before (Ok config) is few c e = let same : config ≡ c = cc in compiled-limited s c (is ∙ ap (λ (x : ConfigValue). Ok x) same)
-forced-few s before (Err fault) is few c e = few c e
+  forced-force : (s : ObjectSet) (before : Option ConfigValue) (r : Result ConfigValue ConfigFault) → r ≡ compiled s → ((c : ConfigValue) → compiled s ≡ Ok c → P c) → InForce before → InForce (in_force before r)
+  forced-force s before (Ok config) is made held c e = let same : config ≡ c = cc in subst P same (made config (sym is))
+  forced-force s before (Err fault) is made held c e = held c e
 
-after-few : (b : Bool) (s : ObjectSet) (before : Option ConfigValue) → Limited before → Limited (cond b (in_force before (compiled s)) before)
-after-few true s before few = forced-few s before (compiled s) refl few
-after-few false s before few = few
+  pub kept-force : (b : Bool) (s : ObjectSet) (before : Option ConfigValue) → ((c : ConfigValue) → compiled s ≡ Ok c → P c) → InForce before → InForce (cond b (in_force before (compiled s)) before)
+  kept-force true s before made held = forced-force s before (compiled s) refl made held
+  kept-force false s before made held = held
 
 -- nothing is in force at first
 pub fresh_limited : (class : Option (List ℕ)) → IsLimited (fresh class)
@@ -29,4 +31,5 @@ fresh_limited class c e = absurd (let none : None ≡ Some c = e in cc)
 
 pub after_limited : (event : Event) (v : ViewValue) → IsLimited v → IsLimited (view_after event v)
 after_limited event v few =
-    after-few (compiles v.held.objects v.held.config_ended (Watched event)) (objects_after (Watched event) v.held.objects) v.held.config few
+    let after = objects_after (Watched event) v.held.objects in
+    kept-force IsLimitedConfig (compiles v.held.objects v.held.config_ended (Watched event)) after v.held.config (compiled-limited after) few

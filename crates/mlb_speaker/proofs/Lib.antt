@@ -4,3 +4,4 @@ pub mod Meant
 pub mod Steps
 pub mod Tables
 pub mod Telling
+pub mod Heard

@@ -169,20 +169,21 @@ module _ (a : AddressValue) where
 
 -- ---- runs
 
--- a line that is taken is an event that is applied
-pub record Applies (s t : SpeakerState) (entries : List Entry) : Type 0 where
+-- a line that is taken is read as an event, which is applied
+pub record Applies (read : Result Event EventFault) (s t : SpeakerState) (entries : List Entry) : Type 0 where
   pub event : Event
+  pub reads : read ≡ Ok event
   pub leads : t ≡ state_after s event
   pub tells : entries ≡ entries_of s event
 
-limit_applies : (o : Option (Kind × ℕ)) (s t : SpeakerState) (event : Event) (entries : List Entry) → limit_step s event o ≡ Goes t entries → Applies s t entries
+limit_applies : (o : Option (Kind × ℕ)) (s t : SpeakerState) (event : Event) (entries : List Entry) → limit_step s event o ≡ Goes t entries → Applies (Ok event) s t entries
 limit_applies None s t event entries e =
     let leads : t ≡ state_after s event = cc in
     let tells : entries ≡ entries_of s event = cc in
-    record { event = event; leads = leads; tells = tells }
+    record { event = event; reads = refl; leads = leads; tells = tells }
 limit_applies (Some p) s t event entries e = absurd (cc)
 
-pub event_applies : (read : Result Event EventFault) (s t : SpeakerState) (line : Line) (entries : List Entry) → event_step s line read ≡ Goes t entries → Applies s t entries
+pub event_applies : (read : Result Event EventFault) (s t : SpeakerState) (line : Line) (entries : List Entry) → event_step s line read ≡ Goes t entries → Applies read s t entries
 event_applies (Err fault) s t line entries e = absurd (cc)
 event_applies (Ok event) s t line entries e = limit_applies (limit_by s.view event) s t event entries e
 
@@ -298,7 +299,7 @@ module _ (a : AddressValue) where
   stands-told told h = told_of told (stands_cases told false h)
 
 -- the station stays
-station_kept : (lines : List Line) (s t : SpeakerState) (entries : List Entry) → AreTaken speaker_rules lines s t entries → t.station ≡ s.station
+pub station_kept : (lines : List Line) (s t : SpeakerState) (entries : List Entry) → AreTaken speaker_rules lines s t entries → t.station ≡ s.station
 station_kept [] s t entries taken = ap (λ (u : SpeakerState). u.station) taken.0
 station_kept (line ∷ lines) s t entries (next, first, rest, goes, others, is) =
     station_kept lines next t rest others ∙ ap (λ (u : SpeakerState). u.station) (event_applies (event_of_line line.bytes) s next line first goes).leads

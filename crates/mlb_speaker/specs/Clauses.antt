@@ -4,8 +4,9 @@ use Rattle.kube_model.specs.declared.status.Status.{Status}
 use Rattle.kube_model.specs.declared.status.Status.TheVariants.{Usage}
 use Rattle.command_options.specs.Options.{texts_of}
 use Rattle.line_run.specs.Clauses as run
-use Rattle.line_run.specs.Written as written
+use Rattle.line_run.specs.RunOutput as written
 use Rattle.mlb_speaker.specs.Stream.{SpeakerState, first_state, speaker_rules, IsCause}
+use Rattle.mlb_speaker.specs.Heard as heard
 use Rattle.mlb_speaker.specs.Meant as meant
 use Rattle.mlb_speaker.specs.Told as told
 use Rattle.speaker_words.specs.Reading.{said_in}
@@ -28,7 +29,7 @@ begun_by words = begun_with (said_in (texts_of words))
 abbrev pub CanEnd : Status → Type 0
 CanEnd status = (status ≡ Usage) ⊎ run.CanEnd IsCause status
 
--- the run is that of what the words say: the node, the class, the interfaces
+-- the run is that of what the words say: the node, the class, the interfaces and the next hop
 abbrev pub SpeaksForNamed : {Z : Type 0} → List (String Z) → Type 0
 SpeaksForNamed words = (said : Said) → Say (texts_of words) said → begun_by words ≡ first_state said
 
@@ -71,6 +72,11 @@ TellsWhatIsAnnounced words = told.TellsWhatIsAnnounced (begun_by words)
 -- each frame that is sent says, unasked or as an answer, that an interface's hardware address has an address for which the node listens on it
 abbrev pub SendsWhatIsMeant : {Z : Type 0} → List (String Z) → Type 0
 SendsWhatIsMeant words = meant.SendsWhatIsMeant (begun_by words)
+
+-- after each line of a run, with a next hop, what a peer of the configuration in force was told since it came, or since its AS numbers last
+-- changed, makes its routes of the empty table
+abbrev pub TellsPeersTheirRoutes : {Z : Type 0} → List (String Z) → Type 0
+TellsPeersTheirRoutes words = heard.HearsItsRoutes (begun_by words)
 
 abbrev pub IsExact : {Z : Type 0} → List (String Z) → Status → Option (List ℕ) → Type 0
 IsExact words status left = AreKnown (texts_of words) → run.IsExact speaker_rules (begun_by words) status left

@@ -2,7 +2,7 @@
 use Rattle.std.specs.Prelude.{ℕ, not, List, [], ◌∷◌, ◌++◌, map, filter}
 use Rattle.std.specs.List.{flat_map}
 use Rattle.ip_ranges.specs.Values.{AddressValue, has_address}
-use Rattle.kube_lines.specs.Lines.{accepted_text, refused_text, announce_text, withdraw_text, send_text, update_text}
+use Rattle.kube_lines.specs.OutputLines.{accepted_text, refused_text, announce_text, withdraw_text, send_text, update_text}
 use Rattle.object_cache.specs.declared.change.TakeNote.{TakeNote}
 use Rattle.object_cache.specs.declared.change.TakeNote.TheVariants.{Quiet, Accepted, Refused}
 use Rattle.speaker_view.specs.ViewValue.{ViewValue}

@@ -2,6 +2,7 @@ pub mod Announced
 pub mod Causes
 pub mod Clauses
 pub mod Entries
+pub mod Heard
 pub mod Meant
 pub mod PeerTables
 pub mod Seen

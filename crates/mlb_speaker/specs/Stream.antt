@@ -25,7 +25,7 @@ use Rattle.mlb_speaker.specs.Sends.{answers}
 use Rattle.mlb_speaker.specs.Station.{station_of}
 use Rattle.mlb_speaker.specs.Updates.{update_entries}
 
--- the view, and the node whose announcements are told, with its interfaces
+-- the view, and the node whose announcements are told, with its interfaces and its next hop
 pub record SpeakerState : Type 0 where
   pub view : ViewValue
   pub station : Station

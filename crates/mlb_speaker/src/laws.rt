@@ -1,5 +1,6 @@
 //! What holds of every run, and of every view.
 ghost use Rattle.mlb_speaker.specs.Announced.{AllAreAnnounced};
+ghost use Rattle.mlb_speaker.specs.Heard.{PeersHearTheirRoutes};
 ghost use Rattle.mlb_speaker.specs.Meant.{AllSendWhatIsMeant};
 ghost use Rattle.mlb_speaker.specs.Told.{LinesTellWhatIsAnnounced};
 
@@ -19,4 +20,10 @@ pub fn lines_tell_what_is_announced()
 /// node listens on it.
 pub fn all_send_what_is_meant()
     ensures { AllSendWhatIsMeant }
+{}
+
+/// After any lines that are taken, with a next hop, what a peer of the configuration in force was told since it came, or since its AS
+/// numbers last changed, makes its routes of the empty table.
+pub fn peers_hear_their_routes()
+    ensures { PeersHearTheirRoutes }
 {}

@@ -2,7 +2,7 @@
 ghost use Rattle.std.specs.Prelude.{◌≡◌, ◌≤◌, OnOk, IfOk, IfErr};
 ghost use Rattle.mlb_edge.specs.Written.{Grows};
 ghost use Rattle.line_run.specs.Run.{text_of};
-ghost use Rattle.kube_lines.specs.Lines.{send_text, update_text};
+ghost use Rattle.kube_lines.specs.OutputLines.{send_text, update_text};
 ghost use Rattle.line_run.specs.Text.{Halts, line_of};
 ghost use Rattle.mlb_speaker.specs.Entries.{note_text, entry_text};
 ghost use Rattle.mlb_speaker.specs.Stream.{speaker_rules};

@@ -2,7 +2,7 @@
 ghost use Rattle.std.specs.Prelude.{◌≡◌, ◌↔◌};
 ghost use Rattle.line_run.specs.Clauses.{AtEnd, AtReadFault, AtWriteFault};
 ghost use Rattle.command_options.specs.Options.{texts_of};
-ghost use Rattle.mlb_speaker.specs.Clauses.{CanEnd, SpeaksForNamed, AtDone, AtBadLine, AtHeldLimit, AtLongLine, AtTooLong, AfterRead, AfterWrite, AtNoMemory, WritesOnly, TellsWhatIsAnnounced, SendsWhatIsMeant, IsExact, IsComplete};
+ghost use Rattle.mlb_speaker.specs.Clauses.{CanEnd, SpeaksForNamed, AtDone, AtBadLine, AtHeldLimit, AtLongLine, AtTooLong, AfterRead, AfterWrite, AtNoMemory, WritesOnly, TellsWhatIsAnnounced, SendsWhatIsMeant, TellsPeersTheirRoutes, IsExact, IsComplete};
 ghost use Rattle.speaker_words.specs.Words.{AreKnown};
 
 use crate::speaker::Speaker;
@@ -14,7 +14,8 @@ use std::alloc::Global;
 
 /// The work of the program on one stream: each line of the input is an event. What comes of it is written before the next line is read
 /// (`line_run::next_step`): the note of a configuration, a withdraw line for each address that isn't announced any more, an announce
-/// line for each that is from now on, with the unasked frames that are sent, and the frame that is sent in answer to one that was received.
+/// line for each that is from now on, with the unasked frames that are sent, the update lines of each BGP peer, and the frame that is sent in answer to
+/// one that was received.
 pub fn stream_speaker<S: Source, K: Sink>(
     alloc: Global,
     words: &[String],
@@ -54,6 +55,10 @@ pub fn stream_speaker<S: Source, K: Sink>(
     // Each frame that is sent says, unasked or as an answer, that the hardware address of an interface of the words has an address for
     // which the node listens on it by what was shown then.
     ensures sends { SendsWhatIsMeant words.now }
+
+    // After each line of a run, with a next hop, what a peer of the configuration in force was told since it came, or since its AS
+    // numbers last changed, makes its routes of the empty table.
+    ensures routes { TellsPeersTheirRoutes words.now }
 
     // But for a fault or want of memory the status is that of the lines; and where all can be read and held, the run is done.
     ensures exact { IsExact words.now result (S.left input.old) }

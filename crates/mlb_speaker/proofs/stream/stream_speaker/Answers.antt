@@ -3,6 +3,7 @@ use Rattle.command_options.specs.Options.{texts_of}
 use Rattle.mlb_speaker.specs.Clauses.{begun_by, begun_with}
 use Rattle.mlb_speaker.specs.Stream.{state_of}
 use Rattle.mlb_speaker.proofs.Begun.{named-begun}
+use Rattle.mlb_speaker.proofs.Heard.{heard_by}
 use Rattle.mlb_speaker.proofs.Meant.{meant_by}
 use Rattle.mlb_speaker.proofs.Telling.{told_by}
 use Rattle.mlb_speaker.proofs.stream.stream_speaker.Goals as goal
@@ -38,3 +39,12 @@ returns-in_default-new-clause-sends g c = meant_by (texts_of c.args.words.now)
 
 pub returns-clause-sends : goal.returns-clause-sends
 returns-clause-sends g c = meant_by (texts_of c.args.words.now)
+
+pub returns-in_default-clause-routes : goal.returns-in_default-clause-routes
+returns-in_default-clause-routes g c = heard_by (texts_of c.args.words.now)
+
+pub returns-in_default-new-clause-routes : goal.returns-in_default-new-clause-routes
+returns-in_default-new-clause-routes g c = heard_by (texts_of c.args.words.now)
+
+pub returns-clause-routes : goal.returns-clause-routes
+returns-clause-routes g c = heard_by (texts_of c.args.words.now)

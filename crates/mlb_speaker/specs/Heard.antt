@@ -1,0 +1,90 @@
+-- What a BGP peer was told since it came.
+use Rattle.std.specs.Prelude.{◌≡◌, ◌≢◌, ℕ, if◌then◌else◌, List, [], ◌∷◌, ◌++◌, Option, Some, None}
+use Rattle.std.specs.List.{AllByRecursion, flat_map}
+use Rattle.std.specs.Option.{option_map}
+use Rattle.std.specs.Str.{bytes_eq}
+use Rattle.ip_ranges.specs.Values.{AddressValue, PrefixValue}
+use Rattle.mlb_base.specs.Items.{Has, IsIn}
+use Rattle.mlb_edge.specs.declared.lines.Line.{Line}
+use Rattle.line_run.specs.Machine.{Goes}
+use Rattle.line_run.specs.Run.{AreTaken}
+use Rattle.pool_config.specs.declared.compiled.CompiledPeer.{CompiledPeer}
+use Rattle.speaker_view.specs.ViewValue.{ViewValue}
+use Rattle.speaker_words.specs.Words.{Said, Say}
+use Rattle.bgp_updates.specs.declared.route.Peering.{Peering}
+use Rattle.bgp_updates.specs.declared.route.Terms.{Terms}
+use Rattle.bgp_updates.specs.Received.{terms_at}
+use Rattle.bgp_reading.specs.Joined.{received_bytes}
+use Rattle.bgp_reading.specs.Laws.{joined}
+use Rattle.bgp_reading.specs.Update.{IsMessageOf}
+use Rattle.bgp_routes.specs.Routes.{routes_of}
+use Rattle.mlb_speaker.specs.declared.entries.Entry.{Entry}
+use Rattle.mlb_speaker.specs.declared.entries.Entry.TheVariants.{Noted, Withdrawn, Announced, Sent, Updated}
+use Rattle.mlb_speaker.specs.Stream.{SpeakerState, first_state, line_step, speaker_rules}
+use Rattle.mlb_speaker.specs.Updates.{peers_of}
+
+-- the message to the peer of this name, if the entry is one
+abbrev pub message_to : List ℕ → Entry → List (List ℕ)
+message_to name (Updated peer message) = if bytes_eq peer name then message ∷ [] else []
+message_to name (Noted note) = []
+message_to name (Withdrawn a) = []
+message_to name (Announced a) = []
+message_to name (Sent interface frame) = []
+
+-- the messages of its update lines
+abbrev pub messages_told : List ℕ → List Entry → List (List ℕ)
+messages_told name told = flat_map (message_to name) told
+
+-- the name and the AS numbers are the peer's
+pub record IsSamePeer (peer other : CompiledPeer) : Type 0 where
+  pub name : other.name ≡ peer.name
+  pub my_asn : other.my_asn ≡ peer.my_asn
+  pub peer_asn : other.peer_asn ≡ peer.peer_asn
+
+-- such a peer is one of the configuration in force
+abbrev pub IsThere : CompiledPeer → ViewValue → Type 0
+IsThere peer v = Has (IsSamePeer peer) (peers_of v)
+
+-- these lines are taken, one after the other, and the peer is there after each of them
+abbrev pub StaysOver : CompiledPeer → List Line → SpeakerState → SpeakerState → List Entry → Type 0
+StaysOver peer [] s t told = (t ≡ s) × (told ≡ [])
+StaysOver peer (line ∷ lines) s t told =
+    (next : SpeakerState) × (first : List Entry) × (rest : List Entry) × (line_step s line ≡ Goes next first) × IsThere peer next.view × StaysOver peer lines next t rest × (told ≡ first ++ rest)
+
+-- The peer came, or its AS numbers last changed, with the first of the later lines: it isn't there before them, and is after each.
+-- `told` is what was told over them.
+pub record HasComeSince (start : SpeakerState) (lines : List Line) (peer : CompiledPeer) (t : SpeakerState) (told : List Entry) : Type 0 where
+  pub earlier : List Line
+  pub later : List Line
+  pub split : lines ≡ earlier ++ later
+  pub s : SpeakerState
+  pub before : List Entry
+  pub reached : AreTaken speaker_rules earlier start s before
+  pub absent : ¬ (IsThere peer s.view)
+  pub stays : StaysOver peer later s t told
+
+-- The octets of the messages, one behind the other, are messages (RFC 4271, section 4.3), and after them the empty table is this one.
+abbrev pub GiveTable : List (List ℕ) → List (PrefixValue × Terms) → Type 0
+GiveTable messages routes = (p : PrefixValue) → option_map (λ table. table p) (received_bytes (λ q. None) (joined messages)) ≡ Some (terms_at routes p)
+
+-- who the messages to the peer are from: the own AS number where the peer is of another AS, and the next hop
+pub record IsSender (peer : CompiledPeer) (hop : AddressValue) (sender : Peering) : Type 0 where
+  pub next_hop : sender.next_hop ≡ hop.number
+  pub inside : peer.my_asn ≡ peer.peer_asn → sender.own ≡ None
+  pub outside : peer.my_asn ≢ peer.peer_asn → sender.own ≡ Some peer.my_asn
+
+-- each is one message of that sender
+abbrev pub AreToldBy : CompiledPeer → AddressValue → List (List ℕ) → Type 0
+AreToldBy peer hop messages = (sender : Peering) × IsSender peer hop sender × AllByRecursion (IsMessageOf sender) messages
+
+-- After any lines, with a next hop, each peer of the configuration in force has come with one of them, and what it was told since then are
+-- messages after which its table is that of its routes.
+abbrev pub HearsItsRoutes : SpeakerState → Type 0
+HearsItsRoutes start = (lines : List Line) (t : SpeakerState) (all : List Entry) → AreTaken speaker_rules lines start t all
+    → (hop : AddressValue) → start.station.next_hop ≡ Some hop → (peer : CompiledPeer) → IsIn (peers_of t.view) peer
+    → ((told : List Entry) × HasComeSince start lines peer t told)
+    × ((told : List Entry) → HasComeSince start lines peer t told → GiveTable (messages_told peer.name told) (routes_of t.view start.station.node peer) × AreToldBy peer hop (messages_told peer.name told))
+
+-- so it is of a run that begins with what words say
+abbrev pub PeersHearTheirRoutes : Type 0
+PeersHearTheirRoutes = (words : List (List ℕ)) (said : Said) → Say words said → HearsItsRoutes (first_state said)

@@ -7,7 +7,7 @@ use Rattle.kube_model.specs.declared.reply.PutReply.{PutReply}
 use Rattle.kube_model.specs.declared.status.Status.TheVariants.{Done, Limit}
 use Rattle.kube_model.specs.declared.status.What.TheVariants as whats
 use Rattle.kube_events.specs.Event.{event_of_line}
-use Rattle.kube_lines.specs.Reply.{reply_of}
+use Rattle.kube_lines.specs.ReplyLines.{reply_of}
 use Rattle.core_rules.specs.Core.{State, fresh}
 use Rattle.core_rules.specs.Take.{limits}
 use Rattle.core_rules.specs.Run.{Entry as CoreEntry, IsRun}
@@ -18,10 +18,10 @@ use Rattle.world_rules.proofs.Explaining.{runs_are_safe_in_worlds}
 use Rattle.line_run.specs.Machine.{Step, Goes, Stops}
 use Rattle.line_run.specs.Run.{run_from, status_at}
 use Rattle.line_run.proofs.Kept.{Kept, StopsIn, run-keeps}
-use Rattle.line_run.specs.Written.{WritesOnly, StopsAs}
+use Rattle.line_run.specs.RunOutput.{WritesOnly, StopsAs}
 use Rattle.mlb_edge.specs.declared.lines.Line.{Line}
-use Rattle.mlb_edge.specs.Lines.{Ending, Whole, LongLine, LongInput, input_of}
-use Rattle.service_texts.proofs.Lines.{events_show_terms}
+use Rattle.mlb_edge.specs.InputLines.{Ending, Whole, LongLine, LongInput, input_of}
+use Rattle.service_texts.proofs.EventTerms.{events_show_terms}
 use Rattle.mlb_controller.specs.Causes.{line_causes}
 use Rattle.mlb_controller.specs.Stream.{goes_by, event_step, reply_step, step_where, controller_rules, end_of}
 use Rattle.mlb_controller.specs.Sound.{WritesSound, RunsSound, IsSafeThroughout, RunsSafe, LeavesNothing, EndsQuiet}

@@ -1,4 +1,5 @@
--- What the controller owes at each status: the clauses of a run over lines, with the controller's rules and the words' class.
+-- What the controller owes at each status: the clauses of a run over lines, with the controller's rules and the words' class, where the words
+-- ask for one; and those of a trial.
 use Rattle.std.specs.Prelude.{◌≡◌, ◌⊎◌, ℕ, List, String, Option}
 use Rattle.kube_model.specs.declared.status.Status.{Status}
 use Rattle.kube_model.specs.declared.status.Status.TheVariants.{Done, Usage}
@@ -6,54 +7,57 @@ use Rattle.line_run.specs.Clauses as run
 use Rattle.core_rules.specs.Core.{State, fresh}
 use Rattle.mlb_controller.specs.Sound as sound
 use Rattle.mlb_controller.specs.Stream.{controller_rules, IsCause}
-use Rattle.mlb_controller.specs.Words.{texts_of, AreKnown, SaysClass, class_of}
+use Rattle.command_options.specs.Options.{texts_of}
+use Rattle.controller_words.specs.Words.{Run, Say}
+use Rattle.mlb_controller.specs.Asked.{AskRun, AskTrial, class_of}
+use Rattle.mlb_controller.specs.Trial.{TrialEnds, IsSafeTrial}
 
 -- the core that a run begins with
 abbrev pub begun_by : {Z : Type 0} → List (String Z) → State
 begun_by words = fresh (class_of (texts_of words))
 
--- the words are faulty, or it is one of the statuses that a run of the controller may end with: no file is opened, no lane is
+-- the words are faulty, or it is one of the statuses that a run of the controller or a trial may end with: no file is opened, no lane is
 -- known but the input, and of what is held services alone have a limit
 abbrev pub CanEnd : Status → Type 0
 CanEnd status = (status ≡ Usage) ⊎ run.CanEnd IsCause status
 
 module _ {Z K : Type 0} (words : List (String Z)) (status : Status) (left : Option (List ℕ)) (written : K → Option (List ℕ)) (out out' : K) where
   abbrev pub AtDone : Type 0
-  AtDone = run.AtDone controller_rules IsCause (begun_by words) status left (written out) (written out')
+  AtDone = AskRun (texts_of words) → run.AtDone controller_rules IsCause (begun_by words) status left (written out) (written out')
 
   abbrev pub AtNoReply : Type 0
-  AtNoReply = run.AtNoReply controller_rules IsCause (begun_by words) status left (written out) (written out')
+  AtNoReply = AskRun (texts_of words) → run.AtNoReply controller_rules IsCause (begun_by words) status left (written out) (written out')
 
   abbrev pub AtBadLine : Type 0
-  AtBadLine = run.AtBadLine controller_rules IsCause (begun_by words) status left (written out) (written out')
+  AtBadLine = AskRun (texts_of words) → run.AtBadLine controller_rules IsCause (begun_by words) status left (written out) (written out')
 
   abbrev pub AtBadReply : Type 0
-  AtBadReply = run.AtBadReply controller_rules IsCause (begun_by words) status left (written out) (written out')
+  AtBadReply = AskRun (texts_of words) → run.AtBadReply controller_rules IsCause (begun_by words) status left (written out) (written out')
 
   -- one service more would be held than may be
   abbrev pub AtServiceLimit : Type 0
-  AtServiceLimit = run.AtHeldLimit controller_rules IsCause (begun_by words) status left (written out) (written out')
+  AtServiceLimit = AskRun (texts_of words) → run.AtHeldLimit controller_rules IsCause (begun_by words) status left (written out) (written out')
 
   -- a line is too long
   abbrev pub AtLongLine : Type 0
-  AtLongLine = run.AtLineLimit controller_rules (begun_by words) status left (written out) (written out')
+  AtLongLine = AskRun (texts_of words) → run.AtLineLimit controller_rules (begun_by words) status left (written out) (written out')
 
   -- the input is too long
   abbrev pub AtTooLong : Type 0
-  AtTooLong = run.AtInputLimit controller_rules (begun_by words) status left (written out) (written out')
+  AtTooLong = AskRun (texts_of words) → run.AtInputLimit controller_rules (begun_by words) status left (written out) (written out')
 
   abbrev pub AfterWrite : Type 0
-  AfterWrite = run.AfterWrite controller_rules (begun_by words) status left (written out) (written out')
+  AfterWrite = AskRun (texts_of words) → run.AfterWrite controller_rules (begun_by words) status left (written out) (written out')
 
   abbrev pub AtNoMemory : Type 0
-  AtNoMemory = run.AtNoMemory controller_rules (begun_by words) status left (written out) (written out')
+  AtNoMemory = AskRun (texts_of words) → run.AtNoMemory controller_rules (begun_by words) status left (written out) (written out')
 
 abbrev pub AfterRead : {Z S K : Type 0} → List (String Z) → Status → (S → Option (List ℕ)) → S → S → (K → Option (List ℕ)) → K → K → Type 0
-AfterRead words status left input input' written out out' = run.AfterRead controller_rules (begun_by words) status (left input) (left input') (written out) (written out')
+AfterRead words status left input input' written out out' = AskRun (texts_of words) → run.AfterRead controller_rules (begun_by words) status (left input) (left input') (written out) (written out')
 
 -- a beginning of the text of some lines' run was written, and the transcript of that run is sound, and safe in every world that explains it
 abbrev pub WritesSound : {Z K : Type 0} → List (String Z) → (K → Option (List ℕ)) → K → K → Type 0
-WritesSound words written out out' = sound.WritesSound (class_of (texts_of words)) (written out) (written out')
+WritesSound words written out out' = AskRun (texts_of words) → sound.WritesSound (class_of (texts_of words)) (written out) (written out')
 
 -- the transcript of the run is sound, where the source tells its bytes
 abbrev pub RunsSound : {Z : Type 0} → List (String Z) → Option (List ℕ) → Type 0
@@ -65,14 +69,30 @@ RunsSafe words left = sound.RunsSafe (class_of (texts_of words)) left
 
 -- where the run is done, nothing is left waiting that could be served
 abbrev pub EndsQuiet : {Z K : Type 0} → List (String Z) → Status → Option (List ℕ) → (K → Option (List ℕ)) → K → K → Type 0
-EndsQuiet words status left written out out' = status ≡ Done → sound.EndsQuiet (class_of (texts_of words)) left (written out) (written out')
+EndsQuiet words status left written out out' = AskRun (texts_of words) → status ≡ Done → sound.EndsQuiet (class_of (texts_of words)) left (written out) (written out')
 
 -- the class that the run handles is the one that the words name, if they name one
 abbrev pub HandlesNamed : {Z : Type 0} → List (String Z) → Type 0
-HandlesNamed words = (class : Option (List ℕ)) → SaysClass (texts_of words) class → class_of (texts_of words) ≡ class
+HandlesNamed words = (class : Option (List ℕ)) → Say (texts_of words) (Run class) → class_of (texts_of words) ≡ class
 
 abbrev pub IsExact : {Z : Type 0} → List (String Z) → Status → Option (List ℕ) → Type 0
-IsExact words status left = AreKnown (texts_of words) → run.IsExact controller_rules (begun_by words) status left
+IsExact words status left = AskRun (texts_of words) → run.IsExact controller_rules (begun_by words) status left
 
 abbrev pub IsComplete : {Z : Type 0} → List (String Z) → Status → Option (List ℕ) → Type 0
-IsComplete words status left = AreKnown (texts_of words) → run.IsComplete controller_rules (begun_by words) status left
+IsComplete words status left = AskRun (texts_of words) → run.IsComplete controller_rules (begun_by words) status left
+
+-- at the end of the input nothing of it is left
+abbrev pub AtEnd : {Z : Type 0} → List (String Z) → Status → Option (List ℕ) → Type 0
+AtEnd words status left' = AskRun (texts_of words) → run.AtEnd status left'
+
+-- what stands written of the trial that the words ask for
+abbrev pub WritesTrial : {Z K : Type 0} → List (String Z) → Status → (K → Option (List ℕ)) → K → K → Type 0
+WritesTrial words status written out out' = (seed steps : ℕ) → AskTrial (texts_of words) seed steps → TrialEnds seed steps status (written out) (written out')
+
+-- it reads nothing
+abbrev pub LeavesInput : {Z S : Type 0} → List (String Z) → S → S → Type 0
+LeavesInput words input input' = (seed steps : ℕ) → AskTrial (texts_of words) seed steps → input' ≡ input
+
+-- at no moment of it are two services recorded with one address, unless they share it
+abbrev pub TrialIsSafe : {Z : Type 0} → List (String Z) → Type 0
+TrialIsSafe words = (seed steps : ℕ) → AskTrial (texts_of words) seed steps → IsSafeTrial seed

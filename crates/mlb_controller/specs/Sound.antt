@@ -7,10 +7,10 @@ use Rattle.core_drive.specs.Drive.{Entry, behind}
 use Rattle.core_drive.specs.Sound.{IsSound}
 use Rattle.world_rules.specs.Explaining.{IsSafeInWorlds}
 use Rattle.mlb_edge.specs.declared.lines.Line.{Line}
-use Rattle.mlb_edge.specs.Lines.{Ending, Whole}
+use Rattle.mlb_edge.specs.InputLines.{Ending, Whole}
 use Rattle.line_run.specs.Run.{run_from, run_of}
 use Rattle.line_run.specs.Text.{GrowsUpTo}
-use Rattle.line_run.specs.Written.{text_by, StopsOn}
+use Rattle.line_run.specs.RunOutput.{text_by, StopsOn}
 use Rattle.mlb_controller.specs.Stream.{controller_rules}
 
 -- In every world that explains a beginning of the transcript the core is the transcript's, and services recorded with one address share it,

@@ -1,6 +1,6 @@
 //! One line: an event that is taken, or the reply to the put that is out.
 ghost use Rattle.std.specs.Prelude.{◌≡◌, ◌≤◌, OnOk, IfErr, IsSome, None, Some};
-ghost use Rattle.kube_lines.specs.Reply.{GivesReply, reply_of};
+ghost use Rattle.kube_lines.specs.ReplyLines.{GivesReply, reply_of};
 ghost use Rattle.kube_model.specs.declared.put.Put.{Put};
 ghost use Rattle.line_run.specs.Steps.{Takes, Refuses};
 ghost use Rattle.mlb_controller.specs.Stream.{controller_rules};

@@ -6,8 +6,8 @@ mod line;
 mod output;
 mod run;
 mod stream;
+mod trial;
 mod turns;
-mod words;
 
 use kube_model::Status;
 use mlb_edge::{RealFiles, RealSink, RealSource};

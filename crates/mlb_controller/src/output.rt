@@ -1,7 +1,7 @@
 //! The lines that are written.
 ghost use Rattle.std.specs.Prelude.{◌≡◌, ◌≤◌, OnOk, IfErr};
 ghost use Rattle.mlb_edge.specs.Written.{Grows};
-ghost use Rattle.kube_lines.specs.Lines.{put_text};
+ghost use Rattle.kube_lines.specs.OutputLines.{put_text};
 ghost use Rattle.line_run.specs.Text.{line_of, Halts};
 ghost use Rattle.mlb_controller.specs.Output.{note_text, reason_line, turn_text};
 

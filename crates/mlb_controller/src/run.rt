@@ -1,8 +1,9 @@
 //! The top call.
 ghost use Rattle.std.specs.Prelude.{◌≡◌, ◌↔◌};
-ghost use Rattle.line_run.specs.Clauses.{AtEnd, AtReadFault, AtWriteFault};
-ghost use Rattle.mlb_controller.specs.Clauses.{CanEnd, AtDone, AtNoReply, AtBadLine, AtBadReply, AtServiceLimit, AtLongLine, AtTooLong, AfterRead, AfterWrite, AtNoMemory, WritesSound, RunsSound, RunsSafe, EndsQuiet, HandlesNamed, IsExact, IsComplete};
-ghost use Rattle.mlb_controller.specs.Words.{texts_of, AreKnown};
+ghost use Rattle.line_run.specs.Clauses.{AtReadFault, AtWriteFault};
+ghost use Rattle.command_options.specs.Options.{texts_of};
+ghost use Rattle.controller_words.specs.Words.{AreKnown};
+ghost use Rattle.mlb_controller.specs.Clauses.{CanEnd, AtEnd, AtDone, AtNoReply, AtBadLine, AtBadReply, AtServiceLimit, AtLongLine, AtTooLong, AfterRead, AfterWrite, AtNoMemory, WritesSound, RunsSound, RunsSafe, EndsQuiet, HandlesNamed, IsExact, IsComplete, WritesTrial, LeavesInput, TrialIsSafe};
 
 use crate::stream::stream_controller;
 use kube_model::Status;
@@ -29,7 +30,7 @@ pub fn run_controller<R: Threads + Wait + Sync, F: Files, S: Source + Send, K: S
     // At the end of the input: nothing of it is left, and just the text of its run was written.
     ensures done { AtDone words.now result (S.left input.old) K.written out.old out.new }
     ensures no_reply { AtNoReply words.now result (S.left input.old) K.written out.old out.new }
-    ensures at_end { AtEnd result (S.left input.new) }
+    ensures at_end { AtEnd words.now result (S.left input.new) }
 
     // A line that ends the run, and just the text of the run before it was written.
     ensures bad_line { AtBadLine words.now result (S.left input.old) K.written out.old out.new }
@@ -66,6 +67,12 @@ pub fn run_controller<R: Threads + Wait + Sync, F: Files, S: Source + Send, K: S
     // driven, the run is done.
     ensures exact { IsExact words.now result (S.left input.old) }
     ensures complete { IsComplete words.now result (S.left input.old) }
+
+    // Where the words ask for a trial nothing is read, and just its text is written. At no moment of it are two services recorded with
+    // one address, unless they share it.
+    ensures trial { WritesTrial words.now result K.written out.old out.new }
+    ensures trial_unread { LeavesInput words.now input.old input.new }
+    ensures trial_safe { TrialIsSafe words.now }
 {
     stream_controller(alloc, words, input, out)
 }

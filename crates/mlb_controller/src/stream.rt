@@ -1,11 +1,13 @@
 //! The run over one stream.
 ghost use Rattle.std.specs.Prelude.{◌≡◌, ◌↔◌};
-ghost use Rattle.line_run.specs.Clauses.{AtEnd, AtReadFault, AtWriteFault};
-ghost use Rattle.mlb_controller.specs.Clauses.{CanEnd, AtDone, AtNoReply, AtBadLine, AtBadReply, AtServiceLimit, AtLongLine, AtTooLong, AfterRead, AfterWrite, AtNoMemory, WritesSound, RunsSound, RunsSafe, EndsQuiet, HandlesNamed, IsExact, IsComplete};
-ghost use Rattle.mlb_controller.specs.Words.{texts_of, AreKnown};
+ghost use Rattle.line_run.specs.Clauses.{AtReadFault, AtWriteFault};
+ghost use Rattle.command_options.specs.Options.{texts_of};
+ghost use Rattle.controller_words.specs.Words.{AreKnown};
+ghost use Rattle.mlb_controller.specs.Clauses.{CanEnd, AtEnd, AtDone, AtNoReply, AtBadLine, AtBadReply, AtServiceLimit, AtLongLine, AtTooLong, AfterRead, AfterWrite, AtNoMemory, WritesSound, RunsSound, RunsSafe, EndsQuiet, HandlesNamed, IsExact, IsComplete, WritesTrial, LeavesInput, TrialIsSafe};
 
 use crate::controller::Controller;
-use crate::words::class_in;
+use crate::trial::run_trial;
+use controller_words::{Asked, controller_words};
 use kube_model::Status;
 use line_run::run_machine;
 use mlb_edge::{Sink, Source};
@@ -13,6 +15,7 @@ use std::alloc::Global;
 
 /// The work of the program on one stream: each line of the input is an event, or the reply to the put
 /// before it. What a line comes to is written before the next line is read (`line_run::next_step`).
+/// Where the words ask for a trial, it is made instead, and nothing is read.
 pub fn stream_controller<S: Source, K: Sink>(
     alloc: Global,
     words: &[String],
@@ -27,7 +30,7 @@ pub fn stream_controller<S: Source, K: Sink>(
     // At the end of the input: nothing of it is left, and just the text of its run was written.
     ensures done { AtDone words.now result (S.left input.old) K.written out.old out.new }
     ensures no_reply { AtNoReply words.now result (S.left input.old) K.written out.old out.new }
-    ensures at_end { AtEnd result (S.left input.new) }
+    ensures at_end { AtEnd words.now result (S.left input.new) }
 
     // A line that ends the run, and just the text of the run before it was written.
     ensures bad_line { AtBadLine words.now result (S.left input.old) K.written out.old out.new }
@@ -64,9 +67,17 @@ pub fn stream_controller<S: Source, K: Sink>(
     // driven, the run is done.
     ensures exact { IsExact words.now result (S.left input.old) }
     ensures complete { IsComplete words.now result (S.left input.old) }
+
+    // Where the words ask for a trial nothing is read, and just its text is written. At no moment of it are two services recorded with
+    // one address, unless they share it.
+    ensures trial { WritesTrial words.now result K.written out.old out.new }
+    ensures trial_unread { LeavesInput words.now input.old input.new }
+    ensures trial_safe { TrialIsSafe words.now }
 {
-    let Some(class) = class_in(words) else {
-        return Status::Usage;
+    let class = match controller_words(words) {
+        None => return Status::Usage,
+        Some(Asked::Trial { seed, steps }) => return run_trial(alloc, seed, steps, out),
+        Some(Asked::Run { class }) => class,
     };
     let Ok(mut controller) = Controller::new(alloc, class) else {
         return Status::NoMemory;

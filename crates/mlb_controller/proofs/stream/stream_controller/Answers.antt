@@ -1,15 +1,73 @@
-use Rattle.std.proofs.Common.{◌≡◌, ap, ◌∙◌}
+use Rattle.std.proofs.Common.{◌≡◌, Some, ap, ◌∙◌, sym, subst}
+use Rattle.command_options.specs.Options.{texts_of}
+use Rattle.controller_words.specs.Seen.{asked_seen}
 use Rattle.core_rules.specs.Core.{fresh}
 use Rattle.line_run.proofs.Driven.{only_nothing}
 use Rattle.line_run.specs.Explains.{StopsFor}
-use Rattle.line_run.specs.Written.{WritesOnly}
+use Rattle.line_run.specs.RunOutput.{WritesOnly}
+use Rattle.mlb_controller.specs.Asked.{class_of}
 use Rattle.mlb_controller.specs.Stream.{controller_rules, IsCause}
-use Rattle.mlb_controller.specs.Words.{texts_of, class_of}
+use Rattle.mlb_controller.specs.Trial.{TrialEnds}
+use Rattle.mlb_controller.proofs.Asking.{class-named, class-asked, no-run, no-trial, one-trial, trial-safe}
 use Rattle.mlb_controller.proofs.Rightful.{sound_where_told, safe_where_told, quiet_where_done, only_sound}
 use Rattle.mlb_controller.proofs.stream.stream_controller.Goals as goal
 
+-- ---- words that aren't of the table
+
+pub returns-in-None-clause-sound : goal.returns-in-None-clause-sound
+returns-in-None-clause-sound g c = sound_where_told (class_of (texts_of c.args.words.now)) (g.S.Source.left c.args.input.now)
+
+pub returns-in-None-clause-safe : goal.returns-in-None-clause-safe
+returns-in-None-clause-safe g c = safe_where_told (class_of (texts_of c.args.words.now)) (g.S.Source.left c.args.input.now)
+
+-- ---- a trial
+
+pub returns-in-Some-Trial-clause-named : goal.returns-in-Some-Trial-clause-named
+returns-in-Some-Trial-clause-named g c = class-named (texts_of c.args.words.now)
+
+pub returns-in-Some-Trial-clause-done : goal.returns-in-Some-Trial-clause-done
+returns-in-Some-Trial-clause-done g c = λ ask. absurd (no-run (texts_of c.args.words.now) c.in-Some-Trial.seed c.in-Some-Trial.steps (sym (ap (λ x. Some (asked_seen x)) c.in-Some-Trial.field-0-is) ∙ c.in-Some-Trial.ensures.value) ask)
+
+pub returns-in-Some-Trial-clause-at_end : goal.returns-in-Some-Trial-clause-at_end
+returns-in-Some-Trial-clause-at_end g c = λ ask. absurd (no-run (texts_of c.args.words.now) c.in-Some-Trial.seed c.in-Some-Trial.steps (sym (ap (λ x. Some (asked_seen x)) c.in-Some-Trial.field-0-is) ∙ c.in-Some-Trial.ensures.value) ask)
+
+pub returns-in-Some-Trial-clause-part : goal.returns-in-Some-Trial-clause-part
+returns-in-Some-Trial-clause-part g c = λ ask. absurd (no-run (texts_of c.args.words.now) c.in-Some-Trial.seed c.in-Some-Trial.steps (sym (ap (λ x. Some (asked_seen x)) c.in-Some-Trial.field-0-is) ∙ c.in-Some-Trial.ensures.value) ask)
+
+pub returns-in-Some-Trial-clause-no_memory : goal.returns-in-Some-Trial-clause-no_memory
+returns-in-Some-Trial-clause-no_memory g c = λ ask. absurd (no-run (texts_of c.args.words.now) c.in-Some-Trial.seed c.in-Some-Trial.steps (sym (ap (λ x. Some (asked_seen x)) c.in-Some-Trial.field-0-is) ∙ c.in-Some-Trial.ensures.value) ask)
+
+pub returns-in-Some-Trial-clause-only : goal.returns-in-Some-Trial-clause-only
+returns-in-Some-Trial-clause-only g c = λ ask. absurd (no-run (texts_of c.args.words.now) c.in-Some-Trial.seed c.in-Some-Trial.steps (sym (ap (λ x. Some (asked_seen x)) c.in-Some-Trial.field-0-is) ∙ c.in-Some-Trial.ensures.value) ask)
+
+pub returns-in-Some-Trial-clause-quiet : goal.returns-in-Some-Trial-clause-quiet
+returns-in-Some-Trial-clause-quiet g c = λ ask. absurd (no-run (texts_of c.args.words.now) c.in-Some-Trial.seed c.in-Some-Trial.steps (sym (ap (λ x. Some (asked_seen x)) c.in-Some-Trial.field-0-is) ∙ c.in-Some-Trial.ensures.value) ask)
+
+pub returns-in-Some-Trial-clause-exact : goal.returns-in-Some-Trial-clause-exact
+returns-in-Some-Trial-clause-exact g c = λ ask. absurd (no-run (texts_of c.args.words.now) c.in-Some-Trial.seed c.in-Some-Trial.steps (sym (ap (λ x. Some (asked_seen x)) c.in-Some-Trial.field-0-is) ∙ c.in-Some-Trial.ensures.value) ask)
+
+pub returns-in-Some-Trial-clause-sound : goal.returns-in-Some-Trial-clause-sound
+returns-in-Some-Trial-clause-sound g c = sound_where_told (class_of (texts_of c.args.words.now)) (g.S.Source.left c.args.input.now)
+
+pub returns-in-Some-Trial-clause-safe : goal.returns-in-Some-Trial-clause-safe
+returns-in-Some-Trial-clause-safe g c = safe_where_told (class_of (texts_of c.args.words.now)) (g.S.Source.left c.args.input.now)
+
+pub returns-in-Some-Trial-clause-trial : goal.returns-in-Some-Trial-clause-trial
+returns-in-Some-Trial-clause-trial g c = λ seed steps ask.
+    let one = one-trial (texts_of c.args.words.now) c.in-Some-Trial.seed c.in-Some-Trial.steps seed steps (sym (ap (λ x. Some (asked_seen x)) c.in-Some-Trial.field-0-is) ∙ c.in-Some-Trial.ensures.value) ask in
+    subst (λ m. TrialEnds m steps c.run_trial.result (g.K.Sink.written c.args.out.now) (g.K.Sink.written c.run_trial.new.out)) one.0
+    (subst (λ n. TrialEnds c.in-Some-Trial.seed n c.run_trial.result (g.K.Sink.written c.args.out.now) (g.K.Sink.written c.run_trial.new.out)) one.1 c.run_trial.ensures.ends)
+
+pub returns-in-Some-Trial-clause-trial_safe : goal.returns-in-Some-Trial-clause-trial_safe
+returns-in-Some-Trial-clause-trial_safe g c = λ seed steps ask. trial-safe seed
+
+-- ---- a run for which there is no memory
+
+pub returns-in_default-clause-named : goal.returns-in_default-clause-named
+returns-in_default-clause-named g c = class-named (texts_of c.args.words.now)
+
 pub returns-in_default-clause-only : goal.returns-in_default-clause-only
-returns-in_default-clause-only g c =
+returns-in_default-clause-only g c = λ ask.
     let class = class_of (texts_of c.args.words.now) in
     only_sound class (g.K.Sink.written c.args.out.now) (g.K.Sink.written c.args.out.now) (only_nothing controller_rules (fresh class) (g.K.Sink.written c.args.out.now))
 
@@ -19,26 +77,18 @@ returns-in_default-clause-sound g c = sound_where_told (class_of (texts_of c.arg
 pub returns-in_default-clause-safe : goal.returns-in_default-clause-safe
 returns-in_default-clause-safe g c = safe_where_told (class_of (texts_of c.args.words.now)) (g.S.Source.left c.args.input.now)
 
-pub returns-in_default-new-clause-only : goal.returns-in_default-new-clause-only
-returns-in_default-new-clause-only g c =
-    let class = class_of (texts_of c.args.words.now) in
-    only_sound class (g.K.Sink.written c.args.out.now) (g.K.Sink.written c.args.out.now) (only_nothing controller_rules (fresh class) (g.K.Sink.written c.args.out.now))
+pub returns-in_default-clause-trial_safe : goal.returns-in_default-clause-trial_safe
+returns-in_default-clause-trial_safe g c = λ seed steps ask. trial-safe seed
 
-pub returns-in_default-new-clause-sound : goal.returns-in_default-new-clause-sound
-returns-in_default-new-clause-sound g c = sound_where_told (class_of (texts_of c.args.words.now)) (g.S.Source.left c.args.input.now)
+-- ---- a run
 
-pub returns-in_default-new-clause-safe : goal.returns-in_default-new-clause-safe
-returns-in_default-new-clause-safe g c = safe_where_told (class_of (texts_of c.args.words.now)) (g.S.Source.left c.args.input.now)
-
-pub returns-clause-service_limit : goal.returns-clause-service_limit
-returns-clause-service_limit g c =
-    let begun : c.in-Ok.controller.core ≡ fresh (class_of (texts_of c.args.words.now)) = c.in-Ok.ensures ∙ ap fresh c.in-Some.ensures.class in
-    rw begun at c.run_machine-status.ensures.held_limit
+pub returns-clause-named : goal.returns-clause-named
+returns-clause-named g c = class-named (texts_of c.args.words.now)
 
 pub returns-clause-only : goal.returns-clause-only
-returns-clause-only g c =
+returns-clause-only g c = λ ask.
     let class = class_of (texts_of c.args.words.now) in
-    let begun : c.in-Ok.controller.core ≡ fresh class = c.in-Ok.ensures ∙ ap fresh c.in-Some.ensures.class in
+    let begun : c.in-Ok.controller.core ≡ fresh (class_of (texts_of c.args.words.now)) = c.in-Ok.ensures ∙ ap fresh (class-asked (texts_of c.args.words.now) _ (sym (ap (λ x. Some (asked_seen x)) c.in-Some-Run.field-0-is) ∙ c.in-Some-Run.ensures.value)) in
     let only : WritesOnly controller_rules (fresh class) (g.K.Sink.written c.args.out.now) (g.K.Sink.written c.run_machine-status.new.out) = rw begun at c.run_machine-status.ensures.only in
     only_sound class (g.K.Sink.written c.args.out.now) (g.K.Sink.written c.run_machine-status.new.out) only
 
@@ -49,8 +99,17 @@ pub returns-clause-safe : goal.returns-clause-safe
 returns-clause-safe g c = safe_where_told (class_of (texts_of c.args.words.now)) (g.S.Source.left c.args.input.now)
 
 pub returns-clause-quiet : goal.returns-clause-quiet
-returns-clause-quiet g c = λ done.
+returns-clause-quiet g c = λ ask done.
     let class = class_of (texts_of c.args.words.now) in
-    let begun : c.in-Ok.controller.core ≡ fresh class = c.in-Ok.ensures ∙ ap fresh c.in-Some.ensures.class in
+    let begun : c.in-Ok.controller.core ≡ fresh (class_of (texts_of c.args.words.now)) = c.in-Ok.ensures ∙ ap fresh (class-asked (texts_of c.args.words.now) _ (sym (ap (λ x. Some (asked_seen x)) c.in-Some-Run.field-0-is) ∙ c.in-Some-Run.ensures.value)) in
     let stopped : StopsFor controller_rules IsCause (fresh class) (g.S.Source.left c.args.input.now) (g.K.Sink.written c.args.out.now) (g.K.Sink.written c.run_machine-status.new.out) c.run_machine-status.result = rw begun at (c.run_machine-status.ensures.done done) in
     quiet_where_done class (g.S.Source.left c.args.input.now) (g.K.Sink.written c.args.out.now) (g.K.Sink.written c.run_machine-status.new.out) (rw done at stopped.stops)
+
+pub returns-clause-trial : goal.returns-clause-trial
+returns-clause-trial g c = λ seed steps ask. absurd (no-trial (texts_of c.args.words.now) _ (sym (ap (λ x. Some (asked_seen x)) c.in-Some-Run.field-0-is) ∙ c.in-Some-Run.ensures.value) seed steps ask)
+
+pub returns-clause-trial_unread : goal.returns-clause-trial_unread
+returns-clause-trial_unread g c = λ seed steps ask. absurd (no-trial (texts_of c.args.words.now) _ (sym (ap (λ x. Some (asked_seen x)) c.in-Some-Run.field-0-is) ∙ c.in-Some-Run.ensures.value) seed steps ask)
+
+pub returns-clause-trial_safe : goal.returns-clause-trial_safe
+returns-clause-trial_safe g c = λ seed steps ask. trial-safe seed

@@ -8,7 +8,7 @@ use Rattle.core_rules.specs.declared.turn.Turn.TheVariants.{Idle, NoPut, Wants}
 use Rattle.core_rules.specs.Core.{State}
 use Rattle.core_rules.specs.Take.{core_take}
 use Rattle.core_rules.specs.Turn.{core_turn, after_turn, put_in, rest_of, turn_of}
-use Rattle.core_rules.specs.Reply.{core_reply}
+use Rattle.core_rules.specs.Replied.{core_reply}
 use Rattle.core_rules.specs.Run.{Entry as CoreEntry, Took as TookByCore, Turned as TurnedByCore, Heard as HeardByCore, IsRun, core_after}
 use Rattle.core_rules.proofs.Runs.{core_holds_what_was_observed, took-out, heard-out}
 use Rattle.core_laws.specs.Shared.{AllShowTerms}

@@ -9,7 +9,7 @@ use Rattle.core_rules.specs.declared.turn.Turn.TheVariants.{Idle, NoPut, Wants}
 use Rattle.core_rules.specs.Core.{State}
 use Rattle.core_rules.specs.Take.{core_take, core_note}
 use Rattle.core_rules.specs.Turn.{core_turn, after_turn}
-use Rattle.core_rules.specs.Reply.{core_reply}
+use Rattle.core_rules.specs.Replied.{core_reply}
 use Rattle.core_rules.specs.Run.{Entry as CoreEntry, Took as TookByCore, Turned as TurnedByCore, Heard as HeardByCore}
 
 -- an entry of a transcript

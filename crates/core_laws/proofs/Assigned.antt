@@ -17,7 +17,7 @@ use Rattle.alloc_book.proofs.BookLaws.{assigned-others, assigned-added}
 use Rattle.pool_choice.proofs.Filters.{filter-contains}
 use Rattle.core_rules.specs.Core.{State}
 use Rattle.core_rules.specs.Take.{core_by, core_take, is_unlisted}
-use Rattle.core_rules.specs.Reply.{replied_to}
+use Rattle.core_rules.specs.Replied.{replied_to}
 use Rattle.core_rules.specs.Run.{Entry, Took, Expired, Turned, Heard, core_after}
 use Rattle.core_rules.proofs.Concerns.{by_concern}
 

@@ -14,7 +14,7 @@ use Rattle.object_history.specs.LookBack.{last_shown}
 use Rattle.kube_model.proofs.KeyLaws.{same_key-is}
 use Rattle.core_rules.specs.Core.{State}
 use Rattle.core_rules.specs.Take.{core_by, core_take, concern, is_unlisted}
-use Rattle.core_rules.specs.Reply.{replied_to}
+use Rattle.core_rules.specs.Replied.{replied_to}
 use Rattle.core_rules.specs.Run.{Entry, Took, Expired, Turned, Heard, core_after, IsRun, observed, version_shown}
 use Rattle.core_rules.proofs.Claims.{version-held, ended-version}
 use Rattle.core_rules.proofs.Concerns.{by_concern}

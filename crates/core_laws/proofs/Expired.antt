@@ -11,7 +11,7 @@ use Rattle.object_history.specs.Cache.{Cached, cached_after}
 use Rattle.object_history.specs.Observations.{Watched, WatchExpired}
 use Rattle.core_rules.specs.Core.{State}
 use Rattle.core_rules.specs.Take.{core_by, core_take}
-use Rattle.core_rules.specs.Reply.{replied_to}
+use Rattle.core_rules.specs.Replied.{replied_to}
 use Rattle.core_rules.specs.Run.{Entry, Took, Expired, Turned, Heard, core_after}
 use Rattle.core_rules.proofs.Concerns.{by_concern, config-endpoints}
 use Rattle.core_laws.specs.Expired.{ExpiredIsBoth}

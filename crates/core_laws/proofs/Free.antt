@@ -18,13 +18,13 @@ use Rattle.core_rules.specs.declared.turn.Turn.{Turn}
 use Rattle.core_rules.specs.declared.turn.Turn.TheVariants.{NoPut, Wants}
 use Rattle.core_rules.specs.Core.{State, is_ready, service_of, waiting}
 use Rattle.core_rules.specs.Turn.{turn_of, turn_at, rest_of, put_in, wanted_record, chosen_at}
-use Rattle.core_rules.specs.Reply.{replied_to}
+use Rattle.core_rules.specs.Replied.{replied_to}
 use Rattle.core_rules.specs.Run.{Entry, Took, Expired, Turned, Heard, core_after, IsRun, observed}
 use Rattle.core_rules.proofs.Runs.{core_holds_what_was_observed}
 use Rattle.core_laws.specs.Queue.{AreApart}
 use Rattle.core_laws.specs.Waits.{is_turn_of, TurnsAreOfFreeKeys}
 use Rattle.core_laws.proofs.Awaiting.{awaiting-is}
-use Rattle.core_laws.proofs.Lines.{no-true, waiting-new}
+use Rattle.core_laws.proofs.QueueOnce.{no-true, waiting-new}
 use Rattle.core_laws.proofs.Orderly.{AreAdded, IsInOrder, added, new-added, empty-order, sorted-services, took-order}
 use Rattle.core_laws.proofs.Puts.{IsWanted, wanted-of}
 use Rattle.core_laws.proofs.QuietRuns.{wants-some, none-some}

@@ -3,10 +3,10 @@ pub mod Awaiting
 pub mod Expired
 pub mod Free
 pub mod Keyed
-pub mod Lines
 pub mod NoPuts
 pub mod Orderly
 pub mod Puts
+pub mod QueueOnce
 pub mod Queued
 pub mod Quiet
 pub mod QuietLists

@@ -27,7 +27,7 @@ use Rattle.core_rules.specs.Take.{core_by, core_take, no_key, is_unlisted, liste
 use Rattle.core_rules.proofs.Concerns.{by_concern}
 use Rattle.core_laws.specs.Queue.{AreApart, NoneAmong}
 use Rattle.core_laws.proofs.Awaiting.{has_key-without}
-use Rattle.core_laws.proofs.Lines.{AreNew, apart-append, among-append, apart-kept, kept-among, among-kept, no-true, none-new, waiting-new, passing-apart, passing-found, and-left, free-parts, not-true}
+use Rattle.core_laws.proofs.QueueOnce.{AreNew, apart-append, among-append, apart-kept, kept-among, among-kept, no-true, none-new, waiting-new, passing-apart, passing-found, and-left, free-parts, not-true}
 
 -- The additions are in order: each key once, none queued, none awaiting.
 pub record AreAdded (more queue awaiting : List Key) : Type 0 where

@@ -30,14 +30,14 @@ use Rattle.core_rules.specs.Core.{State, is_ready, is_free_with, all_free, waits
 use Rattle.core_rules.specs.Keys.{own_key}
 use Rattle.core_rules.specs.Take.{core_by, core_take, no_key, is_unlisted, listed_keys, have_claims, listed_and_free, own_and_waiting, wakes, shows}
 use Rattle.core_rules.specs.Turn.{turn_of, rest_of, put_in}
-use Rattle.core_rules.specs.Reply.{replied_to}
+use Rattle.core_rules.specs.Replied.{replied_to}
 use Rattle.core_rules.specs.Run.{Entry, Took, Expired, Turned, Heard, core_after, IsRun, observed}
 use Rattle.core_rules.proofs.Concerns.{by_concern, config-services}
 use Rattle.core_rules.proofs.Runs.{core_holds_what_was_observed, took-out, heard-out}
 use Rattle.core_laws.specs.Queue.{IsHeld, QueuesAreOrderly}
 use Rattle.core_laws.proofs.Awaiting.{has_key-kept, has_key-without, flip}
 use Rattle.core_laws.proofs.Free.{runs-orderly}
-use Rattle.core_laws.proofs.Lines.{AreNew, or-either, cond-true, eq-by, passing-found, waiting-new}
+use Rattle.core_laws.proofs.QueueOnce.{AreNew, or-either, cond-true, eq-by, passing-found, waiting-new}
 use Rattle.core_laws.proofs.Orderly.{own-same, sorted-services}
 use Rattle.core_laws.proofs.Puts.{IsWanted, wanted-of}
 use Rattle.core_laws.proofs.QuietRuns.{wants-some, none-some}

@@ -30,7 +30,7 @@ use Rattle.alloc_book.proofs.ClaimLaws.{claims_of-settled}
 use Rattle.alloc_book.proofs.PendingLaws.{pending_for-stays, more-tighter}
 use Rattle.core_rules.specs.Core.{State, service_of, offer_in, is_settled, waiting, waits}
 use Rattle.core_rules.specs.Turn.{wanted_record, chosen_at}
-use Rattle.core_rules.specs.Reply.{stored, refused, in_doubt, replied_to}
+use Rattle.core_rules.specs.Replied.{stored, refused, in_doubt, replied_to}
 use Rattle.core_laws.specs.Quiet.{MeetsRow, is_put_of, IsQuiet}
 use Rattle.core_laws.proofs.Rows.{has_key-append, neither, row-on}
 use Rattle.core_laws.proofs.Quiet.{settled-parts, settled-from, waits-queued, row-handled, row-empty}

@@ -23,7 +23,7 @@ use Rattle.alloc_book.specs.Claims.{loses}
 use Rattle.core_rules.specs.Core.{State, is_ready}
 use Rattle.core_rules.specs.Take.{Configures, concern, core_by, core_take, own_and_waiting, listed_and_free, listed_keys, have_claims}
 use Rattle.core_rules.specs.Turn.{turn_of, rest_of, put_in}
-use Rattle.core_rules.specs.Reply.{replied_to}
+use Rattle.core_rules.specs.Replied.{replied_to}
 use Rattle.core_rules.specs.Run.{Entry, Took, Expired, Turned, Heard, core_after, IsRun}
 use Rattle.core_rules.proofs.Concerns.{by_concern}
 

@@ -23,7 +23,7 @@ use Rattle.alloc_book.specs.Claims.{ClaimValue, claims_of, claimed_by, added, se
 use Rattle.alloc_book.proofs.ClaimLaws.{claims_of-settled, claims_of-doubted, claims_of-others}
 use Rattle.core_rules.specs.Core.{State}
 use Rattle.core_rules.specs.Take.{concern, core_by, core_take, is_unlisted}
-use Rattle.core_rules.specs.Reply.{replied_to}
+use Rattle.core_rules.specs.Replied.{replied_to}
 use Rattle.core_rules.specs.Run.{Entry, Took, Expired, Turned, Heard, core_after, IsRun, observed, version_shown, claims_told, claims_heard, claims_shown, ClaimsAreShown}
 use Rattle.core_rules.proofs.Concerns.{by_concern}
 use Rattle.core_rules.proofs.Runs.{core_holds_what_was_observed}

@@ -12,7 +12,7 @@ use Rattle.object_history.specs.Observations.{Observation, Watched, WatchExpired
 use Rattle.core_rules.specs.Core.{State}
 use Rattle.core_rules.specs.Take.{concern, core_by, core_take, shows}
 use Rattle.core_rules.specs.Turn.{put_in}
-use Rattle.core_rules.specs.Reply.{replied_to}
+use Rattle.core_rules.specs.Replied.{replied_to}
 use Rattle.core_rules.specs.Run.{Took, Expired, Turned, Heard, core_after, told_by, heard_by, observed, HoldsWhatWasObserved}
 use Rattle.core_rules.proofs.Concerns.{by_concern}
 

@@ -18,7 +18,7 @@ use Rattle.core_rules.specs.declared.turn.Turn.{Turn}
 use Rattle.core_rules.specs.Core.{State, fresh}
 use Rattle.core_rules.specs.Take.{Concern, Shows, Drops, EndsServices, Configures, Lapses, Nothing, concern, core_take, core_expired}
 use Rattle.core_rules.specs.Turn.{core_turn, after_turn, put_in}
-use Rattle.core_rules.specs.Reply.{core_reply}
+use Rattle.core_rules.specs.Replied.{core_reply}
 
 -- what arrives at a core, and what it was made to do
 pub data Entry : Type 0 where

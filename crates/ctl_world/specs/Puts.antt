@@ -5,7 +5,7 @@ use Rattle.kube_model.specs.declared.reply.PutReply.{PutReply}
 use Rattle.status_store.specs.declared.change.Outcome.{Outcome}
 use Rattle.status_store.specs.Changes.{StoreValue, after_put, reply_to}
 use Rattle.core_rules.specs.Core.{State}
-use Rattle.core_rules.specs.Reply.{core_reply}
+use Rattle.core_rules.specs.Replied.{core_reply}
 use Rattle.world_rules.specs.World.{WorldValue, shown_put, reached}
 
 -- the controller has stopped, over this store

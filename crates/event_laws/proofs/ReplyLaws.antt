@@ -7,7 +7,7 @@ use Rattle.kube_model.specs.declared.put.Put.{Put}
 use Rattle.kube_model.specs.declared.reply.PutReply.{PutReply}
 use Rattle.kube_model.specs.declared.reply.PutReply.TheVariants as replies
 use Rattle.kube_events.specs.Event.{text_in}
-use Rattle.kube_lines.specs.Reply.{newer, version_in, reply_named, reply_of}
+use Rattle.kube_lines.specs.ReplyLines.{newer, version_in, reply_named, reply_of}
 use Rattle.event_laws.specs.Replies.{RepliesAreRead, RepliesAreJson}
 
 newer_by : (b : Bool) (n m : ℕ) → cond b (Some (replies.Ok n)) None ≡ Some (replies.Ok m) → (b ≡ true) × (n ≡ m)

@@ -23,7 +23,7 @@ use Rattle.kube_model.specs.declared.object.Kind.TheVariants as kinds
 use Rattle.kube_model.specs.declared.event.Event.{Event}
 use Rattle.kube_model.specs.declared.event.Event.TheVariants.{Changed}
 use Rattle.kube_model.specs.declared.object.Object.{Object}
-use Rattle.kube_model.specs.Words.{kind_text}
+use Rattle.kube_model.specs.LineWords.{kind_text}
 use Rattle.kube_model.specs.Named.{kind_named}
 use Rattle.kube_model.specs.SelectorFields.{selector_of}
 use Rattle.kube_events.specs.Named.{version_named, version_of}

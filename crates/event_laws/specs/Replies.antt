@@ -5,7 +5,7 @@ use Rattle.json_fields.specs.Line.{value_of_line}
 use Rattle.kube_model.specs.declared.put.Put.{Put}
 use Rattle.kube_model.specs.declared.reply.PutReply.TheVariants as replies
 use Rattle.kube_events.specs.Event.{text_in}
-use Rattle.kube_lines.specs.Reply.{version_in, reply_of}
+use Rattle.kube_lines.specs.ReplyLines.{version_in, reply_of}
 
 -- what the line of a value is as a reply
 pub record ReplyIsRead (put : Put) (line : List ℕ) (d : Data) : Type 0 where

@@ -5,7 +5,7 @@ use Rattle.serde_json.specs.Find.{get}
 use Rattle.kube_model.specs.declared.event.Event.TheVariants.{Changed}
 use Rattle.kube_model.specs.declared.object.Kind.{Kind}
 use Rattle.kube_model.specs.declared.object.Object.{Object}
-use Rattle.kube_model.specs.Words.{kind_text}
+use Rattle.kube_model.specs.LineWords.{kind_text}
 use Rattle.kube_events.specs.ObjectFields.{stated_object, changed_of, deleted_of}
 use Rattle.event_laws.specs.ObjectLines.{Spells}
 use Rattle.kube_events.specs.Event.{in_field, text_in, event_of_line}

@@ -10,7 +10,7 @@ use Rattle.kube_model.specs.declared.put.Put.{Put}
 use Rattle.kube_model.specs.declared.reason.Reason.{Reason}
 use Rattle.kube_model.specs.declared.config_fault.ConfigFault.{ConfigFault}
 use Rattle.kube_model.specs.declared.status.LaneName.{LaneName}
-use Rattle.kube_lines.specs.Lines.{quoted_texts, address_strings, put_text, put_data, pending_text, pending_data, refused_text, refused_data, took_text, took_data, address_data, announce_text, withdraw_text, send_text, send_data, update_text, update_data, record_text, record_data, trial_text, trial_data}
+use Rattle.kube_lines.specs.OutputLines.{quoted_texts, address_strings, put_text, put_data, pending_text, pending_data, refused_text, refused_data, took_text, took_data, address_data, announce_text, withdraw_text, send_text, send_data, update_text, update_data, record_text, record_data, trial_text, trial_data}
 
 no_float : (addresses : List AddressValue) → items_have_float (address_strings addresses) ≡ false
 no_float [] = refl

@@ -5,7 +5,7 @@ use Rattle.serde_json.specs.Find.{get, as_str}
 use Rattle.json_fields.specs.Line.{value_of_line}
 use Rattle.kube_model.specs.declared.put.Put.{Put}
 use Rattle.kube_model.specs.declared.reply.PutReply.TheVariants as replies
-use Rattle.kube_lines.specs.Reply.{newer, version_in, reply_named, reply_in, reply_of}
+use Rattle.kube_lines.specs.ReplyLines.{newer, version_in, reply_named, reply_in, reply_of}
 
 newer_by : (b : Bool) (put : Put) (n version : ℕ) → b ≡ ltb put.version n → cond b (Some (replies.Ok n)) None ≡ Some (replies.Ok version) → put.version < version
 newer_by true put n version s e =

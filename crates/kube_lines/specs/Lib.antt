@@ -1,2 +1,2 @@
-pub mod Lines
-pub mod Reply
+pub mod OutputLines
+pub mod ReplyLines

@@ -1,7 +1,7 @@
 //! The replies to puts.
 ghost use Rattle.std.specs.Prelude.{◌≡◌};
 ghost use Rattle.serde_json.specs.View.{view};
-ghost use Rattle.kube_lines.specs.Reply.{GivesReply, reply_in, reply_of, reply_named, newer};
+ghost use Rattle.kube_lines.specs.ReplyLines.{GivesReply, reply_in, reply_of, reply_named, newer};
 
 use json_fields::read_value;
 use kube_model::{Put, PutReply};
@@ -61,7 +61,7 @@ fn reply_in(put: &Put, value: &Value) -> Option<PutReply>
 }
 
 /// The reply that the line is to the put. `BadReply` where it is none.
-#[tactic(auto, unfolding(crate::specs::Reply::reply_of))]
+#[tactic(auto, unfolding(crate::specs::ReplyLines::reply_of))]
 pub fn read_reply(alloc: Global, put: &Put, line: &[u8]) -> Result<PutReply, ReplyFault>
     ensures { GivesReply result (reply_of put.now line.now) }
 {

@@ -5,10 +5,10 @@ pub mod Families
 pub mod Keys
 pub mod Kinds
 pub mod Lengths
+pub mod LineWords
 pub mod Named
 pub mod PortFields
 pub mod Records
 pub mod SelectorFields
 pub mod Service
 pub mod Status
-pub mod Words

@@ -1,6 +1,6 @@
 //! Why a configuration is refused.
 ghost use Rattle.std.specs.Prelude.{◌≡◌};
-ghost use Rattle.kube_model.specs.Words.{cause_text};
+ghost use Rattle.kube_model.specs.LineWords.{cause_text};
 
 use crate::object::Kind;
 use kube_labels::Text;

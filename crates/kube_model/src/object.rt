@@ -2,7 +2,7 @@
 ghost use Rattle.std.specs.Prelude.{◌≡◌};
 ghost use Rattle.kube_model.specs.Kinds.{kind_of, group_of};
 ghost use Rattle.kube_model.specs.Named.{kind_named};
-ghost use Rattle.kube_model.specs.Words.{kind_text};
+ghost use Rattle.kube_model.specs.LineWords.{kind_text};
 
 use crate::bgp::BgpAdv;
 use crate::community::CommunityList;

@@ -1,6 +1,6 @@
 //! Why a service has no address.
 ghost use Rattle.std.specs.Prelude.{◌≡◌};
-ghost use Rattle.kube_model.specs.Words.{reason_text};
+ghost use Rattle.kube_model.specs.LineWords.{reason_text};
 
 /// Why a service that is to have addresses gets none.
 #[derive(Clone, Copy, Debug, PartialEq, Eq)]

@@ -9,7 +9,7 @@ use Rattle.mlb_edge.specs.Causes.{Rose}
 use Rattle.mlb_edge.specs.declared.lines.Line.{Line}
 use Rattle.mlb_edge.specs.declared.lines.LineEnd.{LineEnd}
 use Rattle.mlb_edge.specs.declared.lines.LineEnd.TheVariants as ends
-use Rattle.mlb_edge.specs.Lines.{Input, Whole, LongLine, LongInput, Follows, EndsAs, to_come, Passes}
+use Rattle.mlb_edge.specs.InputLines.{Input, Whole, LongLine, LongInput, Follows, EndsAs, to_come, Passes}
 use Rattle.mlb_edge.specs.Reading.{Reading}
 use Rattle.mlb_edge.specs.Written.{Grows}
 use Rattle.line_run.specs.declared.halt.Halt.{Halt}
@@ -22,7 +22,7 @@ use Rattle.line_run.specs.Explains.{LimitStops, Explains}
 use Rattle.line_run.specs.Machine.{Stops, Rules}
 use Rattle.line_run.specs.Statuses.{IsHeld, IsLineStatus, IsEndStatus}
 use Rattle.line_run.specs.Steps.{Refuses, HaltsAt}
-use Rattle.line_run.specs.Written.{StopsAs, WritesOnly, WritesRead}
+use Rattle.line_run.specs.RunOutput.{StopsAs, WritesOnly, WritesRead}
 use Rattle.line_run.proofs.Driven.{Driven, still, stops, stops_at, writes_upto, writes_upto_line, writes_in_part, writes_only, writes_only_line, writes_read}
 use Rattle.line_run.proofs.Texts.{part_upto}
 

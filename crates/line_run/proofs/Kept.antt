@@ -3,7 +3,7 @@ use Rattle.std.proofs.Common.{◌≡◌, List, [], ◌∷◌, ◌++◌, ◌⊎�
 use Rattle.std.proofs.lemmas.List.{append-nil}
 use Rattle.kube_model.specs.declared.status.Status.{Status}
 use Rattle.mlb_edge.specs.declared.lines.Line.{Line}
-use Rattle.mlb_edge.specs.Lines.{Ending}
+use Rattle.mlb_edge.specs.InputLines.{Ending}
 use Rattle.line_run.specs.Machine.{Step, Goes, Stops, Rules}
 use Rattle.line_run.specs.Run.{Run, runs_on, run_from, status_at}
 

@@ -12,7 +12,7 @@ use Rattle.mlb_edge.specs.Causes.{Rose}
 use Rattle.line_run.specs.Explains.{StopsFor, IsStatusOf}
 use Rattle.line_run.specs.Machine.{Rules}
 use Rattle.line_run.specs.Statuses.{IsEndStatus, IsHeld, IsFault}
-use Rattle.line_run.specs.Written.{StopsAs, WritesInPart, WritesUpTo, WritesRead, IsReadable}
+use Rattle.line_run.specs.RunOutput.{StopsAs, WritesInPart, WritesUpTo, WritesRead, IsReadable}
 
 -- an end of the input was an end of the source
 abbrev pub AtEnd : Status → Option (List ℕ) → Type 0

@@ -7,7 +7,7 @@ use Rattle.mlb_edge.specs.Causes.{Rose}
 use Rattle.mlb_edge.specs.declared.lines.Line.{Line}
 use Rattle.mlb_edge.specs.declared.lines.LineEnd.{LineEnd}
 use Rattle.mlb_edge.specs.declared.lines.LineEnd.TheVariants.{ReadFault, LineLimit, InputLimit}
-use Rattle.mlb_edge.specs.Lines.{Input, Whole, LongLine, LongInput, Follows, EndsAs}
+use Rattle.mlb_edge.specs.InputLines.{Input, Whole, LongLine, LongInput, Follows, EndsAs}
 use Rattle.mlb_edge.specs.Rows.{HasNoNewline}
 use Rattle.mlb_edge.specs.Written.{Grows}
 use Rattle.line_run.specs.declared.halt.Refusal.{Refusal}

@@ -9,7 +9,7 @@ use Rattle.kube_model.specs.declared.status.Status.TheVariants.{Done, Usage, Ope
 use Rattle.mlb_edge.specs.Causes.{Rose}
 use Rattle.line_run.specs.Machine.{Rules}
 use Rattle.line_run.specs.Run.{run_of}
-use Rattle.line_run.specs.Written.{StopsAs, WritesInPart, WritesUpTo, WritesRead}
+use Rattle.line_run.specs.RunOutput.{StopsAs, WritesInPart, WritesUpTo, WritesRead}
 
 -- The run stopped with this status, for a cause of the machine's.
 pub record StopsFor {S E : Type 0} (rules : Rules S E) (cause : Status → Type 0) (s : S) (left before after : Option (List ℕ)) (status : Status) : Type 0 where

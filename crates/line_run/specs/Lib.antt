@@ -4,7 +4,7 @@ pub mod Ends
 pub mod Explains
 pub mod Machine
 pub mod Run
+pub mod RunOutput
 pub mod Statuses
 pub mod Steps
 pub mod Text
-pub mod Written

@@ -2,7 +2,7 @@
 ghost use Rattle.std.specs.Prelude.{◌≡◌, []};
 ghost use Rattle.line_run.specs.Clauses.{CanEnd, AtDone, AtEnd, AtBadLine, AtBadReply, AtNoReply, AtHeldLimit, AtLineLimit, AtInputLimit, AtReadFault, AfterRead, AtWriteFault, AfterWrite, AtNoMemory, IsExact, IsComplete};
 ghost use Rattle.line_run.specs.Explains.{Explains};
-ghost use Rattle.line_run.specs.Written.{WritesOnly};
+ghost use Rattle.line_run.specs.RunOutput.{WritesOnly};
 
 use crate::machine::Machine;
 use crate::step::next_step;

@@ -1,6 +1,6 @@
 //! One line of a run.
 ghost use Rattle.std.specs.Prelude.{◌≡◌, ◌≤◌, ◌<◌, ◌^◌, IfSome, IfNone};
-ghost use Rattle.mlb_edge.specs.Lines.{HoldsLine, Passes, to_come};
+ghost use Rattle.mlb_edge.specs.InputLines.{HoldsLine, Passes, to_come};
 ghost use Rattle.line_run.specs.Ends.{Drives, Ends};
 
 use crate::machine::Machine;

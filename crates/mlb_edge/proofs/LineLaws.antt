@@ -5,7 +5,7 @@ use Rattle.std.proofs.lemmas.Bool.{eqb-true, eqb-false}
 use Rattle.std.proofs.lemmas.Bool.Decides.{nat_tests}
 use Rattle.mlb_edge.specs.declared.lines.Line.{Line}
 use Rattle.mlb_edge.specs.Rows.{RawLine, lengthened, raw_lines, size_of, is_blank, HasNoNewline}
-use Rattle.mlb_edge.specs.Lines.{Input, Ending, Whole, LongLine, LongInput, no_lines, with_line, input_from, input_of, numbered}
+use Rattle.mlb_edge.specs.InputLines.{Input, Ending, Whole, LongLine, LongInput, no_lines, with_line, input_from, input_of, numbered}
 use Rattle.mlb_edge.specs.Laws.{total, AreEnded, IsCutInto, KeepLimits, IsRead}
 
 -- behind so many bytes and lines, the lines before the first that breaks a limit

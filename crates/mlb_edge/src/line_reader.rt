@@ -122,7 +122,7 @@ fn read_behind<S: Source>(
 
 impl LineReader {
     ghost use Rattle.mlb_edge.specs.Reading.{Reading};
-    ghost use Rattle.mlb_edge.specs.Lines.{passed_over, Follows, to_come, EndsAs, Whole, LongLine, LongInput, HoldsLine, Passes};
+    ghost use Rattle.mlb_edge.specs.InputLines.{passed_over, Follows, to_come, EndsAs, Whole, LongLine, LongInput, HoldsLine, Passes};
     ghost use Rattle.mlb_edge.specs.Limits.{IsLimit};
 
     /// A reader that has read nothing yet.

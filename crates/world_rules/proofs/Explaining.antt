@@ -19,7 +19,7 @@ use Rattle.core_rules.specs.declared.turn.Turn.TheVariants.{Idle, NoPut, Wants}
 use Rattle.core_rules.specs.Core.{State}
 use Rattle.core_rules.specs.Take.{core_take, core_expired}
 use Rattle.core_rules.specs.Turn.{core_turn, after_turn, put_in, rest_of}
-use Rattle.core_rules.specs.Reply.{core_reply}
+use Rattle.core_rules.specs.Replied.{core_reply}
 use Rattle.core_rules.specs.Run.{Entry, Took, Expired, Turned, Heard, core_after, put_out, MayEnter, IsRun}
 use Rattle.core_rules.proofs.Runs.{core_holds_what_was_observed, took-out, heard-out}
 use Rattle.core_laws.proofs.Expired.{expired_is_both}

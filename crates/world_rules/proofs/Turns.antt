@@ -41,7 +41,7 @@ use Rattle.core_rules.specs.declared.turn.Turn.{Turn}
 use Rattle.core_rules.specs.declared.turn.Turn.TheVariants.{Idle, NoPut, Wants}
 use Rattle.core_rules.specs.Core.{State, is_ready}
 use Rattle.core_rules.specs.Turn.{turn_at, turn_of, core_turn, after_turn, put_in, chosen_at, wanted_record, reason_in}
-use Rattle.core_rules.specs.Reply.{replied, replied_to, core_reply}
+use Rattle.core_rules.specs.Replied.{replied, replied_to, core_reply}
 use Rattle.core_rules.specs.Run.{Turned, Heard, core_after, IsRun}
 use Rattle.core_rules.proofs.Claims.{claims_are_shown}
 use Rattle.core_rules.proofs.Runs.{heard-out}

@@ -20,7 +20,7 @@ use Rattle.core_rules.specs.declared.turn.Turn.TheVariants.{Idle}
 use Rattle.core_rules.specs.Core.{State, fresh}
 use Rattle.core_rules.specs.Take.{core_take, core_expired, limits}
 use Rattle.core_rules.specs.Turn.{core_turn, after_turn, put_in}
-use Rattle.core_rules.specs.Reply.{core_reply}
+use Rattle.core_rules.specs.Replied.{core_reply}
 use Rattle.world_rules.specs.declared.step.Step.{Step}
 use Rattle.world_rules.specs.declared.step.Step.TheVariants.{Edit as Edits, Take, Turn as Turns, Crash, Restart, Expire}
 

@@ -1,5 +1,5 @@
 use Rattle.std.proofs.Common.{arith}
-use Rattle.mlb_edge.specs.Lines.{Passes-refl, Passes-append}
+use Rattle.mlb_edge.specs.InputLines.{Passes-refl, Passes-append}
 use Rattle.line_run.proofs.Driven.{begins, goes_on}
 use Rattle.line_run.proofs.Endings.{explains_step, only_step}
 use Rattle.line_run.proofs.run.drive_lines.Goals as goal

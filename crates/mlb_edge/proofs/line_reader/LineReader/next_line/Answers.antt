@@ -3,7 +3,7 @@ use Rattle.std.proofs.lemmas.Bool.{eqb-true, false≢true}
 use Rattle.std.proofs.lemmas.Result.{err_from_is_err_and}
 use Rattle.mlb_edge.specs.Reading.{Reading}
 use Rattle.mlb_edge.specs.Rows.{is_blank}
-use Rattle.mlb_edge.specs.Lines.{to_come, Follows-refl, Passes-refl}
+use Rattle.mlb_edge.specs.InputLines.{to_come, Follows-refl, Passes-refl}
 use Rattle.mlb_edge.proofs.ReaderSteps.{line_past, ends_too, ends_long, ends_far, ends_open, ends_whole, none_held, going_past, going_read, same_number, falls, passes_past}
 use Rattle.mlb_edge.proofs.line_reader.LineReader.next_line.Goals as goal
 

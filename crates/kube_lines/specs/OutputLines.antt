@@ -14,7 +14,7 @@ use Rattle.hex.specs.Hex.{encode_lower}
 use Rattle.kube_model.specs.declared.status.LaneName.{LaneName}
 use Rattle.kube_model.specs.declared.status.LaneName.TheVariants as lanes
 use Rattle.kube_model.specs.Status.{lane_text}
-use Rattle.kube_model.specs.Words.{reason_text, cause_text, kind_text}
+use Rattle.kube_model.specs.LineWords.{reason_text, cause_text, kind_text}
 
 -- the texts in quotes, with commas between
 abbrev pub quoted_texts : List (List ℕ) → List ℕ

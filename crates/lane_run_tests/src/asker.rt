@@ -1,0 +1,106 @@
+//! A reconciler that tells the lane of each item, and waits for a line.
+ghost use Rattle.std.specs.Prelude.{◌≡◌, [], OnOk, IfOk, IfErr};
+ghost use Rattle.mlb_edge.specs.InputLines.{to_come};
+ghost use Rattle.lane_run.specs.Ran.{DrivesBeginnings};
+ghost use Rattle.lane_run.specs.Views.{Outside, outside, source_view};
+ghost use Rattle.lane_run_tests.specs.Asks.{lane_byte, Hears, Unheard, Asks, AsksInVain};
+ghost use Rattle.lane_run_tests.specs.Halves.{belongs_to};
+
+use crate::halves::Halves;
+use kube_model::{LaneName, Status};
+use lane_mail::{Item, Lane};
+use lane_run::{LaneRun, Reconciler, run_lanes};
+use mlb_base::NoMemory;
+use mlb_edge::{LineEnd, LineReader, Sink, Source, put_all};
+use std::alloc::Global;
+use std::sync::Wait;
+use std::thread::Threads;
+
+fn lane_byte(lane: Lane) -> u8
+    ensures { result ≡ lane_byte lane }
+{
+    match lane {
+        Lane::First => b'1',
+        Lane::Second => b'2',
+    }
+}
+
+/// Reads a line, and passes over what it says.
+fn hear<I: Source>(reader: &mut LineReader, input: &mut I) -> Result<(), Status>
+    ensures ok { OnOk result (Hears (to_come reader.old (I.left input.old)) (to_come reader.new (I.left input.new))) }
+    ensures err { IfErr result (λ status. Unheard status
+        (to_come reader.old (I.left input.old)) (I.faults input.old) (I.faults input.new)) }
+{
+    match reader.next_line(input) {
+        Ok(Some(line)) => {
+            drop(line);
+            Ok(())
+        }
+        Ok(None) => Err(Status::Usage),
+        Err(LineEnd::ReadFault) => Err(Status::ReadFault {
+            lane: LaneName::Input,
+        }),
+        Err(_) => Err(Status::NoMemory),
+    }
+}
+
+/// Writes the byte of each item's lane, and reads a line.
+#[derive(Drop)]
+pub struct Asker;
+
+impl Reconciler for Asker {
+    ghost use Rattle.std.specs.Prelude.{⊤};
+    ghost use Rattle.lane_run_tests.specs.Asks.{Asks, AsksInVain};
+
+    ghost State = { ⊤ };
+
+    ghost state = { λ _. tt };
+
+    ghost Drives = { Asks };
+
+    ghost Refuses = { AsksInVain };
+
+    fn take<I: Source, K: Sink>(
+        &mut self,
+        _alloc: Global,
+        item: Item,
+        reader: &mut LineReader,
+        input: &mut I,
+        out: &mut K,
+    ) -> Result<(), Status> {
+        let byte = lane_byte(item.lane);
+        drop(item);
+        if put_all(out, &[byte]).is_err() {
+            return Err(Status::WriteFault);
+        }
+        hear(reader, input)
+    }
+}
+
+/// Asks for each event of both lanes.
+pub fn ask_lanes<R: Threads + Wait + Sync, S: Source + Send, I: Source + Send, K: Sink + Send>(
+    rt: &R,
+    alloc: Global,
+    first: &mut S,
+    second: &mut S,
+    input: &mut I,
+    out: &mut K,
+) -> Result<LaneRun, NoMemory>
+    ensures { IfOk result (λ run. (after : Outside) × DrivesBeginnings belongs_to Asks AsksInVain
+        (S.left first.old) (S.left second.old) tt tt
+        (outside (record { held = []; passed = 0; number = 0 })
+        (source_view (I.left input.old) (I.name input.old) (I.faults input.old))
+        (K.written out.old) (K.faults out.old)) after run.outcome) }
+{
+    let mut reader = LineReader::new(alloc)?;
+    run_lanes::<Halves, Asker, R, S, I, K>(
+        rt,
+        alloc,
+        first,
+        second,
+        &mut Asker,
+        &mut reader,
+        input,
+        out,
+    )
+}

@@ -1,2 +1,4 @@
+pub mod NamedLanes
 pub mod Reading
+pub mod Tables
 pub mod Values

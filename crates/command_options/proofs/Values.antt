@@ -21,7 +21,7 @@ pub through : {A B : Type 0} (f : A → Option B) (x : Option A) (y : B) → opt
 through f None y e = absurd (cc)
 through f (Some a) y e = (a, refl, e)
 
-pub mapped : {A B C : Type 0} (f : B → Option C) (set : A → B) (x : Option A) (y : C) → option_and_then f (option_map set x) ≡ Some y → (a : A) × (x ≡ Some a) × (f (set a) ≡ Some y)
+mapped : {A B C : Type 0} (f : B → Option C) (set : A → B) (x : Option A) (y : C) → option_and_then f (option_map set x) ≡ Some y → (a : A) × (x ≡ Some a) × (f (set a) ≡ Some y)
 mapped f set None y e = absurd (cc)
 mapped f set (Some a) y e = (a, refl, e)
 
@@ -60,14 +60,21 @@ module _ {A : Type 0} (read : List ℕ → Option A) where
   read-once (value ∷ more ∷ values) (Some a) zip = absurd zip.1
 
 -- texts as they are
-pub texts-same : (values texts : List (List ℕ)) → AllZip (Reads text_of) values texts → values ≡ texts
+texts-same : (values texts : List (List ℕ)) → AllZip (Reads text_of) values texts → values ≡ texts
 texts-same values texts zip = sym (same_from_all_zip (Reads text_of) values texts zip (λ x y e. let same : x ≡ y = cc in sym same))
 
-pub same-texts : (values texts : List (List ℕ)) → values ≡ texts → AllZip (Reads text_of) values texts
+same-texts : (values texts : List (List ℕ)) → values ≡ texts → AllZip (Reads text_of) values texts
 same-texts values texts e = subst (λ (ts : List (List ℕ)). AllZip (Reads text_of) values ts) e (each values) where
   each : (values : List (List ℕ)) → AllZip (Reads text_of) values values
   each [] = tt
   each (value ∷ values) = (refl, each values)
+
+-- the text that stands at most once
+pub once-text : (values : List (List ℕ)) (held : Option (List ℕ)) → folded (once text_of) values None ≡ Some held → values ≡ option_to_list held
+once-text values held e = texts-same values (option_to_list held) (once-read text_of values held e)
+
+pub text-once : (values : List (List ℕ)) (held : Option (List ℕ)) → values ≡ option_to_list held → folded (once text_of) values None ≡ Some held
+text-once values held e = read-once text_of values held (same-texts values (option_to_list held) e)
 
 -- ---- options by their names
 absent_by : (b : Bool) (name : List ℕ) (o : CommandOption) (options : List CommandOption) → bytes_eq o.name name ≡ b → values_of name (o ∷ options) ≡ []

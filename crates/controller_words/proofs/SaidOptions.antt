@@ -1,117 +1,168 @@
--- The options that say a run, and those that say a trial.
-use Rattle.std.proofs.Common.{◌≡◌, ◌≢◌, ℕ, ◌<◌, ◌≤◌, ◌^◌, List, [], ◌∷◌, Option, Some, None, decimal, refl, ap, ◌∙◌, subst, sym, inl, inr, ◌⊎◌}
+-- The options that say a run, those that say a trial, and those that say a run over two lanes.
+use Rattle.std.proofs.Common.{◌≡◌, ◌≢◌, ℕ, ◌<◌, ◌≤◌, ◌^◌, false, List, [], ◌∷◌, Option, Some, None, decimal, refl, ap, ◌∙◌, subst, sym, inl, inr, ◌⊎◌}
 use Rattle.std.specs.Prelude.{map}
 use Rattle.std.specs.List.{AllByRecursion}
+use Rattle.std.specs.Str.{bytes_eq}
 use Rattle.command_options.specs.Options.{CommandOption, AreOptions}
 use Rattle.command_options.specs.Values.{values_of}
+use Rattle.command_options.specs.Lanes.{LaneNames}
+use Rattle.command_options.proofs.Tables.{values-own, values-other}
 use Rattle.command_options.proofs.Values.{absent, of-values}
-use Rattle.controller_words.specs.Words.{Run, Trial, Say, IsKnown, AreTrial, RunsAreSaid, TrialsAreSaid, option_of, run_options, class_option, trial_option, steps_option, most_steps}
+use Rattle.controller_words.specs.Words.{Run, Trial, Lanes, Say, IsKnown, AreTrial, AreLanes, RunsAreSaid, TrialsAreSaid, LanesAreSaid, option_of, run_options, class_option, trial_option, steps_option, config_option, service_option, most_steps}
 
-all-of : {A : Type 0} {P Q R S : A → Type 0} → ((a : A) → P a → Q a → R a → S a) → (xs : List A) → AllByRecursion P xs → AllByRecursion Q xs → AllByRecursion R xs → AllByRecursion S xs
-all-of each [] ps qs rs = tt
-all-of each (x ∷ xs) ps qs rs = (each x ps.0 qs.0 rs.0, all-of each xs ps.1 qs.1 rs.1)
+all-of : {A : Type 0} {P Q R : A → Type 0} → ((a : A) → P a → Q a → R a) → (xs : List A) → AllByRecursion P xs → AllByRecursion Q xs → AllByRecursion R xs
+all-of each [] ps qs = tt
+all-of each (x ∷ xs) ps qs = (each x ps.0 qs.0, all-of each xs ps.1 qs.1)
 
--- ---- options of one name
-is-class : (o : CommandOption) → IsKnown o → o.name ≢ trial_option → o.name ≢ steps_option → o.name ≡ class_option
-is-class o (inl class) trial steps = class
-is-class o (inr (inl is)) trial steps = absurd (trial is)
-is-class o (inr (inr is)) trial steps = absurd (steps is)
+-- ---- options of some names
+-- the option has none of these names
+abbrev HasNone : List (List ℕ) → CommandOption → Type 0
+HasNone names o = AllByRecursion (λ name. o.name ≢ name) names
 
-is-trial : (o : CommandOption) → IsKnown o → o.name ≢ class_option → o.name ≢ steps_option → o.name ≡ trial_option
-is-trial o (inl is) class steps = absurd (class is)
-is-trial o (inr (inl trial)) class steps = trial
-is-trial o (inr (inr is)) class steps = absurd (steps is)
+-- options of these names don't stand
+abbrev StandNone : List (List ℕ) → List CommandOption → Type 0
+StandNone names options = AllByRecursion (λ name. values_of name options ≡ []) names
 
-is-steps : (o : CommandOption) → IsKnown o → o.name ≢ class_option → o.name ≢ trial_option → o.name ≡ steps_option
-is-steps o (inl is) class trial = absurd (class is)
-is-steps o (inr (inl is)) class trial = absurd (trial is)
-is-steps o (inr (inr steps)) class trial = steps
+have-none : (names : List (List ℕ)) (options : List CommandOption) → StandNone names options → AllByRecursion (HasNone names) options
+have-none [] options none = each options where
+  each : (options : List CommandOption) → AllByRecursion (HasNone []) options
+  each [] = tt
+  each (o ∷ options) = (tt, each options)
+have-none (name ∷ names) options none = all-of (λ o p q. (p, q)) options (absent name options none.0) (have-none names options none.1)
 
-abbrev Known : List CommandOption → Type 0
-Known options = AllByRecursion IsKnown options
+abbrev HasEither : List ℕ → List ℕ → CommandOption → Type 0
+HasEither one other o = (o.name ≡ one) ⊎ (o.name ≡ other)
 
-only-classes : (options : List CommandOption) (values : List (List ℕ)) → Known options → values_of trial_option options ≡ [] → values_of steps_option options ≡ [] → values_of class_option options ≡ values → options ≡ map (option_of class_option) values
-only-classes options values known seeds counts classes =
-    of-values class_option options (all-of is-class options known (absent trial_option options seeds) (absent steps_option options counts)) ∙ ap (map (option_of class_option)) classes
+swapped : (one other : List ℕ) (options : List CommandOption) → AllByRecursion (HasEither one other) options → AllByRecursion (HasEither other one) options
+swapped one other [] are = tt
+swapped one other (o ∷ options) (inl is, are) = (inr is, swapped one other options are)
+swapped one other (o ∷ options) (inr is, are) = (inl is, swapped one other options are)
 
-only-trials : (options : List CommandOption) (values : List (List ℕ)) → Known options → values_of class_option options ≡ [] → values_of steps_option options ≡ [] → values_of trial_option options ≡ values → options ≡ map (option_of trial_option) values
-only-trials options values known classes counts seeds =
-    of-values trial_option options (all-of is-trial options known (absent class_option options classes) (absent steps_option options counts)) ∙ ap (map (option_of trial_option)) seeds
+is-other : (one other : List ℕ) (o : CommandOption) → HasEither one other o → o.name ≢ one → o.name ≡ other
+is-other one other o (inl is) not = absurd (not is)
+is-other one other o (inr is) not = is
 
-only-steps : (options : List CommandOption) (values : List (List ℕ)) → Known options → values_of class_option options ≡ [] → values_of trial_option options ≡ [] → values_of steps_option options ≡ values → options ≡ map (option_of steps_option) values
-only-steps options values known classes seeds counts =
-    of-values steps_option options (all-of is-steps options known (absent class_option options classes) (absent trial_option options seeds)) ∙ ap (map (option_of steps_option)) counts
+-- the first option is the one, and the only other behind it is the other
+two-first : (one other x y : List ℕ) (o : CommandOption) (options : List CommandOption) → bytes_eq one other ≡ false → o.name ≡ one → AllByRecursion (HasEither one other) options
+    → values_of one (o ∷ options) ≡ x ∷ [] → values_of other (o ∷ options) ≡ y ∷ [] → o ∷ options ≡ option_of one x ∷ option_of other y ∷ []
+two-first one other x y o options differ is are ones others =
+    subst (λ (n : List ℕ). values_of one (option_of n o.value ∷ options) ≡ x ∷ [] → values_of other (option_of n o.value ∷ options) ≡ y ∷ [] → option_of n o.value ∷ options ≡ option_of one x ∷ option_of other y ∷ [])
+    (sym is)
+    (λ first second.
+    let both : o.value ∷ values_of one options ≡ x ∷ [] = sym (values-own one o.value options) ∙ first in
+    let value : o.value ≡ x = cc in
+    let none : values_of one options ≡ [] = cc in
+    let rest : values_of other options ≡ y ∷ [] = sym (values-other one other o.value options differ) ∙ second in
+    let last : options ≡ option_of other y ∷ [] = of-values other options (all-of (is-other one other) options are (absent one options none)) ∙ ap (map (option_of other)) rest in
+    ap (λ (v : List ℕ). option_of one v ∷ options) value ∙ ap (λ (os : List CommandOption). option_of one x ∷ os) last)
+    ones others
+
+abbrev AreTwo : List ℕ → List ℕ → List ℕ → List ℕ → List CommandOption → Type 0
+AreTwo one other x y options = (options ≡ option_of one x ∷ option_of other y ∷ []) ⊎ (options ≡ option_of other y ∷ option_of one x ∷ [])
+
+two-by : (one other x y : List ℕ) (o : CommandOption) (options : List CommandOption) → bytes_eq one other ≡ false → bytes_eq other one ≡ false → HasEither one other o → AllByRecursion (HasEither one other) options
+    → values_of one (o ∷ options) ≡ x ∷ [] → values_of other (o ∷ options) ≡ y ∷ [] → AreTwo one other x y (o ∷ options)
+two-by one other x y o options differ apart (inl is) are ones others = inl (two-first one other x y o options differ is are ones others)
+two-by one other x y o options differ apart (inr is) are ones others = inr (two-first other one y x o options apart is (swapped one other options are) others ones)
+
+-- options of two names, of which one of each stands, are these two in either order
+two-options : (one other x y : List ℕ) (options : List CommandOption) → bytes_eq one other ≡ false → bytes_eq other one ≡ false → AllByRecursion (HasEither one other) options → values_of one options ≡ x ∷ [] → values_of other options ≡ y ∷ [] → AreTwo one other x y options
+two-options one other x y [] differ apart are ones others = absurd (let wrong : [] ≡ x ∷ [] = ones in cc)
+two-options one other x y (o ∷ options) differ apart are ones others = two-by one other x y o options differ apart are.0 are.1 ones others
+
+abbrev AreSpelled : List ℕ → List ℕ → List ℕ → List ℕ → List (List ℕ) → Type 0
+AreSpelled one other x y words = AreOptions (option_of one x ∷ option_of other y ∷ []) words ⊎ AreOptions (option_of other y ∷ option_of one x ∷ []) words
+
+two-spelled : (one other x y : List ℕ) (options : List CommandOption) (words : List (List ℕ)) → AreOptions options words → AreTwo one other x y options → AreSpelled one other x y words
+two-spelled one other x y options words spelled (inl are) = inl (subst (λ (os : List CommandOption). AreOptions os words) are spelled)
+two-spelled one other x y options words spelled (inr are) = inr (subst (λ (os : List CommandOption). AreOptions os words) are spelled)
+
+-- ---- options of the table
+is-class : (o : CommandOption) → IsKnown o → HasNone (trial_option ∷ steps_option ∷ config_option ∷ service_option ∷ []) o → o.name ≡ class_option
+is-class o (inl is) (trial, (steps, (config, (service, end)))) = is
+is-class o (inr (inl is)) (trial, (steps, (config, (service, end)))) = absurd (trial is)
+is-class o (inr (inr (inl is))) (trial, (steps, (config, (service, end)))) = absurd (steps is)
+is-class o (inr (inr (inr (inl is)))) (trial, (steps, (config, (service, end)))) = absurd (config is)
+is-class o (inr (inr (inr (inr is)))) (trial, (steps, (config, (service, end)))) = absurd (service is)
+
+is-trial : (o : CommandOption) → IsKnown o → HasNone (class_option ∷ config_option ∷ service_option ∷ []) o → HasEither trial_option steps_option o
+is-trial o (inl is) (class, (config, (service, end))) = absurd (class is)
+is-trial o (inr (inl is)) (class, (config, (service, end))) = inl is
+is-trial o (inr (inr (inl is))) (class, (config, (service, end))) = inr is
+is-trial o (inr (inr (inr (inl is)))) (class, (config, (service, end))) = absurd (config is)
+is-trial o (inr (inr (inr (inr is)))) (class, (config, (service, end))) = absurd (service is)
+
+is-lane : (o : CommandOption) → IsKnown o → HasNone (class_option ∷ trial_option ∷ steps_option ∷ []) o → HasEither config_option service_option o
+is-lane o (inl is) (class, (trial, (steps, end))) = absurd (class is)
+is-lane o (inr (inl is)) (class, (trial, (steps, end))) = absurd (trial is)
+is-lane o (inr (inr (inl is))) (class, (trial, (steps, end))) = absurd (steps is)
+is-lane o (inr (inr (inr (inl is)))) (class, (trial, (steps, end))) = inl is
+is-lane o (inr (inr (inr (inr is)))) (class, (trial, (steps, end))) = inr is
+
+-- known options, of which none of these names stands, are each what is left
+left : {P : CommandOption → Type 0} (names : List (List ℕ)) → ((o : CommandOption) → IsKnown o → HasNone names o → P o) → (options : List CommandOption) → AllByRecursion IsKnown options → StandNone names options → AllByRecursion P options
+left names is options known none = all-of is options known (have-none names options none)
 
 -- ---- a run
 says-run : (words : List (List ℕ)) (class : Option (List ℕ)) → Say words (Run class) → AreOptions (run_options class) words
 says-run words class say =
-    let (classes, seeds, counts) = say.ask in
-    subst (λ (os : List CommandOption). AreOptions os words) (only-classes say.options _ say.known seeds counts classes) say.spelled
+    let (classes, seeds, counts, (config, service)) = say.ask in
+    let each = left (trial_option ∷ steps_option ∷ config_option ∷ service_option ∷ []) is-class say.options say.known (seeds, (counts, (config, (service, tt)))) in
+    subst (λ (os : List CommandOption). AreOptions os words) (of-values class_option say.options each ∙ ap (map (option_of class_option)) classes) say.spelled
 
 run-says : (words : List (List ℕ)) (class : Option (List ℕ)) → AreOptions (run_options class) words → Say words (Run class)
-run-says words None are = record { options = []; spelled = are; known = tt; ask = (refl, refl, refl) }
-run-says words (Some class) are = record { options = option_of class_option class ∷ []; spelled = are; known = (inl refl, tt); ask = (refl, refl, refl) }
+run-says words None are = record { options = []; spelled = are; known = tt; ask = (refl, refl, refl, (refl, refl)) }
+run-says words (Some class) are = record { options = option_of class_option class ∷ []; spelled = are; known = (inl refl, tt); ask = (refl, refl, refl, (refl, refl)) }
 
 pub runs_are_said : RunsAreSaid
 runs_are_said words class = (says-run words class, run-says words class)
 
 -- ---- a trial
--- The values of the options by their names, of which one of each stands for a trial.
-abbrev AreValues : List CommandOption → List ℕ → List ℕ → Type 0
-AreValues options seed steps = (values_of class_option options ≡ []) × (values_of trial_option options ≡ seed ∷ []) × (values_of steps_option options ≡ steps ∷ [])
-
-abbrev AreTwo : List CommandOption → List ℕ → List ℕ → Type 0
-AreTwo options seed steps =
-    (options ≡ option_of trial_option seed ∷ option_of steps_option steps ∷ []) ⊎ (options ≡ option_of steps_option steps ∷ option_of trial_option seed ∷ [])
-
--- what is so of each option with the name is so of the one that has it
-named-as : (P : CommandOption → Type 0) (o : CommandOption) (name : List ℕ) → o.name ≡ name → P (option_of name o.value) → P o
-named-as P o name is holds = subst (λ (n : List ℕ). P (option_of n o.value)) (sym is) holds
-
-two-by : (o : CommandOption) (options : List CommandOption) (seed steps : List ℕ) → IsKnown o → Known options → AreValues (o ∷ options) seed steps → AreTwo (o ∷ options) seed steps
-two-by o options seed steps (inl is) known =
-    named-as (λ p. AreValues (p ∷ options) seed steps → AreTwo (p ∷ options) seed steps) o class_option is
-    (λ (classes, seeds, counts). absurd (let wrong : o.value ∷ values_of class_option options ≡ [] = classes in cc))
-two-by o options seed steps (inr (inl is)) known =
-    named-as (λ p. AreValues (p ∷ options) seed steps → AreTwo (p ∷ options) seed steps) o trial_option is
-    (λ (classes, seeds, counts).
-    let both : o.value ∷ values_of trial_option options ≡ seed ∷ [] = seeds in
-    let value : o.value ≡ seed = cc in
-    let none : values_of trial_option options ≡ [] = cc in
-    inl (rw (value, only-steps options (steps ∷ []) known classes none counts) refl))
-two-by o options seed steps (inr (inr is)) known =
-    named-as (λ p. AreValues (p ∷ options) seed steps → AreTwo (p ∷ options) seed steps) o steps_option is
-    (λ (classes, seeds, counts).
-    let both : o.value ∷ values_of steps_option options ≡ steps ∷ [] = counts in
-    let value : o.value ≡ steps = cc in
-    let none : values_of steps_option options ≡ [] = cc in
-    inr (rw (value, only-trials options (seed ∷ []) known classes none seeds) refl))
-
-two-options : (options : List CommandOption) (seed steps : List ℕ) → Known options → AreValues options seed steps → AreTwo options seed steps
-two-options [] seed steps known (classes, seeds, counts) = absurd (let wrong : [] ≡ seed ∷ [] = seeds in cc)
-two-options (o ∷ options) seed steps known values = two-by o options seed steps known.0 known.1 values
-
-spelled-trial : (words : List (List ℕ)) (options : List CommandOption) (seed steps : ℕ) → AreOptions options words → AreTwo options (decimal seed) (decimal steps) → AreTrial words seed steps
-spelled-trial words options seed steps spelled (inl are) = inl (subst (λ (os : List CommandOption). AreOptions os words) are spelled)
-spelled-trial words options seed steps spelled (inr are) = inr (subst (λ (os : List CommandOption). AreOptions os words) are spelled)
+says-trial : (words : List (List ℕ)) (seed steps : ℕ) → Say words (Trial seed steps) → (seed < 2 ^ 64) × (steps ≤ most_steps) × AreTrial words seed steps
+says-trial words seed steps say =
+    let (classes, seeds, counts, wide, few, (config, service)) = say.ask in
+    let each = left (class_option ∷ config_option ∷ service_option ∷ []) is-trial say.options say.known (classes, (config, (service, tt))) in
+    let two = two-options trial_option steps_option (decimal seed) (decimal steps) say.options refl refl each seeds counts in
+    (wide, few, two-spelled trial_option steps_option (decimal seed) (decimal steps) say.options words say.spelled two)
 
 trial-says : (words : List (List ℕ)) (seed steps : ℕ) → seed < 2 ^ 64 → steps ≤ most_steps → AreTrial words seed steps → Say words (Trial seed steps)
 trial-says words seed steps wide few (inl are) = record {
   options = option_of trial_option (decimal seed) ∷ option_of steps_option (decimal steps) ∷ [];
   spelled = are;
-  known = (inr (inl refl), (inr (inr refl), tt));
-  ask = (refl, refl, refl, wide, few);
+  known = (inr (inl refl), (inr (inr (inl refl)), tt));
+  ask = (refl, refl, refl, wide, few, (refl, refl));
 }
 trial-says words seed steps wide few (inr are) = record {
   options = option_of steps_option (decimal steps) ∷ option_of trial_option (decimal seed) ∷ [];
   spelled = are;
-  known = (inr (inr refl), (inr (inl refl), tt));
-  ask = (refl, refl, refl, wide, few);
+  known = (inr (inr (inl refl)), (inr (inl refl), tt));
+  ask = (refl, refl, refl, wide, few, (refl, refl));
 }
 
 pub trials_are_said : TrialsAreSaid
-trials_are_said words seed steps = (
-  λ say. let (classes, seeds, counts, wide, few) = say.ask in
-      (wide, few, spelled-trial words say.options seed steps say.spelled (two-options say.options (decimal seed) (decimal steps) say.known (classes, seeds, counts))),
-  λ (wide, few, are). trial-says words seed steps wide few are,
-)
+trials_are_said words seed steps = (says-trial words seed steps, λ (wide, few, are). trial-says words seed steps wide few are)
+
+-- ---- a run over two lanes
+says-lanes : (words : List (List ℕ)) (files : LaneNames) → Say words (Lanes None files) → (files.first ≢ files.second) × AreLanes words files
+says-lanes words files say =
+    let (classes, seeds, counts, (config, service, apart)) = say.ask in
+    let each = left (class_option ∷ trial_option ∷ steps_option ∷ []) is-lane say.options say.known (classes, (seeds, (counts, tt))) in
+    let two = two-options config_option service_option files.first files.second say.options refl refl each config service in
+    (apart, two-spelled config_option service_option files.first files.second say.options words say.spelled two)
+
+lanes-say : (words : List (List ℕ)) (files : LaneNames) → files.first ≢ files.second → AreLanes words files → Say words (Lanes None files)
+lanes-say words files apart (inl are) = record {
+  options = option_of config_option files.first ∷ option_of service_option files.second ∷ [];
+  spelled = are;
+  known = (inr (inr (inr (inl refl))), (inr (inr (inr (inr refl))), tt));
+  ask = (refl, refl, refl, (refl, refl, apart));
+}
+lanes-say words files apart (inr are) = record {
+  options = option_of service_option files.second ∷ option_of config_option files.first ∷ [];
+  spelled = are;
+  known = (inr (inr (inr (inr refl))), (inr (inr (inr (inl refl))), tt));
+  ask = (refl, refl, refl, (refl, refl, apart));
+}
+
+pub lanes_are_said : LanesAreSaid
+lanes_are_said words files = (says-lanes words files, λ (apart, are). lanes-say words files apart are)

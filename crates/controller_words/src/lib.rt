@@ -5,5 +5,6 @@ mod laws;
 mod numbers;
 mod words;
 
-pub use laws::{runs_are_said, trials_are_said};
+pub use command_options::LaneFiles;
+pub use laws::{lanes_are_said, runs_are_said, trials_are_said};
 pub use words::{Asked, controller_words};

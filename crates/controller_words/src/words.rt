@@ -3,11 +3,11 @@ ghost use Rattle.std.specs.Prelude.{◌≡◌, IfSome, IfNone};
 ghost use Rattle.std.specs.Option.{option_map};
 ghost use Rattle.command_options.specs.Options.{texts_of};
 ghost use Rattle.controller_words.specs.Words.{Say, AreKnown};
-ghost use Rattle.controller_words.specs.Reading.{asked_in, given_in, nothing_given, with_option, with_class, with_seed, with_steps, finished};
+ghost use Rattle.controller_words.specs.Reading.{asked_in, Given as GivenValue, with_option, with_class, with_seed, with_steps, with_config, with_service, finished};
 ghost use Rattle.controller_words.specs.Seen.{asked_seen, given_seen};
 
 use crate::numbers::{number_of, steps_of};
-use command_options::first_option;
+use command_options::{GivenLanes, LaneFiles, TakesOptions, lane_files, taken_options};
 
 const CLASS_OPTION: &str = "--lb-class";
 
@@ -15,13 +15,27 @@ const TRIAL_OPTION: &str = "--trial";
 
 const STEPS_OPTION: &str = "--steps";
 
+const CONFIG_OPTION: &str = "--config-lane";
+
+const SERVICE_OPTION: &str = "--service-lane";
+
 /// What the words ask for.
 #[derive(Clone, Copy)]
 pub enum Asked<'a> {
     /// A run for the services of the class, a text that isn't empty; with none, for those that name none.
-    Run { class: Option<&'a str> },
+    Run {
+        class: Option<&'a str>,
+    },
     /// A trial of so many steps, 100000 at most, from the seed.
-    Trial { seed: u64, steps: u32 },
+    Trial {
+        seed: u64,
+        steps: u32,
+    },
+    /// A run over two lane files, first that of the configuration, second that of the services, for the services of the class.
+    Lanes {
+        class: Option<&'a str>,
+        files: LaneFiles<'a>,
+    },
 }
 
 /// What options said so far.
@@ -30,13 +44,15 @@ struct Given<'a> {
     class: Option<&'a str>,
     seed: Option<u64>,
     steps: Option<u32>,
+    lanes: GivenLanes<'a>,
 }
 
 /// What the words ask for, where they are of the controller's table.
 ///
-/// The table: `--lb-class CLASS`, or nothing, for a run; `--trial SEED` and `--steps N` with nothing else, in either order, for a trial. The
-/// seed is from 0 to 2^64 - 1, the steps are from 0 to 100000, both decimal without sign or leading zeros. Each option is one word with `=`,
-/// or two, and stands once. `None` where the words aren't of the table. It takes no memory.
+/// The table: `--lb-class CLASS`, or nothing, for a run; `--config-lane FILE` and `--service-lane FILE`, both, of distinct names, beside
+/// either for a run over these two files; `--trial SEED` and `--steps N` with nothing else for a trial. The seed is from 0 to 2^64 - 1, the
+/// steps are from 0 to 100000, both decimal without sign or leading zeros. Options stand in any order, each at most once, in one word with
+/// `=` or in two. `None` where the words aren't of the table. It takes no memory.
 pub fn controller_words(words: &[String]) -> Option<Asked<'_>>
     ensures value { option_map asked_seen result ≡ asked_in (texts_of words.now) }
 
@@ -50,36 +66,35 @@ pub fn controller_words(words: &[String]) -> Option<Asked<'_>>
 fn read_words(words: &[String]) -> Option<Asked<'_>>
     ensures { option_map asked_seen result ≡ asked_in (texts_of words.now) }
 {
-    let given = given_in(words)?;
-    finished(given)
-}
-
-fn given_in(words: &[String]) -> Option<Given<'_>>
-    ensures { option_map given_seen result ≡ given_in (texts_of words.now) nothing_given }
-{
-    let mut given = Given {
+    let nothing = Given {
         class: None,
         seed: None,
         steps: None,
+        lanes: GivenLanes {
+            first: None,
+            second: None,
+        },
     };
-    let mut rest = words;
-    'options: while !rest.is_empty() {
-        let option = first_option(rest)?;
-        given = with_option(given, option.name, option.value)?;
-        rest = option.rest;
-    }
-    Some(given)
+    finished(taken_options(words, nothing)?)
 }
 
-/// The option is given too, where it wasn't.
-fn with_option<'a>(given: Given<'a>, name: &str, value: &'a str) -> Option<Given<'a>>
-    ensures { option_map given_seen result ≡ with_option name.now value.now (given_seen given.entry) }
-{
-    match name {
-        CLASS_OPTION => with_class(given, value),
-        TRIAL_OPTION => with_seed(given, value),
-        STEPS_OPTION => with_steps(given, value),
-        _ => None,
+impl<'a> TakesOptions<'a> for Given<'a> {
+    ghost Said = { GivenValue };
+
+    ghost said = { given_seen };
+
+    ghost step = { with_option };
+
+    /// The option is given too, where it wasn't.
+    fn with_option(self, name: &'a str, value: &'a str) -> Option<Self> {
+        match name {
+            CLASS_OPTION => with_class(self, value),
+            TRIAL_OPTION => with_seed(self, value),
+            STEPS_OPTION => with_steps(self, value),
+            CONFIG_OPTION => with_config(self, value),
+            SERVICE_OPTION => with_service(self, value),
+            _ => None,
+        }
     }
 }
 
@@ -119,12 +134,32 @@ fn with_steps<'a>(given: Given<'a>, value: &str) -> Option<Given<'a>>
     }
 }
 
+fn with_config<'a>(given: Given<'a>, value: &'a str) -> Option<Given<'a>>
+    ensures { option_map given_seen result ≡ with_config value.now (given_seen given.entry) }
+{
+    Some(Given {
+        lanes: given.lanes.with_first(value)?,
+        ..given
+    })
+}
+
+fn with_service<'a>(given: Given<'a>, value: &'a str) -> Option<Given<'a>>
+    ensures { option_map given_seen result ≡ with_service value.now (given_seen given.entry) }
+{
+    Some(Given {
+        lanes: given.lanes.with_second(value)?,
+        ..given
+    })
+}
+
 fn finished(given: Given<'_>) -> Option<Asked<'_>>
     ensures { option_map asked_seen result ≡ finished (given_seen given.entry) }
 {
-    match (given.class, given.seed, given.steps) {
-        (class, None, None) => Some(Asked::Run { class }),
-        (None, Some(seed), Some(steps)) => Some(Asked::Trial { seed, steps }),
+    let lanes = lane_files(given.lanes.first, given.lanes.second)?;
+    match (given.class, given.seed, given.steps, lanes) {
+        (class, None, None, None) => Some(Asked::Run { class }),
+        (class, None, None, Some(files)) => Some(Asked::Lanes { class, files }),
+        (None, Some(seed), Some(steps), None) => Some(Asked::Trial { seed, steps }),
         _ => None,
     }
 }

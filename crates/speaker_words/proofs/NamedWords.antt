@@ -3,13 +3,12 @@ use Rattle.std.proofs.Common.{◌≡◌, ℕ, ◌<◌, Bool, true, false, cond, 
 use Rattle.std.specs.Prelude.{option_and_then, Result}
 use Rattle.std.specs.List.{AllByRecursion, AllZip}
 use Rattle.std.specs.Option.{option_map, option_to_list}
-use Rattle.std.specs.Str.{bytes_eq}
-use Rattle.std.proofs.lemmas.Option.{same_Some}
-use Rattle.std.proofs.lemmas.Slice.Eq.{bytes_eq-Decides}
-use Rattle.command_options.specs.Options.{CommandOption, options_in}
-use Rattle.command_options.specs.Values.{values_of, once, text_of}
-use Rattle.command_options.proofs.Reading.{options_are_read}
-use Rattle.command_options.proofs.Values.{folded, through, mapped, goes, zip-each, once-read, read-once, texts-same, same-texts, sets}
+use Rattle.command_options.specs.Options.{CommandOption}
+use Rattle.command_options.specs.Values.{values_of, once, text_of, taken_in}
+use Rattle.command_options.specs.Lanes.{LaneNames, LanesGiven, lanes_of}
+use Rattle.command_options.proofs.Values.{through, zip-each, once-read, read-once, once-text, text-once}
+use Rattle.command_options.proofs.NamedLanes.{given_lanes, given-lanes, named-give, give-named, named-lanes}
+use Rattle.command_options.proofs.Tables.{Keeps, Table, Part, words-give, give-words, named-or, named-last, part-of-part}
 use Rattle.ip_ranges.specs.declared.family.Family.TheVariants.{V4, V6}
 use Rattle.ip_ranges.specs.declared.fault.RangeFault.{RangeFault}
 use Rattle.ip_ranges.specs.Values.{AddressValue, IsMapped, same_family}
@@ -17,8 +16,8 @@ use Rattle.ip_ranges.specs.AddressText.{address_of}
 use Rattle.ip_ranges.proofs.AddressLaws.{same_family-is}
 use Rattle.ip_ranges.proofs.SpelledLemmas.{address_of-ok}
 use Rattle.speaker_words.specs.Interface.{InterfaceValue}
-use Rattle.speaker_words.specs.Words.{Said, Say, IsKnown, IsNextHop, node_option, class_option, interface_option, next_hop_option}
-use Rattle.speaker_words.specs.Reading.{Given, nothing_given, one_more, only_v4, next_hop_of, with_node, with_class, with_interface, with_next_hop, with_option, given_by, given_in, finished, said_in}
+use Rattle.speaker_words.specs.Words.{Said, Say, IsKnown, IsNextHop, node_option, class_option, interface_option, next_hop_option, watch_option, frame_option}
+use Rattle.speaker_words.specs.Reading.{Given, nothing_given, one_more, only_v4, next_hop_of, with_lanes, with_option, said_by, finished, said_in}
 use Rattle.speaker_words.proofs.Folded.{fold-adds, adds-fold}
 
 -- ---- the next hop
@@ -39,198 +38,181 @@ hop-read text a is =
     let read : address_of text ≡ Ok a = (address_of-ok text a).1 (is.1, free) in
     ap only_v4 read ∙ rw (is.0) refl
 
--- ---- options one behind the other
--- Behind what was given, the options give this.
-record Gives (options : List CommandOption) (g h : Given) : Type 0 where
-  known : AllByRecursion IsKnown options
-  node : folded (once text_of) (values_of node_option options) g.node ≡ Some h.node
-  class : folded (once text_of) (values_of class_option options) g.class ≡ Some h.class
-  interfaces : folded one_more (values_of interface_option options) g.interfaces ≡ Some h.interfaces
-  next_hop : folded (once next_hop_of) (values_of next_hop_option options) g.next_hop ≡ Some h.next_hop
+-- ---- the table of the options
+data Named : Type 0 where
+  Node : Named
+  Class : Named
+  Interfaces : Named
+  NextHop : Named
+  Watch : Named
+  Frame : Named
 
--- an option with this name and value, and the others
-abbrev ahead : List ℕ → List ℕ → List CommandOption → List CommandOption
-ahead name value options = record { name = name; value = value } ∷ options
+abbrev named : List Named
+named = Node ∷ Class ∷ Interfaces ∷ NextHop ∷ Watch ∷ Frame ∷ []
 
--- the options give this behind whatever was given
-abbrev Follow : List CommandOption → Given → Type 0
-Follow options h = (next : Given) → given_by options next ≡ Some h → Gives options next h
+abbrev Value : Named → Type 0
+Value Interfaces = List InterfaceValue
+Value NextHop = Option AddressValue
+Value Node = Option (List ℕ)
+Value Class = Option (List ℕ)
+Value Watch = Option (List ℕ)
+Value Frame = Option (List ℕ)
 
-node-gives : (value : List ℕ) (options : List CommandOption) (g h : Given) → option_and_then (given_by options) (with_node value g) ≡ Some h → Follow options h → Gives (ahead node_option value options) g h
-node-gives value options g h e rest =
-    let (node, taken, end) = mapped (given_by options) _ (once text_of value g.node) h e in
-    let more = rest (record { node = node; class = g.class; interfaces = g.interfaces; next_hop = g.next_hop }) end in
-    record {
-      known = (inl refl, more.known);
-      node = goes (once text_of) value (values_of node_option options) g.node node (Some h.node) taken more.node;
-      class = more.class;
-      interfaces = more.interfaces;
-      next_hop = more.next_hop;
-    }
+abbrev name : Named → List ℕ
+name Node = node_option
+name Class = class_option
+name Interfaces = interface_option
+name NextHop = next_hop_option
+name Watch = watch_option
+name Frame = frame_option
 
-class-gives : (value : List ℕ) (options : List CommandOption) (g h : Given) → option_and_then (given_by options) (with_class value g) ≡ Some h → Follow options h → Gives (ahead class_option value options) g h
-class-gives value options g h e rest =
-    let (class, taken, end) = mapped (given_by options) _ (once text_of value g.class) h e in
-    let more = rest (record { node = g.node; class = class; interfaces = g.interfaces; next_hop = g.next_hop }) end in
-    record {
-      known = (inr (inl refl), more.known);
-      class = goes (once text_of) value (values_of class_option options) g.class class (Some h.class) taken more.class;
-      node = more.node;
-      interfaces = more.interfaces;
-      next_hop = more.next_hop;
-    }
+abbrev part : (i : Named) → Given → Value i
+part Node g = g.node
+part Class g = g.class
+part Interfaces g = g.interfaces
+part NextHop g = g.next_hop
+part Watch g = g.lanes.first
+part Frame g = g.lanes.second
 
-interface-gives : (value : List ℕ) (options : List CommandOption) (g h : Given) → option_and_then (given_by options) (with_interface value g) ≡ Some h → Follow options h → Gives (ahead interface_option value options) g h
-interface-gives value options g h e rest =
-    let (interfaces, taken, end) = mapped (given_by options) _ (one_more value g.interfaces) h e in
-    let more = rest (record { node = g.node; class = g.class; interfaces = interfaces; next_hop = g.next_hop }) end in
-    record {
-      known = (inr (inr (inl refl)), more.known);
-      interfaces = goes one_more value (values_of interface_option options) g.interfaces interfaces (Some h.interfaces) taken more.interfaces;
-      node = more.node;
-      class = more.class;
-      next_hop = more.next_hop;
-    }
+abbrev with_part : (i : Named) → Value i → Given → Given
+with_part Node node g = record { node = node; class = g.class; interfaces = g.interfaces; next_hop = g.next_hop; lanes = g.lanes }
+with_part Class class g = record { node = g.node; class = class; interfaces = g.interfaces; next_hop = g.next_hop; lanes = g.lanes }
+with_part Interfaces interfaces g = record { node = g.node; class = g.class; interfaces = interfaces; next_hop = g.next_hop; lanes = g.lanes }
+with_part NextHop hop g = record { node = g.node; class = g.class; interfaces = g.interfaces; next_hop = hop; lanes = g.lanes }
+with_part Watch file g = with_lanes (record { first = file; second = g.lanes.second }) g
+with_part Frame file g = with_lanes (record { first = g.lanes.first; second = file }) g
 
-next_hop-gives : (value : List ℕ) (options : List CommandOption) (g h : Given) → option_and_then (given_by options) (with_next_hop value g) ≡ Some h → Follow options h → Gives (ahead next_hop_option value options) g h
-next_hop-gives value options g h e rest =
-    let (next_hop, taken, end) = mapped (given_by options) _ (once next_hop_of value g.next_hop) h e in
-    let more = rest (record { node = g.node; class = g.class; interfaces = g.interfaces; next_hop = next_hop }) end in
-    record {
-      known = (inr (inr (inr refl)), more.known);
-      next_hop = goes (once next_hop_of) value (values_of next_hop_option options) g.next_hop next_hop (Some h.next_hop) taken more.next_hop;
-      node = more.node;
-      class = more.class;
-      interfaces = more.interfaces;
-    }
+abbrev take : (i : Named) → List ℕ → Value i → Option (Value i)
+take Node = once text_of
+take Class = once text_of
+take Interfaces = one_more
+take NextHop = once next_hop_of
+take Watch = once text_of
+take Frame = once text_of
 
--- an option of this name gives as one of the name that it is
-renamed : (o : CommandOption) (name : List ℕ) (options : List CommandOption) (g h : Given) → bytes_eq o.name name ≡ true → Gives (ahead name o.value options) g h → Gives (o ∷ options) g h
-renamed o name options g h t gives = subst (λ (n : List ℕ). Gives (ahead n o.value options) g h) (sym ((bytes_eq-Decides o.name name).0 t)) gives
+at : (i : Named) (P : Named → Type 0) → AllByRecursion P named → P i
+at Node P ps = ps.0
+at Class P ps = ps.1.0
+at Interfaces P ps = ps.1.1.0
+at NextHop P ps = ps.1.1.1.0
+at Watch P ps = ps.1.1.1.1.0
+at Frame P ps = ps.1.1.1.1.1.0
 
-option-gives : (o : CommandOption) (options : List CommandOption) (g h : Given) → given_by (o ∷ options) g ≡ Some h → Follow options h → Gives (o ∷ options) g h
-option-gives o options g h e rest =
-    by (bytes_eq o.name node_option) (bytes_eq o.name class_option) (bytes_eq o.name interface_option) (bytes_eq o.name next_hop_option) refl refl refl refl e where
-      by : (node class interface next_hop : Bool) → bytes_eq o.name node_option ≡ node → bytes_eq o.name class_option ≡ class → bytes_eq o.name interface_option ≡ interface → bytes_eq o.name next_hop_option ≡ next_hop
-          → option_and_then (given_by options) (cond node (with_node o.value g) (cond class (with_class o.value g) (cond interface (with_interface o.value g) (cond next_hop (with_next_hop o.value g) None)))) ≡ Some h
-          → Gives (o ∷ options) g h
-      by true class interface next_hop t u v w f = renamed o node_option options g h t (node-gives o.value options g h f rest)
-      by false true interface next_hop t u v w f = renamed o class_option options g h u (class-gives o.value options g h f rest)
-      by false false true next_hop t u v w f = renamed o interface_option options g h v (interface-gives o.value options g h f rest)
-      by false false false true t u v w f = renamed o next_hop_option options g h w (next_hop-gives o.value options g h f rest)
-      by false false false false t u v w f = absurd (cc)
+taken : (i : Named) (value : List ℕ) (g : Given) → with_option (name i) value g ≡ option_map (λ a. with_part i a g) (take i value (part i g))
+taken Node value g = refl
+taken Class value g = refl
+taken Interfaces value g = refl
+taken NextHop value g = refl
+taken Watch value g = part-of-part (λ lanes. with_lanes lanes g) (λ file. record { first = file; second = g.lanes.second }) (once text_of value g.lanes.first)
+taken Frame value g = part-of-part (λ lanes. with_lanes lanes g) (λ file. record { first = g.lanes.first; second = file }) (once text_of value g.lanes.second)
 
-given-gives : (options : List CommandOption) (g h : Given) → given_by options g ≡ Some h → Gives options g h
-given-gives [] g h e =
-    let is : g ≡ h = cc in
-    record {
-      known = tt;
-      node = ap (λ (x : Given). Some x.node) is;
-      class = ap (λ (x : Given). Some x.class) is;
-      interfaces = ap (λ (x : Given). Some x.interfaces) is;
-      next_hop = ap (λ (x : Given). Some x.next_hop) is;
-    }
-given-gives (o ∷ options) g h e = option-gives o options g h e (λ next. given-gives options next h)
+is : (o : CommandOption) (g h : Given) → with_option o.name o.value g ≡ Some h → IsKnown o
+is o g h =
+    named-or o.name node_option _ _ h
+    (named-or o.name class_option _ _ h
+    (named-or o.name interface_option _ _ h
+    (named-or o.name next_hop_option _ _ h (named-or o.name watch_option _ _ h (named-last o.name frame_option _ h)))))
 
--- ---- and the other way round
-abbrev Lead : List CommandOption → Given → Type 0
-Lead options h = (next : Given) → Gives options next h → given_by options next ≡ Some h
+which : (o : CommandOption) → IsKnown o → (i : Named) × (o.name ≡ name i)
+which o (inl is) = (Node, is)
+which o (inr (inl is)) = (Class, is)
+which o (inr (inr (inl is))) = (Interfaces, is)
+which o (inr (inr (inr (inl is)))) = (NextHop, is)
+which o (inr (inr (inr (inr (inl is))))) = (Watch, is)
+which o (inr (inr (inr (inr (inr is))))) = (Frame, is)
 
-gives-node : (value : List ℕ) (options : List CommandOption) (g h : Given) → Gives (ahead node_option value options) g h → Lead options h → option_and_then (given_by options) (with_node value g) ≡ Some h
-gives-node value options g h gives rest =
-    let (node, taken, end) = through (folded (once text_of) (values_of node_option options)) (once text_of value g.node) h.node gives.node in
-    let next : Given = record { node = node; class = g.class; interfaces = g.interfaces; next_hop = g.next_hop } in
-    sets with_option _ (once text_of value g.node) node options h taken
-    (rest next (record { known = gives.known.1; node = end; class = gives.class; interfaces = gives.interfaces; next_hop = gives.next_hop }))
+own : (i : Named) (a : Value i) (g : Given) → part i (with_part i a g) ≡ a
+own Node a g = refl
+own Class a g = refl
+own Interfaces a g = refl
+own NextHop a g = refl
+own Watch a g = refl
+own Frame a g = refl
 
-gives-class : (value : List ℕ) (options : List CommandOption) (g h : Given) → Gives (ahead class_option value options) g h → Lead options h → option_and_then (given_by options) (with_class value g) ≡ Some h
-gives-class value options g h gives rest =
-    let (class, taken, end) = through (folded (once text_of) (values_of class_option options)) (once text_of value g.class) h.class gives.class in
-    let next : Given = record { node = g.node; class = class; interfaces = g.interfaces; next_hop = g.next_hop } in
-    sets with_option _ (once text_of value g.class) class options h taken
-    (rest next (record { known = gives.known.1; node = gives.node; class = end; interfaces = gives.interfaces; next_hop = gives.next_hop }))
+others : (i : Named) (a : Value i) (g : Given) → AllByRecursion (Keeps IsKnown with_option named name part with_part take i a g) named
+others Node a g = (inl refl, (inr (refl, refl), (inr (refl, refl), (inr (refl, refl), (inr (refl, refl), (inr (refl, refl), (tt)))))))
+others Class a g = (inr (refl, refl), (inl refl, (inr (refl, refl), (inr (refl, refl), (inr (refl, refl), (inr (refl, refl), (tt)))))))
+others Interfaces a g = (inr (refl, refl), (inr (refl, refl), (inl refl, (inr (refl, refl), (inr (refl, refl), (inr (refl, refl), (tt)))))))
+others NextHop a g = (inr (refl, refl), (inr (refl, refl), (inr (refl, refl), (inl refl, (inr (refl, refl), (inr (refl, refl), (tt)))))))
+others Watch a g = (inr (refl, refl), (inr (refl, refl), (inr (refl, refl), (inr (refl, refl), (inl refl, (inr (refl, refl), (tt)))))))
+others Frame a g = (inr (refl, refl), (inr (refl, refl), (inr (refl, refl), (inr (refl, refl), (inr (refl, refl), (inl refl, (tt)))))))
 
-gives-interface : (value : List ℕ) (options : List CommandOption) (g h : Given) → Gives (ahead interface_option value options) g h → Lead options h → option_and_then (given_by options) (with_interface value g) ≡ Some h
-gives-interface value options g h gives rest =
-    let (interfaces, taken, end) = through (folded one_more (values_of interface_option options)) (one_more value g.interfaces) h.interfaces gives.interfaces in
-    let next : Given = record { node = g.node; class = g.class; interfaces = interfaces; next_hop = g.next_hop } in
-    sets with_option _ (one_more value g.interfaces) interfaces options h taken
-    (rest next (record { known = gives.known.1; node = gives.node; class = gives.class; interfaces = end; next_hop = gives.next_hop }))
+same : (g h : Given) → ((i : Named) → part i g ≡ part i h) → g ≡ h
+same g h is =
+    ap (λ (x : Option (List ℕ)). with_part Node x g) (is Node)
+    ∙ ap (λ (x : Option (List ℕ)). with_part Node h.node (with_part Class x g)) (is Class)
+    ∙ ap (λ (x : List InterfaceValue). with_part Node h.node (with_part Class h.class (with_part Interfaces x g))) (is Interfaces)
+    ∙ ap (λ (x : Option AddressValue). with_part NextHop x (with_lanes g.lanes h)) (is NextHop)
+    ∙ ap (λ (x : Option (List ℕ)). with_lanes (record { first = x; second = g.lanes.second }) h) (is Watch)
+    ∙ ap (λ (x : Option (List ℕ)). with_lanes (record { first = h.lanes.first; second = x }) h) (is Frame)
 
-gives-next_hop : (value : List ℕ) (options : List CommandOption) (g h : Given) → Gives (ahead next_hop_option value options) g h → Lead options h → option_and_then (given_by options) (with_next_hop value g) ≡ Some h
-gives-next_hop value options g h gives rest =
-    let (next_hop, taken, end) = through (folded (once next_hop_of) (values_of next_hop_option options)) (once next_hop_of value g.next_hop) h.next_hop gives.next_hop in
-    let next : Given = record { node = g.node; class = g.class; interfaces = g.interfaces; next_hop = next_hop } in
-    sets with_option _ (once next_hop_of value g.next_hop) next_hop options h taken
-    (rest next (record { known = gives.known.1; node = gives.node; class = gives.class; interfaces = gives.interfaces; next_hop = end }))
+table : Table IsKnown with_option named name part with_part take
+table = record { taken = taken; is = is; which = which; own = own; others = others; same = same }
 
--- an option of this name is that option
-named-as : (o : CommandOption) (name : List ℕ) (options : List CommandOption) (g h : Given) → o.name ≡ name → Gives (o ∷ options) g h
-    → (Gives (ahead name o.value options) g h → given_by (ahead name o.value options) g ≡ Some h) → given_by (o ∷ options) g ≡ Some h
-named-as o name options g h named gives by =
-    ap (λ (n : List ℕ). given_by (ahead n o.value options) g) named ∙ by (subst (λ (n : List ℕ). Gives (ahead n o.value options) g h) named gives)
-
-gives-by : (o : CommandOption) (options : List CommandOption) (g h : Given) → IsKnown o → Gives (o ∷ options) g h → Lead options h → given_by (o ∷ options) g ≡ Some h
-gives-by o options g h (inl named) gives rest = named-as o node_option options g h named gives (λ same. gives-node o.value options g h same rest)
-gives-by o options g h (inr (inl named)) gives rest = named-as o class_option options g h named gives (λ same. gives-class o.value options g h same rest)
-gives-by o options g h (inr (inr (inl named))) gives rest = named-as o interface_option options g h named gives (λ same. gives-interface o.value options g h same rest)
-gives-by o options g h (inr (inr (inr named))) gives rest = named-as o next_hop_option options g h named gives (λ same. gives-next_hop o.value options g h same rest)
-
-gives-given : (options : List CommandOption) (g h : Given) → Gives options g h → given_by options g ≡ Some h
-gives-given [] g h gives =
-    let node : g.node ≡ h.node = same_Some g.node h.node gives.node in
-    let class : g.class ≡ h.class = same_Some g.class h.class gives.class in
-    let interfaces : g.interfaces ≡ h.interfaces = same_Some g.interfaces h.interfaces gives.interfaces in
-    let next_hop : g.next_hop ≡ h.next_hop = same_Some g.next_hop h.next_hop gives.next_hop in
-    ap (λ (x : Option (List ℕ)). Some (record { node = x; class = g.class; interfaces = g.interfaces; next_hop = g.next_hop })) node
-    ∙ ap (λ (x : Option (List ℕ)). Some (record { node = h.node; class = x; interfaces = g.interfaces; next_hop = g.next_hop })) class
-    ∙ ap (λ (x : List InterfaceValue). Some (record { node = h.node; class = h.class; interfaces = x; next_hop = g.next_hop })) interfaces
-    ∙ ap (λ (x : Option AddressValue). Some (record { node = h.node; class = h.class; interfaces = h.interfaces; next_hop = x })) next_hop
-gives-given (o ∷ options) g h gives = gives-by o options g h gives.known.0 gives (λ next. gives-given options next h)
+-- the values of the option give its part, where nothing was given before
+abbrev Stands : List CommandOption → Given → Named → Type 0
+Stands options h i = Part IsKnown with_option named name part with_part take options nothing_given h i
 
 -- ---- words
 abbrev given : Said → Given
-given said = record { node = Some said.node; class = said.class; interfaces = said.interfaces; next_hop = said.next_hop }
+given said = record { node = Some said.node; class = said.class; interfaces = said.interfaces; next_hop = said.next_hop; lanes = given_lanes said.lanes }
 
 pub say-read : (words : List (List ℕ)) (said : Said) → Say words said → said_in words ≡ Some said
 say-read words said say =
-    let read : options_in words ≡ Some say.options = (options_are_read words say.options).1 say.spelled in
-    let gives : Gives say.options nothing_given (given said) = record {
+    let (watch, frame) = named-give watch_option frame_option say.options said.lanes say.lanes in
+    let gave = give-words IsKnown with_option named name part with_part take at table words say.options nothing_given (given said) say.spelled (record {
       known = say.known;
-      node = read-once text_of (values_of node_option say.options) (Some said.node) (same-texts (values_of node_option say.options) (said.node ∷ []) say.node);
-      class = read-once text_of (values_of class_option say.options) said.class (same-texts (values_of class_option say.options) (option_to_list said.class) say.class);
-      interfaces = adds-fold (values_of interface_option say.options) [] said.interfaces say.interfaces (say.few, say.apart);
-      next_hop = read-once next_hop_of (values_of next_hop_option say.options) said.next_hop (zip-each hop-read (values_of next_hop_option say.options) (option_to_list said.next_hop) say.next_hop);
-    } in
-    ap (λ found. option_and_then finished (option_and_then (λ options. given_by options nothing_given) found)) read
-    ∙ ap (option_and_then finished) (gives-given say.options nothing_given (given said) gives)
+      parts = λ i. elim i as (Stands say.options (given said)) [
+        | Node ↦ text-once (values_of node_option say.options) (Some said.node) say.node
+        | Class ↦ text-once (values_of class_option say.options) said.class say.class
+        | Interfaces ↦ adds-fold (values_of interface_option say.options) [] said.interfaces say.interfaces (say.few, say.apart)
+        | NextHop ↦ read-once next_hop_of (values_of next_hop_option say.options) said.next_hop (zip-each hop-read (values_of next_hop_option say.options) (option_to_list said.next_hop) say.next_hop)
+        | Watch ↦ watch
+        | Frame ↦ frame
+      ];
+    }) in
+    ap (option_and_then finished) gave
+    ∙ ap (option_map (said_by (given said) said.node)) (named-lanes watch_option frame_option say.options said.lanes say.lanes)
 
--- who says something was given that
-said-of : (h : Given) (said : Said) → finished h ≡ Some said → h ≡ given said
-said-of h said e = by h.node refl e where
-  by : (node : Option (List ℕ)) → h.node ≡ node → option_map (λ n. record { node = n; class = h.class; interfaces = h.interfaces; next_hop = h.next_hop }) node ≡ Some said → h ≡ given said
-  by None is f = absurd (cc)
-  by (Some node) is f =
-      let same : record { node = node; class = h.class; interfaces = h.interfaces; next_hop = h.next_hop } ≡ said = cc in
-      ap (λ (n : Option (List ℕ)). record { node = n; class = h.class; interfaces = h.interfaces; next_hop = h.next_hop }) is ∙ ap given same
+-- Who says something was given that, with files that are lanes.
+record Finished (h : Given) (said : Said) : Type 0 where
+  are : h ≡ given said
+  lanes : Option LaneNames
+  found : lanes_of h.lanes ≡ Some lanes
+
+said-of : (h : Given) (said : Said) → finished h ≡ Some said → Finished h said
+said-of h said e =
+    let (node, is, more) = through (λ node. option_map (said_by h node) (lanes_of h.lanes)) h.node said e in
+    by (lanes_of h.lanes) refl node is more
+  where
+    by : (lanes : Option (Option LaneNames)) → lanes_of h.lanes ≡ lanes → (node : List ℕ) → h.node ≡ Some node → option_map (said_by h node) lanes ≡ Some said → Finished h said
+    by None found node is f = absurd (cc)
+    by (Some lanes) found node is f =
+        let same : said_by h node lanes ≡ said = cc in
+        record {
+          are = ap (λ (n : Option (List ℕ)). with_part Node n h) is ∙ ap (λ (l : LanesGiven). with_part Node (Some node) (with_lanes l h)) (given-lanes h.lanes lanes found) ∙ ap given same;
+          lanes = lanes;
+          found = found;
+        }
 
 none-apart : (i j : ℕ) (d : InterfaceValue) → i < j → j < 0 → ⊥
 none-apart i j d lt none = omega (arith, none)
 
 pub read-say : (words : List (List ℕ)) (said : Said) → said_in words ≡ Some said → Say words said
 read-say words said e =
-    let (h, found, end) = through finished (given_in words nothing_given) said e in
-    let (options, read, gave) = through (λ (os : List CommandOption). given_by os nothing_given) (options_in words) h found in
-    let gives = given-gives options nothing_given (given said) (gave ∙ ap (λ (x : Given). Some x) (said-of h said end)) in
-    let adds = fold-adds (values_of interface_option options) [] said.interfaces (omega arith, λ i j d lt none. absurd (none-apart i j d lt none)) gives.interfaces in
+    let (h, found, end) = through finished (taken_in with_option words nothing_given) said e in
+    let f = said-of h said end in
+    let (options, spelled, gives) = words-give IsKnown with_option named name part with_part take at table words nothing_given (given said) (found ∙ ap (λ (x : Given). Some x) f.are) in
+    let adds = fold-adds (values_of interface_option options) [] said.interfaces (omega arith, λ i j d lt none. absurd (none-apart i j d lt none)) (gives.parts Interfaces) in
     record {
       options = options;
-      spelled = (options_are_read words options).0 read;
+      spelled = spelled;
       known = gives.known;
-      node = texts-same (values_of node_option options) (said.node ∷ []) (once-read text_of (values_of node_option options) (Some said.node) gives.node);
-      class = texts-same (values_of class_option options) (option_to_list said.class) (once-read text_of (values_of class_option options) said.class gives.class);
+      node = once-text (values_of node_option options) (Some said.node) (gives.parts Node);
+      class = once-text (values_of class_option options) said.class (gives.parts Class);
       interfaces = subst (AllZip _ (values_of interface_option options)) (sym adds.are) adds.say;
       few = adds.table.0;
       apart = adds.table.1;
-      next_hop = zip-each read-hop (values_of next_hop_option options) (option_to_list said.next_hop) (once-read next_hop_of (values_of next_hop_option options) said.next_hop gives.next_hop);
+      next_hop = zip-each read-hop (values_of next_hop_option options) (option_to_list said.next_hop) (once-read next_hop_of (values_of next_hop_option options) said.next_hop (gives.parts NextHop));
+      lanes = give-named watch_option frame_option options said.lanes f.lanes (gives.parts Watch, gives.parts Frame) (ap (λ (x : Given). lanes_of x.lanes) (sym f.are) ∙ f.found);
     }

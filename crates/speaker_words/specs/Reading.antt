@@ -3,14 +3,14 @@ use Rattle.std.specs.Prelude.{ℕ, Bool, ◌&&◌, not, nat_lt, if◌then◌else
 use Rattle.std.specs.List.{list_any}
 use Rattle.std.specs.Option.{option_map}
 use Rattle.std.specs.Str.{bytes_eq}
-use Rattle.command_options.specs.Options.{CommandOption}
-use Rattle.command_options.specs.Values.{once, text_of, taken_by, taken_in}
+use Rattle.command_options.specs.Values.{once, text_of, taken_in}
+use Rattle.command_options.specs.Lanes.{LaneNames, LanesGiven, no_lanes, with_first, with_second, lanes_of}
 use Rattle.ip_ranges.specs.declared.family.Family.TheVariants.{V4}
 use Rattle.ip_ranges.specs.declared.fault.RangeFault.{RangeFault}
 use Rattle.ip_ranges.specs.Values.{AddressValue, same_family}
 use Rattle.ip_ranges.specs.AddressText.{address_of}
 use Rattle.speaker_words.specs.Interface.{InterfaceValue, interface_of}
-use Rattle.speaker_words.specs.Words.{Said, node_option, class_option, interface_option, next_hop_option}
+use Rattle.speaker_words.specs.Words.{Said, node_option, class_option, interface_option, next_hop_option, watch_option, frame_option}
 
 -- what options said so far
 pub record Given : Type 0 where
@@ -18,17 +18,18 @@ pub record Given : Type 0 where
   pub class : Option (List ℕ)
   pub interfaces : List InterfaceValue
   pub next_hop : Option AddressValue
+  pub lanes : LanesGiven
 
 abbrev pub nothing_given : Given
-nothing_given = record { node = None; class = None; interfaces = []; next_hop = None }
+nothing_given = record { node = None; class = None; interfaces = []; next_hop = None; lanes = no_lanes }
 
 abbrev pub with_node : List ℕ → Given → Option Given
 with_node value g =
-    option_map (λ node. record { node = node; class = g.class; interfaces = g.interfaces; next_hop = g.next_hop }) (once text_of value g.node)
+    option_map (λ node. record { node = node; class = g.class; interfaces = g.interfaces; next_hop = g.next_hop; lanes = g.lanes }) (once text_of value g.node)
 
 abbrev pub with_class : List ℕ → Given → Option Given
 with_class value g =
-    option_map (λ class. record { node = g.node; class = class; interfaces = g.interfaces; next_hop = g.next_hop }) (once text_of value g.class)
+    option_map (λ class. record { node = g.node; class = class; interfaces = g.interfaces; next_hop = g.next_hop; lanes = g.lanes }) (once text_of value g.class)
 
 -- whether one of the interfaces has the name
 abbrev pub is_named : List ℕ → List InterfaceValue → Bool
@@ -44,7 +45,7 @@ one_more value interfaces = option_and_then (with_one interfaces) (interface_of 
 
 abbrev pub with_interface : List ℕ → Given → Option Given
 with_interface value g =
-    option_map (λ interfaces. record { node = g.node; class = g.class; interfaces = interfaces; next_hop = g.next_hop }) (one_more value g.interfaces)
+    option_map (λ interfaces. record { node = g.node; class = g.class; interfaces = interfaces; next_hop = g.next_hop; lanes = g.lanes }) (one_more value g.interfaces)
 
 -- an IPv4 address
 abbrev pub only_v4 : Result AddressValue RangeFault → Option AddressValue
@@ -56,7 +57,16 @@ next_hop_of text = only_v4 (address_of text)
 
 abbrev pub with_next_hop : List ℕ → Given → Option Given
 with_next_hop value g =
-    option_map (λ hop. record { node = g.node; class = g.class; interfaces = g.interfaces; next_hop = hop }) (once next_hop_of value g.next_hop)
+    option_map (λ hop. record { node = g.node; class = g.class; interfaces = g.interfaces; next_hop = hop; lanes = g.lanes }) (once next_hop_of value g.next_hop)
+
+abbrev pub with_lanes : LanesGiven → Given → Given
+with_lanes lanes g = record { node = g.node; class = g.class; interfaces = g.interfaces; next_hop = g.next_hop; lanes = lanes }
+
+abbrev pub with_watch : List ℕ → Given → Option Given
+with_watch value g = option_map (λ lanes. with_lanes lanes g) (with_first value g.lanes)
+
+abbrev pub with_frame : List ℕ → Given → Option Given
+with_frame value g = option_map (λ lanes. with_lanes lanes g) (with_second value g.lanes)
 
 abbrev pub with_option : List ℕ → List ℕ → Given → Option Given
 with_option name value g =
@@ -64,20 +74,17 @@ with_option name value g =
     else if bytes_eq name class_option then with_class value g
     else if bytes_eq name interface_option then with_interface value g
     else if bytes_eq name next_hop_option then with_next_hop value g
+    else if bytes_eq name watch_option then with_watch value g
+    else if bytes_eq name frame_option then with_frame value g
     else None
 
--- what the options give, behind what was given
-abbrev pub given_by : List CommandOption → Given → Option Given
-given_by options g = taken_by with_option options g
+-- a speaker has a node, and two lanes or one stream
+abbrev pub said_by : Given → List ℕ → Option LaneNames → Said
+said_by g node lanes = record { node = node; class = g.class; interfaces = g.interfaces; next_hop = g.next_hop; lanes = lanes }
 
--- what the words give, behind what was given
-abbrev pub given_in : List (List ℕ) → Given → Option Given
-given_in words g = taken_in with_option words g
-
--- a speaker has a node
 abbrev pub finished : Given → Option Said
-finished g = option_map (λ node. record { node = node; class = g.class; interfaces = g.interfaces; next_hop = g.next_hop }) g.node
+finished g = option_and_then (λ node. option_map (said_by g node) (lanes_of g.lanes)) g.node
 
 -- what the words say, where they are of the table
 abbrev pub said_in : List (List ℕ) → Option Said
-said_in words = option_and_then finished (given_in words nothing_given)
+said_in words = option_and_then finished (taken_in with_option words nothing_given)

@@ -2,6 +2,7 @@
 use Rattle.std.specs.Prelude.{List, map}
 use Rattle.std.specs.Option.{option_map}
 use Rattle.arrayvec.specs.ArrayVec.{ArrayVec}
+use Rattle.command_options.specs.Lanes.{lane_seen, given_seen as lanes_seen}
 use Rattle.speaker_words.specs.declared.interface.InterfaceWord.{InterfaceWord}
 use Rattle.speaker_words.specs.declared.words.Given.{Given as GivenWords}
 use Rattle.speaker_words.specs.declared.words.SpeakerWords.{SpeakerWords}
@@ -21,6 +22,7 @@ given_seen g = record {
   class = option_map (λ t. t.now) g.class;
   interfaces = interfaces_seen g.interfaces;
   next_hop = g.next_hop;
+  lanes = lanes_seen g.lanes;
 }
 
 abbrev pub said_seen : SpeakerWords → Said
@@ -29,4 +31,5 @@ said_seen w = record {
   class = option_map (λ t. t.now) w.class;
   interfaces = interfaces_seen w.interfaces;
   next_hop = w.next_hop;
+  lanes = option_map lane_seen w.lanes;
 }

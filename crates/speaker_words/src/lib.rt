@@ -4,5 +4,6 @@
 mod interface;
 mod words;
 
+pub use command_options::LaneFiles;
 pub use interface::InterfaceWord;
 pub use words::{InterfaceWords, SpeakerWords, speaker_words};

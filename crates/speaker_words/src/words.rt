@@ -5,12 +5,12 @@ ghost use Rattle.std.specs.Str.{bytes_eq};
 ghost use Rattle.std.specs.Option.{option_map};
 ghost use Rattle.command_options.specs.Options.{texts_of};
 ghost use Rattle.speaker_words.specs.Words.{Say, AreKnown};
-ghost use Rattle.speaker_words.specs.Reading.{said_in, given_in, nothing_given, with_option, with_node, with_class, with_interface, with_one, with_next_hop, next_hop_of, finished};
+ghost use Rattle.speaker_words.specs.Reading.{said_in, Given as GivenValue, with_option, with_node, with_class, with_interface, with_one, with_next_hop, next_hop_of, with_watch, with_frame, finished};
 ghost use Rattle.speaker_words.specs.Seen.{interface_seen, interfaces_seen, given_seen, said_seen};
 
 use crate::interface::{InterfaceWord, interface_of};
 use arrayvec::ArrayVec;
-use command_options::first_option;
+use command_options::{GivenLanes, LaneFiles, TakesOptions, lane_files, taken_options};
 use ip_ranges::{Address, Family, parse_address};
 
 const NODE_OPTION: &str = "--node-name";
@@ -20,6 +20,10 @@ const CLASS_OPTION: &str = "--lb-class";
 const INTERFACE_OPTION: &str = "--interface";
 
 const NEXT_HOP_OPTION: &str = "--next-hop";
+
+const WATCH_OPTION: &str = "--watch-lane";
+
+const FRAME_OPTION: &str = "--frame-lane";
 
 /// The interfaces that words name, 16 at most.
 pub type InterfaceWords<'a> = ArrayVec<InterfaceWord<'a>, 16>;
@@ -35,6 +39,8 @@ pub struct SpeakerWords<'a> {
     pub interfaces: InterfaceWords<'a>,
     /// The IPv4 address that its routes lead to (RFC 4271, section 5.1.3); with none, it tells no routes.
     pub next_hop: Option<Address>,
+    /// The files of the watched objects and of the received frames; with none, all comes by one stream.
+    pub lanes: Option<LaneFiles<'a>>,
 }
 
 /// What options said so far.
@@ -44,14 +50,15 @@ struct Given<'a> {
     class: Option<&'a str>,
     interfaces: InterfaceWords<'a>,
     next_hop: Option<Address>,
+    lanes: GivenLanes<'a>,
 }
 
 /// What the words say, where they are of the speaker's table.
 ///
 /// The table: `--node-name NODE` once; `--lb-class CLASS` and `--next-hop ADDRESS` at most once, the address an IPv4 one in dotted decimal
 /// without leading zeros; `--interface NAME=MAC` up to 16 times, split at the first `=`, with distinct names, of which one may be empty,
-/// and with six octets of two hexadecimal digits of either case and `:` between them. Each option is one word with `=`, or two.
-/// `None` where the words aren't of the table. It takes no memory.
+/// and with six octets of two hexadecimal digits of either case and `:` between them; `--watch-lane FILE` and `--frame-lane FILE` once each,
+/// of distinct names, or neither. Each option is one word with `=`, or two. `None` where the words aren't of the table. It takes no memory.
 pub fn speaker_words(words: &[String]) -> Option<SpeakerWords<'_>>
     ensures value { option_map said_seen result ≡ said_in (texts_of words.now) }
 
@@ -65,38 +72,37 @@ pub fn speaker_words(words: &[String]) -> Option<SpeakerWords<'_>>
 fn read_words(words: &[String]) -> Option<SpeakerWords<'_>>
     ensures { option_map said_seen result ≡ said_in (texts_of words.now) }
 {
-    let given = given_in(words)?;
-    finished(given)
-}
-
-fn given_in(words: &[String]) -> Option<Given<'_>>
-    ensures { option_map given_seen result ≡ given_in (texts_of words.now) nothing_given }
-{
-    let mut given = Given {
+    let nothing = Given {
         node: None,
         class: None,
         interfaces: ArrayVec::new(),
         next_hop: None,
+        lanes: GivenLanes {
+            first: None,
+            second: None,
+        },
     };
-    let mut rest = words;
-    'options: while !rest.is_empty() {
-        let option = first_option(rest)?;
-        given = with_option(given, option.name, option.value)?;
-        rest = option.rest;
-    }
-    Some(given)
+    finished(taken_options(words, nothing)?)
 }
 
-/// The option is given too; each but `--interface` stands at most once.
-fn with_option<'a>(given: Given<'a>, name: &str, value: &'a str) -> Option<Given<'a>>
-    ensures { option_map given_seen result ≡ with_option name.now value.now (given_seen given.entry) }
-{
-    match name {
-        NODE_OPTION => with_node(given, value),
-        CLASS_OPTION => with_class(given, value),
-        INTERFACE_OPTION => with_interface(given, value),
-        NEXT_HOP_OPTION => with_next_hop(given, value),
-        _ => None,
+impl<'a> TakesOptions<'a> for Given<'a> {
+    ghost Said = { GivenValue };
+
+    ghost said = { given_seen };
+
+    ghost step = { with_option };
+
+    /// The option is given too; each but `--interface` stands at most once.
+    fn with_option(self, name: &'a str, value: &'a str) -> Option<Self> {
+        match name {
+            NODE_OPTION => with_node(self, value),
+            CLASS_OPTION => with_class(self, value),
+            INTERFACE_OPTION => with_interface(self, value),
+            NEXT_HOP_OPTION => with_next_hop(self, value),
+            WATCH_OPTION => with_watch(self, value),
+            FRAME_OPTION => with_frame(self, value),
+            _ => None,
+        }
     }
 }
 
@@ -134,6 +140,7 @@ fn with_interface<'a>(given: Given<'a>, value: &'a str) -> Option<Given<'a>>
         class: given.class,
         interfaces,
         next_hop: given.next_hop,
+        lanes: given.lanes,
     })
 }
 
@@ -181,6 +188,24 @@ fn next_hop_of(text: &str) -> Option<Address>
     }
 }
 
+fn with_watch<'a>(given: Given<'a>, value: &'a str) -> Option<Given<'a>>
+    ensures { option_map given_seen result ≡ with_watch value.now (given_seen given.entry) }
+{
+    Some(Given {
+        lanes: given.lanes.with_first(value)?,
+        ..given
+    })
+}
+
+fn with_frame<'a>(given: Given<'a>, value: &'a str) -> Option<Given<'a>>
+    ensures { option_map given_seen result ≡ with_frame value.now (given_seen given.entry) }
+{
+    Some(Given {
+        lanes: given.lanes.with_second(value)?,
+        ..given
+    })
+}
+
 fn finished(given: Given<'_>) -> Option<SpeakerWords<'_>>
     ensures { option_map said_seen result ≡ finished (given_seen given.entry) }
 {
@@ -189,5 +214,6 @@ fn finished(given: Given<'_>) -> Option<SpeakerWords<'_>>
         class: given.class,
         interfaces: given.interfaces,
         next_hop: given.next_hop,
+        lanes: lane_files(given.lanes.first, given.lanes.second)?,
     })
 }

@@ -15,5 +15,6 @@ mod write;
 pub use halt::{Halt, Refusal};
 pub use machine::Machine;
 pub use run::run_machine;
+pub use status::status_of_refusal;
 pub use step::next_step;
 pub use write::write_line;

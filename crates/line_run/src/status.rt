@@ -27,8 +27,8 @@ pub(crate) fn status_of_end(end: LineEnd) -> Status
     }
 }
 
-/// The status of a refusal to take a line.
-pub(crate) fn status_of_refusal(refusal: Refusal) -> Status
+/// The status that a run stops with where a line isn't taken.
+pub fn status_of_refusal(refusal: Refusal) -> Status
     ensures { result ≡ status_of_refusal refusal }
 {
     match refusal {

@@ -1,0 +1,7 @@
+pub mod Endings
+pub mod Faults
+pub mod Heard
+pub mod OverFiles
+pub mod ReadItems
+pub mod Taken
+pub mod Ways

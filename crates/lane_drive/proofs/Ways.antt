@@ -1,0 +1,212 @@
+-- How the run of two lanes that are open ends.
+use Rattle.std.proofs.Common.{◌≡◌, ◌≢◌, ◌⊎◌, inl, inr, ℕ, Bool, true, false, List, [], ◌∷◌, ◌++◌, Option, None, Some, Result, Ok, refl, sym, ap, ◌∙◌, subst}
+use Rattle.std.proofs.lemmas.List.{append-nil}
+use Rattle.kube_model.specs.declared.event.Event.{Event}
+use Rattle.kube_model.specs.declared.status.Status.{Status}
+use Rattle.kube_model.specs.declared.status.Status.TheVariants as statuses
+use Rattle.lane_mail.specs.declared.lane.Lane.{Lane}
+use Rattle.lane_mail.specs.declared.lane.Lane.TheVariants.{First, Second}
+use Rattle.lane_mail.specs.declared.item.Item.{Item}
+use Rattle.lane_run.specs.declared.lane_end.LaneEnd.TheVariants.{NoMemory}
+use Rattle.lane_run.specs.declared.lane_run.LaneRun.{LaneRun}
+use Rattle.lane_run.specs.LaneInputs.{lane_input, lane_input_from}
+use Rattle.lane_run.specs.Ran as lane_runs
+use Rattle.lane_run.specs.Ran.{Ran}
+use Rattle.lane_run.specs.Reconciled.{AreDriven, Drove}
+use Rattle.lane_run.specs.Views.{SourceView, Outside}
+use Rattle.lane_run.specs.Watched.{Begins}
+use Rattle.line_run.specs.declared.halt.Halt.{Halt}
+use Rattle.line_run.specs.declared.halt.Refusal.{Refusal}
+use Rattle.line_run.specs.declared.halt.Refusal.TheVariants.{Stopped, Halted}
+use Rattle.line_run.specs.Ended.{status_of_halt, status_of_refusal}
+use Rattle.line_run.specs.Machine.{Stops}
+use Rattle.line_run.proofs.Texts.{upto_all, upto_none}
+use Rattle.mlb_edge.specs.declared.lines.Line.{Line}
+use Rattle.mlb_edge.specs.InputLines.{Input, Whole, to_come, Follows-refl}
+use Rattle.mlb_edge.specs.Written.{Grows}
+use Rattle.lane_drive.specs.LaneRules.{LaneRules, RefusesItem, HaltsItem}
+use Rattle.lane_drive.specs.Drive.{Told, AreHeard, AreTaken, Drives, told_text}
+use Rattle.lane_drive.specs.Clauses.{LeavesInput}
+use Rattle.lane_drive.specs.Hearing.{DrivesItem, FailsItem, FailsBehind, RefusesNext, EndsHearing, GoesBehind}
+use Rattle.lane_drive.specs.Stops.{AreBeginnings, StopsAtItem, StopsAtReply, TakesAll, WritesUpTo, EndsSo, status_of_lanes}
+use Rattle.lane_drive.proofs.Taken.{drives_all, drives_more}
+
+-- no items are a beginning of what a lane carries
+begins_none : (belongs : Lane → Event → Bool) (lane : Lane) (left : Option (List ℕ)) → Begins belongs lane left []
+begins_none belongs lane None = record { input = lane_input_from belongs lane [] Whole; is = ([], Whole, refl); begins = ([], refl) }
+begins_none belongs lane (Some bytes) = record { input = lane_input belongs lane bytes; is = refl; begins = ((lane_input belongs lane bytes).items, refl) }
+
+-- where nothing was refused, all that was taken drove the reconciler
+drove_all : {S U : Type 0} (Goes : S → S → Item → Outside → Outside → Type 0) (Refuses : Status → S → Item → Outside → Outside → Type 0) (taken : List Item) (s t : S) (before after : Outside) (done : U)
+    → Drove Goes Refuses taken s t before after (Ok done) → AreDriven Goes taken s t before after
+drove_all Goes Refuses taken s t before after done d =
+    let all : taken ≡ d.driven = d.split ∙ (ap (λ (l : List Item). d.driven ++ l) d.leaves.0 ∙ append-nil d.driven) in
+    rw (all, d.leaves.1, d.leaves.2) d.drove
+
+module _ {S E : Type 0} (rules : LaneRules S E) where
+  -- why the item isn't taken
+  why : (refusal : Refusal) (s : S) (item : Item) (before after : Outside) → RefusesItem refusal rules s item before.written after.written before.faults after.faults
+      → ((rules.take s item ≡ Stops (status_of_refusal refusal)) × Grows before.written after.written [])
+      ⊎ ((halt : Halt) × (status_of_refusal refusal ≡ status_of_halt halt) × HaltsItem halt rules s item before.written after.written before.faults after.faults)
+  why (Stopped status) s item before after r = inl r
+  why (Halted halt) s item before after r = inr (halt, refl, r)
+
+  never_heard : (lines : List Line) (s t : S) (entries : List E) → ((x : S) → rules.waits x ≡ false) → AreHeard rules lines s t entries → lines ≡ []
+  never_heard [] s t entries never heard = refl
+  never_heard (line ∷ lines) s t entries never (next, first, rest, waits, goes, others, is) =
+      let quiet = never s in
+      absurd (cc)
+
+  -- where no reply is ever awaited, none is heard
+  silent : (items : List Item) (replies : List Line) (s t : S) (told : List (Told E)) → ((x : S) → rules.waits x ≡ false) → AreTaken rules items replies s t told → replies ≡ []
+  silent [] replies s t told never taken = taken.0
+  silent (item ∷ items) replies s t told never (own, behind, next, entries, more, replies_are, taken, others, told_are) =
+      let none : own ≡ [] = never_heard own taken.next next taken.rest never taken.heard in
+      let none' : behind ≡ [] = silent items behind next t more never others in
+      rw (replies_are, none, none') refl
+
+module _ {S E : Type 0} (belongs : Lane → Event → Bool) (rules : LaneRules S E) (start : S) (quiet : rules.waits start ≡ false) where
+  -- for want of memory nothing was done
+  pub writes_none : (first second : Option (List ℕ)) (now : Option Input) (before : Option (List ℕ)) → WritesUpTo belongs rules start first second now before before
+  writes_none first second now before = record {
+    items = [];
+    replies = [];
+    next = now;
+    comes = Follows-refl now;
+    begin = record { firsts = begins_none belongs First first; seconds = begins_none belongs Second second };
+    state = start;
+    told = [];
+    taken = (refl, refl, refl);
+    wrote = upto_none before [];
+  }
+
+  pub ends_undriven : (first first' second second' : SourceView) (before after : Outside) → after.written ≡ before.written → EndsSo belongs rules start first first' second second' before after statuses.NoMemory
+  ends_undriven first first' second second' before after same =
+      inr (inr (inr (inr (refl, subst (λ (o : Option (List ℕ)). WritesUpTo belongs rules start first.left second.left (to_come before.reading before.replies.left) before.written o) (sym same) (writes_none first.left second.left (to_come before.reading before.replies.left) before.written)))))
+
+  by_refusal : (first second : Option (List ℕ)) (before mid after : Outside) (status : Status) (items : List Item) (item : Item) (state : S) (told : List (Told E)) → AreBeginnings belongs first second (items ++ item ∷ []) → Drives rules items start state told before mid
+      → rules.waits state ≡ false → FailsItem rules status state item mid after ⊎ FailsBehind rules status state item mid after
+      → StopsAtItem belongs rules start first second before after status ⊎ StopsAtReply belongs rules start first second before after status
+  by_refusal first second before mid after status items item state told begin drove quiet' (inl fails) = inl (record {
+    items = items;
+    item = item;
+    begin = begin;
+    state = state;
+    told = told;
+    mid = mid;
+    drove = drove;
+    quiet = quiet';
+    stops = rw fails.is (why rules fails.refusal state item mid after fails.refuses);
+    unread = fails.unread;
+  })
+  by_refusal first second before mid after status items item state told begin drove quiet' (inr fails) = inr (record {
+    items = items ++ item ∷ [];
+    begin = begin;
+    state = fails.state;
+    told = told ++ fails.told;
+    mid = fails.mid;
+    drove = drives_more rules items (item ∷ []) start state fails.state told fails.told before mid fails.mid drove fails.drove;
+    waits = fails.waits;
+    stops = fails.stops;
+  })
+
+  -- the reconciler refused an item
+  at_item : (first second : Option (List ℕ)) (before after : Outside) (status : Status) → lane_runs.RefusesNext belongs (DrivesItem rules) (RefusesNext rules) first second start before after status
+      → StopsAtItem belongs rules start first second before after status ⊎ StopsAtReply belongs rules start first second before after status
+  at_item first second before after status r =
+      let d = drives_all rules r.driven start r.state before r.mid quiet r.drove in
+      let begin : AreBeginnings belongs first second (r.driven ++ r.item ∷ []) = record { firsts = r.first_begins; seconds = r.second_begins } in
+      by_refusal first second before r.mid after status r.driven r.item r.state d.0 begin d.1 d.2 (r.refuses d.2)
+
+  stops_first : (first first' second second' : SourceView) (before after : Outside) (status : Status) → StopsAtItem belongs rules start first.left second.left before after status ⊎ StopsAtReply belongs rules start first.left second.left before after status
+      → EndsSo belongs rules start first first' second second' before after status
+  stops_first first first' second second' before after status (inl stops) = inl stops
+  stops_first first first' second second' before after status (inr stops) = inr (inl stops)
+
+  pub ends_refused : (first first' second second' : SourceView) (before after : Outside) (status : Status) → lane_runs.RefusesNext belongs (DrivesItem rules) (RefusesNext rules) first.left second.left start before after status
+      → EndsSo belongs rules start first first' second second' before after status
+  ends_refused first first' second second' before after status r = stops_first first first' second second' before after status (at_item first.left second.left before after status r)
+
+  -- where no reply is ever awaited, nothing was read
+  leaves_first : (first second : Option (List ℕ)) (before after : Outside) (status : Status) → ((x : S) → rules.waits x ≡ false) → StopsAtItem belongs rules start first second before after status ⊎ StopsAtReply belongs rules start first second before after status
+      → after.replies ≡ before.replies
+  leaves_first first second before after status never (inl stops) = stops.unread.1 ∙ (stops.drove.unread (silent rules stops.items stops.drove.replies start stops.state stops.told never stops.drove.taken)).1
+  leaves_first first second before after status never (inr stops) =
+      let waits : rules.waits stops.state ≡ true = stops.waits in
+      let quiet' : rules.waits stops.state ≡ false = never stops.state in
+      absurd (cc)
+
+  pub leaves_refused : (first second : Option (List ℕ)) (before after : Outside) (status : Status) → (rules.hears ≡ false → (x : S) → rules.waits x ≡ false) → lane_runs.RefusesNext belongs (DrivesItem rules) (RefusesNext rules) first second start before after status
+      → rules.hears ≡ false → LeavesInput before.replies after.replies
+  leaves_refused first second before after status never r none = leaves_first first second before after status (never none) (at_item first second before after status r)
+
+  -- all that both lanes sent was taken
+  module _ (first first' second second' : SourceView) (before mid : Outside) (t : S) (run : LaneRun) (ran : Ran belongs (DrivesItem rules) (RefusesNext rules) first first' second second' start t before mid run) (done : run.outcome ≡ Ok tt) where
+    all_driven : AreDriven (DrivesItem rules) ran.taken start t before mid
+    all_driven =
+        let well : Result (Unit {0}) Status = Ok tt in
+        let drove : Drove (DrivesItem rules) (RefusesNext rules) ran.taken start t before mid well = rw done at ran.drove in
+        drove_all (DrivesItem rules) (RefusesNext rules) ran.taken start t before mid tt drove
+
+    pub quiet_then : rules.waits t ≡ false
+    quiet_then = (drives_all rules ran.taken start t before mid quiet all_driven).2
+
+    -- one of them ended for want of memory
+    pub ends_unknown : EndsSo belongs rules start first first' second second' before mid statuses.NoMemory
+    ends_unknown =
+        let d = drives_all rules ran.taken start t before mid quiet all_driven in
+        inr (inr (inr (inr (
+          refl,
+          record {
+            items = ran.taken;
+            replies = d.1.replies;
+            next = to_come mid.reading mid.replies.left;
+            comes = d.1.comes;
+            begin = record { firsts = ran.first_ended.begins; seconds = ran.second_ended.begins };
+            state = t;
+            told = d.0;
+            taken = d.1.taken;
+            wrote = upto_all before.written mid.written (told_text rules d.0) d.1.wrote;
+          },
+        ))))
+
+    abbrev all_taken : (run.first ≢ NoMemory) × (run.second ≢ NoMemory) → TakesAll belongs rules start first first' second second' before mid run.first run.second
+    all_taken known =
+        let d = drives_all rules ran.taken start t before mid quiet all_driven in
+        record {
+          items = ran.taken;
+          first_ended = ran.first_ended;
+          second_ended = ran.second_ended;
+          merge = ran.merge;
+          state = t;
+          told = d.0;
+          drove = d.1;
+          quiet = d.2;
+          known = known;
+        }
+
+    -- the input isn't at its end
+    pub ends_behind : (run.first ≢ NoMemory) × (run.second ≢ NoMemory) → (after : Outside) (status : Status) → GoesBehind rules t status mid after → EndsSo belongs rules start first first' second second' before after status
+    ends_behind known after status behind = inr (inr (inl (record { end = run.first; end' = run.second; mid = mid; all = all_taken known; hears = behind.hears; stops = behind.stops; ill = behind.ill })))
+
+    -- it is, or there are no replies
+    pub ends_as_lanes : (run.first ≢ NoMemory) × (run.second ≢ NoMemory) → (after : Outside) → EndsHearing rules mid after → EndsSo belongs rules start first first' second second' before after (status_of_lanes rules.name run.first run.second)
+    ends_as_lanes known after behind = inr (inr (inr (inl (record {
+      end = run.first;
+      end' = run.second;
+      mid = mid;
+      all = all_taken known;
+      is = refl;
+      kept = behind.kept;
+      ended = behind.ended;
+      unheard = behind.unheard;
+    }))))
+
+    -- where no reply is ever awaited, nothing was read
+    pub leaves_driven : ((x : S) → rules.waits x ≡ false) → mid.replies ≡ before.replies
+    leaves_driven never =
+        let d = (drives_all rules ran.taken start t before mid quiet all_driven).1 in
+        (d.unread (silent rules ran.taken d.replies start t (drives_all rules ran.taken start t before mid quiet all_driven).0 never d.taken)).1
+
+    pub leaves_lanes : (after : Outside) → (rules.hears ≡ false → (x : S) → rules.waits x ≡ false) → EndsHearing rules mid after → rules.hears ≡ false → LeavesInput before.replies after.replies
+    leaves_lanes after never behind none = (behind.unheard none).1 ∙ leaves_driven (never none)

@@ -1,0 +1,23 @@
+use Rattle.std.proofs.Common.{sym}
+use Rattle.lane_run.specs.Views.{outside, source_view}
+use Rattle.lane_drive.proofs.Heard.{hears_none, hears_one, hears_more}
+use Rattle.lane_drive.proofs.hearing.hear_replies.Goals as goal
+
+pub replies-init : goal.replies-init
+replies-init g c = hears_none g.M.LaneMachine.rules (g.M.LaneMachine.state c.args.replies.now.machine) _
+
+pub replies-preserved : goal.replies-preserved
+replies-preserved g c =
+    let left = g.I.Source.left in
+    let name = g.I.Source.name in
+    let faults = g.I.Source.faults in
+    let written = g.K.Sink.written in
+    let failed = g.K.Sink.faults in
+    let now = c.replies in
+    let new = c.next_step.new in
+    let mid = outside now.reader (source_view (left now.input) (name now.input) (faults now.input)) (written now.out) (failed now.out) in
+    let after = outside new.reader (source_view (left new.input) (name new.input) (faults new.input)) (written new.out) (failed new.out) in
+    let state = g.M.LaneMachine.state now.replies.machine in
+    let state' = g.M.LaneMachine.state new.machine.machine in
+    hears_more g.M.LaneMachine.rules _ state state' _ mid after now.invariant
+    (hears_one g.M.LaneMachine.rules state state' mid after (sym c.replies-test.ensures) c.in_default.ensures.drives c.next_step.ensures.reads c.next_step.ensures.writes)

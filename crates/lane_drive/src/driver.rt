@@ -1,0 +1,48 @@
+//! The machine, as a reconciler of two lanes.
+
+use crate::hearing::hear_replies;
+use crate::lane_machine::LaneMachine;
+use crate::replies::Replies;
+use kube_model::Status;
+use lane_mail::Item;
+use lane_run::Reconciler;
+use line_run::status_of_refusal;
+use mlb_edge::{LineReader, Sink, Source};
+use std::alloc::Global;
+
+/// Drives a machine by items. Behind each item all replies to what it came to are heard.
+#[derive(Drop)]
+pub(crate) struct Driver<M: Drop> {
+    pub(crate) replies: Replies<M>,
+}
+
+impl<M: LaneMachine + Drop> Reconciler for Driver<M> {
+    ghost use Rattle.lane_drive.specs.Hearing.{DrivesItem, RefusesNext};
+
+    ghost State = { M.State };
+
+    ghost state = { λ driver. M.state driver.replies.machine };
+
+    ghost Drives = { DrivesItem M.rules };
+
+    ghost Refuses = { RefusesNext M.rules };
+
+    fn take<I: Source, K: Sink>(
+        &mut self,
+        alloc: Global,
+        item: Item,
+        reader: &mut LineReader,
+        input: &mut I,
+        out: &mut K,
+    ) -> Result<(), Status> {
+        // An item is taken where no reply is awaited.
+        if let Err(status) = hear_replies(alloc, &mut self.replies, reader, input, out) {
+            drop(item);
+            return Err(status);
+        }
+        if let Err(refusal) = self.replies.machine.take_item(alloc, item, out) {
+            return Err(status_of_refusal(refusal));
+        }
+        hear_replies(alloc, &mut self.replies, reader, input, out)
+    }
+}

@@ -1,0 +1,132 @@
+//! The run over two lane files.
+ghost use Rattle.std.specs.Prelude.{◌≡◌, ℕ, List, Some, false};
+ghost use Rattle.kube_model.specs.declared.status.LaneName.{LaneName as Name};
+ghost use Rattle.lane_drive.specs.Clauses.{AtDone, AtEnd, AtOpenFault, AtReadFault, LeavesInput, LeavesOthers, OnlyWrites, status_of_open};
+ghost use Rattle.lane_drive.specs.Files.{files_view};
+ghost use Rattle.lane_run.specs.Views.{source_view};
+ghost use Rattle.line_run.specs.Clauses.{AtWriteFault};
+
+use crate::lane_machine::LaneMachine;
+use crate::opened::run_opened;
+use kube_model::{LaneName, Status};
+use lane_mail::Lane;
+use lane_run::Lanes;
+use mlb_edge::{Files, LineReader, OpenEnd, Sink, Source};
+use std::alloc::Global;
+use std::sync::Wait;
+use std::thread::Threads;
+
+/// Drives the machine by the items of the lines of both files, in the order in which they come; each file's come in its order.
+/// Replies are the lines of `input`.
+///
+/// Both files are opened first, and handed back in the end. Of several reasons to stop the one is answered that comes first: the first file
+/// isn't opened, the second isn't, the machine stops at an item or a reply, the input isn't at its end behind the last reply, the first lane
+/// ends at a fault, the second does. A lane that ends at a fault doesn't end the other, and what it sent before is taken all the same.
+pub fn run_lane_files<
+    M: LaneMachine + Lanes + Drop + Send,
+    R: Threads + Wait + Sync,
+    F: Files,
+    I: Source + Send,
+    K: Sink + Send,
+>(
+    rt: &R,
+    alloc: Global,
+    first: &str,
+    second: &str,
+    files: &mut F,
+    machine: M,
+    input: &mut I,
+    out: &mut K,
+) -> Status
+    requires quiet { M.rules.waits (M.state machine) ≡ false }
+
+    // How the run ended, once both files are open.
+    ensures ended { AtEnd M.belongs M.rules (M.state machine) first.now second.now
+        (files_view (F.failed_opens files.old) (F.failed_reads files.old))
+        (files_view (F.failed_opens files.new) (F.failed_reads files.new))
+        (source_view (F.bytes files.old first.now) (Some first.now) 0)
+        (source_view (F.bytes files.old second.now) (Some second.now) 0)
+        (source_view (I.left input.old) (I.name input.old) (I.faults input.old))
+        (source_view (I.left input.new) (I.name input.new) (I.faults input.new))
+        (K.written out.old) (K.written out.new) (K.faults out.old) (K.faults out.new) result }
+
+    // Where it is done, all that both files carry was taken, with all lines of the input as replies, and just its text was written.
+    ensures done { AtDone M.belongs M.rules (M.state machine)
+        (F.bytes files.old first.now) (F.bytes files.old second.now) result
+        (I.left input.old) (I.left input.new) (K.written out.old) (K.written out.new) }
+
+    // However it ends, a beginning of the text of some items was written. They are of each file a beginning of what it carries, and the replies
+    // to them are the first lines of the input.
+    ensures only { OnlyWrites M.belongs M.rules (M.state machine)
+        (F.bytes files.old first.now) (F.bytes files.old second.now) (I.left input.old) (K.written out.old) (K.written out.new) }
+
+    // A fault comes only where its count rose, and a file isn't opened exactly where its opening failed.
+    ensures open_fault { AtOpenFault M.rules.name first.now second.now result
+        (files_view (F.failed_opens files.old) (F.failed_reads files.old))
+        (files_view (F.failed_opens files.new) (F.failed_reads files.new)) }
+    ensures read_fault { AtReadFault M.rules.name first.now second.now result
+        (files_view (F.failed_opens files.old) (F.failed_reads files.old))
+        (files_view (F.failed_opens files.new) (F.failed_reads files.new)) (I.faults input.old) (I.faults input.new) }
+    ensures write_fault { AtWriteFault result (K.faults out.old) (K.faults out.new) }
+
+    // Where a file isn't opened nothing is read or written; and where there are no replies nothing is read of the input.
+    ensures unopened { (lane : Name) → result ≡ Status.OpenFault lane → (input.new ≡ input.old) × (out.new ≡ out.old) }
+    ensures unheard { M.rules.hears ≡ false → LeavesInput
+        (source_view (I.left input.old) (I.name input.old) (I.faults input.old))
+        (source_view (I.left input.new) (I.name input.new) (I.faults input.new)) }
+
+    // Of no other file an opening or a reading failed.
+    ensures others { LeavesOthers first.now second.now
+        (files_view (F.failed_opens files.old) (F.failed_reads files.old))
+        (files_view (F.failed_opens files.new) (F.failed_reads files.new)) }
+    ensures bytes { (file : List ℕ) → F.bytes files.new file ≡ F.bytes files.old file }
+{
+    let Ok(mut reader) = LineReader::new(alloc) else {
+        drop(machine);
+        return Status::NoMemory;
+    };
+    let mut first_input = match files.open(first) {
+        Ok(opened) => opened,
+        Err(end) => {
+            drop(machine);
+            return status_of_open(M::lane_name(Lane::First), end);
+        }
+    };
+    let mut second_input = match files.open(second) {
+        Ok(opened) => opened,
+        Err(end) => {
+            drop(machine);
+            // The first file wasn't read, so there is nothing to keep of it.
+            let _ = files.close(first_input);
+            return status_of_open(M::lane_name(Lane::Second), end);
+        }
+    };
+    let status = run_opened(
+        rt,
+        alloc,
+        &mut first_input,
+        &mut second_input,
+        machine,
+        &mut reader,
+        input,
+        out,
+    );
+    match (files.close(first_input), files.close(second_input)) {
+        (Ok(()), Ok(())) => status,
+        // That a reading failed may not be kept.
+        _ => {
+            drop(status);
+            Status::NoMemory
+        }
+    }
+}
+
+/// The status where the lane's file isn't opened.
+fn status_of_open(lane: LaneName, end: OpenEnd) -> Status
+    ensures { result ≡ status_of_open lane end }
+{
+    match end {
+        OpenEnd::Failed => Status::OpenFault { lane },
+        OpenEnd::NoMemory => Status::NoMemory,
+    }
+}

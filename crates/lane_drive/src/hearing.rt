@@ -1,0 +1,71 @@
+//! The replies to what was written.
+ghost use Rattle.std.specs.Prelude.{◌≡◌, false, OnOk, IfErr, IfSome, IfNone};
+ghost use Rattle.lane_run.specs.Views.{outside, source_view};
+ghost use Rattle.lane_drive.specs.Hearing.{Hears, StopsHearing, EndsHearing, GoesBehind};
+
+use crate::lane_machine::LaneMachine;
+use crate::replies::Replies;
+use kube_model::Status;
+use line_run::next_step;
+use mlb_edge::{LineReader, Sink, Source};
+use std::alloc::Global;
+
+/// Hears a reply, and the replies to what comes of it, until none is awaited. `Err` is the status that the run stops with.
+pub(crate) fn hear_replies<M: LaneMachine + Drop, I: Source, K: Sink>(
+    alloc: Global,
+    replies: &mut Replies<M>,
+    reader: &mut LineReader,
+    input: &mut I,
+    out: &mut K,
+) -> Result<(), Status>
+    ensures ok { OnOk result (Hears M.rules (M.state replies.old.machine) (M.state replies.new.machine)
+        (outside reader.old (source_view (I.left input.old) (I.name input.old) (I.faults input.old))
+        (K.written out.old) (K.faults out.old))
+        (outside reader.new (source_view (I.left input.new) (I.name input.new) (I.faults input.new))
+        (K.written out.new) (K.faults out.new))) }
+    ensures err { IfErr result (λ status. StopsHearing M.rules (M.state replies.old.machine) status
+        (outside reader.old (source_view (I.left input.old) (I.name input.old) (I.faults input.old))
+        (K.written out.old) (K.faults out.old))
+        (outside reader.new (source_view (I.left input.new) (I.name input.new) (I.faults input.new))
+        (K.written out.new) (K.faults out.new))) }
+{
+    'replies: while replies.machine.waits() {
+        if let Some(status) = next_step(alloc, reader, replies, input, out) {
+            return Err(status);
+        }
+    }
+    Ok(())
+}
+
+/// Sees that the input is at its end behind the last reply, if there are replies. `Some` is the status that the run stops with where it
+/// isn't.
+pub(crate) fn look_behind<M: LaneMachine + Drop, I: Source, K: Sink>(
+    alloc: Global,
+    replies: &mut Replies<M>,
+    reader: &mut LineReader,
+    input: &mut I,
+    out: &mut K,
+) -> Option<Status>
+    requires quiet { M.rules.waits (M.state replies.old.machine) ≡ false }
+    ensures none { IfNone result (EndsHearing M.rules
+        (outside reader.old (source_view (I.left input.old) (I.name input.old) (I.faults input.old))
+        (K.written out.old) (K.faults out.old))
+        (outside reader.new (source_view (I.left input.new) (I.name input.new) (I.faults input.new))
+        (K.written out.new) (K.faults out.new))) }
+    ensures some { IfSome result (λ status. GoesBehind M.rules (M.state replies.old.machine) status
+        (outside reader.old (source_view (I.left input.old) (I.name input.old) (I.faults input.old))
+        (K.written out.old) (K.faults out.old))
+        (outside reader.new (source_view (I.left input.new) (I.name input.new) (I.faults input.new))
+        (K.written out.new) (K.faults out.new))) }
+{
+    if !M::hears() {
+        return None;
+    }
+    let Some(status) = next_step(alloc, reader, replies, input, out) else {
+        return None;
+    };
+    if status.is_done() {
+        return None;
+    }
+    Some(status)
+}

@@ -1,0 +1,20 @@
+//! A run over two lane files: a machine is driven by their items, and by the replies to what it writes.
+//!
+//! The machine is the program's own. What it is driven by, what is written, and how the run ends is said and proved
+//! here, once for all programs.
+#![tactic(auto)]
+
+mod driver;
+mod files;
+mod hearing;
+mod lane_machine;
+mod laws;
+mod opened;
+mod replies;
+mod status;
+mod took;
+
+pub use files::run_lane_files;
+pub use lane_machine::LaneMachine;
+pub use laws::items_are_read;
+pub use took::write_took;

@@ -1,0 +1,41 @@
+-- Items that are told of, and come to nothing.
+use Rattle.std.specs.Prelude.{⊤, ℕ, Bool, true, false, not, List, []}
+use Rattle.kube_model.specs.declared.event.Event.{Event}
+use Rattle.kube_model.specs.declared.event.Event.TheVariants.{Changed, Deleted, ListEnd, Expired, Members, Frame, Ignored}
+use Rattle.kube_model.specs.declared.status.LaneName.{LaneName}
+use Rattle.kube_model.specs.declared.status.LaneName.TheVariants as lanes
+use Rattle.kube_model.specs.declared.status.Status.TheVariants.{Done, BadReply}
+use Rattle.lane_mail.specs.declared.lane.Lane.{Lane}
+use Rattle.lane_mail.specs.declared.lane.Lane.TheVariants.{First, Second}
+use Rattle.line_run.specs.Machine.{Goes, Stops}
+use Rattle.lane_drive.specs.LaneRules.{LaneRules}
+
+abbrev pub is_members : Event → Bool
+is_members (Members names) = true
+is_members (Changed version object) = false
+is_members (Deleted kind key) = false
+is_members (ListEnd group) = false
+is_members Expired = false
+is_members (Frame interface bytes) = false
+is_members Ignored = false
+
+-- members come by the second lane alone
+abbrev pub belongs_to : Lane → Event → Bool
+belongs_to First event = not (is_members event)
+belongs_to Second event = true
+
+abbrev pub name_of : Lane → LaneName
+name_of First = lanes.Watch
+name_of Second = lanes.Frame
+
+-- no item is refused, and no reply is awaited
+abbrev pub teller_rules : LaneRules ⊤ ⊤
+teller_rules = record {
+  take = λ s item. Goes tt [];
+  waits = λ s. false;
+  hear = λ s line. Stops (BadReply line.number line.bytes);
+  unanswered = λ s. Done;
+  hears = false;
+  text = λ entry. [];
+  name = name_of;
+}

@@ -1,23 +1,24 @@
 -- What is driven goes on from a run of the core, so it is sound, and where no put is out nothing is left waiting.
 use Rattle.std.proofs.Common.{◌≡◌, ◌≢◌, ℕ, true, List, [], ◌∷◌, ◌++◌, Option, Some, None, is_some, refl, sym, ap, ◌∙◌, subst}
 use Rattle.kube_model.specs.declared.event.Event.{Event}
+use Rattle.kube_model.specs.declared.event.Group.{Group}
 use Rattle.kube_model.specs.declared.key.Key.{Key}
 use Rattle.kube_model.specs.declared.reply.PutReply.{PutReply}
 use Rattle.core_rules.specs.declared.turn.Turn.{Turn}
 use Rattle.core_rules.specs.declared.turn.Turn.TheVariants.{Idle, NoPut, Wants}
 use Rattle.core_rules.specs.Core.{State}
-use Rattle.core_rules.specs.Take.{core_take}
+use Rattle.core_rules.specs.Take.{core_take, core_expired}
 use Rattle.core_rules.specs.Turn.{core_turn, after_turn, put_in, rest_of, turn_of}
 use Rattle.core_rules.specs.Replied.{core_reply}
-use Rattle.core_rules.specs.Run.{Entry as CoreEntry, Took as TookByCore, Turned as TurnedByCore, Heard as HeardByCore, IsRun, core_after}
+use Rattle.core_rules.specs.Run.{Entry as CoreEntry, Took as TookByCore, Expired as ExpiredByCore, Turned as TurnedByCore, Heard as HeardByCore, IsRun, core_after}
 use Rattle.core_rules.proofs.Runs.{core_holds_what_was_observed, took-out, heard-out}
 use Rattle.core_laws.specs.Shared.{AllShowTerms}
 use Rattle.core_laws.proofs.Puts.{idle-queue}
 use Rattle.core_laws.proofs.QuietShown.{runs_are_quiet_as_shown}
 use Rattle.core_laws.proofs.Sound.{runs_are_sound}
 use Rattle.core_laws.proofs.Telling.{notes_are_right}
-use Rattle.core_drive.specs.Drive.{Driven, Entry, turned, turns, taking, hearing, core_entry, behind}
-use Rattle.core_drive.specs.Laws.{BeginsFresh, EventsGoOn, RepliesGoOn, DrivesAreSound, DrivesAreQuiet}
+use Rattle.core_drive.specs.Drive.{Driven, Entry, turned, turns, taking, lapsing, hearing, core_entry, behind}
+use Rattle.core_drive.specs.Laws.{BeginsFresh, EventsGoOn, LapsesGoOn, RepliesGoOn, DrivesAreSound, DrivesAreQuiet}
 use Rattle.core_drive.specs.Sound.{AreNotesRight, LeadsTo, ShowsTerms}
 
 -- ---- transcripts one behind the other
@@ -76,6 +77,12 @@ module _ (class : Option (List ℕ)) where
       let rest = turns-go (core_take (core_after class run) event).queue (TookByCore event ∷ run) entered (took-out (core_after class run) event ∙ none) refl in
       record { is = rest.is; core = rest.core; typed = λ all. rest.typed (typed, all); notes = (notes_are_right class event run is, rest.notes); idle = rest.idle }
 
+  lapsing-goes : (group : Group) (run : List CoreEntry) → IsRun class run → (core_after class run).out ≡ None → GoesOn class run (lapsing (core_after class run) group)
+  lapsing-goes group run is none =
+      let entered : IsRun class (ExpiredByCore group ∷ run) = (none, is) in
+      let rest = turns-go (core_expired (core_after class run) group).queue (ExpiredByCore group ∷ run) entered none refl in
+      record { is = rest.is; core = rest.core; typed = λ all. rest.typed (tt, all); notes = (tt, rest.notes); idle = rest.idle }
+
   hearing-goes : (reply : PutReply) (run : List CoreEntry) → IsRun class run → is_some (core_after class run).out ≡ true → GoesOn class run (hearing (core_after class run) reply)
   hearing-goes reply run is some =
       let entered : IsRun class (HeardByCore reply ∷ run) = (some, is) in
@@ -101,6 +108,11 @@ pub events_go_on : EventsGoOn
 events_go_on class told s event leads none typed =
     let goes = taking-goes class event (behind told []) leads.is (ap (λ (x : State). x.out) leads.core ∙ none) typed in
     goes-by class (taking s event) s told leads (subst (λ (x : State). GoesOn class (behind told []) (taking x event)) leads.core goes)
+
+pub lapses_go_on : LapsesGoOn
+lapses_go_on class told s group leads none =
+    let goes = lapsing-goes class group (behind told []) leads.is (ap (λ (x : State). x.out) leads.core ∙ none) in
+    goes-by class (lapsing s group) s told leads (subst (λ (x : State). GoesOn class (behind told []) (lapsing x group)) leads.core goes)
 
 pub replies_go_on : RepliesGoOn
 replies_go_on class told s reply leads some =

@@ -1,20 +1,22 @@
 -- What arrives at a core, with the turns that follow, as a transcript.
 use Rattle.std.specs.Prelude.{List, [], ◌∷◌}
 use Rattle.kube_model.specs.declared.event.Event.{Event}
+use Rattle.kube_model.specs.declared.event.Group.{Group}
 use Rattle.kube_model.specs.declared.key.Key.{Key}
 use Rattle.kube_model.specs.declared.reply.PutReply.{PutReply}
 use Rattle.object_cache.specs.declared.change.TakeNote.{TakeNote}
 use Rattle.core_rules.specs.declared.turn.Turn.{Turn}
 use Rattle.core_rules.specs.declared.turn.Turn.TheVariants.{Idle, NoPut, Wants}
 use Rattle.core_rules.specs.Core.{State}
-use Rattle.core_rules.specs.Take.{core_take, core_note}
+use Rattle.core_rules.specs.Take.{core_take, core_note, core_expired}
 use Rattle.core_rules.specs.Turn.{core_turn, after_turn}
 use Rattle.core_rules.specs.Replied.{core_reply}
-use Rattle.core_rules.specs.Run.{Entry as CoreEntry, Took as TookByCore, Turned as TurnedByCore, Heard as HeardByCore}
+use Rattle.core_rules.specs.Run.{Entry as CoreEntry, Took as TookByCore, Expired as ExpiredByCore, Turned as TurnedByCore, Heard as HeardByCore}
 
 -- an entry of a transcript
 pub data Entry : Type 0 where
   Took : (event : Event) → (note : TakeNote) → Entry  -- an event was taken, and this is noted of it
+  Lapsed : (group : Group) → Entry  -- the watch of one list has expired
   Turned : (turn : Turn) → Entry  -- a turn came to this
   Heard : (reply : PutReply) → Entry  -- the put that was out was answered
 
@@ -37,20 +39,27 @@ turns (key ∷ keys) s = turned (core_turn s) (after_turn s) (turns keys (after_
 abbrev pub turns_from : State → Driven
 turns_from s = turns s.queue s
 
+-- what was entered, which led to this core, and the turns that follow
+abbrev pub with_turns : Entry → State → Driven
+with_turns entry s =
+    let rest = turns_from s in
+    record { entries = entry ∷ rest.entries; core = rest.core }
+
 -- an event is taken, and turns follow
 abbrev pub taking : State → Event → Driven
-taking s event =
-    let rest = turns_from (core_take s event) in
-    record { entries = Took event (core_note s event) ∷ rest.entries; core = rest.core }
+taking s event = with_turns (Took event (core_note s event)) (core_take s event)
+
+-- the watch of one list expires, and turns follow
+abbrev pub lapsing : State → Group → Driven
+lapsing s group = with_turns (Lapsed group) (core_expired s group)
 
 -- a reply is heard, and turns follow
 abbrev pub hearing : State → PutReply → Driven
-hearing s reply =
-    let rest = turns_from (core_reply s reply) in
-    record { entries = Heard reply ∷ rest.entries; core = rest.core }
+hearing s reply = with_turns (Heard reply) (core_reply s reply)
 
 abbrev pub core_entry : Entry → CoreEntry
 core_entry (Took event note) = TookByCore event
+core_entry (Lapsed group) = ExpiredByCore group
 core_entry (Turned turn) = TurnedByCore turn
 core_entry (Heard reply) = HeardByCore reply
 

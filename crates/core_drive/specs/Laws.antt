@@ -1,10 +1,11 @@
 -- What holds of every drive.
 use Rattle.std.specs.Prelude.{◌≡◌, ℕ, true, List, [], ◌++◌, None, Option, is_some}
 use Rattle.kube_model.specs.declared.event.Event.{Event}
+use Rattle.kube_model.specs.declared.event.Group.{Group}
 use Rattle.kube_model.specs.declared.reply.PutReply.{PutReply}
 use Rattle.core_rules.specs.Core.{State, fresh}
 use Rattle.core_laws.specs.QuietShown.{IsQuietAsShown}
-use Rattle.core_drive.specs.Drive.{Entry, behind, taking, hearing}
+use Rattle.core_drive.specs.Drive.{Entry, behind, taking, lapsing, hearing}
 use Rattle.core_drive.specs.Sound.{IsSound, LeadsTo, ShowsTerms}
 
 -- nothing was told before anything arrives
@@ -16,6 +17,12 @@ abbrev pub EventsGoOn : Type 0
 EventsGoOn =
     (class : Option (List ℕ)) (told : List Entry) (s : State) (event : Event) → LeadsTo class told s → s.out ≡ None → ShowsTerms event
     → LeadsTo class (told ++ (taking s event).entries) (taking s event).core
+
+-- and so does the end of one list's watch
+abbrev pub LapsesGoOn : Type 0
+LapsesGoOn =
+    (class : Option (List ℕ)) (told : List Entry) (s : State) (group : Group) → LeadsTo class told s → s.out ≡ None
+    → LeadsTo class (told ++ (lapsing s group).entries) (lapsing s group).core
 
 -- and so does a reply, where one is
 abbrev pub RepliesGoOn : Type 0

@@ -10,10 +10,11 @@ use Rattle.core_laws.specs.Shared.{AllShowTerms}
 use Rattle.core_laws.specs.Shown.{OfConcern}
 use Rattle.core_laws.specs.Sound.{IsSoundRun}
 use Rattle.core_laws.specs.Telling.{IsRightNote}
-use Rattle.core_drive.specs.Drive.{Entry, Took, Turned, Heard, core_entry, behind}
+use Rattle.core_drive.specs.Drive.{Entry, Took, Lapsed, Turned, Heard, core_entry, behind}
 
 abbrev pub IsRightTelling : Entry → List CoreEntry → Type 0
 IsRightTelling (Took event note) earlier = IsRightNote note event (observed earlier)
+IsRightTelling (Lapsed group) earlier = ⊤
 IsRightTelling (Turned turn) earlier = ⊤
 IsRightTelling (Heard reply) earlier = ⊤
 

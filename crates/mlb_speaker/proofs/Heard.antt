@@ -1,12 +1,10 @@
 -- What a peer was told since it came adds up to its routes.
-use Rattle.std.proofs.Common.{◌≡◌, ◌<◌, ◌^◌, ℕ, Bool, true, false, cond, ◌&&◌, ◌==◌, List, [], ◌∷◌, ◌++◌, map, Option, Some, None, Result, Ok, Err, Ordering, Less, refl, sym, ap, ◌∙◌, subst, inl, inr, ◌⊎◌, append_assoc, arith}
+use Rattle.std.proofs.Common.{◌≡◌, ◌<◌, ◌^◌, ℕ, Bool, true, false, cond, ◌&&◌, ◌==◌, List, [], ◌∷◌, ◌++◌, map, Option, Some, None, Ok, Ordering, Less, refl, sym, ap, ◌∙◌, subst, inl, inr, ◌⊎◌, append_assoc, arith}
 use Rattle.std.proofs.lemmas.Bool.{and_parts, and_from, true≢false}
 use Rattle.std.proofs.lemmas.Bool.Decides.{nat_tests}
 use Rattle.std.proofs.lemmas.List.{append-nil}
 use Rattle.std.proofs.lemmas.Grind.{flat_map-append}
 use Rattle.std.proofs.lemmas.Slice.Eq.{bytes_eq-Decides}
-use Rattle.std.proofs.lemmas.Map.Lookups.{exact_unsigned}
-use Rattle.std.specs.Cmp.{IsTotalOrder}
 use Rattle.std.specs.List.{AllByRecursion, AllZip, find, flat_map}
 use Rattle.std.specs.List.Sorted.{IsStrictlySortedBy}
 use Rattle.std.specs.Ordering.{ordering_reverse}
@@ -50,7 +48,6 @@ use Rattle.shown_views.specs.Numbered.{IsNumbered, IsNumberedConfig, HasCompiled
 use Rattle.shown_views.proofs.Kept.{fresh-numbered, after-numbered}
 use Rattle.shown_views.proofs.Tellable.{routes_can_be_told}
 use Rattle.mlb_speaker.specs.declared.entries.Entry.{Entry}
-use Rattle.mlb_speaker.specs.declared.entries.Entry.TheVariants.{Noted, Withdrawn, Announced, Sent, Updated}
 use Rattle.mlb_speaker.specs.declared.station.Interface.{Interface}
 use Rattle.mlb_speaker.specs.declared.station.Station.{Station}
 use Rattle.mlb_speaker.specs.Announced.{announced_by}
@@ -58,10 +55,10 @@ use Rattle.mlb_speaker.specs.Clauses.{nothing_said, begun_with}
 use Rattle.mlb_speaker.specs.Entries.{difference, withdrawn, withdrawals, announcements, entries_for}
 use Rattle.mlb_speaker.specs.Heard.{message_to, messages_told, IsSamePeer, IsThere, StaysOver, HasComeSince, GiveTable, AreToldBy, HearsItsRoutes, PeersHearTheirRoutes}
 use Rattle.mlb_speaker.specs.Sends.{unasked_by, unasked, listening, announcement, answer_on, sent_on, answer_by, interface_of}
-use Rattle.mlb_speaker.specs.Stream.{SpeakerState, Received, first_state, state_after, frame_in, changes_of, entries_at, entries_of, line_step, speaker_rules}
+use Rattle.mlb_speaker.specs.Stream.{SpeakerState, Received, first_state, frame_in, changes_of, entries_at, line_step, speaker_rules}
 use Rattle.mlb_speaker.specs.Updates.{peers_of, peers_in, is_one_peer, table_by, table_of, messages_to, updated, updates_to, updates_by, with_hop, update_entries}
 use Rattle.mlb_speaker.proofs.Steps.{frame_leaves}
-use Rattle.mlb_speaker.proofs.Telling.{Applies, event_applies, station_kept}
+use Rattle.mlb_speaker.proofs.Telling.{event_applies, station_kept}
 
 by_bool : (P : Type 0) (b : Bool) → (b ≡ true → P) → (b ≡ false → P) → P
 by_bool P true t f = t refl

@@ -5,3 +5,5 @@ pub mod Steps
 pub mod Tables
 pub mod Telling
 pub mod Heard
+pub mod LaneLines
+pub mod LaneEnds

@@ -1,5 +1,5 @@
 -- Each frame that is sent is unasked or an answer, for an address for which the node listens.
-use Rattle.std.proofs.Common.{◌≡◌, ◌↔◌, ℕ, Bool, true, false, cond, ◌&&◌, List, [], ◌∷◌, ◌++◌, map, filter, Option, Some, None, refl, sym, ap, ◌∙◌, subst, inl, inr}
+use Rattle.std.proofs.Common.{◌≡◌, ℕ, Bool, true, false, cond, List, [], ◌∷◌, ◌++◌, map, filter, Option, Some, None, refl, sym, ap, ◌∙◌, subst, inl, inr}
 use Rattle.std.specs.List.{AllByRecursion, Contains, flat_map, find}
 use Rattle.std.specs.Option.{option_or}
 use Rattle.std.specs.Str.{bytes_eq}
@@ -23,20 +23,18 @@ use Rattle.neigh_frames.proofs.NdpMeaning.{ndp-means}
 use Rattle.mlb_edge.specs.declared.lines.Line.{Line}
 use Rattle.line_run.specs.Machine.{Goes}
 use Rattle.speaker_words.specs.Reading.{said_in}
-use Rattle.speaker_words.specs.Words.{Said}
 use Rattle.mlb_speaker.specs.declared.entries.Entry.{Entry}
-use Rattle.mlb_speaker.specs.declared.entries.Entry.TheVariants.{Noted, Withdrawn, Announced, Sent, Updated}
 use Rattle.mlb_speaker.specs.declared.station.Interface.{Interface}
 use Rattle.mlb_speaker.specs.declared.station.Station.{Station}
 use Rattle.mlb_speaker.specs.Announced.{announced_by}
 use Rattle.mlb_speaker.specs.Clauses.{begun_with}
 use Rattle.mlb_speaker.specs.Entries.{difference, withdrawn, withdrawals, announcements, entries_for}
-use Rattle.mlb_speaker.specs.Meant.{IsMeant, SaysWhatIsMeant, SendsWhatIsMeant, AllSendWhatIsMeant}
-use Rattle.mlb_speaker.specs.Sends.{unasked_by, unasked, announcement, answer_on, sent_on, answer_by, interface_of}
-use Rattle.mlb_speaker.specs.Stream.{SpeakerState, Received, first_state, frame_in, entries_at, line_step}
+use Rattle.mlb_speaker.specs.Meant.{SaysWhatIsMeant, SendsWhatIsMeant, AllSendWhatIsMeant}
+use Rattle.mlb_speaker.specs.Sends.{unasked_by, unasked, announcement, sent_on, answer_by, interface_of}
+use Rattle.mlb_speaker.specs.Stream.{SpeakerState, Received, frame_in, entries_at, line_step}
 use Rattle.mlb_speaker.specs.Updates.{peers_of, messages_to, updated, updates_to, updates_by, with_hop, update_entries}
 use Rattle.mlb_speaker.proofs.Steps.{frame_leaves}
-use Rattle.mlb_speaker.proofs.Telling.{Applies, event_applies}
+use Rattle.mlb_speaker.proofs.Telling.{event_applies}
 
 all-append : {X : Type 0} (P : X → Type 0) (xs ys : List X) → AllByRecursion P xs → AllByRecursion P ys → AllByRecursion P (xs ++ ys)
 all-append P [] ys h k = k

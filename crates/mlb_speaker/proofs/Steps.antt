@@ -24,7 +24,7 @@ use Rattle.mlb_speaker.specs.declared.peers.PeerTable.{PeerTable}
 use Rattle.mlb_speaker.specs.PeerTables.{tables_of, updates_with}
 use Rattle.mlb_speaker.specs.Updates.{update_entries}
 use Rattle.mlb_speaker.proofs.Tables.{kept-tables}
-use Rattle.mlb_speaker.specs.Stream.{Received, state_of, state_after, frame_in, changes_of, entries_of, line_step, speaker_rules}
+use Rattle.mlb_speaker.specs.Stream.{SpeakerState, Received, state_of, frame_in, changes_of, step_by, speaker_rules}
 
 abbrev noted : TakeNote → Result TakeNote ApplyFault
 noted note = Ok note
@@ -57,18 +57,11 @@ module _ (v : ViewValue) (station : Station) (event : Event) where
       ∙ ap (λ (es : List Entry). entries_for v' station (note_by v event) (announced_by v station.node) (announced_by v' station.node) ++ es) (kept-tables v v' station.node station.next_hop)
       ∙ ap (λ (u : ViewValue). entries_for u station (note_by v event) (announced_by v station.node) (announced_by u station.node) ++ update_entries v u station) w
 
-  module _ (line : Line) (reads : event_of_line line.bytes ≡ Ok event) (within : limit_by v event ≡ None) where
-    pub goes : line_step (state_of v station) line ≡ Goes (state_after (state_of v station) event) (entries_of (state_of v station) event)
-    goes = rw (reads, within) refl
-
-    pub breaks : (halt : Halt) (entries : List Entry) (before after : Option (List ℕ)) (k n : ℕ) → entries ≡ entries_of (state_of v station) event
-        → Halts halt (text_of speaker_rules entries) before after k n → Breaks halt speaker_rules (state_of v station) line before after k n
-    breaks halt entries before after k n is h = record {
-      next = state_after (state_of v station) event;
-      entries = entries_of (state_of v station) event;
-      steps = goes;
-      halts = rw is at h;
-    }
+  -- a line that reads as the event is to a state what the event is
+  pub breaks : (line : Line) (t : SpeakerState) (halt : Halt) (entries : List Entry) (before after : Option (List ℕ)) (k n : ℕ) → event_of_line line.bytes ≡ Ok event
+      → step_by (state_of v station) event ≡ Goes t entries → Halts halt (text_of speaker_rules entries) before after k n
+      → Breaks halt speaker_rules (state_of v station) line before after k n
+  breaks line t halt entries before after k n reads goes h = record { next = t; entries = entries; steps = rw (reads, goes) refl; halts = h }
 
 -- a frame changes nothing, and passes no limit
 pub frame_leaves : (event : Event) (received : Received) (v : ViewValue) → frame_in event ≡ Some received → view_after event v ≡ v

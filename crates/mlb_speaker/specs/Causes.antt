@@ -1,5 +1,7 @@
 -- Why a run of the speaker stops.
-use Rattle.std.proofs.Common.{◌≡◌, ℕ, ◌+◌, Bool, true, false, Option, Some, None, Result, Ok, Err, is_err, refl, ap, subst}
+use Rattle.std.specs.Bool.{IsTrue}
+use Rattle.std.proofs.Common.{◌≡◌, ◌≢◌, ℕ, ◌+◌, Bool, true, false, Option, Some, None, Result, Ok, Err, is_err, refl, sym, ap, subst}
+use Rattle.std.proofs.lemmas.Bool.{true≢false}
 use Rattle.kube_labels.specs.Names.{name_cmp}
 use Rattle.kube_model.specs.Keys.{key_cmp}
 use Rattle.kube_model.specs.declared.event.Event.{Event}
@@ -16,13 +18,19 @@ use Rattle.kube_events.specs.Event.{event_of_line}
 use Rattle.object_cache.specs.Limits.{most_services, most_nodes, passes, first_past, object_limit, limit_of}
 use Rattle.object_history.specs.Cache.{Cached}
 use Rattle.speaker_view.specs.View.{limit_by}
+use Rattle.kube_lines.specs.OutputLines.{is_taken}
+use Rattle.lane_drive.specs.LaneRules.{IsHeldLimit}
+use Rattle.lane_mail.specs.declared.item.Item.{Item}
+use Rattle.lane_mail.specs.declared.lane.Lane.{Lane}
+use Rattle.lane_mail.specs.declared.lane.Lane.TheVariants.{First, Second}
 use Rattle.mlb_edge.specs.declared.lines.Line.{Line}
 use Rattle.line_run.specs.Machine.{Stops}
 use Rattle.line_run.specs.Statuses.{IsLineStatus, IsEndStatus}
+use Rattle.mlb_speaker.specs.Lanes.{item_step, lane_rules, name_of}
 use Rattle.mlb_speaker.specs.Stream.{SpeakerState, what_of, limit_step, event_step, line_step, IsCause}
 
 -- a status that a run may stop with at a line, and its cause
-abbrev IsFair : Status → Type 0
+abbrev pub IsFair : Status → Type 0
 IsFair status = IsLineStatus status × IsCause status
 
 abbrev IsFairLimit : Kind × ℕ → Type 0
@@ -52,7 +60,7 @@ limit_fair held (Members names) p e = absurd (cc)
 limit_fair held (Frame interface bytes) p e = absurd (cc)
 limit_fair held Ignored p e = absurd (cc)
 
-limit_cause : (passed : Option (Kind × ℕ)) (s : SpeakerState) (event : Event) (status : Status) → limit_by s.view event ≡ passed → limit_step s event passed ≡ Stops status → IsFair status
+pub limit_cause : (passed : Option (Kind × ℕ)) (s : SpeakerState) (event : Event) (status : Status) → limit_by s.view event ≡ passed → limit_step s event passed ≡ Stops status → IsFair status
 limit_cause None s event status is e = absurd (cc)
 limit_cause (Some p) s event status is e =
     let it : Limit (what_of p.0) p.1 ≡ status = cc in
@@ -71,3 +79,26 @@ line_causes s line status e = event_cause (event_of_line line.bytes) s line stat
 -- and so is the end of the input
 pub end_causes : (s : SpeakerState) → IsEndStatus Done × IsCause Done
 end_causes s = (tt, tt)
+
+held_limit : (o : Option (Kind × ℕ)) (s : SpeakerState) (event : Event) (status : Status) → limit_by s.view event ≡ o → limit_step s event o ≡ Stops status → IsHeldLimit status
+held_limit None s event status is e = absurd (cc)
+held_limit (Some p) s event status is e =
+    let it : Limit (what_of p.0) p.1 ≡ status = cc in
+    (what_of p.0, p.1, (limit_cause (Some p) s event (Limit (what_of p.0) p.1) is refl).0, sym it)
+
+-- with the item that a run stops at more would be held than may be
+pub item_causes : (s : SpeakerState) (item : Item) (status : Status) → item_step s item ≡ Stops status → IsHeldLimit status
+item_causes s item status e = held_limit (limit_by s.view item.event) s item.event status refl e
+
+-- no reply is awaited
+pub awaits_none : {T : Type 0} (s : SpeakerState) → lane_rules.waits s ≡ true → T
+awaits_none s waits = absurd (true≢false (sym waits))
+
+-- neither lane is the input
+pub names_taken : (lane : Lane) → IsTrue (is_taken (name_of lane))
+names_taken First = refl
+names_taken Second = refl
+
+-- and they have two names
+pub names_differ : name_of First ≢ name_of Second
+names_differ same = absurd (cc)

@@ -3,6 +3,9 @@ pub mod Causes
 pub mod Clauses
 pub mod Entries
 pub mod Heard
+pub mod LaneClauses
+pub mod LaneLaws
+pub mod Lanes
 pub mod Meant
 pub mod PeerTables
 pub mod Seen

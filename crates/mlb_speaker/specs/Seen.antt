@@ -1,5 +1,5 @@
 -- A frame as contracts see it.
-use Rattle.mlb_speaker.specs.declared.line.Received.{Received as ReceivedFrame}
+use Rattle.mlb_speaker.specs.declared.events.Received.{Received as ReceivedFrame}
 use Rattle.mlb_speaker.specs.Stream.{Received}
 
 abbrev pub received_seen : ReceivedFrame → Received

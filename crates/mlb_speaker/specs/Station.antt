@@ -1,5 +1,5 @@
 -- Where a speaker runs, as its words say.
-use Rattle.std.specs.Prelude.{List, map}
+use Rattle.std.specs.Prelude.{map}
 use Rattle.speaker_words.specs.Interface.{InterfaceValue}
 use Rattle.speaker_words.specs.Words.{Said}
 use Rattle.mlb_speaker.specs.declared.station.Interface.{Interface}

@@ -14,6 +14,9 @@ use Rattle.kube_events.specs.Event.{event_of_line}
 use Rattle.object_cache.specs.Limits.{most_services, most_nodes}
 use Rattle.speaker_view.specs.ViewValue.{ViewValue}
 use Rattle.speaker_view.specs.View.{fresh, view_after, note_by, limit_by}
+use Rattle.line_run.specs.declared.halt.Halt.TheVariants as halts
+use Rattle.line_run.specs.declared.halt.Refusal.{Refusal}
+use Rattle.line_run.specs.declared.halt.Refusal.TheVariants.{Stopped, Halted}
 use Rattle.line_run.specs.Machine.{Step, Goes, Stops, Rules}
 use Rattle.mlb_edge.specs.declared.lines.Line.{Line}
 use Rattle.speaker_words.specs.Words.{Said}
@@ -88,10 +91,19 @@ abbrev pub limit_step : SpeakerState → Event → Option (Kind × ℕ) → Step
 limit_step s event None = Goes (state_after s event) (entries_of s event)
 limit_step s event (Some p) = Stops (Limit (what_of p.0) p.1)
 
+-- what an event is to this state
+abbrev pub step_by : SpeakerState → Event → Step SpeakerState Entry
+step_by s event = limit_step s event (limit_by s.view event)
+
+-- why an event isn't applied: the run stops at it, or memory is wanting
+abbrev pub IsUnapplied : Refusal → SpeakerState → Event → Type 0
+IsUnapplied (Stopped status) s event = step_by s event ≡ Stops status
+IsUnapplied (Halted halt) s event = halt ≡ halts.NoMemory
+
 -- it is no readable event, or it is one
 abbrev pub event_step : SpeakerState → Line → Result Event EventFault → Step SpeakerState Entry
 event_step s line (Err fault) = Stops (BadLine lanes.Input line.number line.bytes)
-event_step s line (Ok event) = limit_step s event (limit_by s.view event)
+event_step s line (Ok event) = step_by s event
 
 -- what a line is to this state
 abbrev pub line_step : SpeakerState → Line → Step SpeakerState Entry

@@ -1,5 +1,5 @@
 -- Which addresses are announced by what was told.
-use Rattle.std.specs.Prelude.{◌≡◌, ◌≢◌, ◌↔◌, ℕ, List, [], ◌∷◌, ◌++◌, Option, ⊤}
+use Rattle.std.specs.Prelude.{◌≡◌, ◌≢◌, ◌↔◌, List, [], ◌∷◌, ◌++◌, ⊤}
 use Rattle.ip_ranges.specs.Values.{AddressValue}
 use Rattle.l2_elect.specs.Election.{IsAnnouncer}
 use Rattle.speaker_words.specs.Words.{Said}

@@ -1,27 +1,16 @@
 //! One line: an event that is applied to the view.
-ghost use Rattle.std.specs.Prelude.{◌≡◌, ◌≤◌, ℕ, None, Some, OnOk, IfOk, IfErr, IsErrOf};
-ghost use Rattle.std.specs.Option.{option_map};
-ghost use Rattle.kube_model.specs.declared.object.Kind.{Kind};
-ghost use Rattle.speaker_view.specs.View.{view_after, limit_by};
+ghost use Rattle.std.specs.Prelude.{◌≤◌, OnOk, IfErr};
 ghost use Rattle.line_run.specs.Steps.{Takes, Refuses};
-ghost use Rattle.mlb_speaker.specs.Seen.{received_seen};
-ghost use Rattle.mlb_speaker.specs.Sends.{answers};
-ghost use Rattle.mlb_speaker.specs.Stream.{speaker_rules, state_of, frame_in, entries_of, what_of};
+ghost use Rattle.mlb_speaker.specs.Stream.{speaker_rules, state_of};
 
-use crate::changes::changes_by;
-use crate::entries::Entry;
+use crate::events::apply_event;
 use crate::output::write_entries;
-use crate::sends::answers;
 use crate::station::Station;
 use kube_events::read_event;
-use kube_labels::Text;
-use kube_model::{Event, EventFault, Kind, LaneName, Status, What};
+use kube_model::{EventFault, LaneName, Status};
 use limited_view::LimitedView;
 use line_run::{Halt, Refusal};
-use mlb_base::{ByteList, NoMemory, Sequence};
 use mlb_edge::{Line, Sink};
-use object_cache::ApplyFault;
-use speaker_view::View;
 use std::alloc::Global;
 
 /// Applies the line's event to the view, and writes what comes of it.
@@ -55,109 +44,9 @@ pub(crate) fn drive_line<K: Sink>(
             });
         }
     };
-    let entries = match entries_by(alloc, view, station, event) {
-        Ok(entries) => entries,
-        Err(ApplyFault::NoMemory) => {
-            return Err(Refusal::Halted {
-                halt: Halt::NoMemory,
-            });
-        }
-        Err(ApplyFault::Limit { kind, count }) => {
-            return Err(Refusal::Stopped {
-                status: Status::Limit {
-                    what: what_of(kind),
-                    count,
-                },
-            });
-        }
-    };
+    let entries = apply_event(alloc, view, station, event)?;
     match write_entries(alloc, out, entries.as_slice()) {
         Ok(()) => Ok(()),
         Err(halt) => Err(Refusal::Halted { halt }),
-    }
-}
-
-/// Applies the event. What is to be told of it.
-fn entries_by(
-    alloc: Global,
-    view: &mut LimitedView,
-    station: &Station,
-    event: Event,
-) -> Result<Sequence<Entry>, ApplyFault>
-    ensures ok { IfOk result (λ entries. entries ≡ entries_of (state_of view.old station.now) event) }
-    ensures view { OnOk result (view.new ≡ view_after event view.old) }
-    ensures within { OnOk result (limit_by view.old event ≡ None) }
-    ensures limit { (kind : Kind) (count : ℕ)
-        → IsErrOf result (ApplyFault.Limit kind count) → limit_by view.old event ≡ Some (kind, count) }
-{
-    match answers_to(alloc, view.as_view(), station, &event) {
-        Ok(None) => changes_by(alloc, view, station, event),
-        Ok(Some(entries)) => {
-            drop(event);
-            Ok(entries)
-        }
-        Err(NoMemory) => {
-            drop(event);
-            Err(ApplyFault::NoMemory)
-        }
-    }
-}
-
-/// What is sent where the event is a frame.
-fn answers_to(
-    alloc: Global,
-    view: &View,
-    station: &Station,
-    event: &Event,
-) -> Result<Option<Sequence<Entry>>, NoMemory>
-    ensures { IfOk result (λ entries. entries ≡ option_map (λ r. answers view.now station.now r.interface r.frame) (frame_in event.now)) }
-{
-    let Some(received) = frame_in(event) else {
-        return Ok(None);
-    };
-    let frame = received.frame.as_slice();
-    let entries = answers(alloc, view, station, received.interface, frame)?;
-    Ok(Some(entries))
-}
-
-/// A frame that an interface received.
-#[derive(Clone, Copy)]
-struct Received<'a> {
-    interface: &'a Text,
-    frame: &'a ByteList,
-}
-
-/// The frame of an event.
-fn frame_in(event: &Event) -> Option<Received<'_>>
-    ensures { option_map received_seen result ≡ frame_in event.now }
-{
-    match event {
-        Event::Frame { interface, bytes } => Some(Received {
-            interface,
-            frame: bytes,
-        }),
-        Event::Changed { .. }
-        | Event::Deleted { .. }
-        | Event::ListEnd { .. }
-        | Event::Expired
-        | Event::Members { .. }
-        | Event::Ignored => None,
-    }
-}
-
-/// What there is too much of where a limit of the kind is passed; services and nodes alone have one.
-fn what_of(kind: Kind) -> What
-    ensures { result ≡ what_of kind }
-{
-    match kind {
-        Kind::Service => What::Services,
-        Kind::Node
-        | Kind::Pool
-        | Kind::L2
-        | Kind::Bgp
-        | Kind::Peer
-        | Kind::Community
-        | Kind::Namespace
-        | Kind::Slice => What::Nodes,
     }
 }

@@ -4,6 +4,8 @@
 mod announced;
 mod changes;
 mod entries;
+mod events;
+mod lanes;
 mod laws;
 mod line;
 mod output;

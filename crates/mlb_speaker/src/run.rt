@@ -1,35 +1,43 @@
 //! The top call.
-ghost use Rattle.std.specs.Prelude.{◌≡◌, ◌↔◌};
+ghost use Rattle.std.specs.Prelude.{◌≡◌, ◌↔◌, ℕ, List};
+ghost use Rattle.kube_model.specs.declared.status.LaneName.{LaneName};
+ghost use Rattle.lane_drive.specs.Files.{files_view};
+ghost use Rattle.lane_run.specs.Views.{source_view};
 ghost use Rattle.line_run.specs.Clauses.{AtEnd, AtReadFault, AtWriteFault};
 ghost use Rattle.command_options.specs.Options.{texts_of};
-ghost use Rattle.mlb_speaker.specs.Clauses.{CanEnd, SpeaksForNamed, AtDone, AtBadLine, AtHeldLimit, AtLongLine, AtTooLong, AfterRead, AfterWrite, AtNoMemory, WritesOnly, TellsWhatIsAnnounced, SendsWhatIsMeant, TellsPeersTheirRoutes, IsExact, IsComplete};
+ghost use Rattle.mlb_speaker.specs.Clauses.{InStream, CanEnd, SpeaksForNamed, AtDone, AtBadLine, AtHeldLimit, AtLongLine, AtTooLong, AfterRead, AfterWrite, AtNoMemory, WritesOnly, TellsWhatIsAnnounced, SendsWhatIsMeant, TellsPeersTheirRoutes, IsExact, IsComplete};
+ghost use Rattle.mlb_speaker.specs.LaneClauses.{EndsLanes, LanesDone, LanesWriteOnly, AtLaneOpenFault, AtLaneReadFault, LeavesOtherFiles, LeavesInput, LanesCanEnd, LanesAreAsLines, LanesTellWhatIsAnnounced, LanesSendWhatIsMeant};
 ghost use Rattle.speaker_words.specs.Words.{AreKnown};
 
+use crate::speaker::Speaker;
 use crate::stream::stream_speaker;
 use kube_model::Status;
+use lane_drive::run_lane_files;
 use mlb_edge::{Files, Sink, Source};
+use speaker_words::speaker_words;
 use std::alloc::Global;
 use std::sync::Wait;
 use std::thread::Threads;
 
-/// All that the program does: the run over one stream. No file is opened.
+/// All that the program does: where the words name two lane files, the run over these, which doesn't read the input; else the run over one
+/// stream, which opens no file.
 pub fn run_speaker<R: Threads + Wait + Sync, F: Files, S: Source + Send, K: Sink + Send>(
-    _rt: &R,
+    rt: &R,
     alloc: Global,
     words: &[String],
     files: &mut F,
     input: &mut S,
     out: &mut K,
 ) -> Status
-    ensures no_file { files.new ≡ files.old }
-    ensures can_end { CanEnd result }
+    ensures no_file { InStream words.now (files.new ≡ files.old) }
+    ensures can_end { InStream words.now (CanEnd result) }
     ensures usage { (result ≡ Status.Usage) ↔ (¬ (AreKnown (texts_of words.now))) }
     ensures named { SpeaksForNamed words.now }
     ensures unused { result ≡ Status.Usage → (input.new ≡ input.old) × (out.new ≡ out.old) }
 
     // At the end of the input: nothing of it is left, and just the text of its run was written.
     ensures done { AtDone words.now result (S.left input.old) K.written out.old out.new }
-    ensures at_end { AtEnd result (S.left input.new) }
+    ensures at_end { InStream words.now (AtEnd result (S.left input.new)) }
 
     // A line that ends the run, and just the text of the run before it was written.
     ensures bad_line { AtBadLine words.now result (S.left input.old) K.written out.old out.new }
@@ -39,7 +47,7 @@ pub fn run_speaker<R: Threads + Wait + Sync, F: Files, S: Source + Send, K: Sink
 
     // A fault comes only where its count rose. Behind a failed read stands the text of the lines that were read whole, behind a
     // failed write a beginning of the text, and not the whole.
-    ensures read_fault { AtReadFault result (S.faults input.old) (S.faults input.new) }
+    ensures read_fault { InStream words.now (AtReadFault result (S.faults input.old) (S.faults input.new)) }
     ensures read { AfterRead words.now result S.left input.old input.new K.written out.old out.new }
     ensures write_fault { AtWriteFault result (K.faults out.old) (K.faults out.new) }
     ensures part { AfterWrite words.now result (S.left input.old) K.written out.old out.new }
@@ -63,6 +71,67 @@ pub fn run_speaker<R: Threads + Wait + Sync, F: Files, S: Source + Send, K: Sink
     // But for a fault or want of memory the status is that of the lines; and where all can be read and held, the run is done.
     ensures exact { IsExact words.now result (S.left input.old) }
     ensures complete { IsComplete words.now result (S.left input.old) }
+
+    // Over two lane files: how the run ended, once both are open. The items of both are taken in the order in which they come, and of each the
+    // line that tells of it is written, and then what it comes to.
+    ensures lanes { EndsLanes words.now result (F.bytes files.old)
+        (files_view (F.failed_opens files.old) (F.failed_reads files.old))
+        (files_view (F.failed_opens files.new) (F.failed_reads files.new))
+        (source_view (S.left input.old) (S.name input.old) (S.faults input.old))
+        (source_view (S.left input.new) (S.name input.new) (S.faults input.new))
+        K.written K.faults out.old out.new }
+    ensures lane_can_end { LanesCanEnd words.now result }
+
+    // Where it is done all that both files carry was taken, and just its text was written; and however it ends, a beginning of the text
+    // of some items, which are of each file a beginning of what it carries.
+    ensures lanes_done { LanesDone words.now result (F.bytes files.old)
+        (source_view (S.left input.old) (S.name input.old) (S.faults input.old))
+        (source_view (S.left input.new) (S.name input.new) (S.faults input.new))
+        K.written out.old out.new }
+    ensures lanes_only { LanesWriteOnly words.now (F.bytes files.old) (S.left input.old) K.written out.old out.new }
+
+    // Whatever items are taken, there are lines with their events, one for each, that are taken so in one stream. So the clauses `told`,
+    // `sends` and `routes`, which speak of any lines, hold of what is told over lanes too.
+    ensures lanes_as_lines { LanesAreAsLines words.now }
+    ensures lanes_told { LanesTellWhatIsAnnounced words.now }
+    ensures lanes_sends { LanesSendWhatIsMeant words.now }
+
+    // A lane isn't opened exactly where the opening of its file failed, and then nothing is read or written. It isn't read only where the
+    // count of failed readings of its file rose.
+    ensures lane_open_fault { AtLaneOpenFault words.now result
+        (files_view (F.failed_opens files.old) (F.failed_reads files.old))
+        (files_view (F.failed_opens files.new) (F.failed_reads files.new)) }
+    ensures lane_read_fault { AtLaneReadFault words.now result
+        (files_view (F.failed_opens files.old) (F.failed_reads files.old))
+        (files_view (F.failed_opens files.new) (F.failed_reads files.new)) (S.faults input.old) (S.faults input.new) }
+    ensures lane_unopened { (lane : LaneName) → result ≡ Status.OpenFault lane → (input.new ≡ input.old) × (out.new ≡ out.old) }
+
+    // Nothing of the input is read, and of no other file an opening or a reading failed. No file's bytes change.
+    ensures lane_unheard { LeavesInput words.now
+        (source_view (S.left input.old) (S.name input.old) (S.faults input.old))
+        (source_view (S.left input.new) (S.name input.new) (S.faults input.new)) }
+    ensures lane_others { LeavesOtherFiles words.now
+        (files_view (F.failed_opens files.old) (F.failed_reads files.old))
+        (files_view (F.failed_opens files.new) (F.failed_reads files.new)) }
+    ensures bytes { (file : List ℕ) → F.bytes files.new file ≡ F.bytes files.old file }
 {
-    stream_speaker(alloc, words, input, out)
+    let Some(said) = speaker_words(words) else {
+        return Status::Usage;
+    };
+    let Some(lanes) = said.lanes else {
+        return stream_speaker(alloc, words, input, out);
+    };
+    let Ok(speaker) = Speaker::new(alloc, &said) else {
+        return Status::NoMemory;
+    };
+    run_lane_files(
+        rt,
+        alloc,
+        lanes.first,
+        lanes.second,
+        files,
+        speaker,
+        input,
+        out,
+    )
 }

@@ -18,8 +18,8 @@ use std::alloc::Global;
 /// Applies lines to a view, and tells what its node announces.
 #[derive(Drop)]
 pub(crate) struct Speaker {
-    view: LimitedView,
-    station: Station,
+    pub(crate) view: LimitedView,
+    pub(crate) station: Station,
 }
 
 impl Speaker {

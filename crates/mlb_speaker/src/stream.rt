@@ -1,8 +1,8 @@
 //! The run over one stream.
-ghost use Rattle.std.specs.Prelude.{◌≡◌, ◌↔◌};
+ghost use Rattle.std.specs.Prelude.{◌≡◌, ◌↔◌, None};
 ghost use Rattle.line_run.specs.Clauses.{AtEnd, AtReadFault, AtWriteFault};
 ghost use Rattle.command_options.specs.Options.{texts_of};
-ghost use Rattle.mlb_speaker.specs.Clauses.{CanEnd, SpeaksForNamed, AtDone, AtBadLine, AtHeldLimit, AtLongLine, AtTooLong, AfterRead, AfterWrite, AtNoMemory, WritesOnly, TellsWhatIsAnnounced, SendsWhatIsMeant, TellsPeersTheirRoutes, IsExact, IsComplete};
+ghost use Rattle.mlb_speaker.specs.Clauses.{lanes_of, CanEnd, SpeaksForNamed, AtDone, AtBadLine, AtHeldLimit, AtLongLine, AtTooLong, AfterRead, AfterWrite, AtNoMemory, WritesOnly, TellsWhatIsAnnounced, SendsWhatIsMeant, TellsPeersTheirRoutes, IsExact, IsComplete};
 ghost use Rattle.speaker_words.specs.Words.{AreKnown};
 
 use crate::speaker::Speaker;
@@ -12,7 +12,7 @@ use mlb_edge::{Sink, Source};
 use speaker_words::speaker_words;
 use std::alloc::Global;
 
-/// The work of the program on one stream: each line of the input is an event. What comes of it is written before the next line is read
+/// The work of the program on one stream, where the words name no lane files: each line of the input is an event. What comes of it is written before the next line is read
 /// (`line_run::next_step`): the note of a configuration, a withdraw line for each address that isn't announced any more, an announce
 /// line for each that is from now on, with the unasked frames that are sent, the update lines of each BGP peer, and the frame that is sent in answer to
 /// one that was received.
@@ -22,6 +22,7 @@ pub fn stream_speaker<S: Source, K: Sink>(
     input: &mut S,
     out: &mut K,
 ) -> Status
+    requires { lanes_of (texts_of words.now) ≡ None }
     ensures can_end { CanEnd result }
     ensures usage { (result ≡ Status.Usage) ↔ (¬ (AreKnown (texts_of words.now))) }
     ensures named { SpeaksForNamed words.now }

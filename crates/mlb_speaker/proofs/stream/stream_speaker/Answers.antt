@@ -29,7 +29,7 @@ returns-clause-told g c = told_by (texts_of c.args.words.now)
 pub returns-clause-held_limit : goal.returns-clause-held_limit
 returns-clause-held_limit g c =
     let begun : state_of c.in-Ok.speaker.view c.in-Ok.speaker.station ≡ begun_by c.args.words.now = c.in-Ok.ensures ∙ ap begun_with c.in-Some.ensures.value in
-    rw begun at c.run_machine-status.ensures.held_limit
+    λ in_stream. rw begun at c.run_machine-status.ensures.held_limit
 
 pub returns-in_default-clause-sends : goal.returns-in_default-clause-sends
 returns-in_default-clause-sends g c = meant_by (texts_of c.args.words.now)

@@ -1,0 +1,85 @@
+use Rattle.command_options.specs.Options.{texts_of}
+use Rattle.mlb_speaker.specs.Clauses.{begun_by}
+use Rattle.mlb_speaker.proofs.Begun.{named-begun}
+use Rattle.mlb_speaker.proofs.Heard.{heard_by}
+use Rattle.mlb_speaker.proofs.LaneEnds.{can_end, ends_none, writes_none}
+use Rattle.mlb_speaker.proofs.LaneLines.{items_as_lines, items_tell, items_send}
+use Rattle.mlb_speaker.proofs.Meant.{meant_by}
+use Rattle.mlb_speaker.proofs.Telling.{told_by}
+use Rattle.mlb_speaker.proofs.run.run_speaker.Goals as goal
+
+pub returns-in_default-clause-told : goal.returns-in_default-clause-told
+returns-in_default-clause-told g c = told_by (texts_of c.args.words.now)
+
+pub returns-in_default-clause-sends : goal.returns-in_default-clause-sends
+returns-in_default-clause-sends g c = meant_by (texts_of c.args.words.now)
+
+pub returns-in_default-clause-lanes_as_lines : goal.returns-in_default-clause-lanes_as_lines
+returns-in_default-clause-lanes_as_lines g c = items_as_lines (begun_by c.args.words.now)
+
+pub returns-in_default-clause-lanes_told : goal.returns-in_default-clause-lanes_told
+returns-in_default-clause-lanes_told g c = items_tell (begun_by c.args.words.now) (told_by (texts_of c.args.words.now))
+
+pub returns-in_default-clause-lanes_sends : goal.returns-in_default-clause-lanes_sends
+returns-in_default-clause-lanes_sends g c = items_send (begun_by c.args.words.now) (meant_by (texts_of c.args.words.now))
+
+pub returns-in_default-lanes-clause-lanes_as_lines : goal.returns-in_default-lanes-clause-lanes_as_lines
+returns-in_default-lanes-clause-lanes_as_lines g c = items_as_lines (begun_by c.args.words.now)
+
+pub returns-in_default-lanes-clause-lanes_told : goal.returns-in_default-lanes-clause-lanes_told
+returns-in_default-lanes-clause-lanes_told g c = items_tell (begun_by c.args.words.now) (told_by (texts_of c.args.words.now))
+
+pub returns-in_default-lanes-clause-lanes_sends : goal.returns-in_default-lanes-clause-lanes_sends
+returns-in_default-lanes-clause-lanes_sends g c = items_send (begun_by c.args.words.now) (meant_by (texts_of c.args.words.now))
+
+pub returns-in_default-new-clause-named : goal.returns-in_default-new-clause-named
+returns-in_default-new-clause-named g c = named-begun (texts_of c.args.words.now)
+
+pub returns-in_default-new-clause-told : goal.returns-in_default-new-clause-told
+returns-in_default-new-clause-told g c = told_by (texts_of c.args.words.now)
+
+pub returns-in_default-new-clause-sends : goal.returns-in_default-new-clause-sends
+returns-in_default-new-clause-sends g c = meant_by (texts_of c.args.words.now)
+
+pub returns-in_default-new-clause-routes : goal.returns-in_default-new-clause-routes
+returns-in_default-new-clause-routes g c = heard_by (texts_of c.args.words.now)
+
+pub returns-in_default-new-clause-lanes_as_lines : goal.returns-in_default-new-clause-lanes_as_lines
+returns-in_default-new-clause-lanes_as_lines g c = items_as_lines (begun_by c.args.words.now)
+
+pub returns-in_default-new-clause-lanes_told : goal.returns-in_default-new-clause-lanes_told
+returns-in_default-new-clause-lanes_told g c = items_tell (begun_by c.args.words.now) (told_by (texts_of c.args.words.now))
+
+pub returns-in_default-new-clause-lanes_sends : goal.returns-in_default-new-clause-lanes_sends
+returns-in_default-new-clause-lanes_sends g c = items_send (begun_by c.args.words.now) (meant_by (texts_of c.args.words.now))
+
+pub returns-in_default-new-clause-lanes : goal.returns-in_default-new-clause-lanes
+returns-in_default-new-clause-lanes g c files named = ends_none (begun_by c.args.words.now) files.first files.second _ _ _ _ _ _
+
+pub returns-in_default-new-clause-lanes_only : goal.returns-in_default-new-clause-lanes_only
+returns-in_default-new-clause-lanes_only g c files named = writes_none (begun_by c.args.words.now) _ _ _ _
+
+pub returns-clause-named : goal.returns-clause-named
+returns-clause-named g c = named-begun (texts_of c.args.words.now)
+
+pub returns-clause-told : goal.returns-clause-told
+returns-clause-told g c = told_by (texts_of c.args.words.now)
+
+pub returns-clause-sends : goal.returns-clause-sends
+returns-clause-sends g c = meant_by (texts_of c.args.words.now)
+
+pub returns-clause-routes : goal.returns-clause-routes
+returns-clause-routes g c = heard_by (texts_of c.args.words.now)
+
+pub returns-clause-lanes_as_lines : goal.returns-clause-lanes_as_lines
+returns-clause-lanes_as_lines g c = items_as_lines (begun_by c.args.words.now)
+
+pub returns-clause-lanes_told : goal.returns-clause-lanes_told
+returns-clause-lanes_told g c = items_tell (begun_by c.args.words.now) (told_by (texts_of c.args.words.now))
+
+pub returns-clause-lanes_sends : goal.returns-clause-lanes_sends
+returns-clause-lanes_sends g c = items_send (begun_by c.args.words.now) (meant_by (texts_of c.args.words.now))
+
+pub returns-clause-lane_can_end : goal.returns-clause-lane_can_end
+returns-clause-lane_can_end g c files named =
+    can_end _ _ _ _ _ _ _ _ _ _ _ _ _ c.run_lane_files.result c.run_lane_files.ensures.open_fault c.run_lane_files.ensures.ended

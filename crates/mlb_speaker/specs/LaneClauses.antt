@@ -1,0 +1,88 @@
+-- What the speaker owes where its words name two lane files: the clauses of a run over lane files, with the speaker's rules and the words' node
+-- and class.
+use Rattle.std.specs.Prelude.{◌≡◌, ◌⊎◌, ⊤, ℕ, List, String, Option, Some}
+use Rattle.kube_model.specs.declared.status.LaneName.{LaneName}
+use Rattle.kube_model.specs.declared.status.LaneName.TheVariants.{Watch, Frame}
+use Rattle.kube_model.specs.declared.status.Status.{Status}
+use Rattle.kube_model.specs.declared.status.Status.TheVariants.{Done, Usage, OpenFault, ReadFault, WriteFault, BadLine, BadReply, NoReply, Limit, NoMemory}
+use Rattle.command_options.specs.Lanes.{LaneNames}
+use Rattle.command_options.specs.Options.{texts_of}
+use Rattle.lane_drive.specs.Clauses as drive
+use Rattle.lane_drive.specs.Files.{FilesView}
+use Rattle.lane_run.specs.Views.{SourceView, source_view}
+use Rattle.line_run.specs.Clauses.{CanPass}
+use Rattle.mlb_speaker.specs.Clauses.{begun_by, lanes_of}
+use Rattle.mlb_speaker.specs.LaneLaws as laws
+use Rattle.mlb_speaker.specs.Lanes.{belongs_to, lane_rules, name_of}
+use Rattle.mlb_speaker.specs.Stream.{IsCause}
+
+-- so it is of the two files that the words name
+abbrev pub OverLanes : {Z : Type 0} → List (String Z) → (LaneNames → Type 0) → Type 0
+OverLanes words so = (files : LaneNames) → lanes_of (texts_of words) ≡ Some files → so files
+
+-- a file of these bytes, of which nothing is read yet
+abbrev pub opened : (List ℕ → Option (List ℕ)) → List ℕ → SourceView
+opened bytes file = source_view (bytes file) (Some file) 0
+
+-- how the run ended, once both files are open
+abbrev pub EndsLanes : {Z K : Type 0} → List (String Z) → Status → (List ℕ → Option (List ℕ)) → (seen seen' : FilesView) (input input' : SourceView) → (K → Option (List ℕ)) → (K → ℕ) → K → K → Type 0
+EndsLanes words status bytes seen seen' input input' written faults out out' = OverLanes words (λ files. drive.AtEnd belongs_to lane_rules (begun_by words) files.first files.second seen seen'
+    (opened bytes files.first) (opened bytes files.second) input input' (written out) (written out') (faults out) (faults out') status)
+
+-- where it is done, all that both files carry was taken, and just its text was written
+abbrev pub LanesDone : {Z K : Type 0} → List (String Z) → Status → (List ℕ → Option (List ℕ)) → (input input' : SourceView) → (K → Option (List ℕ)) → K → K → Type 0
+LanesDone words status bytes input input' written out out' = OverLanes words (λ files. drive.AtDone belongs_to lane_rules (begun_by words)
+    (bytes files.first) (bytes files.second) status input.left input'.left (written out) (written out'))
+
+-- however it ends, a beginning of the text of some items was written, and they are of each file a beginning of what it carries
+abbrev pub LanesWriteOnly : {Z K : Type 0} → List (String Z) → (List ℕ → Option (List ℕ)) → (left : Option (List ℕ)) → (K → Option (List ℕ)) → K → K → Type 0
+LanesWriteOnly words bytes left written out out' = OverLanes words (λ files. drive.OnlyWrites belongs_to lane_rules (begun_by words)
+    (bytes files.first) (bytes files.second) left (written out) (written out'))
+
+-- a lane isn't opened exactly where the opening of its file failed, and then nothing was read; else no opening failed
+abbrev pub AtLaneOpenFault : {Z : Type 0} → List (String Z) → Status → (seen seen' : FilesView) → Type 0
+AtLaneOpenFault words status seen seen' = OverLanes words (λ files. drive.AtOpenFault name_of files.first files.second status seen seen')
+
+-- a lane isn't read only where the count of failed readings of its file rose
+abbrev pub AtLaneReadFault : {Z : Type 0} → List (String Z) → Status → (seen seen' : FilesView) → (reads reads' : ℕ) → Type 0
+AtLaneReadFault words status seen seen' reads reads' = OverLanes words (λ files. drive.AtReadFault name_of files.first files.second status seen seen' reads reads')
+
+-- of no other file an opening or a reading failed
+abbrev pub LeavesOtherFiles : {Z : Type 0} → List (String Z) → (seen seen' : FilesView) → Type 0
+LeavesOtherFiles words seen seen' = OverLanes words (λ files. drive.LeavesOthers files.first files.second seen seen')
+
+-- nothing is read of the input
+abbrev pub LeavesInput : {Z : Type 0} → List (String Z) → (input input' : SourceView) → Type 0
+LeavesInput words input input' = OverLanes words (λ files. drive.LeavesInput input input')
+
+abbrev pub IsLane : LaneName → Type 0
+IsLane lane = (lane ≡ Watch) ⊎ (lane ≡ Frame)
+
+-- a run over lanes may end so: nothing is said of the input, and there are no puts
+abbrev pub CanEndLanes : Status → Type 0
+CanEndLanes Done = ⊤
+CanEndLanes Usage = ⊥
+CanEndLanes (OpenFault lane) = IsLane lane
+CanEndLanes (ReadFault lane) = IsLane lane
+CanEndLanes WriteFault = ⊤
+CanEndLanes (BadLine lane number bytes) = IsLane lane
+CanEndLanes (BadReply number bytes) = ⊥
+CanEndLanes (NoReply put) = ⊥
+CanEndLanes (Limit what count) = CanPass IsCause what count
+CanEndLanes NoMemory = ⊤
+
+abbrev pub LanesCanEnd : {Z : Type 0} → List (String Z) → Status → Type 0
+LanesCanEnd words status = OverLanes words (λ files. CanEndLanes status)
+
+-- whatever items are taken, there are lines with their events, one for each, that are taken so in one stream; so what holds of what is told of
+-- any lines holds of what is told over lanes
+abbrev pub LanesAreAsLines : {Z : Type 0} → List (String Z) → Type 0
+LanesAreAsLines words = laws.ItemsAreAsLines (begun_by words)
+
+-- after any items the addresses with an announce line and no later withdraw line are those that the node announces
+abbrev pub LanesTellWhatIsAnnounced : {Z : Type 0} → List (String Z) → Type 0
+LanesTellWhatIsAnnounced words = laws.ItemsTellWhatIsAnnounced (begun_by words)
+
+-- each frame that is sent at an item says that an interface's hardware address has an address for which the node listens on it
+abbrev pub LanesSendWhatIsMeant : {Z : Type 0} → List (String Z) → Type 0
+LanesSendWhatIsMeant words = laws.ItemsSendWhatIsMeant (begun_by words)

@@ -1,0 +1,51 @@
+-- What is told of the items of two lanes.
+use Rattle.std.specs.Prelude.{◌≡◌, ◌↔◌, ℕ, List, [], ◌∷◌, ◌++◌, map, Option, Result, Ok}
+use Rattle.std.specs.List.{AllByRecursion}
+use Rattle.ip_ranges.specs.Values.{AddressValue}
+use Rattle.kube_events.specs.Event.{event_of_line}
+use Rattle.kube_model.specs.declared.event.Event.{Event}
+use Rattle.kube_model.specs.declared.event.EventFault.{EventFault}
+use Rattle.l2_elect.specs.Election.{IsAnnouncer}
+use Rattle.lane_drive.specs.Drive.{Told, AreTaken as AreItemsTaken, entries_of}
+use Rattle.lane_drive.specs.Stops.{AreBeginnings}
+use Rattle.lane_mail.specs.declared.item.Item.{Item}
+use Rattle.line_run.specs.Machine.{Goes}
+use Rattle.line_run.specs.Run.{AreTaken}
+use Rattle.mlb_edge.specs.declared.lines.Line.{Line}
+use Rattle.mlb_speaker.specs.declared.entries.Entry.{Entry}
+use Rattle.mlb_speaker.specs.Lanes.{belongs_to, item_step, lane_rules}
+use Rattle.mlb_speaker.specs.Meant.{SaysWhatIsMeant}
+use Rattle.mlb_speaker.specs.Stream.{SpeakerState, speaker_rules}
+use Rattle.mlb_speaker.specs.Told.{IsToldOf}
+
+-- Items of two lanes are taken one after the other. More may come behind them.
+pub record TakesItems (start : SpeakerState) (items behind : List Item) (t : SpeakerState) (told : List (Told Entry)) : Type 0 where
+  pub first : Option (List ℕ)
+  pub second : Option (List ℕ)
+  pub begin : AreBeginnings belongs_to first second (items ++ behind)
+  pub replies : List Line
+  pub taken : AreItemsTaken lane_rules items replies start t told
+
+-- an item, read
+abbrev pub event_in : Item → Result Event EventFault
+event_in item = Ok item.event
+
+-- the lines have the events of the items, one for one
+abbrev pub HaveEvents : List Line → List Item → Type 0
+HaveEvents lines items = map (λ line. event_of_line line.bytes) lines ≡ map event_in items
+
+-- Whatever items are taken, there are lines with their events, one for each, that are taken so in one stream.
+abbrev pub ItemsAreAsLines : SpeakerState → Type 0
+ItemsAreAsLines start = (items : List Item) (t : SpeakerState) (told : List (Told Entry)) → TakesItems start items [] t told
+    → (lines : List Line) × HaveEvents lines items × AreTaken speaker_rules lines start t (entries_of told)
+
+-- After any items that are taken, the addresses with an announce line and no later withdraw line are exactly those that the node announces.
+abbrev pub ItemsTellWhatIsAnnounced : SpeakerState → Type 0
+ItemsTellWhatIsAnnounced start = (items : List Item) (t : SpeakerState) (told : List (Told Entry)) → TakesItems start items [] t told
+    → (a : AddressValue) → IsToldOf (entries_of told) a ↔ IsAnnouncer t.view a start.station.node
+
+-- Each frame that is sent at an item says, unasked or as an answer, that an interface's hardware address has an address for which the node
+-- listens on it.
+abbrev pub ItemsSendWhatIsMeant : SpeakerState → Type 0
+ItemsSendWhatIsMeant start = (items : List Item) (item : Item) (s t : SpeakerState) (told : List (Told Entry)) (entries : List Entry)
+    → TakesItems start items (item ∷ []) s told → item_step s item ≡ Goes t entries → AllByRecursion (SaysWhatIsMeant t.view t.station) entries

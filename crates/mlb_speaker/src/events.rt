@@ -1,0 +1,131 @@
+//! One event: it is applied to the view, and what comes of it is told.
+ghost use Rattle.std.specs.Prelude.{◌≡◌, ℕ, None, Some, OnOk, IfOk, IfErr, IsErrOf};
+ghost use Rattle.std.specs.Option.{option_map};
+ghost use Rattle.kube_model.specs.declared.object.Kind.{Kind};
+ghost use Rattle.speaker_view.specs.View.{view_after, limit_by};
+ghost use Rattle.line_run.specs.Machine.{Goes};
+ghost use Rattle.mlb_speaker.specs.Seen.{received_seen};
+ghost use Rattle.mlb_speaker.specs.Sends.{answers};
+ghost use Rattle.mlb_speaker.specs.Stream.{state_of, frame_in, entries_of, step_by, IsUnapplied, what_of};
+
+use crate::changes::changes_by;
+use crate::entries::Entry;
+use crate::sends::answers;
+use crate::station::Station;
+use kube_labels::Text;
+use kube_model::{Event, Kind, Status, What};
+use limited_view::LimitedView;
+use line_run::{Halt, Refusal};
+use mlb_base::{ByteList, NoMemory, Sequence};
+use object_cache::ApplyFault;
+use speaker_view::View;
+use std::alloc::Global;
+
+/// Applies the event to the view. What is to be told of it, or why it isn't applied.
+pub(crate) fn apply_event(
+    alloc: Global,
+    view: &mut LimitedView,
+    station: &Station,
+    event: Event,
+) -> Result<Sequence<Entry>, Refusal>
+    ensures ok { IfOk result (λ entries. step_by (state_of view.old station.now) event ≡ Goes (state_of view.new station.now) entries) }
+    ensures err { IfErr result (λ refusal. IsUnapplied refusal (state_of view.old station.now) event) }
+{
+    match entries_by(alloc, view, station, event) {
+        Ok(entries) => Ok(entries),
+        Err(ApplyFault::NoMemory) => Err(Refusal::Halted {
+            halt: Halt::NoMemory,
+        }),
+        Err(ApplyFault::Limit { kind, count }) => Err(Refusal::Stopped {
+            status: Status::Limit {
+                what: what_of(kind),
+                count,
+            },
+        }),
+    }
+}
+
+/// Applies the event. What is to be told of it.
+fn entries_by(
+    alloc: Global,
+    view: &mut LimitedView,
+    station: &Station,
+    event: Event,
+) -> Result<Sequence<Entry>, ApplyFault>
+    ensures ok { IfOk result (λ entries. entries ≡ entries_of (state_of view.old station.now) event) }
+    ensures view { OnOk result (view.new ≡ view_after event view.old) }
+    ensures within { OnOk result (limit_by view.old event ≡ None) }
+    ensures limit { (kind : Kind) (count : ℕ)
+        → IsErrOf result (ApplyFault.Limit kind count) → limit_by view.old event ≡ Some (kind, count) }
+{
+    match answers_to(alloc, view.as_view(), station, &event) {
+        Ok(None) => changes_by(alloc, view, station, event),
+        Ok(Some(entries)) => {
+            drop(event);
+            Ok(entries)
+        }
+        Err(NoMemory) => {
+            drop(event);
+            Err(ApplyFault::NoMemory)
+        }
+    }
+}
+
+/// What is sent where the event is a frame.
+fn answers_to(
+    alloc: Global,
+    view: &View,
+    station: &Station,
+    event: &Event,
+) -> Result<Option<Sequence<Entry>>, NoMemory>
+    ensures { IfOk result (λ entries. entries ≡ option_map (λ r. answers view.now station.now r.interface r.frame) (frame_in event.now)) }
+{
+    let Some(received) = frame_in(event) else {
+        return Ok(None);
+    };
+    let frame = received.frame.as_slice();
+    let entries = answers(alloc, view, station, received.interface, frame)?;
+    Ok(Some(entries))
+}
+
+/// A frame that an interface received.
+#[derive(Clone, Copy)]
+pub(crate) struct Received<'a> {
+    interface: &'a Text,
+    frame: &'a ByteList,
+}
+
+/// The frame of an event.
+pub(crate) fn frame_in(event: &Event) -> Option<Received<'_>>
+    ensures { option_map received_seen result ≡ frame_in event.now }
+{
+    match event {
+        Event::Frame { interface, bytes } => Some(Received {
+            interface,
+            frame: bytes,
+        }),
+        Event::Changed { .. }
+        | Event::Deleted { .. }
+        | Event::ListEnd { .. }
+        | Event::Expired
+        | Event::Members { .. }
+        | Event::Ignored => None,
+    }
+}
+
+/// What there is too much of where a limit of the kind is passed; services and nodes alone have one.
+fn what_of(kind: Kind) -> What
+    ensures { result ≡ what_of kind }
+{
+    match kind {
+        Kind::Service => What::Services,
+        Kind::Node
+        | Kind::Pool
+        | Kind::L2
+        | Kind::Bgp
+        | Kind::Peer
+        | Kind::Community
+        | Kind::Namespace
+        | Kind::Slice => What::Nodes,
+    }
+}

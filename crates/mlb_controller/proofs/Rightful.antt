@@ -23,35 +23,38 @@ use Rattle.mlb_edge.specs.declared.lines.Line.{Line}
 use Rattle.mlb_edge.specs.InputLines.{Ending, Whole, LongLine, LongInput, input_of}
 use Rattle.service_texts.proofs.EventTerms.{events_show_terms}
 use Rattle.mlb_controller.specs.Causes.{line_causes}
-use Rattle.mlb_controller.specs.Stream.{goes_by, event_step, reply_step, step_where, controller_rules, end_of}
+use Rattle.mlb_controller.specs.Stream.{goes_by, arrival, event_step, reply_step, step_where, controller_rules, end_of}
 use Rattle.mlb_controller.specs.Sound.{WritesSound, RunsSound, IsSafeThroughout, RunsSafe, LeavesNothing, EndsQuiet}
 
 module _ (class : Option (List ℕ)) where
   -- what goes on from a core goes on from what was told of it
-  abbrev GoesOn : State → Step State Entry → Type 0
+  abbrev pub GoesOn : State → Step State Entry → Type 0
   GoesOn s step = (next : State) (entries told : List Entry) → step ≡ Goes next entries → LeadsTo class told s → LeadsTo class (told ++ entries) next
 
-  by_driven : (d : Driven) (next : State) (entries told : List Entry) → goes_by d ≡ Goes next entries → LeadsTo class (told ++ d.entries) d.core → LeadsTo class (told ++ entries) next
+  pub by_driven : (d : Driven) (next : State) (entries told : List Entry) → goes_by d ≡ Goes next entries → LeadsTo class (told ++ d.entries) d.core → LeadsTo class (told ++ entries) next
   by_driven d next entries told e leads =
       let core : d.core ≡ next = cc in
       let same : d.entries ≡ entries = cc in
       rw (← core, ← same) leads
 
-  within_goes : (b : Bool) (s : State) (line : Line) (event : Event) → s.out ≡ None → event_of_line line.bytes ≡ Ok event → GoesOn s (cond b (Stops (Limit whats.Services 65537)) (goes_by (taking s event)))
-  within_goes true s line event none reads next entries told e leads = absurd (cc)
-  within_goes false s line event none reads next entries told e leads =
-      by_driven (taking s event) next entries told e (events_go_on class told s event leads none (events_show_terms line.bytes event reads))
+  within_goes : (b : Bool) (s : State) (bytes : List ℕ) (event : Event) → s.out ≡ None → event_of_line bytes ≡ Ok event → GoesOn s (cond b (Stops (Limit whats.Services 65537)) (goes_by (taking s event)))
+  within_goes true s bytes event none reads next entries told e leads = absurd (cc)
+  within_goes false s bytes event none reads next entries told e leads =
+      by_driven (taking s event) next entries told e (events_go_on class told s event leads none (events_show_terms bytes event reads))
+
+  pub arrival_goes : (s : State) (bytes : List ℕ) (event : Event) → s.out ≡ None → event_of_line bytes ≡ Ok event → GoesOn s (arrival s event)
+  arrival_goes s bytes event none reads = within_goes (limits s event) s bytes event none reads
 
   event_goes : (read : Result Event EventFault) (s : State) (line : Line) → s.out ≡ None → event_of_line line.bytes ≡ read → GoesOn s (event_step s line read)
   event_goes (Err fault) s line none reads next entries told e leads = absurd (cc)
-  event_goes (Ok event) s line none reads next entries told e leads = within_goes (limits s event) s line event none reads next entries told e leads
+  event_goes (Ok event) s line none reads next entries told e leads = arrival_goes s line.bytes event none reads next entries told e leads
 
   reply_goes : (read : Option PutReply) (put : Put) (s : State) (line : Line) → s.out ≡ Some put → GoesOn s (reply_step s line read)
   reply_goes None put s line out next entries told e leads = absurd (cc)
   reply_goes (Some reply) put s line out next entries told e leads =
       by_driven (hearing s reply) next entries told e (replies_go_on class told s reply leads (ap is_some out))
 
-  where_goes : (o : Option Put) (s : State) (line : Line) → s.out ≡ o → GoesOn s (step_where o s line)
+  pub where_goes : (o : Option Put) (s : State) (line : Line) → s.out ≡ o → GoesOn s (step_where o s line)
   where_goes None s line out = event_goes (event_of_line line.bytes) s line out refl
   where_goes (Some put) s line out = reply_goes (reply_of put line.bytes) put s line out
 
@@ -74,11 +77,13 @@ module _ (class : Option (List ℕ)) where
   beginning_run [] later earlier is = begun_run later earlier is
   beginning_run (entry ∷ first) later earlier is = beginning_run first later (core_entry entry ∷ earlier) is
 
-  -- and it is safe in every world
+  -- what leads to a core is safe in every world
+  pub safe_led : (told : List Entry) (s : State) → LeadsTo class told s → IsSafeThroughout class told
+  safe_led told s leads first later e = runs_are_safe_in_worlds class (behind first []) (beginning_run first later [] (rw e at leads.is))
+
+  -- and so is the stream
   safe_in : (lines : List Line) (ending : Ending) → IsSafeThroughout class (run_from controller_rules lines ending (fresh class)).entries
-  safe_in lines ending first later e =
-      let led = leads_in lines ending in
-      runs_are_safe_in_worlds class (behind first []) (beginning_run first later [] (rw e at led.kept.is))
+  safe_in lines ending = let led = leads_in lines ending in safe_led (run_from controller_rules lines ending (fresh class)).entries led.state led.kept
 
   ends_done : (o : Option Put) → Done ≡ end_of o → o ≡ None
   ends_done None e = refl

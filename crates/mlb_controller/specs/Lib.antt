@@ -1,6 +1,8 @@
 pub mod Asked
 pub mod Causes
 pub mod Clauses
+pub mod LaneClauses
+pub mod Lanes
 pub mod Output
 pub mod Sound
 pub mod Stream

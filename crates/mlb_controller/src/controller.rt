@@ -2,6 +2,7 @@
 ghost use Rattle.std.specs.Prelude.{◌≡◌, IfOk};
 ghost use Rattle.std.specs.Option.{option_map};
 ghost use Rattle.core_rules.specs.Core.{fresh};
+ghost use Rattle.mlb_controller.specs.Stream.{end_of};
 
 use crate::line::drive_line;
 use ctl_core::Core;
@@ -15,7 +16,7 @@ use std::alloc::Global;
 /// Drives a core by lines: each is an event, or the reply to the put that is out.
 #[derive(Drop)]
 pub(crate) struct Controller {
-    core: Core,
+    pub(crate) core: Core,
 }
 
 impl Controller {
@@ -40,6 +41,16 @@ fn owned(alloc: Global, class: Option<&str>) -> Result<Option<Text>, NoMemory>
     Ok(Some(Text::new(alloc, class)?))
 }
 
+/// The status where the input ends.
+pub(crate) fn end_status(core: &Core) -> Result<Status, NoMemory>
+    ensures { IfOk result (λ status. status ≡ end_of core.now.out) }
+{
+    let Some(put) = core.put_out() else {
+        return Ok(Status::Done);
+    };
+    Ok(Status::NoReply { put: put.copy()? })
+}
+
 impl Machine for Controller {
     ghost use Rattle.core_rules.specs.Core.{State as CoreState};
     ghost use Rattle.core_drive.specs.Drive.{Entry as DriveEntry};
@@ -61,10 +72,7 @@ impl Machine for Controller {
     }
 
     fn end(&self) -> Result<Status, NoMemory> {
-        let Some(put) = self.core.put_out() else {
-            return Ok(Status::Done);
-        };
-        Ok(Status::NoReply { put: put.copy()? })
+        end_status(&self.core)
     }
 
     ghost stops = { line_causes };

@@ -5,13 +5,12 @@ ghost use Rattle.kube_model.specs.declared.put.Put.{Put};
 ghost use Rattle.line_run.specs.Steps.{Takes, Refuses};
 ghost use Rattle.mlb_controller.specs.Stream.{controller_rules};
 
-use crate::output::write_note;
+use crate::events::{take_event, tell};
 use crate::turns::make_turns;
-use core_rules::TakeFault;
 use ctl_core::Core;
 use kube_events::read_event;
 use kube_lines::{ReplyFault, read_reply};
-use kube_model::{EventFault, LaneName, PutReply, Status, What};
+use kube_model::{EventFault, LaneName, PutReply, Status};
 use line_run::{Halt, Refusal};
 use mlb_edge::{Line, Sink};
 use std::alloc::Global;
@@ -47,24 +46,8 @@ fn take_line<K: Sink>(
             });
         }
     };
-    let note = match core.take(event) {
-        Ok(note) => note,
-        Err(TakeFault::NoMemory) => return Err(Refusal::Halted {
-            halt: Halt::NoMemory,
-        }),
-        Err(TakeFault::Limit { count }) => {
-            return Err(Refusal::Stopped {
-                status: Status::Limit {
-                    what: What::Services,
-                    count,
-                },
-            });
-        }
-    };
-    if let Err(halt) = write_note(alloc, out, &note) {
-        return Err(Refusal::Halted { halt });
-    }
-    match make_turns(alloc, core, out) {
+    let note = take_event(core, event)?;
+    match tell(alloc, core, &note, out) {
         Ok(()) => Ok(()),
         Err(halt) => Err(Refusal::Halted { halt }),
     }
@@ -83,7 +66,7 @@ fn reply_in(alloc: Global, core: &Core, line: &Line) -> Result<PutReply, ReplyFa
 }
 
 /// Takes the line as the reply to the put that is out, and makes the turns that follow.
-fn hear_line<K: Sink>(
+pub(crate) fn hear_line<K: Sink>(
     alloc: Global,
     core: &mut Core,
     line: Line,

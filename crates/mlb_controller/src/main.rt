@@ -2,6 +2,9 @@
 #![tactic(auto)]
 
 mod controller;
+mod events;
+mod lane_files;
+mod lanes;
 mod line;
 mod output;
 mod run;

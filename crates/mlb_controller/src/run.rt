@@ -1,28 +1,37 @@
 //! The top call.
-ghost use Rattle.std.specs.Prelude.{◌≡◌, ◌↔◌};
+ghost use Rattle.std.specs.Prelude.{◌≡◌, ◌↔◌, ℕ, List, IfSome, IfNone};
+ghost use Rattle.std.specs.Option.{option_map};
+ghost use Rattle.command_options.specs.Lanes.{lane_seen};
+ghost use Rattle.kube_model.specs.declared.status.LaneName.{LaneName};
+ghost use Rattle.lane_drive.specs.Files.{files_view};
+ghost use Rattle.lane_run.specs.Views.{source_view};
 ghost use Rattle.line_run.specs.Clauses.{AtReadFault, AtWriteFault};
 ghost use Rattle.command_options.specs.Options.{texts_of};
 ghost use Rattle.controller_words.specs.Words.{AreKnown};
+ghost use Rattle.mlb_controller.specs.Asked.{AskLanes, AskNoLanes};
+ghost use Rattle.mlb_controller.specs.LaneClauses.{OverLanes, LanesEnd, LanesDone, LanesSound, LanesQuiet, LaneCanEnd, LaneOpenFault, LaneReadFault, LaneOthers};
 ghost use Rattle.mlb_controller.specs.Clauses.{CanEnd, AtEnd, AtDone, AtNoReply, AtBadLine, AtBadReply, AtServiceLimit, AtLongLine, AtTooLong, AfterRead, AfterWrite, AtNoMemory, WritesSound, RunsSound, RunsSafe, EndsQuiet, HandlesNamed, IsExact, IsComplete, WritesTrial, LeavesInput, TrialIsSafe};
 
+use crate::lane_files::lanes_controller;
 use crate::stream::stream_controller;
+use controller_words::{Asked, LaneFiles, controller_words};
 use kube_model::Status;
 use mlb_edge::{Files, Sink, Source};
 use std::alloc::Global;
 use std::sync::Wait;
 use std::thread::Threads;
 
-/// All that the program does: the run over one stream. No file is opened.
+/// All that the program does: the run over one stream, where no file is opened, or that over two lane files, where the words name them.
 pub fn run_controller<R: Threads + Wait + Sync, F: Files, S: Source + Send, K: Sink + Send>(
-    _rt: &R,
+    rt: &R,
     alloc: Global,
     words: &[String],
     files: &mut F,
     input: &mut S,
     out: &mut K,
 ) -> Status
-    ensures no_file { files.new ≡ files.old }
-    ensures can_end { CanEnd result }
+    ensures no_file { AskNoLanes (texts_of words.now) → files.new ≡ files.old }
+    ensures can_end { AskNoLanes (texts_of words.now) → CanEnd result }
     ensures usage { (result ≡ Status.Usage) ↔ (¬ (AreKnown (texts_of words.now))) }
     ensures named { HandlesNamed words.now }
     ensures unused { result ≡ Status.Usage → (input.new ≡ input.old) × (out.new ≡ out.old) }
@@ -41,7 +50,7 @@ pub fn run_controller<R: Threads + Wait + Sync, F: Files, S: Source + Send, K: S
 
     // A fault comes only where its count rose. Behind a failed read stands the text of the lines
     // that were read whole, behind a failed write a beginning of the text, and not the whole.
-    ensures read_fault { AtReadFault result (S.faults input.old) (S.faults input.new) }
+    ensures read_fault { AskNoLanes (texts_of words.now) → AtReadFault result (S.faults input.old) (S.faults input.new) }
     ensures read { AfterRead words.now result S.left input.old input.new K.written out.old out.new }
     ensures write_fault { AtWriteFault result (K.faults out.old) (K.faults out.new) }
     ensures part { AfterWrite words.now result (S.left input.old) K.written out.old out.new }
@@ -73,6 +82,55 @@ pub fn run_controller<R: Threads + Wait + Sync, F: Files, S: Source + Send, K: S
     ensures trial { WritesTrial words.now result K.written out.old out.new }
     ensures trial_unread { LeavesInput words.now input.old input.new }
     ensures trial_safe { TrialIsSafe words.now }
+
+    // Where the words ask for a run over two files: how it ended, once both are open, and with which statuses it may.
+    ensures lanes { OverLanes words.now (LanesEnd (F.bytes files.old)
+        (files_view (F.failed_opens files.old) (F.failed_reads files.old))
+        (files_view (F.failed_opens files.new) (F.failed_reads files.new))
+        (source_view (S.left input.old) (S.name input.old) (S.faults input.old))
+        (source_view (S.left input.new) (S.name input.new) (S.faults input.new))
+        (K.written out.old) (K.written out.new) (K.faults out.old) (K.faults out.new) result) }
+    ensures lane_can_end { OverLanes words.now (LaneCanEnd result) }
+
+    // Where it is done all that both carry was taken, with all lines of the input as replies to its puts, just its text was written, and no
+    // service is left waiting that could be served.
+    ensures lanes_done { OverLanes words.now (LanesDone (F.bytes files.old) result
+        (S.left input.old) (S.left input.new) (K.written out.old) (K.written out.new)) }
+    ensures lanes_quiet { OverLanes words.now (LanesQuiet (F.bytes files.old) result
+        (S.left input.old) (S.left input.new) (K.written out.old) (K.written out.new)) }
+
+    // However it ends, and in whatever order the events of both came, a beginning of the text of what was taken was written. That is sound, as
+    // a run over one stream is, and in every world that explains it services recorded with one address share it by their recorded terms.
+    ensures lanes_sound { OverLanes words.now (LanesSound (F.bytes files.old) (S.left input.old) (K.written out.old) (K.written out.new)) }
+
+    // A fault of a file comes only where its count rose. Where one isn't opened nothing is read or written, and no other file is touched.
+    ensures lane_open_fault { OverLanes words.now (LaneOpenFault result
+        (files_view (F.failed_opens files.old) (F.failed_reads files.old))
+        (files_view (F.failed_opens files.new) (F.failed_reads files.new))) }
+    ensures lane_read_fault { OverLanes words.now (LaneReadFault result
+        (files_view (F.failed_opens files.old) (F.failed_reads files.old))
+        (files_view (F.failed_opens files.new) (F.failed_reads files.new)) (S.faults input.old) (S.faults input.new)) }
+    ensures lane_unopened { (lane : LaneName) → result ≡ Status.OpenFault lane → (input.new ≡ input.old) × (out.new ≡ out.old) }
+    ensures lane_others { OverLanes words.now (LaneOthers
+        (files_view (F.failed_opens files.old) (F.failed_reads files.old))
+        (files_view (F.failed_opens files.new) (F.failed_reads files.new))) }
+    ensures lane_bytes { (file : List ℕ) → F.bytes files.new file ≡ F.bytes files.old file }
 {
-    stream_controller(alloc, words, input, out)
+    match lanes_asked(words) {
+        None => stream_controller(alloc, words, input, out),
+        Some((class, lanes)) => lanes_controller(rt, alloc, class, lanes, files, input, out),
+    }
+}
+
+/// The class and the files of a run over two lanes, where the words ask for one.
+fn lanes_asked(words: &[String]) -> Option<(Option<&str>, LaneFiles<'_>)>
+    ensures some { IfSome result (λ asked. AskLanes (texts_of words.now) (option_map (λ c. c.now) asked.0) (lane_seen asked.1)) }
+    ensures none { IfNone result (AskNoLanes (texts_of words.now)) }
+{
+    match controller_words(words) {
+        Some(Asked::Lanes { class, files }) => Some((class, files)),
+        None => None,
+        Some(Asked::Run { .. }) => None,
+        Some(Asked::Trial { .. }) => None,
+    }
 }

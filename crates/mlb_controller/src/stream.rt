@@ -3,6 +3,7 @@ ghost use Rattle.std.specs.Prelude.{◌≡◌, ◌↔◌};
 ghost use Rattle.line_run.specs.Clauses.{AtReadFault, AtWriteFault};
 ghost use Rattle.command_options.specs.Options.{texts_of};
 ghost use Rattle.controller_words.specs.Words.{AreKnown};
+ghost use Rattle.mlb_controller.specs.Asked.{AskNoLanes};
 ghost use Rattle.mlb_controller.specs.Clauses.{CanEnd, AtEnd, AtDone, AtNoReply, AtBadLine, AtBadReply, AtServiceLimit, AtLongLine, AtTooLong, AfterRead, AfterWrite, AtNoMemory, WritesSound, RunsSound, RunsSafe, EndsQuiet, HandlesNamed, IsExact, IsComplete, WritesTrial, LeavesInput, TrialIsSafe};
 
 use crate::controller::Controller;
@@ -22,6 +23,7 @@ pub fn stream_controller<S: Source, K: Sink>(
     input: &mut S,
     out: &mut K,
 ) -> Status
+    requires { AskNoLanes (texts_of words.now) }
     ensures can_end { CanEnd result }
     ensures usage { (result ≡ Status.Usage) ↔ (¬ (AreKnown (texts_of words.now))) }
     ensures named { HandlesNamed words.now }
@@ -78,6 +80,7 @@ pub fn stream_controller<S: Source, K: Sink>(
         None => return Status::Usage,
         Some(Asked::Trial { seed, steps }) => return run_trial(alloc, seed, steps, out),
         Some(Asked::Run { class }) => class,
+        Some(Asked::Lanes { .. }) => unreachable!(),
     };
     let Ok(mut controller) = Controller::new(alloc, class) else {
         return Status::NoMemory;

@@ -1,0 +1,36 @@
+use Rattle.std.specs.Option.{option_map}
+use Rattle.core_rules.specs.Core.{fresh}
+use Rattle.lane_drive.specs.Clauses.{OnlyWrites, TakesWhole}
+use Rattle.mlb_controller.specs.Lanes.{belongs_to, lane_rules}
+use Rattle.mlb_controller.proofs.LaneEnds.{ends_unbegun, lanes_can_end, writes_nothing}
+use Rattle.mlb_controller.proofs.RightLanes.{lanes_sound, lanes_quiet}
+use Rattle.mlb_controller.proofs.lane_files.lanes_controller.Goals as goal
+
+-- ---- a run for which there is no memory
+
+pub returns-in_default-clause-ended : goal.returns-in_default-clause-ended
+returns-in_default-clause-ended g c = ends_unbegun (fresh (option_map (λ t. t.now) c.args.class)) _ _ _ _ _ _ _ _ _
+
+pub returns-in_default-clause-sound : goal.returns-in_default-clause-sound
+returns-in_default-clause-sound g c =
+    let class = option_map (λ t. t.now) c.args.class in
+    lanes_sound class _ _ _ _ _ (writes_nothing (fresh class) _ _ _ _)
+
+-- ---- a run
+
+pub returns-clause-can_end : goal.returns-clause-can_end
+returns-clause-can_end g c = lanes_can_end c.in-Ok.controller.core _ _ _ _ _ _ _ _ _ _ _ _ c.run_lane_files.result c.run_lane_files.ensures.ended c.run_lane_files.ensures.open_fault
+
+pub returns-clause-quiet : goal.returns-clause-quiet
+returns-clause-quiet g c = λ done.
+    let class = option_map (λ t. t.now) c.args.class in
+    let whole : TakesWhole belongs_to lane_rules (fresh class) (g.F.Files.bytes c.args.files.now c.args.lanes.first.now) (g.F.Files.bytes c.args.files.now c.args.lanes.second.now)
+    (g.S.Source.left c.args.input.now) (g.S.Source.left c.run_lane_files.new.input) (g.K.Sink.written c.args.out.now) (g.K.Sink.written c.run_lane_files.new.out) = rw c.in-Ok.ensures at (c.run_lane_files.ensures.done done) in
+    lanes_quiet class _ _ _ _ _ _ whole
+
+pub returns-clause-sound : goal.returns-clause-sound
+returns-clause-sound g c =
+    let class = option_map (λ t. t.now) c.args.class in
+    let only : OnlyWrites belongs_to lane_rules (fresh class) (g.F.Files.bytes c.args.files.now c.args.lanes.first.now) (g.F.Files.bytes c.args.files.now c.args.lanes.second.now)
+    (g.S.Source.left c.args.input.now) (g.K.Sink.written c.args.out.now) (g.K.Sink.written c.run_lane_files.new.out) = rw c.in-Ok.ensures at c.run_lane_files.ensures.only in
+    lanes_sound class _ _ _ _ _ only

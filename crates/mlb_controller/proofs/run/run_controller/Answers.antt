@@ -1,0 +1,121 @@
+use Rattle.command_options.specs.Options.{texts_of}
+use Rattle.mlb_controller.specs.Asked.{class_of}
+use Rattle.mlb_controller.proofs.Asking.{class-named, lanes_no_run, lanes_no_trial, one_lanes, trial-safe}
+use Rattle.mlb_controller.proofs.Rightful.{sound_where_told, safe_where_told}
+use Rattle.mlb_controller.proofs.run.run_controller.Goals as goal
+
+-- ---- words that ask for no run over two lanes
+
+pub returns-in-None-clause-lanes : goal.returns-in-None-clause-lanes
+returns-in-None-clause-lanes g c = λ class files say. absurd (c.in-None.ensures.none class files say)
+
+pub returns-in-None-clause-lane_can_end : goal.returns-in-None-clause-lane_can_end
+returns-in-None-clause-lane_can_end g c = λ class files say. absurd (c.in-None.ensures.none class files say)
+
+pub returns-in-None-clause-lanes_done : goal.returns-in-None-clause-lanes_done
+returns-in-None-clause-lanes_done g c = λ class files say. absurd (c.in-None.ensures.none class files say)
+
+pub returns-in-None-clause-lanes_quiet : goal.returns-in-None-clause-lanes_quiet
+returns-in-None-clause-lanes_quiet g c = λ class files say. absurd (c.in-None.ensures.none class files say)
+
+pub returns-in-None-clause-lanes_sound : goal.returns-in-None-clause-lanes_sound
+returns-in-None-clause-lanes_sound g c = λ class files say. absurd (c.in-None.ensures.none class files say)
+
+-- ---- a run over two lanes: neither one over one stream nor a trial is asked for
+
+pub returns-in-Some-clause-named : goal.returns-in-Some-clause-named
+returns-in-Some-clause-named g c = class-named (texts_of c.args.words.now)
+
+pub returns-in-Some-clause-done : goal.returns-in-Some-clause-done
+returns-in-Some-clause-done g c = λ ask. absurd (lanes_no_run (texts_of c.args.words.now) _ _ c.in-Some.ensures.some ask)
+
+pub returns-in-Some-clause-no_reply : goal.returns-in-Some-clause-no_reply
+returns-in-Some-clause-no_reply g c = λ ask. absurd (lanes_no_run (texts_of c.args.words.now) _ _ c.in-Some.ensures.some ask)
+
+pub returns-in-Some-clause-bad_line : goal.returns-in-Some-clause-bad_line
+returns-in-Some-clause-bad_line g c = λ ask. absurd (lanes_no_run (texts_of c.args.words.now) _ _ c.in-Some.ensures.some ask)
+
+pub returns-in-Some-clause-bad_reply : goal.returns-in-Some-clause-bad_reply
+returns-in-Some-clause-bad_reply g c = λ ask. absurd (lanes_no_run (texts_of c.args.words.now) _ _ c.in-Some.ensures.some ask)
+
+pub returns-in-Some-clause-service_limit : goal.returns-in-Some-clause-service_limit
+returns-in-Some-clause-service_limit g c = λ ask. absurd (lanes_no_run (texts_of c.args.words.now) _ _ c.in-Some.ensures.some ask)
+
+pub returns-in-Some-clause-line_limit : goal.returns-in-Some-clause-line_limit
+returns-in-Some-clause-line_limit g c = λ ask. absurd (lanes_no_run (texts_of c.args.words.now) _ _ c.in-Some.ensures.some ask)
+
+pub returns-in-Some-clause-input_limit : goal.returns-in-Some-clause-input_limit
+returns-in-Some-clause-input_limit g c = λ ask. absurd (lanes_no_run (texts_of c.args.words.now) _ _ c.in-Some.ensures.some ask)
+
+pub returns-in-Some-clause-read : goal.returns-in-Some-clause-read
+returns-in-Some-clause-read g c = λ ask. absurd (lanes_no_run (texts_of c.args.words.now) _ _ c.in-Some.ensures.some ask)
+
+pub returns-in-Some-clause-part : goal.returns-in-Some-clause-part
+returns-in-Some-clause-part g c = λ ask. absurd (lanes_no_run (texts_of c.args.words.now) _ _ c.in-Some.ensures.some ask)
+
+pub returns-in-Some-clause-no_memory : goal.returns-in-Some-clause-no_memory
+returns-in-Some-clause-no_memory g c = λ ask. absurd (lanes_no_run (texts_of c.args.words.now) _ _ c.in-Some.ensures.some ask)
+
+pub returns-in-Some-clause-only : goal.returns-in-Some-clause-only
+returns-in-Some-clause-only g c = λ ask. absurd (lanes_no_run (texts_of c.args.words.now) _ _ c.in-Some.ensures.some ask)
+
+pub returns-in-Some-clause-quiet : goal.returns-in-Some-clause-quiet
+returns-in-Some-clause-quiet g c = λ ask. absurd (lanes_no_run (texts_of c.args.words.now) _ _ c.in-Some.ensures.some ask)
+
+pub returns-in-Some-clause-exact : goal.returns-in-Some-clause-exact
+returns-in-Some-clause-exact g c = λ ask. absurd (lanes_no_run (texts_of c.args.words.now) _ _ c.in-Some.ensures.some ask)
+
+pub returns-in-Some-clause-complete : goal.returns-in-Some-clause-complete
+returns-in-Some-clause-complete g c = λ ask. absurd (lanes_no_run (texts_of c.args.words.now) _ _ c.in-Some.ensures.some ask)
+
+pub returns-in-Some-clause-sound : goal.returns-in-Some-clause-sound
+returns-in-Some-clause-sound g c = sound_where_told (class_of (texts_of c.args.words.now)) (g.S.Source.left c.args.input.now)
+
+pub returns-in-Some-clause-safe : goal.returns-in-Some-clause-safe
+returns-in-Some-clause-safe g c = safe_where_told (class_of (texts_of c.args.words.now)) (g.S.Source.left c.args.input.now)
+
+pub returns-in-Some-clause-trial : goal.returns-in-Some-clause-trial
+returns-in-Some-clause-trial g c = λ seed steps ask. absurd (lanes_no_trial (texts_of c.args.words.now) _ _ c.in-Some.ensures.some seed steps ask)
+
+pub returns-in-Some-clause-trial_unread : goal.returns-in-Some-clause-trial_unread
+returns-in-Some-clause-trial_unread g c = λ seed steps ask. absurd (lanes_no_trial (texts_of c.args.words.now) _ _ c.in-Some.ensures.some seed steps ask)
+
+pub returns-in-Some-clause-trial_safe : goal.returns-in-Some-clause-trial_safe
+returns-in-Some-clause-trial_safe g c = λ seed steps ask. trial-safe seed
+
+-- ---- and the class and the files that are asked for are those of the run
+
+pub returns-in-Some-clause-lanes : goal.returns-in-Some-clause-lanes
+returns-in-Some-clause-lanes g c = λ class files say.
+    let one = one_lanes (texts_of c.args.words.now) _ class _ files c.in-Some.ensures.some say in
+    rw (← one.0, ← one.1) c.lanes_controller.ensures.ended
+
+pub returns-in-Some-clause-lanes_done : goal.returns-in-Some-clause-lanes_done
+returns-in-Some-clause-lanes_done g c = λ class files say.
+    let one = one_lanes (texts_of c.args.words.now) _ class _ files c.in-Some.ensures.some say in
+    rw (← one.0, ← one.1) c.lanes_controller.ensures.done
+
+pub returns-in-Some-clause-lanes_quiet : goal.returns-in-Some-clause-lanes_quiet
+returns-in-Some-clause-lanes_quiet g c = λ class files say.
+    let one = one_lanes (texts_of c.args.words.now) _ class _ files c.in-Some.ensures.some say in
+    rw (← one.0, ← one.1) c.lanes_controller.ensures.quiet
+
+pub returns-in-Some-clause-lanes_sound : goal.returns-in-Some-clause-lanes_sound
+returns-in-Some-clause-lanes_sound g c = λ class files say.
+    let one = one_lanes (texts_of c.args.words.now) _ class _ files c.in-Some.ensures.some say in
+    rw (← one.0, ← one.1) c.lanes_controller.ensures.sound
+
+pub returns-in-Some-clause-lane_open_fault : goal.returns-in-Some-clause-lane_open_fault
+returns-in-Some-clause-lane_open_fault g c = λ class files say.
+    let one = one_lanes (texts_of c.args.words.now) _ class _ files c.in-Some.ensures.some say in
+    rw (← one.1) c.lanes_controller.ensures.open_fault
+
+pub returns-in-Some-clause-lane_read_fault : goal.returns-in-Some-clause-lane_read_fault
+returns-in-Some-clause-lane_read_fault g c = λ class files say.
+    let one = one_lanes (texts_of c.args.words.now) _ class _ files c.in-Some.ensures.some say in
+    rw (← one.1) c.lanes_controller.ensures.read_fault
+
+pub returns-in-Some-clause-lane_others : goal.returns-in-Some-clause-lane_others
+returns-in-Some-clause-lane_others g c = λ class files say.
+    let one = one_lanes (texts_of c.args.words.now) _ class _ files c.in-Some.ensures.some say in
+    rw (← one.1) c.lanes_controller.ensures.others

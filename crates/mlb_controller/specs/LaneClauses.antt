@@ -1,0 +1,87 @@
+-- What the controller owes where the words ask for a run over two lanes. Each definition is of the class and the files that they name.
+use Rattle.std.specs.Prelude.{◌≡◌, ◌⊎◌, ℕ, ⊤, List, String, Option, Some}
+use Rattle.command_options.specs.Lanes.{LaneNames}
+use Rattle.command_options.specs.Options.{texts_of}
+use Rattle.core_drive.specs.Sound.{IsSound}
+use Rattle.core_rules.specs.Core.{fresh}
+use Rattle.kube_model.specs.declared.status.LaneName.{LaneName}
+use Rattle.kube_model.specs.declared.status.LaneName.TheVariants as names
+use Rattle.kube_model.specs.declared.status.Status.{Status}
+use Rattle.kube_model.specs.declared.status.Status.TheVariants.{Done, Usage, OpenFault, ReadFault, WriteFault, BadLine, BadReply, NoReply, Limit, NoMemory}
+use Rattle.lane_drive.specs.Clauses as lanes
+use Rattle.lane_drive.specs.Drive.{entries_of}
+use Rattle.lane_drive.specs.Files.{FilesView}
+use Rattle.lane_run.specs.Views.{SourceView, source_view}
+use Rattle.line_run.specs.Clauses.{CanPass}
+use Rattle.mlb_controller.specs.Asked.{AskLanes}
+use Rattle.mlb_controller.specs.Lanes.{belongs_to, lane_rules, name_of}
+use Rattle.mlb_controller.specs.Sound.{IsSafeThroughout, LeavesNothing}
+use Rattle.mlb_controller.specs.Stream.{IsCause}
+
+-- where the words ask for a run over two lanes, this is so of the class and the files that they name
+abbrev pub OverLanes : {Z : Type 0} → List (String Z) → (Option (List ℕ) → LaneNames → Type 0) → Type 0
+OverLanes words Owes = (class : Option (List ℕ)) (files : LaneNames) → AskLanes (texts_of words) class files → Owes class files
+
+-- how the run ended, once both files are open
+abbrev pub LanesEnd : (List ℕ → Option (List ℕ)) → (files files' : FilesView) (replies replies' : SourceView) (before after : Option (List ℕ)) (writes writes' : ℕ) → Status → Option (List ℕ) → LaneNames → Type 0
+LanesEnd bytes opened opened' replies replies' before after writes writes' status class files =
+    lanes.AtEnd belongs_to lane_rules (fresh class) files.first files.second opened opened' (source_view (bytes files.first) (Some files.first) 0) (source_view (bytes files.second) (Some files.second) 0)
+    replies replies' before after writes writes' status
+
+-- where it is done all that both files carry was taken, with all lines of the input as the replies, and just its text was written
+abbrev pub LanesDone : (List ℕ → Option (List ℕ)) → Status → (left left' before after : Option (List ℕ)) → Option (List ℕ) → LaneNames → Type 0
+LanesDone bytes status left left' before after class files =
+    lanes.AtDone belongs_to lane_rules (fresh class) (bytes files.first) (bytes files.second) status left left' before after
+
+-- A beginning of the text of some items was written, of each file a beginning of what it carries, with the first lines of the input as the
+-- replies; and what was told of them is sound, and safe
+-- in every world that explains it.
+pub record TellsSound (first second replies before after class : Option (List ℕ)) : Type 0 where
+  pub written : lanes.OnlyWrites belongs_to lane_rules (fresh class) first second replies before after
+  pub sound : IsSound class (entries_of written.told)
+  pub safe : IsSafeThroughout class (entries_of written.told)
+
+-- so it is however the run ends
+abbrev pub LanesSound : (List ℕ → Option (List ℕ)) → (replies before after : Option (List ℕ)) → Option (List ℕ) → LaneNames → Type 0
+LanesSound bytes replies before after class files = TellsSound (bytes files.first) (bytes files.second) replies before after class
+
+-- All that both files carry was taken, and nothing is left waiting that could be served.
+pub record LeavesServed (first second left left' before after class : Option (List ℕ)) : Type 0 where
+  pub whole : lanes.TakesWhole belongs_to lane_rules (fresh class) first second left left' before after
+  pub quiet : LeavesNothing class (entries_of whole.told)
+
+-- so it is where the run is done
+abbrev pub LanesQuiet : (List ℕ → Option (List ℕ)) → Status → (left left' before after : Option (List ℕ)) → Option (List ℕ) → LaneNames → Type 0
+LanesQuiet bytes status left left' before after class files = status ≡ Done → LeavesServed (bytes files.first) (bytes files.second) left left' before after class
+
+-- a file isn't opened exactly where its opening failed, and then nothing was read; else no opening failed
+abbrev pub LaneOpenFault : Status → (files files' : FilesView) → Option (List ℕ) → LaneNames → Type 0
+LaneOpenFault status before after class files = lanes.AtOpenFault name_of files.first files.second status before after
+
+-- a file isn't read only where the count of its failed readings rose, and the input only where its own rose
+abbrev pub LaneReadFault : Status → (files files' : FilesView) (reads reads' : ℕ) → Option (List ℕ) → LaneNames → Type 0
+LaneReadFault status before after reads reads' class files = lanes.AtReadFault name_of files.first files.second status before after reads reads'
+
+-- no other file is touched
+abbrev pub LaneOthers : (files files' : FilesView) → Option (List ℕ) → LaneNames → Type 0
+LaneOthers before after class files = lanes.LeavesOthers files.first files.second before after
+
+-- the lane is the file of the configuration or that of the services
+abbrev pub IsWatched : LaneName → Type 0
+IsWatched lane = (lane ≡ names.Config) ⊎ (lane ≡ names.Service)
+
+-- a run over two lanes may end so: a line of the input is a reply or the run stops at it, and lines that are no events are those of the files
+abbrev pub CanEndLanes : Status → Type 0
+CanEndLanes Done = ⊤
+CanEndLanes Usage = ⊥
+CanEndLanes (OpenFault lane) = IsWatched lane
+CanEndLanes (ReadFault lane) = (lane ≡ names.Input) ⊎ IsWatched lane
+CanEndLanes WriteFault = ⊤
+CanEndLanes (BadLine lane number bytes) = IsWatched lane
+CanEndLanes (BadReply number bytes) = ⊤
+CanEndLanes (NoReply put) = ⊤
+CanEndLanes (Limit what count) = CanPass IsCause what count
+CanEndLanes NoMemory = ⊤
+
+abbrev pub LaneCanEnd : Status → Option (List ℕ) → LaneNames → Type 0
+LaneCanEnd status class files = CanEndLanes status

@@ -34,8 +34,7 @@ LanesDone bytes status left left' before after class files =
     lanes.AtDone belongs_to lane_rules (fresh class) (bytes files.first) (bytes files.second) status left left' before after
 
 -- A beginning of the text of some items was written, of each file a beginning of what it carries, with the first lines of the input as the
--- replies; and what was told of them is sound, and safe
--- in every world that explains it.
+-- replies; and what was told of them is sound, and safe in every world that explains it.
 pub record TellsSound (first second replies before after class : Option (List ℕ)) : Type 0 where
   pub written : lanes.OnlyWrites belongs_to lane_rules (fresh class) first second replies before after
   pub sound : IsSound class (entries_of written.told)
@@ -62,7 +61,7 @@ LaneOpenFault status before after class files = lanes.AtOpenFault name_of files.
 abbrev pub LaneReadFault : Status → (files files' : FilesView) (reads reads' : ℕ) → Option (List ℕ) → LaneNames → Type 0
 LaneReadFault status before after reads reads' class files = lanes.AtReadFault name_of files.first files.second status before after reads reads'
 
--- no other file is touched
+-- of no other file an opening or a reading failed
 abbrev pub LaneOthers : (files files' : FilesView) → Option (List ℕ) → LaneNames → Type 0
 LaneOthers before after class files = lanes.LeavesOthers files.first files.second before after
 

@@ -103,7 +103,8 @@ pub fn run_controller<R: Threads + Wait + Sync, F: Files, S: Source + Send, K: S
     // a run over one stream is, and in every world that explains it services recorded with one address share it by their recorded terms.
     ensures lanes_sound { OverLanes words.now (LanesSound (F.bytes files.old) (S.left input.old) (K.written out.old) (K.written out.new)) }
 
-    // A fault of a file comes only where its count rose. Where one isn't opened nothing is read or written, and no other file is touched.
+    // A file isn't opened exactly where its opening failed, and then nothing is read or written; a fault of reading comes only where its count
+    // rose. Of no other file an opening or a reading failed.
     ensures lane_open_fault { OverLanes words.now (LaneOpenFault result
         (files_view (F.failed_opens files.old) (F.failed_reads files.old))
         (files_view (F.failed_opens files.new) (F.failed_reads files.new))) }

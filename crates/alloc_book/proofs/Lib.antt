@@ -2,10 +2,7 @@ pub mod BookLaws
 pub mod ChooseLaws
 pub mod ChosenLaws
 pub mod ClaimLaws
-pub mod HeldLaws
 pub mod LeastLaws
 pub mod PendingLaws
 pub mod SearchLaws
-pub mod Skips
 pub mod UsableLaws
-pub mod Walks

@@ -1,20 +1,37 @@
 -- The book's claims, and what a change of them gives up.
-use Rattle.std.specs.Prelude.{◌≡◌, ◌<◌, ◌≤◌, ℕ, Bool, true, false, List, length}
+use Rattle.std.specs.Prelude.{◌≡◌, ◌<◌, ℕ, Bool, true, false, List, length}
 use Rattle.std.specs.List.{Contains}
+use Rattle.kube_model.specs.declared.key.Key.{Key}
+use Rattle.kube_model.specs.Keys.{key_cmp}
+use Rattle.numbered_items.specs.Index.{IndexValue, room_under}
+use Rattle.sharing_terms.specs.Spelled.{recorded_terms}
 use Rattle.alloc_book.specs.declared.choice.Loss.{Loss}
 use Rattle.alloc_book.specs.declared.choice.Loss.TheVariants.{Kept, Lost}
 use Rattle.alloc_book.specs.Claims.{ClaimValue}
+use Rattle.alloc_book.specs.Holders.{AddressHoldersValue, HasRoomAt, AreKnown}
 use Rattle.kube_model.specs.Records.{is_assigned}
+
+-- By what the claims are found, and for what more there is room, without memory.
+pub record BookRoom : Type 0 where
+  pub claims : ℕ  -- for so many claims
+  pub keys : IndexValue Key  -- by each key the numbers of its claims
+  pub holders : AddressHoldersValue  -- and by each address
 
 -- A book as contracts see it.
 pub record BookValue : Type 0 where
   pub claims : List ClaimValue  -- the records that each key has, or may have
-  pub claim_room : ℕ  -- how many claims more it can take without memory
-  pub address_room : ℕ  -- and how many addresses more
+  pub room : BookRoom  -- for what more it has room
+
+-- There is room for a claim that has addresses.
+pub record HasRoomFor (room : BookRoom) (c : ClaimValue) : Type 0 where
+  pub claim : 0 < room.claims
+  pub key : 0 < room_under key_cmp room.keys c.key
+  pub addresses : HasRoomAt room.holders (length c.holding.addresses) c.holding.addresses
+  pub known : AreKnown room.holders (recorded_terms c.holding.mark) c.holding.addresses
 
 -- the book can take the claim without memory
 abbrev pub HasRoom : BookValue → ClaimValue → Type 0
-HasRoom book claim = (0 < book.claim_room) × (length claim.holding.addresses ≤ book.address_room)
+HasRoom book claim = is_assigned claim.holding ≡ true → HasRoomFor book.room claim
 
 -- each claim's record has an address
 abbrev pub AreAssigned : List ClaimValue → Type 0

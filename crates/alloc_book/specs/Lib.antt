@@ -5,7 +5,8 @@ pub mod Claims
 pub mod Choose
 pub mod First
 pub mod Granted
-pub mod Held
+pub mod Holders
+pub mod Index
 pub mod Laws
 pub mod Least
 pub mod Search

@@ -1,7 +1,9 @@
 //! The book of claims.
-ghost use Rattle.std.specs.Prelude.{◌≡◌, ◌↔◌, [], not, filter, IsTrue, IfOk, IfSome, IfNone, OnOk, OnErr};
+ghost use Rattle.std.specs.Prelude.{◌≡◌, ◌↔◌, ◌==◌, ◌&&◌, ◌||◌, nat_lt, find, [], not, filter, Some, IsTrue, IfOk, IfSome, IfNone, OnOk, OnErr};
 ghost use Rattle.std.specs.List.{list_any};
-ghost use Rattle.std.specs.Option.{option_copied};
+ghost use Rattle.std.specs.Map.{lookup, values_of};
+ghost use Rattle.std.specs.Option.{option_copied, option_map};
+ghost use Rattle.kube_model.specs.Keys.{same_key};
 ghost use Rattle.ip_ranges.specs.Values.{AddressValue};
 ghost use Rattle.kube_model.specs.declared.record.Record.{Record};
 ghost use Rattle.sharing_terms.specs.Marked.{AreTerms, IsMarkOf};
@@ -11,18 +13,15 @@ ghost use Rattle.alloc_book.specs.Asking.{offer_of};
 ghost use Rattle.alloc_book.specs.Book.{AreAssigned, HasLost, HasRoom, loss_of};
 ghost use Rattle.alloc_book.specs.Choose.{choose};
 ghost use Rattle.alloc_book.specs.Chosen.{IsChosen};
-ghost use Rattle.alloc_book.specs.Claims.{others, settled, doubted, loses, has_claims, holders};
+ghost use Rattle.alloc_book.specs.Claims.{ClaimValue, others, settled, doubted, loses, has_claims, holders};
 ghost use Rattle.alloc_book.specs.Granted.{IsFor};
-ghost use Rattle.alloc_book.specs.Held.{AscendFrom, TellFrom};
 ghost use Rattle.alloc_book.specs.Least.{IsLeast};
 ghost use Rattle.alloc_book.specs.Usable.{IsUsable, IsUsableOf};
 
 use crate::choice::{Choice, Loss};
 use crate::choosing::choose;
-use crate::claims::{
-    Claim, Standing, add, claims_it, drop_claims, has_claims, loses, settle_claim,
-};
-use crate::held::{Held, drop_held, held_from, place_all};
+use crate::claims::Claim;
+use crate::index::ClaimIndex;
 use crate::search::{least_usable, usable};
 use ip_ranges::{Address, Family};
 use kube_labels::{Labels, Text};
@@ -33,29 +32,21 @@ use sharing_terms::Terms;
 use std::alloc::Global;
 use std::marker::Model;
 
-/// The records that each service has, or may have: those with an address. Beside them stands an entry for each of their
-/// addresses, by ascending number, so that the least usable address is found by a walk over the entries of a range. Contracts
-/// see the list of the records, and for how much more there is room.
+/// The records that each service has, or may have: those with an address. They are found by key and by address, and changed, in the
+/// logarithm of their number. Contracts see the list of the records, and for how much more there is room.
 #[derive(Drop)]
 pub struct Book {
-    claims: Vec<Standing>,
-    held: Vec<Held>,
+    alloc: Global,
+    index: ClaimIndex,
 }
 
 impl Model for Book {
-    ghost use Rattle.std.specs.Prelude.{◌-◌, vec_len, vec_capacity};
+    ghost use Rattle.std.specs.Map.{values_of};
     ghost use Rattle.alloc_book.specs.Book.{BookValue};
-    ghost use Rattle.alloc_book.specs.Held.{IsIndexed};
 
     ghost Value = { BookValue };
 
-    ghost view = { λ b. record {
-      claims = b.claims.items;
-      claim_room = vec_capacity b.claims - vec_len b.claims;
-      address_room = vec_capacity b.held - vec_len b.held;
-    } };
-
-    ghost invariant = { λ b. IsIndexed b.claims.items b.held.items };
+    ghost view = { λ b. record { claims = values_of b.index.items; room = b.index.room } };
 }
 
 /// A list of objects, by which keys it shows.
@@ -75,14 +66,59 @@ fn loss_of(is_lost: bool) -> Loss
     if is_lost { Loss::Lost } else { Loss::Kept }
 }
 
+/// The key of the claim has this claim alone. It takes no memory.
+fn remove_others(index: &mut ClaimIndex, number: u64)
+    ensures { (c : ClaimValue) → lookup (λ n. n == number) index.old.items ≡ Some c
+        → index.new.items ≡ filter (λ p. not (same_key p.1.key c.key) || (p.0 == number)) index.old.items }
+{
+    while let Some(other) = index.first_other(number) {
+        index.remove(other);
+    }
+}
+
+/// The key has no claims. It takes no memory.
+fn remove_all(index: &mut ClaimIndex, key: &Key)
+    ensures { index.new.items ≡ filter (λ p. not (same_key p.1.key key.now)) index.old.items }
+{
+    while let Some(number) = index.numbers_of(key).first() {
+        let number = *number;
+        index.remove(number);
+    }
+}
+
+/// The first claim from this number on whose key the list doesn't show.
+fn first_unlisted<L: Listing>(index: &ClaimIndex, listing: &L, from: u64) -> Option<u64>
+    ensures { result ≡ option_map (λ p. p.0) (find (λ p. not (nat_lt p.0 from) && not (L.lists listing.now p.1.key)) index.now.items) }
+{
+    let mut next = from;
+    while let Some((number, claim)) = index.first_from(next) {
+        if !listing.lists(claim.key()) {
+            return Some(number);
+        }
+        next = number + 1;
+    }
+    None
+}
+
+/// The claims of the keys that the list shows stay, and no others. It takes no memory.
+fn remove_unlisted<L: Listing>(index: &mut ClaimIndex, listing: &L)
+    ensures { index.new.items ≡ filter (λ p. L.lists listing.now p.1.key) index.old.items }
+{
+    let mut from = 0;
+    while let Some(number) = first_unlisted(index, listing, from) {
+        index.remove(number);
+        from = number;
+    }
+}
+
 impl Book {
     /// No claims, which takes no memory.
     pub fn new(alloc: Global) -> Book
         ensures { result.claims ≡ [] }
     {
         Book {
-            claims: Vec::new(alloc),
-            held: Vec::new(alloc),
+            alloc,
+            index: ClaimIndex::new(alloc),
         }
     }
 
@@ -91,8 +127,9 @@ impl Book {
         ensures claims { self.new.claims ≡ self.old.claims }
         ensures room { OnOk result (HasRoom self.new claim.now) }
     {
-        self.claims.reserve(1)?;
-        self.held.reserve(claim.entries.len())?;
+        if claim.holding().is_assigned() {
+            self.index.reserve(claim)?;
+        }
         Ok(())
     }
 
@@ -102,11 +139,13 @@ impl Book {
         ensures loss { result ≡ loss_of (loses claim.key claim.holding self.old.claims) }
         ensures assigned { AreAssigned self.old.claims }
     {
-        let Claim { standing, entries } = claim;
-        let is_lost = loses(&self.claims, &standing.key, &standing.holding);
-        drop_held(&mut self.held, &standing.key);
-        place_all(&mut self.held, entries);
-        settle_claim(&mut self.claims, standing);
+        let is_lost = self.index.loses(claim.key(), claim.holding());
+        if claim.holding().is_assigned() {
+            let number = self.index.add(claim);
+            remove_others(&mut self.index, number);
+        } else {
+            remove_all(&mut self.index, claim.key());
+        }
         loss_of(is_lost)
     }
 
@@ -127,7 +166,7 @@ impl Book {
         ensures loss { IfOk result (λ loss. (loss ≡ Loss.Lost) ↔ HasLost self.old.claims self.new.claims) }
         ensures err { OnErr result (self.new.claims ≡ self.old.claims) }
     {
-        let claim = Claim::of(*self.claims.allocator(), key, holding)?;
+        let claim = Claim::of(self.alloc, key, holding)?;
         self.reserve(&claim)?;
         Ok(self.settle_prepared(claim))
     }
@@ -138,12 +177,10 @@ impl Book {
         requires { HasRoom self.old claim }
         ensures { self.new.claims ≡ doubted claim.key claim.holding self.old.claims }
     {
-        let Claim { standing, entries } = claim;
-        if claims_it(&self.claims, &standing.key, &standing.holding) {
-            return;
+        let stands = self.index.claims_it(claim.key(), claim.holding());
+        if !stands && claim.holding().is_assigned() {
+            let _number = self.index.add(claim);
         }
-        place_all(&mut self.held, entries);
-        add(&mut self.claims, standing);
     }
 
     /// The key may have this record too, unless that stands already or has no address. Where there is no memory all claims stay.
@@ -151,7 +188,7 @@ impl Book {
         ensures ok { OnOk result (self.new.claims ≡ doubted key.now holding.now self.old.claims) }
         ensures err { OnErr result (self.new.claims ≡ self.old.claims) }
     {
-        let claim = Claim::of(*self.claims.allocator(), key, holding)?;
+        let claim = Claim::of(self.alloc, key, holding)?;
         self.reserve(&claim)?;
         self.doubt_prepared(claim);
         Ok(())
@@ -161,9 +198,8 @@ impl Book {
         ensures claims { self.new.claims ≡ others key.now self.old.claims }
         ensures loss { result ≡ loss_of (has_claims key.now self.old.claims) }
     {
-        let is_lost = has_claims(&self.claims, key);
-        drop_held(&mut self.held, key);
-        drop_claims(&mut self.claims, key);
+        let is_lost = self.index.has_claims(key);
+        remove_all(&mut self.index, key);
         loss_of(is_lost)
     }
 
@@ -179,15 +215,14 @@ impl Book {
     pub fn drop_unlisted<L: Listing>(&mut self, listing: &L)
         ensures { self.new.claims ≡ filter (λ c. L.lists listing.now c.key) self.old.claims }
     {
-        self.claims.retain(|claim| listing.lists(&claim.key));
-        self.held.retain(|entry| listing.lists(entry.key()));
+        remove_unlisted(&mut self.index, listing);
     }
 
     /// Whether a key that the list doesn't show has a claim.
     pub fn has_unlisted<L: Listing>(&self, listing: &L) -> bool
         ensures { result ≡ list_any (λ c. not (L.lists listing.now c.key)) self.now.claims }
     {
-        self.claims.iter().any(|claim| !listing.lists(&claim.key))
+        first_unlisted(&self.index, listing, 0).is_some()
     }
 
     /// Whether the key has a claim that settling this record gives up: one with another record.
@@ -196,22 +231,21 @@ impl Book {
         ensures meaning { IsTrue result
             ↔ HasLost self.now.claims (settled key.now holding.now self.now.claims) }
     {
-        loses(&self.claims, key, holding)
+        self.index.loses(key, holding)
     }
 
     /// Whether the key has a claim.
     pub fn has_claims(&self, key: &Key) -> bool
         ensures { result ≡ has_claims key.now self.now.claims }
     {
-        has_claims(&self.claims, key)
+        self.index.has_claims(key)
     }
 
-    /// The entries of addresses of this number and greater ones.
-    pub(crate) fn held_from(&self, number: u128) -> &[Held]
-        ensures ascend { AscendFrom number result.now }
-        ensures tell { TellFrom number result.now self.now.claims }
+    /// The claims, and by what each is found.
+    pub(crate) fn index(&self) -> &ClaimIndex
+        ensures claims { values_of result.now.items ≡ self.now.claims }
     {
-        held_from(&self.held, number)
+        &self.index
     }
 
     /// Whether a service of this key and these terms may use the address of the pool: it lies in the pool, isn't one that the
@@ -249,7 +283,7 @@ impl Book {
             ≡ choose self.now.claims (offer_of config.now.pools service.now namespace.now) (option_copied class.entry) service.now) }
         ensures terms { OnOk result (AreTerms (terms_of service.now)) }
     {
-        let alloc = *self.claims.allocator();
+        let alloc = self.alloc;
         choose(alloc, self, config, class, service, namespace)
     }
 

@@ -1,11 +1,13 @@
 //! Claims on addresses, and what is chosen for a service.
 #![tactic(auto)]
 
+mod address_holders;
 mod booking;
 mod choice;
 mod choosing;
 mod claims;
-mod held;
+mod holders;
+mod index;
 mod laws;
 mod marked;
 mod requests;

@@ -1,19 +1,21 @@
 //! The addresses that claims leave, and the least of them.
-ghost use Rattle.std.specs.Prelude.{◌≡◌, ◌↔◌, ◌&&◌, not, IsTrue, IfOk, IfSome, IfNone, map, ◌+◌, ◌-◌};
+ghost use Rattle.std.specs.Prelude.{◌≡◌, ◌↔◌, ◌&&◌, nat_le, IsTrue, IfOk, IfSome, IfNone, map, ◌+◌, ◌-◌};
 ghost use Rattle.std.specs.Option.{option_map};
-ghost use Rattle.std.specs.List.{Contains, list_all};
-ghost use Rattle.ip_ranges.specs.Values.{AddressValue, has_address, is_buggy};
+ghost use Rattle.std.specs.List.{Contains};
+ghost use Rattle.std.specs.Map.{values_of};
+ghost use Rattle.ip_ranges.specs.Values.{AddressValue, has_address, is_buggy, same_family};
 ghost use Rattle.sharing_terms.specs.declared.terms.Terms.{Terms};
 ghost use Rattle.sharing_terms.specs.Marks.{mark_of};
 ghost use Rattle.alloc_book.specs.Asking.{asking};
-ghost use Rattle.alloc_book.specs.Held.{gives_way};
-ghost use Rattle.alloc_book.specs.Search.{leaves, usable, address_of, numbered, least_between, least_in, least_usable, least_each, first_pool};
+ghost use Rattle.alloc_book.specs.Index.{is_own, is_shared, is_free, Covers};
+ghost use Rattle.number_sets.specs.Least.{IsLeastIn, NonePasses};
+ghost use Rattle.alloc_book.specs.Search.{usable, address_of, numbered, least_between, least_in, least_usable, least_each, first_pool};
 ghost use Rattle.alloc_book.specs.Claims.{holders};
 ghost use Rattle.alloc_book.specs.Least.{IsLeast};
 ghost use Rattle.alloc_book.specs.Usable.{is_in, IsUsable, IsUsableOf};
 
 use crate::booking::Book;
-use crate::held::{Held, all_give_way, split_at_number};
+use crate::index::ClaimIndex;
 use crate::marked::MarkedTerms;
 use ip_ranges::{Address, AddressList, Family, Span, is_buggy};
 use kube_model::{Key, Record, Service};
@@ -26,14 +28,6 @@ pub(crate) fn has_address(addresses: &[Address], address: &Address) -> bool
     ensures { result ≡ has_address addresses.now address.now }
 {
     addresses.iter().any(|a| *address == *a)
-}
-
-/// Whether each claim leaves the address to a service of this key and these terms.
-fn all_leave(book: &Book, key: &Key, terms: &Terms, address: &Address) -> bool
-    ensures { result ≡ list_all (leaves key.now terms.now address.now) book.now.claims }
-{
-    let (here, _rest) = split_at_number(book.held_from(address.number), address.number);
-    all_give_way(here, key, terms, address)
 }
 
 pub(crate) fn is_in(pool: &CompiledPool, address: &Address) -> bool
@@ -63,7 +57,7 @@ pub(crate) fn may_use(
 ) -> bool
     ensures { result ≡ usable book.now.claims key.now terms.now pool.now address.now }
 {
-    is_in(pool, address) && !is_avoided(pool, address) && all_leave(book, key, terms, address)
+    is_in(pool, address) && !is_avoided(pool, address) && book.index().all_leave(key, terms, address)
 }
 
 fn is_avoided(pool: &CompiledPool, address: &Address) -> bool
@@ -72,16 +66,110 @@ fn is_avoided(pool: &CompiledPool, address: &Address) -> bool
     pool.avoid_buggy && is_buggy(address)
 }
 
-/// Whether the pool doesn't avoid the address, and each of the entries leaves it.
-fn is_free(here: &[Held], pool: &CompiledPool, key: &Key, terms: &Terms, address: &Address) -> bool
-    ensures { result ≡ (not (pool.now.avoid_buggy && is_buggy address.now)
-        && list_all (gives_way key.now terms.now address.now) here.now) }
+/// The least number from low to high of an address that no claim has, and that the pool doesn't avoid.
+fn first_free(
+    index: &ClaimIndex,
+    pool: &CompiledPool,
+    family: Family,
+    low: u128,
+    high: u128,
+) -> Option<u128>
+    ensures some { IfSome result (λ n. IsLeastIn (numbered (is_free (values_of index.now.items) pool.now) family) low high n) }
+    ensures none { IfNone result (NonePasses (numbered (is_free (values_of index.now.items) pool.now) family) low high) }
 {
-    !is_avoided(pool, address) && all_give_way(here, key, terms, address)
+    let mut from = low;
+    while let Some(number) = index.first_unheld(family, from, high) {
+        if !is_avoided(pool, &Address { family, number }) {
+            return Some(number);
+        }
+        if number == high {
+            return None;
+        }
+        from = number + 1;
+    }
+    None
 }
 
-/// The least number of the range, which is one of the pool's, that an address of the family may have to be used. It is found
-/// by a walk over the numbers and, beside them, over the entries of the range.
+/// The number of the address, where it is of the family, lies between low and high, and may be used.
+fn usable_number(
+    book: &Book,
+    pool: &CompiledPool,
+    key: &Key,
+    terms: &Terms,
+    family: Family,
+    low: u128,
+    high: u128,
+    address: &Address,
+) -> bool
+    ensures { result ≡ (same_family address.now.family family && nat_le low address.now.number && nat_le address.now.number high
+        && usable book.now.claims key.now terms.now pool.now address.now) }
+{
+    address.family == family
+        && low <= address.number
+        && address.number <= high
+        && may_use(book, pool, key, terms, address)
+}
+
+/// The least number from low to high of an address that the key has already and may use.
+fn least_own(
+    book: &Book,
+    pool: &CompiledPool,
+    key: &Key,
+    terms: &Terms,
+    family: Family,
+    low: u128,
+    high: u128,
+) -> Option<u128>
+    ensures { Covers (numbered (is_own key.now book.now.claims) family) (numbered (usable book.now.claims key.now terms.now pool.now) family) low high result }
+{
+    let index = book.index();
+    let mut least = None;
+    let mut last = high;
+    for number in index.numbers_of(key) {
+        let Some(claim) = index.claim(*number) else {
+            continue;
+        };
+        for address in claim.addresses() {
+            if usable_number(book, pool, key, terms, family, low, last, address) {
+                least = Some(address.number);
+                last = address.number;
+            }
+        }
+    }
+    least
+}
+
+/// The least number from low to high of an address that a claim has under the sharing key, and that may be used.
+fn least_shared(
+    book: &Book,
+    pool: &CompiledPool,
+    key: &Key,
+    terms: &Terms,
+    family: Family,
+    low: u128,
+    high: u128,
+) -> Option<u128>
+    ensures { Covers (numbered (is_shared terms.now.key book.now.claims) family) (numbered (usable book.now.claims key.now terms.now pool.now) family) low high result }
+{
+    if terms.key.as_str().is_empty() {
+        return None;
+    }
+    let index = book.index();
+    let mut from = low;
+    while let Some(number) = index.first_shared(family, &terms.key, from, high) {
+        if may_use(book, pool, key, terms, &Address { family, number }) {
+            return Some(number);
+        }
+        if number == high {
+            return None;
+        }
+        from = number + 1;
+    }
+    None
+}
+
+/// The least number of the range, which is one of the pool's, that an address of the family may have to be used: the least of those
+/// that no claim has, of those that the key has already, and of those that are shared under its sharing key.
 fn least_number(
     book: &Book,
     pool: &CompiledPool,
@@ -94,16 +182,13 @@ fn least_number(
     requires listed { Contains pool.now.spans span.now }
     ensures { result ≡ option_map (address_of family) (least_between (numbered (usable book.now.claims key.now terms.now pool.now) family) span.now.low (span.now.high + 1 - span.now.low)) }
 {
-    let mut rest = book.held_from(span.low);
-    for number in span.low..=span.high {
-        let address = Address { family, number };
-        let (here, behind) = split_at_number(rest, number);
-        if is_free(here, pool, key, terms, &address) {
-            return Some(address);
-        }
-        rest = behind;
-    }
-    None
+    let free = first_free(book.index(), pool, family, span.low, span.high);
+    let last = free.unwrap_or(span.high);
+    let own = least_own(book, pool, key, terms, family, span.low, last);
+    let last = own.unwrap_or(last);
+    let shared = least_shared(book, pool, key, terms, family, span.low, last);
+    let number = shared.or(own).or(free)?;
+    Some(Address { family, number })
 }
 
 /// The least address of one range of the pool that may be used.

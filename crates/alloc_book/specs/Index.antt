@@ -1,0 +1,88 @@
+-- The claims under their numbers, and by what each is found.
+use Rattle.std.specs.Prelude.{◌≡◌, ◌≢◌, ◌≤◌, ◌<◌, ℕ, Bool, true, false, ◌==◌, ◌&&◌, not, find, List, [], ◌∷◌, ◌++◌, map, filter, length, Option, Some, None}
+use Rattle.std.specs.List.{Contains, list_any}
+use Rattle.std.specs.Map.{lookup, keys_of, values_of}
+use Rattle.std.specs.Option.{option_and_then}
+use Rattle.std.specs.Str.{bytes_eq}
+use Rattle.ip_ranges.specs.declared.family.Family.{Family}
+use Rattle.ip_ranges.specs.declared.family.Family.TheVariants.{V4, V6}
+use Rattle.ip_ranges.specs.Values.{AddressValue, has_address, same_address, is_buggy}
+use Rattle.kube_model.specs.declared.key.Key.{Key}
+use Rattle.kube_model.specs.Keys.{key_cmp, same_key}
+use Rattle.kube_model.specs.Records.{is_assigned}
+use Rattle.mlb_base.specs.Items.{is_nil}
+use Rattle.numbered_items.specs.Index.{IndexValue, numbers_under}
+use Rattle.sharing_terms.specs.declared.terms.Terms.{Terms}
+use Rattle.sharing_terms.specs.Spelled.{recorded_terms}
+use Rattle.pool_config.specs.declared.compiled.CompiledPool.{CompiledPool}
+use Rattle.alloc_book.specs.Book.{AreAssigned, BookRoom}
+use Rattle.alloc_book.specs.Holders.{AddressHoldersValue, claims_having, is_known}
+use Rattle.alloc_book.specs.Claims.{ClaimValue}
+use Rattle.alloc_book.specs.Search.{address_of}
+
+-- the numbers of the claims of the key
+abbrev pub numbers_of : Key → List (ℕ × ClaimValue) → List ℕ
+numbers_of key items = keys_of (filter (λ p. same_key p.1.key key) items)
+
+-- the first number but this one
+abbrev pub first_but : ℕ → List ℕ → Option ℕ
+first_but n numbers = find (λ m. not (m == n)) numbers
+
+-- the first number of another claim of the key that this claim is of
+abbrev pub first_other : ℕ → List (ℕ × ClaimValue) → Option ℕ
+first_other n items = option_and_then (λ c. first_but n (numbers_of c.key items)) (lookup (λ m. m == n) items)
+
+-- the number of the claim, once for each time that the claim has the address
+abbrev pub numbered_at : AddressValue → ℕ × ClaimValue → List ℕ
+numbered_at a p = map (λ _. p.0) (filter (same_address a) p.1.holding.addresses)
+
+-- the numbers of the claims that have the address
+abbrev pub numbers_at : AddressValue → List (ℕ × ClaimValue) → List ℕ
+numbers_at a [] = []
+numbers_at a (p ∷ items) = numbered_at a p ++ numbers_at a items
+
+-- the terms are those of this sharing key, which isn't empty
+abbrev pub is_marked : List ℕ → Option Terms → Bool
+is_marked key None = false
+is_marked key (Some terms) = bytes_eq terms.key key && not (is_nil key)
+
+-- a claim has the address
+abbrev pub is_held : List ClaimValue → AddressValue → Bool
+is_held claims a = list_any (λ c. has_address c.holding.addresses a) claims
+
+-- a claim of the key has the address
+abbrev pub is_own : Key → List ClaimValue → AddressValue → Bool
+is_own key claims a = list_any (λ c. same_key c.key key && has_address c.holding.addresses a) claims
+
+-- a claim that is marked with this sharing key has the address
+abbrev pub is_shared : List ℕ → List ClaimValue → AddressValue → Bool
+is_shared key claims a = list_any (λ c. is_marked key (recorded_terms c.holding.mark) && has_address c.holding.addresses a) claims
+
+-- no claim has the address, and the pool doesn't avoid it
+abbrev pub is_free : List ClaimValue → CompiledPool → AddressValue → Bool
+is_free claims pool a = not (is_held claims a) && not (pool.avoid_buggy && is_buggy a)
+
+-- of the numbers from low to high that are candidates this is the least that passes, or one that passes ahead of each of them
+abbrev pub Covers : (ℕ → Bool) → (ℕ → Bool) → ℕ → ℕ → Option ℕ → Type 0
+Covers candidate test low high (Some n) = (low ≤ n) × (n ≤ high) × (test n ≡ true) × ((m : ℕ) → low ≤ m → m < n → candidate m ≡ true → test m ≡ false)
+Covers candidate test low high None = (m : ℕ) → low ≤ m → m ≤ high → candidate m ≡ true → test m ≡ false
+
+-- each address that a claim has under a sharing key is known by that key; others may be too
+abbrev pub AreShared : AddressHoldersValue → List ClaimValue → Type 0
+AreShared h claims = (key : List ℕ) (a : AddressValue) → is_shared key claims a ≡ true → is_known h key a ≡ true
+
+-- The claims have addresses, and these are what each is found by.
+pub record IsIndexed (items : List (ℕ × ClaimValue)) (by_key : IndexValue Key) (h : AddressHoldersValue) : Type 0 where
+  pub assigned : AreAssigned (values_of items)
+  pub keys : numbers_under key_cmp by_key ≡ (λ key. numbers_of key items)
+  pub holders : claims_having h ≡ (λ a. numbers_at a items)
+  pub shared : AreShared h (values_of items)
+
+-- no address of the family that a claim has under the sharing key has a number from low on, below high
+abbrev pub NoneShared : Family → List ℕ → List ClaimValue → ℕ → ℕ → Type 0
+NoneShared family key claims low high = (n : ℕ) → low ≤ n → n < high → is_shared key claims (address_of family n) ≡ false
+
+-- An index of claims as the book sees it.
+pub record ClaimIndexValue : Type 0 where
+  pub items : List (ℕ × ClaimValue)  -- the claims, each with its number
+  pub room : BookRoom  -- what can be added without memory

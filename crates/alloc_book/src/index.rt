@@ -1,0 +1,286 @@
+//! The claims under their numbers, and by what each is found.
+ghost use Rattle.std.specs.Prelude.{◌≡◌, ◌≤◌, ◌<◌, ◌+◌, ◌^◌, ◌==◌, ◌∷◌, ◌++◌, [], true, not, nat_lt, filter, find, length, OnOk, IfSome, IfNone};
+ghost use Rattle.std.specs.List.{All, list_any, list_all};
+ghost use Rattle.std.specs.List.Sorted.{IsStrictlySortedBy};
+ghost use Rattle.std.specs.Map.{lookup, keys_of, values_of};
+ghost use Rattle.std.specs.Option.{option_copied, option_map};
+ghost use Rattle.std.specs.Ordering.{nat_cmp};
+ghost use Rattle.kube_model.specs.Records.{is_assigned};
+ghost use Rattle.alloc_book.specs.Book.{AreAssigned, HasRoomFor};
+ghost use Rattle.alloc_book.specs.Claims.{ClaimValue, loses, claims_it, has_claims};
+ghost use Rattle.alloc_book.specs.Index.{numbers_of, numbers_at, first_other, is_held, NoneShared};
+ghost use Rattle.alloc_book.specs.Search.{address_of, leaves};
+ghost use Rattle.number_sets.specs.Least.{IsLeastIn, NonePasses};
+
+use crate::address_holders::AddressHolders;
+use crate::claims::Claim;
+use numbered_items::{InvertedIndex, NumberedList};
+use ip_ranges::{Address, Family};
+use kube_labels::Text;
+use kube_model::{Key, Record};
+use mlb_base::{NoMemory, TryCopy};
+use sharing_terms::{Terms, may_share};
+use std::alloc::Global;
+use std::marker::Model;
+
+/// The claims, numbered in the order in which they came, and the numbers of those of each key and of those that have each address.
+#[derive(Drop)]
+pub(crate) struct ClaimIndex {
+    claims: NumberedList<Claim>,
+    by_key: InvertedIndex<Key>,
+    holders: AddressHolders,
+}
+
+impl Model for ClaimIndex {
+    ghost use Rattle.alloc_book.specs.Index.{ClaimIndexValue, IsIndexed};
+
+    ghost Value = { ClaimIndexValue };
+
+    ghost view = { λ c. record {
+      items = c.claims.items;
+      room = record { claims = c.claims.room; keys = c.by_key; holders = c.holders };
+    } };
+
+    ghost invariant = { λ c. IsIndexed c.claims.items c.by_key c.holders };
+}
+
+impl ClaimIndex {
+    /// No claims, which takes no memory.
+    pub(crate) fn new(alloc: Global) -> ClaimIndex
+        ensures { result.items ≡ [] }
+    {
+        ClaimIndex {
+            claims: NumberedList::new(alloc),
+            by_key: InvertedIndex::new(alloc),
+            holders: AddressHolders::new(alloc),
+        }
+    }
+
+    /// Makes room for the claim. Where there is no memory all claims stay.
+    pub(crate) fn reserve(&mut self, claim: &Claim) -> Result<(), NoMemory>
+        ensures items { self.new.items ≡ self.old.items }
+        ensures room { OnOk result (HasRoomFor self.new.room claim.now) }
+    {
+        self.claims.reserve()?;
+        self.by_key.reserve(claim.key().copy()?, 1)?;
+        reserve_each(&mut self.holders, claim.addresses())?;
+        match claim.terms() {
+            Some(terms) => share_each(&mut self.holders, &terms.key, claim.addresses()),
+            None => Ok(()),
+        }
+    }
+
+    /// The claim is added at the end, and its number is answered. There is room for it, so it takes no memory.
+    pub(crate) fn add(&mut self, claim: Claim) -> u64
+        requires room { HasRoomFor self.old.room claim }
+        requires assigned { is_assigned claim.holding ≡ true }
+        ensures items { self.new.items ≡ self.old.items ++ (result, claim) ∷ [] }
+        ensures fresh { All (λ p. p.0 < result) self.old.items }
+    {
+        let number = self.claims.push(claim);
+        if let Some(claim) = self.claims.get(number) {
+            self.by_key.add(claim.key(), number);
+            add_each(&mut self.holders, claim.addresses(), number);
+        }
+        number
+    }
+
+    /// The claim of that number isn't there any more. It takes no memory.
+    pub(crate) fn remove(&mut self, number: u64)
+        ensures { self.new.items ≡ filter (λ p. not (p.0 == number)) self.old.items }
+    {
+        let Some(claim) = self.claims.remove(number) else {
+            return;
+        };
+        self.by_key.remove(claim.key(), number);
+        remove_each(&mut self.holders, claim.addresses(), number);
+        if let Some(terms) = claim.terms() {
+            unshare_each(&self.claims, &mut self.holders, &terms.key, claim.addresses());
+        }
+    }
+
+    /// The numbers of the claims of the key.
+    pub(crate) fn numbers_of(&self, key: &Key) -> &[u64]
+        ensures { result.now ≡ numbers_of key.now self.now.items }
+    {
+        self.by_key.numbers(key)
+    }
+
+    /// The claim of that number.
+    pub(crate) fn claim(&self, number: u64) -> Option<&Claim>
+        ensures claim { option_copied result ≡ lookup (λ n. n == number) self.now.items }
+        ensures ascending { IsStrictlySortedBy nat_cmp (keys_of self.now.items) }
+        ensures assigned { AreAssigned (values_of self.now.items) }
+    {
+        self.claims.get(number)
+    }
+
+    /// The first claim whose number is this one or a greater one, with its number, which is below 2^64 - 1.
+    pub(crate) fn first_from(&self, number: u64) -> Option<(u64, &Claim)>
+        ensures item { option_map (λ p. (p.0, p.1.now)) result ≡ find (λ p. not (nat_lt p.0 number)) self.now.items }
+        ensures within { IfSome result (λ p. p.0 + 1 < 2 ^ 64) }
+        ensures ascending { IsStrictlySortedBy nat_cmp (keys_of self.now.items) }
+    {
+        self.claims.first_from(number)
+    }
+
+    /// The first number of another claim of the same key.
+    pub(crate) fn first_other(&self, number: u64) -> Option<u64>
+        ensures { result ≡ first_other number self.now.items }
+    {
+        let claim = self.claims.get(number)?;
+        first_but(self.by_key.numbers(claim.key()), number)
+    }
+
+    /// Whether the key has a claim with another record than this one.
+    pub(crate) fn loses(&self, key: &Key, holding: &Record) -> bool
+        ensures value { result ≡ loses key.now holding.now (values_of self.now.items) }
+        ensures assigned { AreAssigned (values_of self.now.items) }
+    {
+        let claims = &self.claims;
+        self.by_key
+            .numbers(key)
+            .iter()
+            .any(|number| !has_record(claims, *number, holding))
+    }
+
+    /// Whether the key has a claim with this very record.
+    pub(crate) fn claims_it(&self, key: &Key, holding: &Record) -> bool
+        ensures { result ≡ claims_it key.now holding.now (values_of self.now.items) }
+    {
+        let claims = &self.claims;
+        self.by_key
+            .numbers(key)
+            .iter()
+            .any(|number| has_record(claims, *number, holding))
+    }
+
+    /// Whether the key has a claim.
+    pub(crate) fn has_claims(&self, key: &Key) -> bool
+        ensures { result ≡ has_claims key.now (values_of self.now.items) }
+    {
+        !self.by_key.numbers(key).is_empty()
+    }
+
+    /// Whether each claim leaves the address to a service of this key and these terms.
+    pub(crate) fn all_leave(&self, key: &Key, terms: &Terms, address: &Address) -> bool
+        ensures { result ≡ list_all (leaves key.now terms.now address.now) (values_of self.now.items) }
+    {
+        let claims = &self.claims;
+        self.holders
+            .numbers(address)
+            .iter()
+            .all(|number| gives_way(claims, *number, key, terms))
+    }
+
+    /// The least number from low to high of an address of the family that no claim has.
+    pub(crate) fn first_unheld(&self, family: Family, low: u128, high: u128) -> Option<u128>
+        ensures some { IfSome result (λ n. IsLeastIn (λ m. not (is_held (values_of self.now.items) (address_of family m))) low high n) }
+        ensures none { IfNone result (NonePasses (λ m. not (is_held (values_of self.now.items) (address_of family m))) low high) }
+    {
+        self.holders.first_unheld(family, low, high)
+    }
+
+    /// A number from low to high before which no address of the family has a claim under the sharing key, which isn't empty; `None`
+    /// where none up to high has.
+    pub(crate) fn first_shared(&self, family: Family, key: &Text, low: u128, high: u128) -> Option<u128>
+        ensures some { IfSome result (λ n. (low ≤ n) × (n ≤ high) × NoneShared family key.now (values_of self.now.items) low n) }
+        ensures none { IfNone result (NoneShared family key.now (values_of self.now.items) low (high + 1)) }
+    {
+        self.holders.first_shared(family, key, low, high)
+    }
+}
+
+fn reserve_each(holders: &mut AddressHolders, addresses: &[Address]) -> Result<(), NoMemory> {
+    for address in addresses {
+        holders.reserve(address, addresses.len())?;
+    }
+    Ok(())
+}
+
+/// The addresses are known by the sharing key, where it isn't empty.
+fn share_each(
+    holders: &mut AddressHolders,
+    key: &Text,
+    addresses: &[Address],
+) -> Result<(), NoMemory> {
+    if key.as_str().is_empty() {
+        return Ok(());
+    }
+    for address in addresses {
+        holders.share(key.copy()?, address)?;
+    }
+    Ok(())
+}
+
+fn add_each(holders: &mut AddressHolders, addresses: &[Address], number: u64) {
+    for address in addresses {
+        holders.add(address, number);
+    }
+}
+
+fn remove_each(holders: &mut AddressHolders, addresses: &[Address], number: u64) {
+    for address in addresses {
+        holders.remove(address, number);
+    }
+}
+
+/// Those of the addresses that no claim has any more under the sharing key aren't known by it.
+fn unshare_each(
+    claims: &NumberedList<Claim>,
+    holders: &mut AddressHolders,
+    key: &Text,
+    addresses: &[Address],
+) {
+    for address in addresses {
+        if !is_shared_at(claims, holders.numbers(address), key) {
+            holders.unshare(key, address);
+        }
+    }
+}
+
+fn is_shared_at(claims: &NumberedList<Claim>, numbers: &[u64], key: &Text) -> bool {
+    numbers
+        .iter()
+        .any(|number| is_marked_with(claims, *number, key))
+}
+
+fn is_marked_with(claims: &NumberedList<Claim>, number: u64, key: &Text) -> bool {
+    let Some(claim) = claims.get(number) else {
+        return false;
+    };
+    match claim.terms() {
+        Some(terms) => terms.key == *key,
+        None => false,
+    }
+}
+
+fn first_but(numbers: &[u64], number: u64) -> Option<u64> {
+    for other in numbers {
+        if *other != number {
+            return Some(*other);
+        }
+    }
+    None
+}
+
+fn has_record(claims: &NumberedList<Claim>, number: u64, holding: &Record) -> bool {
+    match claims.get(number) {
+        Some(claim) => claim.holding().is_same(holding),
+        None => false,
+    }
+}
+
+fn gives_way(claims: &NumberedList<Claim>, number: u64, key: &Key, terms: &Terms) -> bool {
+    let Some(claim) = claims.get(number) else {
+        return true;
+    };
+    claim.key() == key || shares(terms, claim.terms())
+}
+
+fn shares(terms: &Terms, held: Option<&Terms>) -> bool {
+    match held {
+        None => false,
+        Some(held) => may_share(terms, held),
+    }
+}

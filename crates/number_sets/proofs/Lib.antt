@@ -1,0 +1,4 @@
+mod GroupedLeast
+mod GroupedSets
+pub mod EditLaws
+pub mod RunLaws

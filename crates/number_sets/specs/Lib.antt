@@ -1,0 +1,4 @@
+pub mod Grouped
+pub mod Least
+pub mod RunLists
+pub mod Runs

@@ -1,0 +1,250 @@
+//! Sets of numbers as sorted runs.
+ghost use Rattle.std.specs.Prelude.{◌≡◌, ◌≤◌, ◌<◌, ◌+◌, ◌-◌, ◌==◌, ◌||◌, ◌&&◌, true, false, not, length, slice_get, vec_len, vec_capacity, IfSome, IfNone, IsSomeAnd, OnOk};
+ghost use Rattle.std.specs.List.{insert};
+ghost use Rattle.number_sets.specs.Least.{IsLeastIn, NonePasses};
+ghost use Rattle.number_sets.specs.RunLists.{AreRunsFrom, IsFound, IsRunOf, IsSetTo, count_numbers, has_number};
+ghost use Rattle.number_sets.specs.Runs.{has};
+
+use mlb_base::NoMemory;
+use std::alloc::Global;
+use std::marker::Model;
+
+/// The numbers from the first to the last, both included.
+#[derive(Clone, Copy)]
+struct Run {
+    first: u128,
+    last: u128,
+}
+
+/// A set of numbers, held as the runs of numbers that follow one another, ascending.
+///
+/// There is memory for as many runs as there are numbers, so that taking a number out, which may cut a run in two, takes none.
+/// A look-up takes the logarithm of the number of runs. Where a run comes or goes, those behind it are moved.
+#[derive(Drop)]
+pub struct NumberRuns {
+    runs: Vec<Run>,
+    count: usize,
+}
+
+impl Model for NumberRuns {
+    ghost use Rattle.std.specs.Prelude.{◌-◌, vec_capacity};
+    ghost use Rattle.number_sets.specs.RunLists.{AreHeld};
+    ghost use Rattle.number_sets.specs.Runs.{RunsValue};
+
+    ghost Value = { RunsValue };
+
+    ghost view = { λ s. record { runs = s.runs.items; room = vec_capacity s.runs - s.count } };
+
+    ghost invariant = { λ s. AreHeld s.runs.items s.count (vec_capacity s.runs) };
+}
+
+#[tactic(auto, unfolding(crate::specs::Runs::has))]
+impl NumberRuns {
+    /// The empty set, which takes no memory.
+    pub fn new(alloc: Global) -> NumberRuns
+        ensures { has result ≡ (λ n. false) }
+    {
+        NumberRuns {
+            runs: Vec::new(alloc),
+            count: 0,
+        }
+    }
+
+    /// Makes room for so many numbers more. Where there is no memory the set stays.
+    pub fn reserve(&mut self, more: usize) -> Result<(), NoMemory>
+        ensures has { has self.new ≡ has self.old }
+        ensures room { OnOk result (more ≤ self.new.room) }
+        ensures kept { self.old.room ≤ self.new.room }
+    {
+        // There are no more runs than numbers.
+        let Some(wanted) = more.checked_add(self.count - self.runs.len()) else {
+            return Err(NoMemory);
+        };
+        self.runs.reserve(wanted)?;
+        Ok(())
+    }
+
+    /// Puts the number in. There is room for it, so it takes no memory.
+    pub fn insert(&mut self, number: u128)
+        requires { 0 < self.old.room }
+        ensures has { has self.new ≡ (λ n. (n == number) || has self.old n) }
+        ensures room { self.old.room ≤ self.new.room + 1 }
+    {
+        // A run that ends right before the number takes it in.
+        let index = first_from(&self.runs, number.saturating_sub(1));
+        if put(&mut self.runs, index, number) {
+            self.count += 1;
+        }
+    }
+
+    /// Takes the number out. It takes no memory.
+    pub fn remove(&mut self, number: u128)
+        ensures has { has self.new ≡ (λ n. not (n == number) && has self.old n) }
+        ensures room { self.old.room ≤ self.new.room }
+    {
+        let index = first_from(&self.runs, number);
+        if take(&mut self.runs, index, number) {
+            self.count -= 1;
+        }
+    }
+
+    /// Whether the number is in the set.
+    pub fn contains(&self, number: u128) -> bool
+        ensures { result ≡ has self.now number }
+    {
+        run_of(&self.runs, number).is_some()
+    }
+
+    /// The least number from low to high that isn't in the set; in the logarithm of the number of runs.
+    pub fn first_absent(&self, low: u128, high: u128) -> Option<u128>
+        ensures some { IfSome result (λ n. IsLeastIn (λ m. not (has self.now m)) low high n) }
+        ensures none { IfNone result (NonePasses (λ m. not (has self.now m)) low high) }
+    {
+        if high < low {
+            return None;
+        }
+        match run_of(&self.runs, low) {
+            None => Some(low),
+            // Runs don't touch, so the number behind this one is absent.
+            Some(run) => {
+                if run.last < high {
+                    Some(run.last + 1)
+                } else {
+                    None
+                }
+            }
+        }
+    }
+}
+
+/// The index of the first run that ends at the number or behind it.
+fn first_from(runs: &[Run], number: u128) -> usize
+    requires { AreRunsFrom 0 runs.now }
+    ensures { IsFound number runs.now result }
+{
+    runs.partition_point(|run| run.last < number)
+}
+
+fn run_at(runs: &[Run], index: usize) -> Option<Run>
+    ensures { result ≡ slice_get runs.now index }
+{
+    runs.get(index).copied()
+}
+
+/// The run that the number is in.
+fn run_of(runs: &[Run], number: u128) -> Option<Run>
+    requires { AreRunsFrom 0 runs.now }
+    ensures some { IfSome result (λ run. IsRunOf runs.now number run) }
+    ensures none { IfNone result (has_number runs.now number ≡ false) }
+{
+    let run = run_at(runs, first_from(runs, number))?;
+    if run.first <= number { Some(run) } else { None }
+}
+
+/// Puts the number in, at the first run that ends right before it or later. Whether it wasn't there is answered.
+fn put(runs: &mut Vec<Run>, index: usize, number: u128) -> bool
+    requires found { IsFound (number - 1) runs.old.items index }
+    requires room { vec_len runs.old < vec_capacity runs.old }
+    ensures set { IsSetTo 0 number true runs.old.items runs.new.items }
+    ensures added { result ≡ not (has_number runs.old.items number) }
+    ensures capacity { vec_capacity runs.new ≡ vec_capacity runs.old }
+{
+    let alone = Run {
+        first: number,
+        last: number,
+    };
+    let Some(run) = run_at(runs, index) else {
+        place(runs, index, alone);
+        return true;
+    };
+    if run.first.saturating_sub(number) > 1 {
+        place(runs, index, alone);
+    } else if number < run.first {
+        runs[index] = Run {
+            first: number,
+            last: run.last,
+        };
+    } else if run.last < number {
+        extend(runs, index, number);
+    } else {
+        return false;
+    }
+    true
+}
+
+/// The run stands at the index. There is room for it.
+fn place(runs: &mut Vec<Run>, index: usize, run: Run)
+    requires index { index ≤ vec_len runs.old }
+    requires room { vec_len runs.old < vec_capacity runs.old }
+    ensures items { runs.new.items ≡ insert runs.old.items index run }
+    ensures capacity { vec_capacity runs.new ≡ vec_capacity runs.old }
+{
+    // Nothing is refused, since there is room.
+    if let Err(refused) = runs.insert(index, run) {
+        drop(refused);
+    }
+}
+
+/// The run at the index, which ends right before the number, takes it in, and is joined with the next one where that begins
+/// right behind the number.
+fn extend(runs: &mut Vec<Run>, index: usize, number: u128)
+    requires found { IsFound (number - 1) runs.old.items index }
+    requires ends { IsSomeAnd (slice_get runs.old.items index) (λ run. run.last + 1 ≡ number) }
+    ensures set { IsSetTo 0 number true runs.old.items runs.new.items }
+    ensures capacity { vec_capacity runs.new ≡ vec_capacity runs.old }
+{
+    let first = runs[index].first;
+    let next = run_at(runs, index + 1);
+    match next {
+        Some(next) if next.first.saturating_sub(number) <= 1 => {
+            runs[index] = Run {
+                first,
+                last: next.last,
+            };
+            let _joined = runs.remove(index + 1);
+        }
+        _ => {
+            runs[index] = Run {
+                first,
+                last: number,
+            };
+        }
+    }
+}
+
+/// Takes the number out of the first run that ends at it or later. Whether it was there is answered.
+fn take(runs: &mut Vec<Run>, index: usize, number: u128) -> bool
+    requires found { IsFound number runs.old.items index }
+    requires room { count_numbers runs.old.items ≤ vec_capacity runs.old }
+    ensures set { IsSetTo 0 number false runs.old.items runs.new.items }
+    ensures taken { result ≡ has_number runs.old.items number }
+    ensures capacity { vec_capacity runs.new ≡ vec_capacity runs.old }
+{
+    let Some(run) = run_at(runs, index) else {
+        return false;
+    };
+    if number < run.first {
+        return false;
+    }
+    if run.first == run.last {
+        let _single = runs.remove(index);
+    } else if number == run.first {
+        runs[index] = Run {
+            first: number + 1,
+            last: run.last,
+        };
+    } else {
+        runs[index] = Run {
+            first: run.first,
+            last: number - 1,
+        };
+        if number < run.last {
+            let rest = Run {
+                first: number + 1,
+                last: run.last,
+            };
+            place(runs, index + 1, rest);
+        }
+    }
+    true
+}

@@ -1,0 +1,42 @@
+-- The numbers of items, listed under each term that the items have.
+use Rattle.std.specs.Prelude.{ℕ, ◌-◌, List, [], Option, Some, None, map}
+use Rattle.std.specs.Map.{lookup}
+use Rattle.std.specs.BTreeMap.{is_at}
+use Rattle.std.specs.Vec.{vec_len, vec_capacity}
+use Rattle.std.specs.declared.cmp.Ordering.{Ordering}
+use Rattle.std.specs.declared.vec.Vec.{Vec}
+
+-- A term's list as contracts see it.
+pub record TermList : Type 0 where
+  pub numbers : List ℕ  -- in the order in which they were added
+  pub room : ℕ  -- how many numbers more it can take without memory
+
+-- An inverted index as contracts see it: terms with their lists. What is said of it is said by the two functions below.
+abbrev pub IndexValue : Type 0 → Type 0
+IndexValue T = List (T × TermList)
+
+-- the numbers of a list, and none where there is no list
+abbrev pub numbers_in : Option TermList → List ℕ
+numbers_in None = []
+numbers_in (Some list) = list.numbers
+
+-- the room of a list, and none where there is no list
+abbrev pub room_in : Option TermList → ℕ
+room_in None = 0
+room_in (Some list) = list.room
+
+-- the numbers that are listed under a term
+abbrev pub numbers_under : {T : Type 0} → (T → T → Ordering) → IndexValue T → T → List ℕ
+numbers_under cmp index term = numbers_in (lookup (is_at (cmp term)) index)
+
+-- how many numbers more the term's list can take without memory
+abbrev pub room_under : {T : Type 0} → (T → T → Ordering) → IndexValue T → T → ℕ
+room_under cmp index term = room_in (lookup (is_at (cmp term)) index)
+
+-- the list that a vector is
+abbrev pub list_of : {A : Type 0} → Vec ℕ A → TermList
+list_of list = record { numbers = list.items; room = vec_capacity list - vec_len list }
+
+-- the index that these vectors are
+abbrev pub index_of : {T A : Type 0} → List (T × Vec ℕ A) → IndexValue T
+index_of lists = map (λ e. (e.0, list_of e.1)) lists

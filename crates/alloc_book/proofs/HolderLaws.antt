@@ -8,12 +8,16 @@ use Rattle.std.specs.Ordering.{nat_cmp}
 use Rattle.std.specs.Str.{bytes_eq}
 use Rattle.std.specs.BTreeMap.{is_at}
 use Rattle.std.specs.BTreeSet.{BTreeSet}
+use Rattle.ip_ranges.specs.declared.family.Family.{Family}
+use Rattle.ip_ranges.specs.declared.family.Family.TheVariants.{V4, V6}
+use Rattle.ip_ranges.specs.Values.{AddressValue, same_family}
 use Rattle.kube_labels.specs.Names.{name_cmp}
 use Rattle.mlb_base.specs.Items.{is_nil}
 use Rattle.number_sets.specs.Grouped.{in_group}
 use Rattle.number_sets.specs.Least.{IsLeastIn, NonePasses}
 use Rattle.number_sets.specs.Runs.{RunsValue, has}
 use Rattle.numbered_items.specs.Index.{IndexValue, numbers_under}
+use Rattle.alloc_book.specs.Holders.{HoldersValue, AddressHoldersValue, claims_at, claim_room_at, is_known_at, of_family, claims_having, claim_room, is_known}
 
 -- the numbers that are held are those under which a claim is listed
 abbrev AreListed : RunsValue → IndexValue ℕ → Type 0
@@ -155,3 +159,77 @@ pub known-dropped : (key : List ℕ) (number : ℕ) (old new : List (List ℕ ×
     → in_group name_cmp new ≡ (λ k n. not (is_at (name_cmp key) k && (n == number)) && in_group name_cmp old k n)
     → in_group name_cmp new ≡ (λ k n. not (bytes_eq key k && (n == number)) && in_group name_cmp old k n)
 known-dropped key number old new is = is ∙ (λ i k n. not (at-text key k i && (n == number)) && in_group name_cmp old k n)
+
+-- ---- both families
+
+abbrev both : HoldersValue → HoldersValue → AddressHoldersValue
+both four six = record { v4 = four; v6 = six }
+
+-- what is one for each family and number is one for each address
+by-family : {X : Type 0} (f g : Family → ℕ → X) → f V4 ≡ g V4 → f V6 ≡ g V6 → (a : AddressValue) → f a.family a.number ≡ g a.family a.number
+by-family {X} f g four six a = each a.family a.number
+  where
+    each : (family : Family) (n : ℕ) → f family n ≡ g family n
+    each V4 n = ap (λ h. h n) four
+    each V6 n = ap (λ h. h n) six
+
+pub none-having : (four six : HoldersValue) → claims_at four ≡ (λ n. []) → claims_at six ≡ (λ n. []) → claims_having (both four six) ≡ (λ a. [])
+none-having four six in_four in_six = λ i a. by-family (λ family. claims_at (of_family (both four six) family)) (λ family n. []) in_four in_six a i
+
+pub same-having : (four six new_four new_six : HoldersValue) → claims_at new_four ≡ claims_at four → claims_at new_six ≡ claims_at six
+    → claims_having (both new_four new_six) ≡ claims_having (both four six)
+same-having four six new_four new_six in_four in_six =
+    λ i a. by-family (λ family. claims_at (of_family (both new_four new_six) family)) (λ family. claims_at (of_family (both four six) family)) in_four in_six a i
+
+pub same-room : (four six new_four new_six : HoldersValue) → claim_room_at new_four ≡ claim_room_at four → claim_room_at new_six ≡ claim_room_at six
+    → claim_room (both new_four new_six) ≡ claim_room (both four six)
+same-room four six new_four new_six in_four in_six =
+    λ i a. by-family (λ family. claim_room_at (of_family (both new_four new_six) family)) (λ family. claim_room_at (of_family (both four six) family)) in_four in_six a i
+
+pub same-known : (four six new_four new_six : HoldersValue) → is_known_at new_four ≡ is_known_at four → is_known_at new_six ≡ is_known_at six
+    → is_known (both new_four new_six) ≡ is_known (both four six)
+same-known four six new_four new_six in_four in_six =
+    λ i k a. by-family (λ family. is_known_at (of_family (both new_four new_six) family) k) (λ family. is_known_at (of_family (both four six) family) k) (ap (λ f. f k) in_four) (ap (λ f. f k) in_six) a i
+
+-- the list of one address was changed
+abbrev changed_at : (List ℕ → List ℕ) → Family → ℕ → AddressHoldersValue → Family → ℕ → List ℕ
+changed_at change family number h f n = cond (same_family family f && (number == n)) (change (claims_at (of_family h f) n)) (claims_at (of_family h f) n)
+
+pub changed-v4 : (change : List ℕ → List ℕ) (four six new : HoldersValue) (family : Family) (number : ℕ) → family ≡ V4
+    → claims_at new ≡ (λ n. cond (number == n) (change (claims_at four n)) (claims_at four n))
+    → claims_having (both new six) ≡ (λ a. changed_at change family number (both four six) a.family a.number)
+changed-v4 change four six new family number is listed =
+    subst (λ (f : Family). claims_having (both new six) ≡ (λ a. changed_at change f number (both four six) a.family a.number)) (sym is)
+    (λ i a. by-family (λ f. claims_at (of_family (both new six) f)) (changed_at change V4 number (both four six)) listed refl a i)
+
+pub changed-v6 : (change : List ℕ → List ℕ) (four six new : HoldersValue) (family : Family) (number : ℕ) → family ≡ V6
+    → claims_at new ≡ (λ n. cond (number == n) (change (claims_at six n)) (claims_at six n))
+    → claims_having (both four new) ≡ (λ a. changed_at change family number (both four six) a.family a.number)
+changed-v6 change four six new family number is listed =
+    subst (λ (f : Family). claims_having (both four new) ≡ (λ a. changed_at change f number (both four six) a.family a.number)) (sym is)
+    (λ i a. by-family (λ f. claims_at (of_family (both four new) f)) (changed_at change V6 number (both four six)) refl listed a i)
+
+-- whether one address is known by one key was changed
+abbrev known_at : (Bool → Bool → Bool) → List ℕ → Family → ℕ → AddressHoldersValue → List ℕ → Family → ℕ → Bool
+known_at change key family number h k f n = change (bytes_eq key k && (same_family family f && (number == n))) (is_known_at (of_family h f) k n)
+
+other_family : (change : Bool → Bool → Bool) (b x : Bool) → change false x ≡ x → x ≡ change (b && false) x
+other_family change true x is = sym is
+other_family change false x is = sym is
+
+module _ (change : Bool → Bool → Bool) (keeps : (x : Bool) → change false x ≡ x) (four six new : HoldersValue) (key : List ℕ) (family : Family) (number : ℕ) where
+  pub known-v4 : family ≡ V4 → is_known_at new ≡ (λ k n. change (bytes_eq key k && (n == number)) (is_known_at four k n))
+      → is_known (both new six) ≡ (λ k a. known_at change key family number (both four six) k a.family a.number)
+  known-v4 is known =
+      subst (λ (f : Family). is_known (both new six) ≡ (λ k a. known_at change key f number (both four six) k a.family a.number)) (sym is)
+      (λ i k a. by-family (λ f. is_known_at (of_family (both new six) f) k) (known_at change key V4 number (both four six) k)
+      (ap (λ f. f k) known ∙ (λ j n. change (bytes_eq key k && sym (number-flip number n) j) (is_known_at four k n)))
+      (λ j n. other_family change (bytes_eq key k) (is_known_at six k n) (keeps (is_known_at six k n)) j) a i)
+
+  pub known-v6 : family ≡ V6 → is_known_at new ≡ (λ k n. change (bytes_eq key k && (n == number)) (is_known_at six k n))
+      → is_known (both four new) ≡ (λ k a. known_at change key family number (both four six) k a.family a.number)
+  known-v6 is known =
+      subst (λ (f : Family). is_known (both four new) ≡ (λ k a. known_at change key f number (both four six) k a.family a.number)) (sym is)
+      (λ i k a. by-family (λ f. is_known_at (of_family (both four new) f) k) (known_at change key V6 number (both four six) k)
+      (λ j n. other_family change (bytes_eq key k) (is_known_at four k n) (keeps (is_known_at four k n)) j)
+      (ap (λ f. f k) known ∙ (λ j n. change (bytes_eq key k && sym (number-flip number n) j) (is_known_at six k n))) a i)

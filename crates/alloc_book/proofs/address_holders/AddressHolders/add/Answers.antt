@@ -1,0 +1,19 @@
+use Rattle.std.proofs.Common.{◌∷◌, ◌++◌, [], refl}
+use Rattle.alloc_book.proofs.HolderLaws.{changed-v4, changed-v6, same-known}
+use Rattle.alloc_book.proofs.address_holders.AddressHolders.add.Goals as goal
+
+pub returns-in-V4-clause-numbers : goal.returns-in-V4-clause-numbers
+returns-in-V4-clause-numbers c =
+    rw (← c.self.view_is, ← c.address.view_is)
+    (changed-v4 (λ ns. ns ++ c.args.claim ∷ []) c.self.inside.v4 c.self.inside.v6 c.add.new.self c.address.inside.family c.address.inside.number c.in-V4.is c.add.ensures.numbers)
+
+pub returns-in-V6-clause-numbers : goal.returns-in-V6-clause-numbers
+returns-in-V6-clause-numbers c =
+    rw (← c.self.view_is, ← c.address.view_is)
+    (changed-v6 (λ ns. ns ++ c.args.claim ∷ []) c.self.inside.v4 c.self.inside.v6 c.add-in-V6.new.self c.address.inside.family c.address.inside.number c.in-V6.is c.add-in-V6.ensures.numbers)
+
+pub returns-in-V4-clause-shared : goal.returns-in-V4-clause-shared
+returns-in-V4-clause-shared c = rw (← c.self.view_is) (same-known c.self.inside.v4 c.self.inside.v6 c.add.new.self c.self.inside.v6 c.add.ensures.shared refl)
+
+pub returns-in-V6-clause-shared : goal.returns-in-V6-clause-shared
+returns-in-V6-clause-shared c = rw (← c.self.view_is) (same-known c.self.inside.v4 c.self.inside.v6 c.self.inside.v4 c.add-in-V6.new.self refl c.add-in-V6.ensures.shared)

@@ -1,5 +1,5 @@
 -- Claims leave the numbered claims: the other claims of a key, all of a key, or those of keys that a list doesn't show.
-use Rattle.std.proofs.Common.{◌≡◌, ℕ, ◌+◌, ◌<◌, ◌≤◌, ◌==◌, Bool, true, false, cond, not, ◌&&◌, ◌||◌, List, [], ◌∷◌, ◌++◌, filter, length, Option, Some, None, is_some, refl, sym, ap, ◌∙◌, subst, arith, All, nat_lt, ⊎_elim, Less, append-nil}
+use Rattle.std.proofs.Common.{◌≡◌, ℕ, ◌+◌, ◌-◌, ◌<◌, ◌≤◌, ◌==◌, Bool, true, false, cond, not, ◌&&◌, ◌||◌, List, [], ◌∷◌, ◌++◌, filter, length, Option, Some, None, is_some, refl, sym, ap, ◌∙◌, subst, arith, All, nat_lt, ⊎_elim, Less, append-nil}
 use Rattle.std.specs.Ordering.{nat_cmp}
 use Rattle.std.specs.Option.{option_map, option_and_then}
 use Rattle.std.specs.List.{AllByRecursion, Contains, find, list_any, slice_get}
@@ -397,6 +397,16 @@ module _ {X : Type 0} where
   neither : (T S : X → Bool) (xs : List X) → find T xs ≡ None → find (λ x. T x && S x) xs ≡ None
   neither T S [] e = refl
   neither T S (y ∷ ys) e = let none = none-by (T y) y (find T ys) e in rw none.0 (neither T S ys none.1)
+
+-- the first from a number on isn't below it
+pub first-passed : (items : List (ℕ × ClaimValue)) (next : ℕ) (q : ℕ × ClaimValue) → find (λ p. not (nat_lt p.0 next)) items ≡ Some q → next ≤ q.0
+first-passed items next q e = passed (find-found (λ (p : ℕ × ClaimValue). not (nat_lt p.0 next)) items q e).1
+  where
+    passed : not (nat_lt q.0 next) ≡ true → next ≤ q.0
+    passed e = grind (arith, nat_tests)
+
+pub falls-below : (limit next n : ℕ) → next ≤ n → n + 1 < limit → limit - (n + 1) < limit - next
+falls-below limit next n from within = omega arith
 
 module _ (lists : Key → Bool) where
   -- the claim's number is this one or a greater one, and its key isn't listed

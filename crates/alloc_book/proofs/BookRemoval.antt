@@ -15,7 +15,7 @@ use Rattle.kube_model.specs.Records.{is_assigned}
 use Rattle.kube_model.proofs.KeyLaws.{same_key-is, same_key-itself}
 use Rattle.mlb_base.proofs.Among.{contains-none, contains-cons, contains-first, contains-later}
 use Rattle.pool_choice.proofs.Filters.{filter-contains, filter-keeps}
-use Rattle.alloc_book.specs.Claims.{ClaimValue, others, settled, claims_it, doubted}
+use Rattle.alloc_book.specs.Claims.{ClaimValue, others, settled}
 use Rattle.alloc_book.specs.Index.{numbers_of, first_but, first_other}
 
 -- ---- filters and searches along a list
@@ -204,10 +204,6 @@ module _ {X : Type 0} where
       values-by true e kept rest ih = ap (λ (l : List X). e.1 ∷ l) ih
       values-by false e kept rest ih = ih
 
-  pub values-append : (items : List (ℕ × X)) (n : ℕ) (x : X) → values_of (items ++ (n, x) ∷ []) ≡ values_of items ++ x ∷ []
-  values-append [] n x = refl
-  values-append (e ∷ items) n x = ap (λ (l : List X). e.1 ∷ l) (values-append items n x)
-
   lookup-pushed : (items : List (ℕ × X)) (n : ℕ) (x : X) → AllByRecursion (λ p. p.0 < n) items → lookup (λ k. k == n) (items ++ (n, x) ∷ []) ≡ Some x
   lookup-pushed [] n x fresh = rw (number-itself n n refl) refl
   lookup-pushed (e ∷ items) n x fresh = rw (number-apart e.0 n fresh.0) (lookup-pushed items n x fresh.1)
@@ -369,19 +365,6 @@ settled-assigned items more thinned n c assigned all e each =
 pub settled-unassigned : (items left : List (ℕ × ClaimValue)) (key : Key) (r : Record) → is_assigned r ≡ false → left ≡ filter (λ p. not (same_key p.1.key key)) items
     → values_of left ≡ settled key r (values_of items)
 settled-unassigned items left key r unassigned e = rw unassigned (others-values key items left e ∙ sym (append-nil (others key (values_of items))))
-
--- ---- a claim of a key may come too
-pub doubted-there : (claims : List ClaimValue) (key : Key) (r : Record) → (not (claims_it key r claims) && is_assigned r) ≡ false → claims ≡ doubted key r claims
-doubted-there claims key r e = doubted-by (claims_it key r claims) (is_assigned r) claims key r e
-  where
-    doubted-by : (b a : Bool) (claims : List ClaimValue) (key : Key) (r : Record) → (not b && a) ≡ false → claims ≡ cond b claims (claims ++ cond a (record { key = key; holding = r } ∷ []) [])
-    doubted-by true a claims key r e = refl
-    doubted-by false true claims key r e = absurd (true≢false e)
-    doubted-by false false claims key r e = sym (append-nil claims)
-
-pub doubted-added : (items more : List (ℕ × ClaimValue)) (n : ℕ) (c : ClaimValue) → claims_it c.key c.holding (values_of items) ≡ false → is_assigned c.holding ≡ true → more ≡ items ++ (n, c) ∷ []
-    → values_of more ≡ doubted c.key c.holding (values_of items)
-doubted-added items more n c new assigned e = rw (new, assigned) (ap (λ (l : List (ℕ × ClaimValue)). values_of l) e ∙ values-append items n c)
 
 -- ---- claims of keys that a list doesn't show
 module _ {X : Type 0} where

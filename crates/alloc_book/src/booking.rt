@@ -1,8 +1,10 @@
 //! The book of claims.
 ghost use Rattle.std.specs.Prelude.{◌≡◌, ◌↔◌, ◌==◌, ◌&&◌, ◌||◌, nat_lt, find, [], not, filter, Some, IsTrue, IfOk, IfSome, IfNone, OnOk, OnErr};
 ghost use Rattle.std.specs.List.{list_any};
-ghost use Rattle.std.specs.Map.{lookup, values_of};
+ghost use Rattle.std.specs.List.Sorted.{IsStrictlySortedBy};
+ghost use Rattle.std.specs.Map.{lookup, keys_of, values_of};
 ghost use Rattle.std.specs.Option.{option_copied, option_map};
+ghost use Rattle.std.specs.Ordering.{nat_cmp};
 ghost use Rattle.kube_model.specs.Keys.{same_key};
 ghost use Rattle.ip_ranges.specs.Values.{AddressValue};
 ghost use Rattle.kube_model.specs.declared.record.Record.{Record};
@@ -68,8 +70,9 @@ fn loss_of(is_lost: bool) -> Loss
 
 /// The key of the claim has this claim alone. It takes no memory.
 fn remove_others(index: &mut ClaimIndex, number: u64)
-    ensures { (c : ClaimValue) → lookup (λ n. n == number) index.old.items ≡ Some c
+    ensures items { (c : ClaimValue) → lookup (λ n. n == number) index.old.items ≡ Some c
         → index.new.items ≡ filter (λ p. not (same_key p.1.key c.key) || (p.0 == number)) index.old.items }
+    ensures ascending { IsStrictlySortedBy nat_cmp (keys_of index.old.items) }
 {
     while let Some(other) = index.first_other(number) {
         index.remove(other);
@@ -80,15 +83,18 @@ fn remove_others(index: &mut ClaimIndex, number: u64)
 fn remove_all(index: &mut ClaimIndex, key: &Key)
     ensures { index.new.items ≡ filter (λ p. not (same_key p.1.key key.now)) index.old.items }
 {
-    while let Some(number) = index.numbers_of(key).first() {
-        let number = *number;
-        index.remove(number);
-    }
+    let Some(number) = index.numbers_of(key).first() else {
+        return;
+    };
+    let number = *number;
+    remove_others(index, number);
+    index.remove(number);
 }
 
 /// The first claim from this number on whose key the list doesn't show.
 fn first_unlisted<L: Listing>(index: &ClaimIndex, listing: &L, from: u64) -> Option<u64>
-    ensures { result ≡ option_map (λ p. p.0) (find (λ p. not (nat_lt p.0 from) && not (L.lists listing.now p.1.key)) index.now.items) }
+    ensures first { result ≡ option_map (λ p. p.0) (find (λ p. not (nat_lt p.0 from) && not (L.lists listing.now p.1.key)) index.now.items) }
+    ensures ascending { IsStrictlySortedBy nat_cmp (keys_of index.now.items) }
 {
     let mut next = from;
     while let Some((number, claim)) = index.first_from(next) {

@@ -126,7 +126,8 @@ impl ClaimIndex {
 
     /// The first number of another claim of the same key.
     pub(crate) fn first_other(&self, number: u64) -> Option<u64>
-        ensures { result ≡ first_other number self.now.items }
+        ensures other { result ≡ first_other number self.now.items }
+        ensures ascending { IsStrictlySortedBy nat_cmp (keys_of self.now.items) }
     {
         let claim = self.claims.get(number)?;
         first_but(self.by_key.numbers(claim.key()), number)

@@ -1,0 +1,24 @@
+use Rattle.std.proofs.Common.{◌<◌, ℕ, List, length, sym, ◌∙◌, subst}
+use Rattle.alloc_book.specs.Claims.{ClaimValue}
+use Rattle.alloc_book.proofs.BookRemoval.{IsThinned, thinned-start, thinned-step, thinned-smaller, thinned-end}
+use Rattle.alloc_book.proofs.booking.remove_others.Goals as goal
+
+pub loop-other-init : goal.loop-other-init
+loop-other-init c = thinned-start c.args.number c.args.index.now.items
+
+pub loop-other-smaller : goal.loop-other-smaller
+loop-other-smaller c =
+    subst (λ (items : List (ℕ × ClaimValue)). length items < length c.loop-other.index.items) (sym c.remove.ensures)
+    (thinned-smaller c.args.number c.in-Some.other c.loop-other.index.items (sym c.first_other.ensures.other ∙ c.in-Some.is))
+
+pub loop-other-preserved : goal.loop-other-preserved
+loop-other-preserved c =
+    subst (IsThinned c.args.number c.args.index.now.items) (sym c.remove.ensures)
+    (thinned-step c.args.number c.in-Some.other c.args.index.now.items c.loop-other.index.items c.first_other.ensures.ascending (sym c.first_other.ensures.other ∙ c.in-Some.is) c.loop-other.invariant)
+
+pub returns-clause-items : goal.returns-clause-items
+returns-clause-items c =
+    thinned-end c.args.number c.args.index.now.items c.loop-other.index.items (sym c.first_other.ensures.other ∙ c.in_default.is) c.loop-other.invariant
+
+pub returns-clause-ascending : goal.returns-clause-ascending
+returns-clause-ascending c = c.loop-other.invariant.ascending c.first_other.ensures.ascending

@@ -36,7 +36,8 @@ or-true false = refl
 or-swap : (x y z : Bool) → (x || (y || z)) ≡ ((y || x) || z)
 or-swap true true z = refl
 or-swap true false z = refl
-or-swap false y z = refl
+or-swap false true z = refl
+or-swap false false z = refl
 
 false-from : (b : Bool) → (b ≡ true → ⊥) → b ≡ false
 false-from true none = absurd (none refl)

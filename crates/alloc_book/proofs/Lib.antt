@@ -4,6 +4,7 @@ pub mod ChooseLaws
 pub mod ChosenLaws
 pub mod ClaimLaws
 pub mod HolderLaws
+pub mod IndexReading
 pub mod LeastLaws
 pub mod PendingLaws
 pub mod SearchLaws

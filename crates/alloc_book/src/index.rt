@@ -8,8 +8,9 @@ ghost use Rattle.std.specs.Ordering.{nat_cmp};
 ghost use Rattle.kube_model.specs.Records.{is_assigned};
 ghost use Rattle.alloc_book.specs.Book.{AreAssigned, HasRoomFor};
 ghost use Rattle.alloc_book.specs.Claims.{ClaimValue, loses, claims_it, has_claims};
-ghost use Rattle.alloc_book.specs.Index.{numbers_of, numbers_at, first_other, is_held, NoneShared};
-ghost use Rattle.alloc_book.specs.Search.{address_of, leaves};
+ghost use Rattle.alloc_book.specs.Index.{numbers_of, numbers_at, first_but, first_other, is_held, NoneShared};
+ghost use Rattle.alloc_book.specs.Reading.{has_record, gives_way};
+ghost use Rattle.alloc_book.specs.Search.{address_of, shares_by, leaves};
 ghost use Rattle.number_sets.specs.Least.{IsLeastIn, NonePasses};
 
 use crate::address_holders::AddressHolders;
@@ -256,30 +257,35 @@ fn is_marked_with(claims: &NumberedList<Claim>, number: u64, key: &Text) -> bool
     }
 }
 
-fn first_but(numbers: &[u64], number: u64) -> Option<u64> {
-    for other in numbers {
-        if *other != number {
-            return Some(*other);
-        }
-    }
-    None
+fn first_but(numbers: &[u64], number: u64) -> Option<u64>
+    ensures { result ≡ first_but number numbers.now }
+{
+    numbers.iter().copied().find(|other| *other != number)
 }
 
-fn has_record(claims: &NumberedList<Claim>, number: u64, holding: &Record) -> bool {
+fn has_record(claims: &NumberedList<Claim>, number: u64, holding: &Record) -> bool
+    ensures value { result ≡ has_record holding.now (lookup (λ n. n == number) claims.now.items) }
+    ensures ascending { IsStrictlySortedBy nat_cmp (keys_of claims.now.items) }
+{
     match claims.get(number) {
         Some(claim) => claim.holding().is_same(holding),
         None => false,
     }
 }
 
-fn gives_way(claims: &NumberedList<Claim>, number: u64, key: &Key, terms: &Terms) -> bool {
+fn gives_way(claims: &NumberedList<Claim>, number: u64, key: &Key, terms: &Terms) -> bool
+    ensures value { result ≡ gives_way key.now terms.now (lookup (λ n. n == number) claims.now.items) }
+    ensures ascending { IsStrictlySortedBy nat_cmp (keys_of claims.now.items) }
+{
     let Some(claim) = claims.get(number) else {
         return true;
     };
     claim.key() == key || shares(terms, claim.terms())
 }
 
-fn shares(terms: &Terms, held: Option<&Terms>) -> bool {
+fn shares(terms: &Terms, held: Option<&Terms>) -> bool
+    ensures { result ≡ shares_by terms.now (option_copied held.entry) }
+{
     match held {
         None => false,
         Some(held) => may_share(terms, held),

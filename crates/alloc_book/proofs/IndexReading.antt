@@ -1,0 +1,217 @@
+-- What the claims under the numbers of a key or of an address say of all claims.
+use Rattle.std.proofs.Common.{◌≡◌, ℕ, ◌+◌, ◌<◌, ◌≤◌, ◌==◌, Bool, true, false, cond, not, ◌&&◌, ◌||◌, List, [], ◌∷◌, ◌++◌, map, filter, length, Option, Some, None, Less, IfSome, IfNone, refl, sym, ap, ◌∙◌, subst, arith}
+use Rattle.std.specs.Bool.{MatchBool}
+use Rattle.std.specs.List.{AllByRecursion, AllWithin, HoldsAt, list_any, list_all}
+use Rattle.std.specs.List.Sorted.{IsStrictlySortedBy}
+use Rattle.std.specs.Map.{lookup, keys_of, values_of}
+use Rattle.std.specs.Ordering.{nat_cmp}
+use Rattle.std.proofs.lemmas.Bool.Decides.{nat_tests}
+use Rattle.std.proofs.lemmas.Bool.{true≢false}
+use Rattle.ip_ranges.specs.declared.family.Family.{Family}
+use Rattle.ip_ranges.specs.Values.{AddressValue, has_address, same_address}
+use Rattle.kube_model.specs.declared.key.Key.{Key}
+use Rattle.kube_model.specs.declared.record.Record.{Record}
+use Rattle.kube_model.specs.Keys.{same_key}
+use Rattle.mlb_base.specs.Items.{is_nil}
+use Rattle.number_sets.specs.Least.{IsLeastIn, NonePasses}
+use Rattle.sharing_terms.specs.declared.terms.Terms.{Terms}
+use Rattle.sharing_terms.specs.Spelled.{recorded_terms}
+use Rattle.alloc_book.specs.Claims.{ClaimValue, has_claims, loses, claims_it}
+use Rattle.alloc_book.specs.Holders.{AddressHoldersValue, claims_having, is_known}
+use Rattle.alloc_book.specs.Index.{numbers_of, numbers_at, numbered_at, is_held, is_shared, AreShared, NoneShared}
+use Rattle.alloc_book.specs.Reading.{has_record, gives_way}
+use Rattle.alloc_book.specs.Search.{address_of, shares_by, leaves}
+
+-- ---- numbers and tests
+below-apart : (n m : ℕ) → nat_cmp n m ≡ Less → (n == m) ≡ false
+below-apart n m less = grind (arith, nat_tests)
+
+itself : (n : ℕ) → (n == n) ≡ true
+itself n = grind (arith, nat_tests)
+
+or-true : (b : Bool) → (b || true) ≡ true
+or-true true = refl
+or-true false = refl
+
+or-swap : (x y z : Bool) → (x || (y || z)) ≡ ((y || x) || z)
+or-swap true true z = refl
+or-swap true false z = refl
+or-swap false true z = refl
+or-swap false false z = refl
+
+false-from : (b : Bool) → (b ≡ true → ⊥) → b ≡ false
+false-from true none = absurd (none refl)
+false-from false none = refl
+
+-- ---- where something was asked of some number
+module _ (P : Type 0) where
+  first-asked : (xs : List ℕ) → AllWithin (λ _. P) xs 0 (length xs) → is_nil xs ≡ false → P
+  first-asked [] all some = absurd (cc)
+  first-asked (x ∷ xs) all some = all 0 0 (omega arith) (omega arith)
+
+  pub asked-any : (r : Bool) (xs : List ℕ) → MatchBool r ((k : ℕ) × (k < length xs) × HoldsAt (λ _. P) xs k) (AllWithin (λ _. P) xs 0 (length xs)) → is_nil xs ≡ false → P
+  asked-any true xs found some = found.2 0
+  asked-any false xs found some = first-asked xs found some
+
+  pub asked-all : (r : Bool) (xs : List ℕ) → MatchBool r (AllWithin (λ _. P) xs 0 (length xs)) ((k : ℕ) × (k < length xs) × HoldsAt (λ _. P) xs k) → is_nil xs ≡ false → P
+  asked-all true xs found some = first-asked xs found some
+  asked-all false xs found some = found.2 0
+
+-- ---- numbers stand where claims do
+nil-of-by : (b : Bool) (p : ℕ × ClaimValue) (kept : List (ℕ × ClaimValue)) (h : Bool) → is_nil (keys_of kept) ≡ not h → is_nil (keys_of (cond b (p ∷ kept) kept)) ≡ not (b || h)
+nil-of-by true p kept h ih = refl
+nil-of-by false p kept h ih = ih
+
+pub nil-of : (key : Key) (items : List (ℕ × ClaimValue)) → is_nil (numbers_of key items) ≡ not (has_claims key (values_of items))
+nil-of key [] = refl
+nil-of key (p ∷ items) = nil-of-by (same_key p.1.key key) p (filter (λ p. same_key p.1.key key) items) (has_claims key (values_of items)) (nil-of key items)
+
+module _ (a : AddressValue) where
+  nil-each-by : (s : Bool) (n : ℕ) (b : AddressValue) (kept : List AddressValue) (rest : List ℕ) (h : Bool) → is_nil (map (λ _. n) kept ++ rest) ≡ not h
+      → is_nil (map (λ _. n) (cond s (b ∷ kept) kept) ++ rest) ≡ not (s || h)
+  nil-each-by true n b kept rest h ih = refl
+  nil-each-by false n b kept rest h ih = ih
+
+  or-behind : (x y z : Bool) → not (x || (y || z)) ≡ not ((x || y) || z)
+  or-behind true y z = refl
+  or-behind false y z = refl
+
+  nil-each : (n : ℕ) (addresses : List AddressValue) (rest : List ℕ) (h : Bool) → is_nil rest ≡ not h → is_nil (map (λ _. n) (filter (same_address a) addresses) ++ rest) ≡ not (has_address addresses a || h)
+  nil-each n [] rest h ih = ih
+  nil-each n (b ∷ addresses) rest h ih =
+      nil-each-by (same_address a b) n b (filter (same_address a) addresses) rest (has_address addresses a || h) (nil-each n addresses rest h ih)
+      ∙ or-behind (same_address a b) (has_address addresses a) h
+
+  pub nil-at : (items : List (ℕ × ClaimValue)) → is_nil (numbers_at a items) ≡ not (is_held (values_of items) a)
+  nil-at [] = refl
+  nil-at (p ∷ items) = nil-each p.0 p.1.holding.addresses (numbers_at a items) (is_held (values_of items) a) (nil-at items)
+
+-- ---- what is found under the numbers
+abbrev pub under : List (ℕ × ClaimValue) → ℕ → Option ClaimValue
+under items n = lookup (λ m. m == n) items
+
+-- under the number of each claim that passes is found that claim
+abbrev pub AreFound : (ClaimValue → Bool) → (ℕ → Option ClaimValue) → List (ℕ × ClaimValue) → Type 0
+AreFound passes find items = AllByRecursion (λ p. passes p.1 ≡ true → find p.0 ≡ Some p.1) items
+
+module _ (passes : ClaimValue → Bool) where
+  found-behind : (n : ℕ) (c : ClaimValue) (items rest : List (ℕ × ClaimValue)) → AllByRecursion (λ m. nat_cmp n m ≡ Less) (keys_of rest) → AreFound passes (under items) rest → AreFound passes (under ((n, c) ∷ items)) rest
+  found-behind n c items [] above found = tt
+  found-behind n c items (p ∷ rest) above found = (λ e. rw (below-apart n p.0 above.0) (found.0 e), found-behind n c items rest above.1 found.1)
+
+  found-sorted : (items : List (ℕ × ClaimValue)) → IsStrictlySortedBy nat_cmp (keys_of items) → AreFound passes (under items) items
+  unfolding IsStrictlySortedBy
+  found-sorted [] sorted = tt
+  found-sorted (p ∷ rest) sorted = (λ e. rw (itself p.0) refl, found-behind p.0 p.1 rest rest sorted.0 (found-sorted rest sorted.1))
+
+  found-none-by : (b : Bool) (h : Bool) → (b || h) ≡ false → (b ≡ false) × (h ≡ false)
+  found-none-by true h e = absurd (true≢false e)
+  found-none-by false h e = (refl, e)
+
+  found-none : (find : ℕ → Option ClaimValue) (items : List (ℕ × ClaimValue)) → list_any passes (values_of items) ≡ false → AreFound passes find items
+  found-none find [] none = tt
+  found-none find (p ∷ items) none =
+      let parts = found-none-by (passes p.1) (list_any passes (values_of items)) none in
+      (λ e. absurd (true≢false (sym e ∙ parts.0)), found-none find items parts.1)
+
+  found-by : (b : Bool) (items : List (ℕ × ClaimValue)) → list_any passes (values_of items) ≡ b → (not b ≡ false → IsStrictlySortedBy nat_cmp (keys_of items)) → AreFound passes (under items) items
+  found-by true items is sorted = found-sorted items (sorted refl)
+  found-by false items is sorted = found-none (under items) items is
+
+  -- the numbers ascend where some is asked of
+  found : (numbers : List ℕ) (items : List (ℕ × ClaimValue)) → is_nil numbers ≡ not (list_any passes (values_of items)) → (is_nil numbers ≡ false → IsStrictlySortedBy nat_cmp (keys_of items)) → AreFound passes (under items) items
+  found numbers items nil sorted = found-by (list_any passes (values_of items)) items refl (λ e. sorted (nil ∙ e))
+
+-- ---- a test over the numbers
+module _ (find : ℕ → Option ClaimValue) (test : Option ClaimValue → Bool) where
+  any-of-by : (b : Bool) (p : ℕ × ClaimValue) (kept : List (ℕ × ClaimValue)) (rest : Bool) → (b ≡ true → find p.0 ≡ Some p.1) → list_any (λ n. test (find n)) (keys_of kept) ≡ rest
+      → list_any (λ n. test (find n)) (keys_of (cond b (p ∷ kept) kept)) ≡ ((b && test (Some p.1)) || rest)
+  any-of-by true p kept rest is ih = rw (is refl, ih) refl
+  any-of-by false p kept rest is ih = ih
+
+  any-of : (key : Key) (items : List (ℕ × ClaimValue)) → AreFound (λ c. same_key c.key key) find items
+      → list_any (λ n. test (find n)) (numbers_of key items) ≡ list_any (λ c. same_key c.key key && test (Some c)) (values_of items)
+  any-of key [] found = refl
+  any-of key (p ∷ items) found =
+      any-of-by (same_key p.1.key key) p (filter (λ p. same_key p.1.key key) items) (list_any (λ c. same_key c.key key && test (Some c)) (values_of items)) found.0 (any-of key items found.1)
+
+  module _ (a : AddressValue) where
+    all-each-by : (s t h : Bool) (n : ℕ) (b : AddressValue) (kept : List AddressValue) (rest : List ℕ) → (s ≡ true → test (find n) ≡ t)
+        → list_all (λ n. test (find n)) (map (λ _. n) kept ++ rest) ≡ ((not h || t) && list_all (λ n. test (find n)) rest)
+        → list_all (λ n. test (find n)) (map (λ _. n) (cond s (b ∷ kept) kept) ++ rest) ≡ ((not (s || h) || t) && list_all (λ n. test (find n)) rest)
+    all-each-by false t h n b kept rest is ih = ih
+    all-each-by true true h n b kept rest is ih = rw (is refl) (ih ∙ ap (λ x. x && list_all (λ n. test (find n)) rest) (or-true (not h)))
+    all-each-by true false h n b kept rest is ih = rw (is refl) refl
+
+    all-each : (n : ℕ) (c : ClaimValue) (addresses : List AddressValue) (rest : List ℕ) → (has_address addresses a ≡ true → find n ≡ Some c)
+        → list_all (λ n. test (find n)) (map (λ _. n) (filter (same_address a) addresses) ++ rest) ≡ ((not (has_address addresses a) || test (Some c)) && list_all (λ n. test (find n)) rest)
+    all-each n c [] rest is = refl
+    all-each n c (b ∷ addresses) rest is =
+        all-each-by (same_address a b) (test (Some c)) (has_address addresses a) n b (filter (same_address a) addresses) rest
+        (λ e. ap test (is (ap (λ x. x || has_address addresses a) e)))
+        (all-each n c addresses rest (λ e. is (ap (λ x. same_address a b || x) e ∙ or-true (same_address a b))))
+
+    all-at : (items : List (ℕ × ClaimValue)) → AreFound (λ c. has_address c.holding.addresses a) find items
+        → list_all (λ n. test (find n)) (numbers_at a items) ≡ list_all (λ c. not (has_address c.holding.addresses a) || test (Some c)) (values_of items)
+    all-at [] found = refl
+    all-at (p ∷ items) found =
+        all-each p.0 p.1 p.1.holding.addresses (numbers_at a items) found.0
+        ∙ ap (λ x. (not (has_address p.1.holding.addresses a) || test (Some p.1)) && x) (all-at items found.1)
+
+-- ---- what is asked of the claims of a key, and of those that have an address
+module _ (items : List (ℕ × ClaimValue)) (numbers : List ℕ) (sorted : is_nil numbers ≡ false → IsStrictlySortedBy nat_cmp (keys_of items)) where
+  module _ (key : Key) (are : numbers ≡ numbers_of key items) where
+    pub any-is : (test : Option ClaimValue → Bool) → list_any (λ n. test (under items n)) numbers ≡ list_any (λ c. same_key c.key key && test (Some c)) (values_of items)
+    any-is test =
+        ap (list_any (λ n. test (under items n))) are
+        ∙ any-of (under items) test key items (found (λ c. same_key c.key key) numbers items (ap is_nil are ∙ nil-of key items) sorted)
+
+    pub loses-is : (holding : Record) → list_any (λ n. not (has_record holding (under items n))) numbers ≡ loses key holding (values_of items)
+    loses-is holding = any-is (λ o. not (has_record holding o))
+
+    pub claims_it-is : (holding : Record) → list_any (λ n. has_record holding (under items n)) numbers ≡ claims_it key holding (values_of items)
+    claims_it-is holding = any-is (has_record holding)
+
+  pub all_leave-is : (a : AddressValue) (key : Key) (terms : Terms) → numbers ≡ numbers_at a items → list_all (λ n. gives_way key terms (under items n)) numbers ≡ list_all (leaves key terms a) (values_of items)
+  all_leave-is a key terms are =
+      ap (list_all (λ n. gives_way key terms (under items n))) are
+      ∙ all-at (under items) (gives_way key terms) a items (found (λ c. has_address c.holding.addresses a) numbers items (ap is_nil are ∙ nil-at a items) sorted)
+      ∙ leaves-each (values_of items)
+    where
+      leaves-each : (claims : List ClaimValue) → list_all (λ c. not (has_address c.holding.addresses a) || gives_way key terms (Some c)) claims ≡ list_all (leaves key terms a) claims
+      leaves-each [] = refl
+      leaves-each (c ∷ claims) =
+          ap (λ x. x && list_all (λ c. not (has_address c.holding.addresses a) || gives_way key terms (Some c)) claims) (or-swap (not (has_address c.holding.addresses a)) (same_key c.key key) (shares_by terms (recorded_terms c.holding.mark)))
+          ∙ ap (λ x. leaves key terms a c && x) (leaves-each claims)
+
+-- ---- addresses that aren't known by a sharing key have no claim under it
+module _ (h : AddressHoldersValue) (claims : List ClaimValue) (shared : AreShared h claims) (family : Family) (key : List ℕ) where
+  pub unshared-at : (n : ℕ) → is_known h key (address_of family n) ≡ false → is_shared key claims (address_of family n) ≡ false
+  unshared-at n unknown = false-from (is_shared key claims (address_of family n)) (λ e. true≢false (sym (shared key (address_of family n) e) ∙ unknown))
+
+  pub first_shared-some : (found : Option ℕ) (low high : ℕ) → IfSome found (λ n. IsLeastIn (λ m. is_known h key (address_of family m)) low high n)
+      → IfSome found (λ n. (low ≤ n) × (n ≤ high) × NoneShared family key claims low n)
+  first_shared-some None low high least = tt
+  first_shared-some (Some n) low high least = (least.0, least.1, λ m from below. unshared-at m (least.3 m from below))
+
+  pub first_shared-none : (found : Option ℕ) (low high : ℕ) → IfNone found (NonePasses (λ m. is_known h key (address_of family m)) low high)
+      → IfNone found (NoneShared family key claims low (high + 1))
+  first_shared-none None low high none = λ m from below. unshared-at m (none m from (omega (arith, below)))
+  first_shared-none (Some n) low high none = tt
+
+-- ---- a key has a claim where it has a number
+not-not : (b : Bool) → not (not b) ≡ b
+not-not true = refl
+not-not false = refl
+
+empty-is : (xs : List ℕ) → (length xs == 0) ≡ is_nil xs
+empty-is [] = refl
+empty-is (x ∷ xs) = grind (arith, nat_tests)
+
+pub has_claims-is : (key : Key) (items : List (ℕ × ClaimValue)) (numbers : List ℕ) → numbers ≡ numbers_of key items → not (length numbers == 0) ≡ has_claims key (values_of items)
+has_claims-is key items numbers are = ap not (empty-is numbers ∙ ap is_nil are ∙ nil-of key items) ∙ not-not (has_claims key (values_of items))
+
+-- ---- an address has no claim where it has no number
+pub unheld-is : (items : List (ℕ × ClaimValue)) (h : AddressHoldersValue) → claims_having h ≡ (λ a. numbers_at a items) → (family : Family)
+    → ◌≡◌ {A = ℕ → Bool} (λ m. is_nil (claims_having h (address_of family m))) (λ m. not (is_held (values_of items) (address_of family m)))
+unheld-is items h are family = λ i m. (ap (λ (f : AddressValue → List ℕ). is_nil (f (address_of family m))) are ∙ nil-at (address_of family m) items) i

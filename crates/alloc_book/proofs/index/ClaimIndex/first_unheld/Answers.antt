@@ -1,0 +1,20 @@
+use Rattle.std.proofs.Common.{◌≡◌, List, ℕ, Bool, not, refl, ap, ◌∙◌, IfSome, IfNone, subst}
+use Rattle.std.specs.Map.{values_of}
+use Rattle.ip_ranges.specs.Values.{AddressValue}
+use Rattle.mlb_base.specs.Items.{is_nil}
+use Rattle.number_sets.specs.Least.{IsLeastIn, NonePasses}
+use Rattle.alloc_book.specs.Holders.{claims_having}
+use Rattle.alloc_book.specs.Index.{is_held}
+use Rattle.alloc_book.specs.Search.{address_of}
+use Rattle.alloc_book.proofs.IndexReading.{unheld-is}
+use Rattle.alloc_book.proofs.index.ClaimIndex.first_unheld.Goals as goal
+
+pub returns-clause-some : goal.returns-clause-some
+returns-clause-some c =
+    rw (← c.self.view_is)
+    (subst (λ (test : ℕ → Bool). IfSome c.first_unheld.result (λ n. IsLeastIn test c.args.low c.args.high n)) (unheld-is c.self.inside.claims.items c.self.inside.holders c.self.invariant.holders c.args.family) c.first_unheld.ensures.some)
+
+pub returns-clause-none : goal.returns-clause-none
+returns-clause-none c =
+    rw (← c.self.view_is)
+    (subst (λ (test : ℕ → Bool). IfNone c.first_unheld.result (NonePasses test c.args.low c.args.high)) (unheld-is c.self.inside.claims.items c.self.inside.holders c.self.invariant.holders c.args.family) c.first_unheld.ensures.none)

@@ -1,4 +1,5 @@
 pub mod BookLaws
+pub mod Candidates
 pub mod ChooseLaws
 pub mod ChosenLaws
 pub mod ClaimLaws

@@ -242,9 +242,12 @@ address-usable claims key terms pool family low high a e =
     let three = and_parts (same_family a.family family && leb low a.number && leb a.number high) (usable claims key terms pool a) e in
     let two = and_parts (same_family a.family family && leb low a.number) (leb a.number high) three.0 in
     let one = and_parts (same_family a.family family) (leb low a.number) two.0 in
-    let same : a.family ≡ family = same_family-is a.family family one.0 in
-    (leb-true low a.number one.1, leb-true a.number high two.1, numbered-is (usable claims key terms pool) family a same three.1,
-    λ m from below is. absurd (let n : a.number ≡ m = ap (λ (x : AddressValue). x.number) is in omega (arith, n, below)))
+    let same : a.family ≡ family = same_family-is a.family family one.0 in (
+      leb-true low a.number one.1,
+      leb-true a.number high two.1,
+      numbered-is (usable claims key terms pool) family a same three.1,
+      λ m from below is. absurd (let n : a.number ≡ m = ap (λ (x : AddressValue). x.number) is in omega (arith, n, below)),
+    )
 
 pub address-not_usable : (claims : List ClaimValue) (key : Key) (terms : Terms) (pool : CompiledPool) (family : Family) (low high : ℕ) (a : AddressValue)
     → (same_family a.family family && leb low a.number && leb a.number high && usable claims key terms pool a) ≡ false

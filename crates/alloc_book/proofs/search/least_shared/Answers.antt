@@ -24,8 +24,7 @@ loop-number-preserved c =
 pub returns-then-may_use : goal.returns-then-may_use
 returns-then-may_use c =
     let found = c.in-Some.ensures.some in
-    let none = subst (λ (claims : List ClaimValue). NoneShared c.args.family c.args.terms.now.key claims c.loop-number.from c.in-Some.number) c.index-index.ensures.claims found.2 in
-    (
+    let none = subst (λ (claims : List ClaimValue). NoneShared c.args.family c.args.terms.now.key claims c.loop-number.from c.in-Some.number) c.index-index.ensures.claims found.2 in (
       omega (arith, c.loop-number.invariant.begun, found.0),
       found.1,
       sym c.may_use.ensures ∙ c.if-may_use.true,

@@ -1,5 +1,6 @@
 pub mod BookLaws
 pub mod BookRemoval
+pub mod Candidates
 pub mod ChooseLaws
 pub mod ChosenLaws
 pub mod ClaimLaws

@@ -1,9 +1,9 @@
 //! The addresses that claims leave, and the least of them.
-ghost use Rattle.std.specs.Prelude.{◌≡◌, ◌↔◌, ◌&&◌, nat_le, IsTrue, IfOk, IfSome, IfNone, map, ◌+◌, ◌-◌};
+ghost use Rattle.std.specs.Prelude.{◌≡◌, ◌<◌, ◌^◌, ◌↔◌, ◌&&◌, nat_le, IsTrue, IfOk, IfSome, IfNone, map, ◌+◌, ◌-◌};
 ghost use Rattle.std.specs.Option.{option_map};
 ghost use Rattle.std.specs.List.{Contains};
 ghost use Rattle.std.specs.Map.{values_of};
-ghost use Rattle.ip_ranges.specs.Values.{AddressValue, has_address, is_buggy, same_family};
+ghost use Rattle.ip_ranges.specs.Values.{AddressValue, has_address, is_buggy, same_family, width_of};
 ghost use Rattle.sharing_terms.specs.declared.terms.Terms.{Terms};
 ghost use Rattle.sharing_terms.specs.Marks.{mark_of};
 ghost use Rattle.alloc_book.specs.Asking.{asking};
@@ -57,7 +57,9 @@ pub(crate) fn may_use(
 ) -> bool
     ensures { result ≡ usable book.now.claims key.now terms.now pool.now address.now }
 {
-    is_in(pool, address) && !is_avoided(pool, address) && book.index().all_leave(key, terms, address)
+    is_in(pool, address)
+        && !is_avoided(pool, address)
+        && book.index().all_leave(key, terms, address)
 }
 
 fn is_avoided(pool: &CompiledPool, address: &Address) -> bool
@@ -74,6 +76,7 @@ fn first_free(
     low: u128,
     high: u128,
 ) -> Option<u128>
+    requires { high < 2 ^ width_of family }
     ensures some { IfSome result (λ n. IsLeastIn (numbered (is_free (values_of index.now.items) pool.now) family) low high n) }
     ensures none { IfNone result (NonePasses (numbered (is_free (values_of index.now.items) pool.now) family) low high) }
 {
@@ -110,6 +113,29 @@ fn usable_number(
         && may_use(book, pool, key, terms, address)
 }
 
+/// The least number from low to high of one of the addresses that may be used.
+fn least_among(
+    book: &Book,
+    pool: &CompiledPool,
+    key: &Key,
+    terms: &Terms,
+    family: Family,
+    low: u128,
+    high: u128,
+    addresses: &[Address],
+) -> Option<u128>
+    ensures { Covers (numbered (has_address addresses.now) family) (numbered (usable book.now.claims key.now terms.now pool.now) family) low high result }
+{
+    let mut least = None;
+    for address in addresses {
+        let last = least.unwrap_or(high);
+        if usable_number(book, pool, key, terms, family, low, last, address) {
+            least = Some(address.number);
+        }
+    }
+    least
+}
+
 /// The least number from low to high of an address that the key has already and may use.
 fn least_own(
     book: &Book,
@@ -124,17 +150,13 @@ fn least_own(
 {
     let index = book.index();
     let mut least = None;
-    let mut last = high;
     for number in index.numbers_of(key) {
         let Some(claim) = index.claim(*number) else {
             continue;
         };
-        for address in claim.addresses() {
-            if usable_number(book, pool, key, terms, family, low, last, address) {
-                least = Some(address.number);
-                last = address.number;
-            }
-        }
+        let last = least.unwrap_or(high);
+        let lesser = least_among(book, pool, key, terms, family, low, last, claim.addresses());
+        least = lesser.or(least);
     }
     least
 }
@@ -149,6 +171,7 @@ fn least_shared(
     low: u128,
     high: u128,
 ) -> Option<u128>
+    requires { high < 2 ^ width_of family }
     ensures { Covers (numbered (is_shared terms.now.key book.now.claims) family) (numbered (usable book.now.claims key.now terms.now pool.now) family) low high result }
 {
     if terms.key.as_str().is_empty() {

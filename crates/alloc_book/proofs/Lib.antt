@@ -6,6 +6,7 @@ pub mod ChosenLaws
 pub mod ClaimLaws
 pub mod HolderLaws
 pub mod IndexReading
+pub mod IndexRemoval
 pub mod LeastLaws
 pub mod PendingLaws
 pub mod SearchLaws

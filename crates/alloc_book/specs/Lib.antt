@@ -10,5 +10,6 @@ pub mod Index
 pub mod Laws
 pub mod Least
 pub mod Reading
+pub mod Removal
 pub mod Search
 pub mod Usable

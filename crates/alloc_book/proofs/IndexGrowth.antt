@@ -92,17 +92,17 @@ pub known-more : (before after : List ℕ → AddressValue → Bool) (key : List
 known-more before after key x is k a known =
     ap (λ (f : List ℕ → AddressValue → Bool). f k a) is ∙ or_right (bytes_eq key k && same_address x a) (before k a) known
 
-pub known-first : (before after : List ℕ → AddressValue → Bool) (key : List ℕ) (addresses : List AddressValue) (i : ℕ) (x : AddressValue)
-    → i < length addresses → x ≡ get_or addresses i x
-    → after ≡ (λ k a. (bytes_eq key k && same_address x a) || before k a)
+pub known-first : (before after : List ℕ → AddressValue → Bool) (key copied : List ℕ) (addresses : List AddressValue) (i : ℕ) (x : AddressValue)
+    → i < length addresses → x ≡ get_or addresses i x → copied ≡ key
+    → after ≡ (λ k a. (bytes_eq copied k && same_address x a) || before k a)
     → ((a : AddressValue) → Contains (take i addresses) a → before key a ≡ true)
     → (a : AddressValue) → Contains (take (i + 1) addresses) a → after key a ≡ true
-known-first before after key addresses i x within is sets known a there =
+known-first before after key copied addresses i x within is same_text sets known a there =
     ⊎_elim
-    (λ old. known-more before after key x sets key a (known a old))
+    (λ old. known-more before after copied x sets key a (known a old))
     (λ same.
-    let itself : (bytes_eq key key && same_address x x) ≡ true = and_from (bytes_eq key key) (same_address x x) ((bytes_eq-Decides key key).1 refl) (same_address-itself x) in
-    let first : after key x ≡ true = ap (λ (f : List ℕ → AddressValue → Bool). f key x) sets ∙ or_left (bytes_eq key key && same_address x x) (before key x) itself in
+    let itself : (bytes_eq copied key && same_address x x) ≡ true = and_from (bytes_eq copied key) (same_address x x) ((bytes_eq-Decides copied key).1 same_text) (same_address-itself x) in
+    let first : after key x ≡ true = ap (λ (f : List ℕ → AddressValue → Bool). f key x) sets ∙ or_left (bytes_eq copied key && same_address x x) (before key x) itself in
     subst (λ y. after key y ≡ true) same first)
     (Contains-push_cases (take i addresses) x a (subst (λ taken. Contains taken a) (taken-more addresses i x within is) there))
 
@@ -248,10 +248,33 @@ indexed-added items more number c keys keys_after h h_after indexed is assigned 
         let either : (is_shared key (values_of items) a || is_shared key (c ∷ []) a) ≡ true =
         sym (ap (λ (claims : List ClaimValue). is_shared key claims a) values ∙ list_any-append (λ (x : ClaimValue). is_marked key (recorded_terms x.holding.mark) && has_address x.holding.addresses a) (values_of items) (c ∷ [])) ∙ e in
         let before : is_known h key a ≡ true = ⊎_elim
-            (λ old. indexed.shared key a old)
-            (λ new.
-            let own = or_one (is_marked key (recorded_terms c.holding.mark) && has_address c.holding.addresses a) new in
-            let parts = and_parts (is_marked key (recorded_terms c.holding.mark)) (has_address c.holding.addresses a) own in
-            marked-known h (recorded_terms c.holding.mark) c.holding.addresses key a known parts.0 parts.1)
-            (or_cases (is_shared key (values_of items) a) (is_shared key (c ∷ []) a) either) in
+        (λ old. indexed.shared key a old)
+        (λ new.
+        let own = or_one (is_marked key (recorded_terms c.holding.mark) && has_address c.holding.addresses a) new in
+        let parts = and_parts (is_marked key (recorded_terms c.holding.mark)) (has_address c.holding.addresses a) own in
+        marked-known h (recorded_terms c.holding.mark) c.holding.addresses key a known parts.0 parts.1)
+        (or_cases (is_shared key (values_of items) a) (is_shared key (c ∷ []) a) either) in
         ap (λ (f : List ℕ → AddressValue → Bool). f key a) same_known ∙ before
+
+-- the claim that is found under its number is that one
+pub found-is : (items more : List (ℕ × ClaimValue)) (number : ℕ) (c found : ClaimValue)
+    → more ≡ items ++ (number, c) ∷ [] → All (λ p. p.0 < number) items → Some found ≡ lookup (λ n. n == number) more → found ≡ c
+found-is items more number c found is fresh there =
+    let e : Some found ≡ Some c = there ∙ ap (λ (list : List (ℕ × ClaimValue)). lookup (λ n. n == number) list) is ∙ found-added items number c fresh in cc
+
+pub not-lost : (items more : List (ℕ × ClaimValue)) (number : ℕ) (c : ClaimValue)
+    → more ≡ items ++ (number, c) ∷ [] → All (λ p. p.0 < number) items → None ≡ lookup (λ n. n == number) more → ⊥
+not-lost items more number c is fresh none =
+    let e : None ≡ Some c = none ∙ ap (λ (list : List (ℕ × ClaimValue)). lookup (λ n. n == number) list) is ∙ found-added items number c fresh in cc
+
+-- the same, of a key and addresses that are the claim's
+pub indexed-pushed : (items more : List (ℕ × ClaimValue)) (number : ℕ) (c : ClaimValue) (key : Key) (addresses : List AddressValue) (keys keys_after : IndexValue Key) (h h_after : AddressHoldersValue)
+    → IsIndexed items keys h → more ≡ items ++ (number, c) ∷ [] → key ≡ c.key → addresses ≡ c.holding.addresses → is_assigned c.holding ≡ true
+    → numbers_under key_cmp keys_after ≡ (λ k. cond (is_at (key_cmp key) k) (numbers_under key_cmp keys k ++ number ∷ []) (numbers_under key_cmp keys k))
+    → claims_having h_after ≡ (λ a. claims_having h a ++ map (λ _. number) (filter (same_address a) addresses))
+    → is_known h_after ≡ is_known h → AreKnown h (recorded_terms c.holding.mark) c.holding.addresses
+    → IsIndexed more keys_after h_after
+indexed-pushed items more number c key addresses keys keys_after h h_after indexed is key_is addresses_are assigned adds_key adds_holders same_known known =
+    let list_by : Key → Key → List ℕ = λ term k. cond (is_at (key_cmp term) k) (numbers_under key_cmp keys k ++ number ∷ []) (numbers_under key_cmp keys k) in
+    let list_at : List AddressValue → AddressValue → List ℕ = λ list a. claims_having h a ++ map (λ _. number) (filter (same_address a) list) in
+    indexed-added items more number c keys keys_after h h_after indexed is assigned (adds_key ∙ ap list_by key_is) (adds_holders ∙ ap list_at addresses_are) same_known known

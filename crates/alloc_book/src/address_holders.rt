@@ -130,13 +130,7 @@ impl AddressHolders {
     }
 
     /// The least number from low to high of an address of the family that is known by the sharing key.
-    pub(crate) fn first_shared(
-        &self,
-        family: Family,
-        key: &Text,
-        low: u128,
-        high: u128,
-    ) -> Option<u128>
+    pub(crate) fn first_shared(&self, family: Family, key: &Text, low: u128, high: u128) -> Option<u128>
         ensures some { IfSome result (λ n. IsLeastIn (λ m. is_known self.now key.now (address_of family m)) low high n) }
         ensures none { IfNone result (NonePasses (λ m. is_known self.now key.now (address_of family m)) low high) }
     {

@@ -5,10 +5,10 @@ ghost use Rattle.mlb_base.specs.Items.{is_nil};
 ghost use Rattle.alloc_book.specs.Holders.{claims_at, claim_room_at, is_known_at};
 ghost use Rattle.number_sets.specs.Least.{IsLeastIn, NonePasses};
 
-use kube_labels::Text;
-use mlb_base::NoMemory;
 use number_sets::{GroupedNumbers, NumberRuns};
 use numbered_items::InvertedIndex;
+use kube_labels::Text;
+use mlb_base::NoMemory;
 use std::alloc::Global;
 use std::marker::Model;
 

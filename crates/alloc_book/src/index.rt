@@ -16,11 +16,11 @@ ghost use Rattle.number_sets.specs.Least.{IsLeastIn, NonePasses};
 
 use crate::address_holders::AddressHolders;
 use crate::claims::Claim;
+use numbered_items::{InvertedIndex, NumberedList};
 use ip_ranges::{Address, Family};
 use kube_labels::Text;
 use kube_model::{Key, Record};
 use mlb_base::{NoMemory, TryCopy};
-use numbered_items::{InvertedIndex, NumberedList};
 use sharing_terms::{Terms, may_share};
 use std::alloc::Global;
 use std::marker::Model;
@@ -97,12 +97,7 @@ impl ClaimIndex {
         self.by_key.remove(claim.key(), number);
         remove_each(&mut self.holders, claim.addresses(), number);
         if let Some(terms) = claim.terms() {
-            unshare_each(
-                &self.claims,
-                &mut self.holders,
-                &terms.key,
-                claim.addresses(),
-            );
+            unshare_each(&self.claims, &mut self.holders, &terms.key, claim.addresses());
         }
     }
 
@@ -190,13 +185,7 @@ impl ClaimIndex {
 
     /// A number from low to high before which no address of the family has a claim under the sharing key, which isn't empty; `None`
     /// where none up to high has.
-    pub(crate) fn first_shared(
-        &self,
-        family: Family,
-        key: &Text,
-        low: u128,
-        high: u128,
-    ) -> Option<u128>
+    pub(crate) fn first_shared(&self, family: Family, key: &Text, low: u128, high: u128) -> Option<u128>
         ensures some { IfSome result (λ n. (low ≤ n) × (n ≤ high) × NoneShared family key.now (values_of self.now.items) low n) }
         ensures none { IfNone result (NoneShared family key.now (values_of self.now.items) low (high + 1)) }
     {

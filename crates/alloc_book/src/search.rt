@@ -57,9 +57,7 @@ pub(crate) fn may_use(
 ) -> bool
     ensures { result ≡ usable book.now.claims key.now terms.now pool.now address.now }
 {
-    is_in(pool, address)
-        && !is_avoided(pool, address)
-        && book.index().all_leave(key, terms, address)
+    is_in(pool, address) && !is_avoided(pool, address) && book.index().all_leave(key, terms, address)
 }
 
 fn is_avoided(pool: &CompiledPool, address: &Address) -> bool

@@ -7,6 +7,7 @@ pub mod ClaimLaws
 pub mod HolderLaws
 pub mod IndexReading
 pub mod IndexRemoval
+pub mod IndexGrowth
 pub mod LeastLaws
 pub mod PendingLaws
 pub mod SearchLaws

@@ -1,12 +1,14 @@
 //! The claims under their numbers, and by what each is found.
-ghost use Rattle.std.specs.Prelude.{◌≡◌, ◌≤◌, ◌<◌, ◌+◌, ◌^◌, ◌==◌, ◌∷◌, ◌++◌, [], true, not, nat_lt, filter, find, length, OnOk, IfSome, IfNone};
-ghost use Rattle.std.specs.List.{All, list_any, list_all};
+ghost use Rattle.std.specs.Prelude.{◌≡◌, ◌≢◌, ℕ, List, map, ◌≤◌, ◌<◌, ◌+◌, ◌^◌, ◌==◌, ◌∷◌, ◌++◌, [], true, not, nat_lt, filter, find, length, OnOk, IfSome, IfNone};
+ghost use Rattle.std.specs.List.{All, Contains, list_any, list_all};
 ghost use Rattle.std.specs.List.Sorted.{IsStrictlySortedBy};
 ghost use Rattle.std.specs.Map.{lookup, keys_of, values_of};
 ghost use Rattle.std.specs.Option.{option_copied, option_map};
 ghost use Rattle.std.specs.Ordering.{nat_cmp};
+ghost use Rattle.ip_ranges.specs.Values.{AddressValue, same_address};
 ghost use Rattle.kube_model.specs.Records.{is_assigned};
 ghost use Rattle.alloc_book.specs.Book.{AreAssigned, HasRoomFor};
+ghost use Rattle.alloc_book.specs.Holders.{HasRoomAt, claims_having, claim_room, address_room, is_known};
 ghost use Rattle.alloc_book.specs.Claims.{ClaimValue, loses, claims_it, has_claims};
 ghost use Rattle.alloc_book.specs.Holders.{claims_having, is_known};
 ghost use Rattle.alloc_book.specs.Index.{numbers_of, numbers_at, first_but, first_other, is_held, AreShared, NoneShared};
@@ -195,7 +197,12 @@ impl ClaimIndex {
     }
 }
 
-fn reserve_each(holders: &mut AddressHolders, addresses: &[Address]) -> Result<(), NoMemory> {
+/// Makes room for a claim that has the addresses.
+fn reserve_each(holders: &mut AddressHolders, addresses: &[Address]) -> Result<(), NoMemory>
+    ensures numbers { claims_having holders.new ≡ claims_having holders.old }
+    ensures room { OnOk result (HasRoomAt holders.new (length addresses.now) addresses.now) }
+    ensures shared { is_known holders.new ≡ is_known holders.old }
+{
     for address in addresses {
         holders.reserve(address, addresses.len())?;
     }
@@ -207,7 +214,13 @@ fn share_each(
     holders: &mut AddressHolders,
     key: &Text,
     addresses: &[Address],
-) -> Result<(), NoMemory> {
+) -> Result<(), NoMemory>
+    ensures numbers { claims_having holders.new ≡ claims_having holders.old }
+    ensures claims { claim_room holders.new ≡ claim_room holders.old }
+    ensures addresses { address_room holders.new ≡ address_room holders.old }
+    ensures kept { (k : List ℕ) (a : AddressValue) → is_known holders.old k a ≡ true → is_known holders.new k a ≡ true }
+    ensures known { OnOk result (key.now ≢ [] → (a : AddressValue) → Contains addresses.now a → is_known holders.new key.now a ≡ true) }
+{
     if key.as_str().is_empty() {
         return Ok(());
     }
@@ -217,7 +230,12 @@ fn share_each(
     Ok(())
 }
 
-fn add_each(holders: &mut AddressHolders, addresses: &[Address], number: u64) {
+/// The claim has the addresses. There is room for it, so it takes no memory.
+fn add_each(holders: &mut AddressHolders, addresses: &[Address], number: u64)
+    requires { HasRoomAt holders.old (length addresses.now) addresses.now }
+    ensures numbers { claims_having holders.new ≡ (λ a. claims_having holders.old a ++ map (λ _. number) (filter (same_address a) addresses.now)) }
+    ensures shared { is_known holders.new ≡ is_known holders.old }
+{
     for address in addresses {
         holders.add(address, number);
     }

@@ -1,0 +1,280 @@
+-- An index of claims that gets room, or one claim more.
+use Rattle.std.proofs.Common.{◌≡◌, ℕ, ◌+◌, ◌<◌, ◌≤◌, Bool, true, false, cond, not, ◌==◌, ◌&&◌, ◌||◌, List, [], ◌∷◌, ◌++◌, length, map, filter, take, drop, get_or, suc, Option, Some, None, is_eq, refl, sym, ap, subst, ◌∙◌, arith, append_assoc, add-one, ⊎_elim}
+use Rattle.std.proofs.lemmas.Bool.{and_parts, and_from, or_cases, or_left, or_right, eq-eqb, true≢false}
+use Rattle.std.proofs.lemmas.Bool.Decides.{nat_tests, same_from_decides}
+use Rattle.std.proofs.lemmas.List.{map-append, append-nil}
+use Rattle.std.proofs.lemmas.List.Elements.{filter-append, Contains-push_cases, All-head, All-tail}
+use Rattle.std.proofs.lemmas.List.Folds.{list_any-append}
+use Rattle.std.proofs.lemmas.Slice.Eq.{bytes_eq-Decides}
+use Rattle.std.proofs.Math.Seq.{take-suc, drop-cons}
+use Rattle.std.proofs.Math.ListN.{drop_of_length-le}
+use Rattle.std.specs.BTreeMap.{is_at}
+use Rattle.std.specs.List.{All, Contains, list_any}
+use Rattle.std.specs.Map.{lookup, keys_of, values_of}
+use Rattle.std.specs.Str.{bytes_eq}
+use Rattle.ip_ranges.specs.declared.family.Family.{Family}
+use Rattle.ip_ranges.specs.Values.{AddressValue, same_address, has_address}
+use Rattle.ip_ranges.proofs.AddressLaws.{has_address-is, same_address-is, same_address-itself}
+use Rattle.kube_model.specs.declared.key.Key.{Key}
+use Rattle.kube_model.specs.Keys.{key_cmp, same_key}
+use Rattle.kube_model.specs.Records.{is_assigned}
+use Rattle.kube_model.proofs.KeyLaws.{is_eq-key_cmp}
+use Rattle.mlb_base.specs.Items.{is_nil}
+use Rattle.mlb_base.proofs.Among.{contains-none, contains-first, contains-later}
+use Rattle.numbered_items.specs.Index.{IndexValue, numbers_under}
+use Rattle.sharing_terms.specs.declared.terms.Terms.{Terms}
+use Rattle.sharing_terms.specs.Spelled.{recorded_terms}
+use Rattle.alloc_book.specs.Book.{AreAssigned}
+use Rattle.alloc_book.specs.Claims.{ClaimValue}
+use Rattle.alloc_book.specs.Holders.{AddressHoldersValue, HasRoomAt, AreKnown, claims_having, claim_room, address_room, is_known}
+use Rattle.alloc_book.specs.Index.{IsIndexed, AreShared, numbers_of, numbers_at, numbered_at, is_marked, is_shared}
+
+-- ---- room at addresses
+pub room-none : (h : AddressHoldersValue) (more : ℕ) → HasRoomAt h more []
+room-none h more = record { by_claims = λ a none. absurd (contains-none a none); by_family = λ a none. absurd (contains-none a none) }
+
+taken-more : (addresses : List AddressValue) (i : ℕ) (x : AddressValue) → i < length addresses → x ≡ get_or addresses i x → take (i + 1) addresses ≡ take i addresses ++ x ∷ []
+taken-more addresses i x within is = ap (λ n. take n addresses) (add-one i) ∙ take-suc addresses i x within ∙ ap (λ y. take i addresses ++ y ∷ []) (sym is)
+
+rest-of : (addresses : List AddressValue) (i : ℕ) (x : AddressValue) → i < length addresses → x ≡ get_or addresses i x → drop i addresses ≡ x ∷ drop (i + 1) addresses
+rest-of addresses i x within is = drop-cons addresses i x within ∙ ap (λ y. y ∷ drop (suc i) addresses) (sym is) ∙ ap (λ n. x ∷ drop n addresses) (sym (add-one i))
+
+-- one address more has room, and those before keep theirs
+pub room-more : (before after : AddressHoldersValue) (more : ℕ) (addresses : List AddressValue) (i : ℕ) (x : AddressValue)
+    → i < length addresses → x ≡ get_or addresses i x → HasRoomAt before more (take i addresses)
+    → ((a : AddressValue) → claim_room before a ≤ claim_room after a) → ((family : Family) → address_room before family ≤ address_room after family)
+    → more ≤ claim_room after x → more ≤ address_room after x.family → HasRoomAt after more (take (i + 1) addresses)
+room-more before after more addresses i x within is room claims families claim family =
+    subst (HasRoomAt after more) (sym (taken-more addresses i x within is)) (record {
+      by_claims = λ a there. ⊎_elim
+          (λ old. omega (arith, room.by_claims a old, claims a))
+          (λ same. subst (λ y. more ≤ claim_room after y) same claim)
+          (Contains-push_cases (take i addresses) x a there);
+      by_family = λ a there. ⊎_elim
+          (λ old. omega (arith, room.by_family a old, families a.family))
+          (λ same. subst (λ (y : AddressValue). more ≤ address_room after y.family) same family)
+          (Contains-push_cases (take i addresses) x a there);
+    })
+
+-- the same room
+pub room-same : (before after : AddressHoldersValue) (more : ℕ) (addresses : List AddressValue)
+    → claim_room after ≡ claim_room before → address_room after ≡ address_room before → HasRoomAt before more addresses → HasRoomAt after more addresses
+room-same before after more addresses claims families room = record {
+  by_claims = λ a there. subst (λ (f : AddressValue → ℕ). more ≤ f a) (sym claims) (room.by_claims a there);
+  by_family = λ a there. subst (λ (f : Family → ℕ). more ≤ f a.family) (sym families) (room.by_family a there);
+}
+
+-- there is room for the first
+pub room-first : (h : AddressHoldersValue) (addresses : List AddressValue) (i : ℕ) (x : AddressValue)
+    → i < length addresses → x ≡ get_or addresses i x → HasRoomAt h (length (drop i addresses)) (drop i addresses)
+    → (0 < claim_room h x) × (0 < address_room h x.family)
+room-first h addresses i x within is room =
+    let here : HasRoomAt h (length (x ∷ drop (i + 1) addresses)) (x ∷ drop (i + 1) addresses) = subst (λ rest. HasRoomAt h (length rest) rest) (rest-of addresses i x within is) room in
+    let first : Contains (x ∷ drop (i + 1) addresses) x = contains-first x (drop (i + 1) addresses) in
+    (omega (arith, here.by_claims x first), omega (arith, here.by_family x first))
+
+-- and then for the rest
+pub room-rest : (before after : AddressHoldersValue) (addresses : List AddressValue) (i : ℕ) (x : AddressValue)
+    → i < length addresses → x ≡ get_or addresses i x → HasRoomAt before (length (drop i addresses)) (drop i addresses)
+    → ((a : AddressValue) → claim_room before a ≤ claim_room after a + 1) → ((family : Family) → address_room before family ≤ address_room after family + 1)
+    → HasRoomAt after (length (drop (i + 1) addresses)) (drop (i + 1) addresses)
+room-rest before after addresses i x within is room claims families =
+    let here : HasRoomAt before (length (x ∷ drop (i + 1) addresses)) (x ∷ drop (i + 1) addresses) = subst (λ rest. HasRoomAt before (length rest) rest) (rest-of addresses i x within is) room in
+    record {
+      by_claims = λ a there. omega (arith, here.by_claims a (contains-later x (drop (i + 1) addresses) a there), claims a);
+      by_family = λ a there. omega (arith, here.by_family a (contains-later x (drop (i + 1) addresses) a there), families a.family);
+    }
+
+-- ---- sharing keys
+pub known-more : (before after : List ℕ → AddressValue → Bool) (key : List ℕ) (x : AddressValue)
+    → after ≡ (λ k a. (bytes_eq key k && same_address x a) || before k a)
+    → (k : List ℕ) (a : AddressValue) → before k a ≡ true → after k a ≡ true
+known-more before after key x is k a known =
+    ap (λ (f : List ℕ → AddressValue → Bool). f k a) is ∙ or_right (bytes_eq key k && same_address x a) (before k a) known
+
+pub known-first : (before after : List ℕ → AddressValue → Bool) (key copied : List ℕ) (addresses : List AddressValue) (i : ℕ) (x : AddressValue)
+    → i < length addresses → x ≡ get_or addresses i x → copied ≡ key
+    → after ≡ (λ k a. (bytes_eq copied k && same_address x a) || before k a)
+    → ((a : AddressValue) → Contains (take i addresses) a → before key a ≡ true)
+    → (a : AddressValue) → Contains (take (i + 1) addresses) a → after key a ≡ true
+known-first before after key copied addresses i x within is same_text sets known a there =
+    ⊎_elim
+    (λ old. known-more before after copied x sets key a (known a old))
+    (λ same.
+    let itself : (bytes_eq copied key && same_address x x) ≡ true = and_from (bytes_eq copied key) (same_address x x) ((bytes_eq-Decides copied key).1 same_text) (same_address-itself x) in
+    let first : after key x ≡ true = ap (λ (f : List ℕ → AddressValue → Bool). f key x) sets ∙ or_left (bytes_eq copied key && same_address x x) (before key x) itself in
+    subst (λ y. after key y ≡ true) same first)
+    (Contains-push_cases (take i addresses) x a (subst (λ taken. Contains taken a) (taken-more addresses i x within is) there))
+
+-- ---- a number at the end of each address's list
+same_address-flip : (a b : AddressValue) → same_address a b ≡ same_address b a
+same_address-flip a b =
+    same_from_decides (same_address a b) (same_address b a) (same_address-is a b, λ e. subst (λ c. same_address a c ≡ true) e (same_address-itself a))
+    (λ e. sym (same_address-is b a e), λ e. subst (λ c. same_address c a ≡ true) e (same_address-itself a))
+
+listed-by : (b : Bool) (before more : List ℕ) (number : ℕ) → before ++ cond b (number ∷ more) more ≡ cond b (before ++ number ∷ []) before ++ more
+listed-by true before more number = sym (append_assoc before (number ∷ []) more)
+listed-by false before more number = refl
+
+numbered-by : (b : Bool) (number : ℕ) (x : AddressValue) (more : List AddressValue) → map (λ _. number) (cond b (x ∷ more) more) ≡ cond b (number ∷ map (λ _. number) more) (map (λ _. number) more)
+numbered-by true number x more = refl
+numbered-by false number x more = refl
+
+pub listed-more : (before after : AddressValue → List ℕ) (number : ℕ) (addresses : List AddressValue) (i : ℕ) (x : AddressValue)
+    → i < length addresses → x ≡ get_or addresses i x
+    → after ≡ (λ a. cond (same_address x a) (before a ++ number ∷ []) (before a))
+    → (a : AddressValue) → before a ++ map (λ _. number) (filter (same_address a) (drop i addresses)) ≡ after a ++ map (λ _. number) (filter (same_address a) (drop (i + 1) addresses))
+listed-more before after number addresses i x within is adds a =
+    let rest : List AddressValue = drop (i + 1) addresses in
+    let more : List AddressValue = filter (same_address a) rest in
+    ap (λ (list : List AddressValue). before a ++ map (λ _. number) (filter (same_address a) list)) (rest-of addresses i x within is)
+    ∙ ap (λ (ns : List ℕ). before a ++ ns) (numbered-by (same_address a x) number x more)
+    ∙ listed-by (same_address a x) (before a) (map (λ _. number) more) number
+    ∙ ap (λ b. cond b (before a ++ number ∷ []) (before a) ++ map (λ _. number) more) (same_address-flip a x)
+    ∙ ap (λ (f : AddressValue → List ℕ). f a ++ map (λ _. number) more) (sym adds)
+
+-- once no address is left
+pub listed-all : (before after : AddressValue → List ℕ) (number : ℕ) (addresses : List AddressValue) (i : ℕ)
+    → length addresses ≤ i
+    → ((a : AddressValue) → before a ++ map (λ _. number) (filter (same_address a) addresses) ≡ after a ++ map (λ _. number) (filter (same_address a) (drop i addresses)))
+    → after ≡ (λ a. before a ++ map (λ _. number) (filter (same_address a) addresses))
+listed-all before after number addresses i passed each = λ j a. sym (each a ∙ none a) j
+  where
+    none : (a : AddressValue) → after a ++ map (λ _. number) (filter (same_address a) (drop i addresses)) ≡ after a
+    none a = ap (λ (list : List AddressValue). after a ++ map (λ _. number) (filter (same_address a) list)) (drop_of_length-le addresses passed) ∙ append-nil (after a)
+
+-- ---- the index
+pub indexed-none : (items : List (ℕ × ClaimValue)) (keys : IndexValue Key) (h : AddressHoldersValue)
+    → items ≡ [] → numbers_under key_cmp keys ≡ (λ key. []) → claims_having h ≡ (λ a. []) → IsIndexed items keys h
+indexed-none items keys h none no_keys no_holders =
+    let empty : IsIndexed [] keys h = record {
+      assigned = λ c there. absurd (contains-none c there);
+      keys = no_keys;
+      holders = no_holders;
+      shared = λ key a e. absurd (true≢false (sym e));
+    } in
+    subst (λ (list : List (ℕ × ClaimValue)). IsIndexed list keys h) (sym none) empty
+
+pub indexed-kept : (items more : List (ℕ × ClaimValue)) (keys keys_after : IndexValue Key) (h h_after : AddressHoldersValue)
+    → IsIndexed items keys h → more ≡ items → numbers_under key_cmp keys_after ≡ numbers_under key_cmp keys → claims_having h_after ≡ claims_having h
+    → ((key : List ℕ) (a : AddressValue) → is_known h key a ≡ true → is_known h_after key a ≡ true)
+    → IsIndexed more keys_after h_after
+indexed-kept items more keys keys_after h h_after indexed same same_keys same_holders known =
+    let kept : IsIndexed items keys_after h_after = record {
+      assigned = indexed.assigned;
+      keys = same_keys ∙ indexed.keys;
+      holders = same_holders ∙ indexed.holders;
+      shared = λ key a e. known key a (indexed.shared key a e);
+    } in
+    subst (λ (list : List (ℕ × ClaimValue)). IsIndexed list keys_after h_after) (sym same) kept
+
+pub found-added : (items : List (ℕ × ClaimValue)) (number : ℕ) (c : ClaimValue) → All (λ p. p.0 < number) items → lookup (λ n. n == number) (items ++ (number, c) ∷ []) ≡ Some c
+found-added [] number c fresh = ap (λ b. cond b (Some c) None) (eq-eqb number number refl)
+found-added (p ∷ items) number c fresh =
+    let below : p.0 < number = All-head (λ (p : ℕ × ClaimValue). p.0 < number) p items fresh in
+    let other : (p.0 == number) ≡ false = grind (arith, nat_tests, below) in
+    ap (λ b. cond b (Some p.1) (lookup (λ n. n == number) (items ++ (number, c) ∷ []))) other
+    ∙ found-added items number c (All-tail (λ (p : ℕ × ClaimValue). p.0 < number) p items fresh)
+
+key-by : (b : Bool) (numbers : List ℕ) (number : ℕ) (c : ClaimValue) → numbers ++ keys_of (cond b ((number, c) ∷ []) []) ≡ cond b (numbers ++ number ∷ []) numbers
+key-by true numbers number c = refl
+key-by false numbers number c = append-nil numbers
+
+numbers_of-added : (items : List (ℕ × ClaimValue)) (number : ℕ) (c : ClaimValue) (key : Key)
+    → numbers_of key (items ++ (number, c) ∷ []) ≡ cond (same_key c.key key) (numbers_of key items ++ number ∷ []) (numbers_of key items)
+numbers_of-added items number c key =
+    let test : ℕ × ClaimValue → Bool = λ p. same_key p.1.key key in
+    ap keys_of (filter-append test items ((number, c) ∷ []))
+    ∙ map-append (λ (p : ℕ × ClaimValue). p.0) (filter test items) (filter test ((number, c) ∷ []))
+    ∙ key-by (same_key c.key key) (numbers_of key items) number c
+
+numbers_at-added : (items : List (ℕ × ClaimValue)) (number : ℕ) (c : ClaimValue) (a : AddressValue)
+    → numbers_at a (items ++ (number, c) ∷ []) ≡ numbers_at a items ++ numbered_at a (number, c)
+numbers_at-added [] number c a = append-nil (numbered_at a (number, c))
+numbers_at-added (p ∷ items) number c a =
+    ap (λ ns. numbered_at a p ++ ns) (numbers_at-added items number c a) ∙ sym (append_assoc (numbered_at a p) (numbers_at a items) (numbered_at a (number, c)))
+
+not-nil : (key : List ℕ) → not (is_nil key) ≡ true → key ≡ [] → ⊥
+not-nil [] e none = true≢false (sym e)
+not-nil (b ∷ key) e none = cc
+
+marked-known : (h : AddressHoldersValue) (terms : Option Terms) (addresses : List AddressValue) (key : List ℕ) (a : AddressValue)
+    → AreKnown h terms addresses → is_marked key terms ≡ true → has_address addresses a ≡ true → is_known h key a ≡ true
+marked-known h None addresses key a known e has = absurd (true≢false (sym e))
+marked-known h (Some terms) addresses key a known e has =
+    let parts = and_parts (bytes_eq terms.key key) (not (is_nil key)) e in
+    let same : terms.key ≡ key = (bytes_eq-Decides terms.key key).0 parts.0 in
+    subst (λ k. is_known h k a ≡ true) same (known terms refl (λ none. not-nil key parts.1 (sym same ∙ none)) a (has_address-is addresses a has))
+
+or_one : (b : Bool) → (b || false) ≡ true → b ≡ true
+or_one true e = refl
+or_one false e = e
+
+pub indexed-added : (items more : List (ℕ × ClaimValue)) (number : ℕ) (c : ClaimValue) (keys keys_after : IndexValue Key) (h h_after : AddressHoldersValue)
+    → IsIndexed items keys h → more ≡ items ++ (number, c) ∷ [] → is_assigned c.holding ≡ true
+    → numbers_under key_cmp keys_after ≡ (λ key. cond (is_at (key_cmp c.key) key) (numbers_under key_cmp keys key ++ number ∷ []) (numbers_under key_cmp keys key))
+    → claims_having h_after ≡ (λ a. claims_having h a ++ map (λ _. number) (filter (same_address a) c.holding.addresses))
+    → is_known h_after ≡ is_known h → AreKnown h (recorded_terms c.holding.mark) c.holding.addresses
+    → IsIndexed more keys_after h_after
+indexed-added items more number c keys keys_after h h_after indexed is assigned adds_key adds_holders same_known known =
+    subst (λ (list : List (ℕ × ClaimValue)). IsIndexed list keys_after h_after) (sym is) (record {
+      assigned = assigned_all;
+      keys = adds_key ∙ (λ i key. key-at key i);
+      holders = adds_holders ∙ (λ i a. address-at a i);
+      shared = shared_all;
+    })
+  where
+    values : values_of (items ++ (number, c) ∷ []) ≡ values_of items ++ c ∷ []
+    values = map-append (λ (p : ℕ × ClaimValue). p.1) items ((number, c) ∷ [])
+
+    assigned_all : AreAssigned (values_of (items ++ (number, c) ∷ []))
+    assigned_all x there =
+        ⊎_elim (λ old. indexed.assigned x old) (λ new. subst (λ (y : ClaimValue). is_assigned y.holding ≡ true) new assigned)
+        (Contains-push_cases (values_of items) c x (subst (λ (claims : List ClaimValue). Contains claims x) values there))
+
+    key-at : (key : Key) → cond (is_at (key_cmp c.key) key) (numbers_under key_cmp keys key ++ number ∷ []) (numbers_under key_cmp keys key) ≡ numbers_of key (items ++ (number, c) ∷ [])
+    key-at key =
+        ap (λ b. cond b (numbers_under key_cmp keys key ++ number ∷ []) (numbers_under key_cmp keys key)) (is_eq-key_cmp c.key key)
+        ∙ ap (λ (f : Key → List ℕ). cond (same_key c.key key) (f key ++ number ∷ []) (f key)) indexed.keys
+        ∙ sym (numbers_of-added items number c key)
+
+    address-at : (a : AddressValue) → claims_having h a ++ map (λ _. number) (filter (same_address a) c.holding.addresses) ≡ numbers_at a (items ++ (number, c) ∷ [])
+    address-at a =
+        ap (λ (f : AddressValue → List ℕ). f a ++ map (λ _. number) (filter (same_address a) c.holding.addresses)) indexed.holders
+        ∙ sym (numbers_at-added items number c a)
+
+    shared_all : AreShared h_after (values_of (items ++ (number, c) ∷ []))
+    shared_all key a e =
+        let either : (is_shared key (values_of items) a || is_shared key (c ∷ []) a) ≡ true =
+        sym (ap (λ (claims : List ClaimValue). is_shared key claims a) values ∙ list_any-append (λ (x : ClaimValue). is_marked key (recorded_terms x.holding.mark) && has_address x.holding.addresses a) (values_of items) (c ∷ [])) ∙ e in
+        let before : is_known h key a ≡ true = ⊎_elim
+        (λ old. indexed.shared key a old)
+        (λ new.
+        let own = or_one (is_marked key (recorded_terms c.holding.mark) && has_address c.holding.addresses a) new in
+        let parts = and_parts (is_marked key (recorded_terms c.holding.mark)) (has_address c.holding.addresses a) own in
+        marked-known h (recorded_terms c.holding.mark) c.holding.addresses key a known parts.0 parts.1)
+        (or_cases (is_shared key (values_of items) a) (is_shared key (c ∷ []) a) either) in
+        ap (λ (f : List ℕ → AddressValue → Bool). f key a) same_known ∙ before
+
+-- the claim that is found under its number is that one
+pub found-is : (items more : List (ℕ × ClaimValue)) (number : ℕ) (c found : ClaimValue)
+    → more ≡ items ++ (number, c) ∷ [] → All (λ p. p.0 < number) items → Some found ≡ lookup (λ n. n == number) more → found ≡ c
+found-is items more number c found is fresh there =
+    let e : Some found ≡ Some c = there ∙ ap (λ (list : List (ℕ × ClaimValue)). lookup (λ n. n == number) list) is ∙ found-added items number c fresh in cc
+
+pub not-lost : (items more : List (ℕ × ClaimValue)) (number : ℕ) (c : ClaimValue)
+    → more ≡ items ++ (number, c) ∷ [] → All (λ p. p.0 < number) items → None ≡ lookup (λ n. n == number) more → ⊥
+not-lost items more number c is fresh none =
+    let e : None ≡ Some c = none ∙ ap (λ (list : List (ℕ × ClaimValue)). lookup (λ n. n == number) list) is ∙ found-added items number c fresh in cc
+
+-- the same, of a key and addresses that are the claim's
+pub indexed-pushed : (items more : List (ℕ × ClaimValue)) (number : ℕ) (c : ClaimValue) (key : Key) (addresses : List AddressValue) (keys keys_after : IndexValue Key) (h h_after : AddressHoldersValue)
+    → IsIndexed items keys h → more ≡ items ++ (number, c) ∷ [] → key ≡ c.key → addresses ≡ c.holding.addresses → is_assigned c.holding ≡ true
+    → numbers_under key_cmp keys_after ≡ (λ k. cond (is_at (key_cmp key) k) (numbers_under key_cmp keys k ++ number ∷ []) (numbers_under key_cmp keys k))
+    → claims_having h_after ≡ (λ a. claims_having h a ++ map (λ _. number) (filter (same_address a) addresses))
+    → is_known h_after ≡ is_known h → AreKnown h (recorded_terms c.holding.mark) c.holding.addresses
+    → IsIndexed more keys_after h_after
+indexed-pushed items more number c key addresses keys keys_after h h_after indexed is key_is addresses_are assigned adds_key adds_holders same_known known =
+    let list_by : Key → Key → List ℕ = λ term k. cond (is_at (key_cmp term) k) (numbers_under key_cmp keys k ++ number ∷ []) (numbers_under key_cmp keys k) in
+    let list_at : List AddressValue → AddressValue → List ℕ = λ list a. claims_having h a ++ map (λ _. number) (filter (same_address a) list) in
+    indexed-added items more number c keys keys_after h h_after indexed is assigned (adds_key ∙ ap list_by key_is) (adds_holders ∙ ap list_at addresses_are) same_known known

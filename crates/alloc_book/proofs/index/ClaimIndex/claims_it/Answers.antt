@@ -1,4 +1,4 @@
-use Rattle.std.proofs.Common.{◌≡◌, ℕ, Bool, List, false, not, rules, tests, ap, ◌∙◌}
+use Rattle.std.proofs.Common.{◌≡◌, ℕ, Bool, List, false, rules, tests, ap, ◌∙◌}
 use Rattle.std.specs.List.{list_any}
 use Rattle.std.specs.List.Sorted.{IsStrictlySortedBy}
 use Rattle.std.specs.Map.{keys_of}
@@ -16,8 +16,8 @@ returns c =
     let items = c.self.inside.claims.items in
     let numbers = c.numbers.result.now in
     let sorted : is_nil numbers ≡ false → IsStrictlySortedBy nat_cmp (keys_of items) =
-        asked-any (IsStrictlySortedBy nat_cmp (keys_of items)) c.any.result numbers
-        (cases_from_any _ _ c.any.result (λ _. IsStrictlySortedBy nat_cmp (keys_of items)) (λ _. IsStrictlySortedBy nat_cmp (keys_of items)) c.any.ensures.ran (YieldsList-from_slice numbers cc) (λ x q k. search (rules, tests)) (λ x q k. search (rules, tests)))
+    asked-any (IsStrictlySortedBy nat_cmp (keys_of items)) c.any.result numbers
+    (cases_from_any _ _ c.any.result (λ _. IsStrictlySortedBy nat_cmp (keys_of items)) (λ _. IsStrictlySortedBy nat_cmp (keys_of items)) c.any.ensures.ran (YieldsList-from_slice numbers cc) (λ x q k. search (rules, tests)) (λ x q k. search (rules, tests)))
     in
     let test : ℕ → Bool = λ n. has_record c.args.holding.now (under items n) in
     let value : c.any.result ≡ list_any test numbers = any_from_yields_List test _ _ c.any.result c.any.ensures.ran (YieldsList-from_slice numbers cc) (λ x b q k. search (rules, tests)) in

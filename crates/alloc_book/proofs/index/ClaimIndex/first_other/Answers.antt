@@ -11,5 +11,5 @@ returns c =
     rw (← c.self.view_is)
     (c.first_but.ensures
     ∙ ap (first_but c.args.number)
-        (c.numbers.ensures ∙ ap (λ (f : Key → List ℕ). f c.key.result.now) c.self.invariant.keys ∙ ap (λ (key : Key). numbers_of key items) c.key.ensures)
+    (c.numbers.ensures ∙ ap (λ (f : Key → List ℕ). f c.key.result.now) c.self.invariant.keys ∙ ap (λ (key : Key). numbers_of key items) c.key.ensures)
     ∙ ap (option_and_then (λ (x : ClaimValue). first_but c.args.number (numbers_of x.key items))) c.in_ok-claim.ensures.item)

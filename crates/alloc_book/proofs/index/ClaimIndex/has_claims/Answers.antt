@@ -1,6 +1,5 @@
 use Rattle.std.proofs.Common.{List, ℕ, not, ap, ◌∙◌}
 use Rattle.kube_model.specs.declared.key.Key.{Key}
-use Rattle.mlb_base.specs.Items.{is_nil}
 use Rattle.alloc_book.proofs.IndexReading.{has_claims-is}
 use Rattle.alloc_book.proofs.index.ClaimIndex.has_claims.Goals as goal
 

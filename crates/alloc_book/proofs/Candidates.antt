@@ -1,6 +1,6 @@
 -- The least of several candidates is the least usable number, and each usable number is a candidate.
-use Rattle.std.proofs.Common.{◌≡◌, ℕ, ◌+◌, ◌-◌, ◌<◌, ◌≤◌, suc, zero, Bool, true, false, cond, not, ◌&&◌, ◌||◌, leb, eqb, add-one, get_or, IfSome, IfNone, List, [], ◌∷◌, take, map, filter, length, Option, Some, None, option_map, ◌⊎◌, inl, inr, refl, sym, ap, ◌∙◌, subst, arith, ⊎_elim, eq-or-lt_of_le, leb-true, true≢false}
-use Rattle.std.proofs.lemmas.Bool.{cases_lt, and_parts, and_from, or_cases, or_left, or_right, le-leb, not-true, false_from_ne_true}
+use Rattle.std.proofs.Common.{◌≡◌, ℕ, ◌+◌, ◌-◌, ◌<◌, ◌≤◌, suc, zero, Bool, true, false, cond, not, ◌&&◌, ◌||◌, leb, eqb, add-one, get_or, IfSome, IfNone, List, [], ◌∷◌, take, filter, length, Option, Some, None, ◌⊎◌, inl, inr, refl, sym, ap, ◌∙◌, subst, arith, ⊎_elim, eq-or-lt_of_le, leb-true, true≢false}
+use Rattle.std.proofs.lemmas.Bool.{cases_lt, and_parts, and_from, or_cases, le-leb, not-true, false_from_ne_true}
 use Rattle.std.proofs.lemmas.Bool.Decides.{nat_tests}
 use Rattle.std.proofs.lemmas.Map.Views.{lookup-from_Contains}
 use Rattle.std.proofs.lemmas.Map.Keys.{IsDistinct-from_sorted}
@@ -12,7 +12,7 @@ use Rattle.std.specs.Option.{option_or, unwrap_or}
 use Rattle.std.specs.Ordering.{nat_cmp, eq_by_cmp}
 use Rattle.std.specs.Str.{bytes_eq}
 use Rattle.ip_ranges.specs.declared.family.Family.{Family}
-use Rattle.ip_ranges.specs.Values.{AddressValue, SpanValue, same_family, same_address, has_address, is_buggy, holds}
+use Rattle.ip_ranges.specs.Values.{AddressValue, SpanValue, same_family, has_address, is_buggy, holds}
 use Rattle.ip_ranges.proofs.AddressLaws.{same_family-is, same_family-itself, has_address-is, has_address-from}
 use Rattle.kube_model.specs.declared.key.Key.{Key}
 use Rattle.kube_model.specs.Keys.{same_key}
@@ -22,7 +22,7 @@ use Rattle.number_sets.specs.Least.{IsLeastIn, NonePasses}
 use Rattle.pool_config.specs.declared.compiled.CompiledPool.{CompiledPool}
 use Rattle.sharing_terms.specs.declared.terms.Terms.{Terms}
 use Rattle.sharing_terms.specs.Spelled.{recorded_terms}
-use Rattle.sharing_terms.specs.Sharing.{MayShare, may_share, has_port, is_alike}
+use Rattle.sharing_terms.specs.Sharing.{has_port, is_alike}
 use Rattle.sharing_terms.proofs.SharingLaws.{may_share-is}
 use Rattle.alloc_book.specs.Claims.{ClaimValue}
 use Rattle.alloc_book.specs.Index.{numbers_of, is_marked, is_held, is_own, is_shared, is_free, Covers, NoneShared}

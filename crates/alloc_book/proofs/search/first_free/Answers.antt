@@ -1,5 +1,4 @@
-use Rattle.std.proofs.Common.{ℕ, false, ◌≡◌, ◌+◌, sym, ◌∙◌, arith, not}
-use Rattle.std.proofs.lemmas.Bool.{not_from_false}
+use Rattle.std.proofs.Common.{false, ◌≡◌, sym, ◌∙◌, arith}
 use Rattle.std.specs.Map.{values_of}
 use Rattle.alloc_book.specs.Index.{is_free}
 use Rattle.alloc_book.specs.Search.{numbered, address_of}

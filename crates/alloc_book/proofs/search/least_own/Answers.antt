@@ -1,4 +1,4 @@
-use Rattle.std.proofs.Common.{ℕ, List, refl, sym, ap, ◌+◌, ◌∙◌, subst, take, Some, None}
+use Rattle.std.proofs.Common.{ℕ, List, refl, sym, ◌+◌, subst, take}
 use Rattle.ip_ranges.specs.Values.{AddressValue, has_address}
 use Rattle.alloc_book.specs.Index.{Covers}
 use Rattle.alloc_book.specs.Search.{usable, numbered}

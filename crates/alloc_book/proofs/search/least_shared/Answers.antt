@@ -1,7 +1,7 @@
-use Rattle.std.proofs.Common.{ℕ, true, false, ◌≡◌, ◌+◌, sym, ap, ◌∙◌, arith, eqb, length, subst, List}
+use Rattle.std.proofs.Common.{true, ◌≡◌, ◌+◌, sym, ◌∙◌, arith, eqb, length, subst, List}
 use Rattle.alloc_book.specs.Claims.{ClaimValue}
-use Rattle.alloc_book.specs.Index.{is_shared, NoneShared}
-use Rattle.alloc_book.specs.Search.{usable, numbered, address_of}
+use Rattle.alloc_book.specs.Index.{NoneShared}
+use Rattle.alloc_book.specs.Search.{address_of}
 use Rattle.alloc_book.proofs.Candidates.{shared-more, shared-next, no-key}
 use Rattle.alloc_book.proofs.search.least_shared.Goals as goal
 

@@ -1,5 +1,5 @@
 -- An index of claims that gets room, or one claim more.
-use Rattle.std.proofs.Common.{◌≡◌, ℕ, ◌+◌, ◌<◌, ◌≤◌, Bool, true, false, cond, not, ◌==◌, ◌&&◌, ◌||◌, List, [], ◌∷◌, ◌++◌, length, map, filter, take, drop, get_or, suc, Option, Some, None, is_eq, refl, sym, ap, subst, ◌∙◌, arith, append_assoc, add-one, ⊎_elim}
+use Rattle.std.proofs.Common.{◌≡◌, ◌≢◌, ℕ, ◌+◌, ◌<◌, ◌≤◌, Bool, true, false, cond, not, ◌==◌, ◌&&◌, ◌||◌, List, [], ◌∷◌, ◌++◌, length, map, filter, take, drop, get_or, suc, Option, Some, None, is_eq, refl, sym, ap, subst, ◌∙◌, arith, append_assoc, add-one, ⊎_elim}
 use Rattle.std.proofs.lemmas.Bool.{and_parts, and_from, or_cases, or_left, or_right, eq-eqb, true≢false}
 use Rattle.std.proofs.lemmas.Bool.Decides.{nat_tests, same_from_decides}
 use Rattle.std.proofs.lemmas.List.{map-append, append-nil}
@@ -11,6 +11,7 @@ use Rattle.std.proofs.Math.ListN.{drop_of_length-le}
 use Rattle.std.specs.BTreeMap.{is_at}
 use Rattle.std.specs.List.{All, Contains, list_any}
 use Rattle.std.specs.Map.{lookup, keys_of, values_of}
+use Rattle.std.specs.Option.{unwrap_or}
 use Rattle.std.specs.Str.{bytes_eq}
 use Rattle.ip_ranges.specs.declared.family.Family.{Family}
 use Rattle.ip_ranges.specs.Values.{AddressValue, same_address, has_address}
@@ -21,10 +22,10 @@ use Rattle.kube_model.specs.Records.{is_assigned}
 use Rattle.kube_model.proofs.KeyLaws.{is_eq-key_cmp}
 use Rattle.mlb_base.specs.Items.{is_nil}
 use Rattle.mlb_base.proofs.Among.{contains-none, contains-first, contains-later}
-use Rattle.numbered_items.specs.Index.{IndexValue, numbers_under}
+use Rattle.numbered_items.specs.Index.{IndexValue, numbers_under, room_under}
 use Rattle.sharing_terms.specs.declared.terms.Terms.{Terms}
 use Rattle.sharing_terms.specs.Spelled.{recorded_terms}
-use Rattle.alloc_book.specs.Book.{AreAssigned}
+use Rattle.alloc_book.specs.Book.{AreAssigned, HasRoomFor}
 use Rattle.alloc_book.specs.Claims.{ClaimValue}
 use Rattle.alloc_book.specs.Holders.{AddressHoldersValue, HasRoomAt, AreKnown, claims_having, claim_room, address_room, is_known}
 use Rattle.alloc_book.specs.Index.{IsIndexed, AreShared, numbers_of, numbers_at, numbered_at, is_marked, is_shared}
@@ -62,6 +63,22 @@ pub room-same : (before after : AddressHoldersValue) (more : ℕ) (addresses : L
 room-same before after more addresses claims families room = record {
   by_claims = λ a there. subst (λ (f : AddressValue → ℕ). more ≤ f a) (sym claims) (room.by_claims a there);
   by_family = λ a there. subst (λ (f : Family → ℕ). more ≤ f a.family) (sym families) (room.by_family a there);
+}
+
+-- there is room for the claim, where each of its addresses is known by the sharing key of its terms
+pub room-claim : (room : ℕ) (keys : IndexValue Key) (before after : AddressHoldersValue) (c : ClaimValue) (key : Key) (terms : Terms) (addresses shown : List AddressValue)
+    → 0 < room → 1 ≤ room_under key_cmp keys key → key ≡ c.key
+    → HasRoomAt before (length addresses) addresses → addresses ≡ c.holding.addresses → claim_room after ≡ claim_room before → address_room after ≡ address_room before
+    → Some terms ≡ recorded_terms c.holding.mark → (terms.key ≢ [] → (a : AddressValue) → Contains shown a → is_known after terms.key a ≡ true) → shown ≡ c.holding.addresses
+    → HasRoomFor (record { claims = room; keys = keys; holders = after }) c
+room-claim room keys before after c key terms addresses shown claim under same at is claims families marked known shown_is = record {
+  claim = claim;
+  key = subst (λ (k : Key). 0 < room_under key_cmp keys k) same (omega (arith, under));
+  addresses = subst (λ (xs : List AddressValue). HasRoomAt after (length xs) xs) is (room-same before after (length addresses) addresses claims families at);
+  known = λ t t_is given a there.
+      let one : terms ≡ t = ap (λ (o : Option Terms). unwrap_or o terms) (marked ∙ t_is) in
+      subst (λ (x : Terms). is_known after x.key a ≡ true) one
+      (known (subst (λ (x : Terms). x.key ≢ []) (sym one) given) a (subst (λ (xs : List AddressValue). Contains xs a) (sym shown_is) there));
 }
 
 -- there is room for the first

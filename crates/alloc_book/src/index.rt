@@ -69,10 +69,11 @@ impl ClaimIndex {
         self.claims.reserve()?;
         self.by_key.reserve(claim.key().copy()?, 1)?;
         reserve_each(&mut self.holders, claim.addresses())?;
-        match claim.terms() {
-            Some(terms) => share_each(&mut self.holders, &terms.key, claim.addresses()),
-            None => Ok(()),
-        }
+        let Some(terms) = claim.terms() else {
+            return Ok(());
+        };
+        share_each(&mut self.holders, &terms.key, claim.addresses())?;
+        Ok(())
     }
 
     /// The claim is added at the end, and its number is answered. There is room for it, so it takes no memory.

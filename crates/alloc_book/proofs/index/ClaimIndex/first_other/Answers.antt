@@ -5,8 +5,8 @@ use Rattle.alloc_book.specs.Claims.{ClaimValue}
 use Rattle.alloc_book.specs.Index.{numbers_of, first_but}
 use Rattle.alloc_book.proofs.index.ClaimIndex.first_other.Goals as goal
 
-pub returns : goal.returns
-returns c =
+pub returns-clause-other : goal.returns-clause-other
+returns-clause-other c =
     let items = c.self.inside.claims.items in
     rw (← c.self.view_is)
     (c.first_but.ensures

@@ -2,6 +2,7 @@ pub mod BookLaws
 pub mod ChooseLaws
 pub mod ChosenLaws
 pub mod ClaimLaws
+pub mod IndexRemoval
 pub mod LeastLaws
 pub mod PendingLaws
 pub mod SearchLaws

@@ -9,5 +9,6 @@ pub mod Holders
 pub mod Index
 pub mod Laws
 pub mod Least
+pub mod Removal
 pub mod Search
 pub mod Usable

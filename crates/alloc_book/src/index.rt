@@ -8,7 +8,9 @@ ghost use Rattle.std.specs.Ordering.{nat_cmp};
 ghost use Rattle.kube_model.specs.Records.{is_assigned};
 ghost use Rattle.alloc_book.specs.Book.{AreAssigned, HasRoomFor};
 ghost use Rattle.alloc_book.specs.Claims.{ClaimValue, loses, claims_it, has_claims};
-ghost use Rattle.alloc_book.specs.Index.{numbers_of, numbers_at, first_other, is_held, NoneShared};
+ghost use Rattle.alloc_book.specs.Holders.{claims_having, is_known};
+ghost use Rattle.alloc_book.specs.Index.{numbers_of, numbers_at, first_other, is_held, AreShared, NoneShared};
+ghost use Rattle.alloc_book.specs.Removal.{is_marked_at, left_at};
 ghost use Rattle.alloc_book.specs.Search.{address_of, leaves};
 ghost use Rattle.number_sets.specs.Least.{IsLeastIn, NonePasses};
 
@@ -219,7 +221,10 @@ fn add_each(holders: &mut AddressHolders, addresses: &[Address], number: u64) {
     }
 }
 
-fn remove_each(holders: &mut AddressHolders, addresses: &[Address], number: u64) {
+fn remove_each(holders: &mut AddressHolders, addresses: &[Address], number: u64)
+    ensures numbers { claims_having holders.new ≡ left_at number addresses.now (claims_having holders.old) }
+    ensures shared { is_known holders.new ≡ is_known holders.old }
+{
     for address in addresses {
         holders.remove(address, number);
     }
@@ -231,7 +236,13 @@ fn unshare_each(
     holders: &mut AddressHolders,
     key: &Text,
     addresses: &[Address],
-) {
+)
+    requires ascending { IsStrictlySortedBy nat_cmp (keys_of claims.now.items) }
+    requires numbers { claims_having holders.old ≡ (λ a. numbers_at a claims.now.items) }
+    requires shared { AreShared holders.old (values_of claims.now.items) }
+    ensures numbers { claims_having holders.new ≡ claims_having holders.old }
+    ensures shared { AreShared holders.new (values_of claims.now.items) }
+{
     for address in addresses {
         if !is_shared_at(claims, holders.numbers(address), key) {
             holders.unshare(key, address);
@@ -239,13 +250,17 @@ fn unshare_each(
     }
 }
 
-fn is_shared_at(claims: &NumberedList<Claim>, numbers: &[u64], key: &Text) -> bool {
+fn is_shared_at(claims: &NumberedList<Claim>, numbers: &[u64], key: &Text) -> bool
+    ensures { result ≡ list_any (is_marked_at key.now claims.now.items) numbers.now }
+{
     numbers
         .iter()
         .any(|number| is_marked_with(claims, *number, key))
 }
 
-fn is_marked_with(claims: &NumberedList<Claim>, number: u64, key: &Text) -> bool {
+fn is_marked_with(claims: &NumberedList<Claim>, number: u64, key: &Text) -> bool
+    ensures { result ≡ is_marked_at key.now claims.now.items number }
+{
     let Some(claim) = claims.get(number) else {
         return false;
     };

@@ -94,6 +94,7 @@ impl<X: Drop> NumberedList<X> {
     pub fn remove(&mut self, number: u64) -> Option<X>
         ensures item { result ≡ lookup (λ n. n == number) self.old.items }
         ensures items { self.new.items ≡ filter (λ p. not (p.0 == number)) self.old.items }
+        ensures ascending { IsStrictlySortedBy nat_cmp (keys_of self.old.items) }
         ensures room { self.new.room ≡ self.old.room }
     {
         // The slot for the next number stays.

@@ -1,0 +1,372 @@
+-- What is left of a claim in the index once it was removed.
+use Rattle.std.proofs.Common.{◌≡◌, ℕ, ◌+◌, ◌<◌, ◌==◌, Bool, true, false, cond, not, ◌&&◌, ◌||◌, List, [], ◌∷◌, ◌++◌, map, filter, take, length, get_or, Option, Some, None, Ordering, Less, refl, sym, ap, ◌∙◌, subst, arith, ⊎_elim, ◌⊎◌, inl, inr}
+use Rattle.std.proofs.lemmas.Bool.{and_parts, or_cases, or_left, or_right, not_from_false, true≢false, cases_Bool}
+use Rattle.std.proofs.lemmas.Bool.Decides.{nat_tests, same_from_decides}
+use Rattle.std.proofs.lemmas.List.{take_more}
+use Rattle.std.proofs.lemmas.List.Elements.{filter-append}
+use Rattle.std.proofs.lemmas.List.Folds.{list_any-append}
+use Rattle.std.proofs.lemmas.List.Kept.{IsStrictlySortedBy-filter}
+use Rattle.std.proofs.lemmas.Map.Keys.{sorted_head, sorted_tail}
+use Rattle.std.proofs.lemmas.Slice.Eq.{bytes_eq-Decides}
+use Rattle.std.specs.BTreeMap.{is_at}
+use Rattle.std.specs.List.{Contains, list_any, AllByRecursion}
+use Rattle.std.specs.List.Sorted.{IsStrictlySortedBy}
+use Rattle.std.specs.Map.{lookup, keys_of, values_of}
+use Rattle.std.specs.Option.{option_and_then}
+use Rattle.std.specs.Ordering.{nat_cmp}
+use Rattle.std.specs.Str.{bytes_eq}
+use Rattle.ip_ranges.specs.Values.{AddressValue, has_address, same_address}
+use Rattle.ip_ranges.proofs.AddressLaws.{same_address-is, same_address-itself}
+use Rattle.kube_model.specs.declared.key.Key.{Key}
+use Rattle.kube_model.specs.Keys.{key_cmp, same_key}
+use Rattle.kube_model.proofs.KeyLaws.{is_eq-key_cmp}
+use Rattle.mlb_base.specs.Items.{is_nil}
+use Rattle.mlb_base.proofs.Among.{contains-none, contains-cons, contains-first, contains-later, any-contains, any-found}
+use Rattle.numbered_items.specs.Index.{IndexValue, numbers_under}
+use Rattle.sharing_terms.specs.Spelled.{recorded_terms}
+use Rattle.alloc_book.specs.Book.{AreAssigned}
+use Rattle.alloc_book.specs.Claims.{ClaimValue}
+use Rattle.alloc_book.specs.Holders.{AddressHoldersValue, claims_having, is_known}
+use Rattle.alloc_book.specs.Index.{numbers_of, numbered_at, numbers_at, is_marked, is_shared, AreShared, IsIndexed}
+use Rattle.alloc_book.specs.Removal.{has_sharing_key, is_marked_at, all_but, left_at}
+
+-- ---- lists
+module _ {X : Type 0} (test : X → Bool) where
+  once-by : (b : Bool) (x : X) (rest : List X) → test x ≡ b → filter test rest ≡ rest → filter test (cond b (x ∷ rest) rest) ≡ cond b (x ∷ rest) rest
+  once-by true x rest e ih = rw e (ap (λ (l : List X). x ∷ l) ih)
+  once-by false x rest e ih = ih
+
+  -- filtering twice is filtering once
+  pub filter-once : (xs : List X) → filter test (filter test xs) ≡ filter test xs
+  filter-once [] = refl
+  filter-once (x ∷ xs) = once-by (test x) x (filter test xs) refl (filter-once xs)
+
+  none-left : (xs : List X) → ((x : X) → Contains xs x → test x ≡ true) → filter test xs ≡ xs
+  none-left [] each = refl
+  none-left (x ∷ xs) each = rw (each x (contains-first x xs)) (ap (λ (l : List X). x ∷ l) (none-left xs (λ y there. each y (contains-later x xs y there))))
+
+-- ---- addresses one at a time
+same_address-flip : (a b : AddressValue) → same_address a b ≡ same_address b a
+same_address-flip a b =
+    same_from_decides (same_address a b) (same_address b a) (same_address-is a b, λ (e : a ≡ b). subst (λ x. same_address a x ≡ true) e (same_address-itself a))
+    (λ e. sym (same_address-is b a e), λ (e : a ≡ b). subst (λ x. same_address x a ≡ true) e (same_address-itself a))
+
+left-by : (had here : Bool) (n : ℕ) (numbers : List ℕ) → cond here (all_but n (cond had (all_but n numbers) numbers)) (cond had (all_but n numbers) numbers) ≡ cond (had || (here || false)) (all_but n numbers) numbers
+left-by true true n numbers = filter-once (λ m. not (m == n)) numbers
+left-by true false n numbers = refl
+left-by false true n numbers = refl
+left-by false false n numbers = refl
+
+-- one address more
+pub left-more : (n : ℕ) (xs : List AddressValue) (x : AddressValue) (numbers : AddressValue → List ℕ)
+    → (λ (a : AddressValue). cond (same_address x a) (all_but n (left_at n xs numbers a)) (left_at n xs numbers a)) ≡ left_at n (xs ++ x ∷ []) numbers
+left-more n xs x numbers = λ i a. at a i
+  where
+    at : (a : AddressValue) → cond (same_address x a) (all_but n (left_at n xs numbers a)) (left_at n xs numbers a) ≡ left_at n (xs ++ x ∷ []) numbers a
+    at a =
+        rw (list_any-append (same_address a) xs (x ∷ []), same_address-flip x a)
+        (left-by (has_address xs a) (same_address a x) n (numbers a))
+
+pub left-next : (n : ℕ) (xs : List AddressValue) (i : ℕ) (x : AddressValue) (numbers so_far : AddressValue → List ℕ) → i < length xs → x ≡ get_or xs i x → so_far ≡ left_at n (take i xs) numbers
+    → (λ (a : AddressValue). cond (same_address x a) (all_but n (so_far a)) (so_far a)) ≡ left_at n (take (i + 1) xs) numbers
+left-next n xs i x numbers so_far within is e =
+    ap taken e
+    ∙ left-more n (take i xs) x numbers
+    ∙ ap (λ (l : List AddressValue). left_at n l numbers) (sym (take_more xs i x within ∙ ap (λ (y : AddressValue). take i xs ++ y ∷ []) (sym is)))
+  where
+    taken : (AddressValue → List ℕ) → AddressValue → List ℕ
+    taken f a = cond (same_address x a) (all_but n (f a)) (f a)
+
+-- ---- numbers that ascend
+above : (n : ℕ) (items : List (ℕ × ClaimValue)) → AllByRecursion (λ m. nat_cmp n m ≡ Less) (keys_of items) → (p : ℕ × ClaimValue) → Contains items p → nat_cmp n p.0 ≡ Less
+above n [] all p there = absurd (contains-none p there)
+above n (q ∷ items) all p there =
+    ⊎_elim (λ (same : q ≡ p). subst (λ (r : ℕ × ClaimValue). nat_cmp n r.0 ≡ Less) same all.0) (λ later. above n items all.1 p later) (contains-cons q items p there)
+
+apart-by : (n m : ℕ) → nat_cmp n m ≡ Less → (n == m) ≡ false
+apart-by n m less = grind (arith, nat_tests)
+
+itself : (n : ℕ) → (n == n) ≡ true
+itself n = grind (arith, nat_tests)
+
+same-number : (n m : ℕ) → (n == m) ≡ true → n ≡ m
+same-number n m e = grind (arith, nat_tests)
+
+-- each claim is found by its number
+abbrev pub AreFound : List (ℕ × ClaimValue) → Type 0
+AreFound items = (p : ℕ × ClaimValue) → Contains items p → lookup (λ n. n == p.0) items ≡ Some p.1
+
+pub are-found : (items : List (ℕ × ClaimValue)) → IsStrictlySortedBy nat_cmp (keys_of items) → AreFound items
+are-found [] sorted p there = absurd (contains-none p there)
+are-found (q ∷ items) sorted p there =
+    ⊎_elim
+    (λ (same : q ≡ p). subst (λ (r : ℕ × ClaimValue). lookup (λ n. n == r.0) (q ∷ items) ≡ Some r.1) same (rw (itself q.0) refl))
+    (λ later.
+    let apart = apart-by q.0 p.0 (above q.0 items (sorted_head nat_cmp q.0 (keys_of items) sorted) p later) in
+    rw apart (are-found items (sorted_tail nat_cmp q.0 (keys_of items) sorted) p later))
+    (contains-cons q items p there)
+
+-- a claim of this number is this one
+abbrev pub IsOnly : ℕ → ClaimValue → List (ℕ × ClaimValue) → Type 0
+IsOnly n c items = (p : ℕ × ClaimValue) → Contains items p → (p.0 == n) ≡ true → p.1 ≡ c
+
+some-is : {X : Type 0} (x y : X) → Some x ≡ Some y → x ≡ y
+some-is x y e = cc
+
+is-only : (n : ℕ) (c : ClaimValue) (items : List (ℕ × ClaimValue)) → AreFound items → lookup (λ m. m == n) items ≡ Some c → IsOnly n c items
+is-only n c items found e p there same =
+    some-is p.1 c (sym (found p there) ∙ ap (λ (k : ℕ). lookup (λ m. m == k) items) (same-number p.0 n same) ∙ e)
+
+only-tail : (n : ℕ) (c : ClaimValue) (q : ℕ × ClaimValue) (items : List (ℕ × ClaimValue)) → IsOnly n c (q ∷ items) → IsOnly n c items
+only-tail n c q items only p there same = only p (contains-later q items p there) same
+
+-- ---- the claims without one
+abbrev pub without : ℕ → List (ℕ × ClaimValue) → List (ℕ × ClaimValue)
+without n items = filter (λ p. not (p.0 == n)) items
+
+keys-by : (b : Bool) (p : ℕ × ClaimValue) (rest : List (ℕ × ClaimValue)) (others : List ℕ) → keys_of rest ≡ others → keys_of (cond b (p ∷ rest) rest) ≡ cond b (p.0 ∷ others) others
+keys-by true p rest others ih = ap (λ (l : List ℕ). p.0 ∷ l) ih
+keys-by false p rest others ih = ih
+
+keys-without : (n : ℕ) (items : List (ℕ × ClaimValue)) → keys_of (without n items) ≡ all_but n (keys_of items)
+keys-without n [] = refl
+keys-without n (p ∷ items) = keys-by (not (p.0 == n)) p (without n items) (all_but n (keys_of items)) (keys-without n items)
+
+pub ascending-without : (n : ℕ) (items : List (ℕ × ClaimValue)) → IsStrictlySortedBy nat_cmp (keys_of items) → IsStrictlySortedBy nat_cmp (keys_of (without n items))
+ascending-without n items sorted =
+    subst (IsStrictlySortedBy nat_cmp) (sym (keys-without n items)) (IsStrictlySortedBy-filter nat_cmp (λ m. not (m == n)) (keys_of items) sorted)
+
+among-by : (b : Bool) (p : ℕ × ClaimValue) (rest : List (ℕ × ClaimValue)) (c : ClaimValue) → Contains (values_of (cond b (p ∷ rest) rest)) c → (p.1 ≡ c) ⊎ Contains (values_of rest) c
+among-by true p rest c there = contains-cons p.1 (values_of rest) c there
+among-by false p rest c there = inr there
+
+among : (n : ℕ) (items : List (ℕ × ClaimValue)) (c : ClaimValue) → Contains (values_of (without n items)) c → Contains (values_of items) c
+among n [] c there = absurd (contains-none c there)
+among n (p ∷ items) c there =
+    ⊎_elim
+    (λ (same : p.1 ≡ c). subst (Contains (p.1 ∷ values_of items)) same (contains-first p.1 (values_of items)))
+    (λ later. contains-later p.1 (values_of items) c (among n items c later))
+    (among-by (not (p.0 == n)) p (without n items) c there)
+
+pub assigned-without : (n : ℕ) (items : List (ℕ × ClaimValue)) → AreAssigned (values_of items) → AreAssigned (values_of (without n items))
+assigned-without n items all c there = all c (among n items c there)
+
+-- what is known by each sharing key is for fewer claims too
+pub shared-without : (n : ℕ) (h : AddressHoldersValue) (items : List (ℕ × ClaimValue)) → AreShared h (values_of items) → AreShared h (values_of (without n items))
+shared-without n h items all key a e =
+    let test : ClaimValue → Bool = λ c. is_marked key (recorded_terms c.holding.mark) && has_address c.holding.addresses a in
+    let found = any-found test (values_of (without n items)) e in
+    all key a (any-contains test (values_of items) found.0 (among n items found.0 found.1) found.2)
+
+-- ---- the numbers of each key
+of-by : (of_key here : Bool) (n : ℕ) (p : ℕ × ClaimValue) (rest : List (ℕ × ClaimValue)) (key : Key) → same_key p.1.key key ≡ of_key → (p.0 == n) ≡ here
+    → numbers_of key (without n rest) ≡ all_but n (numbers_of key rest)
+    → numbers_of key (cond (not here) (p ∷ without n rest) (without n rest)) ≡ all_but n (keys_of (cond of_key (p ∷ filter (λ q. same_key q.1.key key) rest) (filter (λ q. same_key q.1.key key) rest)))
+of-by true true n p rest key s t ih = rw t ih
+of-by true false n p rest key s t ih = rw (s, t) (ap (λ (l : List ℕ). p.0 ∷ l) ih)
+of-by false true n p rest key s t ih = ih
+of-by false false n p rest key s t ih = rw s ih
+
+of-without : (n : ℕ) (items : List (ℕ × ClaimValue)) (key : Key) → numbers_of key (without n items) ≡ all_but n (numbers_of key items)
+of-without n [] key = refl
+of-without n (p ∷ items) key = of-by (same_key p.1.key key) (p.0 == n) n p items key refl refl (of-without n items key)
+
+never : (b : Bool) → (b ≡ true → ⊥) → b ≡ false
+never b refuted = ⊎_elim (λ (e : b ≡ true). absurd (refuted e)) (λ e. e) (cases_Bool b)
+
+other-by : (of_key : Bool) (n : ℕ) (p : ℕ × ClaimValue) (rest : List (ℕ × ClaimValue)) → (of_key ≡ true → (p.0 == n) ≡ false) → all_but n (keys_of rest) ≡ keys_of rest
+    → all_but n (keys_of (cond of_key (p ∷ rest) rest)) ≡ keys_of (cond of_key (p ∷ rest) rest)
+other-by true n p rest apart ih = rw (apart refl) (ap (λ (l : List ℕ). p.0 ∷ l) ih)
+other-by false n p rest apart ih = ih
+
+-- no claim of another key has the number
+of-others : (n : ℕ) (c : ClaimValue) (items : List (ℕ × ClaimValue)) (key : Key) → IsOnly n c items → same_key c.key key ≡ false → all_but n (numbers_of key items) ≡ numbers_of key items
+of-others n c [] key only other = refl
+of-others n c (p ∷ items) key only other =
+    other-by (same_key p.1.key key) n p (filter (λ q. same_key q.1.key key) items)
+    (λ of_key. never (p.0 == n)
+    (λ same. true≢false (sym of_key ∙ ap (λ (x : ClaimValue). same_key x.key key) (only p (contains-first p items) same) ∙ other)))
+    (of-others n c items key (only-tail n c p items only) other)
+
+of-left : (b : Bool) (n : ℕ) (c : ClaimValue) (items : List (ℕ × ClaimValue)) (key : Key) → IsOnly n c items → same_key c.key key ≡ b
+    → cond b (all_but n (numbers_of key items)) (numbers_of key items) ≡ numbers_of key (without n items)
+of-left true n c items key only e = sym (of-without n items key)
+of-left false n c items key only e = sym (of-without n items key ∙ of-others n c items key only e)
+
+pub keys-left : (n : ℕ) (c : ClaimValue) (items : List (ℕ × ClaimValue)) (before after : IndexValue Key) → IsOnly n c items
+    → numbers_under key_cmp before ≡ (λ key. numbers_of key items)
+    → numbers_under key_cmp after ≡ (λ key. cond (is_at (key_cmp c.key) key) (all_but n (numbers_under key_cmp before key)) (numbers_under key_cmp before key))
+    → numbers_under key_cmp after ≡ (λ key. numbers_of key (without n items))
+keys-left n c items before after only e change = change ∙ (λ i key. at key i)
+  where
+    at : (key : Key) → cond (is_at (key_cmp c.key) key) (all_but n (numbers_under key_cmp before key)) (numbers_under key_cmp before key) ≡ numbers_of key (without n items)
+    at key =
+        ap (λ (f : Key → List ℕ). cond (is_at (key_cmp c.key) key) (all_but n (f key)) (f key)) e
+        ∙ of-left (is_at (key_cmp c.key) key) n c items key only (sym (is_eq-key_cmp c.key key))
+
+-- ---- the numbers at each address
+here-by : (b : Bool) (n m : ℕ) (xs : List AddressValue) → (m == n) ≡ b → all_but n (map (λ _. m) xs) ≡ cond (not b) (map (λ _. m) xs) []
+here-by true n m [] e = refl
+here-by true n m (x ∷ xs) e = rw e (here-by true n m xs e)
+here-by false n m [] e = refl
+here-by false n m (x ∷ xs) e = rw e (ap (λ (l : List ℕ). m ∷ l) (here-by false n m xs e))
+
+at-by : (b : Bool) (n : ℕ) (a : AddressValue) (p : ℕ × ClaimValue) (rest : List (ℕ × ClaimValue)) (numbers : List ℕ) → numbers_at a rest ≡ numbers
+    → numbers_at a (cond (not b) (p ∷ rest) rest) ≡ cond (not b) (numbered_at a p) [] ++ numbers
+at-by true n a p rest numbers ih = ih
+at-by false n a p rest numbers ih = ap (λ (l : List ℕ). numbered_at a p ++ l) ih
+
+at-without : (n : ℕ) (items : List (ℕ × ClaimValue)) (a : AddressValue) → numbers_at a (without n items) ≡ all_but n (numbers_at a items)
+at-without n [] a = refl
+at-without n (p ∷ items) a =
+    at-by (p.0 == n) n a p (without n items) (all_but n (numbers_at a items)) (at-without n items a)
+    ∙ ap (λ (l : List ℕ). l ++ all_but n (numbers_at a items)) (sym (here-by (p.0 == n) n p.0 (filter (same_address a) p.1.holding.addresses) refl))
+    ∙ sym (filter-append (λ m. not (m == n)) (numbered_at a p) (numbers_at a items))
+
+nothing-by : (b : Bool) (x : AddressValue) (rest : List AddressValue) → b ≡ false → rest ≡ [] → cond b (x ∷ rest) rest ≡ []
+nothing-by true x rest e ih = absurd (true≢false e)
+nothing-by false x rest e ih = ih
+
+or-none : (x y : Bool) → (x || y) ≡ false → (x ≡ false) × (y ≡ false)
+or-none true y e = absurd (true≢false e)
+or-none false y e = (refl, e)
+
+nothing-at : (a : AddressValue) (xs : List AddressValue) → has_address xs a ≡ false → filter (same_address a) xs ≡ []
+nothing-at a [] e = refl
+nothing-at a (x ∷ xs) e =
+    let parts = or-none (same_address a x) (has_address xs a) e in
+    nothing-by (same_address a x) x (filter (same_address a) xs) parts.0 (nothing-at a xs parts.1)
+
+elsewhere-by : (b : Bool) (n m : ℕ) (xs : List AddressValue) → (m == n) ≡ b → (b ≡ true → xs ≡ []) → all_but n (map (λ _. m) xs) ≡ map (λ _. m) xs
+elsewhere-by true n m xs e none = rw (none refl) refl
+elsewhere-by false n m xs e none = here-by false n m xs e
+
+-- no claim has the number at an address that the claim of the number doesn't have
+at-others : (n : ℕ) (c : ClaimValue) (items : List (ℕ × ClaimValue)) (a : AddressValue) → IsOnly n c items → has_address c.holding.addresses a ≡ false → all_but n (numbers_at a items) ≡ numbers_at a items
+at-others n c [] a only other = refl
+at-others n c (p ∷ items) a only other =
+    let here : all_but n (numbered_at a p) ≡ numbered_at a p =
+    elsewhere-by (p.0 == n) n p.0 (filter (same_address a) p.1.holding.addresses) refl
+    (λ same. nothing-at a p.1.holding.addresses (ap (λ (x : ClaimValue). has_address x.holding.addresses a) (only p (contains-first p items) same) ∙ other)) in
+    filter-append (λ m. not (m == n)) (numbered_at a p) (numbers_at a items)
+    ∙ ap (λ (l : List ℕ). l ++ all_but n (numbers_at a items)) here
+    ∙ ap (λ (l : List ℕ). numbered_at a p ++ l) (at-others n c items a (only-tail n c p items only) other)
+
+at-left : (b : Bool) (n : ℕ) (c : ClaimValue) (items : List (ℕ × ClaimValue)) (a : AddressValue) → IsOnly n c items → has_address c.holding.addresses a ≡ b
+    → cond b (all_but n (numbers_at a items)) (numbers_at a items) ≡ numbers_at a (without n items)
+at-left true n c items a only e = sym (at-without n items a)
+at-left false n c items a only e = sym (at-without n items a ∙ at-others n c items a only e)
+
+pub holders-left : (n : ℕ) (c : ClaimValue) (items : List (ℕ × ClaimValue)) (before after : AddressHoldersValue) → IsOnly n c items
+    → claims_having before ≡ (λ a. numbers_at a items)
+    → claims_having after ≡ left_at n c.holding.addresses (claims_having before)
+    → claims_having after ≡ (λ a. numbers_at a (without n items))
+holders-left n c items before after only e change = change ∙ ap (left_at n c.holding.addresses) e ∙ (λ i a. at-left (has_address c.holding.addresses a) n c items a only refl i)
+
+-- ---- what isn't known by a sharing key any more
+marked-has : (key : List ℕ) (c : ClaimValue) → is_marked key (recorded_terms c.holding.mark) ≡ true → has_sharing_key key (recorded_terms c.holding.mark) ≡ true
+marked-has key c e = has (recorded_terms c.holding.mark) e
+  where
+    has : (terms : _) → is_marked key terms ≡ true → has_sharing_key key terms ≡ true
+    has None e = e
+    has (Some terms) e = (and_parts (bytes_eq terms.key key) (not (is_nil key)) e).0
+
+named-by : (test : ℕ → Bool) (b : Bool) (n : ℕ) (x : AddressValue) (rest : List AddressValue) → test n ≡ true → (b ≡ true) ⊎ (list_any test (map (λ _. n) rest) ≡ true)
+    → list_any test (map (λ _. n) (cond b (x ∷ rest) rest)) ≡ true
+named-by test true n x rest passes some = or_left (test n) (list_any test (map (λ _. n) rest)) passes
+named-by test false n x rest passes some = ⊎_elim (λ here. absurd (true≢false (sym here))) (λ later. later) some
+
+-- the number of a claim that has the address is one of the numbers at it
+named : (test : ℕ → Bool) (n : ℕ) (a : AddressValue) (xs : List AddressValue) → test n ≡ true → has_address xs a ≡ true → list_any test (map (λ _. n) (filter (same_address a) xs)) ≡ true
+named test n a [] passes e = absurd (true≢false (sym e))
+named test n a (x ∷ xs) passes e =
+    named-by test (same_address a x) n x (filter (same_address a) xs) passes
+    (⊎_elim (λ here. inl here) (λ later. inr (named test n a xs passes later)) (or_cases (same_address a x) (has_address xs a) e))
+
+marked-among : (key : List ℕ) (a : AddressValue) (items rest : List (ℕ × ClaimValue)) → ((p : ℕ × ClaimValue) → Contains rest p → lookup (λ n. n == p.0) items ≡ Some p.1)
+    → is_shared key (values_of rest) a ≡ true → list_any (is_marked_at key items) (numbers_at a rest) ≡ true
+marked-among key a items [] found e = absurd (true≢false (sym e))
+marked-among key a items (p ∷ rest) found e =
+    list_any-append (is_marked_at key items) (numbered_at a p) (numbers_at a rest)
+    ∙ ⊎_elim
+    (λ here.
+    let parts = and_parts (is_marked key (recorded_terms p.1.holding.mark)) (has_address p.1.holding.addresses a) here in
+    let marked : is_marked_at key items p.0 ≡ true =
+    ap (λ (o : Option ClaimValue). has_sharing_key key (option_and_then (λ c. recorded_terms c.holding.mark) o)) (found p (contains-first p rest)) ∙ marked-has key p.1 parts.0 in
+    or_left (list_any (is_marked_at key items) (numbered_at a p)) (list_any (is_marked_at key items) (numbers_at a rest))
+    (named (is_marked_at key items) p.0 a p.1.holding.addresses marked parts.1))
+    (λ later. or_right (list_any (is_marked_at key items) (numbered_at a p)) (list_any (is_marked_at key items) (numbers_at a rest))
+    (marked-among key a items rest (λ q there. found q (contains-later p rest q there)) later))
+    (or_cases (is_marked key (recorded_terms p.1.holding.mark) && has_address p.1.holding.addresses a) (is_shared key (values_of rest) a) e)
+
+unshared-by : (same here known : Bool) → (same && here) ≡ false → known ≡ true → (not (same && here) && known) ≡ true
+unshared-by same here known apart e = rw apart e
+
+-- an address that no claim has under the key needn't be known by it
+pub unshared : (key : List ℕ) (address : AddressValue) (items : List (ℕ × ClaimValue)) (before after : AddressHoldersValue) → IsStrictlySortedBy nat_cmp (keys_of items)
+    → list_any (is_marked_at key items) (numbers_at address items) ≡ false
+    → is_known after ≡ (λ k a. not (bytes_eq key k && same_address address a) && is_known before k a)
+    → AreShared before (values_of items) → AreShared after (values_of items)
+unshared key address items before after sorted none change known k a e =
+    ap (λ (f : List ℕ → AddressValue → Bool). f k a) change
+    ∙ unshared-by (bytes_eq key k) (same_address address a) (is_known before k a)
+    (never (bytes_eq key k && same_address address a)
+    (λ both.
+    let parts = and_parts (bytes_eq key k) (same_address address a) both in
+    let keys : key ≡ k = (bytes_eq-Decides key k).0 parts.0 in
+    let addresses : address ≡ a = same_address-is address a parts.1 in
+    let shared : is_shared key (values_of items) address ≡ true =
+    ap (λ (q : List ℕ). is_shared q (values_of items) address) keys ∙ ap (λ (b : AddressValue). is_shared k (values_of items) b) addresses ∙ e in
+    true≢false (sym (marked-among key address items items (are-found items sorted) shared) ∙ none)))
+    (known k a e)
+
+pub unshared-kept : (items : List (ℕ × ClaimValue)) (before after : AddressHoldersValue) → is_known after ≡ is_known before → AreShared before (values_of items) → AreShared after (values_of items)
+unshared-kept items before after same known k a e = ap (λ (f : List ℕ → AddressValue → Bool). f k a) same ∙ known k a e
+
+-- ---- the index without a claim
+none-by : (b : Bool) (c : ClaimValue) (found : Option ClaimValue) → cond b (Some c) found ≡ None → b ≡ false
+none-by true c found e = absurd (cc)
+none-by false c found e = refl
+
+pub without-none : (n : ℕ) (items : List (ℕ × ClaimValue)) → lookup (λ m. m == n) items ≡ None → without n items ≡ items
+without-none n [] e = refl
+without-none n (p ∷ items) e =
+    let apart = none-by (p.0 == n) p.1 (lookup (λ m. m == n) items) e in
+    rw apart (ap (λ (l : List (ℕ × ClaimValue)). p ∷ l) (without-none n items (ap (λ (b : Bool). cond b (Some p.1) (lookup (λ m. m == n) items)) (sym apart) ∙ e)))
+
+-- the claim of the number went, from the claims and from what they are found by
+module _ (n : ℕ) (items less : List (ℕ × ClaimValue)) (is : less ≡ without n items) (sorted : IsStrictlySortedBy nat_cmp (keys_of items)) where
+  pub removed-ascending : IsStrictlySortedBy nat_cmp (keys_of less)
+  removed-ascending = subst (λ (l : List (ℕ × ClaimValue)). IsStrictlySortedBy nat_cmp (keys_of l)) (sym is) (ascending-without n items sorted)
+
+  pub removed-assigned : AreAssigned (values_of items) → AreAssigned (values_of less)
+  removed-assigned all = subst (λ (l : List (ℕ × ClaimValue)). AreAssigned (values_of l)) (sym is) (assigned-without n items all)
+
+  pub removed-shared : (before after : AddressHoldersValue) → is_known after ≡ is_known before → AreShared before (values_of items) → AreShared after (values_of less)
+  removed-shared before after same all =
+      subst (λ (l : List (ℕ × ClaimValue)). AreShared after (values_of l)) (sym is) (unshared-kept (without n items) before after same (shared-without n before items all))
+
+  module _ (c : ClaimValue) (found : Some c ≡ lookup (λ m. m == n) items) where
+    only : IsOnly n c items
+    only = is-only n c items (are-found items sorted) (sym found)
+
+    pub removed-keys : (key : Key) (before after : IndexValue Key) → key ≡ c.key
+        → numbers_under key_cmp before ≡ (λ k. numbers_of k items)
+        → numbers_under key_cmp after ≡ (λ k. cond (is_at (key_cmp key) k) (all_but n (numbers_under key_cmp before k)) (numbers_under key_cmp before k))
+        → numbers_under key_cmp after ≡ (λ k. numbers_of k less)
+    removed-keys key before after same e change =
+        subst (λ (l : List (ℕ × ClaimValue)). numbers_under key_cmp after ≡ (λ k. numbers_of k l)) (sym is)
+        (keys-left n c items before after only e
+        (subst (λ (q : Key). numbers_under key_cmp after ≡ (λ k. cond (is_at (key_cmp q) k) (all_but n (numbers_under key_cmp before k)) (numbers_under key_cmp before k))) same change))
+
+    pub removed-holders : (addresses : List AddressValue) (before after : AddressHoldersValue) → addresses ≡ c.holding.addresses
+        → claims_having before ≡ (λ a. numbers_at a items)
+        → claims_having after ≡ left_at n addresses (claims_having before)
+        → claims_having after ≡ (λ a. numbers_at a less)
+    removed-holders addresses before after same e change =
+        subst (λ (l : List (ℕ × ClaimValue)). claims_having after ≡ (λ a. numbers_at a l)) (sym is)
+        (holders-left n c items before after only e (subst (λ (l : List AddressValue). claims_having after ≡ left_at n l (claims_having before)) same change))
+
+-- where no claim has the number all stays
+pub indexed-still : (n : ℕ) (items less : List (ℕ × ClaimValue)) (by_key : IndexValue Key) (h : AddressHoldersValue) → less ≡ without n items → None ≡ lookup (λ m. m == n) items → IsIndexed items by_key h → IsIndexed less by_key h
+indexed-still n items less by_key h is none indexed = subst (λ (l : List (ℕ × ClaimValue)). IsIndexed l by_key h) (sym (is ∙ without-none n items (sym none))) indexed

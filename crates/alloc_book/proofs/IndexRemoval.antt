@@ -1,6 +1,6 @@
 -- What is left of a claim in the index once it was removed.
-use Rattle.std.proofs.Common.{◌≡◌, ℕ, ◌+◌, ◌<◌, ◌==◌, Bool, true, false, cond, not, ◌&&◌, ◌||◌, List, [], ◌∷◌, ◌++◌, map, filter, take, length, get_or, Option, Some, None, Ordering, Less, refl, sym, ap, ◌∙◌, subst, arith, ⊎_elim, ◌⊎◌, inl, inr}
-use Rattle.std.proofs.lemmas.Bool.{and_parts, or_cases, or_left, or_right, not_from_false, true≢false, cases_Bool}
+use Rattle.std.proofs.Common.{◌≡◌, ℕ, ◌+◌, ◌<◌, ◌==◌, Bool, true, false, cond, not, ◌&&◌, ◌||◌, List, [], ◌∷◌, ◌++◌, map, filter, take, length, get_or, Option, Some, None, Less, refl, sym, ap, ◌∙◌, subst, arith, ⊎_elim, ◌⊎◌, inl, inr}
+use Rattle.std.proofs.lemmas.Bool.{and_parts, or_cases, or_left, or_right, true≢false, cases_Bool}
 use Rattle.std.proofs.lemmas.Bool.Decides.{nat_tests, same_from_decides}
 use Rattle.std.proofs.lemmas.List.{take_more}
 use Rattle.std.proofs.lemmas.List.Elements.{filter-append}
@@ -37,13 +37,9 @@ module _ {X : Type 0} (test : X → Bool) where
   once-by false x rest e ih = ih
 
   -- filtering twice is filtering once
-  pub filter-once : (xs : List X) → filter test (filter test xs) ≡ filter test xs
+  filter-once : (xs : List X) → filter test (filter test xs) ≡ filter test xs
   filter-once [] = refl
   filter-once (x ∷ xs) = once-by (test x) x (filter test xs) refl (filter-once xs)
-
-  none-left : (xs : List X) → ((x : X) → Contains xs x → test x ≡ true) → filter test xs ≡ xs
-  none-left [] each = refl
-  none-left (x ∷ xs) each = rw (each x (contains-first x xs)) (ap (λ (l : List X). x ∷ l) (none-left xs (λ y there. each y (contains-later x xs y there))))
 
 -- ---- addresses one at a time
 same_address-flip : (a b : AddressValue) → same_address a b ≡ same_address b a
@@ -58,7 +54,7 @@ left-by false true n numbers = refl
 left-by false false n numbers = refl
 
 -- one address more
-pub left-more : (n : ℕ) (xs : List AddressValue) (x : AddressValue) (numbers : AddressValue → List ℕ)
+left-more : (n : ℕ) (xs : List AddressValue) (x : AddressValue) (numbers : AddressValue → List ℕ)
     → (λ (a : AddressValue). cond (same_address x a) (all_but n (left_at n xs numbers a)) (left_at n xs numbers a)) ≡ left_at n (xs ++ x ∷ []) numbers
 left-more n xs x numbers = λ i a. at a i
   where
@@ -96,7 +92,7 @@ same-number n m e = grind (arith, nat_tests)
 abbrev pub AreFound : List (ℕ × ClaimValue) → Type 0
 AreFound items = (p : ℕ × ClaimValue) → Contains items p → lookup (λ n. n == p.0) items ≡ Some p.1
 
-pub are-found : (items : List (ℕ × ClaimValue)) → IsStrictlySortedBy nat_cmp (keys_of items) → AreFound items
+are-found : (items : List (ℕ × ClaimValue)) → IsStrictlySortedBy nat_cmp (keys_of items) → AreFound items
 are-found [] sorted p there = absurd (contains-none p there)
 are-found (q ∷ items) sorted p there =
     ⊎_elim
@@ -132,7 +128,7 @@ keys-without : (n : ℕ) (items : List (ℕ × ClaimValue)) → keys_of (without
 keys-without n [] = refl
 keys-without n (p ∷ items) = keys-by (not (p.0 == n)) p (without n items) (all_but n (keys_of items)) (keys-without n items)
 
-pub ascending-without : (n : ℕ) (items : List (ℕ × ClaimValue)) → IsStrictlySortedBy nat_cmp (keys_of items) → IsStrictlySortedBy nat_cmp (keys_of (without n items))
+ascending-without : (n : ℕ) (items : List (ℕ × ClaimValue)) → IsStrictlySortedBy nat_cmp (keys_of items) → IsStrictlySortedBy nat_cmp (keys_of (without n items))
 ascending-without n items sorted =
     subst (IsStrictlySortedBy nat_cmp) (sym (keys-without n items)) (IsStrictlySortedBy-filter nat_cmp (λ m. not (m == n)) (keys_of items) sorted)
 
@@ -148,11 +144,11 @@ among n (p ∷ items) c there =
     (λ later. contains-later p.1 (values_of items) c (among n items c later))
     (among-by (not (p.0 == n)) p (without n items) c there)
 
-pub assigned-without : (n : ℕ) (items : List (ℕ × ClaimValue)) → AreAssigned (values_of items) → AreAssigned (values_of (without n items))
+assigned-without : (n : ℕ) (items : List (ℕ × ClaimValue)) → AreAssigned (values_of items) → AreAssigned (values_of (without n items))
 assigned-without n items all c there = all c (among n items c there)
 
 -- what is known by each sharing key is for fewer claims too
-pub shared-without : (n : ℕ) (h : AddressHoldersValue) (items : List (ℕ × ClaimValue)) → AreShared h (values_of items) → AreShared h (values_of (without n items))
+shared-without : (n : ℕ) (h : AddressHoldersValue) (items : List (ℕ × ClaimValue)) → AreShared h (values_of items) → AreShared h (values_of (without n items))
 shared-without n h items all key a e =
     let test : ClaimValue → Bool = λ c. is_marked key (recorded_terms c.holding.mark) && has_address c.holding.addresses a in
     let found = any-found test (values_of (without n items)) e in
@@ -193,7 +189,7 @@ of-left : (b : Bool) (n : ℕ) (c : ClaimValue) (items : List (ℕ × ClaimValue
 of-left true n c items key only e = sym (of-without n items key)
 of-left false n c items key only e = sym (of-without n items key ∙ of-others n c items key only e)
 
-pub keys-left : (n : ℕ) (c : ClaimValue) (items : List (ℕ × ClaimValue)) (before after : IndexValue Key) → IsOnly n c items
+keys-left : (n : ℕ) (c : ClaimValue) (items : List (ℕ × ClaimValue)) (before after : IndexValue Key) → IsOnly n c items
     → numbers_under key_cmp before ≡ (λ key. numbers_of key items)
     → numbers_under key_cmp after ≡ (λ key. cond (is_at (key_cmp c.key) key) (all_but n (numbers_under key_cmp before key)) (numbers_under key_cmp before key))
     → numbers_under key_cmp after ≡ (λ key. numbers_of key (without n items))
@@ -257,7 +253,7 @@ at-left : (b : Bool) (n : ℕ) (c : ClaimValue) (items : List (ℕ × ClaimValue
 at-left true n c items a only e = sym (at-without n items a)
 at-left false n c items a only e = sym (at-without n items a ∙ at-others n c items a only e)
 
-pub holders-left : (n : ℕ) (c : ClaimValue) (items : List (ℕ × ClaimValue)) (before after : AddressHoldersValue) → IsOnly n c items
+holders-left : (n : ℕ) (c : ClaimValue) (items : List (ℕ × ClaimValue)) (before after : AddressHoldersValue) → IsOnly n c items
     → claims_having before ≡ (λ a. numbers_at a items)
     → claims_having after ≡ left_at n c.holding.addresses (claims_having before)
     → claims_having after ≡ (λ a. numbers_at a (without n items))
@@ -320,7 +316,7 @@ unshared key address items before after sorted none change known k a e =
     true≢false (sym (marked-among key address items items (are-found items sorted) shared) ∙ none)))
     (known k a e)
 
-pub unshared-kept : (items : List (ℕ × ClaimValue)) (before after : AddressHoldersValue) → is_known after ≡ is_known before → AreShared before (values_of items) → AreShared after (values_of items)
+unshared-kept : (items : List (ℕ × ClaimValue)) (before after : AddressHoldersValue) → is_known after ≡ is_known before → AreShared before (values_of items) → AreShared after (values_of items)
 unshared-kept items before after same known k a e = ap (λ (f : List ℕ → AddressValue → Bool). f k a) same ∙ known k a e
 
 -- ---- the index without a claim
@@ -328,7 +324,7 @@ none-by : (b : Bool) (c : ClaimValue) (found : Option ClaimValue) → cond b (So
 none-by true c found e = absurd (cc)
 none-by false c found e = refl
 
-pub without-none : (n : ℕ) (items : List (ℕ × ClaimValue)) → lookup (λ m. m == n) items ≡ None → without n items ≡ items
+without-none : (n : ℕ) (items : List (ℕ × ClaimValue)) → lookup (λ m. m == n) items ≡ None → without n items ≡ items
 without-none n [] e = refl
 without-none n (p ∷ items) e =
     let apart = none-by (p.0 == n) p.1 (lookup (λ m. m == n) items) e in

@@ -97,7 +97,12 @@ impl ClaimIndex {
         self.by_key.remove(claim.key(), number);
         remove_each(&mut self.holders, claim.addresses(), number);
         if let Some(terms) = claim.terms() {
-            unshare_each(&self.claims, &mut self.holders, &terms.key, claim.addresses());
+            unshare_each(
+                &self.claims,
+                &mut self.holders,
+                &terms.key,
+                claim.addresses(),
+            );
         }
     }
 

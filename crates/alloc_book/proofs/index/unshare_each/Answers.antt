@@ -15,16 +15,16 @@ loop-address-preserved c =
     let kept = c.loop-address.invariant.numbers in
     let at = c.numbers.ensures ∙ ap (λ having. having address) (kept ∙ c.requires.numbers) in
     elim c.if-not-is_shared_at.branch [
-      then-not-is_shared_at w ↦
-      let none = sym (ap (list_any (is_marked_at c.args.key.now items)) at) ∙ sym c.is_shared_at.ensures ∙ w.if-not-is_shared_at.true in
-      record {
-        numbers = ap claims_having w.holders-is ∙ w.unshare.ensures.numbers ∙ kept;
-        shared = subst (λ (h : AddressHoldersValue). AreShared h (values_of items)) (sym w.holders-is)
-        (unshared c.args.key.now address items c.loop-address.holders w.unshare.new.self c.requires.ascending none w.unshare.ensures.shared c.loop-address.invariant.shared);
-      }
+      | then-not-is_shared_at w ↦
+          let none = sym (ap (list_any (is_marked_at c.args.key.now items)) at) ∙ sym c.is_shared_at.ensures ∙ w.if-not-is_shared_at.true in
+          record {
+            numbers = ap claims_having w.holders-is ∙ w.unshare.ensures.numbers ∙ kept;
+            shared = subst (λ (h : AddressHoldersValue). AreShared h (values_of items)) (sym w.holders-is)
+                (unshared c.args.key.now address items c.loop-address.holders w.unshare.new.self c.requires.ascending none w.unshare.ensures.shared c.loop-address.invariant.shared);
+          }
       | else-not-is_shared_at w ↦
-      record {
-        numbers = ap claims_having w.holders-is ∙ kept;
-        shared = subst (λ (h : AddressHoldersValue). AreShared h (values_of items)) (sym w.holders-is) c.loop-address.invariant.shared;
-      }
+          record {
+            numbers = ap claims_having w.holders-is ∙ kept;
+            shared = subst (λ (h : AddressHoldersValue). AreShared h (values_of items)) (sym w.holders-is) c.loop-address.invariant.shared;
+          }
     ]

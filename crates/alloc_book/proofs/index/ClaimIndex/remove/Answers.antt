@@ -27,14 +27,14 @@ invariant_of-self-in-Some-terms c =
     record {
       assigned = removed-assigned c.args.number c.self.inside.claims.items c.remove.new.self.items c.remove.ensures.items c.remove.ensures.ascending c.self.invariant.assigned;
       keys =
-      removed-keys c.args.number c.self.inside.claims.items c.remove.new.self.items c.remove.ensures.items c.remove.ensures.ascending
-      c.in-Some.claim c.in-Some.ensures.item c.key.result.now c.self.inside.by_key c.remove-2.new.self
-      c.key.ensures c.self.invariant.keys c.remove-2.ensures.numbers;
+          removed-keys c.args.number c.self.inside.claims.items c.remove.new.self.items c.remove.ensures.items c.remove.ensures.ascending
+          c.in-Some.claim c.in-Some.ensures.item c.key.result.now c.self.inside.by_key c.remove-2.new.self
+          c.key.ensures c.self.invariant.keys c.remove-2.ensures.numbers;
       holders =
-      c.unshare_each.ensures.numbers
-      ∙ removed-holders c.args.number c.self.inside.claims.items c.remove.new.self.items c.remove.ensures.items c.remove.ensures.ascending
-      c.in-Some.claim c.in-Some.ensures.item c.addresses.result.now c.self.inside.holders c.remove_each.new.holders
-      c.addresses.ensures c.self.invariant.holders c.remove_each.ensures.numbers;
+          c.unshare_each.ensures.numbers
+          ∙ removed-holders c.args.number c.self.inside.claims.items c.remove.new.self.items c.remove.ensures.items c.remove.ensures.ascending
+          c.in-Some.claim c.in-Some.ensures.item c.addresses.result.now c.self.inside.holders c.remove_each.new.holders
+          c.addresses.ensures c.self.invariant.holders c.remove_each.ensures.numbers;
       shared = c.unshare_each.ensures.shared;
     }
 
@@ -43,14 +43,14 @@ invariant_of-self-in_default-terms c =
     record {
       assigned = removed-assigned c.args.number c.self.inside.claims.items c.remove.new.self.items c.remove.ensures.items c.remove.ensures.ascending c.self.invariant.assigned;
       keys =
-      removed-keys c.args.number c.self.inside.claims.items c.remove.new.self.items c.remove.ensures.items c.remove.ensures.ascending
-      c.in-Some.claim c.in-Some.ensures.item c.key.result.now c.self.inside.by_key c.remove-2.new.self
-      c.key.ensures c.self.invariant.keys c.remove-2.ensures.numbers;
+          removed-keys c.args.number c.self.inside.claims.items c.remove.new.self.items c.remove.ensures.items c.remove.ensures.ascending
+          c.in-Some.claim c.in-Some.ensures.item c.key.result.now c.self.inside.by_key c.remove-2.new.self
+          c.key.ensures c.self.invariant.keys c.remove-2.ensures.numbers;
       holders =
-      removed-holders c.args.number c.self.inside.claims.items c.remove.new.self.items c.remove.ensures.items c.remove.ensures.ascending
-      c.in-Some.claim c.in-Some.ensures.item c.addresses.result.now c.self.inside.holders c.remove_each.new.holders
-      c.addresses.ensures c.self.invariant.holders c.remove_each.ensures.numbers;
+          removed-holders c.args.number c.self.inside.claims.items c.remove.new.self.items c.remove.ensures.items c.remove.ensures.ascending
+          c.in-Some.claim c.in-Some.ensures.item c.addresses.result.now c.self.inside.holders c.remove_each.new.holders
+          c.addresses.ensures c.self.invariant.holders c.remove_each.ensures.numbers;
       shared =
-      removed-shared c.args.number c.self.inside.claims.items c.remove.new.self.items c.remove.ensures.items c.remove.ensures.ascending
-      c.self.inside.holders c.remove_each.new.holders c.remove_each.ensures.shared c.self.invariant.shared;
+          removed-shared c.args.number c.self.inside.claims.items c.remove.new.self.items c.remove.ensures.items c.remove.ensures.ascending
+          c.self.inside.holders c.remove_each.new.holders c.remove_each.ensures.shared c.self.invariant.shared;
     }

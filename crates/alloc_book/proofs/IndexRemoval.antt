@@ -1,6 +1,6 @@
 -- What is left of a claim in the index once it was removed.
-use Rattle.std.proofs.Common.{◌≡◌, ℕ, ◌+◌, ◌<◌, ◌==◌, Bool, true, false, cond, not, ◌&&◌, ◌||◌, List, [], ◌∷◌, ◌++◌, map, filter, take, length, get_or, Option, Some, None, Ordering, Less, refl, sym, ap, ◌∙◌, subst, arith, ⊎_elim, ◌⊎◌, inl, inr}
-use Rattle.std.proofs.lemmas.Bool.{and_parts, or_cases, or_left, or_right, not_from_false, true≢false, cases_Bool}
+use Rattle.std.proofs.Common.{◌≡◌, ℕ, ◌+◌, ◌<◌, ◌==◌, Bool, true, false, cond, not, ◌&&◌, ◌||◌, List, [], ◌∷◌, ◌++◌, map, filter, take, length, get_or, Option, Some, None, Less, refl, sym, ap, ◌∙◌, subst, arith, ⊎_elim, ◌⊎◌, inl, inr}
+use Rattle.std.proofs.lemmas.Bool.{and_parts, or_cases, or_left, or_right, true≢false, cases_Bool}
 use Rattle.std.proofs.lemmas.Bool.Decides.{nat_tests, same_from_decides}
 use Rattle.std.proofs.lemmas.List.{take_more}
 use Rattle.std.proofs.lemmas.List.Elements.{filter-append}
@@ -37,13 +37,9 @@ module _ {X : Type 0} (test : X → Bool) where
   once-by false x rest e ih = ih
 
   -- filtering twice is filtering once
-  pub filter-once : (xs : List X) → filter test (filter test xs) ≡ filter test xs
+  filter-once : (xs : List X) → filter test (filter test xs) ≡ filter test xs
   filter-once [] = refl
   filter-once (x ∷ xs) = once-by (test x) x (filter test xs) refl (filter-once xs)
-
-  none-left : (xs : List X) → ((x : X) → Contains xs x → test x ≡ true) → filter test xs ≡ xs
-  none-left [] each = refl
-  none-left (x ∷ xs) each = rw (each x (contains-first x xs)) (ap (λ (l : List X). x ∷ l) (none-left xs (λ y there. each y (contains-later x xs y there))))
 
 -- ---- addresses one at a time
 same_address-flip : (a b : AddressValue) → same_address a b ≡ same_address b a
@@ -58,7 +54,7 @@ left-by false true n numbers = refl
 left-by false false n numbers = refl
 
 -- one address more
-pub left-more : (n : ℕ) (xs : List AddressValue) (x : AddressValue) (numbers : AddressValue → List ℕ)
+left-more : (n : ℕ) (xs : List AddressValue) (x : AddressValue) (numbers : AddressValue → List ℕ)
     → (λ (a : AddressValue). cond (same_address x a) (all_but n (left_at n xs numbers a)) (left_at n xs numbers a)) ≡ left_at n (xs ++ x ∷ []) numbers
 left-more n xs x numbers = λ i a. at a i
   where
@@ -96,7 +92,7 @@ same-number n m e = grind (arith, nat_tests)
 abbrev pub AreFound : List (ℕ × ClaimValue) → Type 0
 AreFound items = (p : ℕ × ClaimValue) → Contains items p → lookup (λ n. n == p.0) items ≡ Some p.1
 
-pub are-found : (items : List (ℕ × ClaimValue)) → IsStrictlySortedBy nat_cmp (keys_of items) → AreFound items
+are-found : (items : List (ℕ × ClaimValue)) → IsStrictlySortedBy nat_cmp (keys_of items) → AreFound items
 are-found [] sorted p there = absurd (contains-none p there)
 are-found (q ∷ items) sorted p there =
     ⊎_elim
@@ -124,15 +120,15 @@ only-tail n c q items only p there same = only p (contains-later q items p there
 abbrev pub without : ℕ → List (ℕ × ClaimValue) → List (ℕ × ClaimValue)
 without n items = filter (λ p. not (p.0 == n)) items
 
-keys-by : (b : Bool) (n : ℕ) (p : ℕ × ClaimValue) (rest : List (ℕ × ClaimValue)) (others : List ℕ) → keys_of rest ≡ others → keys_of (cond b (p ∷ rest) rest) ≡ cond b (p.0 ∷ others) others
-keys-by true n p rest others ih = ap (λ (l : List ℕ). p.0 ∷ l) ih
-keys-by false n p rest others ih = ih
+keys-by : (b : Bool) (p : ℕ × ClaimValue) (rest : List (ℕ × ClaimValue)) (others : List ℕ) → keys_of rest ≡ others → keys_of (cond b (p ∷ rest) rest) ≡ cond b (p.0 ∷ others) others
+keys-by true p rest others ih = ap (λ (l : List ℕ). p.0 ∷ l) ih
+keys-by false p rest others ih = ih
 
 keys-without : (n : ℕ) (items : List (ℕ × ClaimValue)) → keys_of (without n items) ≡ all_but n (keys_of items)
 keys-without n [] = refl
-keys-without n (p ∷ items) = keys-by (not (p.0 == n)) n p (without n items) (all_but n (keys_of items)) (keys-without n items)
+keys-without n (p ∷ items) = keys-by (not (p.0 == n)) p (without n items) (all_but n (keys_of items)) (keys-without n items)
 
-pub ascending-without : (n : ℕ) (items : List (ℕ × ClaimValue)) → IsStrictlySortedBy nat_cmp (keys_of items) → IsStrictlySortedBy nat_cmp (keys_of (without n items))
+ascending-without : (n : ℕ) (items : List (ℕ × ClaimValue)) → IsStrictlySortedBy nat_cmp (keys_of items) → IsStrictlySortedBy nat_cmp (keys_of (without n items))
 ascending-without n items sorted =
     subst (IsStrictlySortedBy nat_cmp) (sym (keys-without n items)) (IsStrictlySortedBy-filter nat_cmp (λ m. not (m == n)) (keys_of items) sorted)
 
@@ -148,31 +144,31 @@ among n (p ∷ items) c there =
     (λ later. contains-later p.1 (values_of items) c (among n items c later))
     (among-by (not (p.0 == n)) p (without n items) c there)
 
-pub assigned-without : (n : ℕ) (items : List (ℕ × ClaimValue)) → AreAssigned (values_of items) → AreAssigned (values_of (without n items))
+assigned-without : (n : ℕ) (items : List (ℕ × ClaimValue)) → AreAssigned (values_of items) → AreAssigned (values_of (without n items))
 assigned-without n items all c there = all c (among n items c there)
 
 -- what is known by each sharing key is for fewer claims too
-pub shared-without : (n : ℕ) (h : AddressHoldersValue) (items : List (ℕ × ClaimValue)) → AreShared h (values_of items) → AreShared h (values_of (without n items))
+shared-without : (n : ℕ) (h : AddressHoldersValue) (items : List (ℕ × ClaimValue)) → AreShared h (values_of items) → AreShared h (values_of (without n items))
 shared-without n h items all key a e =
     let test : ClaimValue → Bool = λ c. is_marked key (recorded_terms c.holding.mark) && has_address c.holding.addresses a in
     let found = any-found test (values_of (without n items)) e in
     all key a (any-contains test (values_of items) found.0 (among n items found.0 found.1) found.2)
 
 -- ---- the numbers of each key
-of-by : (of_key here : Bool) (n m : ℕ) (p : ℕ × ClaimValue) (rest : List (ℕ × ClaimValue)) (key : Key) → same_key p.1.key key ≡ of_key → (p.0 == n) ≡ here
+of-by : (of_key here : Bool) (n : ℕ) (p : ℕ × ClaimValue) (rest : List (ℕ × ClaimValue)) (key : Key) → same_key p.1.key key ≡ of_key → (p.0 == n) ≡ here
     → numbers_of key (without n rest) ≡ all_but n (numbers_of key rest)
     → numbers_of key (cond (not here) (p ∷ without n rest) (without n rest)) ≡ all_but n (keys_of (cond of_key (p ∷ filter (λ q. same_key q.1.key key) rest) (filter (λ q. same_key q.1.key key) rest)))
-of-by true true n m p rest key s t ih = rw t ih
-of-by true false n m p rest key s t ih = rw (s, t) (ap (λ (l : List ℕ). p.0 ∷ l) ih)
-of-by false true n m p rest key s t ih = ih
-of-by false false n m p rest key s t ih = rw s ih
+of-by true true n p rest key s t ih = rw t ih
+of-by true false n p rest key s t ih = rw (s, t) (ap (λ (l : List ℕ). p.0 ∷ l) ih)
+of-by false true n p rest key s t ih = ih
+of-by false false n p rest key s t ih = rw s ih
 
 of-without : (n : ℕ) (items : List (ℕ × ClaimValue)) (key : Key) → numbers_of key (without n items) ≡ all_but n (numbers_of key items)
 of-without n [] key = refl
-of-without n (p ∷ items) key = of-by (same_key p.1.key key) (p.0 == n) n n p items key refl refl (of-without n items key)
+of-without n (p ∷ items) key = of-by (same_key p.1.key key) (p.0 == n) n p items key refl refl (of-without n items key)
 
 never : (b : Bool) → (b ≡ true → ⊥) → b ≡ false
-never b no = ⊎_elim (λ (e : b ≡ true). absurd (no e)) (λ e. e) (cases_Bool b)
+never b refuted = ⊎_elim (λ (e : b ≡ true). absurd (refuted e)) (λ e. e) (cases_Bool b)
 
 other-by : (of_key : Bool) (n : ℕ) (p : ℕ × ClaimValue) (rest : List (ℕ × ClaimValue)) → (of_key ≡ true → (p.0 == n) ≡ false) → all_but n (keys_of rest) ≡ keys_of rest
     → all_but n (keys_of (cond of_key (p ∷ rest) rest)) ≡ keys_of (cond of_key (p ∷ rest) rest)
@@ -193,7 +189,7 @@ of-left : (b : Bool) (n : ℕ) (c : ClaimValue) (items : List (ℕ × ClaimValue
 of-left true n c items key only e = sym (of-without n items key)
 of-left false n c items key only e = sym (of-without n items key ∙ of-others n c items key only e)
 
-pub keys-left : (n : ℕ) (c : ClaimValue) (items : List (ℕ × ClaimValue)) (before after : IndexValue Key) → IsOnly n c items
+keys-left : (n : ℕ) (c : ClaimValue) (items : List (ℕ × ClaimValue)) (before after : IndexValue Key) → IsOnly n c items
     → numbers_under key_cmp before ≡ (λ key. numbers_of key items)
     → numbers_under key_cmp after ≡ (λ key. cond (is_at (key_cmp c.key) key) (all_but n (numbers_under key_cmp before key)) (numbers_under key_cmp before key))
     → numbers_under key_cmp after ≡ (λ key. numbers_of key (without n items))
@@ -257,7 +253,7 @@ at-left : (b : Bool) (n : ℕ) (c : ClaimValue) (items : List (ℕ × ClaimValue
 at-left true n c items a only e = sym (at-without n items a)
 at-left false n c items a only e = sym (at-without n items a ∙ at-others n c items a only e)
 
-pub holders-left : (n : ℕ) (c : ClaimValue) (items : List (ℕ × ClaimValue)) (before after : AddressHoldersValue) → IsOnly n c items
+holders-left : (n : ℕ) (c : ClaimValue) (items : List (ℕ × ClaimValue)) (before after : AddressHoldersValue) → IsOnly n c items
     → claims_having before ≡ (λ a. numbers_at a items)
     → claims_having after ≡ left_at n c.holding.addresses (claims_having before)
     → claims_having after ≡ (λ a. numbers_at a (without n items))
@@ -283,9 +279,6 @@ named test n a (x ∷ xs) passes e =
     named-by test (same_address a x) n x (filter (same_address a) xs) passes
     (⊎_elim (λ here. inl here) (λ later. inr (named test n a xs passes later)) (or_cases (same_address a x) (has_address xs a) e))
 
-or-true-left : (x y : Bool) → x ≡ true → (x || y) ≡ true
-or-true-left x y e = or_left x y e
-
 marked-among : (key : List ℕ) (a : AddressValue) (items rest : List (ℕ × ClaimValue)) → ((p : ℕ × ClaimValue) → Contains rest p → lookup (λ n. n == p.0) items ≡ Some p.1)
     → is_shared key (values_of rest) a ≡ true → list_any (is_marked_at key items) (numbers_at a rest) ≡ true
 marked-among key a items [] found e = absurd (true≢false (sym e))
@@ -303,7 +296,7 @@ marked-among key a items (p ∷ rest) found e =
     (or_cases (is_marked key (recorded_terms p.1.holding.mark) && has_address p.1.holding.addresses a) (is_shared key (values_of rest) a) e)
 
 unshared-by : (same here known : Bool) → (same && here) ≡ false → known ≡ true → (not (same && here) && known) ≡ true
-unshared-by same here known no e = rw no e
+unshared-by same here known apart e = rw apart e
 
 -- an address that no claim has under the key needn't be known by it
 pub unshared : (key : List ℕ) (address : AddressValue) (items : List (ℕ × ClaimValue)) (before after : AddressHoldersValue) → IsStrictlySortedBy nat_cmp (keys_of items)
@@ -323,16 +316,53 @@ unshared key address items before after sorted none change known k a e =
     true≢false (sym (marked-among key address items items (are-found items sorted) shared) ∙ none)))
     (known k a e)
 
-pub unshared-kept : (items : List (ℕ × ClaimValue)) (before after : AddressHoldersValue) → is_known after ≡ is_known before → AreShared before (values_of items) → AreShared after (values_of items)
+unshared-kept : (items : List (ℕ × ClaimValue)) (before after : AddressHoldersValue) → is_known after ≡ is_known before → AreShared before (values_of items) → AreShared after (values_of items)
 unshared-kept items before after same known k a e = ap (λ (f : List ℕ → AddressValue → Bool). f k a) same ∙ known k a e
 
 -- ---- the index without a claim
-none-by : (b : Bool) (p : ℕ × ClaimValue) (found : Option ClaimValue) (rest : List (ℕ × ClaimValue)) → cond b (Some p.1) found ≡ None → (found ≡ None → rest ≡ rest) → b ≡ false
-none-by true p found rest e ih = absurd (cc)
-none-by false p found rest e ih = refl
+none-by : (b : Bool) (c : ClaimValue) (found : Option ClaimValue) → cond b (Some c) found ≡ None → b ≡ false
+none-by true c found e = absurd (cc)
+none-by false c found e = refl
 
-pub without-none : (n : ℕ) (items : List (ℕ × ClaimValue)) → lookup (λ m. m == n) items ≡ None → without n items ≡ items
+without-none : (n : ℕ) (items : List (ℕ × ClaimValue)) → lookup (λ m. m == n) items ≡ None → without n items ≡ items
 without-none n [] e = refl
 without-none n (p ∷ items) e =
-    let apart = none-by (p.0 == n) p (lookup (λ m. m == n) items) items e (λ _. refl) in
+    let apart = none-by (p.0 == n) p.1 (lookup (λ m. m == n) items) e in
     rw apart (ap (λ (l : List (ℕ × ClaimValue)). p ∷ l) (without-none n items (ap (λ (b : Bool). cond b (Some p.1) (lookup (λ m. m == n) items)) (sym apart) ∙ e)))
+
+-- the claim of the number went, from the claims and from what they are found by
+module _ (n : ℕ) (items less : List (ℕ × ClaimValue)) (is : less ≡ without n items) (sorted : IsStrictlySortedBy nat_cmp (keys_of items)) where
+  pub removed-ascending : IsStrictlySortedBy nat_cmp (keys_of less)
+  removed-ascending = subst (λ (l : List (ℕ × ClaimValue)). IsStrictlySortedBy nat_cmp (keys_of l)) (sym is) (ascending-without n items sorted)
+
+  pub removed-assigned : AreAssigned (values_of items) → AreAssigned (values_of less)
+  removed-assigned all = subst (λ (l : List (ℕ × ClaimValue)). AreAssigned (values_of l)) (sym is) (assigned-without n items all)
+
+  pub removed-shared : (before after : AddressHoldersValue) → is_known after ≡ is_known before → AreShared before (values_of items) → AreShared after (values_of less)
+  removed-shared before after same all =
+      subst (λ (l : List (ℕ × ClaimValue)). AreShared after (values_of l)) (sym is) (unshared-kept (without n items) before after same (shared-without n before items all))
+
+  module _ (c : ClaimValue) (found : Some c ≡ lookup (λ m. m == n) items) where
+    only : IsOnly n c items
+    only = is-only n c items (are-found items sorted) (sym found)
+
+    pub removed-keys : (key : Key) (before after : IndexValue Key) → key ≡ c.key
+        → numbers_under key_cmp before ≡ (λ k. numbers_of k items)
+        → numbers_under key_cmp after ≡ (λ k. cond (is_at (key_cmp key) k) (all_but n (numbers_under key_cmp before k)) (numbers_under key_cmp before k))
+        → numbers_under key_cmp after ≡ (λ k. numbers_of k less)
+    removed-keys key before after same e change =
+        subst (λ (l : List (ℕ × ClaimValue)). numbers_under key_cmp after ≡ (λ k. numbers_of k l)) (sym is)
+        (keys-left n c items before after only e
+        (subst (λ (q : Key). numbers_under key_cmp after ≡ (λ k. cond (is_at (key_cmp q) k) (all_but n (numbers_under key_cmp before k)) (numbers_under key_cmp before k))) same change))
+
+    pub removed-holders : (addresses : List AddressValue) (before after : AddressHoldersValue) → addresses ≡ c.holding.addresses
+        → claims_having before ≡ (λ a. numbers_at a items)
+        → claims_having after ≡ left_at n addresses (claims_having before)
+        → claims_having after ≡ (λ a. numbers_at a less)
+    removed-holders addresses before after same e change =
+        subst (λ (l : List (ℕ × ClaimValue)). claims_having after ≡ (λ a. numbers_at a l)) (sym is)
+        (holders-left n c items before after only e (subst (λ (l : List AddressValue). claims_having after ≡ left_at n l (claims_having before)) same change))
+
+-- where no claim has the number all stays
+pub indexed-still : (n : ℕ) (items less : List (ℕ × ClaimValue)) (by_key : IndexValue Key) (h : AddressHoldersValue) → less ≡ without n items → None ≡ lookup (λ m. m == n) items → IsIndexed items by_key h → IsIndexed less by_key h
+indexed-still n items less by_key h is none indexed = subst (λ (l : List (ℕ × ClaimValue)). IsIndexed l by_key h) (sym (is ∙ without-none n items (sym none))) indexed

@@ -8,6 +8,7 @@ pub mod HolderLaws
 pub mod IndexReading
 pub mod IndexRemoval
 pub mod IndexGrowth
+pub mod IndexRemoval
 pub mod LeastLaws
 pub mod PendingLaws
 pub mod SearchLaws

@@ -11,10 +11,9 @@ ghost use Rattle.alloc_book.specs.Book.{AreAssigned, HasRoomFor};
 ghost use Rattle.alloc_book.specs.Holders.{HasRoomAt, claims_having, claim_room, address_room, is_known};
 ghost use Rattle.alloc_book.specs.Claims.{ClaimValue, loses, claims_it, has_claims};
 ghost use Rattle.alloc_book.specs.Holders.{claims_having, is_known};
-ghost use Rattle.alloc_book.specs.Index.{numbers_of, numbers_at, first_but, first_other, is_held, AreShared, NoneShared};
-ghost use Rattle.alloc_book.specs.Reading.{has_record, gives_way};
+ghost use Rattle.alloc_book.specs.Index.{numbers_of, numbers_at, first_other, is_held, AreShared, NoneShared};
 ghost use Rattle.alloc_book.specs.Removal.{is_marked_at, left_at};
-ghost use Rattle.alloc_book.specs.Search.{address_of, shares_by, leaves};
+ghost use Rattle.alloc_book.specs.Search.{address_of, leaves};
 ghost use Rattle.number_sets.specs.Least.{IsLeastIn, NonePasses};
 
 use crate::address_holders::AddressHolders;
@@ -101,7 +100,12 @@ impl ClaimIndex {
         self.by_key.remove(claim.key(), number);
         remove_each(&mut self.holders, claim.addresses(), number);
         if let Some(terms) = claim.terms() {
-            unshare_each(&self.claims, &mut self.holders, &terms.key, claim.addresses());
+            unshare_each(
+                &self.claims,
+                &mut self.holders,
+                &terms.key,
+                claim.addresses(),
+            );
         }
     }
 

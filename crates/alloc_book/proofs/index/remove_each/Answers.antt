@@ -10,7 +10,7 @@ pub loop-address-preserved : goal.loop-address-preserved
 loop-address-preserved c =
     record {
       numbers = c.remove.ensures.numbers
-      ∙ left-next c.args.number c.args.addresses.now c.loop-address.address-index c.address-item.result (claims_having c.args.holders.now) (claims_having c.loop-address.holders)
-      c.loop-address-test.true c.address-item.is c.loop-address.invariant.numbers;
+          ∙ left-next c.args.number c.args.addresses.now c.loop-address.address-index c.address-item.result (claims_having c.args.holders.now) (claims_having c.loop-address.holders)
+          c.loop-address-test.true c.address-item.is c.loop-address.invariant.numbers;
       shared = c.remove.ensures.shared ∙ c.loop-address.invariant.shared;
     }

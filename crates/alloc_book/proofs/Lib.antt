@@ -5,9 +5,8 @@ pub mod ChooseLaws
 pub mod ChosenLaws
 pub mod ClaimLaws
 pub mod HolderLaws
-pub mod IndexReading
-pub mod IndexRemoval
 pub mod IndexGrowth
+pub mod IndexReading
 pub mod IndexRemoval
 pub mod LeastLaws
 pub mod PendingLaws

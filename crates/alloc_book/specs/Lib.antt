@@ -1,8 +1,8 @@
 pub mod Asking
 pub mod Book
+pub mod Choose
 pub mod Chosen
 pub mod Claims
-pub mod Choose
 pub mod First
 pub mod Granted
 pub mod Holders

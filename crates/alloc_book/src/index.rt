@@ -10,19 +10,19 @@ ghost use Rattle.kube_model.specs.Records.{is_assigned};
 ghost use Rattle.alloc_book.specs.Book.{AreAssigned, HasRoomFor};
 ghost use Rattle.alloc_book.specs.Holders.{HasRoomAt, claims_having, claim_room, address_room, is_known};
 ghost use Rattle.alloc_book.specs.Claims.{ClaimValue, loses, claims_it, has_claims};
-ghost use Rattle.alloc_book.specs.Holders.{claims_having, is_known};
-ghost use Rattle.alloc_book.specs.Index.{numbers_of, numbers_at, first_other, is_held, AreShared, NoneShared};
+ghost use Rattle.alloc_book.specs.Index.{numbers_of, numbers_at, first_but, first_other, is_held, AreShared, NoneShared};
+ghost use Rattle.alloc_book.specs.Reading.{has_record, gives_way};
 ghost use Rattle.alloc_book.specs.Removal.{is_marked_at, left_at};
-ghost use Rattle.alloc_book.specs.Search.{address_of, leaves};
+ghost use Rattle.alloc_book.specs.Search.{address_of, shares_by, leaves};
 ghost use Rattle.number_sets.specs.Least.{IsLeastIn, NonePasses};
 
 use crate::address_holders::AddressHolders;
 use crate::claims::Claim;
-use numbered_items::{InvertedIndex, NumberedList};
 use ip_ranges::{Address, Family};
 use kube_labels::Text;
 use kube_model::{Key, Record};
 use mlb_base::{NoMemory, TryCopy};
+use numbered_items::{InvertedIndex, NumberedList};
 use sharing_terms::{Terms, may_share};
 use std::alloc::Global;
 use std::marker::Model;
@@ -194,7 +194,13 @@ impl ClaimIndex {
 
     /// A number from low to high before which no address of the family has a claim under the sharing key, which isn't empty; `None`
     /// where none up to high has.
-    pub(crate) fn first_shared(&self, family: Family, key: &Text, low: u128, high: u128) -> Option<u128>
+    pub(crate) fn first_shared(
+        &self,
+        family: Family,
+        key: &Text,
+        low: u128,
+        high: u128,
+    ) -> Option<u128>
         ensures some { IfSome result (λ n. (low ≤ n) × (n ≤ high) × NoneShared family key.now (values_of self.now.items) low n) }
         ensures none { IfNone result (NoneShared family key.now (values_of self.now.items) low (high + 1)) }
     {

@@ -11,7 +11,8 @@ use std::alloc::Global;
 use std::process::Abort;
 use std::rt::HostRuntime;
 
-const POOL: &str = r#"{"type":"ADDED","object":{"kind":"IPAddressPool","metadata":{"name":"p","resourceVersion":"1"},"spec":{"addresses":["2001:db8::/64"]}}}"#;
+const POOL: &str =
+    r#"{"type":"ADDED","object":{"kind":"IPAddressPool","metadata":{"name":"p","resourceVersion":"1"},"spec":{"addresses":["2001:db8::/64"]}}}"#;
 
 /// The number of 2001:db8::.
 const FIRST: u128 = 0x2001_0db8 << 96;

@@ -42,7 +42,7 @@ impl AddressHolders {
     }
 
     /// Makes room for so many claims more on the address, and for so many addresses more of its family. Where there is no memory
-    /// all stays.
+    /// the claims stay.
     pub(crate) fn reserve(&mut self, address: &Address, more: usize) -> Result<(), NoMemory>
         ensures numbers { claims_having self.new ≡ claims_having self.old }
         ensures claims { OnOk result (more ≤ claim_room self.new address.now) }

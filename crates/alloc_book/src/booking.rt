@@ -34,8 +34,10 @@ use sharing_terms::Terms;
 use std::alloc::Global;
 use std::marker::Model;
 
-/// The records that each service has, or may have: those with an address. They are found by key and by address, and changed, in the
-/// logarithm of their number. Contracts see the list of the records, and for how much more there is room.
+/// The records that each service has, or may have: those with an address. Those of a key and those that have an address are found in
+/// the logarithm of their number; a change takes this for each address of the record, goes through the claims that have it, and moves
+/// the runs of held addresses behind it. Contracts see the list of the records, and for how much more there is room; what was reserved
+/// lasts until the next change.
 #[derive(Drop)]
 pub struct Book {
     alloc: Global,

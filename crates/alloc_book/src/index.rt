@@ -192,8 +192,8 @@ impl ClaimIndex {
         self.holders.first_unheld(family, low, high)
     }
 
-    /// A number from low to high before which no address of the family has a claim under the sharing key, which isn't empty; `None`
-    /// where none up to high has.
+    /// A number from low to high before which no address of the family has a claim under the sharing key; `None` where none up to
+    /// high has. Under the empty key no claim has one.
     pub(crate) fn first_shared(
         &self,
         family: Family,

@@ -93,7 +93,7 @@ fn first_free(
     None
 }
 
-/// The number of the address, where it is of the family, lies between low and high, and may be used.
+/// Whether the address is of the family, has a number from low to high, and may be used.
 fn usable_number(
     book: &Book,
     pool: &CompiledPool,
@@ -161,7 +161,8 @@ fn least_own(
     least
 }
 
-/// The least number from low to high of an address that a claim has under the sharing key, and that may be used.
+/// A number from low to high of an address that may be used, before which there is none that a claim has under the sharing key and
+/// that may be used.
 fn least_shared(
     book: &Book,
     pool: &CompiledPool,
@@ -191,8 +192,8 @@ fn least_shared(
     None
 }
 
-/// The least number of the range, which is one of the pool's, that an address of the family may have to be used: the least of those
-/// that no claim has, of those that the key has already, and of those that are shared under its sharing key.
+/// The least address of the range, which is one of the pool's, that may be used: the least of those that no claim has, of those that
+/// the key has already, and of those that are shared under its sharing key.
 fn least_number(
     book: &Book,
     pool: &CompiledPool,

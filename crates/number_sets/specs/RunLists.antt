@@ -44,7 +44,7 @@ pub record IsSetTo (low n : ℕ) (flag : Bool) (old new : List Run) : Type 0 whe
   pub apart : AreRunsFrom low new
   pub counted : count_numbers new + (if has_number old n then 1 else 0) ≡ count_numbers old + (if flag then 1 else 0)
 
--- The number is in the run, which the runs contain up to its end, and no further.
+-- From the number on the runs contain all numbers up to the end of this run, and no further.
 pub record IsRunOf (runs : List Run) (n : ℕ) (run : Run) : Type 0 where
   pub within : n ≤ run.last
   pub all : (m : ℕ) → n ≤ m → m ≤ run.last → has_number runs m ≡ true

@@ -11,6 +11,7 @@ use Rattle.std.specs.BTreeMap.{is_at}
 pub record NumberedValue (X : Type 0) : Type 0 where
   pub items : List (ℕ × X)  -- each with its number, ascending
   pub room : ℕ  -- how many items more it can take without memory
+  pub next : ℕ  -- the number that the next item gets
 
 -- the item of a slot, with its number
 abbrev pub item_of : {X : Type 0} → ℕ × Option X → Option (ℕ × X)

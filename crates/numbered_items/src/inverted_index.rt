@@ -61,8 +61,8 @@ impl<T: Ord> InvertedIndex<T> {
 }
 
 impl<T: Ord + Drop> InvertedIndex<T> {
-    /// Makes room for so many numbers more under the term. Where there is no memory all numbers stay. A term that is equal to one
-    /// that is listed is dropped.
+    /// Makes room for so many numbers more under the term. Where there is no memory all numbers stay. The term is dropped where
+    /// an equal one is listed.
     pub fn reserve(&mut self, term: T, more: usize) -> Result<(), NoMemory>
         ensures numbers { numbers_under T.cmp self.new ≡ numbers_under T.cmp self.old }
         ensures room { OnOk result (more ≤ room_under T.cmp self.new term) }

@@ -26,7 +26,7 @@ impl<X> Model for NumberedList<X> {
 
     ghost Value = { NumberedValue X };
 
-    ghost view = { λ l. record { items = items_of l.slots.entries; room = room_of l.next l.slots.entries } };
+    ghost view = { λ l. record { items = items_of l.slots.entries; room = room_of l.next l.slots.entries; next = l.next } };
 
     ghost invariant = { λ l. AreSlots l.next l.slots.entries };
 }
@@ -64,10 +64,12 @@ impl<X> NumberedList<X> {
 }
 
 impl<X: Drop> NumberedList<X> {
-    /// Makes room for one item more. Where there is no memory, or once 2^64 - 1 numbers have been given, all items stay.
+    /// Makes room for one item, unless there is some. Where there is no memory, or once 2^64 - 1 numbers have been given, it answers
+    /// NoMemory, and all items stay.
     pub fn reserve(&mut self) -> Result<(), NoMemory>
         ensures items { self.new.items ≡ self.old.items }
         ensures room { OnOk result (0 < self.new.room) }
+        ensures next { self.new.next ≡ self.old.next }
         ensures kept { self.old.room ≤ self.new.room }
     {
         if self.next == u64::MAX {
@@ -83,6 +85,8 @@ impl<X: Drop> NumberedList<X> {
         requires { 0 < self.old.room }
         ensures items { self.new.items ≡ self.old.items ++ (result, item) ∷ [] }
         ensures fresh { All (λ p. p.0 < result) self.old.items }
+        ensures number { result ≡ self.old.next }
+        ensures next { self.new.next ≡ self.old.next + 1 }
     {
         let number = self.next;
         *self.slots.get_mut(&number).unwrap() = Some(item);
@@ -96,6 +100,7 @@ impl<X: Drop> NumberedList<X> {
         ensures items { self.new.items ≡ filter (λ p. not (p.0 == number)) self.old.items }
         ensures ascending { IsStrictlySortedBy nat_cmp (keys_of self.old.items) }
         ensures room { self.new.room ≡ self.old.room }
+        ensures next { self.new.next ≡ self.old.next }
     {
         // The slot for the next number stays.
         if number >= self.next {

@@ -1,5 +1,0 @@
-//! A book of many claims. This crate has tests alone.
-#![tactic(auto)]
-
-#[cfg(test)]
-mod many;

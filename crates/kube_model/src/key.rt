@@ -5,7 +5,7 @@ use mlb_base::{NoMemory, TryCopy};
 
 /// What an object is known by among those of its kind. A kind without namespaces has the empty one.
 /// Keys are ordered by namespace, then by name, both in byte order.
-#[derive(Debug, Drop, PartialEq, Eq, PartialOrd, Ord)]
+#[derive(Debug, Drop, PartialEq, Eq, PartialOrd, Ord, Hash)]
 pub struct Key {
     pub namespace: Text,
     pub name: Text,

@@ -1,16 +1,25 @@
 -- What a reached core comes to is reached, and each reached core is quiet.
 use Rattle.std.proofs.Common.{◌≡◌, ℕ, true, List, [], ◌∷◌, Option, Some, None, Result, Ok, Err, is_some, refl, sym, ap, subst}
 use Rattle.std.specs.Prelude.{IsSome, OnOk, OnErr}
+use Rattle.std.specs.List.Sorted.{IsStrictlySortedBy}
+use Rattle.std.specs.Map.{keys_of}
 use Rattle.kube_model.specs.declared.event.Event.{Event}
 use Rattle.kube_model.specs.declared.event.Group.{Group}
 use Rattle.kube_model.specs.declared.reply.PutReply.{PutReply}
-use Rattle.core_rules.specs.Core.{State, fresh}
+use Rattle.kube_model.specs.Keys.{key_cmp}
+use Rattle.object_history.specs.Cache.{cached}
+use Rattle.object_history.specs.Observations.{Observation}
+use Rattle.core_rules.specs.Core.{State, fresh, is_ready}
 use Rattle.core_rules.specs.Replied.{core_reply}
 use Rattle.core_rules.specs.Take.{core_take, core_expired}
 use Rattle.core_rules.specs.Turn.{core_turn, after_turn}
-use Rattle.core_rules.specs.Run.{Entry, Took, Expired, Turned, Heard, MayEnter, entered}
+use Rattle.core_rules.specs.Run.{Entry, Took, Expired, Turned, Heard, MayEnter, core_after, entered, observed}
 use Rattle.core_laws.specs.Quiet.{IsQuiet}
+use Rattle.core_laws.proofs.Free.{IsOrderly, runs-orderly}
+use Rattle.core_laws.proofs.Orderly.{sorted-services}
+use Rattle.core_laws.proofs.Queued.{AreHeld, runs-held}
 use Rattle.core_laws.proofs.QuietRuns.{runs_are_quiet}
+use Rattle.core_laws.proofs.Ready.{IsIdle, runs-idle}
 use Rattle.ctl_core.specs.Reached.{IsReached}
 
 pub reached-fresh : (class : Option (List ℕ)) → IsReached (fresh class)
@@ -27,6 +36,29 @@ goes_on s e r may = record {
 
 pub reached-quiet : (s : State) → IsReached s → IsQuiet s
 reached-quiet s r = subst IsQuiet r.leads (runs_are_quiet r.class r.run r.is)
+
+-- ---- what holds of each reached state
+-- each key is queued once, and none that awaits a newer event or is being written; none awaits that is being written
+pub reached-orderly : (s : State) → IsReached s → IsOrderly s.queue s.awaiting s.out
+reached-orderly s r = subst (λ (t : State). IsOrderly t.queue t.awaiting t.out) r.leads (runs-orderly r.class r.run r.is)
+
+-- while it isn't ready nothing is queued and no put is out
+pub reached-idle : (s : State) → IsReached s → IsIdle (is_ready s.held) s.queue s.out
+reached-idle s r = subst (λ (t : State). IsIdle (is_ready t.held) t.queue t.out) r.leads (runs-idle r.class r.run r.is)
+
+-- what is queued or being written is held
+pub reached-held : (s : State) → IsReached s → AreHeld s
+reached-held s r = subst AreHeld r.leads (runs-held r.class r.run r.is)
+
+-- the held services ascend by their keys
+pub reached-sorted : (s : State) → IsReached s → IsStrictlySortedBy key_cmp (keys_of s.held.services)
+reached-sorted s r =
+    subst (λ (t : State). IsStrictlySortedBy key_cmp (keys_of t.held.services)) r.leads
+    (sorted-services (core_after r.class r.run) (observed r.run) (core_holds_what_was_observed r.class r.run r.is).0)
+
+-- the held objects are those that were shown
+pub reached-cached : (s : State) → IsReached s → (observations : List Observation) × (s.held ≡ cached observations)
+reached-cached s r = (observed r.run, subst (λ (t : State). t.held ≡ cached (observed r.run)) r.leads (core_holds_what_was_observed r.class r.run r.is).0)
 
 -- after a call that is refused, the state is as before, and after one that isn't it is where the entry leads
 by_result : {T E : Type 0} (result : Result T E) (s t u : State) → IsReached s → IsReached u → OnOk result (t ≡ u) → OnErr result (t ≡ s) → IsReached t

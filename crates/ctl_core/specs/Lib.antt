@@ -1,3 +1,4 @@
 pub mod Holding
 pub mod Reached
+pub mod Waiting
 pub mod Waking

@@ -2,14 +2,17 @@
 ghost use Rattle.std.specs.Prelude.{◌≡◌, ◌++◌, if◌then◌else◌, [], not, IfOk};
 ghost use Rattle.std.specs.Option.{option_copied};
 ghost use Rattle.object_cache.specs.Told.{passing};
-ghost use Rattle.versioned_map.specs.Entries.{listed};
-ghost use Rattle.kube_model.specs.Keys.{same_key, has_key, without};
+ghost use Rattle.versioned_map.specs.Entries.{listed, object_at};
+ghost use Rattle.std.specs.BTreeSet.{IsOrdered};
+ghost use Rattle.kube_model.specs.Keys.{key_cmp, has_key, without};
 ghost use Rattle.kube_model.specs.Records.{empty_record, same_record};
-ghost use Rattle.core_rules.specs.Core.{is_free_with, all_free, waits, waiting};
+ghost use Rattle.core_rules.specs.Core.{is_free_with, all_free};
 ghost use Rattle.core_rules.specs.Keys.{own_key, is_free};
-ghost use Rattle.core_rules.specs.Take.{no_key, is_unlisted, listed_keys};
+ghost use Rattle.core_rules.specs.Take.{is_unlisted, listed_keys};
+ghost use Rattle.ctl_core.specs.Waiting.{lacks_record, lacks_with, others_where};
 
 use crate::listing::Listed;
+use crate::waiting::WaitingKeys;
 use key_queue::KeyQueue;
 use kube_labels::Text;
 use kube_model::{Key, Record, Service};
@@ -151,86 +154,24 @@ fn is_empty(holding: &Record) -> bool
         && holding.mark.as_str().is_empty()
 }
 
-fn could_use(
-    class: Option<&Text>,
-    queue: &Keys,
-    awaiting: &Keys,
-    key: &Key,
-    service: &Service,
-) -> bool
-    ensures { result ≡ waits (option_copied class.entry) no_key queue.now awaiting.now key.now service.now }
+/// Whether the service would lack a record if this were its record: it is held and handled, and the record is empty.
+pub(crate) fn lacks_with(class: Option<&Text>, holding: &Record, service: Option<&Service>) -> bool
+    ensures { result ≡ lacks_with (option_copied class.entry) holding.now (option_copied service.entry) }
 {
-    (is_empty(&service.holding) && service.is_handled(class)) && is_free(queue, awaiting, key)
-}
-
-fn waits(
-    class: Option<&Text>,
-    own: &Key,
-    queue: &Keys,
-    awaiting: &Keys,
-    key: &Key,
-    service: &Service,
-) -> bool
-    ensures { result ≡ waits (option_copied class.entry) (same_key own.now) queue.now awaiting.now key.now service.now }
-{
-    own != key && could_use(class, queue, awaiting, key, service)
-}
-
-fn others_waiting(
-    alloc: Global,
-    class: Option<&Text>,
-    own: &Key,
-    queue: &Keys,
-    awaiting: &Keys,
-    services: &Services,
-) -> Result<Vec<Key>, NoMemory>
-    ensures { IfOk result (λ keys. keys.items ≡ passing (waits (option_copied class.entry) (same_key own.now) queue.now awaiting.now) services.now) }
-{
-    let mut keys = Vec::new(alloc);
-    for (key, held) in services.iter() {
-        if !waits(class, own, queue, awaiting, key, &held.object) {
-            continue;
-        }
-        keys.push(key.copy()?)?;
+    match service {
+        None => false,
+        Some(service) => service.is_handled(class) && is_empty(holding),
     }
-    Ok(keys)
 }
 
-/// Where a claim of the key was lost, the others that wait.
-pub(crate) fn waiting(
-    alloc: Global,
-    is_lost: bool,
-    class: Option<&Text>,
-    own: &Key,
-    queue: &Keys,
-    awaiting: &Keys,
-    services: &Services,
-) -> Result<Vec<Key>, NoMemory>
-    ensures { IfOk result (λ keys. keys.items ≡ waiting is_lost (option_copied class.entry) (same_key own.now) queue.now awaiting.now services.now) }
+/// Whether the service of the key is held and handled, with an empty record.
+pub(crate) fn lacks_record(class: Option<&Text>, services: &Services, key: &Key) -> bool
+    ensures { result ≡ lacks_record (option_copied class.entry) (object_at key_cmp services.now key.now) }
 {
-    if !is_lost {
-        return Ok(Vec::new(alloc));
+    match services.get(key) {
+        None => false,
+        Some(service) => lacks_with(class, &service.holding, Some(service)),
     }
-    others_waiting(alloc, class, own, queue, awaiting, services)
-}
-
-fn listed_waiting(
-    alloc: Global,
-    class: Option<&Text>,
-    queue: &Keys,
-    awaiting: &Keys,
-    services: &Services,
-) -> Result<Vec<Key>, NoMemory>
-    ensures { IfOk result (λ keys. keys.items ≡ passing (waits (option_copied class.entry) no_key queue.now awaiting.now) (listed services.now)) }
-{
-    let mut keys = Vec::new(alloc);
-    for (key, held) in services.iter() {
-        if held.version == 0 || !could_use(class, queue, awaiting, key, &held.object) {
-            continue;
-        }
-        keys.push(key.copy()?)?;
-    }
-    Ok(keys)
 }
 
 /// What is queued where a service is shown: its own key, and behind it the others that wait where a claim was lost.
@@ -238,19 +179,18 @@ pub(crate) fn own_and_waiting(
     alloc: Global,
     is_ready: bool,
     is_lost: bool,
-    class: Option<&Text>,
     own: &Key,
     queue: &Keys,
-    awaiting: &Keys,
-    services: &Services,
+    waiting: &WaitingKeys,
 ) -> Result<Vec<Key>, NoMemory>
-    ensures { IfOk result (λ keys. keys.items ≡ (if is_ready then own_key own.now queue.now ++ waiting is_lost (option_copied class.entry) (same_key own.now) queue.now awaiting.now services.now else [])) }
+    ensures keys { IfOk result (λ keys. keys.items ≡ (if is_ready then own_key own.now queue.now ++ others_where is_lost own.now waiting.now.keys else [])) }
+    ensures ordered { IsOrdered key_cmp waiting.now }
 {
+    let mut others = waiting.others_where(alloc, is_lost, own)?;
     if !is_ready {
         return Ok(Vec::new(alloc));
     }
     let mut keys = own_key(alloc, own, queue)?;
-    let mut others = waiting(alloc, is_lost, class, own, queue, awaiting, services)?;
     keys.append(&mut others)?;
     Ok(keys)
 }
@@ -261,13 +201,15 @@ pub(crate) fn listed_and_free(
     was_ready: bool,
     is_ready: bool,
     is_lost: bool,
-    class: Option<&Text>,
     queue: &Keys,
     awaiting: &Keys,
     services: &Services,
+    waiting: &WaitingKeys,
 ) -> Result<Vec<Key>, NoMemory>
-    ensures { IfOk result (λ keys. keys.items ≡ (if not is_ready then [] else (if was_ready then waiting is_lost (option_copied class.entry) no_key queue.now awaiting.now (listed services.now) else all_free queue.now awaiting.now (listed services.now)))) }
+    ensures keys { IfOk result (λ keys. keys.items ≡ (if not is_ready then [] else (if was_ready then (if is_lost then listed_keys services.now waiting.now.keys else []) else all_free queue.now awaiting.now (listed services.now)))) }
+    ensures ordered { IsOrdered key_cmp waiting.now }
 {
+    let listed = waiting.listed(alloc, services)?;
     if !is_ready {
         return Ok(Vec::new(alloc));
     }
@@ -277,5 +219,5 @@ pub(crate) fn listed_and_free(
     if !is_lost {
         return Ok(Vec::new(alloc));
     }
-    listed_waiting(alloc, class, queue, awaiting, services)
+    Ok(listed)
 }

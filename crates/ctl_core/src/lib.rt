@@ -11,5 +11,6 @@ mod room;
 mod state;
 mod take;
 mod turns;
+mod waiting;
 
 pub use reached::Core;

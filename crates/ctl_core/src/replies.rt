@@ -1,22 +1,29 @@
 //! The reply to the put that is out.
-ghost use Rattle.std.specs.Prelude.{◌≡◌, IfOk, OnOk, OnErr, IsSome};
-ghost use Rattle.kube_model.specs.Keys.{same_key};
-ghost use Rattle.alloc_book.specs.Claims.{loses};
-ghost use Rattle.core_rules.specs.Core.{waiting};
+ghost use Rattle.std.specs.Prelude.{◌≡◌, if◌then◌else◌, OnOk, OnErr, Some, IsSome};
+ghost use Rattle.std.specs.BTreeSet.{contains};
+ghost use Rattle.std.specs.Option.{option_copied};
+ghost use Rattle.kube_model.specs.declared.key.Key.{Key as KeyValue};
+ghost use Rattle.kube_model.specs.Keys.{key_cmp, same_key};
+ghost use Rattle.versioned_map.specs.Entries.{object_at};
 ghost use Rattle.core_rules.specs.Replied.{core_reply, stored, refused, in_doubt};
+ghost use Rattle.ctl_core.specs.Reached.{IsReached};
+ghost use Rattle.ctl_core.specs.Waiting.{lacks_with};
 
 use crate::claims::loses;
-use crate::keys::waiting;
-use crate::room::{make_room, make_room_for};
+use crate::keys::{Services, lacks_with};
+use crate::room::{make_room, make_room_for, push_new};
 use crate::state::CoreState;
+use crate::waiting::WaitingKeys;
 use alloc_book::Claim;
-use kube_model::{Key, Put, PutReply};
+use kube_labels::Text;
+use kube_model::{Put, PutReply};
 use mlb_base::{NoMemory, TryCopy};
 
 impl CoreState {
     /// Takes the reply to the put that is out. After want of memory the put is still out, and nothing changed.
     pub(crate) fn answered(&mut self, reply: PutReply) -> Result<(), NoMemory>
-        requires { IsSome self.old.out }
+        requires out { IsSome self.old.out }
+        requires reached { IsReached self.old }
         ensures ok { OnOk result (self.new ≡ core_reply self.old reply) }
         ensures err { OnErr result (self.new ≡ self.old) }
     {
@@ -32,12 +39,25 @@ impl CoreState {
     }
 
     fn stored(&mut self, put: Put, version: u64) -> Result<(), NoMemory>
+        requires out { self.old.out ≡ Some put }
+        requires reached { IsReached self.old }
         ensures ok { OnOk result (self.new ≡ stored self.old put version) }
         ensures err { OnErr result (self.new ≡ self.old) }
     {
-        let more = self.waiting_for(&put)?;
+        let is_lost = loses(&self.book, &put.key, &put.holding);
+        let more = self
+            .waiting
+            .others_where(self.alloc, is_lost, &put.key)?;
         let claim = Claim::of(self.alloc, &put.key, &put.holding)?;
+        let queued = self.queue.len();
         make_room(&mut self.book, &claim, &mut self.queue, &more)?;
+        let services = self.cache.services();
+        let waits = let_wait(&mut self.waiting, self.class.as_ref(), services, &put);
+        if waits.is_err() {
+            self.queue.truncate(queued);
+            return Err(NoMemory);
+        }
+        self.waiting.release_others(is_lost, &put.key);
         let key = put.key;
         let holding = put.holding;
         self.cache.store(&key, version, holding);
@@ -46,41 +66,52 @@ impl CoreState {
         Ok(())
     }
 
-    /// What is queued where the put was stored.
-    fn waiting_for(&self, put: &Put) -> Result<Vec<Key>, NoMemory>
-        ensures { IfOk result (λ more. more.items
-            ≡ waiting (loses put.now.key put.now.holding self.now.claims) self.now.class (same_key put.now.key) self.now.queue self.now.awaiting self.now.held.services) }
-    {
-        waiting(
-            self.alloc,
-            loses(&self.book, &put.key, &put.holding),
-            self.class.as_ref(),
-            &put.key,
-            &self.queue,
-            &self.awaiting,
-            self.cache.services(),
-        )
-    }
-
     /// Nothing is put for the key before it is shown again.
     fn refused(&mut self, put: Put) -> Result<(), NoMemory>
+        requires out { self.old.out ≡ Some put }
+        requires reached { IsReached self.old }
         ensures ok { OnOk result (self.new ≡ refused self.old put) }
         ensures err { OnErr result (self.new ≡ self.old) }
     {
-        self.awaiting.push(put.key)?;
+        let key = put.key.copy()?;
+        push_new(&mut self.awaiting, put.key)?;
+        self.waiting.remove(&key);
         self.out = None;
         Ok(())
     }
 
     /// The key may have the record: its addresses stay claimed.
     fn in_doubt(&mut self, put: Put) -> Result<(), NoMemory>
+        requires out { self.old.out ≡ Some put }
+        requires reached { IsReached self.old }
         ensures ok { OnOk result (self.new ≡ in_doubt self.old put) }
         ensures err { OnErr result (self.new ≡ self.old) }
     {
         let claim = Claim::of(self.alloc, &put.key, &put.holding)?;
         make_room_for(&mut self.book, &claim, &mut self.queue, put.key)?;
+        self.waiting.remove(claim.key());
         self.book.doubt_prepared(claim);
         self.out = None;
         Ok(())
     }
+}
+
+/// The key waits where the put takes its record away and it is handled; else it doesn't. After want of memory nothing has changed.
+fn let_wait(
+    waiting: &mut WaitingKeys,
+    class: Option<&Text>,
+    services: &Services,
+    put: &Put,
+) -> Result<(), NoMemory>
+    ensures ok { OnOk result ((k : KeyValue) → contains key_cmp waiting.new k
+        ≡ (if same_key put.now.key k
+        then lacks_with (option_copied class.entry) put.now.holding (object_at key_cmp services.now put.now.key)
+        else contains key_cmp waiting.old k)) }
+    ensures err { OnErr result (waiting.new ≡ waiting.old) }
+{
+    if lacks_with(class, &put.holding, services.get(&put.key)) {
+        return waiting.insert(&put.key);
+    }
+    waiting.remove(&put.key);
+    Ok(())
 }

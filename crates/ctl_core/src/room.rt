@@ -1,6 +1,8 @@
 //! Room and keys, made before anything else changes, and taken back where nothing does.
-ghost use Rattle.std.specs.Prelude.{◌≡◌, ◌++◌, ◌∷◌, [], if◌then◌else◌, take, OnOk, OnErr};
+ghost use Rattle.std.specs.Prelude.{◌≡◌, ◌++◌, ◌∷◌, [], if◌then◌else◌, false, take, OnOk, OnErr};
+ghost use Rattle.kube_model.specs.Keys.{has_key};
 ghost use Rattle.alloc_book.specs.Book.{HasRoom};
+ghost use Rattle.core_laws.specs.Queue.{AreApart, NoneAmong};
 
 use crate::keys::Keys;
 use alloc_book::{Book, Claim};
@@ -14,13 +16,15 @@ pub(crate) fn make_room(
     queue: &mut Keys,
     more: &[Key],
 ) -> Result<(), NoMemory>
+    requires once { AreApart more.now }
+    requires unqueued { NoneAmong more.now queue.old }
     ensures claims { book.new.claims ≡ book.old.claims }
     ensures claim_room { OnOk result (HasRoom book.new claim.now) }
     ensures ok { OnOk result (queue.new ≡ queue.old ++ more.now) }
     ensures err { OnErr result (queue.new ≡ queue.old) }
 {
     book.reserve(claim)?;
-    queue.append(more)
+    append_new(queue, more)
 }
 
 /// Room for the claim, and the key to the back of the queue. After want of memory the queue is unchanged.
@@ -30,13 +34,33 @@ pub(crate) fn make_room_for(
     queue: &mut Keys,
     key: Key,
 ) -> Result<(), NoMemory>
+    requires { has_key queue.old key ≡ false }
     ensures claims { book.new.claims ≡ book.old.claims }
     ensures claim_room { OnOk result (HasRoom book.new claim.now) }
     ensures ok { OnOk result (queue.new ≡ queue.old ++ key ∷ []) }
     ensures err { OnErr result (queue.new ≡ queue.old) }
 {
     book.reserve(claim)?;
-    queue.push(key)
+    push_new(queue, key)
+}
+
+/// The keys, which aren't queued and differ from one another, to the back of the queue. After want of memory it is unchanged.
+pub(crate) fn append_new(queue: &mut Keys, more: &[Key]) -> Result<(), NoMemory>
+    requires once { AreApart more.now }
+    requires unqueued { NoneAmong more.now queue.old }
+    ensures ok { OnOk result (queue.new ≡ queue.old ++ more.now) }
+    ensures err { OnErr result (queue.new ≡ queue.old) }
+{
+    queue.append(more)
+}
+
+/// The key, which isn't among them, to the back of the keys. After want of memory they are unchanged.
+pub(crate) fn push_new(keys: &mut Keys, key: Key) -> Result<(), NoMemory>
+    requires { has_key keys.old key ≡ false }
+    ensures ok { OnOk result (keys.new ≡ keys.old ++ key ∷ []) }
+    ensures err { OnErr result (keys.new ≡ keys.old) }
+{
+    keys.push(key)
 }
 
 /// The first keys alone, so many of them, unless all are kept.
@@ -45,13 +69,5 @@ pub(crate) fn truncate_unless(keeps: bool, queue: &mut Keys, len: usize)
 {
     if !keeps {
         queue.truncate(len);
-    }
-}
-
-pub(crate) fn clear_unless(keeps: bool, queue: &mut Keys)
-    ensures { queue.new ≡ (if keeps then queue.old else []) }
-{
-    if !keeps {
-        queue.clear();
     }
 }

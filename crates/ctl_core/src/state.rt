@@ -4,6 +4,7 @@ ghost use Rattle.std.specs.Option.{option_copied};
 ghost use Rattle.core_rules.specs.Core.{fresh, is_ready, record_of, is_settled};
 
 use crate::keys::{Keys, is_free};
+use crate::waiting::WaitingKeys;
 use alloc_book::Book;
 use kube_labels::Text;
 use kube_model::{Group, Key, Put, Record};
@@ -21,11 +22,14 @@ pub(crate) struct CoreState {
     pub(crate) book: Book,
     pub(crate) queue: Keys,
     pub(crate) awaiting: Keys,
+    /// While the core is ready, the services that a release of an address would queue.
+    pub(crate) waiting: WaitingKeys,
     pub(crate) out: Option<Put>,
 }
 
 impl Model for CoreState {
     ghost use Rattle.core_rules.specs.Core.{State};
+    ghost use Rattle.ctl_core.specs.Waiting.{AreWaiting};
 
     ghost Value = { State };
 
@@ -37,6 +41,8 @@ impl Model for CoreState {
       awaiting = c.awaiting;
       out = c.out;
     } };
+
+    ghost invariant = { λ c. AreWaiting c.class c.cache c.queue c.awaiting c.waiting };
 }
 
 impl CoreState {
@@ -52,6 +58,7 @@ impl CoreState {
             book: Book::new(alloc),
             queue: Keys::new(alloc),
             awaiting: Keys::new(alloc),
+            waiting: WaitingKeys::new(alloc),
             out: None,
         })
     }

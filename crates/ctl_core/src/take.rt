@@ -1,21 +1,23 @@
 //! Events that are taken.
 ghost use Rattle.std.specs.Prelude.{◌≡◌, ◌↔◌, ◌⊎◌, ◌++◌, ◌&&◌, ◌||◌, [], if◌then◌else◌, not, is_some, None, true, IsErrOf, OnOk, OnErr, IfOk, IfErr};
 ghost use Rattle.kube_model.specs.declared.event.Event.TheVariants.{Changed as ChangedEvent, Deleted as DeletedEvent, ListEnd as ListEndEvent};
-ghost use Rattle.kube_model.specs.Keys.{same_key, key_cmp, without};
+ghost use Rattle.kube_model.specs.Keys.{key_cmp};
 ghost use Rattle.object_history.specs.Observations.{Watched, WatchExpired};
 ghost use Rattle.object_history.specs.Cache.{cached_after};
 ghost use Rattle.object_cache.specs.Change.{applied};
 ghost use Rattle.object_cache.specs.Limits.{passes, most_services};
 ghost use Rattle.object_cache.specs.declared.change.TakeNote.TheVariants.{Quiet as QuietNote};
-ghost use Rattle.alloc_book.specs.Claims.{loses, has_claims, settled};
-ghost use Rattle.core_rules.specs.Core.{waiting, all_free, is_ready};
-ghost use Rattle.core_rules.specs.Take.{Configures, concern, core_take, core_note, core_expired, limits, with_service, without_service, with_services_listed, own_and_waiting, listed_and_free, have_claims, shows, is_accepted, is_namespace, configured};
-ghost use Rattle.ctl_core.specs.Holding.{held_service};
+ghost use Rattle.versioned_map.specs.Entries.{is_newer};
+ghost use Rattle.core_rules.specs.Core.{all_free, is_ready};
+ghost use Rattle.core_rules.specs.Take.{Configures, concern, core_take, core_note, core_expired, limits, with_service, without_service, with_services_listed, listed_and_free, have_claims, shows, is_accepted, is_namespace, configured};
+ghost use Rattle.core_laws.specs.Queue.{AreApart, NoneAmong};
+ghost use Rattle.ctl_core.specs.Holding.{IsPrepared, held_service};
+ghost use Rattle.ctl_core.specs.Reached.{IsReached};
 ghost use Rattle.ctl_core.specs.Waking.{may_wake, ends_config};
 
 use crate::claims::{have_claims, keep_listed_claims, loses};
-use crate::keys::{all_free, drop_key, keep_listed, listed_and_free, own_and_waiting, waiting};
-use crate::room::{clear_unless, make_room, truncate_unless};
+use crate::keys::{Keys, all_free, drop_key, keep_listed, listed_and_free, own_and_waiting};
+use crate::room::{append_new, make_room, truncate_unless};
 use crate::state::{CoreState, is_ready};
 use alloc_book::Claim;
 use core_rules::TakeFault;
@@ -28,6 +30,7 @@ use object_cache::{Applied, Change, MOST_SERVICES, ObjectCache, TakeNote};
 struct Prepared {
     key: Key,
     claim: Claim,
+    is_lost: bool,
     more: Vec<Key>,
 }
 
@@ -35,7 +38,8 @@ impl CoreState {
     /// Takes an event: what it shows of the cluster is held. It is refused where one service more would be held than may be,
     /// with their number. After a refusal the core is unchanged.
     pub(crate) fn take(&mut self, event: Event) -> Result<TakeNote, TakeFault>
-        requires { self.old.out ≡ None }
+        requires out { self.old.out ≡ None }
+        requires reached { IsReached self.old }
         ensures note { IfOk result (λ note. note ≡ core_note self.old event) }
         ensures ok { OnOk result (self.new ≡ core_take self.old event) }
         ensures limit { IsErrOf result (TakeFault.Limit 65537) ↔ (limits self.old event ≡ true) }
@@ -74,6 +78,7 @@ impl CoreState {
     }
 
     fn apply(&mut self, event: Event) -> Result<TakeNote, NoMemory>
+        requires { IsReached self.old }
         ensures note { IfOk result (λ note. note ≡ core_note self.old event) }
         ensures ok { OnOk result (self.new ≡ core_take self.old event) }
         ensures err { OnErr result (self.new ≡ self.old) }
@@ -102,10 +107,14 @@ impl CoreState {
         ensures { self.new ≡ core_expired self.old group }
     {
         self.cache.expire(group);
-        clear_unless(is_ready(&self.cache), &mut self.queue);
+        if !is_ready(&self.cache) {
+            self.queue.clear();
+            self.waiting.clear();
+        }
     }
 
     fn show(&mut self, version: u64, object: Object) -> Result<TakeNote, NoMemory>
+        requires { IsReached self.old }
         ensures note { IfOk result (λ note. note ≡ core_note self.old (ChangedEvent version object)) }
         ensures ok { OnOk result (self.new ≡ core_take self.old (ChangedEvent version object)) }
         ensures err { OnErr result (self.new ≡ self.old) }
@@ -148,6 +157,7 @@ impl CoreState {
     }
 
     fn show_service(&mut self, version: u64, service: Service) -> Result<TakeNote, NoMemory>
+        requires { IsReached self.old }
         ensures note { IfOk result (λ note. note ≡ QuietNote) }
         ensures ok { OnOk result (self.new ≡ with_service self.old version service) }
         ensures err { OnErr result (self.new ≡ self.old) }
@@ -161,6 +171,7 @@ impl CoreState {
 
     /// The service is newer than what is held.
     fn hold_service(&mut self, version: u64, service: Service) -> Result<(), NoMemory>
+        requires { IsReached self.old }
         ensures ok { OnOk result (self.new ≡ held_service self.old version service) }
         ensures err { OnErr result (self.new ≡ self.old) }
     {
@@ -175,13 +186,26 @@ impl CoreState {
 
     /// What there is to do where the service is held.
     fn prepare(&self, service: &Service) -> Result<Prepared, NoMemory>
-        ensures { IfOk result (λ p. (p.key ≡ service.now.key) × (p.claim ≡ record { key = service.now.key; holding = service.now.holding })
-            × (p.more.items ≡ own_and_waiting (is_ready self.now.held) (loses service.now.key service.now.holding self.now.claims) self.now service.now.key)) }
+        requires { IsReached self.now }
+        ensures { IfOk result (IsPrepared self.now service.now) }
     {
-        let more = self.own_and_waiting(service)?;
+        let is_lost = loses(&self.book, &service.key, &service.holding);
+        let more = own_and_waiting(
+            self.alloc,
+            is_ready(&self.cache),
+            is_lost,
+            &service.key,
+            &self.queue,
+            &self.waiting,
+        )?;
         let key = service.key.copy()?;
         let claim = Claim::of(self.alloc, &service.key, &service.holding)?;
-        Ok(Prepared { key, claim, more })
+        Ok(Prepared {
+            key,
+            claim,
+            is_lost,
+            more,
+        })
     }
 
     fn hold_prepared(
@@ -190,12 +214,10 @@ impl CoreState {
         service: Service,
         prepared: Prepared,
     ) -> Result<(), NoMemory>
-        ensures ok { OnOk result (self.new ≡ record self.old {
-          held = cached_after (Watched (shows version service)) self.old.held;
-          claims = settled prepared.claim.key prepared.claim.holding self.old.claims;
-          awaiting = without prepared.key self.old.awaiting;
-          queue = self.old.queue ++ prepared.more.items;
-        }) }
+        requires newer { is_newer key_cmp self.old.held.services service.key version ≡ true }
+        requires prepared { IsPrepared self.old service prepared }
+        requires reached { IsReached self.old }
+        ensures ok { OnOk result (self.new ≡ held_service self.old version service) }
         ensures err { OnErr result (self.new ≡ self.old) }
     {
         let queued = self.queue.len();
@@ -222,26 +244,12 @@ impl CoreState {
         }
         self.book.settle_prepared(prepared.claim);
         drop_key(&mut self.awaiting, &prepared.key);
+        self.waiting.release(prepared.is_lost, &prepared.key);
         Ok(())
     }
 
-    /// What is queued where the service is shown.
-    fn own_and_waiting(&self, service: &Service) -> Result<Vec<Key>, NoMemory>
-        ensures { IfOk result (λ more. more.items ≡ own_and_waiting (is_ready self.now.held) (loses service.now.key service.now.holding self.now.claims) self.now service.now.key) }
-    {
-        own_and_waiting(
-            self.alloc,
-            is_ready(&self.cache),
-            loses(&self.book, &service.key, &service.holding),
-            self.class.as_ref(),
-            &service.key,
-            &self.queue,
-            &self.awaiting,
-            self.cache.services(),
-        )
-    }
-
     fn delete(&mut self, kind: Kind, key: Key) -> Result<TakeNote, NoMemory>
+        requires { IsReached self.old }
         ensures note { IfOk result (λ note. note ≡ core_note self.old (DeletedEvent kind key)) }
         ensures ok { OnOk result (self.new ≡ core_take self.old (DeletedEvent kind key)) }
         ensures err { OnErr result (self.new ≡ self.old) }
@@ -277,40 +285,29 @@ impl CoreState {
     }
 
     fn drop_service(&mut self, key: Key) -> Result<TakeNote, NoMemory>
+        requires { IsReached self.old }
         ensures note { IfOk result (λ note. note ≡ QuietNote) }
         ensures ok { OnOk result (self.new ≡ without_service self.old key) }
         ensures err { OnErr result (self.new ≡ self.old) }
     {
         let gone = key.copy()?;
-        let more = self.waiting_beside(&key)?;
+        let is_lost = is_ready(&self.cache) && self.book.has_claims(&key);
+        let more = self.waiting.others_where(self.alloc, is_lost, &key)?;
         let event = Event::Deleted {
             kind: Kind::Service,
             key,
         };
-        let applied = self.queue_and_apply(&more, event)?;
+        let applied = queue_and_apply(&mut self.queue, &mut self.cache, &more, event)?;
         drop(applied);
         self.book.drop_name(&gone);
         drop_key(&mut self.awaiting, &gone);
         drop_key(&mut self.queue, &gone);
+        self.waiting.release(is_lost, &gone);
         Ok(TakeNote::Quiet)
     }
 
-    /// What is queued where the service is deleted.
-    fn waiting_beside(&self, key: &Key) -> Result<Vec<Key>, NoMemory>
-        ensures { IfOk result (λ more. more.items ≡ waiting (is_ready self.now.held && has_claims key.now self.now.claims) self.now.class (same_key key.now) self.now.queue self.now.awaiting self.now.held.services) }
-    {
-        waiting(
-            self.alloc,
-            is_ready(&self.cache) && self.book.has_claims(key),
-            self.class.as_ref(),
-            key,
-            &self.queue,
-            &self.awaiting,
-            self.cache.services(),
-        )
-    }
-
     fn end_list(&mut self, group: Group) -> Result<TakeNote, NoMemory>
+        requires { IsReached self.old }
         ensures note { IfOk result (λ note. note ≡ core_note self.old (ListEndEvent group)) }
         ensures ok { OnOk result (self.new ≡ core_take self.old (ListEndEvent group)) }
         ensures err { OnErr result (self.new ≡ self.old) }
@@ -325,41 +322,47 @@ impl CoreState {
     }
 
     fn end_services(&mut self) -> Result<TakeNote, NoMemory>
+        requires { IsReached self.old }
         ensures note { IfOk result (λ note. note ≡ QuietNote) }
         ensures ok { OnOk result (self.new ≡ with_services_listed self.old) }
         ensures err { OnErr result (self.new ≡ self.old) }
     {
-        let more = self.listed_and_free()?;
+        let is_lost = have_claims(&self.book, self.cache.services());
+        let more = self.listed_and_free(is_lost)?;
         let event = Event::ListEnd {
             group: Group::Service,
         };
-        let applied = self.queue_and_apply(&more, event)?;
+        let applied = queue_and_apply(&mut self.queue, &mut self.cache, &more, event)?;
         drop(applied);
         keep_listed_claims(&mut self.book, self.cache.services());
         keep_listed(&mut self.awaiting, self.cache.services());
         keep_listed(&mut self.queue, self.cache.services());
+        self.waiting.keep_listed(is_lost, self.cache.services());
         Ok(TakeNote::Quiet)
     }
 
     /// What is queued where the list of services ends.
-    fn listed_and_free(&self) -> Result<Vec<Key>, NoMemory>
+    fn listed_and_free(&self, is_lost: bool) -> Result<Vec<Key>, NoMemory>
+        requires lost { is_lost ≡ have_claims self.now.held.services self.now.claims }
+        requires reached { IsReached self.now }
         ensures { IfOk result (λ more. more.items ≡ listed_and_free (is_ready self.now.held) (self.now.held.config_ended && is_some self.now.held.config) (have_claims self.now.held.services self.now.claims) self.now) }
     {
         listed_and_free(
             self.alloc,
             is_ready(&self.cache),
             is_configured(&self.cache),
-            have_claims(&self.book, self.cache.services()),
-            self.class.as_ref(),
+            is_lost,
             &self.queue,
             &self.awaiting,
             self.cache.services(),
+            &self.waiting,
         )
     }
 
     /// An event of the configuration, or of a namespace.
     fn configure(&mut self, event: Event) -> Result<TakeNote, NoMemory>
-        requires { concern event ≡ Configures }
+        requires configures { concern event ≡ Configures }
+        requires reached { IsReached self.old }
         ensures note { IfOk result (λ note. note ≡ (applied self.old.held event).note) }
         ensures ok { OnOk result (self.new ≡ configured self.old event) }
         ensures err { OnErr result (self.new ≡ self.old) }
@@ -373,9 +376,10 @@ impl CoreState {
                 return Err(NoMemory);
             }
         };
-        let applied = self.queue_and_apply(&woken, event)?;
+        let applied = queue_and_apply(&mut self.queue, &mut self.cache, &woken, event)?;
         let wakes = wakes(was_ready, &applied, is_ready(&self.cache));
         truncate_unless(wakes, &mut self.queue, queued);
+        self.waiting.clear_where(wakes);
         Ok(note_of(applied))
     }
 
@@ -387,29 +391,6 @@ impl CoreState {
             return Ok(Vec::new(self.alloc));
         }
         self.all_free()
-    }
-
-    /// The keys are queued, and the event is applied.
-    fn queue_and_apply(&mut self, more: &[Key], event: Event) -> Result<Applied, NoMemory>
-        ensures applied { IfOk result (λ a. a ≡ applied self.old.held event) }
-        ensures ok { OnOk result (self.new ≡ record self.old {
-          held = cached_after (Watched event) self.old.held;
-          queue = self.old.queue ++ more.now;
-        }) }
-        ensures err { OnErr result (self.new ≡ self.old) }
-    {
-        let queued = self.queue.len();
-        if self.queue.append(more).is_err() {
-            drop(event);
-            return Err(NoMemory);
-        }
-        match self.cache.apply(event) {
-            Ok(applied) => Ok(applied),
-            Err(_) => {
-                self.queue.truncate(queued);
-                Err(NoMemory)
-            }
-        }
     }
 
     fn all_free(&self) -> Result<Vec<Key>, NoMemory>
@@ -432,7 +413,37 @@ impl CoreState {
         let applied = apply(&mut self.cache, Event::Expired)?;
         drop(applied);
         self.queue.clear();
+        self.waiting.clear();
         Ok(TakeNote::Quiet)
+    }
+}
+
+/// The keys are queued, and the event is applied. After want of memory nothing has changed.
+fn queue_and_apply(
+    queue: &mut Keys,
+    cache: &mut ObjectCache,
+    more: &[Key],
+    event: Event,
+) -> Result<Applied, NoMemory>
+    requires once { AreApart more.now }
+    requires unqueued { NoneAmong more.now queue.old }
+    ensures applied { IfOk result (λ a. a ≡ applied cache.old event) }
+    ensures cache { OnOk result (cache.new ≡ cached_after (Watched event) cache.old) }
+    ensures queue { OnOk result (queue.new ≡ queue.old ++ more.now) }
+    ensures cache_err { OnErr result (cache.new ≡ cache.old) }
+    ensures queue_err { OnErr result (queue.new ≡ queue.old) }
+{
+    let queued = queue.len();
+    if append_new(queue, more).is_err() {
+        drop(event);
+        return Err(NoMemory);
+    }
+    match cache.apply(event) {
+        Ok(applied) => Ok(applied),
+        Err(_) => {
+            queue.truncate(queued);
+            Err(NoMemory)
+        }
     }
 }
 

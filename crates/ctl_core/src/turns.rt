@@ -1,10 +1,18 @@
 //! Turns.
-ghost use Rattle.std.specs.Prelude.{◌≡◌, [], IfOk, OnOk, OnErr, None};
+ghost use Rattle.std.specs.Prelude.{◌≡◌, ◌||◌, [], IfOk, OnOk, OnErr, None};
 ghost use Rattle.kube_model.specs.declared.record.Record.{Record};
 ghost use Rattle.core_rules.specs.Core.{service_of, pools_in, labels_of};
+ghost use Rattle.std.specs.BTreeSet.{contains};
+ghost use Rattle.std.specs.Option.{option_copied};
+ghost use Rattle.kube_model.specs.declared.key.Key.{Key as KeyValue};
+ghost use Rattle.kube_model.specs.Keys.{key_cmp};
+ghost use Rattle.ctl_core.specs.Reached.{IsReached};
+ghost use Rattle.ctl_core.specs.Waiting.{is_front_lacking};
 ghost use Rattle.core_rules.specs.Turn.{wanted_record, reason_in, turn_for, put_in, core_turn, after_turn, turn_at, chosen_at};
 
+use crate::keys::{Keys, Services, lacks_record};
 use crate::state::CoreState;
+use crate::waiting::WaitingKeys;
 use alloc_book::Choice;
 use core_rules::Turn;
 use kube_labels::{Labels, Text};
@@ -17,13 +25,16 @@ impl CoreState {
     /// Makes the next turn: the front key is taken out of the queue and chosen for. A put that is wanted is out until it is
     /// answered. After want of memory the core is unchanged.
     pub(crate) fn next_put(&mut self) -> Result<Turn, NoMemory>
-        requires { self.old.out ≡ None }
+        requires out { self.old.out ≡ None }
+        requires reached { IsReached self.old }
         ensures turn { IfOk result (λ turn. turn ≡ core_turn self.old) }
         ensures ok { OnOk result (self.new ≡ after_turn self.old) }
         ensures err { OnErr result (self.new ≡ self.old) }
     {
         let turn = self.next_turn()?;
         let out = put_in(&turn)?;
+        let services = self.cache.services();
+        let_front_wait(&mut self.waiting, self.class.as_ref(), services, &self.queue)?;
         let _front = self.queue.pop_first();
         self.out = out;
         Ok(turn)
@@ -88,6 +99,24 @@ impl CoreState {
             None => none,
             Some(namespace) => &namespace.labels,
         }
+    }
+}
+
+/// The key at the front, which is taken out of the queue, waits where its service lacks a record. After want of memory nothing has
+/// changed.
+fn let_front_wait(
+    waiting: &mut WaitingKeys,
+    class: Option<&Text>,
+    services: &Services,
+    queue: &Keys,
+) -> Result<(), NoMemory>
+    ensures ok { OnOk result ((k : KeyValue) → contains key_cmp waiting.new k
+        ≡ (is_front_lacking (option_copied class.entry) services.now queue.now k || contains key_cmp waiting.old k)) }
+    ensures err { OnErr result (waiting.new ≡ waiting.old) }
+{
+    match queue.first() {
+        Some(front) if lacks_record(class, services, front) => waiting.insert(front),
+        _ => Ok(()),
     }
 }
 

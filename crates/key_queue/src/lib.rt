@@ -1,7 +1,6 @@
-//! A queue of keys that tells whether a key stands in it without a look through all.
+//! A queue of keys in which each stands once, found by its hash.
 #![tactic(auto)]
 
-mod counts;
 mod queue;
 
 pub use queue::{KeyQueue, KeyTest};

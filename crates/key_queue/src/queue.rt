@@ -1,15 +1,15 @@
-//! A queue of keys.
-ghost use Rattle.std.specs.Prelude.{◌≡◌, ◌==◌, ◌∷◌, ◌++◌, [], not, filter, take, drop, length, slice_get, Some, IfSome, IfNone, OnOk, OnErr};
-ghost use Rattle.std.specs.BTreeMap.{is_at};
+//! A queue of distinct keys.
+ghost use Rattle.std.specs.Prelude.{◌≡◌, ◌==◌, ◌∷◌, ◌++◌, [], not, filter, take, drop, length, slice_get, OnOk, OnErr};
 ghost use Rattle.std.specs.List.{list_any};
 ghost use Rattle.std.specs.Option.{option_copied};
-ghost use Rattle.std.specs.declared.cmp.Ordering.TheVariants.{Equal};
+ghost use Rattle.key_queue.specs.Queue.{in_order, queued, queued_all, AreDistinct};
 
-use crate::counts::{count_in, count_out, drop_count};
+use indexmap::IndexSet;
 use mlb_base::{NoMemory, TryCopy};
 use std::alloc::Global;
-use std::collections::{BTreeMap, VecDeque};
+use std::hash::Hash;
 use std::marker::Model;
+use std::mem;
 
 /// A test of keys.
 pub trait KeyTest<K> {
@@ -21,36 +21,38 @@ pub trait KeyTest<K> {
         ensures { result ≡ passes self.now key.now };
 }
 
-/// A queue of keys, which contracts see as the list of its keys, the front first.
+/// A queue of distinct keys, which contracts see as the list of its keys, the front first.
 ///
-/// Beside the keys in their order it counts how often each stands in the queue, so that whether a key does, and a change at either
-/// end, take the logarithm of the number of keys in comparisons. A look through all keys is taken where a key that stands in the
-/// queue is removed, and where all are tested.
+/// Keys are found by their hashes: whether a key is in the queue, a key to the back and the key at the front take about the same time
+/// however many keys there are. To take the first key of a hash set moves all behind it, so the keys at the front are kept in
+/// reverse, in a set whose last key leaves. Where none is left there, the keys behind are turned over, each once on its way through.
 #[derive(Drop)]
-pub struct KeyQueue<K: Ord> {
-    keys: VecDeque<K>,
-    counts: BTreeMap<K, usize>,
+pub struct KeyQueue<K: Eq + Hash> {
+    /// The keys at the front, the first one last.
+    front: IndexSet<K>,
+    /// Those behind them, in their order.
+    back: IndexSet<K>,
 }
 
-impl<K: Ord> Model for KeyQueue<K> {
+impl<K: Eq + Hash> Model for KeyQueue<K> {
     ghost use Rattle.std.specs.Prelude.{List};
-    ghost use Rattle.key_queue.specs.Counts.{AreCounted};
+    ghost use Rattle.key_queue.specs.Queue.{in_order, AreDistinct};
 
     ghost Value = { List K };
 
-    ghost view = { λ q. q.keys.items };
+    ghost view = { λ q. in_order q.front.keys q.back.keys };
 
-    ghost invariant = { λ q. AreCounted K.cmp q.counts.entries q.keys.items };
+    ghost invariant = { λ q. AreDistinct K.eq (in_order q.front.keys q.back.keys) };
 }
 
-impl<K: Ord> KeyQueue<K> {
+impl<K: Eq + Hash> KeyQueue<K> {
     /// The empty queue, which takes no memory.
     pub fn new(alloc: Global) -> KeyQueue<K>
         ensures { result ≡ [] }
     {
         KeyQueue {
-            keys: VecDeque::new(alloc),
-            counts: BTreeMap::new(alloc),
+            front: IndexSet::new(alloc),
+            back: IndexSet::new(alloc),
         }
     }
 
@@ -58,47 +60,40 @@ impl<K: Ord> KeyQueue<K> {
     pub fn len(&self) -> usize
         ensures { result ≡ length self.now }
     {
-        self.keys.len()
+        self.front.len() + self.back.len()
     }
 
     /// Whether there is no key.
     pub fn is_empty(&self) -> bool
         ensures { result ≡ (length self.now == 0) }
     {
-        self.keys.is_empty()
+        self.len() == 0
     }
 
-    /// Whether the key stands in the queue, in the logarithm of the number of keys.
+    /// Whether the key stands in the queue.
     pub fn contains(&self, key: &K) -> bool
-        ensures { result ≡ list_any (is_at (K.cmp key.now)) self.now }
+        ensures found { result ≡ list_any (K.eq key.now) self.now }
+        ensures distinct { AreDistinct K.eq self.now }
     {
-        self.counts.contains_key(key)
+        self.front.contains(key) || self.back.contains(key)
     }
 
     /// The key at the front.
     pub fn first(&self) -> Option<&K>
         ensures { option_copied result ≡ slice_get self.now 0 }
     {
-        self.keys.front()
+        match self.front.last() {
+            Some(key) => Some(key),
+            None => self.back.first(),
+        }
     }
 }
 
-impl<K: Ord + TryCopy> KeyQueue<K> {
-    /// The key to the back of the queue. After want of memory the queue is unchanged.
-    pub fn push(&mut self, key: K) -> Result<(), NoMemory>
-        ensures ok { OnOk result (self.new ≡ self.old ++ key ∷ []) }
-        ensures err { OnErr result (self.new ≡ self.old) }
-    {
-        let counted = key.copy()?;
-        self.keys.reserve(1)?;
-        count_in(&mut self.counts, counted)?;
-        self.keys.push_back_reserved(key);
-        Ok(())
-    }
-
-    /// Copies of the keys to the back of the queue, in their order. After want of memory the queue is unchanged.
+impl<K: Eq + Hash + TryCopy> KeyQueue<K> {
+    /// Copies of the keys to the back of the queue, in their order, of each that isn't in the queue yet. After want of memory the queue
+    /// is unchanged.
     pub fn append(&mut self, keys: &[K]) -> Result<(), NoMemory>
-        ensures ok { OnOk result (self.new ≡ self.old ++ keys.now) }
+        ensures ok { OnOk result (self.new ≡ queued_all K.eq self.old keys.now) }
         ensures err { OnErr result (self.new ≡ self.old) }
     {
         let len = self.len();
@@ -115,67 +110,84 @@ impl<K: Ord + TryCopy> KeyQueue<K> {
     }
 
     fn push_copy(&mut self, key: &K) -> Result<(), NoMemory>
-        ensures ok { OnOk result (self.new ≡ self.old ++ key.now ∷ []) }
+        ensures ok { OnOk result (self.new ≡ queued K.eq self.old key.now) }
         ensures err { OnErr result (self.new ≡ self.old) }
     {
         self.push(key.copy()?)
     }
 }
 
-impl<K: Ord + Drop> KeyQueue<K> {
-    /// Takes the key at the front out. It takes no memory.
+impl<K: Eq + Hash + Drop> KeyQueue<K> {
+    /// The key to the back of the queue, where it isn't in the queue yet. After want of memory the queue is unchanged.
+    pub fn push(&mut self, key: K) -> Result<(), NoMemory>
+        ensures ok { OnOk result (self.new ≡ queued K.eq self.old key) }
+        ensures err { OnErr result (self.new ≡ self.old) }
+    {
+        if !self.front.contains(&key) {
+            self.back.insert(key)?;
+        }
+        Ok(())
+    }
+
+    /// Takes the key at the front out. It takes no memory. Where no key is left at the front, those behind are turned over first,
+    /// in the time that it takes to go through them.
     pub fn pop_first(&mut self) -> Option<K>
         ensures key { result ≡ slice_get self.old 0 }
         ensures rest { self.new ≡ drop 1 self.old }
     {
-        let key = self.keys.pop_front()?;
-        count_out(&mut self.counts, &key);
-        Some(key)
+        turn_over(&mut self.front, &mut self.back);
+        self.front.pop()
     }
 
-    /// Takes the key at the back out, where there is one. It takes no memory.
-    fn pop_last(&mut self) -> Option<K>
-        ensures some { IfSome result (λ key. self.old ≡ self.new ++ key ∷ []) }
-        ensures none { IfNone result (self.old ≡ []) }
-        ensures empty { IfNone result (self.new ≡ []) }
-    {
-        let key = self.keys.pop_back()?;
-        count_out(&mut self.counts, &key);
-        Some(key)
-    }
-
-    /// Keeps so many keys at the front, and drops the others. It takes no memory.
+    /// Keeps so many keys at the front, and drops the others. It takes no memory. It goes through the keys at the front only where some
+    /// of them are dropped.
     pub fn truncate(&mut self, len: usize)
         ensures { self.new ≡ take len self.old }
     {
-        while self.len() > len {
-            let _last = self.pop_last();
+        let in_front = self.front.len();
+        if len < in_front {
+            self.back.clear();
+            self.front.reverse();
+            self.front.truncate(len);
+            self.front.reverse();
+        } else {
+            self.back.truncate(len - in_front);
         }
     }
 
-    /// Drops each key that is equal to this one. It takes no memory, and looks through the keys only where one is.
+    /// Drops the key that is equal to this one, where there is one. It takes no memory, and moves the keys that stand behind it in its
+    /// set.
     pub fn remove(&mut self, key: &K)
-        ensures { self.new ≡ filter (λ k. not (is_at (K.cmp key.now) k)) self.old }
+        ensures { self.new ≡ filter (λ k. not (K.eq key.now k)) self.old }
     {
-        if drop_count(&mut self.counts, key) {
-            self.keys.retain(|k| key.cmp(k).is_ne());
-        }
+        let _at_the_front = self.front.shift_remove(key);
+        let _behind = self.back.shift_remove(key);
     }
 
-    /// Keeps the keys that pass, of which the test tells no two apart that are equal. It takes no memory.
+    /// Keeps the keys that pass. It takes no memory, and goes through all keys.
     pub fn retain<T: KeyTest<K>>(&mut self, test: &T)
-        requires { (a b : K) → K.cmp a b ≡ Equal → T.passes test.now a ≡ T.passes test.now b }
         ensures { self.new ≡ filter (T.passes test.now) self.old }
     {
-        self.keys.retain(|key| test.passes(key));
-        self.counts.retain(|key, _| test.passes(key));
+        self.front.retain(|key| test.passes(key));
+        self.back.retain(|key| test.passes(key));
     }
 
     /// Drops all keys.
     pub fn clear(&mut self)
         ensures { self.new ≡ [] }
     {
-        self.keys.clear();
-        self.counts.clear();
+        self.front.clear();
+        self.back.clear();
+    }
+}
+
+/// Where no key is left at the front, all those behind become the front. Their order is the same after it.
+fn turn_over<K: Eq + Hash>(front: &mut IndexSet<K>, back: &mut IndexSet<K>)
+    ensures order { in_order front.new.keys back.new.keys ≡ in_order front.old.keys back.old.keys }
+    ensures ready { front.new.keys ≡ [] → back.new.keys ≡ [] }
+{
+    if front.is_empty() {
+        mem::swap(front, back);
+        front.reverse();
     }
 }

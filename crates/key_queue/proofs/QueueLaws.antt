@@ -12,11 +12,11 @@ use Rattle.std.proofs.lemmas.Map.Keys.{IsDistinct-push, IsDistinct-IsPermutation
 use Rattle.key_queue.specs.Queue.{in_order, queued, queued_all, AreDistinct, AreNew}
 
 -- ---- tests of either
-pub or-true : (a b : Bool) → a ≡ true → (a || b) ≡ true
+or-true : (a b : Bool) → a ≡ true → (a || b) ≡ true
 or-true true b p = refl
 or-true false b p = absurd (true≢false (sym p))
 
-pub or-false_left : (a b : Bool) → a ≡ false → (a || b) ≡ b
+or-false_left : (a b : Bool) → a ≡ false → (a || b) ≡ b
 or-false_left false b p = refl
 or-false_left true b p = absurd (true≢false p)
 
@@ -61,27 +61,24 @@ module _ {K : Type 0} (P : K → Type 0) where
 
 module _ {K : Type 0} (eq : K → K → Bool) where
   -- the keys at the front of distinct keys are distinct
-  pub AreDistinct-left : (xs ys : List K) → AreDistinct eq (xs ++ ys) → AreDistinct eq xs
+  pub distinct_left : (xs ys : List K) → AreDistinct eq (xs ++ ys) → AreDistinct eq xs
   unfolding IsDistinct
-  AreDistinct-left [] ys d = tt
-  AreDistinct-left (x ∷ xs) ys d = (all-left (λ y. eq x y ≡ false) xs ys d.0, AreDistinct-left xs ys d.1)
+  distinct_left [] ys d = tt
+  distinct_left (x ∷ xs) ys d = (all-left (λ y. eq x y ≡ false) xs ys d.0, distinct_left xs ys d.1)
 
   -- and so are those behind them
-  pub AreDistinct-right : (xs ys : List K) → AreDistinct eq (xs ++ ys) → AreDistinct eq ys
+  pub distinct_right : (xs ys : List K) → AreDistinct eq (xs ++ ys) → AreDistinct eq ys
   unfolding IsDistinct
-  AreDistinct-right [] ys d = d
-  AreDistinct-right (x ∷ xs) ys d = AreDistinct-right xs ys d.1
+  distinct_right [] ys d = d
+  distinct_right (x ∷ xs) ys d = distinct_right xs ys d.1
 
-  pub AreDistinct-take : (n : ℕ) (xs : List K) → AreDistinct eq xs → AreDistinct eq (take n xs)
-  AreDistinct-take n xs d = AreDistinct-left (take n xs) (drop n xs) (subst (AreDistinct eq) (sym (take-append-drop n xs)) d)
+  pub distinct_take : (n : ℕ) (xs : List K) → AreDistinct eq xs → AreDistinct eq (take n xs)
+  distinct_take n xs d = distinct_left (take n xs) (drop n xs) (subst (AreDistinct eq) (sym (take-append-drop n xs)) d)
 
-  pub AreDistinct-drop : (n : ℕ) (xs : List K) → AreDistinct eq xs → AreDistinct eq (drop n xs)
-  AreDistinct-drop n xs d = AreDistinct-right (take n xs) (drop n xs) (subst (AreDistinct eq) (sym (take-append-drop n xs)) d)
-
-  pub AreDistinct-filter : (p : K → Bool) (xs : List K) → AreDistinct eq xs → AreDistinct eq (filter p xs)
+  pub distinct_filter : (p : K → Bool) (xs : List K) → AreDistinct eq xs → AreDistinct eq (filter p xs)
   unfolding IsDistinct
-  AreDistinct-filter p [] d = tt
-  AreDistinct-filter p (x ∷ xs) d = by (p x) (AreDistinct-filter p xs d.1)
+  distinct_filter p [] d = tt
+  distinct_filter p (x ∷ xs) d = by (p x) (distinct_filter p xs d.1)
     where
       by : (b : Bool) → IsDistinct eq (filter p xs) → IsDistinct eq (cond b (x ∷ filter p xs) (filter p xs))
       by true rest = (all-filter (λ y. eq x y ≡ false) p xs d.0, rest)
@@ -89,17 +86,17 @@ module _ {K : Type 0} (eq : K → K → Bool) where
 
 module _ {K : Type 0} {eq : K → K → Bool} (laws : IsEquivalence eq) where
   -- after a key came they still are distinct
-  pub AreDistinct-queued : (keys : List K) (key : K) → AreDistinct eq keys → AreDistinct eq (queued eq keys key)
-  AreDistinct-queued keys key d = by (list_any (eq key) keys) refl
+  pub distinct_queued : (keys : List K) (key : K) → AreDistinct eq keys → AreDistinct eq (queued eq keys key)
+  distinct_queued keys key d = by (list_any (eq key) keys) refl
     where
       by : (b : Bool) → list_any (eq key) keys ≡ b → AreDistinct eq (queued eq keys key)
       by true there = subst (AreDistinct eq) (sym (queued-there eq keys key there)) d
       by false absent = subst (AreDistinct eq) (sym (queued-new eq keys key absent)) (IsDistinct-push laws keys key d absent)
 
   -- and after more came
-  pub AreDistinct-queued_all : (more keys : List K) → AreDistinct eq keys → AreDistinct eq (queued_all eq keys more)
-  AreDistinct-queued_all [] keys d = d
-  AreDistinct-queued_all (key ∷ more) keys d = AreDistinct-queued_all more (queued eq keys key) (AreDistinct-queued keys key d)
+  pub distinct_queued_all : (more keys : List K) → AreDistinct eq keys → AreDistinct eq (queued_all eq keys more)
+  distinct_queued_all [] keys d = d
+  distinct_queued_all (key ∷ more) keys d = distinct_queued_all more (queued eq keys key) (distinct_queued keys key d)
 
   or-none : (a b c : Bool) → a ≡ false → b ≡ false → c ≡ false → (a || (b || c)) ≡ false
   or-none false false false p q r = refl
@@ -128,12 +125,12 @@ module _ {K : Type 0} {eq : K → K → Bool} (laws : IsEquivalence eq) where
 
   -- distinct keys, and new ones behind them, are distinct
   pub AreDistinct-append : (keys more : List K) → AreDistinct eq keys → AreNew eq keys more → AreDistinct eq (keys ++ more)
-  AreDistinct-append keys more d new = subst (AreDistinct eq) (queued_all-new keys more new) (AreDistinct-queued_all more keys d)
+  AreDistinct-append keys more d new = subst (AreDistinct eq) (queued_all-new keys more new) (distinct_queued_all more keys d)
 
 -- ---- a queue in two lists, the first of them in reverse
 module _ {K : Type 0} where
-  pub any-in_order : (test : K → Bool) (front back : List K) → list_any test (in_order front back) ≡ (list_any test front || list_any test back)
-  any-in_order test front back =
+  pub any_in_order : (test : K → Bool) (front back : List K) → list_any test (in_order front back) ≡ (list_any test front || list_any test back)
+  any_in_order test front back =
       list_any-append test (reverse front) back ∙ ap (λ b. b || list_any test back) (sym (list_any-IsPermutation test front (reverse front) (IsPermutation-reverse front)))
 
   filter-reverse : (p : K → Bool) (xs : List K) → filter p (reverse xs) ≡ reverse (filter p xs)
@@ -149,13 +146,13 @@ module _ {K : Type 0} where
 
 module _ {K : Type 0} (eq : K → K → Bool) where
   -- a key of the front set isn't queued again
-  pub queued-in_front : (front back : List K) (key : K) → list_any (eq key) front ≡ true → queued eq (in_order front back) key ≡ in_order front back
-  queued-in_front front back key there = queued-there eq (in_order front back) key (any-in_order (eq key) front back ∙ or-true _ _ there)
+  pub queued_in_front : (front back : List K) (key : K) → list_any (eq key) front ≡ true → queued eq (in_order front back) key ≡ in_order front back
+  queued_in_front front back key there = queued-there eq (in_order front back) key (any_in_order (eq key) front back ∙ or-true _ _ there)
 
   -- another is queued in the set behind
-  pub queued-behind : (front back : List K) (key : K) → list_any (eq key) front ≡ false → queued eq (in_order front back) key ≡ in_order front (queued eq back key)
-  queued-behind front back key absent =
-      ap (λ b. if b then in_order front back else in_order front back ++ key ∷ []) (any-in_order (eq key) front back ∙ or-false_left _ _ absent) ∙ by (list_any (eq key) back)
+  pub queued_behind : (front back : List K) (key : K) → list_any (eq key) front ≡ false → queued eq (in_order front back) key ≡ in_order front (queued eq back key)
+  queued_behind front back key absent =
+      ap (λ b. if b then in_order front back else in_order front back ++ key ∷ []) (any_in_order (eq key) front back ∙ or-false_left _ _ absent) ∙ by (list_any (eq key) back)
     where
       by : (b : Bool) → (if b then in_order front back else in_order front back ++ key ∷ []) ≡ in_order front (if b then back else back ++ key ∷ [])
       by true = refl
@@ -181,13 +178,13 @@ module _ {K : Type 0} {eq : K → K → Bool} (laws : IsEquivalence eq) where
       by false other rest = ap (λ ks. x ∷ ks) rest
 
   -- the key that is equal is taken out of both lists
-  pub removed-in_order : (key : K) (front back : List K) → AreDistinct eq (in_order front back)
+  pub removed_in_order : (key : K) (front back : List K) → AreDistinct eq (in_order front back)
       → in_order (remove_key (eq key) front) (remove_key (eq key) back) ≡ filter (λ k. not (eq key k)) (in_order front back)
-  removed-in_order key front back d =
+  removed_in_order key front back d =
       let p : K → Bool = λ k. not (eq key k) in
-      let first = IsDistinct-IsPermutation eq laws.symm (reverse front) front (IsPermutation-sym _ _ (IsPermutation-reverse front)) (AreDistinct-left eq (reverse front) back d) in
+      let first = IsDistinct-IsPermutation eq laws.symm (reverse front) front (IsPermutation-sym _ _ (IsPermutation-reverse front)) (distinct_left eq (reverse front) back d) in
       ap (λ ks. in_order ks (remove_key (eq key) back)) (remove_key-filter key front first)
-      ∙ ap (λ ks. in_order (filter p front) ks) (remove_key-filter key back (AreDistinct-right eq (reverse front) back d))
+      ∙ ap (λ ks. in_order (filter p front) ks) (remove_key-filter key back (distinct_right eq (reverse front) back d))
       ∙ sym (filter-in_order p front back)
 
 -- ---- what is left of a queue
@@ -198,14 +195,14 @@ module _ {K : Type 0} where
   take-past (x ∷ xs) ys (suc n) m e = ap (λ ks. x ∷ ks) (take-past xs ys n m (omega arith))
 
   -- where all keys at the front stay, the others are cut behind them
-  pub cut-behind : (front back cut : List K) (n in_front : ℕ) → in_front ≡ length front → in_front ≤ n → cut ≡ take (n - in_front) back
+  pub cut_behind : (front back cut : List K) (n in_front : ℕ) → in_front ≡ length front → in_front ≤ n → cut ≡ take (n - in_front) back
       → in_order front cut ≡ take n (in_order front back)
-  cut-behind front back cut n in_front long within is =
+  cut_behind front back cut n in_front long within is =
       let same = length-reverse front in
       ap (in_order front) is ∙ sym (take-past (reverse front) back n (n - in_front) (omega arith))
 
 -- without the last of those at the front, which are in reverse, distinct keys are distinct
-pub AreDistinct-rest : {K : Type 0} (eq : K → K → Bool) (rest last back : List K) → AreDistinct eq (in_order (rest ++ last) back) → AreDistinct eq (in_order rest back)
-AreDistinct-rest eq rest last back d =
-    AreDistinct-right eq (reverse last) (in_order rest back)
+pub distinct_rest : {K : Type 0} (eq : K → K → Bool) (rest last back : List K) → AreDistinct eq (in_order (rest ++ last) back) → AreDistinct eq (in_order rest back)
+distinct_rest eq rest last back d =
+    distinct_right eq (reverse last) (in_order rest back)
     (subst (AreDistinct eq) (ap (λ ks. ks ++ back) (reverse-append rest last) ∙ append_assoc (reverse last) (reverse rest) back) d)

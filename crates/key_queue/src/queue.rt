@@ -71,6 +71,7 @@ impl<K: Eq + Hash> KeyQueue<K> {
     }
 
     /// Whether the key stands in the queue.
+    #[tactic(auto, using(crate::proofs::QueueLaws::any_in_order))]
     pub fn contains(&self, key: &K) -> bool
         ensures found { result ≡ list_any (K.eq key.now) self.now }
         ensures distinct { AreDistinct K.eq self.now }
@@ -119,6 +120,7 @@ impl<K: Eq + Hash + TryCopy> KeyQueue<K> {
 
 impl<K: Eq + Hash + Drop> KeyQueue<K> {
     /// The key to the back of the queue, where it isn't in the queue yet. After want of memory the queue is unchanged.
+    #[tactic(auto, using(crate::proofs::QueueLaws::queued_behind, crate::proofs::QueueLaws::queued_in_front))]
     pub fn push(&mut self, key: K) -> Result<(), NoMemory>
         ensures ok { OnOk result (self.new ≡ queued K.eq self.old key) }
         ensures err { OnErr result (self.new ≡ self.old) }
@@ -131,6 +133,7 @@ impl<K: Eq + Hash + Drop> KeyQueue<K> {
 
     /// Takes the key at the front out. It takes no memory. Where no key is left at the front, those behind are turned over first,
     /// in the time that it takes to go through them.
+    #[tactic(auto, using(crate::proofs::QueueLaws::distinct_rest))]
     pub fn pop_first(&mut self) -> Option<K>
         ensures key { result ≡ slice_get self.old 0 }
         ensures rest { self.new ≡ drop 1 self.old }
@@ -141,6 +144,7 @@ impl<K: Eq + Hash + Drop> KeyQueue<K> {
 
     /// Keeps so many keys at the front, and drops the others. It takes no memory. It goes through the keys at the front only where some
     /// of them are dropped.
+    #[tactic(auto, using(crate::proofs::QueueLaws::cut_behind))]
     pub fn truncate(&mut self, len: usize)
         ensures { self.new ≡ take len self.old }
     {
@@ -157,6 +161,7 @@ impl<K: Eq + Hash + Drop> KeyQueue<K> {
 
     /// Drops the key that is equal to this one, where there is one. It takes no memory, and moves the keys that stand behind it in its
     /// set.
+    #[tactic(auto, using(crate::proofs::QueueLaws::removed_in_order, crate::proofs::QueueLaws::distinct_filter))]
     pub fn remove(&mut self, key: &K)
         ensures { self.new ≡ filter (λ k. not (K.eq key.now k)) self.old }
     {

@@ -54,7 +54,7 @@ has_port-is ports p e =
 has_port-from : (ports : List Port) (p : Port) → Contains ports p → has_port ports p ≡ true
 has_port-from ports p found = any-contains (same_port p) ports p found (same_port-itself p)
 
-alike-is : (a b : Backend) → is_alike a b ≡ true → AreAlike a b
+pub alike-is : (a b : Backend) → is_alike a b ≡ true → AreAlike a b
 alike-is Cluster Cluster e = tt
 alike-is Cluster (Local n s) e = true≢false (sym e)
 alike-is (Local n s) Cluster e = true≢false (sym e)
@@ -62,7 +62,7 @@ alike-is (Local n s) (Local m t) e =
     let parts = and_parts (bytes_eq n m) (pointwise pair_eq s t) e in
     ((bytes_eq-Decides n m).0 parts.0, (pairs_eq-Decides s t).0 parts.1)
 
-alike-from : (a b : Backend) → AreAlike a b → is_alike a b ≡ true
+pub alike-from : (a b : Backend) → AreAlike a b → is_alike a b ≡ true
 alike-from Cluster Cluster h = refl
 alike-from Cluster (Local n s) h = absurd h
 alike-from (Local n s) Cluster h = absurd h

@@ -10,5 +10,5 @@ mod terms;
 pub use mark::mark_text;
 pub use port_set::PortSet;
 pub use reading::read_mark;
-pub use sharing::may_share;
+pub use sharing::{is_alike, may_share};
 pub use terms::{Backend, Terms, terms_of};

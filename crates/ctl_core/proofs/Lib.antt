@@ -3,4 +3,5 @@ pub mod Kept
 pub mod Reaches
 pub mod Steps
 pub mod WaitingEvents
+pub mod WaitingQueued
 pub mod Wakes

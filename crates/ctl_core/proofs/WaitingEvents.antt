@@ -32,13 +32,14 @@ use Rattle.core_rules.specs.Take.{Configures, concern, no_key, is_unlisted, list
 use Rattle.core_rules.proofs.Concerns.{config-services}
 use Rattle.core_laws.proofs.Awaiting.{has_key-kept, has_key-without}
 use Rattle.core_laws.proofs.Orderly.{own-same}
-use Rattle.core_laws.proofs.QueueOnce.{no-true, passing-found}
+use Rattle.core_laws.proofs.QueueOnce.{no-true}
 use Rattle.core_laws.proofs.Ready.{config-ready}
-use Rattle.core_laws.proofs.Rows.{has_key-append, passing-has}
+use Rattle.core_laws.proofs.Rows.{has_key-append}
 use Rattle.ctl_core.specs.Holding.{held_service}
 use Rattle.ctl_core.specs.Reached.{IsReached}
 use Rattle.ctl_core.specs.Waiting.{lacks_record, waits_at, AreWaiting}
 use Rattle.ctl_core.proofs.Reaches.{reached-sorted}
+use Rattle.ctl_core.proofs.WaitingLaws.{passes_at, has-passing, waits_at-same}
 
 -- these are the keys of the services that wait in the state
 abbrev pub WaitIn : State → BTreeSet Key → Type 0
@@ -83,24 +84,6 @@ waits_at-lacks class queue awaiting key None = lacks-none (not (has_key queue ke
 waits_at-lacks class queue awaiting key (Some service) = refl
 
 -- ---- the keys that pass
-abbrev passes_at : (Key → Service → Bool) → Key → Option Service → Bool
-passes_at test key None = false
-passes_at test key (Some service) = test key service
-
-has-by : (b : Bool) (found : Option Service) (test : Key → Service → Bool) (es : List (Key × Versioned Service)) (key : Key) → IsStrictlySortedBy key_cmp (keys_of es)
-    → b ≡ has_key (passing test es) key → found ≡ object_at key_cmp es key → b ≡ passes_at test key found
-has-by true found test es key s b f =
-    let there = passing-found test es s key (sym b) in
-    sym (ap (passes_at test key) (f ∙ there.1) ∙ there.2)
-has-by false None test es key s b f = refl
-has-by false (Some service) test es key s b f =
-    sym (no-true (test key service) (λ passes. true≢false (sym (passing-has test es key service (sym f) passes) ∙ sym b)))
-
--- a key is among those that pass where its service passes
-has-passing : (test : Key → Service → Bool) (es : List (Key × Versioned Service)) (key : Key) → IsStrictlySortedBy key_cmp (keys_of es)
-    → has_key (passing test es) key ≡ passes_at test key (object_at key_cmp es key)
-has-passing test es key s = has-by (has_key (passing test es) key) (object_at key_cmp es key) test es key s refl refl
-
 passes-waits : (class : Option (List ℕ)) (told : Key → Bool) (queue awaiting : List Key) (key : Key) (found : Option Service)
     → passes_at (waits class told queue awaiting) key found ≡ (not (told key) && free_lacks (has_key queue key) (has_key awaiting key) (lacks_record class found))
 passes-waits class told queue awaiting key None =
@@ -111,7 +94,7 @@ has-waiting : (lost : Bool) (class : Option (List ℕ)) (told : Key → Bool) (q
     → has_key (waiting lost class told queue awaiting es) key
     ≡ (lost && (not (told key) && free_lacks (has_key queue key) (has_key awaiting key) (lacks_record class (object_at key_cmp es key))))
 has-waiting true class told queue awaiting es key s =
-    has-passing (waits class told queue awaiting) es key s ∙ passes-waits class told queue awaiting key (object_at key_cmp es key)
+    has-passing (waits class told queue awaiting) es s key ∙ passes-waits class told queue awaiting key (object_at key_cmp es key)
 has-waiting false class told queue awaiting es key s = refl
 
 either-assigned : (free assigned : Bool) → ((free && assigned) || (free && not assigned)) ≡ free
@@ -125,12 +108,12 @@ passes-free : (queue awaiting : List Key) (key : Key) (found : Option Service)
 passes-free queue awaiting key None = refl
 passes-free queue awaiting key (Some service) = either-assigned (not (has_key queue key) && not (has_key awaiting key)) (is_assigned service.holding)
 
-has-free : (queue awaiting : List Key) (es : List (Key × Versioned Service)) (key : Key) → IsStrictlySortedBy key_cmp (keys_of es)
+pub has-free : (queue awaiting : List Key) (es : List (Key × Versioned Service)) (key : Key) → IsStrictlySortedBy key_cmp (keys_of es)
     → has_key (all_free queue awaiting es) key ≡ (is_some (object_at key_cmp es key) && (not (has_key queue key) && not (has_key awaiting key)))
 has-free queue awaiting es key s =
     has_key-append (passing (is_free_with queue awaiting true) es) (passing (is_free_with queue awaiting false) es) key
-    ∙ ap (λ b. b || has_key (passing (is_free_with queue awaiting false) es) key) (has-passing (is_free_with queue awaiting true) es key s)
-    ∙ ap (λ b. passes_at (is_free_with queue awaiting true) key (object_at key_cmp es key) || b) (has-passing (is_free_with queue awaiting false) es key s)
+    ∙ ap (λ b. b || has_key (passing (is_free_with queue awaiting false) es) key) (has-passing (is_free_with queue awaiting true) es s key)
+    ∙ ap (λ b. passes_at (is_free_with queue awaiting true) key (object_at key_cmp es key) || b) (has-passing (is_free_with queue awaiting false) es s key)
     ∙ passes-free queue awaiting key (object_at key_cmp es key)
 
 -- where all that are free are queued, nobody waits
@@ -362,15 +345,6 @@ listed-by false true lost s es key sorted e n =
 listed-by true false lost s es key sorted e n = absurd (true≢false (sym (n refl)))
 listed-by false false lost s es key sorted e n = and-false (not lost)
 
--- equal membership of the key makes equal waiting
-same-waits : (class : Option (List ℕ)) (queue queue' awaiting awaiting' : List Key) (key : Key) (found : Option Service) → has_key queue' key ≡ has_key queue key → has_key awaiting' key ≡ has_key awaiting key
-    → waits_at class queue awaiting key found ≡ waits_at class queue' awaiting' key found
-same-waits class queue queue' awaiting awaiting' key found q a =
-    waits_at-lacks class queue awaiting key found
-    ∙ ap (λ b. free_lacks b (has_key awaiting key) (lacks_record class found)) (sym q)
-    ∙ ap (λ b. free_lacks (has_key queue' key) b (lacks_record class found)) (sym a)
-    ∙ sym (waits_at-lacks class queue' awaiting' key found)
-
 listed-at : (u : Bool) (s : State) (old new : BTreeSet Key) (key : Key) → IsStrictlySortedBy key_cmp (keys_of s.held.services) → IsStrictlySortedBy key_cmp (keys_of (listed s.held.services))
     → u ≡ is_unlisted (listed s.held.services) key → WaitIn s old
     → contains key_cmp new key ≡ (not (have_claims s.held.services s.claims) && (not u && contains key_cmp old key))
@@ -392,9 +366,9 @@ listed-at false s old new key sorted sorted' u waits_old new_is =
     ∙ ap (λ f. not lost && (was && waits_at s.class s.queue s.awaiting key f)) (sym (listed-stays s.held.services sorted key (sym u)))
     ∙ listed-by was now lost s es key sorted' refl (ready-stays s.held.config_ended s.held.services_ended (is_some s.held.config))
     ∙ ap (λ b. now && b)
-    (same-waits s.class (s.queue ++ more) after.queue s.awaiting after.awaiting key (object_at key_cmp es key)
-    (has_key-append (listed_keys es s.queue) more key ∙ ap (λ b. b || has_key more key) (has-listed es s.queue key (sym u)) ∙ sym (has_key-append s.queue more key))
-    (has-listed es s.awaiting key (sym u)))
+    (waits_at-same s.class (s.queue ++ more) after.queue s.awaiting after.awaiting key (object_at key_cmp es key)
+    (sym (has_key-append (listed_keys es s.queue) more key ∙ ap (λ b. b || has_key more key) (has-listed es s.queue key (sym u)) ∙ sym (has_key-append s.queue more key)))
+    (sym (has-listed es s.awaiting key (sym u))))
 
 pub listed-wait : (s : State) (old new : BTreeSet Key) → IsReached s → WaitIn s old
     → ((key : Key) → contains key_cmp new key ≡ (not (have_claims s.held.services s.claims) && (not (is_unlisted (listed s.held.services) key) && contains key_cmp old key)))

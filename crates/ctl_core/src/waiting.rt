@@ -105,11 +105,12 @@ impl WaitingKeys {
         ensures keys { IfOk result (λ keys. keys.items ≡ others_where is_lost own.now self.now.keys) }
         ensures ordered { IsOrdered key_cmp self.now }
     {
+        let waiting = self.keys.iter();
         let mut keys = Vec::new(alloc);
         if !is_lost {
             return Ok(keys);
         }
-        for key in self.keys.iter() {
+        for key in waiting {
             if key != own {
                 keys.push(key.copy()?)?;
             }

@@ -4,7 +4,7 @@ use Rattle.std.proofs.lemmas.Bool.{true≢false, or_left, or_right}
 use Rattle.std.proofs.lemmas.List.Kept.{IsStrictlySortedBy-filter}
 use Rattle.std.proofs.lemmas.Map.Entries.{option_filter}
 use Rattle.std.proofs.lemmas.Map.Lookups.{btree_set_from_contains}
-use Rattle.std.specs.BTreeSet.{BTreeSet, IsOrdered, contains}
+use Rattle.std.specs.BTreeSet.{BTreeSet, IsOrdered}
 use Rattle.std.specs.Cmp.{IsEquivalence}
 use Rattle.std.specs.List.{list_any, AllByRecursion, IsDistinct}
 use Rattle.std.specs.List.Sorted.{IsStrictlySortedBy}

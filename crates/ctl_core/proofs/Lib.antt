@@ -1,5 +1,9 @@
-pub mod KeyLists
 pub mod Kept
+pub mod KeyLists
+pub mod KeySets
 pub mod Reaches
 pub mod Steps
+pub mod WaitingEvents
+pub mod WaitingLaws
+pub mod WaitingQueued
 pub mod Wakes

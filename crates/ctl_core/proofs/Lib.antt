@@ -2,4 +2,5 @@ pub mod KeyLists
 pub mod Kept
 pub mod Reaches
 pub mod Steps
+pub mod WaitingTurns
 pub mod Wakes

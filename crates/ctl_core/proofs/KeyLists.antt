@@ -15,11 +15,16 @@ pub has-at : (keys : List Key) (key : Key) → list_any (is_at (key_cmp key)) ke
 has-at [] key = refl
 has-at (k ∷ keys) key = ap (λ b. b || list_any (is_at (key_cmp key)) keys) (at-is key k) ∙ ap (λ b. same_key k key || b) (has-at keys key)
 
-pub without-at : (keys : List Key) (key : Key) → filter (λ k. not (is_at (key_cmp key) k)) keys ≡ without key keys
-without-at [] key = refl
-without-at (k ∷ keys) key =
-    ap (λ b. cond (not b) (k ∷ filter (λ k. not (is_at (key_cmp key) k)) keys) (filter (λ k. not (is_at (key_cmp key) k)) keys)) (at-is key k)
-    ∙ ap (λ (ks : List Key). cond (not (same_key k key)) (k ∷ ks) ks) (without-at keys key)
+-- ---- a key in a list, by the test the other way round
+pub any-has : (keys : List Key) (key : Key) → list_any (same_key key) keys ≡ has_key keys key
+any-has [] key = refl
+any-has (k ∷ keys) key = ap (λ b. b || list_any (same_key key) keys) (same_key-flip key k) ∙ ap (λ b. same_key k key || b) (any-has keys key)
+
+pub without-flip : (keys : List Key) (key : Key) → filter (λ k. not (same_key key k)) keys ≡ without key keys
+without-flip [] key = refl
+without-flip (k ∷ keys) key =
+    ap (λ b. cond (not b) (k ∷ filter (λ k. not (same_key key k)) keys) (filter (λ k. not (same_key key k)) keys)) (same_key-flip key k)
+    ∙ ap (λ (ks : List Key). cond (not (same_key k key)) (k ∷ ks) ks) (without-flip keys key)
 
 -- ---- the front of a queue
 pub front-none : (queue : List Key) → None ≡ slice_get queue 0 → queue ≡ []

@@ -209,15 +209,12 @@ pub(crate) fn listed_and_free(
     ensures keys { IfOk result (λ keys. keys.items ≡ (if not is_ready then [] else (if was_ready then (if is_lost then listed_keys services.now waiting.now.keys else []) else all_free queue.now awaiting.now (listed services.now)))) }
     ensures ordered { IsOrdered key_cmp waiting.now }
 {
-    let listed = waiting.listed(alloc, services)?;
+    let listed = waiting.listed_where(alloc, is_lost, services)?;
     if !is_ready {
         return Ok(Vec::new(alloc));
     }
     if !was_ready {
         return all_free_listed(alloc, queue, awaiting, services);
-    }
-    if !is_lost {
-        return Ok(Vec::new(alloc));
     }
     Ok(listed)
 }

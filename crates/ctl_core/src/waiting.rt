@@ -1,5 +1,5 @@
 //! The keys of services that wait for an address.
-ghost use Rattle.std.specs.Prelude.{◌≡◌, ◌&&◌, ◌||◌, not, false, IfOk, OnOk, OnErr};
+ghost use Rattle.std.specs.Prelude.{◌≡◌, ◌&&◌, ◌||◌, [], if◌then◌else◌, not, false, IfOk, OnOk, OnErr};
 ghost use Rattle.std.specs.BTreeSet.{IsOrdered, contains};
 ghost use Rattle.kube_model.specs.declared.key.Key.{Key as KeyValue};
 ghost use Rattle.kube_model.specs.Keys.{key_cmp, same_key, without};
@@ -105,11 +105,12 @@ impl WaitingKeys {
         ensures keys { IfOk result (λ keys. keys.items ≡ others_where is_lost own.now self.now.keys) }
         ensures ordered { IsOrdered key_cmp self.now }
     {
+        let waiting = self.keys.iter();
         let mut keys = Vec::new(alloc);
         if !is_lost {
             return Ok(keys);
         }
-        for key in self.keys.iter() {
+        for key in waiting {
             if key != own {
                 keys.push(key.copy()?)?;
             }
@@ -117,13 +118,22 @@ impl WaitingKeys {
         Ok(keys)
     }
 
-    /// Those that are held and were listed, ascending.
-    pub(crate) fn listed(&self, alloc: Global, services: &Services) -> Result<Vec<Key>, NoMemory>
-        ensures keys { IfOk result (λ keys. keys.items ≡ listed_keys services.now self.now.keys) }
+    /// Those that are held and were listed, ascending, where a claim was lost.
+    pub(crate) fn listed_where(
+        &self,
+        alloc: Global,
+        is_lost: bool,
+        services: &Services,
+    ) -> Result<Vec<Key>, NoMemory>
+        ensures keys { IfOk result (λ keys. keys.items ≡ (if is_lost then listed_keys services.now self.now.keys else [])) }
         ensures ordered { IsOrdered key_cmp self.now }
     {
+        let waiting = self.keys.iter();
         let mut keys = Vec::new(alloc);
-        for key in self.keys.iter() {
+        if !is_lost {
+            return Ok(keys);
+        }
+        for key in waiting {
             if !is_unlisted(services, key) {
                 keys.push(key.copy()?)?;
             }

@@ -53,23 +53,28 @@ ready-by : (b : Bool) (k : Key) (rest : List Key) → (b ≡ false → (k ∷ re
 ready-by true k rest empty = refl
 ready-by false k rest empty = absurd (cc (empty refl))
 
+-- the front key is neither among the others that are queued nor awaiting
+front-is : (class : Option (List ℕ)) (held : Cached) (front k : Key) (rest awaiting : List Key) → IsInOrder (front ∷ rest) awaiting → same_key front k ≡ true
+    → (lacks_record class (service_of held front) ≡ lacks_record class (service_of held k)) × (has_key rest k ≡ false) × (has_key awaiting k ≡ false)
+front-is class held front k rest awaiting order same =
+    let is : front ≡ k = same_key-is front k same in
+    (
+      ap (λ x. lacks_record class (service_of held x)) is,
+      ap (has_key rest) (sym is) ∙ order.once.0,
+      ap (has_key awaiting) (sym is) ∙ order.free front (ap (λ b. b || has_key rest front) (same_key-itself front)),
+    )
+
 pub waiting-turned : (class : Option (List ℕ)) (held : Cached) (queue awaiting : List Key) (before after : BTreeSet Key) → IsInOrder queue awaiting → (is_ready held ≡ false → queue ≡ [])
     → AreWaiting class held queue awaiting before
     → ((k : Key) → contains key_cmp after k ≡ (is_front_lacking class held.services queue k || contains key_cmp before k))
     → AreWaiting class held (rest_of queue) awaiting after
-waiting-turned class held [] awaiting before after order empty w now = λ k. now k ∙ w k
-waiting-turned class held (front ∷ rest) awaiting before after order empty w now = λ k.
-    (let found = service_of held k in
-    let l = lacks_record class found in
-    let own = λ (same : same_key front k ≡ true).
-    (let is : front ≡ k = same_key-is front k same in
-    (ap (λ x. lacks_record class (service_of held x)) is,
-    ap (has_key rest) (sym is) ∙ order.once.0,
-    ap (has_key awaiting) (sym is) ∙ order.free front (ap (λ b. b || has_key rest front) (same_key-itself front)))) in
+waiting-turned class held [] awaiting before after order empty w now k = now k ∙ w k
+waiting-turned class held (front ∷ rest) awaiting before after order empty w now k =
     now k
-    ∙ ap (λ b. (same_key front k && lacks_record class (service_of held front)) || b) (w k ∙ ap (λ b. is_ready held && b) (waits-lacks class (front ∷ rest) awaiting k found))
-    ∙ turned-by (same_key front k) (is_ready held) (lacks_record class (service_of held front)) (has_key rest k) (has_key awaiting k) l (ready-by (is_ready held) front rest empty) own
-    ∙ ap (λ b. is_ready held && b) (sym (waits-lacks class rest awaiting k found)))
+    ∙ ap (λ b. (same_key front k && lacks_record class (service_of held front)) || b) (w k ∙ ap (λ b. is_ready held && b) (waits-lacks class (front ∷ rest) awaiting k (service_of held k)))
+    ∙ turned-by (same_key front k) (is_ready held) (lacks_record class (service_of held front)) (has_key rest k) (has_key awaiting k) (lacks_record class (service_of held k))
+    (ready-by (is_ready held) front rest empty) (front-is class held front k rest awaiting order)
+    ∙ ap (λ b. is_ready held && b) (sym (waits-lacks class rest awaiting k (service_of held k)))
 
 -- ---- a put that was refused, or of which nothing is known
 -- a key that isn't free doesn't wait
@@ -166,10 +171,12 @@ all-released true class own queue awaiting es key other e free lacks = released 
 all-released false class own queue awaiting es key other e free lacks = absurd (cc)
 
 module _ (class : Option (List ℕ)) (held : Cached) (queue awaiting : List Key) (put : Put) (version : ℕ) (lost : Bool) (before middle after : BTreeSet Key) where
-  others : List Key
+  -- the others that wait, where a claim is lost
+  abbrev pub others : List Key
   others = waiting lost class (same_key put.key) queue awaiting held.services
 
-  stored_cache : Cached
+  -- what is held then
+  abbrev pub stored_cache : Cached
   stored_cache = cached_after (Written put.key version put.holding) held
 
   module _ (sorted : IsStrictlySortedBy key_cmp (keys_of held.services)) (ready : is_ready held ≡ true) (unqueued : has_key queue put.key ≡ false) (unawaited : has_key awaiting put.key ≡ false)

@@ -6,4 +6,5 @@ pub mod Steps
 pub mod WaitingEvents
 pub mod WaitingLaws
 pub mod WaitingQueued
+pub mod WaitingTurns
 pub mod Wakes

@@ -7,6 +7,7 @@
 
 mod halt;
 mod machine;
+mod paced;
 mod run;
 mod status;
 mod step;
@@ -14,7 +15,8 @@ mod write;
 
 pub use halt::{Halt, Refusal};
 pub use machine::Machine;
-pub use run::run_machine;
+pub use paced::PacedSource;
+pub use run::{run_machine, run_paced};
 pub use status::status_of_refusal;
-pub use step::next_step;
+pub use step::{next_step, paced_step};
 pub use write::write_line;

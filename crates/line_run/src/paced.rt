@@ -17,6 +17,9 @@ pub trait PacedSource<K: Sink> {
     /// The bytes not yet read, where the source tells them.
     ghost left: { Self → Option (List ℕ) };
 
+    /// A text that no read changes, where the source has one.
+    ghost name: { Self → Option (List ℕ) };
+
     /// How often reading has failed.
     ghost faults: { Self → ℕ };
 
@@ -49,12 +52,15 @@ pub trait PacedSource<K: Sink> {
         // No byte is lost, and where reading failed no whole line is held.
         ensures passes { Passes reader.old reader.new (left self.old) (left self.new) }
         ensures waits { IsErrOf result LineEnd.ReadFault → HasNoNewline reader.new.held }
-        ensures later { faults self.old ≤ faults self.new };
+        ensures later { faults self.old ≤ faults self.new }
+        ensures name { name self.new ≡ name self.old };
 }
 
 /// What is only a source may be read on at any time.
 impl<S: Source, K: Sink> PacedSource<K> for S {
     ghost left = { S.left };
+
+    ghost name = { S.name };
 
     ghost faults = { S.faults };
 

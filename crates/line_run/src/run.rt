@@ -22,8 +22,9 @@ fn drive_lines<M: Machine, B: PacedSource<K>, K: Sink>(
     out: &mut K,
 ) -> Status
     requires fresh { reader.old ≡ record { held = []; passed = 0; number = 0 } }
-    requires live { (i : B) (r : Reading) (o : K) → IsAnswered M.rules (M.state machine.old)
-        (B.left input.old) r (B.left i) (K.written out.old) (K.written o) → B.may_read i r o }
+    requires live { (i : B) (r : Reading) (o : K) → B.name i ≡ B.name input.old
+        → IsAnswered M.rules (M.state machine.old) (B.left input.old) r (B.left i) (K.written out.old) (K.written o)
+        → B.may_read i r o }
     ensures explains { Explains M.rules M.cause (M.state machine.old) result
         (B.left input.old) (B.left input.new) (K.written out.old) (K.written out.new)
         (B.faults input.old) (B.faults input.new) (K.faults out.old) (K.faults out.new) }
@@ -44,8 +45,9 @@ fn run_lines<M: Machine, B: PacedSource<K>, K: Sink>(
     input: &mut B,
     out: &mut K,
 ) -> Status
-    requires live { (i : B) (r : Reading) (o : K) → IsAnswered M.rules (M.state machine.old)
-        (B.left input.old) r (B.left i) (K.written out.old) (K.written o) → B.may_read i r o }
+    requires live { (i : B) (r : Reading) (o : K) → B.name i ≡ B.name input.old
+        → IsAnswered M.rules (M.state machine.old) (B.left input.old) r (B.left i) (K.written out.old) (K.written o)
+        → B.may_read i r o }
     ensures explains { Explains M.rules M.cause (M.state machine.old) result
         (B.left input.old) (B.left input.new) (K.written out.old) (K.written out.new)
         (B.faults input.old) (B.faults input.new) (K.faults out.old) (K.faults out.new) }
@@ -68,8 +70,9 @@ pub fn run_paced<M: Machine, B: PacedSource<K>, K: Sink>(
 ) -> Status
     // Whenever all that came whole was answered, the source may be asked for more. Nothing else is known of when it
     // may, so at each read all that came whole was answered.
-    requires live { (i : B) (r : Reading) (o : K) → IsAnswered M.rules (M.state machine.old)
-        (B.left input.old) r (B.left i) (K.written out.old) (K.written o) → B.may_read i r o }
+    requires live { (i : B) (r : Reading) (o : K) → B.name i ≡ B.name input.old
+        → IsAnswered M.rules (M.state machine.old) (B.left input.old) r (B.left i) (K.written out.old) (K.written o)
+        → B.may_read i r o }
 
     // No status but those of the machine and of any run.
     ensures can_end { CanEnd M.cause result }

@@ -39,6 +39,7 @@ pub fn paced_step<M: Machine, B: PacedSource<K>, K: Sink>(
     ensures passes { Passes reader.old reader.new (B.left input.old) (B.left input.new) }
     ensures near { IfNone result
         ((reader.old.passed < reader.new.passed) × (reader.new.passed ≤ 2 ^ 40)) }
+    ensures name { B.name input.new ≡ B.name input.old }
     ensures reads { B.faults input.old ≤ B.faults input.new }
     ensures writes { K.faults out.old ≤ K.faults out.new }
 {

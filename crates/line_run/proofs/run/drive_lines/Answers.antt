@@ -1,4 +1,4 @@
-use Rattle.std.proofs.Common.{arith}
+use Rattle.std.proofs.Common.{refl, ◌∙◌, arith}
 use Rattle.mlb_edge.specs.InputLines.{Passes-refl, Passes-append}
 use Rattle.line_run.proofs.Answering.{answered}
 use Rattle.line_run.proofs.Driven.{begins, goes_on}
@@ -9,12 +9,13 @@ pub lines-init : goal.lines-init
 lines-init g c = rw c.requires.fresh (record {
   driven = begins g.M.Machine.rules (g.M.Machine.state c.args.machine.now) (g.B.PacedSource.left c.args.input.now) (g.K.Sink.written c.args.out.now);
   passes = Passes-refl _ (g.B.PacedSource.left c.args.input.now);
+  name = refl;
   reads = omega arith;
   writes = omega arith;
 })
 
 pub paced_step-requires : goal.paced_step-requires
-paced_step-requires g c = record { paced = λ none_held. c.requires.live c.lines.input c.lines.reader c.lines.out
+paced_step-requires g c = record { paced = λ none_held. c.requires.live c.lines.input c.lines.reader c.lines.out c.lines.invariant.name
     (answered g.M.Machine.rules (g.M.Machine.state c.args.machine.now) (g.M.Machine.state c.lines.machine) (g.B.PacedSource.left c.args.input.now) c.lines.reader (g.B.PacedSource.left c.lines.input) (g.K.Sink.written c.args.out.now) (g.K.Sink.written c.lines.out) c.lines.invariant.driven none_held) }
 
 pub returns-in-Some-clause-explains : goal.returns-in-Some-clause-explains
@@ -38,6 +39,7 @@ lines-preserved g c =
     record {
       driven = goes_on g.M.Machine.rules (g.M.Machine.state c.args.machine.now) (g.B.PacedSource.left c.args.input.now) _ _ (g.M.Machine.state c.lines.machine) (g.M.Machine.state c.paced_step.new.machine) _ (g.K.Sink.written c.lines.out) _ d.line i.driven d.comes d.takes;
       passes = Passes-append _ c.lines.reader c.paced_step.new.reader _ (g.B.PacedSource.left c.lines.input) _ i.passes c.paced_step.ensures.passes;
+      name = c.paced_step.ensures.name ∙ i.name;
       reads = omega (arith, i.reads, c.paced_step.ensures.reads);
       writes = omega (arith, i.writes, c.paced_step.ensures.writes);
     }

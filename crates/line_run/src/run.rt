@@ -14,20 +14,20 @@ use mlb_edge::{LineReader, Sink, Source};
 use std::alloc::Global;
 
 /// Drives the machine by the lines of the input until something ends the run.
-fn drive_lines<M: Machine, B: PacedSource<K>, K: Sink>(
+fn drive_lines<M: Machine, S: PacedSource<K>, K: Sink>(
     alloc: Global,
     reader: &mut LineReader,
     machine: &mut M,
-    input: &mut B,
+    input: &mut S,
     out: &mut K,
 ) -> Status
     requires fresh { reader.old ≡ record { held = []; passed = 0; number = 0 } }
-    requires live { (i : B) (r : Reading) (o : K) → B.name i ≡ B.name input.old
-        → IsAnswered M.rules (M.state machine.old) (B.left input.old) r (B.left i) (K.written out.old) (K.written o)
-        → B.may_read i r o }
+    requires live { (i : S) (r : Reading) (o : K) → S.name i ≡ S.name input.old
+        → IsAnswered M.rules (M.state machine.old) (S.left input.old) r (S.left i) (K.written out.old) (K.written o)
+        → S.may_read i r o }
     ensures explains { Explains M.rules M.cause (M.state machine.old) result
-        (B.left input.old) (B.left input.new) (K.written out.old) (K.written out.new)
-        (B.faults input.old) (B.faults input.new) (K.faults out.old) (K.faults out.new) }
+        (S.left input.old) (S.left input.new) (K.written out.old) (K.written out.new)
+        (S.faults input.old) (S.faults input.new) (K.faults out.old) (K.faults out.new) }
     ensures only { WritesOnly M.rules (M.state machine.old)
         (K.written out.old) (K.written out.new) }
 {
@@ -39,18 +39,18 @@ fn drive_lines<M: Machine, B: PacedSource<K>, K: Sink>(
 }
 
 /// The run with a reader of its own.
-fn run_lines<M: Machine, B: PacedSource<K>, K: Sink>(
+fn run_lines<M: Machine, S: PacedSource<K>, K: Sink>(
     alloc: Global,
     machine: &mut M,
-    input: &mut B,
+    input: &mut S,
     out: &mut K,
 ) -> Status
-    requires live { (i : B) (r : Reading) (o : K) → B.name i ≡ B.name input.old
-        → IsAnswered M.rules (M.state machine.old) (B.left input.old) r (B.left i) (K.written out.old) (K.written o)
-        → B.may_read i r o }
+    requires live { (i : S) (r : Reading) (o : K) → S.name i ≡ S.name input.old
+        → IsAnswered M.rules (M.state machine.old) (S.left input.old) r (S.left i) (K.written out.old) (K.written o)
+        → S.may_read i r o }
     ensures explains { Explains M.rules M.cause (M.state machine.old) result
-        (B.left input.old) (B.left input.new) (K.written out.old) (K.written out.new)
-        (B.faults input.old) (B.faults input.new) (K.faults out.old) (K.faults out.new) }
+        (S.left input.old) (S.left input.new) (K.written out.old) (K.written out.new)
+        (S.faults input.old) (S.faults input.new) (K.faults out.old) (K.faults out.new) }
     ensures only { WritesOnly M.rules (M.state machine.old)
         (K.written out.old) (K.written out.new) }
 {
@@ -62,49 +62,49 @@ fn run_lines<M: Machine, B: PacedSource<K>, K: Sink>(
 
 /// `run_machine` over a source that may be asked for more only at times: it is asked where all that came whole was
 /// answered, so no output is held back while more is read.
-pub fn run_paced<M: Machine, B: PacedSource<K>, K: Sink>(
+pub fn run_paced<M: Machine, S: PacedSource<K>, K: Sink>(
     alloc: Global,
     machine: &mut M,
-    input: &mut B,
+    input: &mut S,
     out: &mut K,
 ) -> Status
     // Whenever all that came whole was answered, the source may be asked for more. Nothing else is known of when it
     // may, so at each read all that came whole was answered.
-    requires live { (i : B) (r : Reading) (o : K) → B.name i ≡ B.name input.old
-        → IsAnswered M.rules (M.state machine.old) (B.left input.old) r (B.left i) (K.written out.old) (K.written o)
-        → B.may_read i r o }
+    requires live { (i : S) (r : Reading) (o : K) → S.name i ≡ S.name input.old
+        → IsAnswered M.rules (M.state machine.old) (S.left input.old) r (S.left i) (K.written out.old) (K.written o)
+        → S.may_read i r o }
 
     // No status but those of the machine and of any run.
     ensures can_end { CanEnd M.cause result }
 
     // At the end of the input: nothing of it is left, and just the text of its run was written.
-    ensures done { AtDone M.rules M.cause (M.state machine.old) result (B.left input.old)
+    ensures done { AtDone M.rules M.cause (M.state machine.old) result (S.left input.old)
         (K.written out.old) (K.written out.new) }
-    ensures no_reply { AtNoReply M.rules M.cause (M.state machine.old) result (B.left input.old)
+    ensures no_reply { AtNoReply M.rules M.cause (M.state machine.old) result (S.left input.old)
         (K.written out.old) (K.written out.new) }
-    ensures at_end { AtEnd result (B.left input.new) }
+    ensures at_end { AtEnd result (S.left input.new) }
 
     // A line that ends the run, and just the text of the run before it was written.
-    ensures bad_line { AtBadLine M.rules M.cause (M.state machine.old) result (B.left input.old)
+    ensures bad_line { AtBadLine M.rules M.cause (M.state machine.old) result (S.left input.old)
         (K.written out.old) (K.written out.new) }
-    ensures bad_reply { AtBadReply M.rules M.cause (M.state machine.old) result (B.left input.old)
+    ensures bad_reply { AtBadReply M.rules M.cause (M.state machine.old) result (S.left input.old)
         (K.written out.old) (K.written out.new) }
-    ensures held_limit { AtHeldLimit M.rules M.cause (M.state machine.old) result (B.left input.old)
+    ensures held_limit { AtHeldLimit M.rules M.cause (M.state machine.old) result (S.left input.old)
         (K.written out.old) (K.written out.new) }
-    ensures line_limit { AtLineLimit M.rules (M.state machine.old) result (B.left input.old)
+    ensures line_limit { AtLineLimit M.rules (M.state machine.old) result (S.left input.old)
         (K.written out.old) (K.written out.new) }
-    ensures input_limit { AtInputLimit M.rules (M.state machine.old) result (B.left input.old)
+    ensures input_limit { AtInputLimit M.rules (M.state machine.old) result (S.left input.old)
         (K.written out.old) (K.written out.new) }
 
     // A fault comes only where its count rose. Behind a failed read stands the text of the lines that
     // were read whole, behind a failed write a beginning of the text, and not the whole.
-    ensures read_fault { AtReadFault result (B.faults input.old) (B.faults input.new) }
+    ensures read_fault { AtReadFault result (S.faults input.old) (S.faults input.new) }
     ensures read { AfterRead M.rules (M.state machine.old) result
-        (B.left input.old) (B.left input.new) (K.written out.old) (K.written out.new) }
+        (S.left input.old) (S.left input.new) (K.written out.old) (K.written out.new) }
     ensures write_fault { AtWriteFault result (K.faults out.old) (K.faults out.new) }
-    ensures part { AfterWrite M.rules (M.state machine.old) result (B.left input.old)
+    ensures part { AfterWrite M.rules (M.state machine.old) result (S.left input.old)
         (K.written out.old) (K.written out.new) }
-    ensures no_memory { AtNoMemory M.rules (M.state machine.old) result (B.left input.old)
+    ensures no_memory { AtNoMemory M.rules (M.state machine.old) result (S.left input.old)
         (K.written out.old) (K.written out.new) }
 
     // Over any input at all a beginning of the text of some lines' run was written.
@@ -113,8 +113,8 @@ pub fn run_paced<M: Machine, B: PacedSource<K>, K: Sink>(
 
     // But for a fault or want of memory the status is that of the lines; and where all can be driven, the
     // run is done.
-    ensures exact { IsExact M.rules (M.state machine.old) result (B.left input.old) }
-    ensures complete { IsComplete M.rules (M.state machine.old) result (B.left input.old) }
+    ensures exact { IsExact M.rules (M.state machine.old) result (S.left input.old) }
+    ensures complete { IsComplete M.rules (M.state machine.old) result (S.left input.old) }
 {
     run_lines(alloc, machine, input, out)
 }

@@ -14,33 +14,33 @@ use std::alloc::Global;
 ///
 /// `None` says that the line was taken: its text was written before this call returned, so nothing is held
 /// back while the next line is read. `Some` is the status that the run ends with.
-pub fn paced_step<M: Machine, B: PacedSource<K>, K: Sink>(
+pub fn paced_step<M: Machine, S: PacedSource<K>, K: Sink>(
     alloc: Global,
     reader: &mut LineReader,
     machine: &mut M,
-    input: &mut B,
+    input: &mut S,
     out: &mut K,
 ) -> Option<Status>
-    requires paced { (HoldsLine reader.old → ⊥) → B.may_read input.old reader.old out.old }
+    requires paced { (HoldsLine reader.old → ⊥) → S.may_read input.old reader.old out.old }
 
     ensures drives { IfNone result (Drives M.rules (M.state machine.old) (M.state machine.new)
-        (to_come reader.old (B.left input.old)) (to_come reader.new (B.left input.new))
+        (to_come reader.old (S.left input.old)) (to_come reader.new (S.left input.new))
         (K.written out.old) (K.written out.new)) }
     ensures ends { IfSome result (λ status. Ends M.rules (M.state machine.old) status
-        (to_come reader.old (B.left input.old)) (to_come reader.new (B.left input.new))
-        reader.new.held (B.left input.new) (K.written out.old) (K.written out.new)
-        (B.faults input.old) (B.faults input.new) (K.faults out.old) (K.faults out.new)) }
+        (to_come reader.old (S.left input.old)) (to_come reader.new (S.left input.new))
+        reader.new.held (S.left input.new) (K.written out.old) (K.written out.new)
+        (S.faults input.old) (S.faults input.new) (K.faults out.old) (K.faults out.new)) }
 
     // The source is read only where no whole line is held: each line before was taken by then, and its
     // text was written.
     ensures unread { HoldsLine reader.old → input.new ≡ input.old }
 
     // No byte is lost, each line taken brings the reader on, and no count of faults falls.
-    ensures passes { Passes reader.old reader.new (B.left input.old) (B.left input.new) }
+    ensures passes { Passes reader.old reader.new (S.left input.old) (S.left input.new) }
     ensures near { IfNone result
         ((reader.old.passed < reader.new.passed) × (reader.new.passed ≤ 2 ^ 40)) }
-    ensures name { B.name input.new ≡ B.name input.old }
-    ensures reads { B.faults input.old ≤ B.faults input.new }
+    ensures name { S.name input.new ≡ S.name input.old }
+    ensures reads { S.faults input.old ≤ S.faults input.new }
     ensures writes { K.faults out.old ≤ K.faults out.new }
 {
     let line = match input.next_line(reader, out) {

@@ -8,9 +8,9 @@ ghost use Rattle.mlb_edge.specs.Reading.{Reading};
 
 use crate::machine::Machine;
 use crate::paced::PacedSource;
-use crate::step::paced_step;
+use crate::step::next_step;
 use kube_model::Status;
-use mlb_edge::{LineReader, Sink, Source};
+use mlb_edge::{LineReader, Sink};
 use std::alloc::Global;
 
 /// Drives the machine by the lines of the input until something ends the run.
@@ -32,7 +32,7 @@ fn drive_lines<M: Machine, S: PacedSource<K>, K: Sink>(
         (K.written out.old) (K.written out.new) }
 {
     'lines: loop {
-        if let Some(status) = paced_step(alloc, reader, machine, input, out) {
+        if let Some(status) = next_step(alloc, reader, machine, input, out) {
             return status;
         }
     }
@@ -60,9 +60,10 @@ fn run_lines<M: Machine, S: PacedSource<K>, K: Sink>(
     drive_lines(alloc, &mut reader, machine, input, out)
 }
 
-/// `run_machine` over a source that may be asked for more only at times: it is asked where all that came whole was
-/// answered, so no output is held back while more is read.
-pub fn run_paced<M: Machine, S: PacedSource<K>, K: Sink>(
+/// Drives the machine by the lines of the input, one after the other, until the input is at its end or
+/// something stops it. The source may be one that may be asked for more only at times: it is asked where all
+/// that came whole was answered, so no output is held back while more is read.
+pub fn run_machine<M: Machine, S: PacedSource<K>, K: Sink>(
     alloc: Global,
     machine: &mut M,
     input: &mut S,
@@ -117,57 +118,4 @@ pub fn run_paced<M: Machine, S: PacedSource<K>, K: Sink>(
     ensures complete { IsComplete M.rules (M.state machine.old) result (S.left input.old) }
 {
     run_lines(alloc, machine, input, out)
-}
-
-/// Drives the machine by the lines of the input, one after the other, until the input is at its end or
-/// something stops it. It goes by `run_paced`, so no output is held back.
-pub fn run_machine<M: Machine, S: Source, K: Sink>(
-    alloc: Global,
-    machine: &mut M,
-    input: &mut S,
-    out: &mut K,
-) -> Status
-    // No status but those of the machine and of any run.
-    ensures can_end { CanEnd M.cause result }
-
-    // At the end of the input: nothing of it is left, and just the text of its run was written.
-    ensures done { AtDone M.rules M.cause (M.state machine.old) result (S.left input.old)
-        (K.written out.old) (K.written out.new) }
-    ensures no_reply { AtNoReply M.rules M.cause (M.state machine.old) result (S.left input.old)
-        (K.written out.old) (K.written out.new) }
-    ensures at_end { AtEnd result (S.left input.new) }
-
-    // A line that ends the run, and just the text of the run before it was written.
-    ensures bad_line { AtBadLine M.rules M.cause (M.state machine.old) result (S.left input.old)
-        (K.written out.old) (K.written out.new) }
-    ensures bad_reply { AtBadReply M.rules M.cause (M.state machine.old) result (S.left input.old)
-        (K.written out.old) (K.written out.new) }
-    ensures held_limit { AtHeldLimit M.rules M.cause (M.state machine.old) result (S.left input.old)
-        (K.written out.old) (K.written out.new) }
-    ensures line_limit { AtLineLimit M.rules (M.state machine.old) result (S.left input.old)
-        (K.written out.old) (K.written out.new) }
-    ensures input_limit { AtInputLimit M.rules (M.state machine.old) result (S.left input.old)
-        (K.written out.old) (K.written out.new) }
-
-    // A fault comes only where its count rose. Behind a failed read stands the text of the lines that
-    // were read whole, behind a failed write a beginning of the text, and not the whole.
-    ensures read_fault { AtReadFault result (S.faults input.old) (S.faults input.new) }
-    ensures read { AfterRead M.rules (M.state machine.old) result
-        (S.left input.old) (S.left input.new) (K.written out.old) (K.written out.new) }
-    ensures write_fault { AtWriteFault result (K.faults out.old) (K.faults out.new) }
-    ensures part { AfterWrite M.rules (M.state machine.old) result (S.left input.old)
-        (K.written out.old) (K.written out.new) }
-    ensures no_memory { AtNoMemory M.rules (M.state machine.old) result (S.left input.old)
-        (K.written out.old) (K.written out.new) }
-
-    // Over any input at all a beginning of the text of some lines' run was written.
-    ensures only { WritesOnly M.rules (M.state machine.old)
-        (K.written out.old) (K.written out.new) }
-
-    // But for a fault or want of memory the status is that of the lines; and where all can be driven, the
-    // run is done.
-    ensures exact { IsExact M.rules (M.state machine.old) result (S.left input.old) }
-    ensures complete { IsComplete M.rules (M.state machine.old) result (S.left input.old) }
-{
-    run_paced(alloc, machine, input, out)
 }

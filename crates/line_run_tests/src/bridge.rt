@@ -5,7 +5,7 @@ ghost use Rattle.line_run_tests.specs.Echo.{echo_rules, echo_cause};
 
 use crate::echo::Echo;
 use kube_model::Status;
-use line_run::{PacedSource, run_paced};
+use line_run::{PacedSource, run_machine};
 use mlb_edge::{Line, LineEnd, LineReader, SafeSource, Sink};
 use std::alloc::{AllocError, Global};
 
@@ -53,5 +53,5 @@ pub fn run_bridge<K: Sink>(alloc: Global, bridge: &mut Bridge<'_>, out: &mut K) 
     ensures done { AtDone echo_rules echo_cause 100 result (Some bridge.old.text.now)
         (Some []) (K.written out.new) }
 {
-    run_paced(alloc, &mut Echo { left: 100 }, bridge, out)
+    run_machine(alloc, &mut Echo { left: 100 }, bridge, out)
 }

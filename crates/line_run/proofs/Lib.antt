@@ -1,3 +1,4 @@
+pub mod Answering
 pub mod Driven
 pub mod Endings
 pub mod Kept

@@ -1,3 +1,4 @@
+pub mod Answered
 pub mod Clauses
 pub mod Ended
 pub mod Ends

@@ -7,6 +7,7 @@
 
 mod halt;
 mod machine;
+mod paced;
 mod run;
 mod status;
 mod step;
@@ -14,6 +15,7 @@ mod write;
 
 pub use halt::{Halt, Refusal};
 pub use machine::Machine;
+pub use paced::PacedSource;
 pub use run::run_machine;
 pub use status::status_of_refusal;
 pub use step::next_step;

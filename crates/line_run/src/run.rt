@@ -3,22 +3,28 @@ ghost use Rattle.std.specs.Prelude.{◌≡◌, []};
 ghost use Rattle.line_run.specs.Clauses.{CanEnd, AtDone, AtEnd, AtBadLine, AtBadReply, AtNoReply, AtHeldLimit, AtLineLimit, AtInputLimit, AtReadFault, AfterRead, AtWriteFault, AfterWrite, AtNoMemory, IsExact, IsComplete};
 ghost use Rattle.line_run.specs.Explains.{Explains};
 ghost use Rattle.line_run.specs.RunOutput.{WritesOnly};
+ghost use Rattle.line_run.specs.Answered.{IsAnswered};
+ghost use Rattle.mlb_edge.specs.Reading.{Reading};
 
 use crate::machine::Machine;
+use crate::paced::PacedSource;
 use crate::step::next_step;
 use kube_model::Status;
-use mlb_edge::{LineReader, Sink, Source};
+use mlb_edge::{LineReader, Sink};
 use std::alloc::Global;
 
 /// Drives the machine by the lines of the input until something ends the run.
-fn drive_lines<M: Machine, S: Source, K: Sink>(
+fn drive_lines<M: Machine, S: PacedSource<K>, K: Sink>(
     alloc: Global,
     reader: &mut LineReader,
     machine: &mut M,
     input: &mut S,
     out: &mut K,
 ) -> Status
-    requires { reader.old ≡ record { held = []; passed = 0; number = 0 } }
+    requires fresh { reader.old ≡ record { held = []; passed = 0; number = 0 } }
+    requires live { (i : S) (r : Reading) (o : K) → S.name i ≡ S.name input.old
+        → IsAnswered M.rules (M.state machine.old) (S.left input.old) r (S.left i) (K.written out.old) (K.written o)
+        → S.may_read i r o }
     ensures explains { Explains M.rules M.cause (M.state machine.old) result
         (S.left input.old) (S.left input.new) (K.written out.old) (K.written out.new)
         (S.faults input.old) (S.faults input.new) (K.faults out.old) (K.faults out.new) }
@@ -33,12 +39,15 @@ fn drive_lines<M: Machine, S: Source, K: Sink>(
 }
 
 /// The run with a reader of its own.
-fn run_lines<M: Machine, S: Source, K: Sink>(
+fn run_lines<M: Machine, S: PacedSource<K>, K: Sink>(
     alloc: Global,
     machine: &mut M,
     input: &mut S,
     out: &mut K,
 ) -> Status
+    requires live { (i : S) (r : Reading) (o : K) → S.name i ≡ S.name input.old
+        → IsAnswered M.rules (M.state machine.old) (S.left input.old) r (S.left i) (K.written out.old) (K.written o)
+        → S.may_read i r o }
     ensures explains { Explains M.rules M.cause (M.state machine.old) result
         (S.left input.old) (S.left input.new) (K.written out.old) (K.written out.new)
         (S.faults input.old) (S.faults input.new) (K.faults out.old) (K.faults out.new) }
@@ -52,13 +61,20 @@ fn run_lines<M: Machine, S: Source, K: Sink>(
 }
 
 /// Drives the machine by the lines of the input, one after the other, until the input is at its end or
-/// something stops it. Each line is driven by `next_step`, so no output is held back.
-pub fn run_machine<M: Machine, S: Source, K: Sink>(
+/// something stops it. The source may be one that may be asked for more only at times: it is asked where all
+/// that came whole was answered, so no output is held back while more is read.
+pub fn run_machine<M: Machine, S: PacedSource<K>, K: Sink>(
     alloc: Global,
     machine: &mut M,
     input: &mut S,
     out: &mut K,
 ) -> Status
+    // Whenever all that came whole was answered, the source may be asked for more. Nothing else is known of when it
+    // may, so at each read all that came whole was answered.
+    requires live { (i : S) (r : Reading) (o : K) → S.name i ≡ S.name input.old
+        → IsAnswered M.rules (M.state machine.old) (S.left input.old) r (S.left i) (K.written out.old) (K.written o)
+        → S.may_read i r o }
+
     // No status but those of the machine and of any run.
     ensures can_end { CanEnd M.cause result }
 

@@ -2,10 +2,12 @@
 //! what every run does with pieces, limits, blank lines and faults.
 #![tactic(auto)]
 
+mod bridge;
 mod each;
 mod echo;
 mod live;
 
+pub use bridge::{Bridge, run_bridge};
 pub use each::Each;
 pub use echo::Echo;
 pub use live::{LiveSink, LiveSource};

@@ -25,7 +25,7 @@ use Rattle.sharing_terms.specs.Spelled.{recorded_terms}
 use Rattle.sharing_terms.specs.Sharing.{has_port, is_alike}
 use Rattle.sharing_terms.proofs.SharingLaws.{may_share-is}
 use Rattle.alloc_book.specs.Claims.{ClaimValue}
-use Rattle.alloc_book.specs.Index.{numbers_of, is_marked, is_held, is_own, is_shared, is_free, Covers, NoneShared}
+use Rattle.alloc_book.specs.Index.{numbers_of, is_marked, is_held, is_own, is_shared, is_offered, is_taken, is_barred, is_free, Covers, NoneShared, AreBarred}
 use Rattle.alloc_book.specs.Search.{shares_by, leaves, usable, address_of, numbered, least_between}
 use Rattle.alloc_book.specs.Usable.{is_in}
 use Rattle.alloc_book.proofs.LeastLaws.{numbered-is}
@@ -137,9 +137,9 @@ marked_by terms (Some t) e =
     let itself : bytes_eq terms.key terms.key ≡ true = subst (λ (k : List ℕ). bytes_eq terms.key k ≡ true) (sym same) parts.0 in
     and_from (bytes_eq t.key terms.key) (not (is_nil terms.key)) (subst (λ (k : List ℕ). bytes_eq k terms.key ≡ true) same itself) parts.1
 
--- an address that the asker may use is free, its own or shared under its sharing key
+-- an address that the asker may use is free, its own or offered to it under its sharing key
 abbrev pub IsCandidate : List ClaimValue → Key → Terms → CompiledPool → AddressValue → Type 0
-IsCandidate claims key terms pool a = ((is_free claims pool a ≡ true) ⊎ (is_own key claims a ≡ true)) ⊎ (is_shared terms.key claims a ≡ true)
+IsCandidate claims key terms pool a = ((is_free claims pool a ≡ true) ⊎ (is_own key claims a ≡ true)) ⊎ (is_offered key terms.key claims a ≡ true)
 
 held_candidate : (claims : List ClaimValue) (key : Key) (terms : Terms) (pool : CompiledPool) (a : AddressValue) (c : ClaimValue)
     → Contains claims c → has_address c.holding.addresses a ≡ true → leaves key terms a c ≡ true → IsCandidate claims key terms pool a
@@ -149,9 +149,13 @@ held_candidate claims key terms pool a c there has left =
     (λ own. inl (inr (any-contains (λ (d : ClaimValue). same_key d.key key && has_address d.holding.addresses a) claims c there (and_from (same_key c.key key) (has_address c.holding.addresses a) own has))))
     (λ gone. absurd (true≢false (sym has ∙ not-true (has_address c.holding.addresses a) gone)))
     (or_cases (same_key c.key key) (not (has_address c.holding.addresses a)) first))
-    (λ shared. inr (any-contains (λ (d : ClaimValue). is_marked terms.key (recorded_terms d.holding.mark) && has_address d.holding.addresses a) claims c there
+    (λ shared. own-or_offered (is_own key claims a) refl (any-contains (λ (d : ClaimValue). is_marked terms.key (recorded_terms d.holding.mark) && has_address d.holding.addresses a) claims c there
     (and_from (is_marked terms.key (recorded_terms c.holding.mark)) (has_address c.holding.addresses a) (marked_by terms (recorded_terms c.holding.mark) shared) has)))
     (or_cases (same_key c.key key || not (has_address c.holding.addresses a)) (shares_by terms (recorded_terms c.holding.mark)) left)
+  where
+    own-or_offered : (own : Bool) → is_own key claims a ≡ own → is_shared terms.key claims a ≡ true → IsCandidate claims key terms pool a
+    own-or_offered true e shared = inl (inr e)
+    own-or_offered false e shared = inr (and_from (is_shared terms.key claims a) (not (is_own key claims a)) shared (ap not e))
 
 candidate_by : (held : Bool) (claims : List ClaimValue) (key : Key) (terms : Terms) (pool : CompiledPool) (a : AddressValue)
     → held ≡ is_held claims a → not (pool.avoid_buggy && is_buggy a) ≡ true → list_all (leaves key terms a) claims ≡ true → IsCandidate claims key terms pool a
@@ -183,16 +187,16 @@ pub least-of_three : (claims : List ClaimValue) (key : Key) (terms : Terms) (poo
     → IfSome free (IsLeastIn (numbered (is_free claims pool) family) span.low span.high)
     → IfNone free (NonePasses (numbered (is_free claims pool) family) span.low span.high)
     → Covers (numbered (is_own key claims) family) (numbered (usable claims key terms pool) family) span.low (unwrap_or free span.high) own
-    → Covers (numbered (is_shared terms.key claims) family) (numbered (usable claims key terms pool) family) span.low (unwrap_or own (unwrap_or free span.high)) shared
+    → Covers (numbered (is_offered key terms.key claims) family) (numbered (usable claims key terms pool) family) span.low (unwrap_or own (unwrap_or free span.high)) shared
     → least_between (numbered (usable claims key terms pool) family) span.low (span.high + 1 - span.low) ≡ option_or (option_or shared own) free
 least-of_three claims key terms pool span family free own shared listed same some none owned others =
     let test = numbered (usable claims key terms pool) family in
     let F : ℕ → Type 0 = λ m. numbered (is_free claims pool) family m ≡ true in
     let O : ℕ → Type 0 = λ m. numbered (is_own key claims) family m ≡ true in
-    let S : ℕ → Type 0 = λ m. numbered (is_shared terms.key claims) family m ≡ true in
+    let S : ℕ → Type 0 = λ m. numbered (is_offered key terms.key claims) family m ≡ true in
     let first = free-ahead claims key terms pool span family free listed same some none in
     let second = covers-is (numbered (is_own key claims) family) test span.low (unwrap_or free span.high) own owned in
-    let third = covers-is (numbered (is_shared terms.key claims) family) test span.low (unwrap_or own (unwrap_or free span.high)) shared others in
+    let third = covers-is (numbered (is_offered key terms.key claims) family) test span.low (unwrap_or own (unwrap_or free span.high)) shared others in
     let two = ahead-both O S test span.low (unwrap_or free span.high) own shared second third in
     let all = ahead-both F (λ m. O m ⊎ S m) test span.low span.high free (option_or shared own) first two in
     ahead-least (λ m. F m ⊎ (O m ⊎ S m)) test span.low span.high (option_or (option_or shared own) free)
@@ -200,7 +204,7 @@ least-of_three claims key terms pool span family free own shared listed same som
     all
   where
     three_from : (m : ℕ) → IsCandidate claims key terms pool (address_of family m)
-        → (numbered (is_free claims pool) family m ≡ true) ⊎ ((numbered (is_own key claims) family m ≡ true) ⊎ (numbered (is_shared terms.key claims) family m ≡ true))
+        → (numbered (is_free claims pool) family m ≡ true) ⊎ ((numbered (is_own key claims) family m ≡ true) ⊎ (numbered (is_offered key terms.key claims) family m ≡ true))
     three_from m (inl (inl free_one)) = inl free_one
     three_from m (inl (inr own_one)) = inr (inl own_one)
     three_from m (inr shared_one) = inr (inr shared_one)
@@ -425,23 +429,43 @@ all-claims_met items claims key numbers i family test low high found are listed 
     (own-one items key family m (subst (λ (cs : List ClaimValue). is_own key cs (address_of family m) ≡ true) are own)))
     ahead
 
--- what is known of those that are shared, ahead of a number
+-- what is known of those that are offered, ahead of a number
 
 abbrev pub NoneUsable : List ClaimValue → Key → Terms → CompiledPool → Family → ℕ → Type 0
-NoneUsable claims key terms pool family m = numbered (is_shared terms.key claims) family m ≡ true → numbered (usable claims key terms pool) family m ≡ false
+NoneUsable claims key terms pool family m = numbered (is_offered key terms.key claims) family m ≡ true → numbered (usable claims key terms pool) family m ≡ false
 
 none_shared : (claims : List ClaimValue) (key : Key) (terms : Terms) (pool : CompiledPool) (family : Family) (m : ℕ) → is_shared terms.key claims (address_of family m) ≡ false → NoneUsable claims key terms pool family m
-none_shared claims key terms pool family m e = λ shared. absurd (true≢false (sym shared ∙ e))
+none_shared claims key terms pool family m e =
+    λ offered. absurd (true≢false (sym (and_parts (is_shared terms.key claims (address_of family m)) (not (is_own key claims (address_of family m))) offered).0 ∙ e))
 
+-- where a claim of another key has one of the ports at the address, it doesn't share it
+pub barred-unusable : (claims : List ClaimValue) (key : Key) (terms : Terms) (pool : CompiledPool) (a : AddressValue)
+    → is_barred terms.ports claims a ≡ true → is_own key claims a ≡ false → usable claims key terms pool a ≡ false
+barred-unusable claims key terms pool a barred others = ?
+
+none_left : (claims : List ClaimValue) (key : Key) (terms : Terms) (pool : CompiledPool) (family : Family) (m : ℕ) → is_barred terms.ports claims (address_of family m) ≡ true → NoneUsable claims key terms pool family m
+none_left claims key terms pool family m barred = λ offered.
+    barred-unusable claims key terms pool (address_of family m) barred
+    (not-true (is_own key claims (address_of family m)) (and_parts (is_shared terms.key claims (address_of family m)) (not (is_own key claims (address_of family m))) offered).1)
+
+-- none up to the next shared one, and from there none up to the next one that is left for the ports
 pub shared-more : (claims : List ClaimValue) (key : Key) (terms : Terms) (pool : CompiledPool) (family : Family) (low from n : ℕ) → ((m : ℕ) → low ≤ m → m < from → NoneUsable claims key terms pool family m)
     → NoneShared family terms.key claims from n → (m : ℕ) → low ≤ m → m < n → NoneUsable claims key terms pool family m
 shared-more claims key terms pool family low from n before here =
     before-more (NoneUsable claims key terms pool family) low from n before (λ m first below. none_shared claims key terms pool family m (here m first below))
 
-pub shared-next : (claims : List ClaimValue) (key : Key) (terms : Terms) (pool : CompiledPool) (family : Family) (low from n : ℕ) → ((m : ℕ) → low ≤ m → m < from → NoneUsable claims key terms pool family m)
-    → NoneShared family terms.key claims from n → usable claims key terms pool (address_of family n) ≡ false → (m : ℕ) → low ≤ m → m < n + 1 → NoneUsable claims key terms pool family m
-shared-next claims key terms pool family low from n before here fails =
-    before-next (NoneUsable claims key terms pool family) low from n before (λ m first below. none_shared claims key terms pool family m (here m first below)) (λ shared. fails)
+pub left-more : (claims : List ClaimValue) (key : Key) (terms : Terms) (pool : CompiledPool) (family : Family) (low from shared n : ℕ) → ((m : ℕ) → low ≤ m → m < from → NoneUsable claims key terms pool family m)
+    → NoneShared family terms.key claims from shared → AreBarred terms.ports claims family shared n → (m : ℕ) → low ≤ m → m < n → NoneUsable claims key terms pool family m
+left-more claims key terms pool family low from shared n before here barred =
+    before-more (NoneUsable claims key terms pool family) low shared n (shared-more claims key terms pool family low from shared before here)
+    (λ m first below. none_left claims key terms pool family m (barred m first below))
+
+pub left-next : (claims : List ClaimValue) (key : Key) (terms : Terms) (pool : CompiledPool) (family : Family) (low from shared n : ℕ) → ((m : ℕ) → low ≤ m → m < from → NoneUsable claims key terms pool family m)
+    → NoneShared family terms.key claims from shared → AreBarred terms.ports claims family shared n → usable claims key terms pool (address_of family n) ≡ false
+    → (m : ℕ) → low ≤ m → m < n + 1 → NoneUsable claims key terms pool family m
+left-next claims key terms pool family low from shared n before here barred fails =
+    before-next (NoneUsable claims key terms pool family) low shared n (shared-more claims key terms pool family low from shared before here)
+    (λ m first below. none_left claims key terms pool family m (barred m first below)) (λ offered. fails)
 
 -- the same over the values of a walk
 pub least-number : (found_in claims : List ClaimValue) (key : Key) (terms : Terms) (pool : CompiledPool) (span : SpanValue) (family : Family) (low high last later : ℕ) (free own shared either found : Option ℕ)
@@ -450,12 +474,12 @@ pub least-number : (found_in claims : List ClaimValue) (key : Key) (terms : Term
     → IfSome free (IsLeastIn (numbered (is_free found_in pool) family) low high)
     → IfNone free (NonePasses (numbered (is_free found_in pool) family) low high)
     → Covers (numbered (is_own key claims) family) (numbered (usable claims key terms pool) family) low last own
-    → Covers (numbered (is_shared terms.key claims) family) (numbered (usable claims key terms pool) family) low later shared
+    → Covers (numbered (is_offered key terms.key claims) family) (numbered (usable claims key terms pool) family) low later shared
     → least_between (numbered (usable claims key terms pool) family) span.low (span.high + 1 - span.low) ≡ found
 least-number found_in claims key terms pool span family low high last later free own shared either found are low_is high_is last_is later_is either_is found_is listed same some none owned others =
     let test = numbered (usable claims key terms pool) family in
     let O = numbered (is_own key claims) family in
-    let S = numbered (is_shared terms.key claims) family in
+    let S = numbered (is_offered key terms.key claims) family in
     let some_here =
     subst (λ (h : ℕ). IfSome free (IsLeastIn (numbered (is_free claims pool) family) span.low h)) high_is
     (subst (λ (l : ℕ). IfSome free (IsLeastIn (numbered (is_free claims pool) family) l high)) low_is

@@ -4,6 +4,7 @@ pub mod Candidates
 pub mod ChooseLaws
 pub mod ChosenLaws
 pub mod ClaimLaws
+pub mod ClaimantLaws
 pub mod HolderLaws
 pub mod IndexGrowth
 pub mod IndexReading
@@ -11,4 +12,5 @@ pub mod IndexRemoval
 pub mod LeastLaws
 pub mod PendingLaws
 pub mod SearchLaws
+pub mod UniformLaws
 pub mod UsableLaws

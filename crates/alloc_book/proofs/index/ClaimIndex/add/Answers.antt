@@ -1,35 +1,23 @@
-use Rattle.std.proofs.Common.{ℕ, ◌<◌, List, length, sym, ap, subst, ◌∙◌}
-use Rattle.ip_ranges.specs.Values.{AddressValue}
-use Rattle.kube_model.specs.declared.key.Key.{Key}
-use Rattle.kube_model.specs.Keys.{key_cmp}
-use Rattle.numbered_items.specs.Index.{room_under}
-use Rattle.alloc_book.specs.Book.{HasRoomFor}
-use Rattle.alloc_book.specs.Claims.{ClaimValue}
-use Rattle.alloc_book.specs.Holders.{HasRoomAt}
-use Rattle.alloc_book.specs.Index.{ClaimIndexValue}
 use Rattle.alloc_book.proofs.IndexGrowth.{indexed-pushed, found-is, not-lost}
 use Rattle.alloc_book.proofs.index.ClaimIndex.add.Goals as goal
 
-pub add-requires : goal.add-requires
-add-requires c =
-    let room = subst (λ (v : ClaimIndexValue). HasRoomFor v.room c.args.claim) (sym c.self.view_is) c.requires.room in
-    let is = found-is c.self.inside.claims.items c.push-number.new.self.items c.push-number.result c.args.claim c.in-Some.claim.now c.push-number.ensures.items c.push-number.ensures.fresh c.in-Some.ensures.item in
-    subst (λ (k : Key). 0 < room_under key_cmp c.self.inside.by_key k) (sym (c.key.ensures ∙ ap (λ (x : ClaimValue). x.key) is)) room.key
+pub mix_each-requires-clause-numbers : goal.mix_each-requires-clause-numbers
+mix_each-requires-clause-numbers c = ?
 
-pub add_each-requires : goal.add_each-requires
-add_each-requires c =
-    let room = subst (λ (v : ClaimIndexValue). HasRoomFor v.room c.args.claim) (sym c.self.view_is) c.requires.room in
-    let is = found-is c.self.inside.claims.items c.push-number.new.self.items c.push-number.result c.args.claim c.in-Some.claim.now c.push-number.ensures.items c.push-number.ensures.fresh c.in-Some.ensures.item in
-    subst (λ (list : List AddressValue). HasRoomAt c.self.inside.holders (length list) list) (sym (c.addresses.ensures ∙ ap (λ (x : ClaimValue). x.holding.addresses) is)) room.addresses
+pub mix_each-requires-clause-uniform : goal.mix_each-requires-clause-uniform
+mix_each-requires-clause-uniform c = ?
+
+pub mix_each-requires-clause-room : goal.mix_each-requires-clause-room
+mix_each-requires-clause-room c = ?
+
+pub add-requires : goal.add-requires
+add-requires c = ?
+
+pub add_claim-requires : goal.add_claim-requires
+add_claim-requires c = ?
 
 pub invariant_of-self : goal.invariant_of-self
-invariant_of-self c =
-    let room = subst (λ (v : ClaimIndexValue). HasRoomFor v.room c.args.claim) (sym c.self.view_is) c.requires.room in
-    let is = found-is c.self.inside.claims.items c.push-number.new.self.items c.push-number.result c.args.claim c.in-Some.claim.now c.push-number.ensures.items c.push-number.ensures.fresh c.in-Some.ensures.item in
-    indexed-pushed c.self.inside.claims.items c.push-number.new.self.items c.push-number.result c.args.claim c.key.result.now c.addresses.result.now
-    c.self.inside.by_key c.add.new.self c.self.inside.holders c.add_each.new.holders c.self.invariant c.push-number.ensures.items
-    (c.key.ensures ∙ ap (λ (x : ClaimValue). x.key) is) (c.addresses.ensures ∙ ap (λ (x : ClaimValue). x.holding.addresses) is)
-    c.requires.assigned c.add.ensures.numbers c.add_each.ensures.numbers c.add_each.ensures.shared room.known
+invariant_of-self c = ?
 
 pub invariant_of-self-in_default : goal.invariant_of-self-in_default
 invariant_of-self-in_default c =

@@ -24,7 +24,11 @@ ports_by (Some terms) = terms.ports
 abbrev pub ports_of : ClaimValue → List Port
 ports_of c = ports_by (recorded_terms c.holding.mark)
 
+-- the slot is that of all claims, or that of one of the ports
+abbrev pub is_slot_of : List Port → Slot → Bool
+is_slot_of ports Any = true
+is_slot_of ports (OfPort port) = has_port ports port
+
 -- the claim is listed in the slot
 abbrev pub occupies : Slot → ClaimValue → Bool
-occupies Any c = true
-occupies (OfPort port) c = has_port (ports_of c) port
+occupies slot c = is_slot_of (ports_of c) slot

@@ -1,5 +1,5 @@
 //! A claim gets room at its addresses, and is listed there.
-ghost use Rattle.std.specs.Prelude.{◌≡◌, ◌≢◌, ◌≤◌, ℕ, List, map, ◌++◌, true, false, filter, length, OnOk};
+ghost use Rattle.std.specs.Prelude.{◌≡◌, ◌≢◌, ◌≤◌, ℕ, List, map, ◌++◌, [], true, false, filter, length, OnOk};
 ghost use Rattle.std.specs.List.{Contains};
 ghost use Rattle.ip_ranges.specs.declared.family.Family.{Family};
 ghost use Rattle.ip_ranges.specs.Values.{AddressValue, same_address};

@@ -13,3 +13,6 @@ loop-address-preserved c = record {
   shared = c.reserve.ensures.shared ∙ c.loop-address.invariant.shared;
   mixed = c.reserve.ensures.mixed ∙ c.loop-address.invariant.mixed;
 }
+
+pub returns-in_err-reserve-clause-numbers : goal.returns-in_err-reserve-clause-numbers
+returns-in_err-reserve-clause-numbers c = λ s. c.reserve.ensures.numbers s ∙ c.loop-address.invariant.numbers s

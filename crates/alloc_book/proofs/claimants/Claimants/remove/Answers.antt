@@ -14,8 +14,8 @@ invariant_of-self-else-is_empty c =
     left-listed c.self.inside.held c.self.inside.by_number _ c.args.number c.args.claim c.remove.ensures.numbers
     (ap (λ ns. length ns == 0) (sym c.numbers.ensures) ∙ sym c.is_empty.ensures ∙ c.if-is_empty.false) c.self.invariant
 
-pub returns-then-is_empty-clause-numbers : goal.returns-then-is_empty-clause-numbers
-returns-then-is_empty-clause-numbers c = rw (← c.self.view_is) (claim-dropped c.args.number c.args.claim (numbers_under nat_cmp c.self.inside.by_number) _ c.remove.ensures.numbers)
+pub returns-then-is_empty : goal.returns-then-is_empty
+returns-then-is_empty c = rw (← c.self.view_is) (record { numbers = claim-dropped c.args.number c.args.claim (numbers_under nat_cmp c.self.inside.by_number) _ c.remove.ensures.numbers })
 
-pub returns-else-is_empty-clause-numbers : goal.returns-else-is_empty-clause-numbers
-returns-else-is_empty-clause-numbers c = rw (← c.self.view_is) (claim-dropped c.args.number c.args.claim (numbers_under nat_cmp c.self.inside.by_number) _ c.remove.ensures.numbers)
+pub returns-else-is_empty : goal.returns-else-is_empty
+returns-else-is_empty c = rw (← c.self.view_is) (record { numbers = claim-dropped c.args.number c.args.claim (numbers_under nat_cmp c.self.inside.by_number) _ c.remove.ensures.numbers })

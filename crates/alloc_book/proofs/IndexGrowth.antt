@@ -32,7 +32,7 @@ use Rattle.alloc_book.specs.declared.slot.Slot.TheVariants.{Any, OfPort}
 use Rattle.alloc_book.specs.Slots.{occupies, same_slot}
 use Rattle.alloc_book.specs.Alike.{are_alike}
 use Rattle.alloc_book.specs.Holders.{AddressHoldersValue, ClaimantsValue, HasRoomAt, CanBeMixed, AreKnown, in_slot, claims_at, claim_room_at, claims_having, claim_room, address_room, is_known, mixed_of, is_mixed, mixed_room}
-use Rattle.number_sets.specs.Runs.{RunsValue}
+use Rattle.number_sets.specs.Runs.{RunsValue, has}
 use Rattle.alloc_book.proofs.UniformLaws.{uniform-kept, uniform-added}
 use Rattle.alloc_book.specs.Index.{IsIndexed, AreShared, numbers_of, numbers_at, numbered_at, is_marked, is_shared, HasIt, AreUniform}
 
@@ -183,6 +183,13 @@ listed-all before after number addresses i passed each = λ j a. sym (each a ∙
   where
     none : (a : AddressValue) → after a ++ map (λ _. number) (filter (same_address a) (drop i addresses)) ≡ after a
     none a = ap (λ (list : List AddressValue). after a ++ map (λ _. number) (filter (same_address a) list)) (drop_of_length-le addresses passed) ∙ append-nil (after a)
+
+-- where the slots stay, or the mixed addresses, what is read of them stays
+pub same-claims : (before after : AddressHoldersValue) (slot : Slot) → in_slot after ≡ in_slot before → claims_having after slot ≡ claims_having before slot
+same-claims before after slot same = λ i a. claims_at (same i slot a.family) a.number
+
+pub same-mixing : (before after : AddressHoldersValue) → mixed_of after ≡ mixed_of before → is_mixed after ≡ is_mixed before
+same-mixing before after same = λ i a. has (same i a.family) a.number
 
 -- ---- the index
 pub indexed-none : (items : List (ℕ × ClaimValue)) (keys : IndexValue Key) (h : AddressHoldersValue)

@@ -5,9 +5,11 @@ use Rattle.std.specs.List.{Contains, list_all}
 use Rattle.std.specs.List.Sorted.{IsStrictlySortedBy}
 use Rattle.std.specs.Map.{keys_of, values_of}
 use Rattle.std.specs.Ordering.{nat_cmp}
+use Rattle.ip_ranges.specs.declared.family.Family.{Family}
 use Rattle.ip_ranges.specs.Values.{AddressValue}
 use Rattle.kube_model.specs.declared.key.Key.{Key}
 use Rattle.mlb_base.specs.Items.{is_nil}
+use Rattle.number_sets.specs.Runs.{RunsValue, has}
 use Rattle.sharing_terms.specs.declared.terms.Terms.{Terms}
 use Rattle.sharing_terms.specs.Spelled.{recorded_terms}
 use Rattle.alloc_book.specs.declared.slot.Slot.{Slot}
@@ -35,7 +37,23 @@ pub uniform-added : (items : List (ℕ × ClaimValue)) (number : ℕ) (c : Claim
     → ((a : AddressValue) → Contains c.holding.addresses a → is_mixed before a ≡ false → (p : ℕ × ClaimValue) → HasIt items a p
         → are_alike (recorded_terms p.1.holding.mark) (recorded_terms c.holding.mark) ≡ true)
     → AreUniform after (items ++ (number, c) ∷ [])
-uniform-added items number c before after uniform same alike = ?
+uniform-added items number c before after uniform same alike a e p q has_p has_q apart =
+    ⊎_elim
+    (λ old_p. ⊎_elim
+    (λ old_q. uniform a unmixed p q (old_p, has_p.1) (old_q, has_q.1) apart)
+    (λ new_q. subst (λ (r : ℕ × ClaimValue). are_alike (recorded_terms p.1.holding.mark) (recorded_terms r.1.holding.mark) ≡ true) new_q
+    (alike a (subst (λ (r : ℕ × ClaimValue). Contains r.1.holding.addresses a) (sym new_q) has_q.1) unmixed p (old_p, has_p.1)))
+    (Contains-push_cases items (number, c) q has_q.0))
+    (λ new_p. ⊎_elim
+    (λ old_q. alike-flip (recorded_terms q.1.holding.mark) (recorded_terms p.1.holding.mark)
+    (subst (λ (r : ℕ × ClaimValue). are_alike (recorded_terms q.1.holding.mark) (recorded_terms r.1.holding.mark) ≡ true) new_p
+    (alike a (subst (λ (r : ℕ × ClaimValue). Contains r.1.holding.addresses a) (sym new_p) has_p.1) unmixed q (old_q, has_q.1))))
+    (λ new_q. absurd (apart (ap (λ (r : ℕ × ClaimValue). r.0) (sym new_p ∙ new_q))))
+    (Contains-push_cases items (number, c) q has_q.0))
+    (Contains-push_cases items (number, c) p has_p.0)
+  where
+    unmixed : is_mixed before a ≡ false
+    unmixed = ap (λ (f : Family → RunsValue). has (f a.family) a.number) (sym same) ∙ e
 
 -- fewer claims, and an address that isn't mixed any more where at most one number is left
 pub uniform-without : (n : ℕ) (items less : List (ℕ × ClaimValue)) (before after : AddressHoldersValue) → less ≡ filter (λ p. not (p.0 == n)) items

@@ -12,8 +12,8 @@ returns-then-is_empty c = ?
 pub first_left-requires : goal.first_left-requires
 first_left-requires c = ?
 
-pub returns-in_err-first_left : goal.returns-in_err-first_left
-returns-in_err-first_left c = ?
+pub returns-in_err-number : goal.returns-in_err-number
+returns-in_err-number c = ?
 
 pub loop-shared-preserved : goal.loop-shared-preserved
 loop-shared-preserved c = ?

@@ -12,5 +12,6 @@ pub mod IndexRemoval
 pub mod LeastLaws
 pub mod PendingLaws
 pub mod SearchLaws
+pub mod SlotLaws
 pub mod UniformLaws
 pub mod UsableLaws

@@ -1,8 +1,7 @@
 -- The claims in each slot where those of one slot were changed.
-use Rattle.std.proofs.Common.{◌≡◌, ℕ, ◌==◌, Bool, true, false, cond, List, ◌∷◌, ◌++◌, [], filter, not, Option, Some, None, refl, sym, ap, ◌∙◌, subst, arith}
+use Rattle.std.proofs.Common.{◌≡◌, ℕ, ◌==◌, Bool, true, false, cond, List, Option, Some, None, refl, sym, ap, ◌∙◌, subst, arith}
 use Rattle.std.proofs.lemmas.Bool.{true≢false}
 use Rattle.std.proofs.lemmas.Bool.Decides.{nat_tests}
-use Rattle.std.specs.Ordering.{nat_cmp}
 use Rattle.std.specs.Map.{lookup}
 use Rattle.std.specs.BTreeMap.{BTreeMap, is_at, Updates, WritesThrough}
 use Rattle.std.specs.Option.{IsSome, unwrap_or}
@@ -38,11 +37,11 @@ at-slot Any (OfPort q) = refl
 at-slot (OfPort p) Any = refl
 at-slot (OfPort p) (OfPort q) = at-port p.protocol q.protocol p.port q.port
 
-same_slot-itself : (slot : Slot) → same_slot slot slot ≡ true
+pub same_slot-itself : (slot : Slot) → same_slot slot slot ≡ true
 same_slot-itself Any = refl
 same_slot-itself (OfPort port) = same_port-itself port
 
-same_slot-is : (slot s : Slot) → same_slot slot s ≡ true → slot ≡ s
+pub same_slot-is : (slot s : Slot) → same_slot slot s ≡ true → slot ≡ s
 same_slot-is Any Any e = refl
 same_slot-is Any (OfPort other) e = absurd (true≢false (sym e))
 same_slot-is (OfPort port) Any e = absurd (true≢false (sym e))

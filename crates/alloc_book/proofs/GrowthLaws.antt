@@ -1,16 +1,16 @@
 -- A claim gets room in its slots, and is listed there, one port after the other.
-use Rattle.std.proofs.Common.{◌≡◌, ℕ, ◌+◌, ◌<◌, ◌≤◌, Bool, true, false, cond, ◌||◌, if◌then◌else◌, List, [], ◌∷◌, ◌++◌, length, map, filter, take, drop, get_or, suc, Ordering, Less, Greater, ◌⊎◌, refl, sym, ap, subst, ◌∙◌, arith, add-one, append-nil, ⊎_elim}
-use Rattle.std.proofs.lemmas.Bool.{or_cases, or_left, or_right, cases_Bool, false_from_ne_true, true≢false}
+use Rattle.std.proofs.Common.{◌≡◌, ℕ, ◌+◌, ◌<◌, ◌≤◌, Bool, true, false, ◌||◌, if◌then◌else◌, List, [], ◌∷◌, ◌++◌, length, take, drop, get_or, Ordering, Less, Greater, ◌⊎◌, refl, sym, ap, subst, ◌∙◌, arith, add-one, append-nil, ⊎_elim}
+use Rattle.std.proofs.lemmas.Bool.{or_cases, or_right, cases_Bool, false_from_ne_true, true≢false}
 use Rattle.std.proofs.lemmas.Bool.Decides.{same_from_decides}
 use Rattle.std.proofs.lemmas.List.{take-append-drop, take_all}
 use Rattle.std.proofs.lemmas.List.Folds.{list_any-append}
 use Rattle.std.proofs.Math.Seq.{take-suc, drop-cons}
 use Rattle.std.specs.Cmp.{IsTotalOrder}
-use Rattle.std.specs.List.{AllByRecursion, Contains, list_any}
+use Rattle.std.specs.List.{AllByRecursion, Contains}
 use Rattle.std.specs.List.Sorted.{IsStrictlySortedBy}
 use Rattle.std.specs.Ordering.{ordering_reverse}
 use Rattle.ip_ranges.specs.declared.family.Family.{Family}
-use Rattle.ip_ranges.specs.Values.{AddressValue, same_address}
+use Rattle.ip_ranges.specs.Values.{AddressValue}
 use Rattle.kube_model.specs.declared.port.Port.{Port}
 use Rattle.mlb_base.proofs.Among.{contains-none, contains-cons, contains-first, contains-later, any-contains, any-found}
 use Rattle.number_sets.specs.Runs.{RunsValue}
@@ -21,8 +21,7 @@ use Rattle.sharing_terms.proofs.SharingLaws.{same_port-is, same_port-itself}
 use Rattle.alloc_book.specs.declared.slot.Slot.{Slot}
 use Rattle.alloc_book.specs.declared.slot.Slot.TheVariants.{Any, OfPort}
 use Rattle.alloc_book.specs.Claims.{ClaimValue}
-use Rattle.alloc_book.specs.Holders.{AddressHoldersValue, ClaimantsValue, HasRoomAt, CanBeMixed, in_slot, claims_at, claims_having, claim_room, address_room, mixed_of}
-use Rattle.alloc_book.specs.Index.{numbered_at}
+use Rattle.alloc_book.specs.Holders.{AddressHoldersValue, HasRoomAt, CanBeMixed, in_slot, claims_at, claims_having, claim_room, address_room, mixed_of}
 use Rattle.alloc_book.specs.Slots.{same_slot, is_slot_of, ports_of, occupies}
 use Rattle.alloc_book.proofs.IndexGrowth.{room-same}
 
@@ -64,6 +63,15 @@ same_port-flip p q =
     same_from_decides (same_port p q) (same_port q p) (same_port-is p q, λ e. subst (λ r. same_port p r ≡ true) e (same_port-itself p))
     (λ e. sym (same_port-is q p e), λ e. subst (λ r. same_port r p ≡ true) e (same_port-itself p))
 
+-- a slot that is that of the port
+slot-of-is : (port : Port) (s : Slot) → same_slot (OfPort port) s ≡ true → OfPort port ≡ s
+slot-of-is port Any e = absurd (true≢false (sym e))
+slot-of-is port (OfPort other) e = ap OfPort (same_port-is port other e)
+
+or-none : (b : Bool) → (b || false) ≡ b
+or-none true = refl
+or-none false = refl
+
 module _ (ports : List Port) (i : ℕ) (d : Port) (within : i < length ports) where
   abbrev next : Port
   next = get_or ports i d
@@ -84,13 +92,9 @@ module _ (ports : List Port) (i : ℕ) (d : Port) (within : i < length ports) wh
       ap (λ (ps : List Port). has_port ps port) ports-more
       ∙ list_any-append (same_port port) (take i ports) (next ∷ [])
       ∙ ap (λ b. has_port (take i ports) port || b) (or-none (same_port port next) ∙ same_port-flip port next)
-    where
-      or-none : (b : Bool) → (b || false) ≡ b
-      or-none true = refl
-      or-none false = refl
 
   -- none of those before it is this one
-  pub not-before : AreAscending ports → has_port (take i ports) next ≡ false
+  not-before : AreAscending ports → has_port (take i ports) next ≡ false
   not-before up = false_from_ne_true (has_port (take i ports) next) (λ e.
       let found = any-found (same_port next) (take i ports) e in
       let less : port_cmp found.0 next ≡ Less = less-before port_cmp (take i ports) next (drop (i + 1) ports) found.0 (subst AreAscending (sym all-ports) up) found.1 in
@@ -134,11 +138,6 @@ room-next before after more addresses ports i d within room claims families here
     (λ new. subst (λ p. HasRoomAt after more (OfPort p) addresses) (same_port-is (get_or ports i d) port new) here)
     (or_cases (has_port (take i ports) port) (same_port (get_or ports i d) port) (sym (slots-more ports i d within (OfPort port)) ∙ e))
 
--- once no port is left
-pub room-all : (h : AddressHoldersValue) (more : ℕ) (addresses : List AddressValue) (ports : List Port) (i : ℕ) → length ports ≤ i
-    → ((s : Slot) → is_slot_of (take i ports) s ≡ true → HasRoomAt h more s addresses) → (s : Slot) → is_slot_of ports s ≡ true → HasRoomAt h more s addresses
-room-all h more addresses ports i passed room s e = room s (ap (λ (ps : List Port). is_slot_of ps s) (take_all i ports passed) ∙ e)
-
 -- the same room for mixed addresses
 pub mixed-same : (before after : AddressHoldersValue) (more : ℕ) (addresses : List AddressValue) → mixed_of after ≡ mixed_of before → CanBeMixed before more addresses → CanBeMixed after more addresses
 mixed-same before after more addresses same room = λ a there. subst (λ (f : Family → RunsValue). more ≤ (f a.family).room) (sym same) (room a there)
@@ -150,7 +149,7 @@ mixed-all h more addresses i passed room = subst (λ (shown : List AddressValue)
 -- ---- the lists of claims
 
 -- a slot that stays has the same claims
-pub claims-same : (before after : AddressHoldersValue) (slot : Slot) → in_slot after slot ≡ in_slot before slot → claims_having after slot ≡ claims_having before slot
+claims-same : (before after : AddressHoldersValue) (slot : Slot) → in_slot after slot ≡ in_slot before slot → claims_having after slot ≡ claims_having before slot
 claims-same before after slot same = λ i a. claims_at (same i a.family) a.number
 
 -- room for the ports that come, once the claim is listed in the slot of all claims
@@ -200,7 +199,7 @@ module _ (more : AddressValue → List ℕ) where
       → (s : Slot) → claims_having after s ≡ with_more old (take (i + 1) ports) s
   listed-next old before after ports i d within up listed here others s =
       ⊎_elim
-      (λ same. subst (λ t. claims_having after t ≡ with_more old (take (i + 1) ports) t) (same-is s same) at-next-port)
+      (λ same. subst (λ t. claims_having after t ≡ with_more old (take (i + 1) ports) t) (slot-of-is next-port s same) at-next-port)
       (λ apart. claims-same before after s (others s apart) ∙ listed s ∙ ap (kept s) (sym (slots-more ports i d within s ∙ ap (λ b. is_slot_of (take i ports) s || b) apart ∙ or-none (is_slot_of (take i ports) s))))
       (cases_Bool (same_slot (OfPort next-port) s))
     where
@@ -210,19 +209,11 @@ module _ (more : AddressValue → List ℕ) where
       kept : Slot → Bool → AddressValue → List ℕ
       kept t b a = claims_having old t a ++ (if b then more a else [])
 
-      or-none : (b : Bool) → (b || false) ≡ b
-      or-none true = refl
-      or-none false = refl
-
-      same-is : (t : Slot) → same_slot (OfPort next-port) t ≡ true → OfPort next-port ≡ t
-      same-is Any e = absurd (true≢false (sym e))
-      same-is (OfPort port) e = ap OfPort (same_port-is next-port port e)
-
       at-next-port : claims_having after (OfPort next-port) ≡ with_more old (take (i + 1) ports) (OfPort next-port)
       at-next-port =
           let first : claims_having before (OfPort next-port) ≡ (λ a. claims_having old (OfPort next-port) a ++ []) = listed (OfPort next-port) ∙ ap (kept (OfPort next-port)) (not-before ports i d within up) in
           let now_on : is_slot_of (take (i + 1) ports) (OfPort next-port) ≡ true =
-              slots-more ports i d within (OfPort next-port) ∙ or_right (is_slot_of (take i ports) (OfPort next-port)) (same_port next-port next-port) (same_port-itself next-port) in
+          slots-more ports i d within (OfPort next-port) ∙ or_right (is_slot_of (take i ports) (OfPort next-port)) (same_port next-port next-port) (same_port-itself next-port) in
           here
           ∙ (λ j a. first j a ++ more a)
           ∙ (λ j a. append-nil (claims_having old (OfPort next-port) a) j ++ more a)

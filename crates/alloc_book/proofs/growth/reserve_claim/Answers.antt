@@ -1,5 +1,5 @@
 use Rattle.std.proofs.Common.{length, ◌∙◌}
-use Rattle.alloc_book.proofs.GrowthLaws.{room-start, room-next, room-all, mixed-same}
+use Rattle.alloc_book.proofs.GrowthLaws.{room-start, room-next, mixed-same}
 use Rattle.alloc_book.proofs.IndexGrowth.{same-claims, same-mixing}
 use Rattle.alloc_book.proofs.growth.reserve_claim.Goals as goal
 

@@ -5,6 +5,7 @@ pub mod ChooseLaws
 pub mod ChosenLaws
 pub mod ClaimLaws
 pub mod ClaimantLaws
+pub mod GrowthLaws
 pub mod HolderLaws
 pub mod IndexGrowth
 pub mod IndexReading

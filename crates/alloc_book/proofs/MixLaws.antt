@@ -81,6 +81,12 @@ unmixed-next h P addresses i x within is here so_far a there e =
     (λ (same : x ≡ a). subst P same (here (ap (is_mixed h) same ∙ e)))
     (Contains-push_cases (take i addresses) x a (subst (λ taken. Contains taken a) (taken-more addresses i x within is) there))
 
+-- once no address is left
+pub unmixed-all : (h : AddressHoldersValue) (P : AddressValue → Type 0) (addresses shown : List AddressValue) (i : ℕ) → length shown ≤ i → shown ≡ addresses
+    → ((a : AddressValue) → Contains (take i shown) a → is_mixed h a ≡ false → P a)
+    → (a : AddressValue) → Contains addresses a → is_mixed h a ≡ false → P a
+unmixed-all h P addresses shown i passed is each a there e = each a (subst (λ (xs : List AddressValue). Contains xs a) (sym (take_all i shown passed ∙ is)) there) e
+
 -- ---- one address isn't mixed any more
 pub unmixed-one : (before after : AddressHoldersValue) (x : AddressValue) (P : AddressValue → Type 0)
     → is_mixed after ≡ (λ a. not (same_address x a) && is_mixed before a) → P x

@@ -13,14 +13,7 @@ loop-port-init c =
     }
 
 pub loop-port-preserved : goal.loop-port-preserved
-loop-port-preserved c =
-    record {
-      numbers = slots-next (claims_having c.args.holders.now) c.loop-port.holders c.remove_each-in-loop-port.new.holders c.args.number c.args.claim.now.holding.addresses
-          c.ports-port-items.result.now c.loop-port.port-index c.port-item.result c.loop-port-test.true c.port-item.is
-          c.remove_each-in-loop-port.ensures.numbers c.remove_each-in-loop-port.ensures.others c.loop-port.invariant.numbers;
-      shared = c.remove_each-in-loop-port.ensures.shared ∙ c.loop-port.invariant.shared;
-      mixed = c.remove_each-in-loop-port.ensures.mixed ∙ c.loop-port.invariant.mixed;
-    }
+loop-port-preserved c = c.remove_each-in-loop-port.ensures.numbers
 
 pub returns-clause-numbers : goal.returns-clause-numbers
 returns-clause-numbers c =

@@ -171,23 +171,23 @@ abbrev pub left_in : List Port → ℕ → List AddressValue → (Slot → Addre
 left_in ports n xs numbers slot = cond (is_slot_of ports slot) (left_at n xs (numbers slot)) (numbers slot)
 
 -- first in the slot of all claims
-pub slots-first : (before after : AddressHoldersValue) (n : ℕ) (xs : List AddressValue)
-    → claims_having after Any ≡ left_at n xs (claims_having before Any)
+pub slots-first : (before after : AddressHoldersValue) (n : ℕ) (xs shown : List AddressValue) → shown ≡ xs
+    → claims_having after Any ≡ left_at n shown (claims_having before Any)
     → ((s : Slot) → same_slot Any s ≡ false → in_slot after s ≡ in_slot before s)
     → (slot : Slot) → claims_having after slot ≡ left_in [] n xs (claims_having before) slot
-slots-first before after n xs first others Any = first
-slots-first before after n xs first others (OfPort port) = λ i a. claims_at (others (OfPort port) refl i a.family) a.number
+slots-first before after n xs shown same first others Any = first ∙ ap (λ (l : List AddressValue). left_at n l (claims_having before Any)) same
+slots-first before after n xs shown same first others (OfPort port) = λ i a. claims_at (others (OfPort port) refl i a.family) a.number
 
 -- then in that of one port more
-pub slots-next : (start : Slot → AddressValue → List ℕ) (before after : AddressHoldersValue) (n : ℕ) (xs : List AddressValue) (ports : List Port) (i : ℕ) (port : Port)
-    → i < length ports → port ≡ get_or ports i port
-    → claims_having after (OfPort port) ≡ left_at n xs (claims_having before (OfPort port))
+pub slots-next : (start : Slot → AddressValue → List ℕ) (before after : AddressHoldersValue) (n : ℕ) (xs shown : List AddressValue) (ports : List Port) (i : ℕ) (port none : Port)
+    → i < length ports → port ≡ get_or ports i none → shown ≡ xs
+    → claims_having after (OfPort port) ≡ left_at n shown (claims_having before (OfPort port))
     → ((s : Slot) → same_slot (OfPort port) s ≡ false → in_slot after s ≡ in_slot before s)
     → ((slot : Slot) → claims_having before slot ≡ left_in (take i ports) n xs start slot)
     → (slot : Slot) → claims_having after slot ≡ left_in (take (i + 1) ports) n xs start slot
-slots-next start before after n xs ports i port within is next others so_far Any =
+slots-next start before after n xs shown ports i port none within is addresses next others so_far Any =
     (λ j a. claims_at (others Any refl j a.family) a.number) ∙ so_far Any
-slots-next start before after n xs ports i port within is next others so_far (OfPort other) =
+slots-next start before after n xs shown ports i port none within is addresses next others so_far (OfPort other) =
     by (same_port other port) refl ∙ ap (λ (b : Bool). cond b all_left (start (OfPort other))) (sym grown)
   where
     all_left : AddressValue → List ℕ
@@ -197,7 +197,7 @@ slots-next start before after n xs ports i port within is next others so_far (Of
     had = has_port (take i ports) other
 
     more : take (i + 1) ports ≡ take i ports ++ port ∷ []
-    more = take_more ports i port within ∙ ap (λ (p : Port). take i ports ++ p ∷ []) (sym is)
+    more = take_more ports i none within ∙ ap (λ (p : Port). take i ports ++ p ∷ []) (sym is)
 
     grown : has_port (take (i + 1) ports) other ≡ (had || (same_port other port || false))
     grown = ap (λ (ps : List Port). has_port ps other) more ∙ list_any-append (same_port other) (take i ports) (port ∷ [])
@@ -212,7 +212,8 @@ slots-next start before after n xs ports i port within is next others so_far (Of
 
     by : (b : Bool) → same_port other port ≡ b → claims_having after (OfPort other) ≡ cond (had || (b || false)) all_left (start (OfPort other))
     by true same =
-        subst (λ (p : Port). claims_having after (OfPort p) ≡ left_at n xs (claims_having before (OfPort p))) (sym (same_port-is other port same)) next
+        subst (λ (p : Port). claims_having after (OfPort p) ≡ left_at n shown (claims_having before (OfPort p))) (sym (same_port-is other port same)) next
+        ∙ ap (λ (l : List AddressValue). left_at n l (claims_having before (OfPort other))) addresses
         ∙ ap (left_at n xs) (so_far (OfPort other))
         ∙ again had
     by false apart =

@@ -1,12 +1,12 @@
 -- Which addresses are mixed, where a claim comes or goes, and the slots that a claim leaves.
-use Rattle.std.proofs.Common.{◌≡◌, ◌≢◌, ℕ, ◌+◌, ◌<◌, ◌≤◌, ◌==◌, Bool, true, false, cond, not, ◌&&◌, ◌||◌, List, [], ◌∷◌, ◌++◌, length, take, drop, get_or, Option, Some, ◌⊎◌, inl, inr, refl, sym, ap, subst, ◌∙◌, arith, ⊎_elim, take_all}
-use Rattle.std.proofs.lemmas.Bool.{or_left, true≢false, cases_Bool}
+use Rattle.std.proofs.Common.{◌≡◌, ◌≢◌, ℕ, ◌+◌, ◌<◌, ◌≤◌, ◌==◌, Bool, true, false, cond, not, ◌&&◌, ◌||◌, List, [], ◌∷◌, ◌++◌, length, take, drop, get_or, Some, ◌⊎◌, inl, inr, refl, sym, ap, subst, ◌∙◌, arith, ⊎_elim, take_all}
+use Rattle.std.proofs.lemmas.Bool.{true≢false}
 use Rattle.std.proofs.lemmas.Bool.Decides.{same_from_decides}
 use Rattle.std.proofs.lemmas.List.{take_more}
 use Rattle.std.proofs.lemmas.List.Elements.{Contains-append_left, Contains-append_right, Contains-push_cases}
 use Rattle.std.proofs.lemmas.List.Folds.{list_any-append}
 use Rattle.std.specs.BTreeMap.{is_at}
-use Rattle.std.specs.List.{Contains, list_any}
+use Rattle.std.specs.List.{Contains}
 use Rattle.std.specs.List.Sorted.{IsStrictlySortedBy}
 use Rattle.std.specs.Map.{lookup, keys_of, values_of}
 use Rattle.std.specs.Ordering.{nat_cmp}
@@ -16,15 +16,14 @@ use Rattle.ip_ranges.proofs.AddressLaws.{same_address-is, same_address-itself}
 use Rattle.kube_model.specs.declared.key.Key.{Key}
 use Rattle.kube_model.specs.Keys.{key_cmp}
 use Rattle.kube_model.specs.declared.port.Port.{Port}
-use Rattle.mlb_base.proofs.Among.{contains-none, contains-cons, contains-first, contains-later, any-contains, any-found}
-use Rattle.number_sets.specs.Runs.{RunsValue, has}
+use Rattle.mlb_base.proofs.Among.{contains-none, contains-cons, contains-later, any-contains, any-found}
+use Rattle.number_sets.specs.Runs.{has}
 use Rattle.numbered_items.specs.Index.{IndexValue, numbers_under}
+use Rattle.pool_choice.proofs.Filters.{filter-contains}
 use Rattle.sharing_terms.specs.Sharing.{same_port, has_port}
-use Rattle.sharing_terms.specs.Spelled.{recorded_terms}
 use Rattle.sharing_terms.proofs.SharingLaws.{same_port-is, same_port-itself}
 use Rattle.alloc_book.specs.declared.slot.Slot.{Slot}
 use Rattle.alloc_book.specs.declared.slot.Slot.TheVariants.{Any, OfPort}
-use Rattle.alloc_book.specs.Alike.{are_alike}
 use Rattle.alloc_book.specs.Claims.{ClaimValue}
 use Rattle.alloc_book.specs.Holders.{AddressHoldersValue, CanBeMixed, in_slot, claims_at, claims_having, is_known, mixed_of, is_mixed, mixed_room}
 use Rattle.alloc_book.specs.Index.{numbered_at, numbers_at, HasIt, AreShared, AreUniform, IsIndexed}
@@ -35,14 +34,7 @@ use Rattle.alloc_book.proofs.IndexRemoval.{filter-once, named, or-none, itself, 
 use Rattle.alloc_book.proofs.UniformLaws.{uniform-kept}
 
 -- ---- room for mixed addresses
--- there is room for the first
-pub mixed-first : (h : AddressHoldersValue) (addresses : List AddressValue) (i : ℕ) (x : AddressValue)
-    → i < length addresses → x ≡ get_or addresses i x → CanBeMixed h (length (drop i addresses)) (drop i addresses) → 0 < mixed_room h x.family
-mixed-first h addresses i x within is room =
-    let here : CanBeMixed h (length (x ∷ drop (i + 1) addresses)) (x ∷ drop (i + 1) addresses) = subst (λ rest. CanBeMixed h (length rest) rest) (rest-of addresses i x within is) room in
-    omega (arith, here x (contains-first x (drop (i + 1) addresses)))
-
--- and then for the rest
+-- an address that becomes mixed leaves room for the rest
 pub mixed-rest : (before after : AddressHoldersValue) (addresses : List AddressValue) (i : ℕ) (x : AddressValue)
     → i < length addresses → x ≡ get_or addresses i x → CanBeMixed before (length (drop i addresses)) (drop i addresses)
     → ((family : Family) → mixed_room before family ≤ mixed_room after family + 1)
@@ -137,20 +129,8 @@ uniform-without n items less before after is listed unmixed uniform a e p q has_
     (subst (λ (f : AddressValue → List ℕ). length (f a) < 2) listed few)))
     (unmixed a e)
   where
-    stood-by : (b : Bool) (r : ℕ × ClaimValue) (rest : List (ℕ × ClaimValue)) (s : ℕ × ClaimValue) → Contains (cond b (r ∷ rest) rest) s → (r ≡ s) ⊎ Contains rest s
-    stood-by true r rest s there = contains-cons r rest s there
-    stood-by false r rest s there = inr there
-
-    among : (all : List (ℕ × ClaimValue)) (s : ℕ × ClaimValue) → Contains (without n all) s → Contains all s
-    among [] s there = absurd (contains-none s there)
-    among (r ∷ all) s there =
-        ⊎_elim
-        (λ (same : r ≡ s). subst (Contains (r ∷ all)) same (contains-first r all))
-        (λ later. contains-later r all s (among all s later))
-        (stood-by (not (r.0 == n)) r (without n all) s there)
-
     stood : (s : ℕ × ClaimValue) → Contains less s → Contains items s
-    stood s there = among items s (subst (λ (l : List (ℕ × ClaimValue)). Contains l s) is there)
+    stood s there = (filter-contains (λ (r : ℕ × ClaimValue). not (r.0 == n)) items s (subst (λ (l : List (ℕ × ClaimValue)). Contains l s) is there)).0
 
 -- ---- the slots that a claim leaves
 same_port-flip : (p q : Port) → same_port p q ≡ same_port q p

@@ -40,10 +40,10 @@ use Rattle.alloc_book.specs.Index.{IsIndexed, AreShared, numbers_of, numbers_at,
 pub room-none : (h : AddressHoldersValue) (more : ℕ) (slot : Slot) → HasRoomAt h more slot []
 room-none h more slot = record { by_claims = λ a none. absurd (contains-none a none); by_family = λ a none. absurd (contains-none a none) }
 
-taken-more : (addresses : List AddressValue) (i : ℕ) (x : AddressValue) → i < length addresses → x ≡ get_or addresses i x → take (i + 1) addresses ≡ take i addresses ++ x ∷ []
+pub taken-more : (addresses : List AddressValue) (i : ℕ) (x : AddressValue) → i < length addresses → x ≡ get_or addresses i x → take (i + 1) addresses ≡ take i addresses ++ x ∷ []
 taken-more addresses i x within is = ap (λ n. take n addresses) (add-one i) ∙ take-suc addresses i x within ∙ ap (λ y. take i addresses ++ y ∷ []) (sym is)
 
-rest-of : (addresses : List AddressValue) (i : ℕ) (x : AddressValue) → i < length addresses → x ≡ get_or addresses i x → drop i addresses ≡ x ∷ drop (i + 1) addresses
+pub rest-of : (addresses : List AddressValue) (i : ℕ) (x : AddressValue) → i < length addresses → x ≡ get_or addresses i x → drop i addresses ≡ x ∷ drop (i + 1) addresses
 rest-of addresses i x within is = drop-cons addresses i x within ∙ ap (λ y. y ∷ drop (suc i) addresses) (sym is) ∙ ap (λ n. x ∷ drop n addresses) (sym (add-one i))
 
 -- one address more has room, and those before keep theirs

@@ -40,7 +40,7 @@ module _ {X : Type 0} (test : X → Bool) where
   once-by false x rest e ih = ih
 
   -- filtering twice is filtering once
-  filter-once : (xs : List X) → filter test (filter test xs) ≡ filter test xs
+  pub filter-once : (xs : List X) → filter test (filter test xs) ≡ filter test xs
   filter-once [] = refl
   filter-once (x ∷ xs) = once-by (test x) x (filter test xs) refl (filter-once xs)
 
@@ -85,10 +85,10 @@ above n (q ∷ items) all p there =
 apart-by : (n m : ℕ) → nat_cmp n m ≡ Less → (n == m) ≡ false
 apart-by n m less = grind (arith, nat_tests)
 
-itself : (n : ℕ) → (n == n) ≡ true
+pub itself : (n : ℕ) → (n == n) ≡ true
 itself n = grind (arith, nat_tests)
 
-same-number : (n m : ℕ) → (n == m) ≡ true → n ≡ m
+pub same-number : (n m : ℕ) → (n == m) ≡ true → n ≡ m
 same-number n m e = grind (arith, nat_tests)
 
 -- each claim is found by its number
@@ -235,7 +235,7 @@ nothing-by : (b : Bool) (x : AddressValue) (rest : List AddressValue) → b ≡ 
 nothing-by true x rest e ih = absurd (true≢false e)
 nothing-by false x rest e ih = ih
 
-or-none : (x y : Bool) → (x || y) ≡ false → (x ≡ false) × (y ≡ false)
+pub or-none : (x y : Bool) → (x || y) ≡ false → (x ≡ false) × (y ≡ false)
 or-none true y e = absurd (true≢false e)
 or-none false y e = (refl, e)
 
@@ -300,7 +300,7 @@ named-by test true n x rest passes some = or_left (test n) (list_any test (map (
 named-by test false n x rest passes some = ⊎_elim (λ here. absurd (true≢false (sym here))) (λ later. later) some
 
 -- the number of a claim that has the address is one of the numbers at it
-named : (test : ℕ → Bool) (n : ℕ) (a : AddressValue) (xs : List AddressValue) → test n ≡ true → has_address xs a ≡ true → list_any test (map (λ _. n) (filter (same_address a) xs)) ≡ true
+pub named : (test : ℕ → Bool) (n : ℕ) (a : AddressValue) (xs : List AddressValue) → test n ≡ true → has_address xs a ≡ true → list_any test (map (λ _. n) (filter (same_address a) xs)) ≡ true
 named test n a [] passes e = absurd (true≢false (sym e))
 named test n a (x ∷ xs) passes e =
     named-by test (same_address a x) n x (filter (same_address a) xs) passes

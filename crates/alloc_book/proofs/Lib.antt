@@ -11,6 +11,7 @@ pub mod IndexGrowth
 pub mod IndexReading
 pub mod IndexRemoval
 pub mod LeastLaws
+pub mod MixLaws
 pub mod PendingLaws
 pub mod SearchLaws
 pub mod SlotLaws

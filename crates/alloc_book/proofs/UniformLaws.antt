@@ -55,13 +55,6 @@ uniform-added items number c before after uniform same alike a e p q has_p has_q
     unmixed : is_mixed before a ≡ false
     unmixed = ap (λ (f : Family → RunsValue). has (f a.family) a.number) (sym same) ∙ e
 
--- fewer claims, and an address that isn't mixed any more where at most one number is left
-pub uniform-without : (n : ℕ) (items less : List (ℕ × ClaimValue)) (before after : AddressHoldersValue) → less ≡ filter (λ p. not (p.0 == n)) items
-    → claims_having after Any ≡ (λ a. numbers_at Any a less)
-    → ((a : AddressValue) → is_mixed after a ≡ false → (is_mixed before a ≡ false) ⊎ (length (claims_having after Any a) < 2))
-    → AreUniform before items → AreUniform after less
-uniform-without n items less before after is listed unmixed uniform = ?
-
 -- ---- the first claim on an address that isn't mixed
 pub like-first : (h : AddressHoldersValue) (items : List (ℕ × ClaimValue)) (numbers : List ℕ) (terms : Option Terms) (a : AddressValue)
     → (is_nil numbers ≡ false → IsStrictlySortedBy nat_cmp (keys_of items)) → AreUniform h items → numbers ≡ numbers_at Any a items

@@ -1,7 +1,10 @@
 -- The least of several candidates is the least usable number, and each usable number is a candidate.
-use Rattle.std.proofs.Common.{◌≡◌, ℕ, ◌+◌, ◌-◌, ◌<◌, ◌≤◌, suc, zero, Bool, true, false, cond, not, ◌&&◌, ◌||◌, leb, eqb, add-one, get_or, IfSome, IfNone, List, [], ◌∷◌, take, filter, length, Option, Some, None, ◌⊎◌, inl, inr, refl, sym, ap, ◌∙◌, subst, arith, ⊎_elim, eq-or-lt_of_le, leb-true, true≢false}
-use Rattle.std.proofs.lemmas.Bool.{cases_lt, and_parts, and_from, or_cases, le-leb, not-true, false_from_ne_true}
+use Rattle.std.proofs.Common.{◌≡◌, ℕ, ◌+◌, ◌-◌, ◌<◌, ◌≤◌, suc, zero, Bool, true, false, cond, not, ◌&&◌, ◌||◌, leb, eqb, add-one, get_or, IfSome, IfNone, List, [], ◌∷◌, ◌++◌, take, drop, filter, length, Option, Some, None, ◌⊎◌, inl, inr, refl, sym, ap, ◌∙◌, subst, arith, ⊎_elim, eq-or-lt_of_le, leb-true, true≢false}
+use Rattle.std.proofs.lemmas.Bool.{cases_lt, and_parts, and_from, or_left, or_right, or_cases, le-leb, not-true, false_from_ne_true}
 use Rattle.std.proofs.lemmas.Bool.Decides.{nat_tests}
+use Rattle.std.proofs.lemmas.List.{take_more, take-append-drop}
+use Rattle.std.proofs.lemmas.List.Elements.{Contains-append_left}
+use Rattle.std.proofs.lemmas.List.Folds.{list_any-append}
 use Rattle.std.proofs.lemmas.Map.Views.{lookup-from_Contains}
 use Rattle.std.proofs.lemmas.Map.Keys.{IsDistinct-from_sorted}
 use Rattle.std.proofs.lemmas.Cmp.{eq_by_cmp_equiv, nat_cmp_total}
@@ -15,6 +18,7 @@ use Rattle.ip_ranges.specs.declared.family.Family.{Family}
 use Rattle.ip_ranges.specs.Values.{AddressValue, SpanValue, same_family, has_address, is_buggy, holds}
 use Rattle.ip_ranges.proofs.AddressLaws.{same_family-is, same_family-itself, has_address-is, has_address-from}
 use Rattle.kube_model.specs.declared.key.Key.{Key}
+use Rattle.kube_model.specs.declared.port.Port.{Port}
 use Rattle.kube_model.specs.Keys.{same_key}
 use Rattle.mlb_base.specs.Items.{is_nil}
 use Rattle.mlb_base.proofs.Among.{contains-none, contains-cons, contains-later, contains-first, any-contains, any-found, all-contains, all-from}
@@ -24,11 +28,14 @@ use Rattle.sharing_terms.specs.declared.terms.Terms.{Terms}
 use Rattle.sharing_terms.specs.Spelled.{recorded_terms}
 use Rattle.sharing_terms.specs.Sharing.{has_port, is_alike}
 use Rattle.sharing_terms.proofs.SharingLaws.{may_share-is}
+use Rattle.alloc_book.specs.declared.slot.Slot.TheVariants.{OfPort}
 use Rattle.alloc_book.specs.Claims.{ClaimValue}
 use Rattle.alloc_book.specs.Index.{numbers_of, is_marked, is_held, is_own, is_shared, is_offered, is_taken, is_barred, is_free, Covers, NoneShared, AreBarred}
 use Rattle.alloc_book.specs.Search.{shares_by, leaves, usable, address_of, numbered, least_between}
 use Rattle.alloc_book.specs.Usable.{is_in}
+use Rattle.alloc_book.specs.Slots.{occupies}
 use Rattle.alloc_book.proofs.LeastLaws.{numbered-is}
+use Rattle.alloc_book.proofs.UniformLaws.{yields-left}
 
 -- the least number is the only one
 
@@ -441,7 +448,46 @@ none_shared claims key terms pool family m e =
 -- where a claim of another key has one of the ports at the address, it doesn't share it
 pub barred-unusable : (claims : List ClaimValue) (key : Key) (terms : Terms) (pool : CompiledPool) (a : AddressValue)
     → is_barred terms.ports claims a ≡ true → is_own key claims a ≡ false → usable claims key terms pool a ≡ false
-barred-unusable claims key terms pool a barred others = ?
+barred-unusable claims key terms pool a barred others =
+    false_from_ne_true (usable claims key terms pool a) (λ passes.
+    let port = any-found (λ port. is_taken (OfPort port) claims a) terms.ports barred in
+    let held = any-found (λ (c : ClaimValue). occupies (OfPort port.0) c && has_address c.holding.addresses a) claims port.2 in
+    let c = held.0 in
+    let parts = and_parts (occupies (OfPort port.0) c) (has_address c.holding.addresses a) held.2 in
+    let left = all-contains (leaves key terms a) claims c (and_parts (is_in pool a && not (pool.avoid_buggy && is_buggy a)) (list_all (leaves key terms a) claims) passes).1 held.1 in
+    let given = yields-left (same_key c.key key) (has_address c.holding.addresses a) terms (recorded_terms c.holding.mark) port.0 port.1 left in
+    let own : same_key c.key key ≡ true = subst (λ (b : Bool). (not b || same_key c.key key) ≡ true) held.2 given in
+    true≢false (sym (any-contains (λ (d : ClaimValue). same_key d.key key && has_address d.holding.addresses a) claims c held.1 (and_from (same_key c.key key) (has_address c.holding.addresses a) own parts.1)) ∙ others))
+
+-- each number ahead has a claim with one of the ports met so far
+any-step : {X : Type 0} (test : X → Bool) (xs : List X) (i : ℕ) (d : X) → i < length xs → list_any test (take (i + 1) xs) ≡ (list_any test (take i xs) || (test (get_or xs i d) || false))
+any-step test xs i d within = ap (list_any test) (take_more xs i d within) ∙ list_any-append test (take i xs) (get_or xs i d ∷ [])
+
+pub barred-none : (claims : List ClaimValue) (family : Family) (low : ℕ) → AreBarred [] claims family low low
+barred-none claims family low m from below = absurd (omega (arith, from, below))
+
+pub barred-more : (ports : List Port) (i : ℕ) (d port : Port) (claims : List ClaimValue) (family : Family) (low from n : ℕ) → i < length ports → get_or ports i d ≡ port
+    → AreBarred (take i ports) claims family low from → ((m : ℕ) → from ≤ m → m < n → not (is_taken (OfPort port) claims (address_of family m)) ≡ false)
+    → AreBarred (take (i + 1) ports) claims family low n
+barred-more ports i d port claims family low from n within at before here =
+    before-more (λ m. is_barred (take (i + 1) ports) claims (address_of family m) ≡ true) low from n
+    (λ m first below. any-step (taken_at m) ports i d within ∙ or_left (is_barred (take i ports) claims (address_of family m)) (taken_at m (get_or ports i d) || false) (before m first below))
+    (λ m first below. any-step (taken_at m) ports i d within
+    ∙ or_right (is_barred (take i ports) claims (address_of family m)) (taken_at m (get_or ports i d) || false)
+    (or_left (taken_at m (get_or ports i d)) false (ap (taken_at m) at ∙ taken_by (taken_at m port) (here m first below))))
+  where
+    taken_at : ℕ → Port → Bool
+    taken_at m q = is_taken (OfPort q) claims (address_of family m)
+
+    taken_by : (b : Bool) → not b ≡ false → b ≡ true
+    taken_by true e = refl
+    taken_by false e = absurd (true≢false e)
+
+-- those met so far are ports of the list
+pub barred-all : (ports : List Port) (i : ℕ) (claims : List ClaimValue) (family : Family) (low n : ℕ) → AreBarred (take i ports) claims family low n → AreBarred ports claims family low n
+barred-all ports i claims family low n barred m from below =
+    let port = any-found (λ port. is_taken (OfPort port) claims (address_of family m)) (take i ports) (barred m from below) in
+    any-contains (λ port. is_taken (OfPort port) claims (address_of family m)) ports port.0 (subst (λ (qs : List Port). Contains qs port.0) (take-append-drop i ports) (Contains-append_left (take i ports) (drop i ports) port.0 port.1)) port.2
 
 none_left : (claims : List ClaimValue) (key : Key) (terms : Terms) (pool : CompiledPool) (family : Family) (m : ℕ) → is_barred terms.ports claims (address_of family m) ≡ true → NoneUsable claims key terms pool family m
 none_left claims key terms pool family m barred = λ offered.

@@ -1,6 +1,6 @@
 -- The least of several candidates is the least usable number, and each usable number is a candidate.
 use Rattle.std.proofs.Common.{◌≡◌, ℕ, ◌+◌, ◌-◌, ◌<◌, ◌≤◌, suc, zero, Bool, true, false, cond, not, ◌&&◌, ◌||◌, leb, eqb, add-one, get_or, IfSome, IfNone, List, [], ◌∷◌, ◌++◌, take, drop, filter, length, Option, Some, None, ◌⊎◌, inl, inr, refl, sym, ap, ◌∙◌, subst, arith, ⊎_elim, eq-or-lt_of_le, leb-true, true≢false}
-use Rattle.std.proofs.lemmas.Bool.{cases_lt, and_parts, and_from, or_left, or_right, or_cases, le-leb, not-true, false_from_ne_true}
+use Rattle.std.proofs.lemmas.Bool.{cases_lt, and_parts, and_from, or_left, or_right, or_cases, le-leb, not-true, not-false, false_from_ne_true}
 use Rattle.std.proofs.lemmas.Bool.Decides.{nat_tests}
 use Rattle.std.proofs.lemmas.List.{take_more, take-append-drop}
 use Rattle.std.proofs.lemmas.List.Elements.{Contains-append_left}
@@ -35,6 +35,7 @@ use Rattle.alloc_book.specs.Search.{shares_by, leaves, usable, address_of, numbe
 use Rattle.alloc_book.specs.Usable.{is_in}
 use Rattle.alloc_book.specs.Slots.{occupies}
 use Rattle.alloc_book.proofs.LeastLaws.{numbered-is}
+use Rattle.alloc_book.proofs.IndexReading.{found-of}
 use Rattle.alloc_book.proofs.UniformLaws.{yields-left}
 
 -- the least number is the only one
@@ -338,15 +339,6 @@ own-one ((n, c) ∷ items) key family m e =
     (one.0, contains-later (n, c) items one.0 one.1, keyed (same_key c.key key) n c (filter (λ (p : ℕ × ClaimValue). same_key p.1.key key) items) one.0.0 one.2, one.3))
     (or_cases (same_key c.key key && has_address c.holding.addresses a) (list_any (λ (d : ClaimValue). same_key d.key key && has_address d.holding.addresses a) (values_of items)) e)
 
-turned : (n : ℕ) (items : List (ℕ × ClaimValue)) → lookup (λ k. eqb k n) items ≡ lookup (eq_by_cmp nat_cmp n) items
-turned n [] = refl
-turned n ((k, c) ∷ items) = grind (arith, nat_tests, turned n items)
-
--- a claim is found by its number
-found_by : (items : List (ℕ × ClaimValue)) (p : ℕ × ClaimValue) → IsStrictlySortedBy nat_cmp (keys_of items) → Contains items p → lookup (λ k. eqb k p.0) items ≡ Some p.1
-found_by items p sorted there =
-    turned p.0 items ∙ lookup-from_Contains (eq_by_cmp_equiv nat_cmp_total) p.0 p.1 items (IsDistinct-from_sorted nat_cmp (keys_of items) sorted) there
-
 one_more : (items : List (ℕ × ClaimValue)) (numbers : List ℕ) (i d n : ℕ) (found : Option ClaimValue) (family : Family) (m : ℕ)
     → get_or numbers i d ≡ n → i < length numbers → IsStrictlySortedBy nat_cmp (keys_of items) → found ≡ lookup (λ k. eqb k n) items
     → IsOneOf items (take (i + 1) numbers) family m
@@ -354,7 +346,7 @@ one_more : (items : List (ℕ × ClaimValue)) (numbers : List ℕ) (i d n : ℕ)
 one_more items numbers i d n found family m at within sorted is one =
     ⊎_elim
     (λ before. inl (one.0, one.1, before, one.3))
-    (λ same. inr (one.0.1, is ∙ ap (λ k. lookup (λ j. eqb j k) items) (sym at ∙ same) ∙ found_by items one.0 sorted one.1, one.3))
+    (λ same. inr (one.0.1, is ∙ ap (λ k. lookup (λ j. eqb j k) items) (sym at ∙ same) ∙ found-of items one.0 sorted one.1, one.3))
     (taken_next numbers i d one.0.0 within one.2)
 
 -- the claims met so far, and this one
@@ -463,9 +455,6 @@ barred-unusable claims key terms pool a barred others =
 any-step : {X : Type 0} (test : X → Bool) (xs : List X) (i : ℕ) (d : X) → i < length xs → list_any test (take (i + 1) xs) ≡ (list_any test (take i xs) || (test (get_or xs i d) || false))
 any-step test xs i d within = ap (list_any test) (take_more xs i d within) ∙ list_any-append test (take i xs) (get_or xs i d ∷ [])
 
-pub barred-none : (claims : List ClaimValue) (family : Family) (low : ℕ) → AreBarred [] claims family low low
-barred-none claims family low m from below = absurd (omega (arith, from, below))
-
 pub barred-more : (ports : List Port) (i : ℕ) (d port : Port) (claims : List ClaimValue) (family : Family) (low from n : ℕ) → i < length ports → get_or ports i d ≡ port
     → AreBarred (take i ports) claims family low from → ((m : ℕ) → from ≤ m → m < n → not (is_taken (OfPort port) claims (address_of family m)) ≡ false)
     → AreBarred (take (i + 1) ports) claims family low n
@@ -474,14 +463,10 @@ barred-more ports i d port claims family low from n within at before here =
     (λ m first below. any-step (taken_at m) ports i d within ∙ or_left (is_barred (take i ports) claims (address_of family m)) (taken_at m (get_or ports i d) || false) (before m first below))
     (λ m first below. any-step (taken_at m) ports i d within
     ∙ or_right (is_barred (take i ports) claims (address_of family m)) (taken_at m (get_or ports i d) || false)
-    (or_left (taken_at m (get_or ports i d)) false (ap (taken_at m) at ∙ taken_by (taken_at m port) (here m first below))))
+    (or_left (taken_at m (get_or ports i d)) false (ap (taken_at m) at ∙ not-false (taken_at m port) (here m first below))))
   where
     taken_at : ℕ → Port → Bool
     taken_at m q = is_taken (OfPort q) claims (address_of family m)
-
-    taken_by : (b : Bool) → not b ≡ false → b ≡ true
-    taken_by true e = refl
-    taken_by false e = absurd (true≢false e)
 
 -- those met so far are ports of the list
 pub barred-all : (ports : List Port) (i : ℕ) (claims : List ClaimValue) (family : Family) (low n : ℕ) → AreBarred (take i ports) claims family low n → AreBarred ports claims family low n
@@ -493,6 +478,14 @@ none_left : (claims : List ClaimValue) (key : Key) (terms : Terms) (pool : Compi
 none_left claims key terms pool family m barred = λ offered.
     barred-unusable claims key terms pool (address_of family m) barred
     (not-true (is_own key claims (address_of family m)) (and_parts (is_shared terms.key claims (address_of family m)) (not (is_own key claims (address_of family m))) offered).1)
+
+-- the same of the claims and the ports of a walk
+pub none-shared_in : (found_in claims : List ClaimValue) (family : Family) (key : List ℕ) (low high : ℕ) → found_in ≡ claims → NoneShared family key found_in low high → NoneShared family key claims low high
+none-shared_in found_in claims family key low high is none = subst (λ (cs : List ClaimValue). NoneShared family key cs low high) is none
+
+pub barred-in : (ports_in ports : List Port) (found_in claims : List ClaimValue) (family : Family) (low high : ℕ) → ports_in ≡ ports → found_in ≡ claims → AreBarred ports_in found_in family low high → AreBarred ports claims family low high
+barred-in ports_in ports found_in claims family low high are is barred =
+    subst (λ (qs : List Port). AreBarred qs claims family low high) are (subst (λ (cs : List ClaimValue). AreBarred ports_in cs family low high) is barred)
 
 -- none up to the next shared one, and from there none up to the next one that is left for the ports
 pub shared-more : (claims : List ClaimValue) (key : Key) (terms : Terms) (pool : CompiledPool) (family : Family) (low from n : ℕ) → ((m : ℕ) → low ≤ m → m < from → NoneUsable claims key terms pool family m)

@@ -33,7 +33,7 @@ below-apart n m less = grind (arith, nat_tests)
 itself : (n : ℕ) → (n == n) ≡ true
 itself n = grind (arith, nat_tests)
 
-or-true : (b : Bool) → (b || true) ≡ true
+pub or-true : (b : Bool) → (b || true) ≡ true
 or-true true = refl
 or-true false = refl
 

@@ -5,6 +5,7 @@ use Rattle.std.specs.List.{Contains, list_any, list_all, slice_get}
 use Rattle.std.specs.List.Sorted.{IsStrictlySortedBy}
 use Rattle.std.specs.Map.{keys_of, values_of}
 use Rattle.std.proofs.lemmas.Bool.{and_parts, and_from, or_left, or_right, not-true, false_from_ne_true, true≢false, eq-eqb}
+use Rattle.std.proofs.lemmas.Bool.Decides.{same_from_decides}
 use Rattle.std.proofs.lemmas.Map.Made.{Contains-values_of}
 use Rattle.std.proofs.lemmas.Slice.Eq.{bytes_eq-Decides}
 use Rattle.std.specs.Cmp.Lexicographic.{pointwise}
@@ -36,7 +37,7 @@ use Rattle.alloc_book.specs.Index.{numbers_at, HasIt, AreUniform}
 use Rattle.alloc_book.specs.Reading.{yields}
 use Rattle.alloc_book.specs.Search.{shares_by, leaves}
 use Rattle.alloc_book.specs.Slots.{ports_by}
-use Rattle.alloc_book.proofs.IndexReading.{nil-at, under, found-of}
+use Rattle.alloc_book.proofs.IndexReading.{or-true, nil-at, under, found-of}
 
 -- ---- terms that are alike
 backend-same : (a b : Backend) → is_alike a b ≡ true → a ≡ b
@@ -191,10 +192,6 @@ like-first h items (n ∷ rest) terms a sorted uniform listed unmixed first p ha
         (uniform a unmixed p q has has_q (λ same. true≢false (sym (eq-eqb p.0 q.0 same) ∙ sym is))) here
 
 -- ---- where the claims on an address are alike with the terms, those with a port of theirs decide
-or-true : (b : Bool) → (b || true) ≡ true
-or-true true = refl
-or-true false = refl
-
 not-neither : (b : Bool) → not (b && false) ≡ true
 not-neither true = refl
 not-neither false = refl
@@ -232,11 +229,6 @@ yields-left false true terms (Some t) port there left =
     (λ some. true≢false (sym (any-contains (has_port t.ports) terms.ports port there some) ∙ not-true (list_any (has_port t.ports) terms.ports) keys.1)) in
     rw apart refl
 
-same-tests : (a b : Bool) → (a ≡ true → b ≡ true) → (b ≡ true → a ≡ true) → a ≡ b
-same-tests true b to back = sym (to refl)
-same-tests false true to back = back refl
-same-tests false false to back = refl
-
 item-of : (items : List (ℕ × ClaimValue)) (c : ClaimValue) → Contains (values_of items) c → (p : ℕ × ClaimValue) × Contains items p × (p.1 ≡ c)
 item-of [] c there = absurd (contains-none c there)
 item-of (p ∷ items) c there =
@@ -249,7 +241,7 @@ pub leave-by_ports : (items : List (ℕ × ClaimValue)) (key : Key) (terms : Ter
     → ((p : ℕ × ClaimValue) → HasIt items a p → are_alike (recorded_terms p.1.holding.mark) (Some terms) ≡ true)
     → list_all (λ port. list_all (yields key (OfPort port) a) (values_of items)) terms.ports ≡ list_all (leaves key terms a) (values_of items)
 leave-by_ports items key terms a alike =
-    same-tests (list_all (λ port. list_all (yields key (OfPort port) a) claims) terms.ports) (list_all (leaves key terms a) claims) to back
+    same_from_decides (list_all (λ port. list_all (yields key (OfPort port) a) claims) terms.ports) (list_all (leaves key terms a) claims) (to, back) (λ e. e, λ e. e)
   where
     claims : List ClaimValue
     claims = values_of items

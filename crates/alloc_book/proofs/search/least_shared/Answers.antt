@@ -1,10 +1,8 @@
-use Rattle.std.proofs.Common.{true, ◌≡◌, ◌+◌, sym, ◌∙◌, ap, arith, eqb, eqb-true, length, subst, List, ℕ, Option}
+use Rattle.std.proofs.Common.{true, ◌≡◌, ◌+◌, sym, ◌∙◌, arith, eqb, length, subst, List, ℕ}
 use Rattle.std.proofs.lemmas.Bool.{and_parts}
-use Rattle.kube_model.specs.declared.port.Port.{Port}
-use Rattle.alloc_book.specs.Claims.{ClaimValue}
-use Rattle.alloc_book.specs.Index.{NoneShared, AreBarred, Covers, is_shared, is_own, is_offered}
-use Rattle.alloc_book.specs.Search.{address_of, numbered, usable}
-use Rattle.alloc_book.proofs.Candidates.{NoneUsable, shared-more, left-more, left-next, no-key}
+use Rattle.alloc_book.specs.Index.{is_shared}
+use Rattle.alloc_book.specs.Search.{address_of}
+use Rattle.alloc_book.proofs.Candidates.{none-shared_in, barred-in, shared-more, left-more, left-next, no-key}
 use Rattle.alloc_book.proofs.search.least_shared.Goals as goal
 
 pub returns-then-is_empty : goal.returns-then-is_empty
@@ -24,9 +22,8 @@ returns-in_err-number c =
     let found = c.in-Some.ensures.some in
     let none =
     left-more claims c.args.key.now c.args.terms.now c.args.pool.now c.args.family c.args.low c.loop-shared.from c.in-Some.shared (c.args.high + 1) c.loop-shared.invariant.before
-    (subst (λ (cs : List ClaimValue). NoneShared c.args.family c.args.terms.now.key cs c.loop-shared.from c.in-Some.shared) c.index-index.ensures.claims found.2)
-    (subst (λ (ports : List Port). AreBarred ports claims c.args.family c.in-Some.shared (c.args.high + 1)) c.as_slice-ports.ensures.listed
-    (subst (λ (cs : List ClaimValue). AreBarred c.as_slice-ports.result.now cs c.args.family c.in-Some.shared (c.args.high + 1)) c.index-index.ensures.claims c.in_err-number.ensures.none)) in
+    (none-shared_in _ claims c.args.family c.args.terms.now.key c.loop-shared.from c.in-Some.shared c.index-index.ensures.claims found.2)
+    (barred-in c.as_slice-ports.result.now c.args.terms.now.ports _ claims c.args.family c.in-Some.shared (c.args.high + 1) c.as_slice-ports.ensures.listed c.index-index.ensures.claims c.in_err-number.ensures.none) in
     rw c.from_residual.ensures (λ m from upto. none m from (omega (arith, upto)))
 
 pub loop-shared-preserved : goal.loop-shared-preserved
@@ -38,9 +35,8 @@ loop-shared-preserved c =
       begun = omega (arith, c.loop-shared.invariant.begun, found.0, left.0);
       before =
           left-next claims c.args.key.now c.args.terms.now c.args.pool.now c.args.family c.args.low c.loop-shared.from c.in-Some.shared c.in_ok-number.number c.loop-shared.invariant.before
-          (subst (λ (cs : List ClaimValue). NoneShared c.args.family c.args.terms.now.key cs c.loop-shared.from c.in-Some.shared) c.index-index.ensures.claims found.2)
-          (subst (λ (ports : List Port). AreBarred ports claims c.args.family c.in-Some.shared c.in_ok-number.number) c.as_slice-ports.ensures.listed
-          (subst (λ (cs : List ClaimValue). AreBarred c.as_slice-ports.result.now cs c.args.family c.in-Some.shared c.in_ok-number.number) c.index-index.ensures.claims left.2))
+          (none-shared_in _ claims c.args.family c.args.terms.now.key c.loop-shared.from c.in-Some.shared c.index-index.ensures.claims found.2)
+          (barred-in c.as_slice-ports.result.now c.args.terms.now.ports _ claims c.args.family c.in-Some.shared c.in_ok-number.number c.as_slice-ports.ensures.listed c.index-index.ensures.claims left.2)
           (sym c.may_use.ensures ∙ c.if-may_use.false);
     }
 
@@ -51,9 +47,8 @@ returns-then-may_use c =
     let left = c.in_ok-number.ensures.some in
     (omega (arith, c.loop-shared.invariant.begun, found.0, left.0), left.1, sym c.may_use.ensures ∙ c.if-may_use.true,
     left-more claims c.args.key.now c.args.terms.now c.args.pool.now c.args.family c.args.low c.loop-shared.from c.in-Some.shared c.in_ok-number.number c.loop-shared.invariant.before
-    (subst (λ (cs : List ClaimValue). NoneShared c.args.family c.args.terms.now.key cs c.loop-shared.from c.in-Some.shared) c.index-index.ensures.claims found.2)
-    (subst (λ (ports : List Port). AreBarred ports claims c.args.family c.in-Some.shared c.in_ok-number.number) c.as_slice-ports.ensures.listed
-    (subst (λ (cs : List ClaimValue). AreBarred c.as_slice-ports.result.now cs c.args.family c.in-Some.shared c.in_ok-number.number) c.index-index.ensures.claims left.2)))
+    (none-shared_in _ claims c.args.family c.args.terms.now.key c.loop-shared.from c.in-Some.shared c.index-index.ensures.claims found.2)
+    (barred-in c.as_slice-ports.result.now c.args.terms.now.ports _ claims c.args.family c.in-Some.shared c.in_ok-number.number c.as_slice-ports.ensures.listed c.index-index.ensures.claims left.2))
 
 pub returns-then-number-high : goal.returns-then-number-high
 returns-then-number-high c =
@@ -63,9 +58,8 @@ returns-then-number-high c =
     let last : c.in_ok-number.number ≡ c.args.high = c.if-number-high.true in
     let none =
     left-next claims c.args.key.now c.args.terms.now c.args.pool.now c.args.family c.args.low c.loop-shared.from c.in-Some.shared c.in_ok-number.number c.loop-shared.invariant.before
-    (subst (λ (cs : List ClaimValue). NoneShared c.args.family c.args.terms.now.key cs c.loop-shared.from c.in-Some.shared) c.index-index.ensures.claims found.2)
-    (subst (λ (ports : List Port). AreBarred ports claims c.args.family c.in-Some.shared c.in_ok-number.number) c.as_slice-ports.ensures.listed
-    (subst (λ (cs : List ClaimValue). AreBarred c.as_slice-ports.result.now cs c.args.family c.in-Some.shared c.in_ok-number.number) c.index-index.ensures.claims left.2))
+    (none-shared_in _ claims c.args.family c.args.terms.now.key c.loop-shared.from c.in-Some.shared c.index-index.ensures.claims found.2)
+    (barred-in c.as_slice-ports.result.now c.args.terms.now.ports _ claims c.args.family c.in-Some.shared c.in_ok-number.number c.as_slice-ports.ensures.listed c.index-index.ensures.claims left.2)
     (sym c.may_use.ensures ∙ c.if-may_use.false) in
     λ m from upto. none m from (omega (arith, upto, last))
 
@@ -73,5 +67,5 @@ pub returns : goal.returns
 returns c =
     let none =
     shared-more c.args.book.now.claims c.args.key.now c.args.terms.now c.args.pool.now c.args.family c.args.low c.loop-shared.from (c.args.high + 1) c.loop-shared.invariant.before
-    (subst (λ (cs : List ClaimValue). NoneShared c.args.family c.args.terms.now.key cs c.loop-shared.from (c.args.high + 1)) c.index-index.ensures.claims c.in_default.ensures.none) in
+    (none-shared_in _ c.args.book.now.claims c.args.family c.args.terms.now.key c.loop-shared.from (c.args.high + 1) c.index-index.ensures.claims c.in_default.ensures.none) in
     λ m from upto. none m from (omega (arith, upto))

@@ -1,7 +1,7 @@
 -- What the claims under the numbers of a key or of an address say of all claims.
-use Rattle.std.proofs.Common.{◌≡◌, ℕ, ◌+◌, ◌<◌, ◌≤◌, ◌==◌, Bool, true, false, cond, not, ◌&&◌, ◌||◌, List, [], ◌∷◌, ◌++◌, map, filter, length, Option, Some, None, Less, IfSome, IfNone, refl, sym, ap, ◌∙◌, subst, arith}
+use Rattle.std.proofs.Common.{◌≡◌, ℕ, ◌+◌, ◌<◌, ◌≤◌, ◌==◌, Bool, true, false, cond, not, ◌&&◌, ◌||◌, List, [], ◌∷◌, ◌++◌, map, filter, length, Option, Some, None, Less, IfSome, IfNone, refl, sym, ap, ◌∙◌, subst, arith, ⊎_elim}
 use Rattle.std.specs.Bool.{MatchBool}
-use Rattle.std.specs.List.{AllByRecursion, AllWithin, HoldsAt, list_any, list_all}
+use Rattle.std.specs.List.{Contains, AllByRecursion, AllWithin, HoldsAt, list_any, list_all}
 use Rattle.std.specs.List.Sorted.{IsStrictlySortedBy}
 use Rattle.std.specs.Map.{lookup, keys_of, values_of}
 use Rattle.std.specs.Ordering.{nat_cmp}
@@ -13,6 +13,7 @@ use Rattle.kube_model.specs.declared.key.Key.{Key}
 use Rattle.kube_model.specs.declared.record.Record.{Record}
 use Rattle.kube_model.specs.Keys.{same_key}
 use Rattle.mlb_base.specs.Items.{is_nil}
+use Rattle.mlb_base.proofs.Among.{contains-none, contains-cons}
 use Rattle.number_sets.specs.Least.{IsLeastIn, NonePasses}
 use Rattle.sharing_terms.specs.declared.terms.Terms.{Terms}
 use Rattle.sharing_terms.specs.Spelled.{recorded_terms}
@@ -32,7 +33,7 @@ below-apart n m less = grind (arith, nat_tests)
 itself : (n : ℕ) → (n == n) ≡ true
 itself n = grind (arith, nat_tests)
 
-or-true : (b : Bool) → (b || true) ≡ true
+pub or-true : (b : Bool) → (b || true) ≡ true
 or-true true = refl
 or-true false = refl
 
@@ -129,6 +130,15 @@ module _ (passes : ClaimValue → Bool) where
   -- the numbers ascend where some is asked of
   found : (numbers : List ℕ) (items : List (ℕ × ClaimValue)) → is_nil numbers ≡ not (list_any passes (values_of items)) → (is_nil numbers ≡ false → IsStrictlySortedBy nat_cmp (keys_of items)) → AreFound passes (under items) items
   found numbers items nil sorted = found-by (list_any passes (values_of items)) items refl (λ e. sorted (nil ∙ e))
+
+-- a claim is found by its number
+found-at : (find : ℕ → Option ClaimValue) (items : List (ℕ × ClaimValue)) (p : ℕ × ClaimValue) → AreFound (λ _. true) find items → Contains items p → find p.0 ≡ Some p.1
+found-at find [] p found there = absurd (contains-none p there)
+found-at find (q ∷ items) p found there =
+    ⊎_elim (λ (same : q ≡ p). subst (λ (r : ℕ × ClaimValue). find r.0 ≡ Some r.1) same (found.0 refl)) (λ later. found-at find items p found.1 later) (contains-cons q items p there)
+
+pub found-of : (items : List (ℕ × ClaimValue)) (p : ℕ × ClaimValue) → IsStrictlySortedBy nat_cmp (keys_of items) → Contains items p → under items p.0 ≡ Some p.1
+found-of items p sorted there = found-at (under items) items p (found-sorted (λ _. true) items sorted) there
 
 -- ---- a test over the numbers
 module _ (find : ℕ → Option ClaimValue) (test : Option ClaimValue → Bool) where

@@ -1,6 +1,5 @@
-use Rattle.std.proofs.Common.{◌≡◌, ap, ◌∙◌}
+use Rattle.std.proofs.Common.{ap, ◌∙◌}
 use Rattle.std.specs.Option.{option_copied}
-use Rattle.sharing_terms.specs.declared.terms.Terms.{Terms}
 use Rattle.alloc_book.specs.Alike.{are_alike}
 use Rattle.alloc_book.proofs.UniformLaws.{first-like}
 use Rattle.alloc_book.proofs.alike.is_like_first.Goals as goal

@@ -1,4 +1,4 @@
-use Rattle.std.proofs.Common.{◌≡◌, ℕ, true, Some, List, ap, sym, ◌∙◌}
+use Rattle.std.proofs.Common.{ℕ, Some, List, ap, sym, ◌∙◌}
 use Rattle.ip_ranges.specs.Values.{AddressValue}
 use Rattle.alloc_book.specs.declared.slot.Slot.TheVariants.{Any}
 use Rattle.alloc_book.proofs.UniformLaws.{like-first}

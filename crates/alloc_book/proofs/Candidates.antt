@@ -1,7 +1,10 @@
 -- The least of several candidates is the least usable number, and each usable number is a candidate.
-use Rattle.std.proofs.Common.{◌≡◌, ℕ, ◌+◌, ◌-◌, ◌<◌, ◌≤◌, suc, zero, Bool, true, false, cond, not, ◌&&◌, ◌||◌, leb, eqb, add-one, get_or, IfSome, IfNone, List, [], ◌∷◌, take, filter, length, Option, Some, None, ◌⊎◌, inl, inr, refl, sym, ap, ◌∙◌, subst, arith, ⊎_elim, eq-or-lt_of_le, leb-true, true≢false}
-use Rattle.std.proofs.lemmas.Bool.{cases_lt, and_parts, and_from, or_cases, le-leb, not-true, false_from_ne_true}
+use Rattle.std.proofs.Common.{◌≡◌, ℕ, ◌+◌, ◌-◌, ◌<◌, ◌≤◌, suc, zero, Bool, true, false, cond, not, ◌&&◌, ◌||◌, leb, eqb, add-one, get_or, IfSome, IfNone, List, [], ◌∷◌, ◌++◌, take, drop, filter, length, Option, Some, None, ◌⊎◌, inl, inr, refl, sym, ap, ◌∙◌, subst, arith, ⊎_elim, eq-or-lt_of_le, leb-true, true≢false}
+use Rattle.std.proofs.lemmas.Bool.{cases_lt, and_parts, and_from, or_left, or_right, or_cases, le-leb, not-true, not-false, false_from_ne_true}
 use Rattle.std.proofs.lemmas.Bool.Decides.{nat_tests}
+use Rattle.std.proofs.lemmas.List.{take_more, take-append-drop}
+use Rattle.std.proofs.lemmas.List.Elements.{Contains-append_left}
+use Rattle.std.proofs.lemmas.List.Folds.{list_any-append}
 use Rattle.std.proofs.lemmas.Map.Views.{lookup-from_Contains}
 use Rattle.std.proofs.lemmas.Map.Keys.{IsDistinct-from_sorted}
 use Rattle.std.proofs.lemmas.Cmp.{eq_by_cmp_equiv, nat_cmp_total}
@@ -15,6 +18,7 @@ use Rattle.ip_ranges.specs.declared.family.Family.{Family}
 use Rattle.ip_ranges.specs.Values.{AddressValue, SpanValue, same_family, has_address, is_buggy, holds}
 use Rattle.ip_ranges.proofs.AddressLaws.{same_family-is, same_family-itself, has_address-is, has_address-from}
 use Rattle.kube_model.specs.declared.key.Key.{Key}
+use Rattle.kube_model.specs.declared.port.Port.{Port}
 use Rattle.kube_model.specs.Keys.{same_key}
 use Rattle.mlb_base.specs.Items.{is_nil}
 use Rattle.mlb_base.proofs.Among.{contains-none, contains-cons, contains-later, contains-first, any-contains, any-found, all-contains, all-from}
@@ -24,11 +28,15 @@ use Rattle.sharing_terms.specs.declared.terms.Terms.{Terms}
 use Rattle.sharing_terms.specs.Spelled.{recorded_terms}
 use Rattle.sharing_terms.specs.Sharing.{has_port, is_alike}
 use Rattle.sharing_terms.proofs.SharingLaws.{may_share-is}
+use Rattle.alloc_book.specs.declared.slot.Slot.TheVariants.{OfPort}
 use Rattle.alloc_book.specs.Claims.{ClaimValue}
-use Rattle.alloc_book.specs.Index.{numbers_of, is_marked, is_held, is_own, is_shared, is_free, Covers, NoneShared}
+use Rattle.alloc_book.specs.Index.{numbers_of, is_marked, is_held, is_own, is_shared, is_offered, is_taken, is_barred, is_free, Covers, NoneShared, AreBarred}
 use Rattle.alloc_book.specs.Search.{shares_by, leaves, usable, address_of, numbered, least_between}
 use Rattle.alloc_book.specs.Usable.{is_in}
+use Rattle.alloc_book.specs.Slots.{occupies}
 use Rattle.alloc_book.proofs.LeastLaws.{numbered-is}
+use Rattle.alloc_book.proofs.IndexReading.{found-of}
+use Rattle.alloc_book.proofs.UniformLaws.{yields-left}
 
 -- the least number is the only one
 
@@ -137,9 +145,9 @@ marked_by terms (Some t) e =
     let itself : bytes_eq terms.key terms.key ≡ true = subst (λ (k : List ℕ). bytes_eq terms.key k ≡ true) (sym same) parts.0 in
     and_from (bytes_eq t.key terms.key) (not (is_nil terms.key)) (subst (λ (k : List ℕ). bytes_eq k terms.key ≡ true) same itself) parts.1
 
--- an address that the asker may use is free, its own or shared under its sharing key
+-- an address that the asker may use is free, its own or offered to it under its sharing key
 abbrev pub IsCandidate : List ClaimValue → Key → Terms → CompiledPool → AddressValue → Type 0
-IsCandidate claims key terms pool a = ((is_free claims pool a ≡ true) ⊎ (is_own key claims a ≡ true)) ⊎ (is_shared terms.key claims a ≡ true)
+IsCandidate claims key terms pool a = ((is_free claims pool a ≡ true) ⊎ (is_own key claims a ≡ true)) ⊎ (is_offered key terms.key claims a ≡ true)
 
 held_candidate : (claims : List ClaimValue) (key : Key) (terms : Terms) (pool : CompiledPool) (a : AddressValue) (c : ClaimValue)
     → Contains claims c → has_address c.holding.addresses a ≡ true → leaves key terms a c ≡ true → IsCandidate claims key terms pool a
@@ -149,9 +157,13 @@ held_candidate claims key terms pool a c there has left =
     (λ own. inl (inr (any-contains (λ (d : ClaimValue). same_key d.key key && has_address d.holding.addresses a) claims c there (and_from (same_key c.key key) (has_address c.holding.addresses a) own has))))
     (λ gone. absurd (true≢false (sym has ∙ not-true (has_address c.holding.addresses a) gone)))
     (or_cases (same_key c.key key) (not (has_address c.holding.addresses a)) first))
-    (λ shared. inr (any-contains (λ (d : ClaimValue). is_marked terms.key (recorded_terms d.holding.mark) && has_address d.holding.addresses a) claims c there
+    (λ shared. own-or_offered (is_own key claims a) refl (any-contains (λ (d : ClaimValue). is_marked terms.key (recorded_terms d.holding.mark) && has_address d.holding.addresses a) claims c there
     (and_from (is_marked terms.key (recorded_terms c.holding.mark)) (has_address c.holding.addresses a) (marked_by terms (recorded_terms c.holding.mark) shared) has)))
     (or_cases (same_key c.key key || not (has_address c.holding.addresses a)) (shares_by terms (recorded_terms c.holding.mark)) left)
+  where
+    own-or_offered : (own : Bool) → is_own key claims a ≡ own → is_shared terms.key claims a ≡ true → IsCandidate claims key terms pool a
+    own-or_offered true e shared = inl (inr e)
+    own-or_offered false e shared = inr (and_from (is_shared terms.key claims a) (not (is_own key claims a)) shared (ap not e))
 
 candidate_by : (held : Bool) (claims : List ClaimValue) (key : Key) (terms : Terms) (pool : CompiledPool) (a : AddressValue)
     → held ≡ is_held claims a → not (pool.avoid_buggy && is_buggy a) ≡ true → list_all (leaves key terms a) claims ≡ true → IsCandidate claims key terms pool a
@@ -183,16 +195,16 @@ pub least-of_three : (claims : List ClaimValue) (key : Key) (terms : Terms) (poo
     → IfSome free (IsLeastIn (numbered (is_free claims pool) family) span.low span.high)
     → IfNone free (NonePasses (numbered (is_free claims pool) family) span.low span.high)
     → Covers (numbered (is_own key claims) family) (numbered (usable claims key terms pool) family) span.low (unwrap_or free span.high) own
-    → Covers (numbered (is_shared terms.key claims) family) (numbered (usable claims key terms pool) family) span.low (unwrap_or own (unwrap_or free span.high)) shared
+    → Covers (numbered (is_offered key terms.key claims) family) (numbered (usable claims key terms pool) family) span.low (unwrap_or own (unwrap_or free span.high)) shared
     → least_between (numbered (usable claims key terms pool) family) span.low (span.high + 1 - span.low) ≡ option_or (option_or shared own) free
 least-of_three claims key terms pool span family free own shared listed same some none owned others =
     let test = numbered (usable claims key terms pool) family in
     let F : ℕ → Type 0 = λ m. numbered (is_free claims pool) family m ≡ true in
     let O : ℕ → Type 0 = λ m. numbered (is_own key claims) family m ≡ true in
-    let S : ℕ → Type 0 = λ m. numbered (is_shared terms.key claims) family m ≡ true in
+    let S : ℕ → Type 0 = λ m. numbered (is_offered key terms.key claims) family m ≡ true in
     let first = free-ahead claims key terms pool span family free listed same some none in
     let second = covers-is (numbered (is_own key claims) family) test span.low (unwrap_or free span.high) own owned in
-    let third = covers-is (numbered (is_shared terms.key claims) family) test span.low (unwrap_or own (unwrap_or free span.high)) shared others in
+    let third = covers-is (numbered (is_offered key terms.key claims) family) test span.low (unwrap_or own (unwrap_or free span.high)) shared others in
     let two = ahead-both O S test span.low (unwrap_or free span.high) own shared second third in
     let all = ahead-both F (λ m. O m ⊎ S m) test span.low span.high free (option_or shared own) first two in
     ahead-least (λ m. F m ⊎ (O m ⊎ S m)) test span.low span.high (option_or (option_or shared own) free)
@@ -200,7 +212,7 @@ least-of_three claims key terms pool span family free own shared listed same som
     all
   where
     three_from : (m : ℕ) → IsCandidate claims key terms pool (address_of family m)
-        → (numbered (is_free claims pool) family m ≡ true) ⊎ ((numbered (is_own key claims) family m ≡ true) ⊎ (numbered (is_shared terms.key claims) family m ≡ true))
+        → (numbered (is_free claims pool) family m ≡ true) ⊎ ((numbered (is_own key claims) family m ≡ true) ⊎ (numbered (is_offered key terms.key claims) family m ≡ true))
     three_from m (inl (inl free_one)) = inl free_one
     three_from m (inl (inr own_one)) = inr (inl own_one)
     three_from m (inr shared_one) = inr (inr shared_one)
@@ -327,15 +339,6 @@ own-one ((n, c) ∷ items) key family m e =
     (one.0, contains-later (n, c) items one.0 one.1, keyed (same_key c.key key) n c (filter (λ (p : ℕ × ClaimValue). same_key p.1.key key) items) one.0.0 one.2, one.3))
     (or_cases (same_key c.key key && has_address c.holding.addresses a) (list_any (λ (d : ClaimValue). same_key d.key key && has_address d.holding.addresses a) (values_of items)) e)
 
-turned : (n : ℕ) (items : List (ℕ × ClaimValue)) → lookup (λ k. eqb k n) items ≡ lookup (eq_by_cmp nat_cmp n) items
-turned n [] = refl
-turned n ((k, c) ∷ items) = grind (arith, nat_tests, turned n items)
-
--- a claim is found by its number
-found_by : (items : List (ℕ × ClaimValue)) (p : ℕ × ClaimValue) → IsStrictlySortedBy nat_cmp (keys_of items) → Contains items p → lookup (λ k. eqb k p.0) items ≡ Some p.1
-found_by items p sorted there =
-    turned p.0 items ∙ lookup-from_Contains (eq_by_cmp_equiv nat_cmp_total) p.0 p.1 items (IsDistinct-from_sorted nat_cmp (keys_of items) sorted) there
-
 one_more : (items : List (ℕ × ClaimValue)) (numbers : List ℕ) (i d n : ℕ) (found : Option ClaimValue) (family : Family) (m : ℕ)
     → get_or numbers i d ≡ n → i < length numbers → IsStrictlySortedBy nat_cmp (keys_of items) → found ≡ lookup (λ k. eqb k n) items
     → IsOneOf items (take (i + 1) numbers) family m
@@ -343,7 +346,7 @@ one_more : (items : List (ℕ × ClaimValue)) (numbers : List ℕ) (i d n : ℕ)
 one_more items numbers i d n found family m at within sorted is one =
     ⊎_elim
     (λ before. inl (one.0, one.1, before, one.3))
-    (λ same. inr (one.0.1, is ∙ ap (λ k. lookup (λ j. eqb j k) items) (sym at ∙ same) ∙ found_by items one.0 sorted one.1, one.3))
+    (λ same. inr (one.0.1, is ∙ ap (λ k. lookup (λ j. eqb j k) items) (sym at ∙ same) ∙ found-of items one.0 sorted one.1, one.3))
     (taken_next numbers i d one.0.0 within one.2)
 
 -- the claims met so far, and this one
@@ -425,23 +428,83 @@ all-claims_met items claims key numbers i family test low high found are listed 
     (own-one items key family m (subst (λ (cs : List ClaimValue). is_own key cs (address_of family m) ≡ true) are own)))
     ahead
 
--- what is known of those that are shared, ahead of a number
+-- what is known of those that are offered, ahead of a number
 
 abbrev pub NoneUsable : List ClaimValue → Key → Terms → CompiledPool → Family → ℕ → Type 0
-NoneUsable claims key terms pool family m = numbered (is_shared terms.key claims) family m ≡ true → numbered (usable claims key terms pool) family m ≡ false
+NoneUsable claims key terms pool family m = numbered (is_offered key terms.key claims) family m ≡ true → numbered (usable claims key terms pool) family m ≡ false
 
 none_shared : (claims : List ClaimValue) (key : Key) (terms : Terms) (pool : CompiledPool) (family : Family) (m : ℕ) → is_shared terms.key claims (address_of family m) ≡ false → NoneUsable claims key terms pool family m
-none_shared claims key terms pool family m e = λ shared. absurd (true≢false (sym shared ∙ e))
+none_shared claims key terms pool family m e =
+    λ offered. absurd (true≢false (sym (and_parts (is_shared terms.key claims (address_of family m)) (not (is_own key claims (address_of family m))) offered).0 ∙ e))
 
+-- where a claim of another key has one of the ports at the address, it doesn't share it
+pub barred-unusable : (claims : List ClaimValue) (key : Key) (terms : Terms) (pool : CompiledPool) (a : AddressValue)
+    → is_barred terms.ports claims a ≡ true → is_own key claims a ≡ false → usable claims key terms pool a ≡ false
+barred-unusable claims key terms pool a barred others =
+    false_from_ne_true (usable claims key terms pool a) (λ passes.
+    let port = any-found (λ port. is_taken (OfPort port) claims a) terms.ports barred in
+    let held = any-found (λ (c : ClaimValue). occupies (OfPort port.0) c && has_address c.holding.addresses a) claims port.2 in
+    let c = held.0 in
+    let parts = and_parts (occupies (OfPort port.0) c) (has_address c.holding.addresses a) held.2 in
+    let left = all-contains (leaves key terms a) claims c (and_parts (is_in pool a && not (pool.avoid_buggy && is_buggy a)) (list_all (leaves key terms a) claims) passes).1 held.1 in
+    let given = yields-left (same_key c.key key) (has_address c.holding.addresses a) terms (recorded_terms c.holding.mark) port.0 port.1 left in
+    let own : same_key c.key key ≡ true = subst (λ (b : Bool). (not b || same_key c.key key) ≡ true) held.2 given in
+    true≢false (sym (any-contains (λ (d : ClaimValue). same_key d.key key && has_address d.holding.addresses a) claims c held.1 (and_from (same_key c.key key) (has_address c.holding.addresses a) own parts.1)) ∙ others))
+
+-- each number ahead has a claim with one of the ports met so far
+any-step : {X : Type 0} (test : X → Bool) (xs : List X) (i : ℕ) (d : X) → i < length xs → list_any test (take (i + 1) xs) ≡ (list_any test (take i xs) || (test (get_or xs i d) || false))
+any-step test xs i d within = ap (list_any test) (take_more xs i d within) ∙ list_any-append test (take i xs) (get_or xs i d ∷ [])
+
+pub barred-more : (ports : List Port) (i : ℕ) (d port : Port) (claims : List ClaimValue) (family : Family) (low from n : ℕ) → i < length ports → get_or ports i d ≡ port
+    → AreBarred (take i ports) claims family low from → ((m : ℕ) → from ≤ m → m < n → not (is_taken (OfPort port) claims (address_of family m)) ≡ false)
+    → AreBarred (take (i + 1) ports) claims family low n
+barred-more ports i d port claims family low from n within at before here =
+    before-more (λ m. is_barred (take (i + 1) ports) claims (address_of family m) ≡ true) low from n
+    (λ m first below. any-step (taken_at m) ports i d within ∙ or_left (is_barred (take i ports) claims (address_of family m)) (taken_at m (get_or ports i d) || false) (before m first below))
+    (λ m first below. any-step (taken_at m) ports i d within
+    ∙ or_right (is_barred (take i ports) claims (address_of family m)) (taken_at m (get_or ports i d) || false)
+    (or_left (taken_at m (get_or ports i d)) false (ap (taken_at m) at ∙ not-false (taken_at m port) (here m first below))))
+  where
+    taken_at : ℕ → Port → Bool
+    taken_at m q = is_taken (OfPort q) claims (address_of family m)
+
+-- those met so far are ports of the list
+pub barred-all : (ports : List Port) (i : ℕ) (claims : List ClaimValue) (family : Family) (low n : ℕ) → AreBarred (take i ports) claims family low n → AreBarred ports claims family low n
+barred-all ports i claims family low n barred m from below =
+    let port = any-found (λ port. is_taken (OfPort port) claims (address_of family m)) (take i ports) (barred m from below) in
+    any-contains (λ port. is_taken (OfPort port) claims (address_of family m)) ports port.0 (subst (λ (qs : List Port). Contains qs port.0) (take-append-drop i ports) (Contains-append_left (take i ports) (drop i ports) port.0 port.1)) port.2
+
+none_left : (claims : List ClaimValue) (key : Key) (terms : Terms) (pool : CompiledPool) (family : Family) (m : ℕ) → is_barred terms.ports claims (address_of family m) ≡ true → NoneUsable claims key terms pool family m
+none_left claims key terms pool family m barred = λ offered.
+    barred-unusable claims key terms pool (address_of family m) barred
+    (not-true (is_own key claims (address_of family m)) (and_parts (is_shared terms.key claims (address_of family m)) (not (is_own key claims (address_of family m))) offered).1)
+
+-- the same of the claims and the ports of a walk
+pub none-shared_in : (found_in claims : List ClaimValue) (family : Family) (key : List ℕ) (low high : ℕ) → found_in ≡ claims → NoneShared family key found_in low high → NoneShared family key claims low high
+none-shared_in found_in claims family key low high is none = subst (λ (cs : List ClaimValue). NoneShared family key cs low high) is none
+
+pub barred-in : (ports_in ports : List Port) (found_in claims : List ClaimValue) (family : Family) (low high : ℕ) → ports_in ≡ ports → found_in ≡ claims → AreBarred ports_in found_in family low high → AreBarred ports claims family low high
+barred-in ports_in ports found_in claims family low high are is barred =
+    subst (λ (qs : List Port). AreBarred qs claims family low high) are (subst (λ (cs : List ClaimValue). AreBarred ports_in cs family low high) is barred)
+
+-- none up to the next shared one, and from there none up to the next one that is left for the ports
 pub shared-more : (claims : List ClaimValue) (key : Key) (terms : Terms) (pool : CompiledPool) (family : Family) (low from n : ℕ) → ((m : ℕ) → low ≤ m → m < from → NoneUsable claims key terms pool family m)
     → NoneShared family terms.key claims from n → (m : ℕ) → low ≤ m → m < n → NoneUsable claims key terms pool family m
 shared-more claims key terms pool family low from n before here =
     before-more (NoneUsable claims key terms pool family) low from n before (λ m first below. none_shared claims key terms pool family m (here m first below))
 
-pub shared-next : (claims : List ClaimValue) (key : Key) (terms : Terms) (pool : CompiledPool) (family : Family) (low from n : ℕ) → ((m : ℕ) → low ≤ m → m < from → NoneUsable claims key terms pool family m)
-    → NoneShared family terms.key claims from n → usable claims key terms pool (address_of family n) ≡ false → (m : ℕ) → low ≤ m → m < n + 1 → NoneUsable claims key terms pool family m
-shared-next claims key terms pool family low from n before here fails =
-    before-next (NoneUsable claims key terms pool family) low from n before (λ m first below. none_shared claims key terms pool family m (here m first below)) (λ shared. fails)
+pub left-more : (claims : List ClaimValue) (key : Key) (terms : Terms) (pool : CompiledPool) (family : Family) (low from shared n : ℕ) → ((m : ℕ) → low ≤ m → m < from → NoneUsable claims key terms pool family m)
+    → NoneShared family terms.key claims from shared → AreBarred terms.ports claims family shared n → (m : ℕ) → low ≤ m → m < n → NoneUsable claims key terms pool family m
+left-more claims key terms pool family low from shared n before here barred =
+    before-more (NoneUsable claims key terms pool family) low shared n (shared-more claims key terms pool family low from shared before here)
+    (λ m first below. none_left claims key terms pool family m (barred m first below))
+
+pub left-next : (claims : List ClaimValue) (key : Key) (terms : Terms) (pool : CompiledPool) (family : Family) (low from shared n : ℕ) → ((m : ℕ) → low ≤ m → m < from → NoneUsable claims key terms pool family m)
+    → NoneShared family terms.key claims from shared → AreBarred terms.ports claims family shared n → usable claims key terms pool (address_of family n) ≡ false
+    → (m : ℕ) → low ≤ m → m < n + 1 → NoneUsable claims key terms pool family m
+left-next claims key terms pool family low from shared n before here barred fails =
+    before-next (NoneUsable claims key terms pool family) low shared n (shared-more claims key terms pool family low from shared before here)
+    (λ m first below. none_left claims key terms pool family m (barred m first below)) (λ offered. fails)
 
 -- the same over the values of a walk
 pub least-number : (found_in claims : List ClaimValue) (key : Key) (terms : Terms) (pool : CompiledPool) (span : SpanValue) (family : Family) (low high last later : ℕ) (free own shared either found : Option ℕ)
@@ -450,12 +513,12 @@ pub least-number : (found_in claims : List ClaimValue) (key : Key) (terms : Term
     → IfSome free (IsLeastIn (numbered (is_free found_in pool) family) low high)
     → IfNone free (NonePasses (numbered (is_free found_in pool) family) low high)
     → Covers (numbered (is_own key claims) family) (numbered (usable claims key terms pool) family) low last own
-    → Covers (numbered (is_shared terms.key claims) family) (numbered (usable claims key terms pool) family) low later shared
+    → Covers (numbered (is_offered key terms.key claims) family) (numbered (usable claims key terms pool) family) low later shared
     → least_between (numbered (usable claims key terms pool) family) span.low (span.high + 1 - span.low) ≡ found
 least-number found_in claims key terms pool span family low high last later free own shared either found are low_is high_is last_is later_is either_is found_is listed same some none owned others =
     let test = numbered (usable claims key terms pool) family in
     let O = numbered (is_own key claims) family in
-    let S = numbered (is_shared terms.key claims) family in
+    let S = numbered (is_offered key terms.key claims) family in
     let some_here =
     subst (λ (h : ℕ). IfSome free (IsLeastIn (numbered (is_free claims pool) family) span.low h)) high_is
     (subst (λ (l : ℕ). IfSome free (IsLeastIn (numbered (is_free claims pool) family) l high)) low_is

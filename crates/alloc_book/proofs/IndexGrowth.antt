@@ -27,76 +27,100 @@ use Rattle.sharing_terms.specs.declared.terms.Terms.{Terms}
 use Rattle.sharing_terms.specs.Spelled.{recorded_terms}
 use Rattle.alloc_book.specs.Book.{AreAssigned, HasRoomFor}
 use Rattle.alloc_book.specs.Claims.{ClaimValue}
-use Rattle.alloc_book.specs.Holders.{AddressHoldersValue, HasRoomAt, AreKnown, claims_having, claim_room, address_room, is_known}
-use Rattle.alloc_book.specs.Index.{IsIndexed, AreShared, numbers_of, numbers_at, numbered_at, is_marked, is_shared}
+use Rattle.alloc_book.specs.declared.slot.Slot.{Slot}
+use Rattle.alloc_book.specs.declared.slot.Slot.TheVariants.{Any, OfPort}
+use Rattle.alloc_book.specs.Slots.{occupies, same_slot}
+use Rattle.alloc_book.specs.Alike.{are_alike}
+use Rattle.alloc_book.specs.Holders.{AddressHoldersValue, ClaimantsValue, HasRoomAt, CanBeMixed, AreKnown, in_slot, claims_at, claim_room_at, claims_having, claim_room, address_room, is_known, mixed_of, is_mixed, mixed_room}
+use Rattle.number_sets.specs.Runs.{RunsValue, has}
+use Rattle.alloc_book.proofs.UniformLaws.{uniform-kept, uniform-added}
+use Rattle.alloc_book.specs.Index.{IsIndexed, AreShared, numbers_of, numbers_at, numbered_at, is_marked, is_shared, HasIt, AreUniform}
 
 -- ---- room at addresses
-pub room-none : (h : AddressHoldersValue) (more : ℕ) → HasRoomAt h more []
-room-none h more = record { by_claims = λ a none. absurd (contains-none a none); by_family = λ a none. absurd (contains-none a none) }
+pub room-none : (h : AddressHoldersValue) (more : ℕ) (slot : Slot) → HasRoomAt h more slot []
+room-none h more slot = record { by_claims = λ a none. absurd (contains-none a none); by_family = λ a none. absurd (contains-none a none) }
 
-taken-more : (addresses : List AddressValue) (i : ℕ) (x : AddressValue) → i < length addresses → x ≡ get_or addresses i x → take (i + 1) addresses ≡ take i addresses ++ x ∷ []
+pub taken-more : (addresses : List AddressValue) (i : ℕ) (x : AddressValue) → i < length addresses → x ≡ get_or addresses i x → take (i + 1) addresses ≡ take i addresses ++ x ∷ []
 taken-more addresses i x within is = ap (λ n. take n addresses) (add-one i) ∙ take-suc addresses i x within ∙ ap (λ y. take i addresses ++ y ∷ []) (sym is)
 
-rest-of : (addresses : List AddressValue) (i : ℕ) (x : AddressValue) → i < length addresses → x ≡ get_or addresses i x → drop i addresses ≡ x ∷ drop (i + 1) addresses
+pub rest-of : (addresses : List AddressValue) (i : ℕ) (x : AddressValue) → i < length addresses → x ≡ get_or addresses i x → drop i addresses ≡ x ∷ drop (i + 1) addresses
 rest-of addresses i x within is = drop-cons addresses i x within ∙ ap (λ y. y ∷ drop (suc i) addresses) (sym is) ∙ ap (λ n. x ∷ drop n addresses) (sym (add-one i))
 
 -- one address more has room, and those before keep theirs
-pub room-more : (before after : AddressHoldersValue) (more : ℕ) (addresses : List AddressValue) (i : ℕ) (x : AddressValue)
-    → i < length addresses → x ≡ get_or addresses i x → HasRoomAt before more (take i addresses)
-    → ((a : AddressValue) → claim_room before a ≤ claim_room after a) → ((family : Family) → address_room before family ≤ address_room after family)
-    → more ≤ claim_room after x → more ≤ address_room after x.family → HasRoomAt after more (take (i + 1) addresses)
-room-more before after more addresses i x within is room claims families claim family =
-    subst (HasRoomAt after more) (sym (taken-more addresses i x within is)) (record {
+pub room-more : (before after : AddressHoldersValue) (more : ℕ) (slot : Slot) (addresses : List AddressValue) (i : ℕ) (x : AddressValue)
+    → i < length addresses → x ≡ get_or addresses i x → HasRoomAt before more slot (take i addresses)
+    → ((a : AddressValue) → claim_room before slot a ≤ claim_room after slot a) → ((family : Family) → address_room before slot family ≤ address_room after slot family)
+    → more ≤ claim_room after slot x → more ≤ address_room after slot x.family → HasRoomAt after more slot (take (i + 1) addresses)
+room-more before after more slot addresses i x within is room claims families claim family =
+    subst (HasRoomAt after more slot) (sym (taken-more addresses i x within is)) (record {
       by_claims = λ a there. ⊎_elim
           (λ old. omega (arith, room.by_claims a old, claims a))
-          (λ same. subst (λ y. more ≤ claim_room after y) same claim)
+          (λ same. subst (λ y. more ≤ claim_room after slot y) same claim)
           (Contains-push_cases (take i addresses) x a there);
       by_family = λ a there. ⊎_elim
           (λ old. omega (arith, room.by_family a old, families a.family))
-          (λ same. subst (λ (y : AddressValue). more ≤ address_room after y.family) same family)
+          (λ same. subst (λ (y : AddressValue). more ≤ address_room after slot y.family) same family)
           (Contains-push_cases (take i addresses) x a there);
     })
 
 -- the same room
-pub room-same : (before after : AddressHoldersValue) (more : ℕ) (addresses : List AddressValue)
-    → claim_room after ≡ claim_room before → address_room after ≡ address_room before → HasRoomAt before more addresses → HasRoomAt after more addresses
-room-same before after more addresses claims families room = record {
-  by_claims = λ a there. subst (λ (f : AddressValue → ℕ). more ≤ f a) (sym claims) (room.by_claims a there);
-  by_family = λ a there. subst (λ (f : Family → ℕ). more ≤ f a.family) (sym families) (room.by_family a there);
+pub room-same : (before after : AddressHoldersValue) (more : ℕ) (slot : Slot) (addresses : List AddressValue) → in_slot after slot ≡ in_slot before slot → HasRoomAt before more slot addresses → HasRoomAt after more slot addresses
+room-same before after more slot addresses same room = record {
+  by_claims = λ a there. subst (λ (f : Family → ClaimantsValue). more ≤ claim_room_at (f a.family) a.number) (sym same) (room.by_claims a there);
+  by_family = λ a there. subst (λ (f : Family → ClaimantsValue). more ≤ (f a.family).room) (sym same) (room.by_family a there);
 }
 
 -- there is room for the claim, where each of its addresses is known by the sharing key of its terms
-pub room-claim : (room : ℕ) (keys : IndexValue Key) (before after : AddressHoldersValue) (c : ClaimValue) (key : Key) (terms : Terms) (addresses shown : List AddressValue)
+pub room-claim : (room : ℕ) (keys : IndexValue Key) (before after : AddressHoldersValue) (c : ClaimValue) (key : Key)
     → 0 < room → 1 ≤ room_under key_cmp keys key → key ≡ c.key
-    → HasRoomAt before (length addresses) addresses → addresses ≡ c.holding.addresses → claim_room after ≡ claim_room before → address_room after ≡ address_room before
-    → Some terms ≡ recorded_terms c.holding.mark → (terms.key ≢ [] → (a : AddressValue) → Contains shown a → is_known after terms.key a ≡ true) → shown ≡ c.holding.addresses
+    → ((slot : Slot) → occupies slot c ≡ true → HasRoomAt before (length c.holding.addresses) slot c.holding.addresses)
+    → CanBeMixed before (length c.holding.addresses) c.holding.addresses
+    → in_slot after ≡ in_slot before → mixed_of after ≡ mixed_of before
+    → AreKnown after (recorded_terms c.holding.mark) c.holding.addresses
     → HasRoomFor (record { claims = room; keys = keys; holders = after }) c
-room-claim room keys before after c key terms addresses shown claim under same at is claims families marked known shown_is = record {
+room-claim room keys before after c key claim under same at mixed slots mixed_is known = record {
   claim = claim;
   key = subst (λ (k : Key). 0 < room_under key_cmp keys k) same (omega (arith, under));
-  addresses = subst (λ (xs : List AddressValue). HasRoomAt after (length xs) xs) is (room-same before after (length addresses) addresses claims families at);
-  known = λ t t_is given a there.
-      let one : terms ≡ t = ap (λ (o : Option Terms). unwrap_or o terms) (marked ∙ t_is) in
-      subst (λ (x : Terms). is_known after x.key a ≡ true) one
-      (known (subst (λ (x : Terms). x.key ≢ []) (sym one) given) a (subst (λ (xs : List AddressValue). Contains xs a) (sym shown_is) there));
+  addresses = λ slot occupied. room-same before after (length c.holding.addresses) slot c.holding.addresses (ap (λ f. f slot) slots) (at slot occupied);
+  mixed = λ a there. subst (λ (f : Family → RunsValue). length c.holding.addresses ≤ (f a.family).room) (sym mixed_is) (mixed a there);
+  known = known;
 }
 
+-- each of the addresses is known by the sharing key of the terms
+pub known-claim : (h : AddressHoldersValue) (c : ClaimValue) (terms : Terms) (shown : List AddressValue)
+    → Some terms ≡ recorded_terms c.holding.mark → (terms.key ≢ [] → (a : AddressValue) → Contains shown a → is_known h terms.key a ≡ true) → shown ≡ c.holding.addresses
+    → AreKnown h (recorded_terms c.holding.mark) c.holding.addresses
+known-claim h c terms shown marked known shown_is = λ t t_is given a there.
+    let one : terms ≡ t = ap (λ (o : Option Terms). unwrap_or o terms) (marked ∙ t_is) in
+    subst (λ (x : Terms). is_known h x.key a ≡ true) one
+    (known (subst (λ (x : Terms). x.key ≢ []) (sym one) given) a (subst (λ (xs : List AddressValue). Contains xs a) (sym shown_is) there))
+
+-- one address more can be mixed, and those before keep their room
+pub mixed-more : (before after : AddressHoldersValue) (more : ℕ) (addresses : List AddressValue) (i : ℕ) (x : AddressValue)
+    → i < length addresses → x ≡ get_or addresses i x → CanBeMixed before more (take i addresses)
+    → ((family : Family) → mixed_room before family ≤ mixed_room after family) → more ≤ mixed_room after x.family → CanBeMixed after more (take (i + 1) addresses)
+mixed-more before after more addresses i x within is room kept here =
+    subst (CanBeMixed after more) (sym (taken-more addresses i x within is)) (λ a there. ⊎_elim
+    (λ old. omega (arith, room a old, kept a.family))
+    (λ same. subst (λ (y : AddressValue). more ≤ mixed_room after y.family) same here)
+    (Contains-push_cases (take i addresses) x a there))
+
 -- there is room for the first
-pub room-first : (h : AddressHoldersValue) (addresses : List AddressValue) (i : ℕ) (x : AddressValue)
-    → i < length addresses → x ≡ get_or addresses i x → HasRoomAt h (length (drop i addresses)) (drop i addresses)
-    → (0 < claim_room h x) × (0 < address_room h x.family)
-room-first h addresses i x within is room =
-    let here : HasRoomAt h (length (x ∷ drop (i + 1) addresses)) (x ∷ drop (i + 1) addresses) = subst (λ rest. HasRoomAt h (length rest) rest) (rest-of addresses i x within is) room in
+pub room-first : (h : AddressHoldersValue) (slot : Slot) (addresses : List AddressValue) (i : ℕ) (x : AddressValue)
+    → i < length addresses → x ≡ get_or addresses i x → HasRoomAt h (length (drop i addresses)) slot (drop i addresses)
+    → (0 < claim_room h slot x) × (0 < address_room h slot x.family)
+room-first h slot addresses i x within is room =
+    let here : HasRoomAt h (length (x ∷ drop (i + 1) addresses)) slot (x ∷ drop (i + 1) addresses) = subst (λ rest. HasRoomAt h (length rest) slot rest) (rest-of addresses i x within is) room in
     let first : Contains (x ∷ drop (i + 1) addresses) x = contains-first x (drop (i + 1) addresses) in
     (omega (arith, here.by_claims x first), omega (arith, here.by_family x first))
 
 -- and then for the rest
-pub room-rest : (before after : AddressHoldersValue) (addresses : List AddressValue) (i : ℕ) (x : AddressValue)
-    → i < length addresses → x ≡ get_or addresses i x → HasRoomAt before (length (drop i addresses)) (drop i addresses)
-    → ((a : AddressValue) → claim_room before a ≤ claim_room after a + 1) → ((family : Family) → address_room before family ≤ address_room after family + 1)
-    → HasRoomAt after (length (drop (i + 1) addresses)) (drop (i + 1) addresses)
-room-rest before after addresses i x within is room claims families =
-    let here : HasRoomAt before (length (x ∷ drop (i + 1) addresses)) (x ∷ drop (i + 1) addresses) = subst (λ rest. HasRoomAt before (length rest) rest) (rest-of addresses i x within is) room in
+pub room-rest : (before after : AddressHoldersValue) (slot : Slot) (addresses : List AddressValue) (i : ℕ) (x : AddressValue)
+    → i < length addresses → x ≡ get_or addresses i x → HasRoomAt before (length (drop i addresses)) slot (drop i addresses)
+    → ((a : AddressValue) → claim_room before slot a ≤ claim_room after slot a + 1) → ((family : Family) → address_room before slot family ≤ address_room after slot family + 1)
+    → HasRoomAt after (length (drop (i + 1) addresses)) slot (drop (i + 1) addresses)
+room-rest before after slot addresses i x within is room claims families =
+    let here : HasRoomAt before (length (x ∷ drop (i + 1) addresses)) slot (x ∷ drop (i + 1) addresses) = subst (λ rest. HasRoomAt before (length rest) slot rest) (rest-of addresses i x within is) room in
     record {
       by_claims = λ a there. omega (arith, here.by_claims a (contains-later x (drop (i + 1) addresses) a there), claims a);
       by_family = λ a there. omega (arith, here.by_family a (contains-later x (drop (i + 1) addresses) a there), families a.family);
@@ -160,28 +184,39 @@ listed-all before after number addresses i passed each = λ j a. sym (each a ∙
     none : (a : AddressValue) → after a ++ map (λ _. number) (filter (same_address a) (drop i addresses)) ≡ after a
     none a = ap (λ (list : List AddressValue). after a ++ map (λ _. number) (filter (same_address a) list)) (drop_of_length-le addresses passed) ∙ append-nil (after a)
 
+-- where the slots stay, or the mixed addresses, what is read of them stays
+pub same-claims : (before after : AddressHoldersValue) (slot : Slot) → in_slot after ≡ in_slot before → claims_having after slot ≡ claims_having before slot
+same-claims before after slot same = λ i a. claims_at (same i slot a.family) a.number
+
+pub same-mixing : (before after : AddressHoldersValue) → mixed_of after ≡ mixed_of before → is_mixed after ≡ is_mixed before
+same-mixing before after same = λ i a. has (same i a.family) a.number
+
 -- ---- the index
 pub indexed-none : (items : List (ℕ × ClaimValue)) (keys : IndexValue Key) (h : AddressHoldersValue)
-    → items ≡ [] → numbers_under key_cmp keys ≡ (λ key. []) → claims_having h ≡ (λ a. []) → IsIndexed items keys h
+    → items ≡ [] → numbers_under key_cmp keys ≡ (λ key. []) → ((slot : Slot) → claims_having h slot ≡ (λ a. [])) → IsIndexed items keys h
 indexed-none items keys h none no_keys no_holders =
     let empty : IsIndexed [] keys h = record {
       assigned = λ c there. absurd (contains-none c there);
       keys = no_keys;
       holders = no_holders;
       shared = λ key a e. absurd (true≢false (sym e));
+      uniform = λ a e p q has_p has_q apart. absurd (contains-none p has_p.0);
     } in
     subst (λ (list : List (ℕ × ClaimValue)). IsIndexed list keys h) (sym none) empty
 
 pub indexed-kept : (items more : List (ℕ × ClaimValue)) (keys keys_after : IndexValue Key) (h h_after : AddressHoldersValue)
-    → IsIndexed items keys h → more ≡ items → numbers_under key_cmp keys_after ≡ numbers_under key_cmp keys → claims_having h_after ≡ claims_having h
+    → IsIndexed items keys h → more ≡ items → numbers_under key_cmp keys_after ≡ numbers_under key_cmp keys
+    → ((slot : Slot) → claims_having h_after slot ≡ claims_having h slot)
     → ((key : List ℕ) (a : AddressValue) → is_known h key a ≡ true → is_known h_after key a ≡ true)
+    → is_mixed h_after ≡ is_mixed h
     → IsIndexed more keys_after h_after
-indexed-kept items more keys keys_after h h_after indexed same same_keys same_holders known =
+indexed-kept items more keys keys_after h h_after indexed same same_keys same_holders known same_mixed =
     let kept : IsIndexed items keys_after h_after = record {
       assigned = indexed.assigned;
       keys = same_keys ∙ indexed.keys;
-      holders = same_holders ∙ indexed.holders;
+      holders = λ slot. same_holders slot ∙ indexed.holders slot;
       shared = λ key a e. known key a (indexed.shared key a e);
+      uniform = uniform-kept items h h_after same_mixed indexed.uniform;
     } in
     subst (λ (list : List (ℕ × ClaimValue)). IsIndexed list keys_after h_after) (sym same) kept
 
@@ -205,11 +240,11 @@ numbers_of-added items number c key =
     ∙ map-append (λ (p : ℕ × ClaimValue). p.0) (filter test items) (filter test ((number, c) ∷ []))
     ∙ key-by (same_key c.key key) (numbers_of key items) number c
 
-numbers_at-added : (items : List (ℕ × ClaimValue)) (number : ℕ) (c : ClaimValue) (a : AddressValue)
-    → numbers_at a (items ++ (number, c) ∷ []) ≡ numbers_at a items ++ numbered_at a (number, c)
-numbers_at-added [] number c a = append-nil (numbered_at a (number, c))
-numbers_at-added (p ∷ items) number c a =
-    ap (λ ns. numbered_at a p ++ ns) (numbers_at-added items number c a) ∙ sym (append_assoc (numbered_at a p) (numbers_at a items) (numbered_at a (number, c)))
+numbers_at-added : (slot : Slot) (items : List (ℕ × ClaimValue)) (number : ℕ) (c : ClaimValue) (a : AddressValue)
+    → numbers_at slot a (items ++ (number, c) ∷ []) ≡ numbers_at slot a items ++ numbered_at slot a (number, c)
+numbers_at-added slot [] number c a = append-nil (numbered_at slot a (number, c))
+numbers_at-added slot (p ∷ items) number c a =
+    ap (λ ns. numbered_at slot a p ++ ns) (numbers_at-added slot items number c a) ∙ sym (append_assoc (numbered_at slot a p) (numbers_at slot a items) (numbered_at slot a (number, c)))
 
 not-nil : (key : List ℕ) → not (is_nil key) ≡ true → key ≡ [] → ⊥
 not-nil [] e none = true≢false (sym e)
@@ -230,15 +265,17 @@ or_one false e = e
 pub indexed-added : (items more : List (ℕ × ClaimValue)) (number : ℕ) (c : ClaimValue) (keys keys_after : IndexValue Key) (h h_after : AddressHoldersValue)
     → IsIndexed items keys h → more ≡ items ++ (number, c) ∷ [] → is_assigned c.holding ≡ true
     → numbers_under key_cmp keys_after ≡ (λ key. cond (is_at (key_cmp c.key) key) (numbers_under key_cmp keys key ++ number ∷ []) (numbers_under key_cmp keys key))
-    → claims_having h_after ≡ (λ a. claims_having h a ++ map (λ _. number) (filter (same_address a) c.holding.addresses))
+    → ((slot : Slot) → claims_having h_after slot ≡ (λ a. claims_having h slot a ++ numbered_at slot a (number, c)))
     → is_known h_after ≡ is_known h → AreKnown h (recorded_terms c.holding.mark) c.holding.addresses
+    → AreUniform h_after (items ++ (number, c) ∷ [])
     → IsIndexed more keys_after h_after
-indexed-added items more number c keys keys_after h h_after indexed is assigned adds_key adds_holders same_known known =
+indexed-added items more number c keys keys_after h h_after indexed is assigned adds_key adds_holders same_known known uniform =
     subst (λ (list : List (ℕ × ClaimValue)). IsIndexed list keys_after h_after) (sym is) (record {
       assigned = assigned_all;
       keys = adds_key ∙ (λ i key. key-at key i);
-      holders = adds_holders ∙ (λ i a. address-at a i);
+      holders = λ slot. adds_holders slot ∙ (λ i a. address-at slot a i);
       shared = shared_all;
+      uniform = uniform;
     })
   where
     values : values_of (items ++ (number, c) ∷ []) ≡ values_of items ++ c ∷ []
@@ -255,10 +292,10 @@ indexed-added items more number c keys keys_after h h_after indexed is assigned 
         ∙ ap (λ (f : Key → List ℕ). cond (same_key c.key key) (f key ++ number ∷ []) (f key)) indexed.keys
         ∙ sym (numbers_of-added items number c key)
 
-    address-at : (a : AddressValue) → claims_having h a ++ map (λ _. number) (filter (same_address a) c.holding.addresses) ≡ numbers_at a (items ++ (number, c) ∷ [])
-    address-at a =
-        ap (λ (f : AddressValue → List ℕ). f a ++ map (λ _. number) (filter (same_address a) c.holding.addresses)) indexed.holders
-        ∙ sym (numbers_at-added items number c a)
+    address-at : (slot : Slot) (a : AddressValue) → claims_having h slot a ++ numbered_at slot a (number, c) ≡ numbers_at slot a (items ++ (number, c) ∷ [])
+    address-at slot a =
+        ap (λ (f : AddressValue → List ℕ). f a ++ numbered_at slot a (number, c)) (indexed.holders slot)
+        ∙ sym (numbers_at-added slot items number c a)
 
     shared_all : AreShared h_after (values_of (items ++ (number, c) ∷ []))
     shared_all key a e =
@@ -284,14 +321,22 @@ pub not-lost : (items more : List (ℕ × ClaimValue)) (number : ℕ) (c : Claim
 not-lost items more number c is fresh none =
     let e : None ≡ Some c = none ∙ ap (λ (list : List (ℕ × ClaimValue)). lookup (λ n. n == number) list) is ∙ found-added items number c fresh in cc
 
--- the same, of a key and addresses that are the claim's
-pub indexed-pushed : (items more : List (ℕ × ClaimValue)) (number : ℕ) (c : ClaimValue) (key : Key) (addresses : List AddressValue) (keys keys_after : IndexValue Key) (h h_after : AddressHoldersValue)
-    → IsIndexed items keys h → more ≡ items ++ (number, c) ∷ [] → key ≡ c.key → addresses ≡ c.holding.addresses → is_assigned c.holding ≡ true
+-- the same, of a key and a claim that are found
+pub indexed-pushed : (items more : List (ℕ × ClaimValue)) (number : ℕ) (c found : ClaimValue) (key : Key) (keys keys_after : IndexValue Key) (h mixing h_after : AddressHoldersValue)
+    → IsIndexed items keys h → more ≡ items ++ (number, c) ∷ [] → key ≡ c.key → found ≡ c → is_assigned c.holding ≡ true
     → numbers_under key_cmp keys_after ≡ (λ k. cond (is_at (key_cmp key) k) (numbers_under key_cmp keys k ++ number ∷ []) (numbers_under key_cmp keys k))
-    → claims_having h_after ≡ (λ a. claims_having h a ++ map (λ _. number) (filter (same_address a) addresses))
-    → is_known h_after ≡ is_known h → AreKnown h (recorded_terms c.holding.mark) c.holding.addresses
+    → in_slot mixing ≡ in_slot h → is_known mixing ≡ is_known h
+    → ((slot : Slot) → claims_having h_after slot ≡ (λ a. claims_having mixing slot a ++ numbered_at slot a (number, found)))
+    → is_known h_after ≡ is_known mixing → AreKnown h (recorded_terms c.holding.mark) c.holding.addresses
+    → AreUniform mixing items → mixed_of h_after ≡ mixed_of mixing
+    → ((a : AddressValue) → Contains c.holding.addresses a → is_mixed mixing a ≡ false → (p : ℕ × ClaimValue) → HasIt items a p
+        → are_alike (recorded_terms p.1.holding.mark) (recorded_terms c.holding.mark) ≡ true)
     → IsIndexed more keys_after h_after
-indexed-pushed items more number c key addresses keys keys_after h h_after indexed is key_is addresses_are assigned adds_key adds_holders same_known known =
+indexed-pushed items more number c found key keys keys_after h mixing h_after indexed is key_is found_is assigned adds_key same_slots same_known adds_holders kept_known known uniform kept_mixed alike =
     let list_by : Key → Key → List ℕ = λ term k. cond (is_at (key_cmp term) k) (numbers_under key_cmp keys k ++ number ∷ []) (numbers_under key_cmp keys k) in
-    let list_at : List AddressValue → AddressValue → List ℕ = λ list a. claims_having h a ++ map (λ _. number) (filter (same_address a) list) in
-    indexed-added items more number c keys keys_after h h_after indexed is assigned (adds_key ∙ ap list_by key_is) (adds_holders ∙ ap list_at addresses_are) same_known known
+    let list_at : (slot : Slot) → claims_having mixing slot ≡ claims_having h slot = λ slot. ap (λ (f : Slot → Family → ClaimantsValue). λ (a : AddressValue). claims_at (f slot a.family) a.number) same_slots in
+    indexed-added items more number c keys keys_after h h_after indexed is assigned (adds_key ∙ ap list_by key_is)
+    (λ slot. adds_holders slot ∙ ap (λ (f : AddressValue → List ℕ). λ (a : AddressValue). f a ++ numbered_at slot a (number, found)) (list_at slot)
+    ∙ ap (λ (x : ClaimValue). λ (a : AddressValue). claims_having h slot a ++ numbered_at slot a (number, x)) found_is)
+    (kept_known ∙ same_known) known
+    (uniform-added items number c mixing h_after uniform kept_mixed alike)

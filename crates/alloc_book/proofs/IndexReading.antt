@@ -1,7 +1,7 @@
 -- What the claims under the numbers of a key or of an address say of all claims.
-use Rattle.std.proofs.Common.{◌≡◌, ℕ, ◌+◌, ◌<◌, ◌≤◌, ◌==◌, Bool, true, false, cond, not, ◌&&◌, ◌||◌, List, [], ◌∷◌, ◌++◌, map, filter, length, Option, Some, None, Less, IfSome, IfNone, refl, sym, ap, ◌∙◌, subst, arith}
+use Rattle.std.proofs.Common.{◌≡◌, ℕ, ◌+◌, ◌<◌, ◌≤◌, ◌==◌, Bool, true, false, cond, not, ◌&&◌, ◌||◌, List, [], ◌∷◌, ◌++◌, map, filter, length, Option, Some, None, Less, IfSome, IfNone, refl, sym, ap, ◌∙◌, subst, arith, ⊎_elim}
 use Rattle.std.specs.Bool.{MatchBool}
-use Rattle.std.specs.List.{AllByRecursion, AllWithin, HoldsAt, list_any, list_all}
+use Rattle.std.specs.List.{Contains, AllByRecursion, AllWithin, HoldsAt, list_any, list_all}
 use Rattle.std.specs.List.Sorted.{IsStrictlySortedBy}
 use Rattle.std.specs.Map.{lookup, keys_of, values_of}
 use Rattle.std.specs.Ordering.{nat_cmp}
@@ -13,13 +13,17 @@ use Rattle.kube_model.specs.declared.key.Key.{Key}
 use Rattle.kube_model.specs.declared.record.Record.{Record}
 use Rattle.kube_model.specs.Keys.{same_key}
 use Rattle.mlb_base.specs.Items.{is_nil}
+use Rattle.mlb_base.proofs.Among.{contains-none, contains-cons}
 use Rattle.number_sets.specs.Least.{IsLeastIn, NonePasses}
 use Rattle.sharing_terms.specs.declared.terms.Terms.{Terms}
 use Rattle.sharing_terms.specs.Spelled.{recorded_terms}
+use Rattle.alloc_book.specs.declared.slot.Slot.{Slot}
+use Rattle.alloc_book.specs.declared.slot.Slot.TheVariants.{Any}
+use Rattle.alloc_book.specs.Slots.{occupies}
 use Rattle.alloc_book.specs.Claims.{ClaimValue, has_claims, loses, claims_it}
 use Rattle.alloc_book.specs.Holders.{AddressHoldersValue, claims_having, is_known}
-use Rattle.alloc_book.specs.Index.{numbers_of, numbers_at, numbered_at, is_held, is_shared, AreShared, NoneShared}
-use Rattle.alloc_book.specs.Reading.{has_record, gives_way}
+use Rattle.alloc_book.specs.Index.{numbers_of, numbers_at, numbered_at, is_taken, is_shared, AreShared, NoneShared}
+use Rattle.alloc_book.specs.Reading.{has_record, gives_way, is_of, yields}
 use Rattle.alloc_book.specs.Search.{address_of, shares_by, leaves}
 
 -- ---- numbers and tests
@@ -29,7 +33,7 @@ below-apart n m less = grind (arith, nat_tests)
 itself : (n : ℕ) → (n == n) ≡ true
 itself n = grind (arith, nat_tests)
 
-or-true : (b : Bool) → (b || true) ≡ true
+pub or-true : (b : Bool) → (b || true) ≡ true
 or-true true = refl
 or-true false = refl
 
@@ -82,9 +86,14 @@ module _ (a : AddressValue) where
       nil-each-by (same_address a b) n b (filter (same_address a) addresses) rest (has_address addresses a || h) (nil-each n addresses rest h ih)
       ∙ or-behind (same_address a b) (has_address addresses a) h
 
-  pub nil-at : (items : List (ℕ × ClaimValue)) → is_nil (numbers_at a items) ≡ not (is_held (values_of items) a)
-  nil-at [] = refl
-  nil-at (p ∷ items) = nil-each p.0 p.1.holding.addresses (numbers_at a items) (is_held (values_of items) a) (nil-at items)
+  nil-listed : (occupied : Bool) (n : ℕ) (addresses : List AddressValue) (rest : List ℕ) (h : Bool) → is_nil rest ≡ not h
+      → is_nil (cond occupied (map (λ _. n) (filter (same_address a) addresses)) [] ++ rest) ≡ not (occupied && has_address addresses a || h)
+  nil-listed true n addresses rest h ih = nil-each n addresses rest h ih
+  nil-listed false n addresses rest h ih = ih
+
+  pub nil-at : (slot : Slot) (items : List (ℕ × ClaimValue)) → is_nil (numbers_at slot a items) ≡ not (is_taken slot (values_of items) a)
+  nil-at slot [] = refl
+  nil-at slot (p ∷ items) = nil-listed (occupies slot p.1) p.0 p.1.holding.addresses (numbers_at slot a items) (is_taken slot (values_of items) a) (nil-at slot items)
 
 -- ---- what is found under the numbers
 abbrev pub under : List (ℕ × ClaimValue) → ℕ → Option ClaimValue
@@ -122,6 +131,15 @@ module _ (passes : ClaimValue → Bool) where
   found : (numbers : List ℕ) (items : List (ℕ × ClaimValue)) → is_nil numbers ≡ not (list_any passes (values_of items)) → (is_nil numbers ≡ false → IsStrictlySortedBy nat_cmp (keys_of items)) → AreFound passes (under items) items
   found numbers items nil sorted = found-by (list_any passes (values_of items)) items refl (λ e. sorted (nil ∙ e))
 
+-- a claim is found by its number
+found-at : (find : ℕ → Option ClaimValue) (items : List (ℕ × ClaimValue)) (p : ℕ × ClaimValue) → AreFound (λ _. true) find items → Contains items p → find p.0 ≡ Some p.1
+found-at find [] p found there = absurd (contains-none p there)
+found-at find (q ∷ items) p found there =
+    ⊎_elim (λ (same : q ≡ p). subst (λ (r : ℕ × ClaimValue). find r.0 ≡ Some r.1) same (found.0 refl)) (λ later. found-at find items p found.1 later) (contains-cons q items p there)
+
+pub found-of : (items : List (ℕ × ClaimValue)) (p : ℕ × ClaimValue) → IsStrictlySortedBy nat_cmp (keys_of items) → Contains items p → under items p.0 ≡ Some p.1
+found-of items p sorted there = found-at (under items) items p (found-sorted (λ _. true) items sorted) there
+
 -- ---- a test over the numbers
 module _ (find : ℕ → Option ClaimValue) (test : Option ClaimValue → Bool) where
   any-of-by : (b : Bool) (p : ℕ × ClaimValue) (kept : List (ℕ × ClaimValue)) (rest : Bool) → (b ≡ true → find p.0 ≡ Some p.1) → list_any (λ n. test (find n)) (keys_of kept) ≡ rest
@@ -151,12 +169,17 @@ module _ (find : ℕ → Option ClaimValue) (test : Option ClaimValue → Bool) 
         (λ e. ap test (is (ap (λ x. x || has_address addresses a) e)))
         (all-each n c addresses rest (λ e. is (ap (λ x. same_address a b || x) e ∙ or-true (same_address a b))))
 
-    all-at : (items : List (ℕ × ClaimValue)) → AreFound (λ c. has_address c.holding.addresses a) find items
-        → list_all (λ n. test (find n)) (numbers_at a items) ≡ list_all (λ c. not (has_address c.holding.addresses a) || test (Some c)) (values_of items)
-    all-at [] found = refl
-    all-at (p ∷ items) found =
-        all-each p.0 p.1 p.1.holding.addresses (numbers_at a items) found.0
-        ∙ ap (λ x. (not (has_address p.1.holding.addresses a) || test (Some p.1)) && x) (all-at items found.1)
+    all-listed : (occupied : Bool) (n : ℕ) (c : ClaimValue) (addresses : List AddressValue) (rest : List ℕ) → (occupied && has_address addresses a ≡ true → find n ≡ Some c)
+        → list_all (λ n. test (find n)) (cond occupied (map (λ _. n) (filter (same_address a) addresses)) [] ++ rest) ≡ ((not (occupied && has_address addresses a) || test (Some c)) && list_all (λ n. test (find n)) rest)
+    all-listed true n c addresses rest is = all-each n c addresses rest is
+    all-listed false n c addresses rest is = refl
+
+    all-at : (slot : Slot) (items : List (ℕ × ClaimValue)) → AreFound (λ c. occupies slot c && has_address c.holding.addresses a) find items
+        → list_all (λ n. test (find n)) (numbers_at slot a items) ≡ list_all (λ c. not (occupies slot c && has_address c.holding.addresses a) || test (Some c)) (values_of items)
+    all-at slot [] found = refl
+    all-at slot (p ∷ items) found =
+        all-listed (occupies slot p.1) p.0 p.1 p.1.holding.addresses (numbers_at slot a items) found.0
+        ∙ ap (λ x. (not (occupies slot p.1 && has_address p.1.holding.addresses a) || test (Some p.1)) && x) (all-at slot items found.1)
 
 -- ---- what is asked of the claims of a key, and of those that have an address
 module _ (items : List (ℕ × ClaimValue)) (numbers : List ℕ) (sorted : is_nil numbers ≡ false → IsStrictlySortedBy nat_cmp (keys_of items)) where
@@ -172,11 +195,18 @@ module _ (items : List (ℕ × ClaimValue)) (numbers : List ℕ) (sorted : is_ni
     pub claims_it-is : (holding : Record) → list_any (λ n. has_record holding (under items n)) numbers ≡ claims_it key holding (values_of items)
     claims_it-is holding = any-is (has_record holding)
 
-  pub all_leave-is : (a : AddressValue) (key : Key) (terms : Terms) → numbers ≡ numbers_at a items → list_all (λ n. gives_way key terms (under items n)) numbers ≡ list_all (leaves key terms a) (values_of items)
-  all_leave-is a key terms are =
-      ap (list_all (λ n. gives_way key terms (under items n))) are
-      ∙ all-at (under items) (gives_way key terms) a items (found (λ c. has_address c.holding.addresses a) numbers items (ap is_nil are ∙ nil-at a items) sorted)
-      ∙ leaves-each (values_of items)
+  module _ (slot : Slot) (a : AddressValue) (are : numbers ≡ numbers_at slot a items) where
+    all-is : (test : Option ClaimValue → Bool) → list_all (λ n. test (under items n)) numbers ≡ list_all (λ c. not (occupies slot c && has_address c.holding.addresses a) || test (Some c)) (values_of items)
+    all-is test =
+        ap (list_all (λ n. test (under items n))) are
+        ∙ all-at (under items) test a slot items (found (λ c. occupies slot c && has_address c.holding.addresses a) numbers items (ap is_nil are ∙ nil-at a slot items) sorted)
+
+    -- each claim in the slot is of the key
+    pub yields-is : (key : Key) → list_all (λ n. is_of key (under items n)) numbers ≡ list_all (yields key slot a) (values_of items)
+    yields-is key = all-is (is_of key)
+
+  pub all_leave-is : (a : AddressValue) (key : Key) (terms : Terms) → numbers ≡ numbers_at Any a items → list_all (λ n. gives_way key terms (under items n)) numbers ≡ list_all (leaves key terms a) (values_of items)
+  all_leave-is a key terms are = all-is Any a are (gives_way key terms) ∙ leaves-each (values_of items)
     where
       leaves-each : (claims : List ClaimValue) → list_all (λ c. not (has_address c.holding.addresses a) || gives_way key terms (Some c)) claims ≡ list_all (leaves key terms a) claims
       leaves-each [] = refl
@@ -212,6 +242,6 @@ pub has_claims-is : (key : Key) (items : List (ℕ × ClaimValue)) (numbers : Li
 has_claims-is key items numbers are = ap not (empty-is numbers ∙ ap is_nil are ∙ nil-of key items) ∙ not-not (has_claims key (values_of items))
 
 -- ---- an address has no claim where it has no number
-pub unheld-is : (items : List (ℕ × ClaimValue)) (h : AddressHoldersValue) → claims_having h ≡ (λ a. numbers_at a items) → (family : Family)
-    → ◌≡◌ {A = ℕ → Bool} (λ m. is_nil (claims_having h (address_of family m))) (λ m. not (is_held (values_of items) (address_of family m)))
-unheld-is items h are family = λ i m. (ap (λ (f : AddressValue → List ℕ). is_nil (f (address_of family m))) are ∙ nil-at (address_of family m) items) i
+pub unheld-is : (items : List (ℕ × ClaimValue)) (h : AddressHoldersValue) (slot : Slot) → claims_having h slot ≡ (λ a. numbers_at slot a items) → (family : Family)
+    → ◌≡◌ {A = ℕ → Bool} (λ m. is_nil (claims_having h slot (address_of family m))) (λ m. not (is_taken slot (values_of items) (address_of family m)))
+unheld-is items h slot are family = λ i m. (ap (λ (f : AddressValue → List ℕ). is_nil (f (address_of family m))) are ∙ nil-at (address_of family m) slot items) i

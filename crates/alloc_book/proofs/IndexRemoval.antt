@@ -28,6 +28,9 @@ use Rattle.alloc_book.specs.Book.{AreAssigned}
 use Rattle.alloc_book.specs.Claims.{ClaimValue}
 use Rattle.alloc_book.specs.Holders.{AddressHoldersValue, claims_having, is_known}
 use Rattle.alloc_book.specs.Index.{numbers_of, numbered_at, numbers_at, is_marked, is_shared, AreShared, IsIndexed}
+use Rattle.alloc_book.specs.declared.slot.Slot.{Slot}
+use Rattle.alloc_book.specs.declared.slot.Slot.TheVariants.{Any}
+use Rattle.alloc_book.specs.Slots.{occupies}
 use Rattle.alloc_book.specs.Removal.{has_sharing_key, is_marked_at, all_but, left_at}
 
 -- ---- lists
@@ -37,7 +40,7 @@ module _ {X : Type 0} (test : X → Bool) where
   once-by false x rest e ih = ih
 
   -- filtering twice is filtering once
-  filter-once : (xs : List X) → filter test (filter test xs) ≡ filter test xs
+  pub filter-once : (xs : List X) → filter test (filter test xs) ≡ filter test xs
   filter-once [] = refl
   filter-once (x ∷ xs) = once-by (test x) x (filter test xs) refl (filter-once xs)
 
@@ -82,10 +85,10 @@ above n (q ∷ items) all p there =
 apart-by : (n m : ℕ) → nat_cmp n m ≡ Less → (n == m) ≡ false
 apart-by n m less = grind (arith, nat_tests)
 
-itself : (n : ℕ) → (n == n) ≡ true
+pub itself : (n : ℕ) → (n == n) ≡ true
 itself n = grind (arith, nat_tests)
 
-same-number : (n m : ℕ) → (n == m) ≡ true → n ≡ m
+pub same-number : (n m : ℕ) → (n == m) ≡ true → n ≡ m
 same-number n m e = grind (arith, nat_tests)
 
 -- each claim is found by its number
@@ -207,23 +210,32 @@ here-by true n m (x ∷ xs) e = rw e (here-by true n m xs e)
 here-by false n m [] e = refl
 here-by false n m (x ∷ xs) e = rw e (ap (λ (l : List ℕ). m ∷ l) (here-by false n m xs e))
 
-at-by : (b : Bool) (n : ℕ) (a : AddressValue) (p : ℕ × ClaimValue) (rest : List (ℕ × ClaimValue)) (numbers : List ℕ) → numbers_at a rest ≡ numbers
-    → numbers_at a (cond (not b) (p ∷ rest) rest) ≡ cond (not b) (numbered_at a p) [] ++ numbers
-at-by true n a p rest numbers ih = ih
-at-by false n a p rest numbers ih = ap (λ (l : List ℕ). numbered_at a p ++ l) ih
+at-by : (b : Bool) (n : ℕ) (slot : Slot) (a : AddressValue) (p : ℕ × ClaimValue) (rest : List (ℕ × ClaimValue)) (numbers : List ℕ) → numbers_at slot a rest ≡ numbers
+    → numbers_at slot a (cond (not b) (p ∷ rest) rest) ≡ cond (not b) (numbered_at slot a p) [] ++ numbers
+at-by true n slot a p rest numbers ih = ih
+at-by false n slot a p rest numbers ih = ap (λ (l : List ℕ). numbered_at slot a p ++ l) ih
 
-at-without : (n : ℕ) (items : List (ℕ × ClaimValue)) (a : AddressValue) → numbers_at a (without n items) ≡ all_but n (numbers_at a items)
-at-without n [] a = refl
-at-without n (p ∷ items) a =
-    at-by (p.0 == n) n a p (without n items) (all_but n (numbers_at a items)) (at-without n items a)
-    ∙ ap (λ (l : List ℕ). l ++ all_but n (numbers_at a items)) (sym (here-by (p.0 == n) n p.0 (filter (same_address a) p.1.holding.addresses) refl))
-    ∙ sym (filter-append (λ m. not (m == n)) (numbered_at a p) (numbers_at a items))
+-- the number of a claim is taken out of its list
+here-at : (occupied : Bool) (n m : ℕ) (xs : List AddressValue) → all_but n (cond occupied (map (λ _. m) xs) []) ≡ cond (not (m == n)) (cond occupied (map (λ _. m) xs) []) []
+here-at true n m xs = here-by (m == n) n m xs refl
+here-at false n m xs = nothing-left (not (m == n))
+  where
+    nothing-left : (b : Bool) → ◌≡◌ {A = List ℕ} [] (cond b [] [])
+    nothing-left true = refl
+    nothing-left false = refl
+
+at-without : (n : ℕ) (slot : Slot) (items : List (ℕ × ClaimValue)) (a : AddressValue) → numbers_at slot a (without n items) ≡ all_but n (numbers_at slot a items)
+at-without n slot [] a = refl
+at-without n slot (p ∷ items) a =
+    at-by (p.0 == n) n slot a p (without n items) (all_but n (numbers_at slot a items)) (at-without n slot items a)
+    ∙ ap (λ (l : List ℕ). l ++ all_but n (numbers_at slot a items)) (sym (here-at (occupies slot p.1) n p.0 (filter (same_address a) p.1.holding.addresses)))
+    ∙ sym (filter-append (λ m. not (m == n)) (numbered_at slot a p) (numbers_at slot a items))
 
 nothing-by : (b : Bool) (x : AddressValue) (rest : List AddressValue) → b ≡ false → rest ≡ [] → cond b (x ∷ rest) rest ≡ []
 nothing-by true x rest e ih = absurd (true≢false e)
 nothing-by false x rest e ih = ih
 
-or-none : (x y : Bool) → (x || y) ≡ false → (x ≡ false) × (y ≡ false)
+pub or-none : (x y : Bool) → (x || y) ≡ false → (x ≡ false) × (y ≡ false)
 or-none true y e = absurd (true≢false e)
 or-none false y e = (refl, e)
 
@@ -237,27 +249,42 @@ elsewhere-by : (b : Bool) (n m : ℕ) (xs : List AddressValue) → (m == n) ≡ 
 elsewhere-by true n m xs e none = rw (none refl) refl
 elsewhere-by false n m xs e none = here-by false n m xs e
 
--- no claim has the number at an address that the claim of the number doesn't have
-at-others : (n : ℕ) (c : ClaimValue) (items : List (ℕ × ClaimValue)) (a : AddressValue) → IsOnly n c items → has_address c.holding.addresses a ≡ false → all_but n (numbers_at a items) ≡ numbers_at a items
-at-others n c [] a only other = refl
-at-others n c (p ∷ items) a only other =
-    let here : all_but n (numbered_at a p) ≡ numbered_at a p =
-    elsewhere-by (p.0 == n) n p.0 (filter (same_address a) p.1.holding.addresses) refl
-    (λ same. nothing-at a p.1.holding.addresses (ap (λ (x : ClaimValue). has_address x.holding.addresses a) (only p (contains-first p items) same) ∙ other)) in
-    filter-append (λ m. not (m == n)) (numbered_at a p) (numbers_at a items)
-    ∙ ap (λ (l : List ℕ). l ++ all_but n (numbers_at a items)) here
-    ∙ ap (λ (l : List ℕ). numbered_at a p ++ l) (at-others n c items a (only-tail n c p items only) other)
+elsewhere-at : (occupied b : Bool) (n m : ℕ) (xs : List AddressValue) → (m == n) ≡ b → (b ≡ true → occupied ≡ true → xs ≡ []) → all_but n (cond occupied (map (λ _. m) xs) []) ≡ cond occupied (map (λ _. m) xs) []
+elsewhere-at true b n m xs e none = elsewhere-by b n m xs e (λ same. none same refl)
+elsewhere-at false b n m xs e none = refl
 
-at-left : (b : Bool) (n : ℕ) (c : ClaimValue) (items : List (ℕ × ClaimValue)) (a : AddressValue) → IsOnly n c items → has_address c.holding.addresses a ≡ b
-    → cond b (all_but n (numbers_at a items)) (numbers_at a items) ≡ numbers_at a (without n items)
-at-left true n c items a only e = sym (at-without n items a)
-at-left false n c items a only e = sym (at-without n items a ∙ at-others n c items a only e)
+-- no claim has the number in a slot at an address where the claim of the number isn't listed
+at-others : (n : ℕ) (slot : Slot) (c : ClaimValue) (items : List (ℕ × ClaimValue)) (a : AddressValue) → IsOnly n c items → (occupies slot c ≡ true → has_address c.holding.addresses a ≡ false)
+    → all_but n (numbers_at slot a items) ≡ numbers_at slot a items
+at-others n slot c [] a only other = refl
+at-others n slot c (p ∷ items) a only other =
+    let here : all_but n (numbered_at slot a p) ≡ numbered_at slot a p =
+    elsewhere-at (occupies slot p.1) (p.0 == n) n p.0 (filter (same_address a) p.1.holding.addresses) refl
+    (λ same occupied. let is : p.1 ≡ c = only p (contains-first p items) same in
+    nothing-at a p.1.holding.addresses (ap (λ (x : ClaimValue). has_address x.holding.addresses a) is ∙ other (ap (λ (x : ClaimValue). occupies slot x) (sym is) ∙ occupied))) in
+    filter-append (λ m. not (m == n)) (numbered_at slot a p) (numbers_at slot a items)
+    ∙ ap (λ (l : List ℕ). l ++ all_but n (numbers_at slot a items)) here
+    ∙ ap (λ (l : List ℕ). numbered_at slot a p ++ l) (at-others n slot c items a (only-tail n c p items only) other)
+
+at-left : (b : Bool) (n : ℕ) (slot : Slot) (c : ClaimValue) (items : List (ℕ × ClaimValue)) (a : AddressValue) → IsOnly n c items → has_address c.holding.addresses a ≡ b
+    → cond b (all_but n (numbers_at slot a items)) (numbers_at slot a items) ≡ numbers_at slot a (without n items)
+at-left true n slot c items a only e = sym (at-without n slot items a)
+at-left false n slot c items a only e = sym (at-without n slot items a ∙ at-others n slot c items a only (λ occupied. e))
+
+-- the numbers in a slot, by whether the claim was listed there
+slot-left : (b : Bool) (n : ℕ) (slot : Slot) (c : ClaimValue) (items : List (ℕ × ClaimValue)) → IsOnly n c items → occupies slot c ≡ b
+    → cond b (left_at n c.holding.addresses (λ a. numbers_at slot a items)) (λ a. numbers_at slot a items) ≡ (λ a. numbers_at slot a (without n items))
+slot-left true n slot c items only e = λ i a. at-left (has_address c.holding.addresses a) n slot c items a only refl i
+slot-left false n slot c items only e = λ i a. sym (at-without n slot items a ∙ at-others n slot c items a only (λ occupied. absurd (true≢false (sym occupied ∙ e)))) i
 
 holders-left : (n : ℕ) (c : ClaimValue) (items : List (ℕ × ClaimValue)) (before after : AddressHoldersValue) → IsOnly n c items
-    → claims_having before ≡ (λ a. numbers_at a items)
-    → claims_having after ≡ left_at n c.holding.addresses (claims_having before)
-    → claims_having after ≡ (λ a. numbers_at a (without n items))
-holders-left n c items before after only e change = change ∙ ap (left_at n c.holding.addresses) e ∙ (λ i a. at-left (has_address c.holding.addresses a) n c items a only refl i)
+    → ((slot : Slot) → claims_having before slot ≡ (λ a. numbers_at slot a items))
+    → ((slot : Slot) → claims_having after slot ≡ cond (occupies slot c) (left_at n c.holding.addresses (claims_having before slot)) (claims_having before slot))
+    → (slot : Slot) → claims_having after slot ≡ (λ a. numbers_at slot a (without n items))
+holders-left n c items before after only e change slot =
+    change slot
+    ∙ ap (λ (f : AddressValue → List ℕ). cond (occupies slot c) (left_at n c.holding.addresses f) f) (e slot)
+    ∙ slot-left (occupies slot c) n slot c items only refl
 
 -- ---- what isn't known by a sharing key any more
 marked-has : (key : List ℕ) (c : ClaimValue) → is_marked key (recorded_terms c.holding.mark) ≡ true → has_sharing_key key (recorded_terms c.holding.mark) ≡ true
@@ -273,25 +300,25 @@ named-by test true n x rest passes some = or_left (test n) (list_any test (map (
 named-by test false n x rest passes some = ⊎_elim (λ here. absurd (true≢false (sym here))) (λ later. later) some
 
 -- the number of a claim that has the address is one of the numbers at it
-named : (test : ℕ → Bool) (n : ℕ) (a : AddressValue) (xs : List AddressValue) → test n ≡ true → has_address xs a ≡ true → list_any test (map (λ _. n) (filter (same_address a) xs)) ≡ true
+pub named : (test : ℕ → Bool) (n : ℕ) (a : AddressValue) (xs : List AddressValue) → test n ≡ true → has_address xs a ≡ true → list_any test (map (λ _. n) (filter (same_address a) xs)) ≡ true
 named test n a [] passes e = absurd (true≢false (sym e))
 named test n a (x ∷ xs) passes e =
     named-by test (same_address a x) n x (filter (same_address a) xs) passes
     (⊎_elim (λ here. inl here) (λ later. inr (named test n a xs passes later)) (or_cases (same_address a x) (has_address xs a) e))
 
 marked-among : (key : List ℕ) (a : AddressValue) (items rest : List (ℕ × ClaimValue)) → ((p : ℕ × ClaimValue) → Contains rest p → lookup (λ n. n == p.0) items ≡ Some p.1)
-    → is_shared key (values_of rest) a ≡ true → list_any (is_marked_at key items) (numbers_at a rest) ≡ true
+    → is_shared key (values_of rest) a ≡ true → list_any (is_marked_at key items) (numbers_at Any a rest) ≡ true
 marked-among key a items [] found e = absurd (true≢false (sym e))
 marked-among key a items (p ∷ rest) found e =
-    list_any-append (is_marked_at key items) (numbered_at a p) (numbers_at a rest)
+    list_any-append (is_marked_at key items) (numbered_at Any a p) (numbers_at Any a rest)
     ∙ ⊎_elim
     (λ here.
     let parts = and_parts (is_marked key (recorded_terms p.1.holding.mark)) (has_address p.1.holding.addresses a) here in
     let marked : is_marked_at key items p.0 ≡ true =
     ap (λ (o : Option ClaimValue). has_sharing_key key (option_and_then (λ c. recorded_terms c.holding.mark) o)) (found p (contains-first p rest)) ∙ marked-has key p.1 parts.0 in
-    or_left (list_any (is_marked_at key items) (numbered_at a p)) (list_any (is_marked_at key items) (numbers_at a rest))
+    or_left (list_any (is_marked_at key items) (numbered_at Any a p)) (list_any (is_marked_at key items) (numbers_at Any a rest))
     (named (is_marked_at key items) p.0 a p.1.holding.addresses marked parts.1))
-    (λ later. or_right (list_any (is_marked_at key items) (numbered_at a p)) (list_any (is_marked_at key items) (numbers_at a rest))
+    (λ later. or_right (list_any (is_marked_at key items) (numbered_at Any a p)) (list_any (is_marked_at key items) (numbers_at Any a rest))
     (marked-among key a items rest (λ q there. found q (contains-later p rest q there)) later))
     (or_cases (is_marked key (recorded_terms p.1.holding.mark) && has_address p.1.holding.addresses a) (is_shared key (values_of rest) a) e)
 
@@ -300,7 +327,7 @@ unshared-by same here known apart e = rw apart e
 
 -- an address that no claim has under the key needn't be known by it
 pub unshared : (key : List ℕ) (address : AddressValue) (items : List (ℕ × ClaimValue)) (before after : AddressHoldersValue) → IsStrictlySortedBy nat_cmp (keys_of items)
-    → list_any (is_marked_at key items) (numbers_at address items) ≡ false
+    → list_any (is_marked_at key items) (numbers_at Any address items) ≡ false
     → is_known after ≡ (λ k a. not (bytes_eq key k && same_address address a) && is_known before k a)
     → AreShared before (values_of items) → AreShared after (values_of items)
 unshared key address items before after sorted none change known k a e =
@@ -355,13 +382,13 @@ module _ (n : ℕ) (items less : List (ℕ × ClaimValue)) (is : less ≡ withou
         (keys-left n c items before after only e
         (subst (λ (q : Key). numbers_under key_cmp after ≡ (λ k. cond (is_at (key_cmp q) k) (all_but n (numbers_under key_cmp before k)) (numbers_under key_cmp before k))) same change))
 
-    pub removed-holders : (addresses : List AddressValue) (before after : AddressHoldersValue) → addresses ≡ c.holding.addresses
-        → claims_having before ≡ (λ a. numbers_at a items)
-        → claims_having after ≡ left_at n addresses (claims_having before)
-        → claims_having after ≡ (λ a. numbers_at a less)
-    removed-holders addresses before after same e change =
-        subst (λ (l : List (ℕ × ClaimValue)). claims_having after ≡ (λ a. numbers_at a l)) (sym is)
-        (holders-left n c items before after only e (subst (λ (l : List AddressValue). claims_having after ≡ left_at n l (claims_having before)) same change))
+    pub removed-holders : (before after : AddressHoldersValue)
+        → ((slot : Slot) → claims_having before slot ≡ (λ a. numbers_at slot a items))
+        → ((slot : Slot) → claims_having after slot ≡ cond (occupies slot c) (left_at n c.holding.addresses (claims_having before slot)) (claims_having before slot))
+        → (slot : Slot) → claims_having after slot ≡ (λ a. numbers_at slot a less)
+    removed-holders before after e change =
+        subst (λ (l : List (ℕ × ClaimValue)). (slot : Slot) → claims_having after slot ≡ (λ a. numbers_at slot a l)) (sym is)
+        (holders-left n c items before after only e change)
 
 -- where no claim has the number all stays
 pub indexed-still : (n : ℕ) (items less : List (ℕ × ClaimValue)) (by_key : IndexValue Key) (h : AddressHoldersValue) → less ≡ without n items → None ≡ lookup (λ m. m == n) items → IsIndexed items by_key h → IsIndexed less by_key h

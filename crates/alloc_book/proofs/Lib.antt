@@ -4,11 +4,16 @@ pub mod Candidates
 pub mod ChooseLaws
 pub mod ChosenLaws
 pub mod ClaimLaws
+pub mod ClaimantLaws
+pub mod GrowthLaws
 pub mod HolderLaws
 pub mod IndexGrowth
 pub mod IndexReading
 pub mod IndexRemoval
 pub mod LeastLaws
+pub mod MixLaws
 pub mod PendingLaws
 pub mod SearchLaws
+pub mod SlotLaws
+pub mod UniformLaws
 pub mod UsableLaws

@@ -1,5 +1,5 @@
 -- The claims under their numbers, and by what each is found.
-use Rattle.std.specs.Prelude.{◌≡◌, ◌≢◌, ◌≤◌, ◌<◌, ℕ, Bool, true, false, ◌==◌, ◌&&◌, not, find, List, [], ◌∷◌, ◌++◌, map, filter, length, Option, Some, None}
+use Rattle.std.specs.Prelude.{◌≡◌, ◌≢◌, ◌≤◌, ◌<◌, ℕ, Bool, true, false, ◌==◌, ◌&&◌, not, if◌then◌else◌, find, List, [], ◌∷◌, ◌++◌, map, filter, length, Option, Some, None}
 use Rattle.std.specs.List.{Contains, list_any}
 use Rattle.std.specs.Map.{lookup, keys_of, values_of}
 use Rattle.std.specs.Option.{option_and_then}
@@ -15,8 +15,13 @@ use Rattle.numbered_items.specs.Index.{IndexValue, numbers_under}
 use Rattle.sharing_terms.specs.declared.terms.Terms.{Terms}
 use Rattle.sharing_terms.specs.Spelled.{recorded_terms}
 use Rattle.pool_config.specs.declared.compiled.CompiledPool.{CompiledPool}
+use Rattle.kube_model.specs.declared.port.Port.{Port}
+use Rattle.alloc_book.specs.declared.slot.Slot.{Slot}
+use Rattle.alloc_book.specs.declared.slot.Slot.TheVariants.{OfPort}
+use Rattle.alloc_book.specs.Alike.{are_alike}
+use Rattle.alloc_book.specs.Slots.{occupies}
 use Rattle.alloc_book.specs.Book.{AreAssigned, BookRoom}
-use Rattle.alloc_book.specs.Holders.{AddressHoldersValue, claims_having, is_known}
+use Rattle.alloc_book.specs.Holders.{AddressHoldersValue, claims_having, is_known, is_mixed}
 use Rattle.alloc_book.specs.Claims.{ClaimValue}
 use Rattle.alloc_book.specs.Search.{address_of}
 
@@ -32,14 +37,14 @@ first_but n numbers = find (λ m. not (m == n)) numbers
 abbrev pub first_other : ℕ → List (ℕ × ClaimValue) → Option ℕ
 first_other n items = option_and_then (λ c. first_but n (numbers_of c.key items)) (lookup (λ m. m == n) items)
 
--- the number of the claim, once for each time that the claim has the address
-abbrev pub numbered_at : AddressValue → ℕ × ClaimValue → List ℕ
-numbered_at a p = map (λ _. p.0) (filter (same_address a) p.1.holding.addresses)
+-- the number of the claim, where it is listed in the slot, once for each time that the claim has the address
+abbrev pub numbered_at : Slot → AddressValue → ℕ × ClaimValue → List ℕ
+numbered_at slot a p = if occupies slot p.1 then map (λ _. p.0) (filter (same_address a) p.1.holding.addresses) else []
 
--- the numbers of the claims that have the address
-abbrev pub numbers_at : AddressValue → List (ℕ × ClaimValue) → List ℕ
-numbers_at a [] = []
-numbers_at a (p ∷ items) = numbered_at a p ++ numbers_at a items
+-- the numbers of the claims in the slot that have the address
+abbrev pub numbers_at : Slot → AddressValue → List (ℕ × ClaimValue) → List ℕ
+numbers_at slot a [] = []
+numbers_at slot a (p ∷ items) = numbered_at slot a p ++ numbers_at slot a items
 
 -- the terms are those of this sharing key, which isn't empty
 abbrev pub is_marked : List ℕ → Option Terms → Bool
@@ -58,6 +63,18 @@ is_own key claims a = list_any (λ c. same_key c.key key && has_address c.holdin
 abbrev pub is_shared : List ℕ → List ClaimValue → AddressValue → Bool
 is_shared key claims a = list_any (λ c. is_marked key (recorded_terms c.holding.mark) && has_address c.holding.addresses a) claims
 
+-- a claim that is listed in the slot has the address
+abbrev pub is_taken : Slot → List ClaimValue → AddressValue → Bool
+is_taken slot claims a = list_any (λ c. occupies slot c && has_address c.holding.addresses a) claims
+
+-- a claim that has one of the ports has the address
+abbrev pub is_barred : List Port → List ClaimValue → AddressValue → Bool
+is_barred ports claims a = list_any (λ port. is_taken (OfPort port) claims a) ports
+
+-- a claim that is marked with this sharing key has the address, and none of the key does
+abbrev pub is_offered : Key → List ℕ → List ClaimValue → AddressValue → Bool
+is_offered key share claims a = is_shared share claims a && not (is_own key claims a)
+
 -- no claim has the address, and the pool doesn't avoid it
 abbrev pub is_free : List ClaimValue → CompiledPool → AddressValue → Bool
 is_free claims pool a = not (is_held claims a) && not (pool.avoid_buggy && is_buggy a)
@@ -71,16 +88,30 @@ Covers candidate test low high None = (m : ℕ) → low ≤ m → m ≤ high →
 abbrev pub AreShared : AddressHoldersValue → List ClaimValue → Type 0
 AreShared h claims = (key : List ℕ) (a : AddressValue) → is_shared key claims a ≡ true → is_known h key a ≡ true
 
+-- the claim of the number has the address
+abbrev pub HasIt : List (ℕ × ClaimValue) → AddressValue → ℕ × ClaimValue → Type 0
+HasIt items a p = Contains items p × Contains p.1.holding.addresses a
+
+-- the claims on an address that isn't mixed are alike; those on others may be too
+abbrev pub AreUniform : AddressHoldersValue → List (ℕ × ClaimValue) → Type 0
+AreUniform h items = (a : AddressValue) → is_mixed h a ≡ false → (p q : ℕ × ClaimValue) → HasIt items a p → HasIt items a q → p.0 ≢ q.0
+    → are_alike (recorded_terms p.1.holding.mark) (recorded_terms q.1.holding.mark) ≡ true
+
 -- The claims have addresses, and these are what each is found by.
 pub record IsIndexed (items : List (ℕ × ClaimValue)) (by_key : IndexValue Key) (h : AddressHoldersValue) : Type 0 where
   pub assigned : AreAssigned (values_of items)
   pub keys : numbers_under key_cmp by_key ≡ (λ key. numbers_of key items)
-  pub holders : claims_having h ≡ (λ a. numbers_at a items)
+  pub holders : (slot : Slot) → claims_having h slot ≡ (λ a. numbers_at slot a items)
   pub shared : AreShared h (values_of items)
+  pub uniform : AreUniform h items
 
 -- no address of the family that a claim has under the sharing key has a number from low on, below high
 abbrev pub NoneShared : Family → List ℕ → List ClaimValue → ℕ → ℕ → Type 0
 NoneShared family key claims low high = (n : ℕ) → low ≤ n → n < high → is_shared key claims (address_of family n) ≡ false
+
+-- each address of the family with a number from low on, below high, has a claim with one of the ports
+abbrev pub AreBarred : List Port → List ClaimValue → Family → ℕ → ℕ → Type 0
+AreBarred ports claims family low high = (n : ℕ) → low ≤ n → n < high → is_barred ports claims (address_of family n) ≡ true
 
 -- An index of claims as the book sees it.
 pub record ClaimIndexValue : Type 0 where

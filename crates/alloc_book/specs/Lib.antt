@@ -1,3 +1,4 @@
+pub mod Alike
 pub mod Asking
 pub mod Book
 pub mod Choose
@@ -12,4 +13,5 @@ pub mod Least
 pub mod Reading
 pub mod Removal
 pub mod Search
+pub mod Slots
 pub mod Usable

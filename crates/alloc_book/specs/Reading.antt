@@ -1,11 +1,14 @@
 -- What is asked of the claim under a number.
-use Rattle.std.specs.Prelude.{Bool, true, false, ◌||◌, Option, Some, None}
+use Rattle.std.specs.Prelude.{Bool, true, false, not, ◌&&◌, ◌||◌, Option, Some, None}
+use Rattle.ip_ranges.specs.Values.{AddressValue, has_address}
 use Rattle.kube_model.specs.declared.key.Key.{Key}
 use Rattle.kube_model.specs.declared.record.Record.{Record}
 use Rattle.kube_model.specs.Keys.{same_key}
 use Rattle.kube_model.specs.Records.{same_record}
 use Rattle.sharing_terms.specs.declared.terms.Terms.{Terms}
 use Rattle.sharing_terms.specs.Spelled.{recorded_terms}
+use Rattle.alloc_book.specs.declared.slot.Slot.{Slot}
+use Rattle.alloc_book.specs.Slots.{occupies}
 use Rattle.alloc_book.specs.Claims.{ClaimValue}
 use Rattle.alloc_book.specs.Search.{shares_by}
 
@@ -18,3 +21,12 @@ has_record holding (Some c) = same_record c.holding holding
 abbrev pub gives_way : Key → Terms → Option ClaimValue → Bool
 gives_way key terms None = true
 gives_way key terms (Some c) = same_key c.key key || shares_by terms (recorded_terms c.holding.mark)
+
+-- the claim, if there is one, is of the key
+abbrev pub is_of : Key → Option ClaimValue → Bool
+is_of key None = true
+is_of key (Some c) = same_key c.key key
+
+-- the claim isn't in the slot at the address, or it is of the key
+abbrev pub yields : Key → Slot → AddressValue → ClaimValue → Bool
+yields key slot a c = not (occupies slot c && has_address c.holding.addresses a) || same_key c.key key

@@ -1,10 +1,12 @@
 //! Claims.
 ghost use Rattle.std.specs.Prelude.{◌≡◌, IfOk};
 ghost use Rattle.std.specs.Option.{option_copied};
+ghost use Rattle.sharing_terms.specs.Ports.{AreAscending};
 ghost use Rattle.sharing_terms.specs.Spelled.{recorded_terms};
+ghost use Rattle.alloc_book.specs.Slots.{ports_of};
 
 use ip_ranges::Address;
-use kube_model::{Key, Record};
+use kube_model::{Key, Port, Record};
 use mlb_base::{NoMemory, TryCopy};
 use sharing_terms::{Terms, read_mark};
 use std::alloc::Global;
@@ -51,6 +53,17 @@ impl Claim {
         ensures { option_copied result ≡ recorded_terms self.now.holding.mark }
     {
         self.terms.as_ref()
+    }
+
+    /// The ports of the terms of the record's mark.
+    pub(crate) fn ports(&self) -> &[Port]
+        ensures listed { result.now ≡ ports_of self.now }
+        ensures ascending { AreAscending result.now }
+    {
+        match &self.terms {
+            Some(terms) => terms.ports.as_slice(),
+            None => &[],
+        }
     }
 
     /// The addresses that it has, or may have.

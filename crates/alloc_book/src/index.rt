@@ -1,26 +1,30 @@
 //! The claims under their numbers, and by what each is found.
-ghost use Rattle.std.specs.Prelude.{◌≡◌, ◌≢◌, ℕ, List, map, ◌≤◌, ◌<◌, ◌+◌, ◌^◌, ◌==◌, ◌∷◌, ◌++◌, [], true, not, nat_lt, filter, find, length, OnOk, IfSome, IfNone};
-ghost use Rattle.std.specs.List.{All, Contains, list_any, list_all};
+ghost use Rattle.std.specs.Prelude.{◌≡◌, ℕ, ◌≤◌, ◌<◌, ◌+◌, ◌^◌, ◌==◌, ◌∷◌, ◌++◌, [], true, not, nat_lt, filter, find, Some, IsTrue, OnOk, IfSome, IfNone};
+ghost use Rattle.std.specs.List.{All, list_all};
 ghost use Rattle.std.specs.List.Sorted.{IsStrictlySortedBy};
 ghost use Rattle.std.specs.Map.{lookup, keys_of, values_of};
 ghost use Rattle.std.specs.Option.{option_copied, option_map};
 ghost use Rattle.std.specs.Ordering.{nat_cmp};
-ghost use Rattle.ip_ranges.specs.Values.{AddressValue, same_address};
 ghost use Rattle.kube_model.specs.Records.{is_assigned};
+ghost use Rattle.sharing_terms.specs.Spelled.{recorded_terms};
+ghost use Rattle.alloc_book.specs.declared.slot.Slot.TheVariants.{OfPort};
+ghost use Rattle.alloc_book.specs.Alike.{are_alike};
 ghost use Rattle.alloc_book.specs.Book.{AreAssigned, HasRoomFor};
-ghost use Rattle.alloc_book.specs.Holders.{HasRoomAt, claims_having, claim_room, address_room, is_known};
 ghost use Rattle.alloc_book.specs.Claims.{ClaimValue, loses, claims_it, has_claims};
-ghost use Rattle.alloc_book.specs.Index.{numbers_of, numbers_at, first_but, first_other, is_held, AreShared, NoneShared};
-ghost use Rattle.alloc_book.specs.Reading.{has_record, gives_way};
-ghost use Rattle.alloc_book.specs.Removal.{is_marked_at, left_at};
+ghost use Rattle.alloc_book.specs.Index.{numbers_of, first_but, first_other, is_taken, HasIt, NoneShared};
+ghost use Rattle.alloc_book.specs.Reading.{has_record, gives_way, is_of, yields};
 ghost use Rattle.alloc_book.specs.Search.{address_of, shares_by, leaves};
 ghost use Rattle.number_sets.specs.Least.{IsLeastIn, NonePasses};
 
 use crate::address_holders::AddressHolders;
+use crate::alike::is_like_first;
 use crate::claims::Claim;
+use crate::growth::{add_claim, mix_each, reserve_claim, share_each};
+use crate::removal::{remove_claim, unmix_each, unshare_each};
+use crate::slot::Slot;
 use ip_ranges::{Address, Family};
 use kube_labels::Text;
-use kube_model::{Key, Record};
+use kube_model::{Key, Port, Record};
 use mlb_base::{NoMemory, TryCopy};
 use numbered_items::{InvertedIndex, NumberedList};
 use sharing_terms::{Terms, may_share};
@@ -67,7 +71,7 @@ impl ClaimIndex {
     {
         self.claims.reserve()?;
         self.by_key.reserve(claim.key().copy()?, 1)?;
-        reserve_each(&mut self.holders, claim.addresses())?;
+        reserve_claim(&mut self.holders, claim)?;
         let Some(terms) = claim.terms() else {
             return Ok(());
         };
@@ -82,10 +86,11 @@ impl ClaimIndex {
         ensures items { self.new.items ≡ self.old.items ++ (result, claim) ∷ [] }
         ensures fresh { All (λ p. p.0 < result) self.old.items }
     {
+        mix_each(&self.claims, &mut self.holders, &claim);
         let number = self.claims.push(claim);
         if let Some(claim) = self.claims.get(number) {
             self.by_key.add(claim.key(), number);
-            add_each(&mut self.holders, claim.addresses(), number);
+            add_claim(&mut self.holders, claim, number);
         }
         number
     }
@@ -98,7 +103,8 @@ impl ClaimIndex {
             return;
         };
         self.by_key.remove(claim.key(), number);
-        remove_each(&mut self.holders, claim.addresses(), number);
+        remove_claim(&mut self.holders, &claim, number);
+        unmix_each(&mut self.holders, claim.addresses());
         if let Some(terms) = claim.terms() {
             unshare_each(
                 &self.claims,
@@ -173,23 +179,70 @@ impl ClaimIndex {
         !self.by_key.numbers(key).is_empty()
     }
 
-    /// Whether each claim leaves the address to a service of this key and these terms.
+    /// Whether each claim leaves the address to a service of this key and these terms. Where the claims on the address are alike with
+    /// the terms, those with a port of the terms are asked alone.
     pub(crate) fn all_leave(&self, key: &Key, terms: &Terms, address: &Address) -> bool
+        ensures { result ≡ list_all (leaves key.now terms.now address.now) (values_of self.now.items) }
+    {
+        if self.are_like(terms, address) {
+            self.all_yield(key, terms.ports.as_slice(), address)
+        } else {
+            self.all_give_way(key, terms, address)
+        }
+    }
+
+    /// Whether the claims on the address are known to be alike with the terms.
+    fn are_like(&self, terms: &Terms, address: &Address) -> bool
+        ensures { IsTrue result → (p : ℕ × ClaimValue) → HasIt self.now.items address.now p
+            → are_alike (recorded_terms p.1.holding.mark) (Some terms.now) ≡ true }
+    {
+        let numbers = self.holders.numbers(Slot::Any, address);
+        !self.holders.is_mixed(address) && is_like_first(&self.claims, numbers, Some(terms))
+    }
+
+    /// Whether each claim that has the address and one of the ports is of the key.
+    fn all_yield(&self, key: &Key, ports: &[Port], address: &Address) -> bool
+        ensures { result ≡ list_all (λ port. list_all (yields key.now (OfPort port) address.now) (values_of self.now.items)) ports.now }
+    {
+        ports
+            .iter()
+            .all(|port| self.yields_slot(key, Slot::OfPort(*port), address))
+    }
+
+    /// Whether each claim in the slot that has the address is of the key.
+    fn yields_slot(&self, key: &Key, slot: Slot, address: &Address) -> bool
+        ensures { result ≡ list_all (yields key.now slot address.now) (values_of self.now.items) }
+    {
+        let claims = &self.claims;
+        self.holders
+            .numbers(slot, address)
+            .iter()
+            .all(|number| is_of(claims, *number, key))
+    }
+
+    /// The same as `all_leave`, by each claim on the address.
+    fn all_give_way(&self, key: &Key, terms: &Terms, address: &Address) -> bool
         ensures { result ≡ list_all (leaves key.now terms.now address.now) (values_of self.now.items) }
     {
         let claims = &self.claims;
         self.holders
-            .numbers(address)
+            .numbers(Slot::Any, address)
             .iter()
             .all(|number| gives_way(claims, *number, key, terms))
     }
 
-    /// The least number from low to high of an address of the family that no claim has.
-    pub(crate) fn first_unheld(&self, family: Family, low: u128, high: u128) -> Option<u128>
-        ensures some { IfSome result (λ n. IsLeastIn (λ m. not (is_held (values_of self.now.items) (address_of family m))) low high n) }
-        ensures none { IfNone result (NonePasses (λ m. not (is_held (values_of self.now.items) (address_of family m))) low high) }
+    /// The least number from low to high of an address of the family that no claim in the slot has.
+    pub(crate) fn first_unheld(
+        &self,
+        slot: Slot,
+        family: Family,
+        low: u128,
+        high: u128,
+    ) -> Option<u128>
+        ensures some { IfSome result (λ n. IsLeastIn (λ m. not (is_taken slot (values_of self.now.items) (address_of family m))) low high n) }
+        ensures none { IfNone result (NonePasses (λ m. not (is_taken slot (values_of self.now.items) (address_of family m))) low high) }
     {
-        self.holders.first_unheld(family, low, high)
+        self.holders.first_unheld(slot, family, low, high)
     }
 
     /// A number from low to high before which no address of the family has a claim under the sharing key; `None` where none up to
@@ -205,99 +258,6 @@ impl ClaimIndex {
         ensures none { IfNone result (NoneShared family key.now (values_of self.now.items) low (high + 1)) }
     {
         self.holders.first_shared(family, key, low, high)
-    }
-}
-
-/// Makes room for a claim that has the addresses.
-fn reserve_each(holders: &mut AddressHolders, addresses: &[Address]) -> Result<(), NoMemory>
-    ensures numbers { claims_having holders.new ≡ claims_having holders.old }
-    ensures room { OnOk result (HasRoomAt holders.new (length addresses.now) addresses.now) }
-    ensures shared { is_known holders.new ≡ is_known holders.old }
-{
-    for address in addresses {
-        holders.reserve(address, addresses.len())?;
-    }
-    Ok(())
-}
-
-/// The addresses are known by the sharing key, where it isn't empty.
-fn share_each(
-    holders: &mut AddressHolders,
-    key: &Text,
-    addresses: &[Address],
-) -> Result<(), NoMemory>
-    ensures numbers { claims_having holders.new ≡ claims_having holders.old }
-    ensures claims { claim_room holders.new ≡ claim_room holders.old }
-    ensures addresses { address_room holders.new ≡ address_room holders.old }
-    ensures kept { (k : List ℕ) (a : AddressValue) → is_known holders.old k a ≡ true → is_known holders.new k a ≡ true }
-    ensures known { OnOk result (key.now ≢ [] → (a : AddressValue) → Contains addresses.now a → is_known holders.new key.now a ≡ true) }
-{
-    if key.as_str().is_empty() {
-        return Ok(());
-    }
-    for address in addresses {
-        holders.share(key.copy()?, address)?;
-    }
-    Ok(())
-}
-
-/// The claim has the addresses. There is room for it, so it takes no memory.
-fn add_each(holders: &mut AddressHolders, addresses: &[Address], number: u64)
-    requires { HasRoomAt holders.old (length addresses.now) addresses.now }
-    ensures numbers { claims_having holders.new ≡ (λ a. claims_having holders.old a ++ map (λ _. number) (filter (same_address a) addresses.now)) }
-    ensures shared { is_known holders.new ≡ is_known holders.old }
-{
-    for address in addresses {
-        holders.add(address, number);
-    }
-}
-
-fn remove_each(holders: &mut AddressHolders, addresses: &[Address], number: u64)
-    ensures numbers { claims_having holders.new ≡ left_at number addresses.now (claims_having holders.old) }
-    ensures shared { is_known holders.new ≡ is_known holders.old }
-{
-    for address in addresses {
-        holders.remove(address, number);
-    }
-}
-
-/// Those of the addresses that no claim has any more under the sharing key aren't known by it.
-fn unshare_each(
-    claims: &NumberedList<Claim>,
-    holders: &mut AddressHolders,
-    key: &Text,
-    addresses: &[Address],
-)
-    requires ascending { IsStrictlySortedBy nat_cmp (keys_of claims.now.items) }
-    requires numbers { claims_having holders.old ≡ (λ a. numbers_at a claims.now.items) }
-    requires shared { AreShared holders.old (values_of claims.now.items) }
-    ensures numbers { claims_having holders.new ≡ claims_having holders.old }
-    ensures shared { AreShared holders.new (values_of claims.now.items) }
-{
-    for address in addresses {
-        if !is_shared_at(claims, holders.numbers(address), key) {
-            holders.unshare(key, address);
-        }
-    }
-}
-
-fn is_shared_at(claims: &NumberedList<Claim>, numbers: &[u64], key: &Text) -> bool
-    ensures { result ≡ list_any (is_marked_at key.now claims.now.items) numbers.now }
-{
-    numbers
-        .iter()
-        .any(|number| is_marked_with(claims, *number, key))
-}
-
-fn is_marked_with(claims: &NumberedList<Claim>, number: u64, key: &Text) -> bool
-    ensures { result ≡ is_marked_at key.now claims.now.items number }
-{
-    let Some(claim) = claims.get(number) else {
-        return false;
-    };
-    match claim.terms() {
-        Some(terms) => terms.key == *key,
-        None => false,
     }
 }
 
@@ -325,6 +285,16 @@ fn gives_way(claims: &NumberedList<Claim>, number: u64, key: &Key, terms: &Terms
         return true;
     };
     claim.key() == key || shares(terms, claim.terms())
+}
+
+fn is_of(claims: &NumberedList<Claim>, number: u64, key: &Key) -> bool
+    ensures value { result ≡ is_of key.now (lookup (λ n. n == number) claims.now.items) }
+    ensures ascending { IsStrictlySortedBy nat_cmp (keys_of claims.now.items) }
+{
+    match claims.get(number) {
+        Some(claim) => claim.key() == key,
+        None => true,
+    }
 }
 
 fn shares(terms: &Terms, held: Option<&Terms>) -> bool

@@ -2,16 +2,21 @@
 #![tactic(auto)]
 
 mod address_holders;
+mod alike;
 mod booking;
 mod choice;
 mod choosing;
+mod claimants;
 mod claims;
+mod growth;
 mod holders;
 mod index;
 mod laws;
 mod marked;
+mod removal;
 mod requests;
 mod search;
+mod slot;
 
 pub use booking::{Book, Listing};
 pub use choice::{Choice, Loss};

@@ -1,5 +1,5 @@
 //! The addresses that claims leave, and the least of them.
-ghost use Rattle.std.specs.Prelude.{◌≡◌, ◌<◌, ◌^◌, ◌↔◌, ◌&&◌, nat_le, IsTrue, IfOk, IfSome, IfNone, map, ◌+◌, ◌-◌};
+ghost use Rattle.std.specs.Prelude.{◌≡◌, ◌≤◌, ◌<◌, ◌^◌, ◌↔◌, ◌&&◌, nat_le, IsTrue, IfOk, IfSome, IfNone, map, ◌+◌, ◌-◌};
 ghost use Rattle.std.specs.Option.{option_map};
 ghost use Rattle.std.specs.List.{Contains};
 ghost use Rattle.std.specs.Map.{values_of};
@@ -7,7 +7,7 @@ ghost use Rattle.ip_ranges.specs.Values.{AddressValue, has_address, is_buggy, sa
 ghost use Rattle.sharing_terms.specs.declared.terms.Terms.{Terms};
 ghost use Rattle.sharing_terms.specs.Marks.{mark_of};
 ghost use Rattle.alloc_book.specs.Asking.{asking};
-ghost use Rattle.alloc_book.specs.Index.{is_own, is_shared, is_free, Covers};
+ghost use Rattle.alloc_book.specs.Index.{is_own, is_offered, is_free, AreBarred, Covers};
 ghost use Rattle.number_sets.specs.Least.{IsLeastIn, NonePasses};
 ghost use Rattle.alloc_book.specs.Search.{usable, address_of, numbered, least_between, least_in, least_usable, least_each, first_pool};
 ghost use Rattle.alloc_book.specs.Claims.{holders};
@@ -17,8 +17,9 @@ ghost use Rattle.alloc_book.specs.Usable.{is_in, IsUsable, IsUsableOf};
 use crate::booking::Book;
 use crate::index::ClaimIndex;
 use crate::marked::MarkedTerms;
+use crate::slot::Slot;
 use ip_ranges::{Address, AddressList, Family, Span, is_buggy};
-use kube_model::{Key, Record, Service};
+use kube_model::{Key, Port, Record, Service};
 use mlb_base::{NoMemory, TryCopy};
 use pool_config::CompiledPool;
 use sharing_terms::Terms;
@@ -81,7 +82,7 @@ fn first_free(
     ensures none { IfNone result (NonePasses (numbered (is_free (values_of index.now.items) pool.now) family) low high) }
 {
     let mut from = low;
-    while let Some(number) = index.first_unheld(family, from, high) {
+    while let Some(number) = index.first_unheld(Slot::Any, family, from, high) {
         if !is_avoided(pool, &Address { family, number }) {
             return Some(number);
         }
@@ -161,8 +162,28 @@ fn least_own(
     least
 }
 
-/// A number from low to high of an address that may be used, before which there is none that a claim has under the sharing key and
-/// that may be used.
+/// A number from low to high before which each address of the family has a claim with one of the ports; `None` where each up to
+/// high has. It takes the logarithm of the number of addresses for each port.
+fn first_left(
+    index: &ClaimIndex,
+    ports: &[Port],
+    family: Family,
+    low: u128,
+    high: u128,
+) -> Option<u128>
+    requires { low ≤ high }
+    ensures some { IfSome result (λ n. (low ≤ n) × (n ≤ high) × AreBarred ports.now (values_of index.now.items) family low n) }
+    ensures none { IfNone result (AreBarred ports.now (values_of index.now.items) family low (high + 1)) }
+{
+    let mut left = low;
+    for port in ports {
+        left = index.first_unheld(Slot::OfPort(*port), family, left, high)?;
+    }
+    Some(left)
+}
+
+/// A number from low to high of an address that may be used, before which there is none that may be used and that another key has
+/// under the sharing key. Addresses that have a claim with a port of the terms are passed over together.
 fn least_shared(
     book: &Book,
     pool: &CompiledPool,
@@ -173,14 +194,16 @@ fn least_shared(
     high: u128,
 ) -> Option<u128>
     requires { high < 2 ^ width_of family }
-    ensures { Covers (numbered (is_shared terms.now.key book.now.claims) family) (numbered (usable book.now.claims key.now terms.now pool.now) family) low high result }
+    ensures { Covers (numbered (is_offered key.now terms.now.key book.now.claims) family) (numbered (usable book.now.claims key.now terms.now pool.now) family) low high result }
 {
     if terms.key.as_str().is_empty() {
         return None;
     }
     let index = book.index();
+    let ports = terms.ports.as_slice();
     let mut from = low;
-    while let Some(number) = index.first_shared(family, &terms.key, from, high) {
+    while let Some(shared) = index.first_shared(family, &terms.key, from, high) {
+        let number = first_left(index, ports, family, shared, high)?;
         if may_use(book, pool, key, terms, &Address { family, number }) {
             return Some(number);
         }

@@ -1,45 +1,71 @@
-use Rattle.std.proofs.Common.{true, ◌≡◌, ◌+◌, sym, ◌∙◌, arith, eqb, length, subst, List}
-use Rattle.alloc_book.specs.Claims.{ClaimValue}
-use Rattle.alloc_book.specs.Index.{NoneShared}
+use Rattle.std.proofs.Common.{true, ◌≡◌, ◌+◌, sym, ◌∙◌, arith, eqb, length, subst, List, ℕ}
+use Rattle.std.proofs.lemmas.Bool.{and_parts}
+use Rattle.alloc_book.specs.Index.{is_shared}
 use Rattle.alloc_book.specs.Search.{address_of}
-use Rattle.alloc_book.proofs.Candidates.{shared-more, shared-next, no-key}
+use Rattle.alloc_book.proofs.Candidates.{none-shared_in, barred-in, shared-more, left-more, left-next, no-key}
 use Rattle.alloc_book.proofs.search.least_shared.Goals as goal
 
 pub returns-then-is_empty : goal.returns-then-is_empty
 returns-then-is_empty c =
-    let empty : eqb (length c.args.terms.now.key) 0 ≡ true = cc in
-    λ m from upto shared. absurd (no-key c.args.terms.now.key c.args.book.now.claims (address_of c.args.family m) empty shared)
+    let empty : eqb (length c.args.terms.now.key) 0 ≡ true =
+    subst (λ (key : List ℕ). eqb (length key) 0 ≡ true) c.as_str.ensures (sym c.is_empty.ensures ∙ c.if-is_empty.true) in
+    λ m from upto offered. absurd (no-key c.args.terms.now.key c.args.book.now.claims (address_of c.args.family m) empty
+    (and_parts (is_shared c.args.terms.now.key c.args.book.now.claims (address_of c.args.family m)) _ offered).0)
 
-pub loop-number-preserved : goal.loop-number-preserved
-loop-number-preserved c =
+pub first_left-requires : goal.first_left-requires
+first_left-requires c = c.in-Some.ensures.some.1
+
+-- none up to the number that is left
+pub returns-in_err-number : goal.returns-in_err-number
+returns-in_err-number c =
+    let claims = c.args.book.now.claims in
     let found = c.in-Some.ensures.some in
+    let none =
+    left-more claims c.args.key.now c.args.terms.now c.args.pool.now c.args.family c.args.low c.loop-shared.from c.in-Some.shared (c.args.high + 1) c.loop-shared.invariant.before
+    (none-shared_in _ claims c.args.family c.args.terms.now.key c.loop-shared.from c.in-Some.shared c.index-index.ensures.claims found.2)
+    (barred-in c.as_slice-ports.result.now c.args.terms.now.ports _ claims c.args.family c.in-Some.shared (c.args.high + 1) c.as_slice-ports.ensures.listed c.index-index.ensures.claims c.in_err-number.ensures.none) in
+    rw c.from_residual.ensures (λ m from upto. none m from (omega (arith, upto)))
+
+pub loop-shared-preserved : goal.loop-shared-preserved
+loop-shared-preserved c =
+    let claims = c.args.book.now.claims in
+    let found = c.in-Some.ensures.some in
+    let left = c.in_ok-number.ensures.some in
     record {
-      begun = omega (arith, found.0);
+      begun = omega (arith, c.loop-shared.invariant.begun, found.0, left.0);
       before =
-          shared-next c.args.book.now.claims c.args.key.now c.args.terms.now c.args.pool.now c.args.family c.args.low c.loop-number.from c.in-Some.number c.loop-number.invariant.before
-          (subst (λ (claims : List ClaimValue). NoneShared c.args.family c.args.terms.now.key claims c.loop-number.from c.in-Some.number) c.index-index.ensures.claims found.2)
+          left-next claims c.args.key.now c.args.terms.now c.args.pool.now c.args.family c.args.low c.loop-shared.from c.in-Some.shared c.in_ok-number.number c.loop-shared.invariant.before
+          (none-shared_in _ claims c.args.family c.args.terms.now.key c.loop-shared.from c.in-Some.shared c.index-index.ensures.claims found.2)
+          (barred-in c.as_slice-ports.result.now c.args.terms.now.ports _ claims c.args.family c.in-Some.shared c.in_ok-number.number c.as_slice-ports.ensures.listed c.index-index.ensures.claims left.2)
           (sym c.may_use.ensures ∙ c.if-may_use.false);
     }
 
 pub returns-then-may_use : goal.returns-then-may_use
 returns-then-may_use c =
+    let claims = c.args.book.now.claims in
     let found = c.in-Some.ensures.some in
-    let none = subst (λ (claims : List ClaimValue). NoneShared c.args.family c.args.terms.now.key claims c.loop-number.from c.in-Some.number) c.index-index.ensures.claims found.2 in (
-      omega (arith, c.loop-number.invariant.begun, found.0),
-      found.1,
-      sym c.may_use.ensures ∙ c.if-may_use.true,
-      shared-more c.args.book.now.claims c.args.key.now c.args.terms.now c.args.pool.now c.args.family c.args.low c.loop-number.from c.in-Some.number c.loop-number.invariant.before none,
-    )
+    let left = c.in_ok-number.ensures.some in
+    (omega (arith, c.loop-shared.invariant.begun, found.0, left.0), left.1, sym c.may_use.ensures ∙ c.if-may_use.true,
+    left-more claims c.args.key.now c.args.terms.now c.args.pool.now c.args.family c.args.low c.loop-shared.from c.in-Some.shared c.in_ok-number.number c.loop-shared.invariant.before
+    (none-shared_in _ claims c.args.family c.args.terms.now.key c.loop-shared.from c.in-Some.shared c.index-index.ensures.claims found.2)
+    (barred-in c.as_slice-ports.result.now c.args.terms.now.ports _ claims c.args.family c.in-Some.shared c.in_ok-number.number c.as_slice-ports.ensures.listed c.index-index.ensures.claims left.2))
 
 pub returns-then-number-high : goal.returns-then-number-high
-returns-then-number-high c = λ m from upto.
+returns-then-number-high c =
+    let claims = c.args.book.now.claims in
     let found = c.in-Some.ensures.some in
-    let last = c.if-number-high.true in
-    shared-next c.args.book.now.claims c.args.key.now c.args.terms.now c.args.pool.now c.args.family c.args.low c.loop-number.from c.in-Some.number c.loop-number.invariant.before
-    (subst (λ (claims : List ClaimValue). NoneShared c.args.family c.args.terms.now.key claims c.loop-number.from c.in-Some.number) c.index-index.ensures.claims found.2)
-    (sym c.may_use.ensures ∙ c.if-may_use.false) m from (omega (arith, upto, last))
+    let left = c.in_ok-number.ensures.some in
+    let last : c.in_ok-number.number ≡ c.args.high = c.if-number-high.true in
+    let none =
+    left-next claims c.args.key.now c.args.terms.now c.args.pool.now c.args.family c.args.low c.loop-shared.from c.in-Some.shared c.in_ok-number.number c.loop-shared.invariant.before
+    (none-shared_in _ claims c.args.family c.args.terms.now.key c.loop-shared.from c.in-Some.shared c.index-index.ensures.claims found.2)
+    (barred-in c.as_slice-ports.result.now c.args.terms.now.ports _ claims c.args.family c.in-Some.shared c.in_ok-number.number c.as_slice-ports.ensures.listed c.index-index.ensures.claims left.2)
+    (sym c.may_use.ensures ∙ c.if-may_use.false) in
+    λ m from upto. none m from (omega (arith, upto, last))
 
 pub returns : goal.returns
-returns c = λ m from upto.
-    shared-more c.args.book.now.claims c.args.key.now c.args.terms.now c.args.pool.now c.args.family c.args.low c.loop-number.from (c.args.high + 1) c.loop-number.invariant.before
-    (subst (λ (claims : List ClaimValue). NoneShared c.args.family c.args.terms.now.key claims c.loop-number.from (c.args.high + 1)) c.index-index.ensures.claims c.in_default.ensures.none) m from (omega (arith, upto))
+returns c =
+    let none =
+    shared-more c.args.book.now.claims c.args.key.now c.args.terms.now c.args.pool.now c.args.family c.args.low c.loop-shared.from (c.args.high + 1) c.loop-shared.invariant.before
+    (none-shared_in _ c.args.book.now.claims c.args.family c.args.terms.now.key c.loop-shared.from (c.args.high + 1) c.index-index.ensures.claims c.in_default.ensures.none) in
+    λ m from upto. none m from (omega (arith, upto))

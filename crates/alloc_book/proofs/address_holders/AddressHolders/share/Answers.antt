@@ -1,19 +1,19 @@
 use Rattle.std.proofs.Common.{◌||◌, refl}
 use Rattle.std.proofs.lemmas.Result.{on_ok_weaker, on_err_weaker}
-use Rattle.alloc_book.proofs.HolderLaws.{same-having, same-room, same-known, known-v4, known-v6}
+use Rattle.alloc_book.proofs.HolderLaws.{same-slots, same-known, same-mixed_of, known-v4, known-v6}
 use Rattle.alloc_book.proofs.address_holders.AddressHolders.share.Goals as goal
 
-pub returns-in-V4-clause-numbers : goal.returns-in-V4-clause-numbers
-returns-in-V4-clause-numbers c = rw (← c.self.view_is) (same-having c.self.inside.v4 c.self.inside.v6 c.share.new.self c.self.inside.v6 c.share.ensures.numbers refl)
+pub returns-in-V4-clause-slots : goal.returns-in-V4-clause-slots
+returns-in-V4-clause-slots c = rw (← c.self.view_is) (same-slots c.self.inside.v4 c.self.inside.v6 c.share.new.self c.self.inside.v6 c.share.ensures.slots refl)
 
-pub returns-in-V6-clause-numbers : goal.returns-in-V6-clause-numbers
-returns-in-V6-clause-numbers c = rw (← c.self.view_is) (same-having c.self.inside.v4 c.self.inside.v6 c.self.inside.v4 c.share-in-V6.new.self refl c.share-in-V6.ensures.numbers)
+pub returns-in-V6-clause-slots : goal.returns-in-V6-clause-slots
+returns-in-V6-clause-slots c = rw (← c.self.view_is) (same-slots c.self.inside.v4 c.self.inside.v6 c.self.inside.v4 c.share-in-V6.new.self refl c.share-in-V6.ensures.slots)
 
-pub returns-in-V4-clause-claims : goal.returns-in-V4-clause-claims
-returns-in-V4-clause-claims c = rw (← c.self.view_is) (same-room c.self.inside.v4 c.self.inside.v6 c.share.new.self c.self.inside.v6 c.share.ensures.claims refl)
+pub returns-in-V4-clause-mixed : goal.returns-in-V4-clause-mixed
+returns-in-V4-clause-mixed c = rw (← c.self.view_is) (same-mixed_of c.self.inside.v4 c.self.inside.v6 c.share.new.self c.self.inside.v6 c.share.ensures.mixed refl)
 
-pub returns-in-V6-clause-claims : goal.returns-in-V6-clause-claims
-returns-in-V6-clause-claims c = rw (← c.self.view_is) (same-room c.self.inside.v4 c.self.inside.v6 c.self.inside.v4 c.share-in-V6.new.self refl c.share-in-V6.ensures.claims)
+pub returns-in-V6-clause-mixed : goal.returns-in-V6-clause-mixed
+returns-in-V6-clause-mixed c = rw (← c.self.view_is) (same-mixed_of c.self.inside.v4 c.self.inside.v6 c.self.inside.v4 c.share-in-V6.new.self refl c.share-in-V6.ensures.mixed)
 
 pub returns-in-V4-clause-ok : goal.returns-in-V4-clause-ok
 returns-in-V4-clause-ok c =

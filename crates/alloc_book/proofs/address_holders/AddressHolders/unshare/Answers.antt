@@ -1,12 +1,18 @@
 use Rattle.std.proofs.Common.{not, ◌&&◌, refl}
-use Rattle.alloc_book.proofs.HolderLaws.{same-having, known-v4, known-v6}
+use Rattle.alloc_book.proofs.HolderLaws.{same-slots, same-mixed_of, known-v4, known-v6}
 use Rattle.alloc_book.proofs.address_holders.AddressHolders.unshare.Goals as goal
 
-pub returns-in-V4-clause-numbers : goal.returns-in-V4-clause-numbers
-returns-in-V4-clause-numbers c = rw (← c.self.view_is) (same-having c.self.inside.v4 c.self.inside.v6 c.unshare.new.self c.self.inside.v6 c.unshare.ensures.numbers refl)
+pub returns-in-V4-clause-slots : goal.returns-in-V4-clause-slots
+returns-in-V4-clause-slots c = rw (← c.self.view_is) (same-slots c.self.inside.v4 c.self.inside.v6 c.unshare.new.self c.self.inside.v6 c.unshare.ensures.slots refl)
 
-pub returns-in-V6-clause-numbers : goal.returns-in-V6-clause-numbers
-returns-in-V6-clause-numbers c = rw (← c.self.view_is) (same-having c.self.inside.v4 c.self.inside.v6 c.self.inside.v4 c.unshare-in-V6.new.self refl c.unshare-in-V6.ensures.numbers)
+pub returns-in-V6-clause-slots : goal.returns-in-V6-clause-slots
+returns-in-V6-clause-slots c = rw (← c.self.view_is) (same-slots c.self.inside.v4 c.self.inside.v6 c.self.inside.v4 c.unshare-in-V6.new.self refl c.unshare-in-V6.ensures.slots)
+
+pub returns-in-V4-clause-mixed : goal.returns-in-V4-clause-mixed
+returns-in-V4-clause-mixed c = rw (← c.self.view_is) (same-mixed_of c.self.inside.v4 c.self.inside.v6 c.unshare.new.self c.self.inside.v6 c.unshare.ensures.mixed refl)
+
+pub returns-in-V6-clause-mixed : goal.returns-in-V6-clause-mixed
+returns-in-V6-clause-mixed c = rw (← c.self.view_is) (same-mixed_of c.self.inside.v4 c.self.inside.v6 c.self.inside.v4 c.unshare-in-V6.new.self refl c.unshare-in-V6.ensures.mixed)
 
 pub returns-in-V4-clause-shared : goal.returns-in-V4-clause-shared
 returns-in-V4-clause-shared c =

@@ -1,10 +1,26 @@
-use Rattle.std.specs.Ordering.{nat_cmp}
-use Rattle.numbered_items.specs.Index.{numbers_under}
-use Rattle.alloc_book.proofs.HolderLaws.{added-listed, claim-added}
+use Rattle.std.proofs.Common.{◌<◌, ◌++◌, ◌∷◌, []}
+use Rattle.alloc_book.specs.Holders.{claim_room_at}
+use Rattle.alloc_book.proofs.SlotLaws.{to-found, written-claims, written-apart}
 use Rattle.alloc_book.proofs.holders.Holders.add.Goals as goal
 
-pub invariant_of-self : goal.invariant_of-self
-invariant_of-self c = added-listed c.self.inside.held _ c.self.inside.by_number _ c.args.number c.args.claim c.insert.ensures.has c.add.ensures.numbers c.self.invariant
+pub add-requires-clause-claims : goal.add-requires-clause-claims
+add-requires-clause-claims c =
+    to-found c.args.slot c.self.inside.by_slot.entries c.in-Some.claimants.now c.in-Some.ensures.value (λ claimants. 0 < claim_room_at claimants c.args.number)
+    (rw (← c.self.view_is) at c.requires.claims)
+
+pub add-requires-clause-addresses : goal.add-requires-clause-addresses
+add-requires-clause-addresses c =
+    to-found c.args.slot c.self.inside.by_slot.entries c.in-Some.claimants.now c.in-Some.ensures.value (λ claimants. 0 < claimants.room)
+    (rw (← c.self.view_is) at c.requires.addresses)
 
 pub returns-clause-numbers : goal.returns-clause-numbers
-returns-clause-numbers c = rw (← c.self.view_is) (claim-added c.args.number c.args.claim (numbers_under nat_cmp c.self.inside.by_number) _ c.add.ensures.numbers)
+returns-clause-numbers c =
+    rw (← c.self.view_is)
+    (written-claims c.args.slot c.self.inside.by_slot (c.get_mut.follows.lender c.add.new.self) c.in-Some.claimants.now c.add.new.self c.in-Some.ensures.value
+    (c.get_mut.follows.holds c.add.new.self) (λ numbers. numbers ++ c.args.claim ∷ []) c.args.number c.add.ensures.numbers)
+
+pub returns-clause-others : goal.returns-clause-others
+returns-clause-others c =
+    rw (← c.self.view_is)
+    (written-apart c.args.slot c.self.inside.by_slot (c.get_mut.follows.lender c.add.new.self) c.in-Some.claimants.now c.add.new.self c.in-Some.ensures.value
+    (c.get_mut.follows.holds c.add.new.self))

@@ -1,21 +1,15 @@
-use Rattle.std.proofs.Common.{◌==◌, length, sym, ap, ◌∙◌}
-use Rattle.std.specs.Ordering.{nat_cmp}
-use Rattle.numbered_items.specs.Index.{numbers_under}
-use Rattle.alloc_book.proofs.HolderLaws.{emptied-listed, left-listed, claim-dropped}
+use Rattle.std.proofs.Common.{◌==◌, not, filter}
+use Rattle.alloc_book.proofs.SlotLaws.{written-claims, written-apart}
 use Rattle.alloc_book.proofs.holders.Holders.remove.Goals as goal
 
-pub invariant_of-self : goal.invariant_of-self
-invariant_of-self c =
-    emptied-listed c.self.inside.held _ c.self.inside.by_number _ c.args.number c.args.claim c.remove-then-is_empty.ensures.has c.remove.ensures.numbers
-    (ap (λ ns. length ns == 0) (sym c.numbers.ensures) ∙ sym c.is_empty.ensures ∙ c.if-is_empty.true) c.self.invariant
+pub returns-clause-numbers : goal.returns-clause-numbers
+returns-clause-numbers c =
+    rw (← c.self.view_is)
+    (written-claims c.args.slot c.self.inside.by_slot (c.get_mut.follows.lender c.remove.new.self) c.in-Some.claimants.now c.remove.new.self c.in-Some.ensures.value
+    (c.get_mut.follows.holds c.remove.new.self) (filter (λ n. not (n == c.args.claim))) c.args.number c.remove.ensures.numbers)
 
-pub invariant_of-self-else-is_empty : goal.invariant_of-self-else-is_empty
-invariant_of-self-else-is_empty c =
-    left-listed c.self.inside.held c.self.inside.by_number _ c.args.number c.args.claim c.remove.ensures.numbers
-    (ap (λ ns. length ns == 0) (sym c.numbers.ensures) ∙ sym c.is_empty.ensures ∙ c.if-is_empty.false) c.self.invariant
-
-pub returns-then-is_empty-clause-numbers : goal.returns-then-is_empty-clause-numbers
-returns-then-is_empty-clause-numbers c = rw (← c.self.view_is) (claim-dropped c.args.number c.args.claim (numbers_under nat_cmp c.self.inside.by_number) _ c.remove.ensures.numbers)
-
-pub returns-else-is_empty-clause-numbers : goal.returns-else-is_empty-clause-numbers
-returns-else-is_empty-clause-numbers c = rw (← c.self.view_is) (claim-dropped c.args.number c.args.claim (numbers_under nat_cmp c.self.inside.by_number) _ c.remove.ensures.numbers)
+pub returns-clause-others : goal.returns-clause-others
+returns-clause-others c =
+    rw (← c.self.view_is)
+    (written-apart c.args.slot c.self.inside.by_slot (c.get_mut.follows.lender c.remove.new.self) c.in-Some.claimants.now c.remove.new.self c.in-Some.ensures.value
+    (c.get_mut.follows.holds c.remove.new.self))

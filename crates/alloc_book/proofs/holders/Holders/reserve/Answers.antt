@@ -1,15 +1,46 @@
-use Rattle.std.proofs.Common.{refl}
-use Rattle.alloc_book.proofs.HolderLaws.{same-listed}
+use Rattle.std.proofs.Common.{◌≡◌, ◌≤◌, ℕ, refl, ◌∙◌, arith}
+use Rattle.alloc_book.specs.Holders.{claims_at, claim_room_at}
+use Rattle.alloc_book.proofs.SlotLaws.{written-each, made-now, made-each}
 use Rattle.alloc_book.proofs.holders.Holders.reserve.Goals as goal
 
-pub invariant_of-self : goal.invariant_of-self
-invariant_of-self c = same-listed c.self.inside.held _ c.self.inside.by_number _ refl c.reserve.ensures.numbers c.self.invariant
+pub returns-in-Some-clause-numbers : goal.returns-in-Some-clause-numbers
+returns-in-Some-clause-numbers c =
+    rw (← c.self.view_is)
+    (written-each c.args.slot c.self.inside.by_slot (c.get_mut.follows.lender c.reserve.new.self) c.in-Some.claimants.now c.reserve.new.self c.in-Some.ensures.value
+    (c.get_mut.follows.holds c.reserve.new.self) (λ old new. claims_at new ≡ claims_at old) (λ same. refl) c.reserve.ensures.numbers)
 
-pub returns-in_err-reserve-clause-numbers : goal.returns-in_err-reserve-clause-numbers
-returns-in_err-reserve-clause-numbers c = rw (← c.self.view_is) c.reserve.ensures.numbers
+pub returns-in-Some-clause-claims_kept : goal.returns-in-Some-clause-claims_kept
+returns-in-Some-clause-claims_kept c =
+    rw (← c.self.view_is)
+    (written-each c.args.slot c.self.inside.by_slot (c.get_mut.follows.lender c.reserve.new.self) c.in-Some.claimants.now c.reserve.new.self c.in-Some.ensures.value
+    (c.get_mut.follows.holds c.reserve.new.self) (λ old new. (n : ℕ) → claim_room_at old n ≤ claim_room_at new n) (λ same n. omega arith) c.reserve.ensures.claims_kept)
 
-pub invariant_of-self-2 : goal.invariant_of-self-2
-invariant_of-self-2 c = same-listed c.self.inside.held _ c.self.inside.by_number _ c.reserve-2.ensures.has c.reserve.ensures.numbers c.self.invariant
+pub returns-in-Some-clause-addresses_kept : goal.returns-in-Some-clause-addresses_kept
+returns-in-Some-clause-addresses_kept c =
+    rw (← c.self.view_is)
+    (written-each c.args.slot c.self.inside.by_slot (c.get_mut.follows.lender c.reserve.new.self) c.in-Some.claimants.now c.reserve.new.self c.in-Some.ensures.value
+    (c.get_mut.follows.holds c.reserve.new.self) (λ old new. old.room ≤ new.room) (λ same. omega arith) c.reserve.ensures.addresses_kept)
 
 pub returns-clause-numbers : goal.returns-clause-numbers
-returns-clause-numbers c = rw (← c.self.view_is) c.reserve.ensures.numbers
+returns-clause-numbers c =
+    rw (← c.self.view_is)
+    (made-each c.args.slot c.self.inside.by_slot c.get_mut.follows.lender-at-none c.insert.new.self c.reserve-2.new.self c.get_mut.follows.holds-at-none c.in_default.ensures.value
+    c.in_ok-_none.ensures.updates (λ old new. claims_at new ≡ claims_at old) (λ same. refl) (c.reserve-2.ensures.numbers ∙ c.new-claimants.ensures.numbers))
+
+pub returns-clause-claims : goal.returns-clause-claims
+returns-clause-claims c =
+    rw (made-now c.args.slot c.self.inside.by_slot c.get_mut.follows.lender-at-none c.insert.new.self c.reserve-2.new.self c.get_mut.follows.holds-at-none c.in_default.ensures.value
+    c.in_ok-_none.ensures.updates)
+    c.in_ok-reserve.ensures.claims
+
+pub returns-clause-claims_kept : goal.returns-clause-claims_kept
+returns-clause-claims_kept c =
+    rw (← c.self.view_is)
+    (made-each c.args.slot c.self.inside.by_slot c.get_mut.follows.lender-at-none c.insert.new.self c.reserve-2.new.self c.get_mut.follows.holds-at-none c.in_default.ensures.value
+    c.in_ok-_none.ensures.updates (λ old new. (n : ℕ) → claim_room_at old n ≤ claim_room_at new n) (λ same n. omega arith) (λ n. omega arith))
+
+pub returns-clause-addresses_kept : goal.returns-clause-addresses_kept
+returns-clause-addresses_kept c =
+    rw (← c.self.view_is)
+    (made-each c.args.slot c.self.inside.by_slot c.get_mut.follows.lender-at-none c.insert.new.self c.reserve-2.new.self c.get_mut.follows.holds-at-none c.in_default.ensures.value
+    c.in_ok-_none.ensures.updates (λ old new. old.room ≤ new.room) (λ same. omega arith) (omega arith))

@@ -1,14 +1,28 @@
-use Rattle.std.proofs.Common.{ℕ, ◌<◌, List, length, sym, ap, subst, ◌∙◌}
+use Rattle.std.proofs.Common.{◌≡◌, true, ℕ, ◌<◌, List, length, sym, ap, subst, ◌∙◌}
 use Rattle.ip_ranges.specs.Values.{AddressValue}
 use Rattle.kube_model.specs.declared.key.Key.{Key}
 use Rattle.kube_model.specs.Keys.{key_cmp}
 use Rattle.numbered_items.specs.Index.{room_under}
+use Rattle.alloc_book.specs.declared.slot.Slot.{Slot}
+use Rattle.alloc_book.specs.declared.slot.Slot.TheVariants.{Any}
 use Rattle.alloc_book.specs.Book.{HasRoomFor}
 use Rattle.alloc_book.specs.Claims.{ClaimValue}
 use Rattle.alloc_book.specs.Holders.{HasRoomAt}
 use Rattle.alloc_book.specs.Index.{ClaimIndexValue}
-use Rattle.alloc_book.proofs.IndexGrowth.{indexed-pushed, found-is, not-lost}
+use Rattle.alloc_book.specs.Slots.{occupies}
+use Rattle.alloc_book.proofs.IndexGrowth.{indexed-pushed, found-is, not-lost, room-same}
 use Rattle.alloc_book.proofs.index.ClaimIndex.add.Goals as goal
+
+pub mix_each-requires-clause-numbers : goal.mix_each-requires-clause-numbers
+mix_each-requires-clause-numbers c = c.self.invariant.holders Any
+
+pub mix_each-requires-clause-uniform : goal.mix_each-requires-clause-uniform
+mix_each-requires-clause-uniform c = c.self.invariant.uniform
+
+pub mix_each-requires-clause-room : goal.mix_each-requires-clause-room
+mix_each-requires-clause-room c =
+    let room = subst (λ (v : ClaimIndexValue). HasRoomFor v.room c.args.claim) (sym c.self.view_is) c.requires.room in
+    room.mixed
 
 pub add-requires : goal.add-requires
 add-requires c =
@@ -16,20 +30,22 @@ add-requires c =
     let is = found-is c.self.inside.claims.items c.push-number.new.self.items c.push-number.result c.args.claim c.in-Some.claim.now c.push-number.ensures.items c.push-number.ensures.fresh c.in-Some.ensures.item in
     subst (λ (k : Key). 0 < room_under key_cmp c.self.inside.by_key k) (sym (c.key.ensures ∙ ap (λ (x : ClaimValue). x.key) is)) room.key
 
-pub add_each-requires : goal.add_each-requires
-add_each-requires c =
+pub add_claim-requires : goal.add_claim-requires
+add_claim-requires c =
     let room = subst (λ (v : ClaimIndexValue). HasRoomFor v.room c.args.claim) (sym c.self.view_is) c.requires.room in
     let is = found-is c.self.inside.claims.items c.push-number.new.self.items c.push-number.result c.args.claim c.in-Some.claim.now c.push-number.ensures.items c.push-number.ensures.fresh c.in-Some.ensures.item in
-    subst (λ (list : List AddressValue). HasRoomAt c.self.inside.holders (length list) list) (sym (c.addresses.ensures ∙ ap (λ (x : ClaimValue). x.holding.addresses) is)) room.addresses
+    subst (λ (x : ClaimValue). (slot : Slot) → occupies slot x ≡ true → HasRoomAt c.mix_each.new.holders (length x.holding.addresses) slot x.holding.addresses) (sym is)
+    (λ slot occupied. room-same c.self.inside.holders c.mix_each.new.holders (length c.args.claim.holding.addresses) slot c.args.claim.holding.addresses (ap (λ f. f slot) c.mix_each.ensures.slots) (room.addresses slot occupied))
 
 pub invariant_of-self : goal.invariant_of-self
 invariant_of-self c =
     let room = subst (λ (v : ClaimIndexValue). HasRoomFor v.room c.args.claim) (sym c.self.view_is) c.requires.room in
     let is = found-is c.self.inside.claims.items c.push-number.new.self.items c.push-number.result c.args.claim c.in-Some.claim.now c.push-number.ensures.items c.push-number.ensures.fresh c.in-Some.ensures.item in
-    indexed-pushed c.self.inside.claims.items c.push-number.new.self.items c.push-number.result c.args.claim c.key.result.now c.addresses.result.now
-    c.self.inside.by_key c.add.new.self c.self.inside.holders c.add_each.new.holders c.self.invariant c.push-number.ensures.items
-    (c.key.ensures ∙ ap (λ (x : ClaimValue). x.key) is) (c.addresses.ensures ∙ ap (λ (x : ClaimValue). x.holding.addresses) is)
-    c.requires.assigned c.add.ensures.numbers c.add_each.ensures.numbers c.add_each.ensures.shared room.known
+    indexed-pushed c.self.inside.claims.items c.push-number.new.self.items c.push-number.result c.args.claim c.in-Some.claim.now c.key.result.now
+    c.self.inside.by_key c.add.new.self c.self.inside.holders c.mix_each.new.holders c.add_claim.new.holders c.self.invariant c.push-number.ensures.items
+    (c.key.ensures ∙ ap (λ (x : ClaimValue). x.key) is) is c.requires.assigned c.add.ensures.numbers
+    c.mix_each.ensures.slots c.mix_each.ensures.shared c.add_claim.ensures.numbers c.add_claim.ensures.shared room.known
+    c.mix_each.ensures.uniform c.add_claim.ensures.mixed c.mix_each.ensures.alike
 
 pub invariant_of-self-in_default : goal.invariant_of-self-in_default
 invariant_of-self-in_default c =

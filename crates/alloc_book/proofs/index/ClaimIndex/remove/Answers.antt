@@ -1,6 +1,7 @@
-use Rattle.std.proofs.Common.{refl, ap, ◌∙◌}
-use Rattle.alloc_book.specs.Claims.{ClaimValue}
-use Rattle.alloc_book.proofs.IndexRemoval.{removed-ascending, removed-assigned, removed-shared, removed-keys, removed-holders, indexed-still}
+use Rattle.alloc_book.specs.declared.slot.Slot.TheVariants.{Any}
+use Rattle.alloc_book.specs.Index.{IsIndexed}
+use Rattle.alloc_book.proofs.IndexRemoval.{removed-ascending, indexed-still}
+use Rattle.alloc_book.proofs.MixLaws.{indexed-left, indexed-unshared}
 use Rattle.alloc_book.proofs.index.ClaimIndex.remove.Goals as goal
 
 pub invariant_of-self : goal.invariant_of-self
@@ -13,44 +14,35 @@ unshare_each-requires-clause-ascending c = removed-ascending c.args.number c.sel
 
 pub unshare_each-requires-clause-numbers : goal.unshare_each-requires-clause-numbers
 unshare_each-requires-clause-numbers c =
-    removed-holders c.args.number c.self.inside.claims.items c.remove.new.self.items c.remove.ensures.items c.remove.ensures.ascending
-    c.in-Some.claim c.in-Some.ensures.item c.addresses.result.now c.self.inside.holders c.remove_each.new.holders
-    c.addresses.ensures c.self.invariant.holders c.remove_each.ensures.numbers
+    let left : IsIndexed c.remove.new.self.items c.remove-2.new.self c.unmix_each.new.holders =
+    indexed-left c.args.number c.self.inside.claims.items c.remove.new.self.items c.in-Some.claim c.key.result.now c.self.inside.by_key c.remove-2.new.self
+    c.self.inside.holders c.remove_claim.new.holders c.unmix_each.new.holders
+    c.remove.ensures.items c.remove.ensures.ascending c.in-Some.ensures.item c.key.ensures c.self.invariant c.remove-2.ensures.numbers
+    c.remove_claim.ensures.numbers c.remove_claim.ensures.shared c.remove_claim.ensures.mixed c.unmix_each.ensures.slots c.unmix_each.ensures.shared c.unmix_each.ensures.mixed in
+    left.holders Any
 
 pub unshare_each-requires-clause-shared : goal.unshare_each-requires-clause-shared
 unshare_each-requires-clause-shared c =
-    removed-shared c.args.number c.self.inside.claims.items c.remove.new.self.items c.remove.ensures.items c.remove.ensures.ascending
-    c.self.inside.holders c.remove_each.new.holders c.remove_each.ensures.shared c.self.invariant.shared
+    let left : IsIndexed c.remove.new.self.items c.remove-2.new.self c.unmix_each.new.holders =
+    indexed-left c.args.number c.self.inside.claims.items c.remove.new.self.items c.in-Some.claim c.key.result.now c.self.inside.by_key c.remove-2.new.self
+    c.self.inside.holders c.remove_claim.new.holders c.unmix_each.new.holders
+    c.remove.ensures.items c.remove.ensures.ascending c.in-Some.ensures.item c.key.ensures c.self.invariant c.remove-2.ensures.numbers
+    c.remove_claim.ensures.numbers c.remove_claim.ensures.shared c.remove_claim.ensures.mixed c.unmix_each.ensures.slots c.unmix_each.ensures.shared c.unmix_each.ensures.mixed in
+    left.shared
 
 pub invariant_of-self-in-Some-terms : goal.invariant_of-self-in-Some-terms
 invariant_of-self-in-Some-terms c =
-    record {
-      assigned = removed-assigned c.args.number c.self.inside.claims.items c.remove.new.self.items c.remove.ensures.items c.remove.ensures.ascending c.self.invariant.assigned;
-      keys =
-          removed-keys c.args.number c.self.inside.claims.items c.remove.new.self.items c.remove.ensures.items c.remove.ensures.ascending
-          c.in-Some.claim c.in-Some.ensures.item c.key.result.now c.self.inside.by_key c.remove-2.new.self
-          c.key.ensures c.self.invariant.keys c.remove-2.ensures.numbers;
-      holders =
-          c.unshare_each.ensures.numbers
-          ∙ removed-holders c.args.number c.self.inside.claims.items c.remove.new.self.items c.remove.ensures.items c.remove.ensures.ascending
-          c.in-Some.claim c.in-Some.ensures.item c.addresses.result.now c.self.inside.holders c.remove_each.new.holders
-          c.addresses.ensures c.self.invariant.holders c.remove_each.ensures.numbers;
-      shared = c.unshare_each.ensures.shared;
-    }
+    let left : IsIndexed c.remove.new.self.items c.remove-2.new.self c.unmix_each.new.holders =
+    indexed-left c.args.number c.self.inside.claims.items c.remove.new.self.items c.in-Some.claim c.key.result.now c.self.inside.by_key c.remove-2.new.self
+    c.self.inside.holders c.remove_claim.new.holders c.unmix_each.new.holders
+    c.remove.ensures.items c.remove.ensures.ascending c.in-Some.ensures.item c.key.ensures c.self.invariant c.remove-2.ensures.numbers
+    c.remove_claim.ensures.numbers c.remove_claim.ensures.shared c.remove_claim.ensures.mixed c.unmix_each.ensures.slots c.unmix_each.ensures.shared c.unmix_each.ensures.mixed in
+    indexed-unshared c.remove.new.self.items c.remove-2.new.self c.unmix_each.new.holders c.unshare_each.new.holders left
+    c.unshare_each.ensures.slots c.unshare_each.ensures.mixed c.unshare_each.ensures.shared
 
 pub invariant_of-self-in_default-terms : goal.invariant_of-self-in_default-terms
 invariant_of-self-in_default-terms c =
-    record {
-      assigned = removed-assigned c.args.number c.self.inside.claims.items c.remove.new.self.items c.remove.ensures.items c.remove.ensures.ascending c.self.invariant.assigned;
-      keys =
-          removed-keys c.args.number c.self.inside.claims.items c.remove.new.self.items c.remove.ensures.items c.remove.ensures.ascending
-          c.in-Some.claim c.in-Some.ensures.item c.key.result.now c.self.inside.by_key c.remove-2.new.self
-          c.key.ensures c.self.invariant.keys c.remove-2.ensures.numbers;
-      holders =
-          removed-holders c.args.number c.self.inside.claims.items c.remove.new.self.items c.remove.ensures.items c.remove.ensures.ascending
-          c.in-Some.claim c.in-Some.ensures.item c.addresses.result.now c.self.inside.holders c.remove_each.new.holders
-          c.addresses.ensures c.self.invariant.holders c.remove_each.ensures.numbers;
-      shared =
-          removed-shared c.args.number c.self.inside.claims.items c.remove.new.self.items c.remove.ensures.items c.remove.ensures.ascending
-          c.self.inside.holders c.remove_each.new.holders c.remove_each.ensures.shared c.self.invariant.shared;
-    }
+    indexed-left c.args.number c.self.inside.claims.items c.remove.new.self.items c.in-Some.claim c.key.result.now c.self.inside.by_key c.remove-2.new.self
+    c.self.inside.holders c.remove_claim.new.holders c.unmix_each.new.holders
+    c.remove.ensures.items c.remove.ensures.ascending c.in-Some.ensures.item c.key.ensures c.self.invariant c.remove-2.ensures.numbers
+    c.remove_claim.ensures.numbers c.remove_claim.ensures.shared c.remove_claim.ensures.mixed c.unmix_each.ensures.slots c.unmix_each.ensures.shared c.unmix_each.ensures.mixed

@@ -1,0 +1,18 @@
+use Rattle.std.proofs.Common.{◌≡◌, List, take, ap, sym, ◌∙◌}
+use Rattle.std.proofs.lemmas.List.{take_more}
+use Rattle.ip_ranges.specs.Values.{AddressValue}
+use Rattle.alloc_book.specs.Holders.{claims_having}
+use Rattle.alloc_book.specs.Removal.{left_at}
+use Rattle.alloc_book.proofs.IndexRemoval.{left-next}
+use Rattle.alloc_book.proofs.removal.remove_each.Goals as goal
+
+pub loop-address-preserved : goal.loop-address-preserved
+loop-address-preserved c =
+    record {
+      numbers = c.remove.ensures.numbers
+          ∙ left-next c.args.number c.args.addresses.now c.loop-address.address-index c.address-item.result (claims_having c.args.holders.now c.args.slot) (claims_having c.loop-address.holders c.args.slot)
+          c.loop-address-test.true c.address-item.is c.loop-address.invariant.numbers;
+      others = λ s apart. c.remove.ensures.others s apart ∙ c.loop-address.invariant.others s apart;
+      mixed = c.remove.ensures.mixed ∙ c.loop-address.invariant.mixed;
+      shared = c.remove.ensures.shared ∙ c.loop-address.invariant.shared;
+    }

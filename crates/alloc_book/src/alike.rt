@@ -1,0 +1,64 @@
+//! Terms that may share an address where they have no port in common.
+ghost use Rattle.std.specs.Prelude.{◌≡◌, false};
+ghost use Rattle.std.specs.List.Sorted.{IsStrictlySortedBy};
+ghost use Rattle.std.specs.Map.{keys_of};
+ghost use Rattle.std.specs.Option.{option_copied};
+ghost use Rattle.std.specs.Ordering.{nat_cmp};
+ghost use Rattle.mlb_base.specs.Items.{is_nil};
+ghost use Rattle.sharing_terms.specs.Sharing.{is_alike};
+ghost use Rattle.alloc_book.specs.Alike.{are_alike, is_like_first};
+
+use crate::claims::Claim;
+use numbered_items::NumberedList;
+use sharing_terms::{Backend, Terms};
+
+/// Whether the first claim of the numbers is alike with the terms; where there is no number, it is.
+pub(crate) fn is_like_first(
+    claims: &NumberedList<Claim>,
+    numbers: &[u64],
+    terms: Option<&Terms>,
+) -> bool
+    ensures value { result ≡ is_like_first (option_copied terms.entry) claims.now.items numbers.now }
+    ensures ascending { is_nil numbers.now ≡ false → IsStrictlySortedBy nat_cmp (keys_of claims.now.items) }
+{
+    let Some(number) = numbers.first() else {
+        return true;
+    };
+    match claims.get(*number) {
+        Some(claim) => are_alike(claim.terms(), terms),
+        None => false,
+    }
+}
+
+/// Whether there are terms on both sides, of one sharing key, which isn't empty, and of backends that are alike.
+fn are_alike(terms: Option<&Terms>, held: Option<&Terms>) -> bool
+    ensures { result ≡ are_alike (option_copied terms.entry) (option_copied held.entry) }
+{
+    match (terms, held) {
+        (Some(terms), Some(held)) => {
+            terms.key == held.key
+                && !terms.key.as_str().is_empty()
+                && is_alike(&terms.backend, &held.backend)
+        }
+        _ => false,
+    }
+}
+
+fn is_alike(a: &Backend, b: &Backend) -> bool
+    ensures { result ≡ is_alike a.now b.now }
+{
+    match (a, b) {
+        (Backend::Cluster, Backend::Cluster) => true,
+        (
+            Backend::Local {
+                namespace,
+                selector,
+            },
+            Backend::Local {
+                namespace: other,
+                selector: others,
+            },
+        ) => namespace == other && selector == others,
+        _ => false,
+    }
+}

@@ -5,12 +5,11 @@ ghost use Rattle.std.specs.Map.{keys_of};
 ghost use Rattle.std.specs.Option.{option_copied};
 ghost use Rattle.std.specs.Ordering.{nat_cmp};
 ghost use Rattle.mlb_base.specs.Items.{is_nil};
-ghost use Rattle.sharing_terms.specs.Sharing.{is_alike};
 ghost use Rattle.alloc_book.specs.Alike.{are_alike, is_like_first};
 
 use crate::claims::Claim;
 use numbered_items::NumberedList;
-use sharing_terms::{Backend, Terms};
+use sharing_terms::{Terms, is_alike};
 
 /// Whether the first claim of the numbers is alike with the terms; where there is no number, it is.
 pub(crate) fn is_like_first(
@@ -40,25 +39,6 @@ fn are_alike(terms: Option<&Terms>, held: Option<&Terms>) -> bool
                 && !terms.key.as_str().is_empty()
                 && is_alike(&terms.backend, &held.backend)
         }
-        _ => false,
-    }
-}
-
-fn is_alike(a: &Backend, b: &Backend) -> bool
-    ensures { result ≡ is_alike a.now b.now }
-{
-    match (a, b) {
-        (Backend::Cluster, Backend::Cluster) => true,
-        (
-            Backend::Local {
-                namespace,
-                selector,
-            },
-            Backend::Local {
-                namespace: other,
-                selector: others,
-            },
-        ) => namespace == other && selector == others,
         _ => false,
     }
 }

@@ -93,7 +93,7 @@ uniform-kept items before after same uniform = λ a e. uniform a (ap (λ (f : Ad
 -- a claim more, with which those on each of its addresses are alike that isn't mixed
 pub uniform-added : (items : List (ℕ × ClaimValue)) (number : ℕ) (c : ClaimValue) (before after : AddressHoldersValue) → AreUniform before items → mixed_of after ≡ mixed_of before
     → ((a : AddressValue) → Contains c.holding.addresses a → is_mixed before a ≡ false → (p : ℕ × ClaimValue) → HasIt items a p
-        → are_alike (recorded_terms p.1.holding.mark) (recorded_terms c.holding.mark) ≡ true)
+    → are_alike (recorded_terms p.1.holding.mark) (recorded_terms c.holding.mark) ≡ true)
     → AreUniform after (items ++ (number, c) ∷ [])
 uniform-added items number c before after uniform same alike a e p q has_p has_q apart =
     ⊎_elim

@@ -20,11 +20,13 @@ loop-number-preserved c =
 pub returns-then-not-is_avoided-clause-some : goal.returns-then-not-is_avoided-clause-some
 returns-then-not-is_avoided-clause-some c =
     let claims = values_of c.args.index.now.items in
-    let found = c.in-Some.ensures.some in
-    (omega (arith, c.loop-number.invariant.begun, found.0), found.1,
-    free-from claims c.args.pool.now (address_of c.args.family c.in-Some.number) found.2 (sym c.is_avoided.ensures ∙ c.if-not-is_avoided.true),
-    before-more (λ m. numbered (is_free claims c.args.pool.now) c.args.family m ≡ false) c.args.low c.loop-number.from c.in-Some.number c.loop-number.invariant.before
-    (λ m from below. free-held claims c.args.pool.now (address_of c.args.family m) (found.3 m from below)))
+    let found = c.in-Some.ensures.some in (
+      omega (arith, c.loop-number.invariant.begun, found.0),
+      found.1,
+      free-from claims c.args.pool.now (address_of c.args.family c.in-Some.number) found.2 (sym c.is_avoided.ensures ∙ c.if-not-is_avoided.true),
+      before-more (λ m. numbered (is_free claims c.args.pool.now) c.args.family m ≡ false) c.args.low c.loop-number.from c.in-Some.number c.loop-number.invariant.before
+          (λ m from below. free-held claims c.args.pool.now (address_of c.args.family m) (found.3 m from below)),
+    )
 
 pub returns-then-number-high-clause-none : goal.returns-then-number-high-clause-none
 returns-then-number-high-clause-none c =

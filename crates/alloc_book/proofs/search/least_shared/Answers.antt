@@ -44,11 +44,14 @@ pub returns-then-may_use : goal.returns-then-may_use
 returns-then-may_use c =
     let claims = c.args.book.now.claims in
     let found = c.in-Some.ensures.some in
-    let left = c.in_ok-number.ensures.some in
-    (omega (arith, c.loop-shared.invariant.begun, found.0, left.0), left.1, sym c.may_use.ensures ∙ c.if-may_use.true,
-    left-more claims c.args.key.now c.args.terms.now c.args.pool.now c.args.family c.args.low c.loop-shared.from c.in-Some.shared c.in_ok-number.number c.loop-shared.invariant.before
-    (none-shared_in _ claims c.args.family c.args.terms.now.key c.loop-shared.from c.in-Some.shared c.index-index.ensures.claims found.2)
-    (barred-in c.as_slice-ports.result.now c.args.terms.now.ports _ claims c.args.family c.in-Some.shared c.in_ok-number.number c.as_slice-ports.ensures.listed c.index-index.ensures.claims left.2))
+    let left = c.in_ok-number.ensures.some in (
+      omega (arith, c.loop-shared.invariant.begun, found.0, left.0),
+      left.1,
+      sym c.may_use.ensures ∙ c.if-may_use.true,
+      left-more claims c.args.key.now c.args.terms.now c.args.pool.now c.args.family c.args.low c.loop-shared.from c.in-Some.shared c.in_ok-number.number c.loop-shared.invariant.before
+          (none-shared_in _ claims c.args.family c.args.terms.now.key c.loop-shared.from c.in-Some.shared c.index-index.ensures.claims found.2)
+          (barred-in c.as_slice-ports.result.now c.args.terms.now.ports _ claims c.args.family c.in-Some.shared c.in_ok-number.number c.as_slice-ports.ensures.listed c.index-index.ensures.claims left.2),
+    )
 
 pub returns-then-number-high : goal.returns-then-number-high
 returns-then-number-high c =

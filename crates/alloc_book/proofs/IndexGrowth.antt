@@ -330,7 +330,7 @@ pub indexed-pushed : (items more : List (ℕ × ClaimValue)) (number : ℕ) (c f
     → is_known h_after ≡ is_known mixing → AreKnown h (recorded_terms c.holding.mark) c.holding.addresses
     → AreUniform mixing items → mixed_of h_after ≡ mixed_of mixing
     → ((a : AddressValue) → Contains c.holding.addresses a → is_mixed mixing a ≡ false → (p : ℕ × ClaimValue) → HasIt items a p
-        → are_alike (recorded_terms p.1.holding.mark) (recorded_terms c.holding.mark) ≡ true)
+    → are_alike (recorded_terms p.1.holding.mark) (recorded_terms c.holding.mark) ≡ true)
     → IsIndexed more keys_after h_after
 indexed-pushed items more number c found key keys keys_after h mixing h_after indexed is key_is found_is assigned adds_key same_slots same_known adds_holders kept_known known uniform kept_mixed alike =
     let list_by : Key → Key → List ℕ = λ term k. cond (is_at (key_cmp term) k) (numbers_under key_cmp keys k ++ number ∷ []) (numbers_under key_cmp keys k) in

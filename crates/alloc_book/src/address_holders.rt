@@ -46,7 +46,12 @@ impl AddressHolders {
 
     /// Makes room in the slot for so many claims more on the address, and for so many addresses more of its family. Where there is
     /// no memory the claims stay.
-    pub(crate) fn reserve(&mut self, slot: Slot, address: &Address, more: usize) -> Result<(), NoMemory>
+    pub(crate) fn reserve(
+        &mut self,
+        slot: Slot,
+        address: &Address,
+        more: usize,
+    ) -> Result<(), NoMemory>
         ensures numbers { (s : Slot) → claims_having self.new s ≡ claims_having self.old s }
         ensures claims { OnOk result (more ≤ claim_room self.new slot address.now) }
         ensures addresses { OnOk result (more ≤ address_room self.new slot address.now.family) }

@@ -44,7 +44,7 @@ fn remove_each(holders: &mut AddressHolders, slot: Slot, addresses: &[Address], 
     }
 }
 
-/// Those of the addresses at which one claim is listed, or none, aren't mixed. It takes no memory.
+/// Addresses at which one claim is listed, or none, needn't be mixed any more. It takes no memory.
 pub(crate) fn unmix_each(holders: &mut AddressHolders, addresses: &[Address])
     ensures slots { in_slot holders.new ≡ in_slot holders.old }
     ensures shared { is_known holders.new ≡ is_known holders.old }
@@ -58,7 +58,7 @@ pub(crate) fn unmix_each(holders: &mut AddressHolders, addresses: &[Address])
     }
 }
 
-/// Those of the addresses that no claim has any more under the sharing key aren't known by it.
+/// Addresses that no claim has any more under the sharing key needn't be known by it any more.
 pub(crate) fn unshare_each(
     claims: &NumberedList<Claim>,
     holders: &mut AddressHolders,

@@ -182,8 +182,9 @@ fn first_left(
     Some(left)
 }
 
-/// A number from low to high of an address that may be used, before which there is none that may be used and that another key has
-/// under the sharing key. Addresses that have a claim with a port of the terms are passed over together.
+/// A number from low to high of an address that may be used, before which there is none that may be used, that a claim has under the
+/// sharing key, and that the key doesn't have. Runs of addresses with a claim on one port of the terms are passed over at once, port by
+/// port; what is left is tested one by one.
 fn least_shared(
     book: &Book,
     pool: &CompiledPool,

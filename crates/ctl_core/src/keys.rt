@@ -174,7 +174,8 @@ pub(crate) fn lacks_record(class: Option<&Text>, services: &Services, key: &Key)
     }
 }
 
-/// What is queued where a service is shown: its own key, and behind it the others that wait where a claim was lost.
+/// What is queued where a service is shown to a core that is ready: its own key, unless it is queued, and behind it the others that
+/// wait, where a claim was lost.
 pub(crate) fn own_and_waiting(
     alloc: Global,
     is_ready: bool,

@@ -17,7 +17,7 @@ use std::alloc::Global;
 use std::marker::Model;
 
 /// What the controller knows of the cluster, and what it still has to decide. Whatever it was told, each settled service, but the
-/// one that is being written, has the record that is chosen for it, or nothing that it may use is free.
+/// one that is being written, has the record that was chosen for it; where none could be chosen, none can be now.
 #[derive(Drop)]
 pub struct Core {
     state: CoreState,

@@ -13,7 +13,8 @@ use std::alloc::Global;
 use std::collections::BTreeSet;
 use std::marker::Model;
 
-/// The keys of services that wait for an address, ascending. A change takes the logarithm of their number.
+/// The keys of services that wait for an address, ascending. To put one in or take it out takes the logarithm of their number; a
+/// release goes through all.
 #[derive(Drop)]
 pub(crate) struct WaitingKeys {
     keys: BTreeSet<Key>,

@@ -12,7 +12,7 @@ use mlb_edge::{Line, LineEnd, LineReader, Sink, Source};
 /// has seen what the one before came to.
 ///
 /// It can be read by `next_line` alone, and only beside the sink itself. So a run over any such source shows at each
-/// read that it may be made.
+/// call that may ask it for more that it may be asked.
 pub trait PacedSource<K: Sink> {
     /// The bytes not yet read, where the source tells them.
     ghost left: { Self → Option (List ℕ) };

@@ -70,7 +70,7 @@ pub fn run_machine<M: Machine, S: PacedSource<K>, K: Sink>(
     out: &mut K,
 ) -> Status
     // Whenever all that came whole was answered, the source may be asked for more. Nothing else is known of when it
-    // may, so at each read all that came whole was answered.
+    // may, so at each call that may ask it all that came whole was answered.
     requires live { (i : S) (r : Reading) (o : K) → S.name i ≡ S.name input.old
         → IsAnswered M.rules (M.state machine.old) (S.left input.old) r (S.left i) (K.written out.old) (K.written o)
         → S.may_read i r o }

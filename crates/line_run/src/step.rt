@@ -31,8 +31,7 @@ pub fn next_step<M: Machine, S: PacedSource<K>, K: Sink>(
         reader.new.held (S.left input.new) (K.written out.old) (K.written out.new)
         (S.faults input.old) (S.faults input.new) (K.faults out.old) (K.faults out.new)) }
 
-    // The source is read only where no whole line is held: each line before was taken by then, and its
-    // text was written.
+    // The source is read only where no whole line is held.
     ensures unread { HoldsLine reader.old → input.new ≡ input.old }
 
     // No byte is lost, each line taken brings the reader on, and no count of faults falls.

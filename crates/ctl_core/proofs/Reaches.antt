@@ -14,6 +14,7 @@ use Rattle.core_rules.specs.Replied.{core_reply}
 use Rattle.core_rules.specs.Take.{core_take, core_expired}
 use Rattle.core_rules.specs.Turn.{core_turn, after_turn}
 use Rattle.core_rules.specs.Run.{Entry, Took, Expired, Turned, Heard, MayEnter, core_after, entered, observed}
+use Rattle.core_rules.proofs.Runs.{core_holds_what_was_observed}
 use Rattle.core_laws.specs.Quiet.{IsQuiet}
 use Rattle.core_laws.proofs.Free.{IsOrderly, runs-orderly}
 use Rattle.core_laws.proofs.Orderly.{sorted-services}

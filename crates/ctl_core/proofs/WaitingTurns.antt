@@ -64,8 +64,7 @@ ready-by false k rest empty = absurd (cc (empty refl))
 front-is : (class : Option (List ℕ)) (held : Cached) (front k : Key) (rest awaiting : List Key) → IsInOrder (front ∷ rest) awaiting → same_key front k ≡ true
     → (lacks_record class (service_of held front) ≡ lacks_record class (service_of held k)) × (has_key rest k ≡ false) × (has_key awaiting k ≡ false)
 front-is class held front k rest awaiting order same =
-    let is : front ≡ k = same_key-is front k same in
-    (
+    let is : front ≡ k = same_key-is front k same in (
       ap (λ x. lacks_record class (service_of held x)) is,
       ap (has_key rest) (sym is) ∙ order.once.0,
       ap (has_key awaiting) (sym is) ∙ order.free front (ap (λ b. b || has_key rest front) (same_key-itself front)),

@@ -46,9 +46,7 @@ impl CoreState {
         ensures err { OnErr result (self.new ≡ self.old) }
     {
         let is_lost = loses(&self.book, &put.key, &put.holding);
-        let more = self
-            .waiting
-            .others_where(self.alloc, is_lost, &put.key)?;
+        let more = self.waiting.others_where(self.alloc, is_lost, &put.key)?;
         let claim = Claim::of(self.alloc, &put.key, &put.holding)?;
         self.book.reserve(&claim)?;
         let services = self.cache.services();

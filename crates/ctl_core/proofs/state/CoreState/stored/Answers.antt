@@ -15,7 +15,7 @@ queue_and_let_wait-requires-clause-once c =
     let reached : IsReached s = rw (← c.self.view_is) at c.requires.reached in
     let out : s.out ≡ Some c.args.put = rw (← c.self.view_is) at c.requires.out in
     let others = c.deref.ensures.value ∙ c.in_ok-more.ensures.keys
-        ∙ others-out s reached c.args.put out c.loses-is_lost.result i.waiting c.self.invariant c.in_ok-more.ensures.ordered in
+    ∙ others-out s reached c.args.put out c.loses-is_lost.result i.waiting c.self.invariant c.in_ok-more.ensures.ordered in
     subst AreApart (sym others) (others-new s reached c.args.put out c.loses-is_lost.result).once
 
 pub queue_and_let_wait-requires-clause-unqueued : goal.queue_and_let_wait-requires-clause-unqueued
@@ -25,7 +25,7 @@ queue_and_let_wait-requires-clause-unqueued c =
     let reached : IsReached s = rw (← c.self.view_is) at c.requires.reached in
     let out : s.out ≡ Some c.args.put = rw (← c.self.view_is) at c.requires.out in
     let others = c.deref.ensures.value ∙ c.in_ok-more.ensures.keys
-        ∙ others-out s reached c.args.put out c.loses-is_lost.result i.waiting c.self.invariant c.in_ok-more.ensures.ordered in
+    ∙ others-out s reached c.args.put out c.loses-is_lost.result i.waiting c.self.invariant c.in_ok-more.ensures.ordered in
     subst (λ (keys : List Key). NoneAmong keys s.queue) (sym others) (others-new s reached c.args.put out c.loses-is_lost.result).unqueued
 
 pub invariant_of-self-2 : goal.invariant_of-self-2
@@ -35,7 +35,7 @@ invariant_of-self-2 c =
     let reached : IsReached s = rw (← c.self.view_is) at c.requires.reached in
     let out : s.out ≡ Some c.args.put = rw (← c.self.view_is) at c.requires.out in
     let others = c.deref.ensures.value ∙ c.in_ok-more.ensures.keys
-        ∙ others-out s reached c.args.put out c.loses-is_lost.result i.waiting c.self.invariant c.in_ok-more.ensures.ordered in
+    ∙ others-out s reached c.args.put out c.loses-is_lost.result i.waiting c.self.invariant c.in_ok-more.ensures.ordered in
     stored-waits s reached c.args.put out c.args.version c.loses-is_lost.result i.waiting c.queue_and_let_wait.new.waiting c.release_others.new.self c.store.new.self
     c.queue_and_let_wait.new.queue c.deref.result.now c.self.invariant
     (λ k. rw (← c.as_ref.ensures.value, ← c.services-services.ensures) (c.in_ok-queue_and_let_wait.ensures.waiting k))
@@ -49,9 +49,9 @@ returns-clause-ok c =
     let reached : IsReached s = rw (← c.self.view_is) at c.requires.reached in
     let out : s.out ≡ Some c.args.put = rw (← c.self.view_is) at c.requires.out in
     let others = c.deref.ensures.value ∙ c.in_ok-more.ensures.keys
-        ∙ others-out s reached c.args.put out c.loses-is_lost.result i.waiting c.self.invariant c.in_ok-more.ensures.ordered in
+    ∙ others-out s reached c.args.put out c.loses-is_lost.result i.waiting c.self.invariant c.in_ok-more.ensures.ordered in
     let claims = c.settle_prepared.ensures.claims ∙ ap (λ (x : ClaimValue). settled x.key x.holding c.reserve.new.self.claims) c.in_ok-claim.ensures
-        ∙ ap (λ (claims : List ClaimValue). settled c.args.put.key c.args.put.holding claims) c.reserve.ensures.claims in
+    ∙ ap (λ (claims : List ClaimValue). settled c.args.put.key c.args.put.holding claims) c.reserve.ensures.claims in
     rw (← c.self.view_is)
     (stored-is s c.args.put c.args.version c.store.new.self c.settle_prepared.new.self.claims c.queue_and_let_wait.new.queue c.deref.result.now
     c.store.ensures claims c.in_ok-queue_and_let_wait.ensures.queue

@@ -1,4 +1,4 @@
-use Rattle.std.proofs.Common.{◌≡◌, cond, Option, List, Some, sym, ap, subst, ◌∙◌}
+use Rattle.std.proofs.Common.{◌≡◌, List, Some, sym, ap, subst, ◌∙◌}
 use Rattle.kube_model.specs.declared.key.Key.{Key}
 use Rattle.kube_model.specs.Keys.{same_key}
 use Rattle.alloc_book.specs.Claims.{ClaimValue, settled}

@@ -1,7 +1,7 @@
 -- Which services wait after a turn, and after the reply to a put.
-use Rattle.std.proofs.Common.{◌≡◌, ℕ, Bool, true, false, cond, not, ◌&&◌, ◌||◌, List, [], ◌∷◌, ◌++◌, Option, Some, None, is_eq, option_map, refl, sym, ap, subst, ◌∙◌}
+use Rattle.std.proofs.Common.{◌≡◌, ℕ, Bool, true, false, cond, not, ◌&&◌, ◌||◌, List, [], ◌∷◌, ◌++◌, drop, Option, Some, None, is_eq, option_map, refl, sym, ap, subst, ◌∙◌}
 use Rattle.std.proofs.lemmas.Bool.{true≢false, and_from, or_from}
-use Rattle.std.specs.BTreeSet.{BTreeSet, contains}
+use Rattle.std.specs.BTreeSet.{BTreeSet, IsOrdered, contains}
 use Rattle.std.specs.List.Sorted.{IsStrictlySortedBy}
 use Rattle.std.specs.Map.{keys_of}
 use Rattle.kube_model.specs.declared.key.Key.{Key}
@@ -19,13 +19,20 @@ use Rattle.object_history.specs.LookBack.{written_over}
 use Rattle.object_history.specs.Observations.{Written}
 use Rattle.object_history.proofs.Held.{amended_seen}
 use Rattle.object_cache.specs.Told.{passing}
-use Rattle.core_rules.specs.Core.{is_ready, service_of, waits, waiting}
+use Rattle.alloc_book.specs.Claims.{ClaimValue, settled, loses}
+use Rattle.core_rules.specs.Core.{State, is_ready, service_of, waits, waiting}
 use Rattle.core_rules.specs.Keys.{is_free}
+use Rattle.core_rules.specs.Replied.{stored}
 use Rattle.core_rules.specs.Turn.{rest_of}
 use Rattle.core_laws.proofs.Orderly.{IsInOrder}
-use Rattle.core_laws.proofs.QueueOnce.{no-true, waiting-new}
+use Rattle.core_laws.proofs.QueueOnce.{AreNew, no-true, waiting-new}
+use Rattle.core_laws.proofs.QuietRuns.{none-some}
+use Rattle.core_laws.proofs.Ready.{IsIdle}
 use Rattle.core_laws.proofs.Rows.{has_key-append, passing-has}
-use Rattle.ctl_core.specs.Waiting.{lacks_with, lacks_record, waits_at, AreWaiting, is_front_lacking}
+use Rattle.ctl_core.specs.Reached.{IsReached}
+use Rattle.ctl_core.specs.Waiting.{lacks_with, lacks_record, waits_at, AreWaiting, is_front_lacking, others_where}
+use Rattle.ctl_core.proofs.Reaches.{reached-orderly, reached-idle, reached-sorted}
+use Rattle.ctl_core.proofs.WaitingLaws.{others-waiting}
 
 -- ---- a service waits where its key is free and it lacks a record
 and-nothing : (b : Bool) → false ≡ (b && false)
@@ -57,8 +64,7 @@ ready-by false k rest empty = absurd (cc (empty refl))
 front-is : (class : Option (List ℕ)) (held : Cached) (front k : Key) (rest awaiting : List Key) → IsInOrder (front ∷ rest) awaiting → same_key front k ≡ true
     → (lacks_record class (service_of held front) ≡ lacks_record class (service_of held k)) × (has_key rest k ≡ false) × (has_key awaiting k ≡ false)
 front-is class held front k rest awaiting order same =
-    let is : front ≡ k = same_key-is front k same in
-    (
+    let is : front ≡ k = same_key-is front k same in (
       ap (λ x. lacks_record class (service_of held x)) is,
       ap (has_key rest) (sym is) ∙ order.once.0,
       ap (has_key awaiting) (sym is) ∙ order.free front (ap (λ b. b || has_key rest front) (same_key-itself front)),
@@ -219,3 +225,56 @@ module _ (class : Option (List ℕ)) (held : Cached) (queue awaiting : List Key)
     -- the key waits where its record was taken away; the others wait as before, and where a claim is lost they are queued
     pub waiting-stored : AreWaiting class stored_cache (queue ++ others) awaiting after
     waiting-stored k = waits-by (same_key put.key k) k refl
+
+-- ---- of a reached core
+ready-by_out : (b : Bool) (queue : List Key) (out : Option Put) (put : Put) → IsIdle b queue out → out ≡ Some put → b ≡ true
+ready-by_out true queue out put idle is = refl
+ready-by_out false queue out put idle is = absurd (none-some out put (idle refl).1 is)
+
+drop-rest : (queue : List Key) → drop 1 queue ≡ rest_of queue
+drop-rest [] = refl
+drop-rest (k ∷ keys) = refl
+
+module _ (s : State) (reached : IsReached s) where
+  -- while a put is out it is ready
+  pub ready-out : (put : Put) → s.out ≡ Some put → is_ready s.held ≡ true
+  ready-out put is = ready-by_out (is_ready s.held) s.queue s.out put (reached-idle s reached) is
+
+  -- after a turn
+  pub turn-waits : (before after : BTreeSet Key) (queue : List Key) → AreWaiting s.class s.held s.queue s.awaiting before
+      → ((k : Key) → contains key_cmp after k ≡ (is_front_lacking s.class s.held.services s.queue k || contains key_cmp before k)) → queue ≡ drop 1 s.queue
+      → AreWaiting s.class s.held queue s.awaiting after
+  turn-waits before after queue w now is =
+      subst (λ (keys : List Key). AreWaiting s.class s.held keys s.awaiting after) (sym (is ∙ drop-rest s.queue))
+      (waiting-turned s.class s.held s.queue s.awaiting before after (reached-orderly s reached).order (λ n. (reached-idle s reached n).0) w now)
+
+  module _ (put : Put) (is_out : s.out ≡ Some put) where
+    -- while a put is out the set has the keys of those that wait, in their order
+    pub others-out : (lost : Bool) (set : BTreeSet Key) → AreWaiting s.class s.held s.queue s.awaiting set → IsOrdered key_cmp set
+        → others_where lost put.key set.keys ≡ waiting lost s.class (same_key put.key) s.queue s.awaiting s.held.services
+    others-out lost set w ordered = others-waiting s.class s.held s.queue s.awaiting set w ordered (reached-sorted s reached) (ready-out put is_out) lost put.key
+
+    -- they can be queued
+    pub others-new : (lost : Bool) → AreNew (waiting lost s.class (same_key put.key) s.queue s.awaiting s.held.services) s.queue s.awaiting (same_key put.key)
+    others-new lost = waiting-new lost s.class (same_key put.key) s.queue s.awaiting s.held.services (reached-sorted s reached)
+
+    -- after the record was stored
+    pub stored-waits : (version : ℕ) (lost : Bool) (before middle after : BTreeSet Key) (cache : Cached) (queue more : List Key) → AreWaiting s.class s.held s.queue s.awaiting before
+        → ((k : Key) → contains key_cmp middle k ≡ cond (same_key put.key k) (lacks_with s.class put.holding (object_at key_cmp s.held.services put.key)) (contains key_cmp before k))
+        → ((k : Key) → contains key_cmp after k ≡ ((same_key put.key k || not lost) && contains key_cmp middle k))
+        → cache ≡ cached_after (Written put.key version put.holding) s.held → queue ≡ s.queue ++ more
+        → more ≡ waiting lost s.class (same_key put.key) s.queue s.awaiting s.held.services
+        → AreWaiting s.class cache queue s.awaiting after
+    stored-waits version lost before middle after cache queue more w own now cache_is queue_is more_is =
+        subst (λ (c : Cached). AreWaiting s.class c queue s.awaiting after) (sym cache_is)
+        (subst (λ (keys : List Key). AreWaiting s.class (cached_after (Written put.key version put.holding) s.held) keys s.awaiting after)
+        (sym (queue_is ∙ ap (λ (keys : List Key). s.queue ++ keys) more_is))
+        (waiting-stored s.class s.held s.queue s.awaiting put version lost before middle after (reached-sorted s reached) (ready-out put is_out)
+        ((reached-orderly s reached).out_queue put is_out) ((reached-orderly s reached).out_free put is_out) w own now))
+
+-- what the state is then
+pub stored-is : (s : State) (put : Put) (version : ℕ) (cache : Cached) (claims : List ClaimValue) (queue more : List Key)
+    → cache ≡ cached_after (Written put.key version put.holding) s.held → claims ≡ settled put.key put.holding s.claims → queue ≡ s.queue ++ more
+    → more ≡ waiting (loses put.key put.holding s.claims) s.class (same_key put.key) s.queue s.awaiting s.held.services
+    → record s { held = cache; claims = claims; queue = queue; out = None } ≡ stored s put version
+stored-is s put version cache claims queue more cache_is claims_is queue_is more_is = rw (cache_is, claims_is, queue_is, more_is) refl

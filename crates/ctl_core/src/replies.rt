@@ -1,22 +1,23 @@
 //! The reply to the put that is out.
-ghost use Rattle.std.specs.Prelude.{◌≡◌, if◌then◌else◌, OnOk, OnErr, Some, IsSome};
+ghost use Rattle.std.specs.Prelude.{◌≡◌, ◌++◌, if◌then◌else◌, OnOk, OnErr, Some, IsSome};
 ghost use Rattle.std.specs.BTreeSet.{contains};
 ghost use Rattle.std.specs.Option.{option_copied};
 ghost use Rattle.kube_model.specs.declared.key.Key.{Key as KeyValue};
 ghost use Rattle.kube_model.specs.Keys.{key_cmp, same_key};
 ghost use Rattle.versioned_map.specs.Entries.{object_at};
 ghost use Rattle.core_rules.specs.Replied.{core_reply, stored, refused, in_doubt};
+ghost use Rattle.core_laws.specs.Queue.{AreApart, NoneAmong};
 ghost use Rattle.ctl_core.specs.Reached.{IsReached};
 ghost use Rattle.ctl_core.specs.Waiting.{lacks_with};
 
 use crate::claims::loses;
-use crate::keys::{Services, lacks_with};
-use crate::room::{make_room, make_room_for, push_new};
+use crate::keys::{Keys, Services, lacks_with};
+use crate::room::{append_new, make_room_for, push_new};
 use crate::state::CoreState;
 use crate::waiting::WaitingKeys;
 use alloc_book::Claim;
 use kube_labels::Text;
-use kube_model::{Put, PutReply};
+use kube_model::{Key, Put, PutReply};
 use mlb_base::{NoMemory, TryCopy};
 
 impl CoreState {
@@ -45,18 +46,18 @@ impl CoreState {
         ensures err { OnErr result (self.new ≡ self.old) }
     {
         let is_lost = loses(&self.book, &put.key, &put.holding);
-        let more = self
-            .waiting
-            .others_where(self.alloc, is_lost, &put.key)?;
+        let more = self.waiting.others_where(self.alloc, is_lost, &put.key)?;
         let claim = Claim::of(self.alloc, &put.key, &put.holding)?;
-        let queued = self.queue.len();
-        make_room(&mut self.book, &claim, &mut self.queue, &more)?;
+        self.book.reserve(&claim)?;
         let services = self.cache.services();
-        let waits = let_wait(&mut self.waiting, self.class.as_ref(), services, &put);
-        if waits.is_err() {
-            self.queue.truncate(queued);
-            return Err(NoMemory);
-        }
+        queue_and_let_wait(
+            &mut self.queue,
+            &more,
+            &mut self.waiting,
+            self.class.as_ref(),
+            services,
+            &put,
+        )?;
         self.waiting.release_others(is_lost, &put.key);
         let key = put.key;
         let holding = put.holding;
@@ -93,6 +94,37 @@ impl CoreState {
         self.book.doubt_prepared(claim);
         self.out = None;
         Ok(())
+    }
+}
+
+/// The keys are queued, and the put's key waits where the put takes its record away and it is handled; else it doesn't. After want of
+/// memory nothing has changed.
+fn queue_and_let_wait(
+    queue: &mut Keys,
+    more: &[Key],
+    waiting: &mut WaitingKeys,
+    class: Option<&Text>,
+    services: &Services,
+    put: &Put,
+) -> Result<(), NoMemory>
+    requires once { AreApart more.now }
+    requires unqueued { NoneAmong more.now queue.old }
+    ensures queue { OnOk result (queue.new ≡ queue.old ++ more.now) }
+    ensures waiting { OnOk result ((k : KeyValue) → contains key_cmp waiting.new k
+        ≡ (if same_key put.now.key k
+        then lacks_with (option_copied class.entry) put.now.holding (object_at key_cmp services.now put.now.key)
+        else contains key_cmp waiting.old k)) }
+    ensures queue_err { OnErr result (queue.new ≡ queue.old) }
+    ensures waiting_err { OnErr result (waiting.new ≡ waiting.old) }
+{
+    let queued = queue.len();
+    append_new(queue, more)?;
+    match let_wait(waiting, class, services, put) {
+        Ok(()) => Ok(()),
+        Err(NoMemory) => {
+            queue.truncate(queued);
+            Err(NoMemory)
+        }
     }
 }
 

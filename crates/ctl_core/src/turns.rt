@@ -34,7 +34,12 @@ impl CoreState {
         let turn = self.next_turn()?;
         let out = put_in(&turn)?;
         let services = self.cache.services();
-        let_front_wait(&mut self.waiting, self.class.as_ref(), services, &self.queue)?;
+        let_front_wait(
+            &mut self.waiting,
+            self.class.as_ref(),
+            services,
+            &self.queue,
+        )?;
         let _front = self.queue.pop_first();
         self.out = out;
         Ok(turn)

@@ -1,0 +1,27 @@
+use Rattle.std.proofs.Common.{◌≡◌, not, ◌&&◌, List, Some, sym, ap, subst, ◌∙◌}
+use Rattle.std.specs.BTreeSet.{contains}
+use Rattle.kube_model.specs.declared.key.Key.{Key}
+use Rattle.kube_model.specs.Keys.{key_cmp, same_key}
+use Rattle.alloc_book.specs.Claims.{ClaimValue}
+use Rattle.core_rules.specs.Core.{State}
+use Rattle.ctl_core.specs.Reached.{IsReached}
+use Rattle.ctl_core.specs.Waiting.{AreWaiting}
+use Rattle.ctl_core.proofs.Reaches.{reached-orderly}
+use Rattle.ctl_core.proofs.WaitingTurns.{waiting-in_doubt}
+use Rattle.ctl_core.proofs.state.CoreState.in_doubt.Goals as goal
+
+pub make_room_for-requires : goal.make_room_for-requires
+make_room_for-requires c =
+    let i = c.self.inside in
+    let s : State = record { class = i.class; held = i.cache; claims = i.book.claims; queue = i.queue; awaiting = i.awaiting; out = i.out } in
+    let reached : IsReached s = rw (← c.self.view_is) at c.requires.reached in
+    let out : s.out ≡ Some c.args.put = rw (← c.self.view_is) at c.requires.out in
+    (reached-orderly s reached).out_queue c.args.put out
+
+pub invariant_of-self-2 : goal.invariant_of-self-2
+invariant_of-self-2 c =
+    let i = c.self.inside in
+    let own = c.key.ensures ∙ ap (λ (x : ClaimValue). x.key) c.in_ok-claim.ensures in
+    subst (λ (keys : List Key). AreWaiting i.class i.cache keys i.awaiting c.remove.new.self) (sym c.in_ok-make_room_for.ensures.ok)
+    (waiting-in_doubt i.class i.cache i.queue i.awaiting c.args.put.key i.waiting c.remove.new.self c.self.invariant
+    (λ k. c.remove.ensures k ∙ ap (λ (x : Key). not (same_key x k) && contains key_cmp i.waiting k) own))

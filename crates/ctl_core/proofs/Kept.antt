@@ -15,7 +15,7 @@ use Rattle.kube_model.specs.Keys.{key_cmp, same_key, without}
 use Rattle.kube_model.proofs.KeyLaws.{key_cmp-total, same_key-flip}
 use Rattle.versioned_map.specs.declared.map.Versioned.{Versioned}
 use Rattle.versioned_map.specs.Entries.{held_at, is_listed, listed}
-use Rattle.object_history.specs.Cache.{cached_after}
+use Rattle.object_history.specs.Cache.{Cached, cached_after}
 use Rattle.object_history.specs.Observations.{Watched}
 use Rattle.object_cache.specs.Told.{passing}
 use Rattle.alloc_book.specs.Claims.{ClaimValue, others, has_claims}
@@ -135,22 +135,22 @@ listed-queued was now lost s =
     ∙ ap (λ (ks : List Key). listed_keys (listed s.held.services) s.queue ++ ks) (more-listed was now lost s)
 
 -- ---- what is left once those that wait were queued
-pub service-dropped : (s queued : State) (gone key : Key) (more : List Key) (claims : List ClaimValue) (awaiting queue : List Key) → gone ≡ key
+pub service-dropped : (s : State) (held : Cached) (gone key : Key) (more queued queue awaiting : List Key) (claims : List ClaimValue) → gone ≡ key
     → more ≡ waiting (is_ready s.held && has_claims key s.claims) s.class (same_key key) s.queue s.awaiting s.held.services
-    → queued ≡ record s { held = cached_after (Watched (Deleted kinds.Service key)) s.held; queue = s.queue ++ more }
-    → claims ≡ others gone queued.claims → awaiting ≡ without gone queued.awaiting → queue ≡ without gone queued.queue
-    → record queued { claims = claims; awaiting = awaiting; queue = queue } ≡ without_service s key
-service-dropped s queued gone key more claims awaiting queue gone_is more_is queued_is claims_is awaiting_is queue_is =
-    rw (claims_is, awaiting_is, queue_is, queued_is, gone_is, more_is)
+    → held ≡ cached_after (Watched (Deleted kinds.Service key)) s.held → queued ≡ s.queue ++ more
+    → claims ≡ others gone s.claims → awaiting ≡ without gone s.awaiting → queue ≡ without gone queued
+    → record s { held = held; claims = claims; awaiting = awaiting; queue = queue } ≡ without_service s key
+service-dropped s held gone key more queued queue awaiting claims gone_is more_is held_is queued_is claims_is awaiting_is queue_is =
+    rw (claims_is, awaiting_is, queue_is, queued_is, held_is, gone_is, more_is)
     (ap (λ (ks : List Key). record s { held = cached_after (Watched (Deleted kinds.Service key)) s.held; claims = others key s.claims; awaiting = without key s.awaiting; queue = ks })
     (without-queued (is_ready s.held && has_claims key s.claims) s.class key s.queue s.awaiting s.held.services))
 
-pub services-listed : (s queued : State) (more : List Key) (claims : List ClaimValue) (awaiting queue : List Key)
+pub services-listed : (s : State) (held : Cached) (more queued queue awaiting : List Key) (claims : List ClaimValue)
     → more ≡ listed_and_free (is_ready s.held) (s.held.config_ended && is_some s.held.config) (have_claims s.held.services s.claims) s
-    → queued ≡ record s { held = cached_after (Watched (ListEnd groups.Service)) s.held; queue = s.queue ++ more }
-    → claims ≡ listed_claims queued.held.services queued.claims → awaiting ≡ listed_keys queued.held.services queued.awaiting → queue ≡ listed_keys queued.held.services queued.queue
-    → record queued { claims = claims; awaiting = awaiting; queue = queue } ≡ with_services_listed s
-services-listed s queued more claims awaiting queue more_is queued_is claims_is awaiting_is queue_is =
-    rw (claims_is, awaiting_is, queue_is, queued_is, more_is)
+    → held ≡ cached_after (Watched (ListEnd groups.Service)) s.held → queued ≡ s.queue ++ more
+    → claims ≡ listed_claims held.services s.claims → awaiting ≡ listed_keys held.services s.awaiting → queue ≡ listed_keys held.services queued
+    → record s { held = held; claims = claims; awaiting = awaiting; queue = queue } ≡ with_services_listed s
+services-listed s held more queued queue awaiting claims more_is held_is queued_is claims_is awaiting_is queue_is =
+    rw (claims_is, awaiting_is, queue_is, queued_is, held_is, more_is)
     (ap (λ (ks : List Key). record s { held = cached_after (Watched (ListEnd groups.Service)) s.held; claims = listed_claims (listed s.held.services) s.claims; awaiting = listed_keys (listed s.held.services) s.awaiting; queue = ks })
     (listed-queued (is_ready s.held) (s.held.config_ended && is_some s.held.config) (have_claims s.held.services s.claims) s))

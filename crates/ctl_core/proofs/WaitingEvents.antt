@@ -222,11 +222,13 @@ held-at false s version service old new key sorted b waits_old new_is =
     new_is ∙ ap (λ b. not lost && b) (waits_old key)
     ∙ other-at s.class key (is_ready s.held) lost s.queue after.queue s.awaiting after.awaiting (service_of s.held key) (service_of after.held key) stays
 
-pub held-wait : (s : State) (version : ℕ) (service : Service) (old new : BTreeSet Key) → IsReached s → WaitIn s old
-    → ((key : Key) → contains key_cmp new key ≡ (not (loses service.key service.holding s.claims) && (not (same_key service.key key) && contains key_cmp old key)))
+pub held-wait : (s : State) (version : ℕ) (service : Service) (own : Key) (lost : Bool) (old new : BTreeSet Key) → IsReached s → WaitIn s old → own ≡ service.key
+    → lost ≡ loses service.key service.holding s.claims
+    → ((key : Key) → contains key_cmp new key ≡ (not lost && (not (same_key own key) && contains key_cmp old key)))
     → WaitIn (held_service s version service) new
-held-wait s version service old new r waits_old new_is key =
-    held-at (same_key service.key key) s version service old new key (reached-sorted s r) refl waits_old (new_is key)
+held-wait s version service own lost old new r waits_old own_is lost_is new_is key =
+    held-at (same_key service.key key) s version service old new key (reached-sorted s r) refl waits_old
+    (new_is key ∙ ap (λ k. not lost && (not (same_key k key) && contains key_cmp old key)) own_is ∙ ap (λ l. not l && (not (same_key service.key key) && contains key_cmp old key)) lost_is)
 
 -- ---- a service is dropped
 removed-by : (b : Bool) (es : List (Key × Versioned Service)) (gone key : Key) → IsStrictlySortedBy key_cmp (keys_of es) → same_key gone key ≡ b
@@ -266,10 +268,12 @@ dropped-at false s gone old new key sorted b waits_old new_is =
     new_is ∙ ap (λ b. not lost && b) (waits_old key)
     ∙ other-at s.class key (is_ready s.held) lost s.queue after.queue s.awaiting after.awaiting (service_of s.held key) (service_of after.held key) stays
 
-pub dropped-wait : (s : State) (gone : Key) (old new : BTreeSet Key) → IsReached s → WaitIn s old
-    → ((key : Key) → contains key_cmp new key ≡ (not (is_ready s.held && has_claims gone s.claims) && (not (same_key gone key) && contains key_cmp old key)))
-    → WaitIn (without_service s gone) new
-dropped-wait s gone old new r waits_old new_is key = dropped-at (same_key gone key) s gone old new key (reached-sorted s r) refl waits_old (new_is key)
+pub dropped-wait : (s : State) (gone key : Key) (lost : Bool) (old new : BTreeSet Key) → IsReached s → WaitIn s old → gone ≡ key → lost ≡ (is_ready s.held && has_claims key s.claims)
+    → ((k : Key) → contains key_cmp new k ≡ (not lost && (not (same_key gone k) && contains key_cmp old k)))
+    → WaitIn (without_service s key) new
+dropped-wait s gone key lost old new r waits_old gone_is lost_is new_is k =
+    dropped-at (same_key key k) s key old new k (reached-sorted s r) refl waits_old
+    (new_is k ∙ ap (λ g. not lost && (not (same_key g k) && contains key_cmp old k)) gone_is ∙ ap (λ l. not l && (not (same_key key k) && contains key_cmp old k)) lost_is)
 
 -- ---- the list of services ends
 abbrev kept_found : Option (Versioned Service) → Option (Versioned Service)
@@ -370,13 +374,16 @@ listed-at false s old new key sorted sorted' u waits_old new_is =
     (sym (has_key-append (listed_keys es s.queue) more key ∙ ap (λ b. b || has_key more key) (has-listed es s.queue key (sym u)) ∙ sym (has_key-append s.queue more key)))
     (sym (has-listed es s.awaiting key (sym u))))
 
-pub listed-wait : (s : State) (old new : BTreeSet Key) → IsReached s → WaitIn s old
-    → ((key : Key) → contains key_cmp new key ≡ (not (have_claims s.held.services s.claims) && (not (is_unlisted (listed s.held.services) key) && contains key_cmp old key)))
+pub listed-wait : (s : State) (services : List (Key × Versioned Service)) (lost : Bool) (old new : BTreeSet Key) → IsReached s → WaitIn s old
+    → services ≡ listed s.held.services → lost ≡ have_claims s.held.services s.claims
+    → ((key : Key) → contains key_cmp new key ≡ (not lost && (not (is_unlisted services key) && contains key_cmp old key)))
     → WaitIn (with_services_listed s) new
-listed-wait s old new r waits_old new_is key =
+listed-wait s services lost old new r waits_old services_are lost_is new_is key =
     let sorted = reached-sorted s r in
     let after = with_services_listed s in
-    listed-at (is_unlisted (listed s.held.services) key) s old new key sorted (ascending-held_after service_resource key_cmp-total (Watched (ListEnd groups.Service)) s.held.services sorted) refl waits_old (new_is key)
+    listed-at (is_unlisted (listed s.held.services) key) s old new key sorted (ascending-held_after service_resource key_cmp-total (Watched (ListEnd groups.Service)) s.held.services sorted) refl waits_old
+    (new_is key ∙ ap (λ es. not lost && (not (is_unlisted es key) && contains key_cmp old key)) services_are
+    ∙ ap (λ l. not l && (not (is_unlisted (listed s.held.services) key) && contains key_cmp old key)) lost_is)
     ∙ ap (λ b. b && waits_at s.class after.queue after.awaiting key (service_of after.held key)) (ready-listed s.held.config_ended (is_some s.held.config))
 
 -- ---- the configuration or a namespace changes
@@ -402,12 +409,14 @@ configured-at false s event old new key sorted b c waits_old new_is =
     (as-ready (is_ready s.held) (is_ready (cached_after (Watched event) s.held)) (is_accepted (applied s.held event).note) (is_namespace (applied s.held event).change)
     (config-ready event s.held c) (sym b))
 
-pub configured-wait : (s : State) (event : Event) (old new : BTreeSet Key) → IsReached s → concern event ≡ Configures → WaitIn s old
-    → ((key : Key) → contains key_cmp new key ≡ (not (wakes s.held (applied s.held event) (cached_after (Watched event) s.held)) && contains key_cmp old key))
+pub configured-wait : (s : State) (event : Event) (woken : Bool) (old new : BTreeSet Key) → IsReached s → concern event ≡ Configures → WaitIn s old
+    → woken ≡ wakes s.held (applied s.held event) (cached_after (Watched event) s.held)
+    → ((key : Key) → contains key_cmp new key ≡ (not woken && contains key_cmp old key))
     → WaitIn (configured s event) new
-configured-wait s event old new r c waits_old new_is key =
+configured-wait s event woken old new r c waits_old woken_is new_is key =
     let after = configured s event in
-    configured-at (wakes s.held (applied s.held event) (cached_after (Watched event) s.held)) s event old new key (reached-sorted s r) refl c waits_old (new_is key)
+    configured-at (wakes s.held (applied s.held event) (cached_after (Watched event) s.held)) s event old new key (reached-sorted s r) refl c waits_old
+    (new_is key ∙ ap (λ b. not b && contains key_cmp old key) woken_is)
     ∙ ap (λ (es : List (Key × Versioned Service)). is_ready after.held && waits_at s.class after.queue s.awaiting key (object_at key_cmp es key)) (sym (config-services event s.held c))
 
 -- ---- a watch has expired

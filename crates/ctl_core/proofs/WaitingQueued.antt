@@ -122,9 +122,14 @@ module _ (s : State) (set : BTreeSet Key) (reached : IsReached s) (wait : WaitIn
   others-by false own ready = refl
 
   -- where a service is dropped
-  pub dropped-others : (gone : Key) → let lost = is_ready s.held && has_claims gone s.claims in
-      others_where lost gone set.keys ≡ waiting lost s.class (same_key gone) s.queue s.awaiting s.held.services
-  dropped-others gone = others-by (is_ready s.held && has_claims gone s.claims) gone (and-first (is_ready s.held) (has_claims gone s.claims))
+  pub dropped-others : (lost : Bool) (gone : Key) → lost ≡ (is_ready s.held && has_claims gone s.claims)
+      → others_where lost gone set.keys ≡ waiting (is_ready s.held && has_claims gone s.claims) s.class (same_key gone) s.queue s.awaiting s.held.services
+  dropped-others lost gone is =
+      ap (λ l. others_where l gone set.keys) is ∙ others-by (is_ready s.held && has_claims gone s.claims) gone (and-first (is_ready s.held) (has_claims gone s.claims))
+
+  pub dropped-behind : (lost : Bool) (gone : Key) (more : List Key) → lost ≡ (is_ready s.held && has_claims gone s.claims) → more ≡ others_where lost gone set.keys → GoBehind more s.queue
+  dropped-behind lost gone more is more_is =
+      subst (λ ks. GoBehind ks s.queue) (sym (more_is ∙ dropped-others lost gone is)) (waiting-behind (is_ready s.held && has_claims gone s.claims) (same_key gone) s reached)
 
   own-by : (ready lost : Bool) (own : Key) → is_ready s.held ≡ ready → cond ready (own_key own s.queue ++ others_where lost own set.keys) [] ≡ own_and_waiting ready lost s own
   own-by true lost own is = ap (λ (ks : List Key). own_key own s.queue ++ ks) (others-by lost own (λ _. is))

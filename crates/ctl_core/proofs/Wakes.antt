@@ -1,5 +1,5 @@
 -- What is queued where an event of the configuration wakes the services.
-use Rattle.std.proofs.Common.{◌≡◌, Bool, true, false, cond, ◌&&◌, ◌||◌, List, [], ◌++◌, take, length, is_some, refl, sym, ap, ◌∙◌}
+use Rattle.std.proofs.Common.{◌≡◌, ℕ, not, Bool, true, false, cond, ◌&&◌, ◌||◌, List, [], ◌++◌, take, length, is_some, refl, sym, ap, ◌∙◌}
 use Rattle.std.proofs.lemmas.Bool.{and_parts, and_from, or_left, or_right, true≢false}
 use Rattle.std.proofs.lemmas.List.{take_at}
 use Rattle.kube_model.specs.declared.event.Event.{Event}
@@ -8,8 +8,9 @@ use Rattle.kube_model.specs.declared.event.Group.TheVariants as groups
 use Rattle.kube_model.specs.declared.key.Key.{Key}
 use Rattle.object_history.specs.Cache.{Cached, cached_after}
 use Rattle.object_history.specs.Observations.{Watched}
-use Rattle.core_rules.specs.Core.{is_ready}
-use Rattle.core_rules.specs.Take.{Configures, concern}
+use Rattle.object_cache.specs.Change.{applied}
+use Rattle.core_rules.specs.Core.{State, is_ready, all_free}
+use Rattle.core_rules.specs.Take.{Configures, concern, is_accepted, is_namespace, wakes, configured}
 use Rattle.core_rules.proofs.Concerns.{config-services_ended}
 use Rattle.ctl_core.specs.Waking.{ends_config, may_wake}
 
@@ -44,3 +45,14 @@ pub woken : (event : Event) (s : Cached) (told : Bool) (queue free : List Key) �
 woken event s told queue free c =
     taken-back (is_ready (cached_after (Watched event) s) && told) (may_wake s event) queue free
     (λ wakes. ready-may event s c (and_parts (is_ready (cached_after (Watched event) s)) told wakes).0)
+
+-- the state then
+pub woken-configured : (s : State) (event : Event) (held : Cached) (wake : Bool) (len : ℕ) (more queued queue : List Key) → concern event ≡ Configures
+    → wake ≡ wakes s.held (applied s.held event) (cached_after (Watched event) s.held) → len ≡ length s.queue
+    → more ≡ cond (may_wake s.held event) (all_free s.queue s.awaiting s.held.services) []
+    → held ≡ cached_after (Watched event) s.held → queued ≡ s.queue ++ more → queue ≡ cond wake queued (take len queued)
+    → record s { held = held; queue = queue } ≡ configured s event
+woken-configured s event held wake len more queued queue c wake_is len_is more_is held_is queued_is queue_is =
+    rw (queue_is, queued_is, held_is, more_is, len_is, wake_is)
+    (ap (λ (ks : List Key). record s { held = cached_after (Watched event) s.held; queue = ks })
+    (woken event s.held (not (is_ready s.held) || is_accepted (applied s.held event).note || is_namespace (applied s.held event).change) s.queue (all_free s.queue s.awaiting s.held.services) c))

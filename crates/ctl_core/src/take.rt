@@ -8,6 +8,8 @@ ghost use Rattle.object_cache.specs.Change.{applied};
 ghost use Rattle.object_cache.specs.Limits.{passes, most_services};
 ghost use Rattle.object_cache.specs.declared.change.TakeNote.TheVariants.{Quiet as QuietNote};
 ghost use Rattle.versioned_map.specs.Entries.{is_newer};
+ghost use Rattle.alloc_book.specs.Book.{HasRoom};
+ghost use Rattle.alloc_book.specs.Claims.{has_claims};
 ghost use Rattle.core_rules.specs.Core.{all_free, is_ready};
 ghost use Rattle.core_rules.specs.Take.{Configures, concern, core_take, core_note, core_expired, limits, with_service, without_service, with_services_listed, listed_and_free, have_claims, shows, is_accepted, is_namespace, configured};
 ghost use Rattle.core_laws.specs.Queue.{AreApart, NoneAmong};
@@ -17,9 +19,9 @@ ghost use Rattle.ctl_core.specs.Waking.{may_wake, ends_config};
 
 use crate::claims::{have_claims, keep_listed_claims, loses};
 use crate::keys::{Keys, all_free, drop_key, keep_listed, listed_and_free, own_and_waiting};
-use crate::room::{append_new, make_room, truncate_unless};
+use crate::room::{append_new, truncate_unless};
 use crate::state::{CoreState, is_ready};
-use alloc_book::Claim;
+use alloc_book::{Book, Claim};
 use core_rules::TakeFault;
 use kube_model::{Event, Group, Key, Kind, Object, Service};
 use mlb_base::{NoMemory, TryCopy};
@@ -107,10 +109,11 @@ impl CoreState {
         ensures { self.new ≡ core_expired self.old group }
     {
         self.cache.expire(group);
-        if !is_ready(&self.cache) {
-            self.queue.clear();
-            self.waiting.clear();
+        if is_ready(&self.cache) {
+            return;
         }
+        self.queue.clear();
+        self.waiting.clear();
     }
 
     fn show(&mut self, version: u64, object: Object) -> Result<TakeNote, NoMemory>
@@ -220,28 +223,15 @@ impl CoreState {
         ensures ok { OnOk result (self.new ≡ held_service self.old version service) }
         ensures err { OnErr result (self.new ≡ self.old) }
     {
-        let queued = self.queue.len();
-        if make_room(
+        let object = Object::Service(service);
+        make_room_and_apply(
             &mut self.book,
             &prepared.claim,
             &mut self.queue,
+            &mut self.cache,
             &prepared.more,
-        )
-        .is_err()
-        {
-            drop(service);
-            drop(prepared);
-            return Err(NoMemory);
-        }
-        let object = Object::Service(service);
-        match self.cache.apply(Event::Changed { version, object }) {
-            Ok(applied) => drop(applied),
-            Err(_) => {
-                drop(prepared);
-                self.queue.truncate(queued);
-                return Err(NoMemory);
-            }
-        }
+            Event::Changed { version, object },
+        )?;
         self.book.settle_prepared(prepared.claim);
         drop_key(&mut self.awaiting, &prepared.key);
         self.waiting.release(prepared.is_lost, &prepared.key);
@@ -291,7 +281,7 @@ impl CoreState {
         ensures err { OnErr result (self.new ≡ self.old) }
     {
         let gone = key.copy()?;
-        let is_lost = is_ready(&self.cache) && self.book.has_claims(&key);
+        let is_lost = self.gives_up(&key);
         let more = self.waiting.others_where(self.alloc, is_lost, &key)?;
         let event = Event::Deleted {
             kind: Kind::Service,
@@ -304,6 +294,13 @@ impl CoreState {
         drop_key(&mut self.queue, &gone);
         self.waiting.release(is_lost, &gone);
         Ok(TakeNote::Quiet)
+    }
+
+    /// Whether the key has a claim that others may wait for.
+    fn gives_up(&self, key: &Key) -> bool
+        ensures { result ≡ (is_ready self.now.held && has_claims key.now self.now.claims) }
+    {
+        is_ready(&self.cache) && self.book.has_claims(key)
     }
 
     fn end_list(&mut self, group: Group) -> Result<TakeNote, NoMemory>
@@ -369,13 +366,7 @@ impl CoreState {
     {
         let was_ready = is_ready(&self.cache);
         let queued = self.queue.len();
-        let woken = match self.may_be_woken(&event) {
-            Ok(woken) => woken,
-            Err(NoMemory) => {
-                drop(event);
-                return Err(NoMemory);
-            }
-        };
+        let woken = self.may_be_woken(&event)?;
         let applied = queue_and_apply(&mut self.queue, &mut self.cache, &woken, event)?;
         let wakes = wakes(was_ready, &applied, is_ready(&self.cache));
         truncate_unless(wakes, &mut self.queue, queued);
@@ -416,6 +407,30 @@ impl CoreState {
         self.waiting.clear();
         Ok(TakeNote::Quiet)
     }
+}
+
+/// Room for the claim, and the keys are queued and the event is applied. After want of memory no claim, key or object has changed.
+fn make_room_and_apply(
+    book: &mut Book,
+    claim: &Claim,
+    queue: &mut Keys,
+    cache: &mut ObjectCache,
+    more: &[Key],
+    event: Event,
+) -> Result<(), NoMemory>
+    requires once { AreApart more.now }
+    requires unqueued { NoneAmong more.now queue.old }
+    ensures claims { book.new.claims ≡ book.old.claims }
+    ensures claim_room { OnOk result (HasRoom book.new claim.now) }
+    ensures cache { OnOk result (cache.new ≡ cached_after (Watched event) cache.old) }
+    ensures queue { OnOk result (queue.new ≡ queue.old ++ more.now) }
+    ensures cache_err { OnErr result (cache.new ≡ cache.old) }
+    ensures queue_err { OnErr result (queue.new ≡ queue.old) }
+{
+    book.reserve(claim)?;
+    let applied = queue_and_apply(queue, cache, more, event)?;
+    drop(applied);
+    Ok(())
 }
 
 /// The keys are queued, and the event is applied. After want of memory nothing has changed.

@@ -174,7 +174,8 @@ impl CoreState {
 
     /// The service is newer than what is held.
     fn hold_service(&mut self, version: u64, service: Service) -> Result<(), NoMemory>
-        requires { IsReached self.old }
+        requires newer { is_newer key_cmp self.old.held.services service.key version ≡ true }
+        requires reached { IsReached self.old }
         ensures ok { OnOk result (self.new ≡ held_service self.old version service) }
         ensures err { OnErr result (self.new ≡ self.old) }
     {

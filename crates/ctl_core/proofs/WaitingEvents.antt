@@ -70,7 +70,7 @@ other-waits true true false false false = refl
 -- nobody waits who is queued with all that are free
 none-waits : (q a : Bool) (found : Option Service) (class : Option (List ℕ)) → free_lacks (q || (is_some found && (not q && not a))) a (lacks_record class found) ≡ false
 none-waits true a found class = refl
-none-waits false true found class = ap (λ b. (not b && false) && lacks_record class found) (and-false (is_some found)) 
+none-waits false true found class = ap (λ b. (not b && false) && lacks_record class found) (and-false (is_some found))
 none-waits false false None class = refl
 none-waits false false (Some service) class = refl
 
@@ -141,10 +141,10 @@ other-at class key ready lost queue queue' awaiting awaiting' found found' at =
     let l = lacks_record class found in
     let q' = q || (ready && (lost && free_lacks q a l)) in
     let after : waits_at class queue' awaiting' key found' ≡ free_lacks q' a l =
-        waits_at-lacks class queue' awaiting' key found'
-        ∙ ap (λ b. free_lacks b (has_key awaiting' key) (lacks_record class found')) at.queued
-        ∙ ap (λ b. free_lacks q' b (lacks_record class found')) at.awaits
-        ∙ ap (λ f. free_lacks q' a (lacks_record class f)) at.finds in
+    waits_at-lacks class queue' awaiting' key found'
+    ∙ ap (λ b. free_lacks b (has_key awaiting' key) (lacks_record class found')) at.queued
+    ∙ ap (λ b. free_lacks q' b (lacks_record class found')) at.awaits
+    ∙ ap (λ f. free_lacks q' a (lacks_record class f)) at.finds in
     ap (λ b. not lost && (ready && b)) (waits_at-lacks class queue awaiting key found)
     ∙ other-waits ready lost q a l
     ∙ ap (λ b. ready && b) (sym after)

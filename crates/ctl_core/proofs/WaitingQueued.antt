@@ -88,8 +88,7 @@ free-unqueued false a some e = refl
 pub free-behind : (queue awaiting : List Key) (es : List (Key × Versioned Service)) → IsStrictlySortedBy key_cmp (keys_of es) → GoBehind (all_free queue awaiting es) queue
 free-behind queue awaiting es s =
     let first = passing (is_free_with queue awaiting true) es in
-    let second = passing (is_free_with queue awaiting false) es in
-    (
+    let second = passing (is_free_with queue awaiting false) es in (
       apart-append first second (passing-apart (is_free_with queue awaiting true) es s) (passing-apart (is_free_with queue awaiting false) es s)
           (λ key there. has-passing (is_free_with queue awaiting true) es s key
           ∙ assigned-or-not queue awaiting key (object_at key_cmp es key) (sym (has-passing (is_free_with queue awaiting false) es s key) ∙ there)),

@@ -35,7 +35,7 @@ invariant_of-self-2 c =
     let reached : IsReached s = rw (← c.self.view_is) at c.requires.reached in
     let event = c.args.event in
     let wakes_is : c.wakes-wakes.result ≡ wakes s.held (applied s.held event) (cached_after (Watched event) s.held) =
-        rw (c.is_ready.ensures, c.is_ready-was_ready.ensures, c.in_ok-applied.ensures.applied, c.in_ok-applied.ensures.cache) at c.wakes-wakes.ensures in
+    rw (c.is_ready.ensures, c.is_ready-was_ready.ensures, c.in_ok-applied.ensures.applied, c.in_ok-applied.ensures.cache) at c.wakes-wakes.ensures in
     let more_is = c.deref.ensures.value ∙ (rw (← c.self.view_is) at c.in_ok-woken.ensures) in
     let state_is = woken-configured s event c.queue_and_apply.new.cache c.wakes-wakes.result c.len-queued.result c.deref.result.now _ _ c.requires.configures wakes_is c.len-queued.ensures
     more_is c.in_ok-applied.ensures.cache c.in_ok-applied.ensures.queue c.truncate_unless.ensures in

@@ -28,7 +28,7 @@ use Rattle.object_cache.specs.Told.{passing}
 use Rattle.alloc_book.specs.Claims.{loses, has_claims}
 use Rattle.core_rules.specs.Core.{State, is_ready, service_of, is_free_with, all_free, waits, waiting}
 use Rattle.core_rules.specs.Keys.{own_key}
-use Rattle.core_rules.specs.Take.{Configures, concern, no_key, is_unlisted, listed_keys, have_claims, listed_and_free, own_and_waiting, shows, without_service, with_services_listed, is_accepted, is_namespace, wakes, configured, core_expired}
+use Rattle.core_rules.specs.Take.{Configures, concern, no_key, is_unlisted, listed_keys, have_claims, listed_and_free, without_service, with_services_listed, is_accepted, is_namespace, wakes, configured, core_expired}
 use Rattle.core_rules.proofs.Concerns.{config-services}
 use Rattle.core_laws.proofs.Awaiting.{has_key-kept, has_key-without}
 use Rattle.core_laws.proofs.Orderly.{own-same}

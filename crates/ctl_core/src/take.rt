@@ -8,7 +8,6 @@ ghost use Rattle.object_cache.specs.Change.{applied};
 ghost use Rattle.object_cache.specs.Limits.{passes, most_services};
 ghost use Rattle.object_cache.specs.declared.change.TakeNote.TheVariants.{Quiet as QuietNote};
 ghost use Rattle.versioned_map.specs.Entries.{is_newer};
-ghost use Rattle.alloc_book.specs.Book.{HasRoom};
 ghost use Rattle.alloc_book.specs.Claims.{has_claims};
 ghost use Rattle.core_rules.specs.Core.{all_free, is_ready};
 ghost use Rattle.core_rules.specs.Take.{Configures, concern, core_take, core_note, core_expired, limits, with_service, without_service, with_services_listed, listed_and_free, have_claims, shows, is_accepted, is_namespace, configured};
@@ -21,7 +20,7 @@ use crate::claims::{have_claims, keep_listed_claims, loses};
 use crate::keys::{Keys, all_free, drop_key, keep_listed, listed_and_free, own_and_waiting};
 use crate::room::{append_new, truncate_unless};
 use crate::state::{CoreState, is_ready};
-use alloc_book::{Book, Claim};
+use alloc_book::Claim;
 use core_rules::TakeFault;
 use kube_model::{Event, Group, Key, Kind, Object, Service};
 use mlb_base::{NoMemory, TryCopy};
@@ -224,15 +223,12 @@ impl CoreState {
         ensures ok { OnOk result (self.new ≡ held_service self.old version service) }
         ensures err { OnErr result (self.new ≡ self.old) }
     {
+        self.book.reserve(&prepared.claim)?;
         let object = Object::Service(service);
-        make_room_and_apply(
-            &mut self.book,
-            &prepared.claim,
-            &mut self.queue,
-            &mut self.cache,
-            &prepared.more,
-            Event::Changed { version, object },
-        )?;
+        let event = Event::Changed { version, object };
+        let applied =
+            queue_and_apply(&mut self.queue, &mut self.cache, &prepared.more, event)?;
+        drop(applied);
         self.book.settle_prepared(prepared.claim);
         drop_key(&mut self.awaiting, &prepared.key);
         self.waiting.release(prepared.is_lost, &prepared.key);
@@ -408,30 +404,6 @@ impl CoreState {
         self.waiting.clear();
         Ok(TakeNote::Quiet)
     }
-}
-
-/// Room for the claim, and the keys are queued and the event is applied. After want of memory no claim, key or object has changed.
-fn make_room_and_apply(
-    book: &mut Book,
-    claim: &Claim,
-    queue: &mut Keys,
-    cache: &mut ObjectCache,
-    more: &[Key],
-    event: Event,
-) -> Result<(), NoMemory>
-    requires once { AreApart more.now }
-    requires unqueued { NoneAmong more.now queue.old }
-    ensures claims { book.new.claims ≡ book.old.claims }
-    ensures claim_room { OnOk result (HasRoom book.new claim.now) }
-    ensures cache { OnOk result (cache.new ≡ cached_after (Watched event) cache.old) }
-    ensures queue { OnOk result (queue.new ≡ queue.old ++ more.now) }
-    ensures cache_err { OnErr result (cache.new ≡ cache.old) }
-    ensures queue_err { OnErr result (queue.new ≡ queue.old) }
-{
-    book.reserve(claim)?;
-    let applied = queue_and_apply(queue, cache, more, event)?;
-    drop(applied);
-    Ok(())
 }
 
 /// The keys are queued, and the event is applied. After want of memory nothing has changed.

@@ -9,8 +9,8 @@ use Rattle.ctl_core.proofs.WaitingEvents.{WaitIn, held-wait}
 use Rattle.ctl_core.proofs.WaitingQueued.{held-behind}
 use Rattle.ctl_core.proofs.state.CoreState.hold_prepared.Goals as goal
 
-pub make_room_and_apply-requires-clause-once : goal.make_room_and_apply-requires-clause-once
-make_room_and_apply-requires-clause-once c =
+pub queue_and_apply-requires-clause-once : goal.queue_and_apply-requires-clause-once
+queue_and_apply-requires-clause-once c =
     let i = c.self.inside in
     let s : State = record { class = i.class; held = i.cache; claims = i.book.claims; queue = i.queue; awaiting = i.awaiting; out = i.out } in
     let reached : IsReached s = rw (← c.self.view_is) at c.requires.reached in
@@ -19,8 +19,8 @@ make_room_and_apply-requires-clause-once c =
     let more_is = c.deref.ensures.value ∙ prepared.more_is in
     subst AreApart (sym more_is) (held-behind s c.args.version c.args.service reached newer).0
 
-pub make_room_and_apply-requires-clause-unqueued : goal.make_room_and_apply-requires-clause-unqueued
-make_room_and_apply-requires-clause-unqueued c =
+pub queue_and_apply-requires-clause-unqueued : goal.queue_and_apply-requires-clause-unqueued
+queue_and_apply-requires-clause-unqueued c =
     let i = c.self.inside in
     let s : State = record { class = i.class; held = i.cache; claims = i.book.claims; queue = i.queue; awaiting = i.awaiting; out = i.out } in
     let reached : IsReached s = rw (← c.self.view_is) at c.requires.reached in
@@ -38,8 +38,8 @@ invariant_of-self-2 c =
     let prepared : IsPrepared s c.args.service c.args.prepared = rw (← c.self.view_is) at c.requires.prepared in
     let more_is = c.deref.ensures.value ∙ prepared.more_is in
     let state_is = prepared-held s c.args.version c.args.service c.args.prepared _ c.deref.result.now _ _ _ prepared c.deref.ensures.value
-    c.in_ok-make_room_and_apply.ensures.cache c.in_ok-make_room_and_apply.ensures.queue
-    (c.settle_prepared.ensures.claims ∙ ap (settled c.args.prepared.claim.key c.args.prepared.claim.holding) c.make_room_and_apply.ensures.claims) c.drop_key.ensures in
+    c.in_ok-applied.ensures.cache c.in_ok-applied.ensures.queue
+    (c.settle_prepared.ensures.claims ∙ ap (settled c.args.prepared.claim.key c.args.prepared.claim.holding) c.reserve.ensures.claims) c.drop_key.ensures in
     subst (λ (t : State). WaitIn t c.release.new.self) (sym state_is)
     (held-wait s c.args.version c.args.service c.args.prepared.key c.args.prepared.is_lost i.waiting c.release.new.self reached c.self.invariant prepared.key_is prepared.lost_is c.release.ensures)
 
@@ -52,6 +52,6 @@ returns-clause-ok c =
     let prepared : IsPrepared s c.args.service c.args.prepared = rw (← c.self.view_is) at c.requires.prepared in
     let more_is = c.deref.ensures.value ∙ prepared.more_is in
     let state_is = prepared-held s c.args.version c.args.service c.args.prepared _ c.deref.result.now _ _ _ prepared c.deref.ensures.value
-    c.in_ok-make_room_and_apply.ensures.cache c.in_ok-make_room_and_apply.ensures.queue
-    (c.settle_prepared.ensures.claims ∙ ap (settled c.args.prepared.claim.key c.args.prepared.claim.holding) c.make_room_and_apply.ensures.claims) c.drop_key.ensures in
+    c.in_ok-applied.ensures.cache c.in_ok-applied.ensures.queue
+    (c.settle_prepared.ensures.claims ∙ ap (settled c.args.prepared.claim.key c.args.prepared.claim.holding) c.reserve.ensures.claims) c.drop_key.ensures in
     rw (← c.self.view_is) state_is

@@ -226,8 +226,7 @@ impl CoreState {
         self.book.reserve(&prepared.claim)?;
         let object = Object::Service(service);
         let event = Event::Changed { version, object };
-        let applied =
-            queue_and_apply(&mut self.queue, &mut self.cache, &prepared.more, event)?;
+        let applied = queue_and_apply(&mut self.queue, &mut self.cache, &prepared.more, event)?;
         drop(applied);
         self.book.settle_prepared(prepared.claim);
         drop_key(&mut self.awaiting, &prepared.key);

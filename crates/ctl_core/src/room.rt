@@ -9,24 +9,6 @@ use alloc_book::{Book, Claim};
 use kube_model::Key;
 use mlb_base::NoMemory;
 
-/// Room for the claim, and the keys to the back of the queue. After want of memory the queue is unchanged.
-pub(crate) fn make_room(
-    book: &mut Book,
-    claim: &Claim,
-    queue: &mut Keys,
-    more: &[Key],
-) -> Result<(), NoMemory>
-    requires once { AreApart more.now }
-    requires unqueued { NoneAmong more.now queue.old }
-    ensures claims { book.new.claims ≡ book.old.claims }
-    ensures claim_room { OnOk result (HasRoom book.new claim.now) }
-    ensures ok { OnOk result (queue.new ≡ queue.old ++ more.now) }
-    ensures err { OnErr result (queue.new ≡ queue.old) }
-{
-    book.reserve(claim)?;
-    append_new(queue, more)
-}
-
 /// Room for the claim, and the key to the back of the queue. After want of memory the queue is unchanged.
 pub(crate) fn make_room_for(
     book: &mut Book,

@@ -85,6 +85,13 @@ returns-in_default-clause-trial_safe g c = λ seed steps ask. trial-safe seed
 pub returns-clause-named : goal.returns-clause-named
 returns-clause-named g c = class-named (texts_of c.args.words.now)
 
+pub returns-clause-service_limit : goal.returns-clause-service_limit
+returns-clause-service_limit g c = λ ask what count held is.
+    let class = class_of (texts_of c.args.words.now) in
+    let begun : c.in-Ok.controller.core ≡ fresh (class_of (texts_of c.args.words.now)) = c.in-Ok.ensures ∙ ap fresh (class-asked (texts_of c.args.words.now) _ (sym (ap (λ x. Some (asked_seen x)) c.in-Some-Run.field-0-is) ∙ c.in-Some-Run.ensures.value)) in
+    let stopped : StopsFor controller_rules IsCause (fresh class) (g.S.Source.left c.args.input.now) (g.K.Sink.written c.args.out.now) (g.K.Sink.written c.run_machine-status.new.out) c.run_machine-status.result = rw begun at (c.run_machine-status.ensures.held_limit what count held is) in
+    stopped
+
 pub returns-clause-only : goal.returns-clause-only
 returns-clause-only g c = λ ask.
     let class = class_of (texts_of c.args.words.now) in

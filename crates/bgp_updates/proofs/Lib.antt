@@ -1,5 +1,6 @@
 pub mod Packing
 pub mod ReceivedLaws
+pub mod Halves
 pub mod Joining
 pub mod SmallGroups
 pub mod Spelling

@@ -297,7 +297,7 @@ same_terms-is s t h =
 
 -- ---- ascending prefixes are distinct
 
-before-other : (p q : PrefixValue) → before p q ≡ true → same_prefix p q ≡ true → ⊥
+pub before-other : (p q : PrefixValue) → before p q ≡ true → same_prefix p q ≡ true → ⊥
 before-other p q first same =
     let is = same_prefix-is p q same in
     let itself : before q q ≡ true = ap (λ r. before r q) (sym is) ∙ first in

@@ -2,8 +2,9 @@
 ghost use Rattle.std.specs.Prelude.{◌≡◌, ◌&&◌, [], IfOk, OnOk};
 ghost use Rattle.std.specs.Str.{bytes_eq};
 ghost use Rattle.bgp_updates.specs.Received.{changed, groups_from, same_preference, same_terms, stands_as, terms_at, with_route};
+ghost use Rattle.bgp_updates.specs.Tables.{IsTable};
 
-use crate::prefix::same_prefix;
+use crate::finding::route_at;
 use crate::route::{Group, Route, Terms};
 use ip_ranges::Prefix;
 use mlb_base::{NoMemory, Sequence, TryCopy};
@@ -16,6 +17,7 @@ pub(crate) fn changed_groups(
     old: &[Route],
     new: &[Route],
 ) -> Result<Vec<Group>, NoMemory>
+    requires { IsTable old.now }
     ensures { IfOk result (λ groups. groups.items ≡ groups_from same_terms [] (changed same_terms old.now new.now)) }
 {
     let mut groups = Vec::new(alloc);
@@ -34,19 +36,18 @@ fn same_terms(p: Option<u32>, c: &CommunityNumbers, q: Option<u32>, d: &Communit
 }
 
 fn stands(table: &[Route], route: &Route) -> bool
+    requires { IsTable table.now }
     ensures { result ≡ stands_as same_terms (terms_at table.now route.now.0) route.now.1 }
 {
-    for there in table {
-        if same_prefix(&route.prefix, &there.prefix) {
-            return same_terms(
-                there.preference,
-                &there.communities,
-                route.preference,
-                &route.communities,
-            );
-        }
+    match route_at(table, &route.prefix) {
+        Some(there) => same_terms(
+            there.preference,
+            &there.communities,
+            route.preference,
+            &route.communities,
+        ),
+        None => false,
     }
-    false
 }
 
 fn join(alloc: Global, groups: &mut Vec<Group>, route: &Route) -> Result<(), NoMemory>

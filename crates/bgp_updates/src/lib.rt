@@ -3,6 +3,7 @@
 //! Routes are of IPv4, and AS numbers have four octets (RFC 6793).
 #![tactic(auto)]
 
+mod finding;
 mod grouping;
 mod laws;
 mod octets;

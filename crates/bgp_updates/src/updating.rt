@@ -8,9 +8,9 @@ ghost use Rattle.bgp_updates.specs.Message.{part_messages};
 ghost use Rattle.bgp_updates.specs.Received.{changed, gone, groups_from, same_terms, terms_at};
 ghost use Rattle.bgp_updates.specs.Tables.{HasFew, IsTable};
 
+use crate::finding::route_at;
 use crate::grouping::changed_groups;
 use crate::pack::put_messages;
-use crate::prefix::same_prefix;
 use crate::route::{Group, MessageList, Peering, Route, RouteTable};
 use crate::writing::attribute_octets;
 use ip_ranges::{Address, Prefix};
@@ -82,6 +82,7 @@ fn put_withdrawals(
     new: &[Route],
 ) -> Result<(), NoMemory>
     requires old { IsTable old.now }
+    requires new { IsTable new.now }
     ensures { OnOk result (messages.new ≡ messages.old ++ part_messages [] (keys_of (gone old.now new.now))) }
 {
     let gone = gone_prefixes(alloc, old, new)?;
@@ -89,6 +90,7 @@ fn put_withdrawals(
 }
 
 fn gone_prefixes(alloc: Global, old: &[Route], new: &[Route]) -> Result<Vec<Prefix>, NoMemory>
+    requires { IsTable new.now }
     ensures { IfOk result (λ prefixes. prefixes.items ≡ keys_of (gone old.now new.now)) }
 {
     let mut prefixes = Vec::new(alloc);
@@ -101,14 +103,10 @@ fn gone_prefixes(alloc: Global, old: &[Route], new: &[Route]) -> Result<Vec<Pref
 }
 
 fn is_there(table: &[Route], prefix: &Prefix) -> bool
+    requires { IsTable table.now }
     ensures { result ≡ is_some (terms_at table.now prefix.now) }
 {
-    for there in table {
-        if same_prefix(prefix, &there.prefix) {
-            return true;
-        }
-    }
-    false
+    route_at(table, prefix).is_some()
 }
 
 /// Appends the messages that announce what the old table doesn't have equally.
@@ -119,6 +117,7 @@ fn put_announcements(
     new: &[Route],
     peering: &Peering,
 ) -> Result<(), NoMemory>
+    requires old { IsTable old.now }
     requires new { IsTable new.now }
     requires few { All HasFew new.now }
     ensures { OnOk result (messages.new ≡ messages.old ++ flat_map (group_messages peering.now) (groups_from same_terms [] (changed same_terms old.now new.now))) }

@@ -1,0 +1,84 @@
+-- Where the halves of a table meet, there the prefix's route stands, if it has one.
+use Rattle.std.proofs.Common.{◌≡◌, ℕ, zero, suc, ◌<◌, Bool, true, false, cond, List, [], ◌∷◌, length, get_or, Option, Some, None, refl, sym, ap, ◌∙◌, arith}
+use Rattle.std.specs.List.{list_all, list_any, slice_get}
+use Rattle.std.specs.List.Sorted.{IsPartitionPoint, IsPartitionedBy}
+use Rattle.std.specs.Map.{keys_of}
+use Rattle.std.specs.Option.{option_and_then}
+use Rattle.std.proofs.lemmas.Bool.Decides.{nat_tests}
+use Rattle.ip_ranges.specs.Values.{PrefixValue}
+use Rattle.bgp_updates.specs.declared.route.Terms.{Terms}
+use Rattle.bgp_updates.specs.Received.{same_prefix, terms_at}
+use Rattle.bgp_updates.specs.Tables.{Ascend, before}
+use Rattle.bgp_updates.proofs.ReceivedLaws.{before-other, both_true, none-same, not_true, or_parts, same_prefix-is}
+
+-- whether the route's prefix comes before this one
+abbrev pub is_below : PrefixValue → PrefixValue × Terms → Bool
+is_below p route = before route.0 p
+
+-- the halves of a table meet here
+abbrev pub AreHalves : PrefixValue → List (PrefixValue × Terms) → ℕ → Type 0
+AreHalves p table at = IsPartitionPoint (λ route. is_below p route ≡ true) (λ route. is_below p route ≡ false) table at
+
+-- the route's terms, where it is the prefix's
+abbrev pub terms_for : PrefixValue → PrefixValue × Terms → Option Terms
+terms_for p route = cond (same_prefix p route.0) (Some route.1) None
+
+pub before-before : (p q r : PrefixValue) → before p q ≡ true → before q r ≡ true → before p r ≡ true
+before-before p q r first second = grind (arith, nat_tests)
+
+not_before : (p q r : PrefixValue) → before p q ≡ true → before p r ≡ false → before r q ≡ true
+not_before p q r first other = grind (arith, nat_tests)
+
+before-each : (p r : PrefixValue) (prefixes : List PrefixValue) → before p r ≡ false → list_all (before p) prefixes ≡ true → list_all (before r) prefixes ≡ true
+before-each p r [] other all = refl
+before-each p r (q ∷ prefixes) other all =
+    let parts = both_true (before p q) (list_all (before p) prefixes) all in
+    rw (not_before p q r parts.0 other) (before-each p r prefixes other parts.1)
+
+before-at : (p : PrefixValue) (table : List (PrefixValue × Terms)) (at : ℕ) (d : PrefixValue × Terms) → list_all (before p) (keys_of table) ≡ true → at < length table → before p (get_or table at d).0 ≡ true
+before-at p [] at d all lt = absurd (omega arith)
+before-at p (route ∷ table) zero d all lt = (both_true (before p route.0) (list_all (before p) (keys_of table)) all).0
+before-at p (route ∷ table) (suc at) d all lt = before-at p table at d (both_true (before p route.0) (list_all (before p) (keys_of table)) all).1 (omega arith)
+
+pub has-halves : (p : PrefixValue) (table : List (PrefixValue × Terms)) → Ascend (keys_of table) → IsPartitionedBy (is_below p) table
+has-halves p [] ascend i j d le lt below = absurd (omega arith)
+has-halves p (route ∷ table) ascend zero zero d le lt below = below
+has-halves p (route ∷ table) ascend zero (suc j) d le lt below =
+    before-before route.0 (get_or table j d).0 p (before-at route.0 table j d ascend.0 (omega arith)) below
+has-halves p (route ∷ table) ascend (suc i) zero d le lt below = absurd (omega arith)
+has-halves p (route ∷ table) ascend (suc i) (suc j) d le lt below = has-halves p table ascend.1 i j d (omega arith) (omega arith) below
+
+terms_at-none : (p : PrefixValue) (table : List (PrefixValue × Terms)) → list_any (same_prefix p) (keys_of table) ≡ false → terms_at table p ≡ None
+terms_at-none p [] none = refl
+terms_at-none p (route ∷ table) none =
+    let parts = or_parts (same_prefix p route.0) (list_any (same_prefix p) (keys_of table)) none in
+    rw parts.0 (terms_at-none p table parts.1)
+
+halves-tail : (p : PrefixValue) (route : PrefixValue × Terms) (table : List (PrefixValue × Terms)) (at : ℕ) → AreHalves p (route ∷ table) (suc at) → AreHalves p table at
+halves-tail p route table at halves =
+    (λ k d low high. halves.0 (suc k) d (omega arith) (omega arith), λ k d low high. halves.1 (suc k) d (omega arith) (omega arith))
+
+below-other : (p : PrefixValue) (route : PrefixValue × Terms) → is_below p route ≡ true → same_prefix p route.0 ≡ false
+below-other p route below =
+    not_true (same_prefix p route.0) (λ same.
+    let is = same_prefix-is p route.0 same in
+    before-other route.0 p below (ap (λ q. same_prefix q p) (sym is) ∙ ap (same_prefix p) is ∙ same))
+
+pub terms_at-halves : (p : PrefixValue) (table : List (PrefixValue × Terms)) (at : ℕ) → Ascend (keys_of table) → AreHalves p table at
+    → terms_at table p ≡ option_and_then (terms_for p) (slice_get table at)
+terms_at-halves p [] at ascend halves = refl
+terms_at-halves p (route ∷ table) zero ascend halves =
+    let all = before-each route.0 p (keys_of table) (halves.1 zero route (omega arith) (omega arith)) ascend.0 in
+    ap (cond (same_prefix p route.0) (Some route.1)) (terms_at-none p table (none-same p (keys_of table) all))
+terms_at-halves p (route ∷ table) (suc at) ascend halves =
+    rw (below-other p route (halves.0 zero route (omega arith) (omega arith))) (terms_at-halves p table at ascend.1 (halves-tail p route table at halves))
+
+-- Where they meet, the prefix's route stands, if it has one.
+pub terms_at-there : (p : PrefixValue) (table : List (PrefixValue × Terms)) (at : ℕ) (there : PrefixValue × Terms) (own : Bool) → Ascend (keys_of table) → AreHalves p table at
+    → slice_get table at ≡ Some there → same_prefix p there.0 ≡ own → terms_at table p ≡ cond own (Some there.1) None
+terms_at-there p table at there own ascend halves is same =
+    terms_at-halves p table at ascend halves ∙ ap (option_and_then (terms_for p)) is ∙ ap (λ v. cond v (Some there.1) None) same
+
+-- Where they meet at the end, it has none.
+pub terms_at-past : (p : PrefixValue) (table : List (PrefixValue × Terms)) (at : ℕ) → Ascend (keys_of table) → AreHalves p table at → slice_get table at ≡ None → terms_at table p ≡ None
+terms_at-past p table at ascend halves past = terms_at-halves p table at ascend halves ∙ ap (option_and_then (terms_for p)) past

@@ -1,11 +1,10 @@
--- A contribution finds its place.
-use Rattle.std.proofs.Common.{◌≡◌, ℕ, zero, suc, ◌+◌, Bool, true, false, cond, ◌&&◌, ◌<◌, ◌≤◌, ◌==◌, List, [], ◌∷◌, ◌++◌, length, get_or, take, drop, set, refl, sym, ◌∙◌, ap, arith, drop-cons}
-use Rattle.std.specs.List.{list_all, AllByRecursion, insert, flat_map}
+-- A table stays one with a contribution, and contributions are united one after the other.
+use Rattle.std.proofs.Common.{◌≡◌, ℕ, zero, suc, ◌+◌, Bool, true, false, cond, ◌&&◌, ◌<◌, ◌==◌, List, [], ◌∷◌, ◌++◌, length, get_or, drop, refl, sym, ◌∙◌, ap, arith}
+use Rattle.std.specs.List.{list_all, AllByRecursion, flat_map}
 use Rattle.std.specs.Map.{keys_of}
 use Rattle.std.specs.Ordering.{nat_cmp}
 use Rattle.std.specs.BTreeSet.{insert_key}
 use Rattle.std.proofs.lemmas.Bool.Decides.{nat_tests}
-use Rattle.std.proofs.lemmas.List.{set_split, get_or_default, drop_all, take_all}
 use Rattle.ip_ranges.specs.declared.family.Family.{Family}
 use Rattle.ip_ranges.specs.declared.family.Family.TheVariants.{V4, V6}
 use Rattle.ip_ranges.specs.Values.{PrefixValue, same_family}
@@ -14,46 +13,8 @@ use Rattle.bgp_updates.specs.Received.{same_prefix}
 use Rattle.bgp_routes.specs.Uniting.{united_terms, with_contribution, with_contributions, with_each}
 use Rattle.pool_config.specs.Numbers.{ascending_with}
 use Rattle.bgp_updates.specs.Tables.{Ascend, IsTable, IsV4, before}
+use Rattle.bgp_updates.proofs.Halves.{before-before}
 use Rattle.bgp_updates.proofs.ReceivedLaws.{both_true, by_bool}
-
--- No route before the index is the contribution's place.
-pub record IsPlaced (routes start : List (PrefixValue × Terms)) (index : ℕ) (c : PrefixValue × Terms) : Type 0 where
-  pub same : routes ≡ start
-  pub rest : take index routes ++ with_contribution (drop index routes) c ≡ with_contribution start c
-
-at : (routes : List (PrefixValue × Terms)) (index : ℕ) (route : PrefixValue × Terms) → index < length routes → route ≡ get_or routes index route
-    → drop index routes ≡ route ∷ drop (suc index) routes
-at routes index route there is = drop-cons routes index route there ∙ ap (λ r. r ∷ drop (suc index) routes) (sym is)
-
-pub joined : (routes start : List (PrefixValue × Terms)) (index : ℕ) (c seen route made : PrefixValue × Terms) → IsPlaced routes start index c → index < length routes
-    → seen ≡ get_or routes index seen → route ≡ get_or routes index route → same_prefix c.0 seen.0 ≡ true → made ≡ (route.0, united_terms route.1 c.1)
-    → set routes index made ≡ with_contribution start c
-joined routes start index c seen route made held there is_seen is alike is_made =
-    let one : seen ≡ route = is_seen ∙ get_or_default routes index seen route there ∙ sym is in
-    let alike_route : same_prefix c.0 route.0 ≡ true = ap (λ r. same_prefix c.0 r.0) (sym one) ∙ alike in
-    let joins : with_contribution (route ∷ drop (suc index) routes) c ≡ (route.0, united_terms route.1 c.1) ∷ drop (suc index) routes = rw alike_route refl in
-    set_split routes index made there
-    ∙ ap (λ m. take index routes ++ m ∷ drop (suc index) routes) is_made
-    ∙ ap (λ rest. take index routes ++ rest) (sym (ap (λ rest. with_contribution rest c) (at routes index route there is) ∙ joins))
-    ∙ held.rest
-
-pub inserted : (routes start : List (PrefixValue × Terms)) (index : ℕ) (c seen route : PrefixValue × Terms) → IsPlaced routes start index c → index < length routes
-    → seen ≡ get_or routes index seen → route ≡ get_or routes index route → same_prefix c.0 seen.0 ≡ false → before c.0 route.0 ≡ true
-    → insert routes index c ≡ with_contribution start c
-inserted routes start index c seen route held there is_seen is other first =
-    let one : seen ≡ route = is_seen ∙ get_or_default routes index seen route there ∙ sym is in
-    let other_route : same_prefix c.0 route.0 ≡ false = ap (λ r. same_prefix c.0 r.0) (sym one) ∙ other in
-    let joins : with_contribution (route ∷ drop (suc index) routes) c ≡ c ∷ route ∷ drop (suc index) routes = rw (other_route, first) refl in
-    ap (λ rest. take index routes ++ c ∷ rest) (at routes index route there is)
-    ∙ ap (λ rest. take index routes ++ rest) (sym (ap (λ rest. with_contribution rest c) (at routes index route there is) ∙ joins))
-    ∙ held.rest
-
-pub appended : (routes start : List (PrefixValue × Terms)) (index : ℕ) (c : PrefixValue × Terms) → IsPlaced routes start index c → length routes ≤ index
-    → routes ++ c ∷ [] ≡ with_contribution start c
-appended routes start index c held past =
-    ap (λ front. front ++ c ∷ []) (sym (take_all index routes past))
-    ∙ ap (λ rest. take index routes ++ with_contribution rest c) (sym (drop_all index routes past))
-    ∙ held.rest
 
 -- ---- a table stays a table
 
@@ -85,9 +46,6 @@ before-all p (route ∷ routes) c all is =
       ]
     ]
 
-before-before : (p q r : PrefixValue) → before p q ≡ true → before q r ≡ true → before p r ≡ true
-before-before p q r a b = grind (arith, nat_tests)
-
 pub before-rest : (p q : PrefixValue) (prefixes : List PrefixValue) → before p q ≡ true → list_all (before q) prefixes ≡ true → list_all (before p) prefixes ≡ true
 before-rest p q [] first all = refl
 before-rest p q (r ∷ prefixes) first all =
@@ -98,7 +56,7 @@ numbers-other : (a b l m : ℕ) → ((a == b) && (l == m)) ≡ false → before 
     → before (record { family = V4; number = b; length = m }) (record { family = V4; number = a; length = l }) ≡ true
 numbers-other a b l m other late = grind (arith, nat_tests)
 
-same-numbers : (f g : Family) (a b l m : ℕ) → f ≡ V4 → g ≡ V4 → ((same_family f g && (a == b)) && (l == m)) ≡ ((a == b) && (l == m))
+pub same-numbers : (f g : Family) (a b l m : ℕ) → f ≡ V4 → g ≡ V4 → ((same_family f g && (a == b)) && (l == m)) ≡ ((a == b) && (l == m))
 same-numbers V4 V4 a b l m x y = refl
 same-numbers V4 V6 a b l m x y = absurd (cc)
 same-numbers V6 g a b l m x y = absurd (cc)
@@ -107,7 +65,7 @@ same-numbers V6 g a b l m x y = absurd (cc)
 abbrev pub OfV4 : PrefixValue → Type 0
 OfV4 p = p.family ≡ V4
 
-v4-keys : (prefixes : List PrefixValue) → AllByRecursion IsV4 prefixes → AllByRecursion OfV4 prefixes
+pub v4-keys : (prefixes : List PrefixValue) → AllByRecursion IsV4 prefixes → AllByRecursion OfV4 prefixes
 v4-keys [] all = tt
 v4-keys (p ∷ prefixes) all = (all.0.v4, v4-keys prefixes all.1)
 

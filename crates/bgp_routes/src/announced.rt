@@ -9,14 +9,14 @@ ghost use Rattle.bgp_routes.specs.Laws.{AreRoutes};
 ghost use Rattle.bgp_routes.specs.Routes.{advertises, is_for, of_address, of_pool, of_service, routes_of};
 ghost use Rattle.bgp_routes.specs.Uniting.{with_contributions, with_each};
 
-use crate::uniting::add;
+use crate::uniting::UnitedRoutes;
 use bgp_updates::{Route, RouteTable};
 use ip_ranges::{Address, Family, mask};
 use kube_labels::Text;
 use kube_model::Service;
 use mlb_base::{NoMemory, TryCopy};
 use pool_config::{CompiledBgp, CompiledPeer, CompiledPool, Config};
-use speaker_view::View;
+use speaker_view::{ServiceSlices, View};
 use std::alloc::Global;
 
 /// The routes that the node announces to the peer.
@@ -37,68 +37,66 @@ pub fn routes(
     ensures table { IfOk result (λ table. IsTable table) }
 {
     let node = Text::new(alloc, node)?;
-    let routes = collected(alloc, view, &node, peer)?;
+    let united = united_routes(alloc, view, &node, peer)?;
+    let routes = united.into_vec()?;
     Ok(RouteTable::from_vec(routes))
 }
 
 #[tactic(auto, using(crate::proofs::Placing::with_each_flat))]
-fn collected(
+fn united_routes(
     alloc: Global,
     view: &View,
     node: &Text,
     peer: &CompiledPeer,
-) -> Result<Vec<Route>, NoMemory>
-    ensures value { IfOk result (λ routes. routes.items ≡ routes_of view.now node.now peer.now) }
-    ensures table { IfOk result (λ routes. IsTable routes.items) }
+) -> Result<UnitedRoutes, NoMemory>
+    ensures { IfOk result (λ routes. routes ≡ routes_of view.now node.now peer.now) }
 {
-    let mut routes = Vec::new(alloc);
+    let mut routes = UnitedRoutes::new(alloc);
     if !peer.selects(view.node_labels(node)) {
         return Ok(routes);
     }
     let Some(config) = view.config() else {
         return Ok(routes);
     };
-    add_services(alloc, &mut routes, view, node, peer, config)?;
+    let slices = view.service_slices(alloc)?;
+    add_services(&mut routes, view, &slices, node, peer, config)?;
     Ok(routes)
 }
 
 fn add_services(
-    alloc: Global,
-    routes: &mut Vec<Route>,
+    routes: &mut UnitedRoutes,
     view: &View,
+    slices: &ServiceSlices<'_>,
     node: &Text,
     peer: &CompiledPeer,
     config: &Config,
 ) -> Result<(), NoMemory>
-    requires table { IsTable routes.old.items }
-    ensures value { OnOk result (routes.new.items ≡ with_each (of_service view.now node.now peer.now config.now) routes.old.items (objects_of view.now.held.services)) }
-    ensures table { OnOk result (IsTable routes.new.items) }
+    requires { slices.now ≡ objects_of view.now.held.slices }
+    ensures { OnOk result (routes.new ≡ with_each (of_service view.now node.now peer.now config.now) routes.old (objects_of view.now.held.services)) }
 {
     for (_, held) in view.services().iter() {
-        add_service(alloc, routes, view, node, peer, config, &held.object)?;
+        add_service(routes, view, slices, node, peer, config, &held.object)?;
     }
     Ok(())
 }
 
 #[tactic(auto, using(crate::proofs::Placing::with_each_flat))]
 fn add_service(
-    alloc: Global,
-    routes: &mut Vec<Route>,
+    routes: &mut UnitedRoutes,
     view: &View,
+    slices: &ServiceSlices<'_>,
     node: &Text,
     peer: &CompiledPeer,
     config: &Config,
     service: &Service,
 ) -> Result<(), NoMemory>
-    requires table { IsTable routes.old.items }
-    ensures value { OnOk result (routes.new.items ≡ with_contributions routes.old.items (of_service view.now node.now peer.now config.now service.now)) }
-    ensures table { OnOk result (IsTable routes.new.items) }
+    requires { slices.now ≡ objects_of view.now.held.slices }
+    ensures { OnOk result (routes.new ≡ with_contributions routes.old (of_service view.now node.now peer.now config.now service.now)) }
 {
-    if !view.can_announce(service, node) {
+    if !view.can_announce_by(slices, service, node) {
         return Ok(());
     }
     add_addresses(
-        alloc,
         routes,
         view,
         node,
@@ -109,43 +107,36 @@ fn add_service(
 }
 
 fn add_addresses(
-    alloc: Global,
-    routes: &mut Vec<Route>,
+    routes: &mut UnitedRoutes,
     view: &View,
     node: &Text,
     peer: &CompiledPeer,
     config: &Config,
     addresses: &[Address],
 ) -> Result<(), NoMemory>
-    requires table { IsTable routes.old.items }
-    ensures value { OnOk result (routes.new.items ≡ with_each (of_address view.now node.now peer.now config.now) routes.old.items addresses.now) }
-    ensures table { OnOk result (IsTable routes.new.items) }
+    ensures { OnOk result (routes.new ≡ with_each (of_address view.now node.now peer.now config.now) routes.old addresses.now) }
 {
     for address in addresses {
-        add_address(alloc, routes, view, node, peer, config, address)?;
+        add_address(routes, view, node, peer, config, address)?;
     }
     Ok(())
 }
 
 fn add_address(
-    alloc: Global,
-    routes: &mut Vec<Route>,
+    routes: &mut UnitedRoutes,
     view: &View,
     node: &Text,
     peer: &CompiledPeer,
     config: &Config,
     address: &Address,
 ) -> Result<(), NoMemory>
-    requires table { IsTable routes.old.items }
-    ensures value { OnOk result (routes.new.items ≡ with_contributions routes.old.items (of_address view.now node.now peer.now config.now address.now)) }
-    ensures table { OnOk result (IsTable routes.new.items) }
+    ensures { OnOk result (routes.new ≡ with_contributions routes.old (of_address view.now node.now peer.now config.now address.now)) }
 {
     match address.family {
         Family::V6 => Ok(()),
         Family::V4 => match config.pool_with(address) {
             None => Ok(()),
             Some(pool) => add_pool(
-                alloc,
                 routes,
                 view,
                 node,
@@ -159,8 +150,7 @@ fn add_address(
 }
 
 fn add_pool(
-    alloc: Global,
-    routes: &mut Vec<Route>,
+    routes: &mut UnitedRoutes,
     view: &View,
     node: &Text,
     peer: &CompiledPeer,
@@ -168,15 +158,13 @@ fn add_pool(
     pool: &CompiledPool,
     bgp: &[CompiledBgp],
 ) -> Result<(), NoMemory>
-    requires v4 { address.now.family ≡ V4 }
-    requires table { IsTable routes.old.items }
-    ensures value { OnOk result (routes.new.items ≡ with_contributions routes.old.items (of_pool view.now node.now peer.now address.now pool.now bgp.now)) }
-    ensures table { OnOk result (IsTable routes.new.items) }
+    requires { address.now.family ≡ V4 }
+    ensures { OnOk result (routes.new ≡ with_contributions routes.old (of_pool view.now node.now peer.now address.now pool.now bgp.now)) }
 {
     for advertisement in bgp {
         if advertises(view, node, peer, pool, advertisement) {
             let route = contribution(peer, address, advertisement)?;
-            add(alloc, routes, route)?;
+            routes.add(route)?;
         }
     }
     Ok(())

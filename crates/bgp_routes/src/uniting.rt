@@ -1,49 +1,96 @@
 //! Contributions, united to routes.
-ghost use Rattle.std.specs.Prelude.{◌≡◌, IfOk, OnOk};
+ghost use Rattle.std.specs.Prelude.{◌≡◌, [], IfOk, OnOk};
+ghost use Rattle.std.specs.Option.{option_copied};
 ghost use Rattle.pool_config.specs.Numbers.{ascending_with};
-ghost use Rattle.bgp_updates.specs.Received.{same_prefix};
-ghost use Rattle.bgp_updates.specs.Tables.{before, IsTable, IsV4};
+ghost use Rattle.bgp_updates.specs.Tables.{IsTable, IsV4};
+ghost use Rattle.bgp_routes.specs.Placed.{place_of, united_with};
 ghost use Rattle.bgp_routes.specs.Uniting.{greater, united, united_terms, with_contribution};
 
-use bgp_updates::{Route, is_before};
-use ip_ranges::Prefix;
+use bgp_updates::Route;
 use mlb_base::NoMemory;
 use pool_config::{CommunityNumbers, numbers_from};
 use std::alloc::Global;
-use std::collections::BTreeSet;
+use std::collections::{BTreeMap, BTreeSet};
+use std::marker::Model;
 
-/// A contribution is united with the route of its prefix, or is a route of its own in its place.
-pub(crate) fn add(alloc: Global, routes: &mut Vec<Route>, route: Route) -> Result<(), NoMemory>
-    requires table { IsTable routes.old.items }
-    requires prefix { IsV4 route.0 }
-    ensures value { OnOk result (routes.new.items ≡ with_contribution routes.old.items route) }
-    ensures table { OnOk result (IsTable routes.new.items) }
-{
-    for i in 0..routes.len() {
-        if is_at(&routes[i], &route) {
-            let joined = united_route(alloc, &routes[i], &route)?;
-            routes[i] = joined;
-            return Ok(());
-        }
-        if is_past(&routes[i], &route) {
-            routes.insert(i, route)?;
-            return Ok(());
+/// Routes of IPv4 prefixes, one a prefix, which contracts see as their list by ascending prefix. A contribution finds its place in the
+/// logarithm of their number.
+#[derive(Drop)]
+pub(crate) struct UnitedRoutes {
+    alloc: Global,
+    routes: BTreeMap<Place, Route>,
+}
+
+/// The place of an IPv4 prefix: places ascend by number, then by length.
+#[derive(Clone, Copy, PartialEq, Eq, PartialOrd, Ord)]
+struct Place {
+    number: u128,
+    length: u8,
+}
+
+impl Model for UnitedRoutes {
+    ghost use Rattle.std.specs.Prelude.{List};
+    ghost use Rattle.std.specs.Map.{values_of};
+    ghost use Rattle.ip_ranges.specs.Values.{PrefixValue};
+    ghost use Rattle.bgp_updates.specs.declared.route.Terms.{Terms};
+    ghost use Rattle.bgp_updates.specs.Tables.{IsTable};
+    ghost use Rattle.bgp_routes.specs.Placed.{ArePlaced};
+
+    ghost Value = { List (PrefixValue × Terms) };
+
+    ghost view = { λ r. values_of r.routes.entries };
+
+    ghost invariant = { λ r. ArePlaced r.routes.entries × IsTable (values_of r.routes.entries) };
+}
+
+impl UnitedRoutes {
+    /// No routes, which take no memory.
+    pub(crate) fn new(alloc: Global) -> UnitedRoutes
+        ensures { result ≡ [] }
+    {
+        UnitedRoutes {
+            alloc,
+            routes: BTreeMap::new(alloc),
         }
     }
-    routes.push(route)?;
-    Ok(())
+
+    /// A contribution is united with the route of its prefix, or is a route of its own in its place.
+    pub(crate) fn add(&mut self, route: Route) -> Result<(), NoMemory>
+        requires { IsV4 route.0 }
+        ensures { OnOk result (self.new ≡ with_contribution self.old route) }
+    {
+        let place = place_of(&route);
+        let joined = united_with(self.alloc, self.routes.get(&place), route)?;
+        let _before = self.routes.insert(place, joined)?;
+        Ok(())
+    }
+
+    /// The routes, by ascending prefix.
+    pub(crate) fn into_vec(self) -> Result<Vec<Route>, NoMemory>
+        ensures value { IfOk result (λ routes. routes.items ≡ self) }
+        ensures table { IfOk result (λ routes. IsTable routes.items) }
+    {
+        Ok(self.routes.into_values().collect(self.alloc)?)
+    }
 }
 
-fn is_at(there: &Route, route: &Route) -> bool
-    ensures { result ≡ same_prefix route.now.0 there.now.0 }
+fn place_of(route: &Route) -> Place
+    ensures { result ≡ place_of route.now.0 }
 {
-    route.prefix == there.prefix
+    Place {
+        number: route.prefix.number,
+        length: route.prefix.length,
+    }
 }
 
-fn is_past(there: &Route, route: &Route) -> bool
-    ensures { result ≡ before route.now.0 there.now.0 }
+/// The contribution, united with the route that stands at its place, if any.
+fn united_with(alloc: Global, there: Option<&Route>, route: Route) -> Result<Route, NoMemory>
+    ensures { IfOk result (λ made. made ≡ united_with (option_copied there.entry) route) }
 {
-    is_before(&route.prefix, &there.prefix)
+    match there {
+        None => Ok(route),
+        Some(there) => united_route(alloc, there, &route),
+    }
 }
 
 fn united_route(alloc: Global, there: &Route, route: &Route) -> Result<Route, NoMemory>

@@ -1,5 +1,5 @@
 -- Which nodes are eligible for an address.
-use Rattle.std.specs.Prelude.{◌≡◌, ℕ, Bool, false, ◌&&◌, List, Option, Some, None, Contains}
+use Rattle.std.specs.Prelude.{◌≡◌, ℕ, Bool, false, ◌&&◌, List, filter, Option, Some, None, Contains}
 use Rattle.std.specs.List.{list_any}
 use Rattle.ip_ranges.specs.Values.{AddressValue, has_address}
 use Rattle.kube_model.specs.declared.service.Service.{Service}
@@ -66,3 +66,12 @@ is_recorded v node address = recorded_in v (objects_of v.held.services) node add
 
 abbrev pub is_eligible : ViewValue → AddressValue → List ℕ → Bool
 is_eligible v address node = is_advertised v node address && is_recorded v node address
+
+-- ---- the same by the services that record the address
+-- those of the services that do
+abbrev pub recording : List Service → AddressValue → List Service
+recording services address = filter (λ service. has_address service.holding.addresses address) services
+
+-- one of the services can be announced from the node
+abbrev pub can_some_announce : ViewValue → List Service → List ℕ → Bool
+can_some_announce v services node = list_any (λ service. can_announce v service node) services

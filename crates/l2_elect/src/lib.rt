@@ -6,6 +6,6 @@ mod eligible;
 mod laws;
 mod listening;
 
-pub use election::{announcer, announces};
+pub use election::{announcer, announces, announces_among};
 pub use laws::{one_announces, only_an_eligible_node_announces};
 pub use listening::listens;

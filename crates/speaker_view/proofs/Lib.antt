@@ -1,3 +1,4 @@
 pub mod Applying
+pub mod Grouping
 pub mod Serving
 pub mod Shown

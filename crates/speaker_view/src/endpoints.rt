@@ -28,7 +28,7 @@ fn serves_from(policy: Policy, node: &Text, endpoint: &Endpoint) -> bool
     endpoint.usable && reaches(policy, node, endpoint.node.as_ref())
 }
 
-fn one_serves(policy: Policy, node: &Text, endpoints: &[Endpoint]) -> bool
+pub(crate) fn one_serves(policy: Policy, node: &Text, endpoints: &[Endpoint]) -> bool
     ensures { result ≡ list_any (serves_from policy node.now) endpoints.now }
 {
     endpoints
@@ -36,8 +36,8 @@ fn one_serves(policy: Policy, node: &Text, endpoints: &[Endpoint]) -> bool
         .any(|endpoint| serves_from(policy, node, endpoint))
 }
 
-/// Whether the slice is one of the service's.
-fn is_slice_of(key: &Key, slice: &EndpointSlice) -> bool
+/// Whether the slice is one of the service's: of its namespace, and with its name in the label `kubernetes.io/service-name`.
+pub fn is_slice_of(key: &Key, slice: &EndpointSlice) -> bool
     ensures { result ≡ is_slice_of key.now slice.now }
 {
     slice.key.namespace == key.namespace && slice.service == key.name

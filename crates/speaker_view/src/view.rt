@@ -6,12 +6,16 @@ ghost use Rattle.object_history.specs.Observations.{Watched};
 ghost use Rattle.object_history.specs.Cache.{cached_after};
 ghost use Rattle.object_cache.specs.Change.{applied};
 ghost use Rattle.object_cache.specs.Limits.{limit_of};
+ghost use Rattle.kube_model.specs.Service.{is_handled};
 ghost use Rattle.speaker_view.specs.Endpoints.{endpoint_for, can_announce, node_labels, allows_balancers, HasEndpoint, CanAnnounce};
+ghost use Rattle.speaker_view.specs.Held.{objects_of};
 ghost use Rattle.speaker_view.specs.View.{fresh, view_after, note_by, limit_by};
 
 use crate::endpoints::some_serves;
+use crate::service_slices::ServiceSlices;
 use kube_labels::{Labels, Text, TextList};
-use kube_model::{Event, Key, Service};
+use kube_model::{EndpointSlice, Event, Key, Service};
+use mlb_base::NoMemory;
 use object_cache::{Applied, ApplyFault, ObjectCache, TakeNote};
 use pool_config::Config;
 use std::alloc::Global;
@@ -102,6 +106,13 @@ impl View {
         self.cache.services()
     }
 
+    /// The held endpoint slices, by key.
+    pub fn slices(&self) -> &VersionedMap<Key, EndpointSlice>
+        ensures { result.now ≡ self.now.held.slices }
+    {
+        self.cache.slices()
+    }
+
     /// Whether some endpoint slice of the service has a usable endpoint, and for the policy Local one on the node. It takes no
     /// memory.
     pub fn endpoint_for(&self, service: &Service, node: &Text) -> bool
@@ -129,9 +140,43 @@ impl View {
     fn announces_from(&self, service: &Service, node: &Text) -> bool
         ensures { result ≡ can_announce self.now service.now node.now }
     {
+        self.handles(service) && self.serves_from(service, node) && self.lets_balance(node)
+    }
+
+    /// The held endpoint slices, by the service that they are of, in the time that sorting takes. `NoMemory` may come at any time.
+    pub fn service_slices(&self, alloc: Global) -> Result<ServiceSlices<'_>, NoMemory>
+        ensures { IfOk result (λ slices. slices ≡ objects_of self.now.held.slices) }
+    {
+        ServiceSlices::new(alloc, self.cache.slices())
+    }
+
+    /// What `can_announce` answers, by the slices of this view, of which it looks at the service's alone. It takes no memory.
+    pub fn can_announce_by(
+        &self,
+        slices: &ServiceSlices<'_>,
+        service: &Service,
+        node: &Text,
+    ) -> bool
+        requires { slices.now ≡ objects_of self.now.held.slices }
+        ensures value { result ≡ can_announce self.now service.now node.now }
+    {
+        self.handles(service)
+            && slices.serves(&service.key, service.policy, node)
+            && self.lets_balance(node)
+    }
+
+    /// Whether the service is of the speaker's class.
+    fn handles(&self, service: &Service) -> bool
+        ensures { result ≡ is_handled self.now.class service.now }
+    {
         service.is_handled(self.class.as_ref())
-            && self.serves_from(service, node)
-            && allows_balancers(self.node_labels(node))
+    }
+
+    /// Whether the node isn't kept from load balancers.
+    fn lets_balance(&self, node: &Text) -> bool
+        ensures { result ≡ allows_balancers (node_labels self.now node.now) }
+    {
+        allows_balancers(self.node_labels(node))
     }
 }
 

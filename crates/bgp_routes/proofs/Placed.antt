@@ -1,0 +1,138 @@
+-- A contribution finds its place.
+use Rattle.std.proofs.Common.{◌≡◌, ℕ, Bool, true, false, cond, ◌&&◌, ◌||◌, ◌==◌, nat_lt, List, [], ◌∷◌, Option, Some, None, Ordering, Less, Equal, Greater, is_eq, refl, sym, ap, ◌∙◌, subst, arith}
+use Rattle.std.proofs.lemmas.Bool.Decides.{nat_tests}
+use Rattle.std.proofs.lemmas.Map.{lookup-none}
+use Rattle.std.proofs.lemmas.Map.Entries.{none_below_head}
+use Rattle.std.proofs.lemmas.Map.Lookups.{CmpEqualImpliesEq, exact_pairs, exact_unsigned}
+use Rattle.std.specs.BTreeMap.{insert_entry, is_at}
+use Rattle.std.specs.Cmp.{IsTotalOrder, nat_cmp_total, on_total, then_total}
+use Rattle.std.specs.List.{AllByRecursion}
+use Rattle.std.specs.List.Sorted.{IsStrictlySortedBy}
+use Rattle.std.specs.Map.{lookup, keys_of, values_of}
+use Rattle.std.specs.Ordering.{match_ordering, nat_cmp, ordering_then}
+use Rattle.ip_ranges.specs.Values.{PrefixValue}
+use Rattle.bgp_updates.specs.declared.route.Terms.{Terms}
+use Rattle.bgp_updates.specs.Received.{same_prefix}
+use Rattle.bgp_updates.specs.Tables.{IsTable, IsV4, before}
+use Rattle.bgp_routes.specs.declared.uniting.Place.{Place}
+use Rattle.bgp_routes.specs.Placed.{ArePlaced, place_cmp, place_of, united_with}
+use Rattle.bgp_routes.specs.Uniting.{with_contribution}
+use Rattle.bgp_routes.proofs.Placing.{OfV4, same-numbers, stays, v4-keys}
+
+abbrev Entries : Type 0
+Entries = List (Place × (PrefixValue × Terms))
+
+-- ---- the order of places
+place_cmp-total : IsTotalOrder place_cmp
+place_cmp-total = then_total (on_total (λ (p : Place). p.number) nat_cmp_total) (on_total (λ (p : Place). p.length) nat_cmp_total)
+
+place_cmp-exact : CmpEqualImpliesEq place_cmp
+place_cmp-exact a b e =
+    let at : ℕ × ℕ → Place = λ p. record { number = p.0; length = p.1 } in
+    ap at (exact_pairs nat_cmp nat_cmp exact_unsigned exact_unsigned (a.number, a.length) (b.number, b.length) e)
+
+-- what an order says by the two tests: whether the prefixes are one, and whether the first is before
+abbrev is_less : Ordering → Bool
+is_less r = match_ordering r true false false
+
+numbers-same : (a b l m : ℕ) → ((a == b) && (l == m)) ≡ is_eq (ordering_then (nat_cmp a b) (nat_cmp l m))
+numbers-same a b l m = grind (arith, nat_tests)
+
+numbers-before : (a b l m : ℕ) → (nat_lt a b || ((a == b) && nat_lt l m)) ≡ is_less (ordering_then (nat_cmp a b) (nat_cmp l m))
+numbers-before a b l m = grind (arith, nat_tests)
+
+same-by-place : (p q : PrefixValue) → OfV4 p → OfV4 q → same_prefix p q ≡ is_eq (place_cmp (place_of p) (place_of q))
+same-by-place p q is are =
+    same-numbers p.family q.family p.number q.number p.length q.length is are ∙ numbers-same p.number q.number p.length q.length
+
+before-by-place : (p q : PrefixValue) → before p q ≡ is_less (place_cmp (place_of p) (place_of q))
+before-by-place p q = numbers-before p.number q.number p.length q.length
+
+-- ---- the route that stands at the place
+found-by : (r : Ordering) (e : Place × (PrefixValue × Terms)) (rest : Option (PrefixValue × Terms)) (place : Place) (route : PrefixValue × Terms) → place_cmp place e.0 ≡ r → e.0 ≡ place_of e.1.0
+    → (rest ≡ Some route → place_of route.0 ≡ place) → cond (is_eq r) (Some e.1) rest ≡ Some route → place_of route.0 ≡ place
+found-by Less e rest place route is own later found = later found
+found-by Equal e rest place route is own later found =
+    let first : e.1 ≡ route = cc in
+    ap (λ (r : PrefixValue × Terms). place_of r.0) (sym first) ∙ sym own ∙ sym (place_cmp-exact place e.0 is)
+found-by Greater e rest place route is own later found = later found
+
+found-place : (entries : Entries) (place : Place) (route : PrefixValue × Terms) → ArePlaced entries → lookup (is_at (place_cmp place)) entries ≡ Some route → place_of route.0 ≡ place
+found-place [] place route placed found = absurd (cc)
+found-place (e ∷ entries) place route placed found =
+    found-by (place_cmp place e.0) e (lookup (is_at (place_cmp place)) entries) place route refl placed.0 (found-place entries place route placed.1) found
+
+united-place : (found : Option (PrefixValue × Terms)) (c : PrefixValue × Terms) → ((route : PrefixValue × Terms) → found ≡ Some route → place_of route.0 ≡ place_of c.0)
+    → place_of (united_with found c).0 ≡ place_of c.0
+united-place None c same = refl
+united-place (Some route) c same = same route refl
+
+-- ---- the entries with the contribution
+placed-by : (r : Ordering) (e : Place × (PrefixValue × Terms)) (entries more : Entries) (place : Place) (route : PrefixValue × Terms)
+    → place_cmp place e.0 ≡ r → place ≡ place_of route.0 → ArePlaced (e ∷ entries) → ArePlaced more
+    → ArePlaced (match_ordering r ((place, route) ∷ e ∷ entries) ((e.0, route) ∷ entries) (e ∷ more))
+placed-by Less e entries more place route is own placed ih = (own, placed)
+placed-by Equal e entries more place route is own placed ih = (sym (place_cmp-exact place e.0 is) ∙ own, placed.1)
+placed-by Greater e entries more place route is own placed ih = (placed.0, ih)
+
+stay-placed : (entries : Entries) (place : Place) (route : PrefixValue × Terms) → place ≡ place_of route.0 → ArePlaced entries → ArePlaced (insert_entry place_cmp entries place route)
+stay-placed [] place route own placed = (own, tt)
+stay-placed (e ∷ entries) place route own placed =
+    placed-by (place_cmp place e.0) e entries (insert_entry place_cmp entries place route) place route refl own placed (stay-placed entries place route own placed.1)
+
+values-by : (r : Ordering) (e : Place × (PrefixValue × Terms)) (entries more : Entries) (place : Place) (c : PrefixValue × Terms) (found : Option (PrefixValue × Terms))
+    → same_prefix c.0 e.1.0 ≡ is_eq r → before c.0 e.1.0 ≡ is_less r
+    → (r ≡ Less → found ≡ None) → (r ≡ Equal → found ≡ Some e.1) → (r ≡ Greater → values_of more ≡ with_contribution (values_of entries) c)
+    → values_of (match_ordering r ((place, united_with found c) ∷ e ∷ entries) ((e.0, united_with found c) ∷ entries) (e ∷ more)) ≡ with_contribution (values_of (e ∷ entries)) c
+values-by Less e entries more place c found same first none here rest = rw (same, first, none refl) refl
+values-by Equal e entries more place c found same first none here rest = rw (same, here refl) refl
+values-by Greater e entries more place c found same first none here rest = rw (same, first) (ap (λ (routes : List (PrefixValue × Terms)). e.1 ∷ routes) (rest refl))
+
+-- a look-up passes over an entry before the place
+passes : {X : Type 0} (r : Ordering) (v : X) (rest : Option X) → r ≡ Greater → cond (is_eq r) (Some v) rest ≡ rest
+passes Less v rest e = absurd (cc)
+passes Equal v rest e = absurd (cc)
+passes Greater v rest e = refl
+
+finds : {X : Type 0} (r : Ordering) (v : X) (rest : Option X) → r ≡ Equal → cond (is_eq r) (Some v) rest ≡ Some v
+finds Less v rest e = absurd (cc)
+finds Equal v rest e = refl
+finds Greater v rest e = absurd (cc)
+
+values-with : (entries : Entries) (c : PrefixValue × Terms) → OfV4 c.0 → ArePlaced entries → AllByRecursion OfV4 (keys_of (values_of entries)) → IsStrictlySortedBy place_cmp (keys_of entries)
+    → values_of (insert_entry place_cmp entries (place_of c.0) (united_with (lookup (is_at (place_cmp (place_of c.0))) entries) c)) ≡ with_contribution (values_of entries) c
+unfolding IsStrictlySortedBy
+values-with [] c is placed are sorted = refl
+values-with (e ∷ entries) c is placed are sorted =
+    let place : Place = place_of c.0 in
+    let found : Option (PrefixValue × Terms) = lookup (is_at (place_cmp place)) (e ∷ entries) in
+    let rest : Option (PrefixValue × Terms) = lookup (is_at (place_cmp place)) entries in
+    let at : place_cmp place (place_of e.1.0) ≡ place_cmp place e.0 = ap (place_cmp place) (sym placed.0) in
+    values-by (place_cmp place e.0) e entries (insert_entry place_cmp entries place (united_with found c)) place c found
+    (same-by-place c.0 e.1.0 is are.0 ∙ ap is_eq at)
+    (before-by-place c.0 e.1.0 ∙ ap is_less at)
+    (λ less. lookup-none (is_at (place_cmp place)) (e ∷ entries) (none_below_head place_cmp-total place e entries sorted less))
+    (λ equal. finds (place_cmp place e.0) e.1 rest equal)
+    (λ greater. ap (λ (f : Option (PrefixValue × Terms)). values_of (insert_entry place_cmp entries place (united_with f c))) (passes (place_cmp place e.0) e.1 rest greater)
+    ∙ values-with entries c is placed.1 are.1 sorted.1)
+
+module _ (entries after : Entries) (c made : PrefixValue × Terms) (place : Place) (is : IsV4 c.0) (placed : ArePlaced entries × IsTable (values_of entries)) (sorted : IsStrictlySortedBy place_cmp (keys_of entries))
+    (is_place : place ≡ place_of c.0) (is_made : made ≡ united_with (lookup (is_at (place_cmp place)) entries) c) (is_after : after ≡ insert_entry place_cmp entries place made) where
+  pub contribution-placed : values_of after ≡ with_contribution (values_of entries) c
+  contribution-placed =
+      ap values_of is_after
+      ∙ ap (λ (m : PrefixValue × Terms). values_of (insert_entry place_cmp entries place m)) is_made
+      ∙ ap (λ (p : Place). values_of (insert_entry place_cmp entries p (united_with (lookup (is_at (place_cmp p)) entries) c))) is_place
+      ∙ values-with entries c is.v4 placed.0 (v4-keys (keys_of (values_of entries)) placed.1.0) sorted
+
+  made-place : place ≡ place_of made.0
+  made-place =
+      is_place
+      ∙ sym (united-place (lookup (is_at (place_cmp place)) entries) c (λ route found. found-place entries place route placed.0 found ∙ is_place))
+      ∙ ap (λ (m : PrefixValue × Terms). place_of m.0) (sym is_made)
+
+  pub stays-placed : ArePlaced after × IsTable (values_of after)
+  stays-placed = (
+    subst ArePlaced (sym is_after) (stay-placed entries place made made-place placed.0),
+    subst IsTable (sym contribution-placed) (stays (values_of entries) c placed.1 is),
+  )

@@ -1,0 +1,26 @@
+-- Routes, each at the place of its prefix.
+use Rattle.std.specs.Prelude.{◌≡◌, List, Option, Some, None}
+use Rattle.std.specs.List.{AllByRecursion}
+use Rattle.std.specs.Ordering.{nat_cmp, ordering_then}
+use Rattle.std.specs.declared.cmp.Ordering.{Ordering}
+use Rattle.ip_ranges.specs.Values.{PrefixValue}
+use Rattle.bgp_updates.specs.declared.route.Terms.{Terms}
+use Rattle.bgp_routes.specs.declared.uniting.Place.{Place}
+use Rattle.bgp_routes.specs.Uniting.{united_terms}
+
+-- the place of the prefix among those of IPv4
+abbrev pub place_of : PrefixValue → Place
+place_of p = record { number = p.number; length = p.length }
+
+-- places ascend by number, then by length
+abbrev pub place_cmp : Place → Place → Ordering
+place_cmp a b = ordering_then (nat_cmp a.number b.number) (nat_cmp a.length b.length)
+
+-- the contribution, united with the route that stands at its place, if any
+abbrev pub united_with : Option (PrefixValue × Terms) → PrefixValue × Terms → PrefixValue × Terms
+united_with None c = c
+united_with (Some route) c = (route.0, united_terms route.1 c.1)
+
+-- each route stands at the place of its prefix
+abbrev pub ArePlaced : List (Place × (PrefixValue × Terms)) → Type 0
+ArePlaced entries = AllByRecursion (λ e. e.0 ≡ place_of e.1.0) entries

@@ -75,6 +75,16 @@ module _ (name : Lane → LaneName) (file file' : List ℕ) (status : Status) (o
   second_failed T Failed is failed same = ((λ lane it. (inr (cc, failed), same)), (λ other. absurd (other (name Second) is)))
   second_failed T NoMemory is failed same = ((λ lane it. absurd (cc)), (λ other. failed))
 
+-- Both inputs were just opened, and the reader has read nothing: what is so of them is so of the bytes of their files.
+pub of_files : (own own' : List ℕ) (bytes bytes' told : Option (List ℕ)) (name left : Option (List ℕ)) (faults : ℕ) (name' left' : Option (List ℕ)) (faults' : ℕ) → IsOpened name left faults own bytes → IsOpened name' left' faults' own' told → told ≡ bytes'
+    → (reader : Reading) → reader ≡ unread → (So : SourceView → SourceView → Reading → Type 0) → So (source_view left name faults) (source_view left' name' faults') reader → So (source_view bytes (Some own) 0) (source_view bytes' (Some own') 0) unread
+of_files own own' bytes bytes' told name left faults name' left' faults' opened opened' same reader fresh So so =
+    let one : source_view left name faults ≡ source_view bytes (Some own) 0 = rw (opened.named, opened.whole, opened.none) refl in
+    let two : source_view left' name' faults' ≡ source_view bytes' (Some own') 0 = rw (opened'.named, opened'.whole, opened'.none, same) refl in
+    let x = subst (λ (v : SourceView). So v (source_view left' name' faults') reader) one so in
+    let y = subst (λ (v : SourceView). So (source_view bytes (Some own) 0) v reader) two x in
+    subst (λ (r : Reading). So (source_view bytes (Some own) 0) (source_view bytes' (Some own') 0) r) fresh y
+
 module _ {S E : Type 0} (belongs : Lane → Event → Bool) (rules : LaneRules S E) (start : S) (quiet : rules.waits start ≡ false) where
   -- nothing was read or written
   pub ends_none : (file file' : List ℕ) (files files' : FilesView) (first second replies : SourceView) (before : Option (List ℕ)) (writes : ℕ) (status : Status) → status ≡ statuses.NoMemory
@@ -93,12 +103,8 @@ module _ {S E : Type 0} (belongs : Lane → Event → Bool) (rules : LaneRules S
       (reader : Reading) (fresh : reader ≡ unread) (first second replies : SourceView) (before : Option (List ℕ)) (writes : ℕ) (after : Outside) (status : Status)
       (run : EndsSo belongs rules start (source_view left name faults) first (source_view left' name' faults') second (outside reader replies before writes) after status) where
     over_files : EndsSo belongs rules start (source_view bytes (Some own) 0) first (source_view bytes' (Some own') 0) second (outside unread replies before writes) after status
-    over_files =
-        let one : source_view left name faults ≡ source_view bytes (Some own) 0 = rw (opened.named, opened.whole, opened.none) refl in
-        let two : source_view left' name' faults' ≡ source_view bytes' (Some own') 0 = rw (opened'.named, opened'.whole, opened'.none, same) refl in
-        let x = subst (λ (v : SourceView). EndsSo belongs rules start v first (source_view left' name' faults') second (outside reader replies before writes) after status) one run in
-        let y = subst (λ (v : SourceView). EndsSo belongs rules start (source_view bytes (Some own) 0) first v second (outside reader replies before writes) after status) two x in
-        subst (λ (r : Reading). EndsSo belongs rules start (source_view bytes (Some own) 0) first (source_view bytes' (Some own') 0) second (outside r replies before writes) after status) fresh y
+    over_files = of_files own own' bytes bytes' told name left faults name' left' faults' opened opened' same reader fresh
+        (λ v v' r. EndsSo belongs rules start v first v' second (outside r replies before writes) after status) run
 
     pub ends_with : (files files' : FilesView) → (first.faults ≢ 0 → Rose (times own files.failed_reads) (times own files'.failed_reads)) → (second.faults ≢ 0 → Rose (times own' files.failed_reads) (times own' files'.failed_reads))
         → EndsWith belongs rules start own own' files files' (source_view bytes (Some own) 0) (source_view bytes' (Some own') 0) replies after.replies before after.written writes after.faults status

@@ -5,13 +5,14 @@ use Rattle.std.proofs.lemmas.Grind.{flat_map-append}
 use Rattle.std.proofs.lemmas.List.{append-nil}
 use Rattle.kube_model.specs.declared.status.Status.{Status}
 use Rattle.lane_mail.specs.declared.item.Item.{Item}
-use Rattle.lane_run.specs.Reconciled.{AreDriven}
+use Rattle.lane_run.specs.Reconciled.{AreDriven, AsksIn}
 use Rattle.lane_run.specs.Views.{SourceView, Outside}
 use Rattle.line_run.specs.Ended.{status_of_refusal}
 use Rattle.line_run.specs.Machine.{Goes}
 use Rattle.line_run.specs.Text.{line_of}
 use Rattle.line_run.specs.declared.halt.Refusal.{Refusal}
 use Rattle.kube_lines.specs.OutputLines.{took_text}
+use Rattle.lane_drive.specs.Asking.{AwaitsMore, AwaitsReply, AsksFor}
 use Rattle.lane_drive.specs.LaneRules.{LaneRules, item_text, TakesItem, RefusesItem}
 use Rattle.lane_drive.specs.Drive.{Told, AreHeard, AreTaken, Drives, told_text}
 use Rattle.lane_drive.specs.Hearing.{HearsSome, Hears, StopsHearing, DrivesItem, FailsItem, RefusesNext}
@@ -177,6 +178,16 @@ module _ {S E : Type 0} (rules : LaneRules S E) where
     pub drives_item : (u : S) (after : Outside) → Hears rules t u mid' after → DrivesItem rules s u item before after
     drives_item u after hears quiet = (one_told item (took.entries ++ hears.0.entries), driven_one u after quiet hears.0, hears.1)
 
+    -- a reply behind it is awaited
+    pub awaits_behind : (now : Outside) → AwaitsMore rules t mid' now → AsksFor rules s item before now
+    awaits_behind now more quiet = record {
+      state = more.state;
+      told = one_told item (took.entries ++ more.hears.entries);
+      drove = driven_one more.state now quiet more.hears;
+      none_held = more.none_held;
+      waits = more.waits;
+    }
+
     pub fails_behind : (after : Outside) (status : Status) → StopsHearing rules t status mid' after → RefusesNext rules status s item before after
     fails_behind after status stops quiet = inr (record {
       state = stops.state;
@@ -195,6 +206,14 @@ module _ {S E : Type 0} (rules : LaneRules S E) where
       let fails : FailsItem rules status s' item mid after = record { refusal = refusal; is = is; refuses = refuses; unread = (reading, replies) } in
       inl (subst (λ (o : Outside). FailsItem rules status s item o after) same.1 (subst (λ (x : S). FailsItem rules status x item mid after) same.0 fails))
 
+  -- no reply is awaited, so none is asked for
+  pub asks_not : (s : S) (item : Item) (before now : Outside) → AwaitsMore rules s before now → AsksFor rules s item before now
+  asks_not s item before now more quiet =
+      let same = hears_not rules s more.state before now quiet more.hears in
+      let waits : rules.waits more.state ≡ true = more.waits in
+      let quiet' : rules.waits more.state ≡ false = ap rules.waits same.0 ∙ quiet in
+      absurd (cc)
+
   -- no reply is awaited, so none stops the run
   pub fails_not : (s : S) (item : Item) (before after : Outside) (status : Status) → StopsHearing rules s status before after → RefusesNext rules status s item before after
   fails_not s item before after status stops quiet =
@@ -210,3 +229,18 @@ module _ {S E : Type 0} (rules : LaneRules S E) where
       let x = one quiet in
       let y = drives_all items next t mid after x.2 others in
       (x.0 ++ y.0, drives_more (item ∷ []) items s next t x.0 y.0 before mid after x.1 y.1, y.2)
+
+  -- Where a reply is asked for while the reconciler takes an item, it is awaited behind all that were taken.
+  pub awaits_in : (s : S) (before now : Outside) → rules.waits s ≡ false → AsksIn (DrivesItem rules) (AsksFor rules) s before now → (items : List Item) × AwaitsReply rules items s before now
+  awaits_in s before now quiet asks =
+      let d = drives_all asks.driven s asks.state before asks.mid quiet asks.drove in
+      let more = asks.asks d.2 in (
+        asks.driven ++ asks.item ∷ [],
+        record {
+          state = more.state;
+          told = d.0 ++ more.told;
+          drove = drives_more asks.driven (asks.item ∷ []) s asks.state more.state d.0 more.told before asks.mid now d.1 more.drove;
+          none_held = more.none_held;
+          waits = more.waits;
+        },
+      )

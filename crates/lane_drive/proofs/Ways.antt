@@ -22,8 +22,9 @@ use Rattle.line_run.specs.Ended.{status_of_halt, status_of_refusal}
 use Rattle.line_run.specs.Machine.{Stops}
 use Rattle.line_run.proofs.Texts.{upto_all, upto_none}
 use Rattle.mlb_edge.specs.declared.lines.Line.{Line}
-use Rattle.mlb_edge.specs.InputLines.{Input, Whole, to_come, Follows-refl}
+use Rattle.mlb_edge.specs.InputLines.{HoldsLine, Input, Whole, to_come, Follows-refl}
 use Rattle.mlb_edge.specs.Written.{Grows}
+use Rattle.lane_drive.specs.Asking.{AsksMore}
 use Rattle.lane_drive.specs.LaneRules.{LaneRules, RefusesItem, HaltsItem}
 use Rattle.lane_drive.specs.Drive.{Told, AreHeard, AreTaken, Drives, told_text}
 use Rattle.lane_drive.specs.Clauses.{LeavesInput}
@@ -184,6 +185,10 @@ module _ {S E : Type 0} (belongs : Lane → Event → Bool) (rules : LaneRules S
           quiet = d.2;
           known = known;
         }
+
+    -- where there are replies, the end of the input may be asked for
+    pub asks_behind : (run.first ≢ NoMemory) × (run.second ≢ NoMemory) → rules.hears ≡ true → (HoldsLine mid.reading → ⊥) → AsksMore belongs rules start first second before mid
+    asks_behind known hears none_held = inr (record { first' = first'; second' = second'; end = run.first; end' = run.second; all = all_taken known; none_held = none_held; hears = hears })
 
     -- the input isn't at its end
     pub ends_behind : (run.first ≢ NoMemory) × (run.second ≢ NoMemory) → (after : Outside) (status : Status) → GoesBehind rules t status mid after → EndsSo belongs rules start first first' second second' before after status

@@ -6,8 +6,8 @@ use crate::replies::Replies;
 use kube_model::Status;
 use lane_mail::Item;
 use lane_run::Reconciler;
-use line_run::status_of_refusal;
-use mlb_edge::{LineReader, Sink, Source};
+use line_run::{PacedSource, status_of_refusal};
+use mlb_edge::{LineReader, Sink};
 use std::alloc::Global;
 
 /// Drives a machine by items. Behind each item all replies to what it came to are heard.
@@ -17,6 +17,7 @@ pub(crate) struct Driver<M: Drop> {
 }
 
 impl<M: LaneMachine + Drop> Reconciler for Driver<M> {
+    ghost use Rattle.lane_drive.specs.Asking.{AsksFor};
     ghost use Rattle.lane_drive.specs.Hearing.{DrivesItem, RefusesNext};
 
     ghost State = { M.State };
@@ -27,7 +28,9 @@ impl<M: LaneMachine + Drop> Reconciler for Driver<M> {
 
     ghost Refuses = { RefusesNext M.rules };
 
-    fn take<I: Source, K: Sink>(
+    ghost Asks = { AsksFor M.rules };
+
+    fn take<I: PacedSource<K>, K: Sink>(
         &mut self,
         alloc: Global,
         item: Item,

@@ -1,9 +1,11 @@
 //! The run over two lane files.
 ghost use Rattle.std.specs.Prelude.{◌≡◌, ℕ, List, Some, false};
 ghost use Rattle.kube_model.specs.declared.status.LaneName.{LaneName as Name};
-ghost use Rattle.lane_drive.specs.Clauses.{AtDone, AtEnd, AtOpenFault, AtReadFault, LeavesInput, LeavesOthers, OnlyWrites, status_of_open};
+ghost use Rattle.lane_drive.specs.Asking.{AsksMore};
+ghost use Rattle.lane_drive.specs.Clauses.{AtDone, AtEnd, AtOpenFault, AtReadFault, LeavesInput, LeavesOthers, OnlyWrites, status_of_open, unread};
 ghost use Rattle.lane_drive.specs.Files.{files_view};
-ghost use Rattle.lane_run.specs.Views.{source_view};
+ghost use Rattle.lane_run.specs.Views.{outside, source_view};
+ghost use Rattle.line_run.specs.Answered.{MayBeAsked};
 ghost use Rattle.line_run.specs.Clauses.{AtWriteFault};
 
 use crate::lane_machine::LaneMachine;
@@ -11,7 +13,8 @@ use crate::opened::run_opened;
 use kube_model::{LaneName, Status};
 use lane_mail::Lane;
 use lane_run::Lanes;
-use mlb_edge::{Files, LineReader, OpenEnd, Sink, Source};
+use line_run::PacedSource;
+use mlb_edge::{Files, LineReader, OpenEnd, Sink};
 use std::alloc::Global;
 use std::sync::Wait;
 use std::thread::Threads;
@@ -26,7 +29,7 @@ pub fn run_lane_files<
     M: LaneMachine + Lanes + Drop + Send,
     R: Threads + Wait + Sync,
     F: Files,
-    I: Source + Send,
+    I: PacedSource<K> + Send,
     K: Sink + Send,
 >(
     rt: &R,
@@ -39,6 +42,16 @@ pub fn run_lane_files<
     out: &mut K,
 ) -> Status
     requires quiet { M.rules.waits (M.state machine) ≡ false }
+
+    // The source of the replies may be asked for more where all that was taken is answered, with all replies that came, and a reply is
+    // awaited or both lanes have ended. Nothing else is known of when it may. That a lane ended because its reading failed is always
+    // possible, so this allows to ask wherever just the text of whole items stands written and no reply is awaited.
+    requires live { MayBeAsked I.name I.may_read input.old (λ i r o. AsksMore M.belongs M.rules (M.state machine)
+        (source_view (F.bytes files.old first.now) (Some first.now) 0)
+        (source_view (F.bytes files.old second.now) (Some second.now) 0)
+        (outside unread (source_view (I.left input.old) (I.name input.old) (I.faults input.old))
+        (K.written out.old) (K.faults out.old))
+        (outside r (source_view (I.left i) (I.name i) (I.faults i)) (K.written o) (K.faults o))) }
 
     // How the run ended, once both files are open.
     ensures ended { AtEnd M.belongs M.rules (M.state machine) first.now second.now

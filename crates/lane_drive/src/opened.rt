@@ -1,8 +1,10 @@
 //! The run over two lanes that are open.
 ghost use Rattle.std.specs.Prelude.{◌≡◌, false};
+ghost use Rattle.lane_drive.specs.Asking.{AsksMore};
 ghost use Rattle.lane_drive.specs.Clauses.{LeavesInput, unread};
 ghost use Rattle.lane_drive.specs.Stops.{EndsSo};
 ghost use Rattle.lane_run.specs.Views.{outside, source_view};
+ghost use Rattle.line_run.specs.Answered.{MayBeAsked};
 
 use crate::driver::Driver;
 use crate::hearing::look_behind;
@@ -11,6 +13,7 @@ use crate::replies::Replies;
 use crate::status::{are_known, status_of_lanes};
 use kube_model::Status;
 use lane_run::{LaneRun, Lanes, run_lanes};
+use line_run::PacedSource;
 use mlb_edge::{LineReader, Sink, Source};
 use std::alloc::Global;
 use std::sync::Wait;
@@ -22,7 +25,7 @@ pub(crate) fn run_opened<
     M: LaneMachine + Lanes + Drop + Send,
     R: Threads + Wait + Sync,
     S: Source + Send,
-    I: Source + Send,
+    I: PacedSource<K> + Send,
     K: Sink + Send,
 >(
     rt: &R,
@@ -36,6 +39,12 @@ pub(crate) fn run_opened<
 ) -> Status
     requires fresh { reader.old ≡ unread }
     requires quiet { M.rules.waits (M.state machine) ≡ false }
+    requires live { MayBeAsked I.name I.may_read input.old (λ i r o. AsksMore M.belongs M.rules (M.state machine)
+        (source_view (S.left first.old) (S.name first.old) (S.faults first.old))
+        (source_view (S.left second.old) (S.name second.old) (S.faults second.old))
+        (outside reader.old (source_view (I.left input.old) (I.name input.old) (I.faults input.old))
+        (K.written out.old) (K.faults out.old))
+        (outside r (source_view (I.left i) (I.name i) (I.faults i)) (K.written o) (K.faults o))) }
     ensures ended { EndsSo M.belongs M.rules (M.state machine)
         (source_view (S.left first.old) (S.name first.old) (S.faults first.old))
         (source_view (S.left first.new) (S.name first.new) (S.faults first.new))

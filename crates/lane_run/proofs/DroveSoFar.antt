@@ -1,10 +1,11 @@
 -- One item more for a reconciler.
 use Rattle.std.proofs.Common.{◌≡◌, List, [], ◌∷◌, ◌++◌, refl, sym, ap, ◌∙◌, subst, append_assoc, Result, Ok, Err}
+use Rattle.std.specs.Prelude.{IsOk}
 use Rattle.std.proofs.lemmas.List.{append-nil}
 use Rattle.kube_model.specs.declared.status.Status.{Status}
 use Rattle.lane_mail.specs.declared.item.Item.{Item}
 use Rattle.lane_run.specs.Views.{Outside}
-use Rattle.lane_run.specs.Reconciled.{AreDriven, Drove, GoesOn}
+use Rattle.lane_run.specs.Reconciled.{AreDriven, AsksIn, Drove, GoesOn}
 
 module _ {S : Type 0} (Drives : S → S → Item → Outside → Outside → Type 0) where
   AreDriven-push : (items : List Item) (item : Item) (s t u : S) (before mid after : Outside) → AreDriven Drives items s t before mid → Drives t u item mid after → AreDriven Drives (items ++ item ∷ []) s u before after
@@ -14,6 +15,19 @@ module _ {S : Type 0} (Drives : S → S → Item → Outside → Outside → Typ
 module _ {S U : Type 0} (Drives : S → S → Item → Outside → Outside → Type 0) (Refuses : Status → S → Item → Outside → Outside → Type 0) where
   pub begins_drove : (done : U) (s : S) (before : Outside) → Drove Drives Refuses [] s s before before (Ok done)
   begins_drove done s before = record { driven = []; behind = []; split = refl; state = s; mid = before; drove = (refl, refl); leaves = (refl, refl, refl) }
+
+  -- where none was refused so far, the next item is the one behind those that drove it
+  pub asks_next : (Asks : S → Item → Outside → Outside → Type 0) (outcome : Result U Status) (taken : List Item) (item : Item) (s t : S) (before mid now : Outside) → IsOk outcome → Drove Drives Refuses taken s t before mid outcome → Asks t item mid now
+      → AsksIn Drives Asks s before now
+  asks_next Asks (Ok x) taken item s t before mid now well d asks = record {
+    driven = d.driven;
+    item = item;
+    state = t;
+    mid = mid;
+    drove = rw (d.leaves.1, d.leaves.2) d.drove;
+    asks = asks;
+  }
+  asks_next Asks (Err status) taken item s t before mid now well d asks = absurd (cc)
 
   pub drives_next : (outcome outcome' : Result U Status) (taken taken' : List Item) (item : Item) (s t u : S) (before mid after : Outside) → Drove Drives Refuses taken s t before mid outcome
       → taken' ≡ taken ++ item ∷ [] → GoesOn Drives Refuses outcome outcome' item t u mid after → Drove Drives Refuses taken' s u before after outcome'

@@ -10,6 +10,15 @@ abbrev pub AreDriven : {S : Type 0} → (S → S → Item → Outside → Outsid
 AreDriven Drives [] s t before after = (t ≡ s) × (after ≡ before)
 AreDriven {S} Drives (item ∷ items) s t before after = (next : S) × (mid : Outside) × Drives s next item before mid × AreDriven Drives items next t mid after
 
+-- Some items drove it, and while it takes the one behind them it may ask for replies.
+pub record AsksIn {S : Type 0} (Drives : S → S → Item → Outside → Outside → Type 0) (Asks : S → Item → Outside → Outside → Type 0) (s : S) (before now : Outside) : Type 0 where
+  pub driven : List Item
+  pub item : Item
+  pub state : S
+  pub mid : Outside
+  pub drove : AreDriven Drives driven s state before mid
+  pub asks : Asks state item mid now
+
 -- what is behind the driven items: nothing, or first the item that was refused
 abbrev pub Leaves : {S U : Type 0} → (Status → S → Item → Outside → Outside → Type 0) → Result U Status → List Item → S → S → Outside → Outside → Type 0
 Leaves Refuses (Ok done) behind s t before after = (behind ≡ []) × (t ≡ s) × (after ≡ before)

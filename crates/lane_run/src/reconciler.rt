@@ -1,12 +1,14 @@
 //! What is driven by the items of both lanes.
-ghost use Rattle.std.specs.Prelude.{OnOk, IfErr};
+ghost use Rattle.std.specs.Prelude.{◌≡◌, OnOk, IfErr};
 ghost use Rattle.kube_model.specs.declared.status.Status.{Status};
 ghost use Rattle.lane_mail.specs.declared.item.Item.{Item};
 ghost use Rattle.lane_run.specs.Views.{Outside, outside, source_view};
+ghost use Rattle.line_run.specs.Answered.{MayBeAsked};
 
 use kube_model::Status;
 use lane_mail::Item;
-use mlb_edge::{LineReader, Sink, Source};
+use line_run::PacedSource;
+use mlb_edge::{LineReader, Sink};
 use std::alloc::Global;
 
 /// Is driven by items one after the other, and writes what comes of each. It may read replies meanwhile.
@@ -23,9 +25,12 @@ pub trait Reconciler {
     /// It refuses an item in this state with this status, and leads what is outside from the one to the other.
     ghost Refuses: { Status → State → Item → Outside → Outside → Type 0 };
 
+    /// While it takes the item in this state, and has led what is outside from the one to the other, it may ask for replies.
+    ghost Asks: { State → Item → Outside → Outside → Type 0 };
+
     /// Is driven by the item, and writes what comes of it before it returns. `reader` reads the replies of
     /// `input`. `Err` is the status that the run stops with.
-    fn take<I: Source, K: Sink>(
+    fn take<I: PacedSource<K>, K: Sink>(
         &mut self,
         alloc: Global,
         item: Item,
@@ -33,6 +38,10 @@ pub trait Reconciler {
         input: &mut I,
         out: &mut K,
     ) -> Result<(), Status>
+        requires live { MayBeAsked I.name I.may_read input.old (λ i r o. Asks (state self.old) item
+            (outside reader.old (source_view (I.left input.old) (I.name input.old) (I.faults input.old))
+            (K.written out.old) (K.faults out.old))
+            (outside r (source_view (I.left i) (I.name i) (I.faults i)) (K.written o) (K.faults o))) }
         ensures ok { OnOk result (Drives (state self.old) (state self.new) item
             (outside reader.old (source_view (I.left input.old) (I.name input.old) (I.faults input.old))
             (K.written out.old) (K.faults out.old))
@@ -42,5 +51,6 @@ pub trait Reconciler {
             (outside reader.old (source_view (I.left input.old) (I.name input.old) (I.faults input.old))
             (K.written out.old) (K.faults out.old))
             (outside reader.new (source_view (I.left input.new) (I.name input.new) (I.faults input.new))
-            (K.written out.new) (K.faults out.new))) };
+            (K.written out.new) (K.faults out.new))) }
+        ensures name { I.name input.new ≡ I.name input.old };
 }

@@ -3,7 +3,9 @@ ghost use Rattle.std.specs.Prelude.{◌≡◌, Ok, Err, IfOk, OnErr};
 ghost use Rattle.kube_model.specs.declared.status.Status.{Status};
 ghost use Rattle.lane_mail.specs.declared.lane.Lane.TheVariants.{First, Second};
 ghost use Rattle.lane_run.specs.Ran.{EndsSo, Ran, DrivesBeginnings, DrivesAll, DrivesInputs, RefusesNext};
+ghost use Rattle.lane_run.specs.Reconciled.{AsksIn};
 ghost use Rattle.lane_run.specs.Views.{outside, source_view};
+ghost use Rattle.line_run.specs.Answered.{MayBeAsked};
 
 use crate::lane_end::LaneEnd;
 use crate::lane_run::LaneRun;
@@ -11,6 +13,7 @@ use crate::lanes::Lanes;
 use crate::reconciler::Reconciler;
 use crate::threads::run_threads;
 use lane_mail::Mail;
+use line_run::PacedSource;
 use mlb_base::NoMemory;
 use mlb_edge::{LineReader, Sink, Source};
 use std::alloc::Global;
@@ -28,7 +31,7 @@ pub fn run_lanes<
     M: Reconciler + Send,
     R: Threads + Wait + Sync,
     S: Source + Send,
-    I: Source + Send,
+    I: PacedSource<K> + Send,
     K: Sink + Send,
 >(
     rt: &R,
@@ -40,6 +43,12 @@ pub fn run_lanes<
     input: &mut I,
     out: &mut K,
 ) -> Result<LaneRun, NoMemory>
+    // While the reconciler takes an item it may ask for replies where it says so, and nowhere else.
+    requires live { MayBeAsked I.name I.may_read input.old (λ i r o. AsksIn M.Drives M.Asks (M.state machine.old)
+        (outside reader.old (source_view (I.left input.old) (I.name input.old) (I.faults input.old))
+        (K.written out.old) (K.faults out.old))
+        (outside r (source_view (I.left i) (I.name i) (I.faults i)) (K.written o) (K.faults o))) }
+
     // What was driven, and how it ended: all that follows, of one list of items.
     ensures ran { IfOk result (λ run. Ran L.belongs M.Drives M.Refuses
         (source_view (S.left first.old) (S.name first.old) (S.faults first.old))
@@ -97,6 +106,9 @@ pub fn run_lanes<
     ensures second { IfOk result (λ run. EndsSo L.belongs Second
         (source_view (S.left second.old) (S.name second.old) (S.faults second.old))
         (source_view (S.left second.new) (S.name second.new) (S.faults second.new)) run.second) }
+
+    // The source of the replies keeps its name.
+    ensures name { I.name input.new ≡ I.name input.old }
 
     // For want of memory nothing was done.
     ensures unread { OnErr result ((first.new ≡ first.old) × (second.new ≡ second.old)) }

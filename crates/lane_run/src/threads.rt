@@ -2,9 +2,10 @@
 ghost use Rattle.std.specs.Prelude.{◌≡◌, []};
 ghost use Rattle.std.specs.Thread.{IsSync};
 ghost use Rattle.lane_mail.specs.declared.lane.Lane.TheVariants.{First, Second};
-ghost use Rattle.lane_run.specs.Reconciled.{Reconciled};
+ghost use Rattle.lane_run.specs.Reconciled.{AsksIn, Reconciled};
 ghost use Rattle.lane_run.specs.Views.{outside, source_view};
 ghost use Rattle.lane_run.specs.Watched.{CanWatch, Watched};
+ghost use Rattle.line_run.specs.Answered.{MayBeAsked};
 
 use crate::lane_end::LaneEnd;
 use crate::lanes::Lanes;
@@ -13,6 +14,7 @@ use crate::reconciling::reconcile;
 use crate::watching::watch;
 use kube_model::Status;
 use lane_mail::{InboxPass, Lane, LaneDone, LanePass, Mail};
+use line_run::PacedSource;
 use mlb_edge::{LineReader, Sink, Source};
 use std::alloc::Global;
 use std::sync::Wait;
@@ -28,7 +30,7 @@ pub(crate) fn run_threads<
     M: Reconciler + Send,
     R: Threads + Wait + Sync,
     S: Source + Send,
-    I: Source + Send,
+    I: PacedSource<K> + Send,
     K: Sink + Send,
 >(
     rt: &R,
@@ -47,6 +49,11 @@ pub(crate) fn run_threads<
     requires first { (first_pass.mail ≡ mail.now) × (first_pass.lane ≡ First) × (first_pass.sent ≡ []) }
     requires second { (second_pass.mail ≡ mail.now) × (second_pass.lane ≡ Second) × (second_pass.sent ≡ []) }
     requires inbox { (inbox.old.mail ≡ mail.now) × (inbox.old.taken ≡ []) }
+    requires live { MayBeAsked I.name I.may_read input.old (λ i r o. AsksIn M.Drives M.Asks (M.state machine.old)
+        (outside reader.old (source_view (I.left input.old) (I.name input.old) (I.faults input.old))
+        (K.written out.old) (K.faults out.old))
+        (outside r (source_view (I.left i) (I.name i) (I.faults i)) (K.written o) (K.faults o))) }
+    ensures name { I.name input.new ≡ I.name input.old }
     ensures inbox { Reconciled M.Drives M.Refuses mail.now inbox.new (M.state machine.old) (M.state machine.new)
         (outside reader.old (source_view (I.left input.old) (I.name input.old) (I.faults input.old))
         (K.written out.old) (K.faults out.old))
@@ -65,8 +72,13 @@ pub(crate) fn run_threads<
     let (outcome, (second_end, first_end)) = join_mut(
         rt,
         &mut || -> Result<(), Status>
-            requires { (inbox.now.mail ≡ mail.now) × (inbox.now.taken ≡ []) }
-            ensures { Reconciled M.Drives M.Refuses mail.entry.now inbox.exit.now (M.state machine.entry.now) (M.state machine.exit.now)
+            requires inbox { (inbox.now.mail ≡ mail.now) × (inbox.now.taken ≡ []) }
+            requires live { MayBeAsked I.name I.may_read input.now (λ i r o. AsksIn M.Drives M.Asks (M.state machine.now)
+                (outside reader.now (source_view (I.left input.now) (I.name input.now) (I.faults input.now))
+                (K.written out.now) (K.faults out.now))
+                (outside r (source_view (I.left i) (I.name i) (I.faults i)) (K.written o) (K.faults o))) }
+            ensures name { I.name input.exit.now ≡ I.name input.entry.now }
+            ensures reconciled { Reconciled M.Drives M.Refuses mail.entry.now inbox.exit.now (M.state machine.entry.now) (M.state machine.exit.now)
                 (outside reader.entry.now (source_view (I.left input.entry.now) (I.name input.entry.now) (I.faults input.entry.now))
                 (K.written out.entry.now) (K.faults out.entry.now))
                 (outside reader.exit.now (source_view (I.left input.exit.now) (I.name input.exit.now) (I.faults input.exit.now))

@@ -7,7 +7,7 @@ use Rattle.lane_mail.specs.declared.lane.Lane.TheVariants.{First, Second}
 use Rattle.lane_mail.specs.declared.item.Item.{Item}
 use Rattle.mlb_edge.specs.Causes.{Rose}
 use Rattle.mlb_edge.specs.declared.lines.Line.{Line}
-use Rattle.mlb_edge.specs.InputLines.{Input, Whole, Follows, EndsAs, to_come}
+use Rattle.mlb_edge.specs.InputLines.{HoldsLine, Input, Whole, Follows, EndsAs, to_come}
 use Rattle.mlb_edge.specs.Written.{Grows, GrowsInPart}
 use Rattle.lane_run.specs.Views.{Outside}
 
@@ -38,6 +38,12 @@ Unheard NoMemory now faults faults' = ⊤
 pub record Asks (s t : ⊤) (item : Item) (before after : Outside) : Type 0 where
   pub wrote : Grows before.written after.written (lane_byte item.lane ∷ [])
   pub hears : Hears (to_come before.reading before.replies.left) (to_come after.reading after.replies.left)
+
+-- The byte was written, nothing was read since, and no whole line is held.
+pub record AwaitsLine (s : ⊤) (item : Item) (before now : Outside) : Type 0 where
+  pub wrote : Grows before.written now.written (lane_byte item.lane ∷ [])
+  pub unread : (now.reading ≡ before.reading) × (now.replies ≡ before.replies)
+  pub none_held : HoldsLine now.reading → ⊥
 
 -- the byte wasn't written, or no line was read behind it
 abbrev pub AsksInVain : Status → ⊤ → Item → Outside → Outside → Type 0

@@ -1,6 +1,6 @@
 //! A reconciler that tells the lane of each item, and waits for a line.
 ghost use Rattle.std.specs.Prelude.{◌≡◌, [], OnOk, IfOk, IfErr};
-ghost use Rattle.mlb_edge.specs.InputLines.{to_come};
+ghost use Rattle.mlb_edge.specs.InputLines.{HoldsLine, to_come};
 ghost use Rattle.lane_run.specs.Ran.{DrivesBeginnings};
 ghost use Rattle.lane_run.specs.Views.{Outside, outside, source_view};
 ghost use Rattle.lane_run_tests.specs.Asks.{lane_byte, Hears, Unheard, Asks, AsksInVain};
@@ -10,6 +10,7 @@ use crate::halves::Halves;
 use kube_model::{LaneName, Status};
 use lane_mail::{Item, Lane};
 use lane_run::{LaneRun, Reconciler, run_lanes};
+use line_run::PacedSource;
 use mlb_base::NoMemory;
 use mlb_edge::{LineEnd, LineReader, Sink, Source, put_all};
 use std::alloc::Global;
@@ -26,12 +27,18 @@ fn lane_byte(lane: Lane) -> u8
 }
 
 /// Reads a line, and passes over what it says.
-fn hear<I: Source>(reader: &mut LineReader, input: &mut I) -> Result<(), Status>
+fn hear<I: PacedSource<K>, K: Sink>(
+    reader: &mut LineReader,
+    input: &mut I,
+    out: &K,
+) -> Result<(), Status>
+    requires paced { (HoldsLine reader.old → ⊥) → I.may_read input.old reader.old out.now }
     ensures ok { OnOk result (Hears (to_come reader.old (I.left input.old)) (to_come reader.new (I.left input.new))) }
     ensures err { IfErr result (λ status. Unheard status
         (to_come reader.old (I.left input.old)) (I.faults input.old) (I.faults input.new)) }
+    ensures name { I.name input.new ≡ I.name input.old }
 {
-    match reader.next_line(input) {
+    match input.next_line(reader, out) {
         Ok(Some(line)) => {
             drop(line);
             Ok(())
@@ -50,7 +57,7 @@ pub struct Asker;
 
 impl Reconciler for Asker {
     ghost use Rattle.std.specs.Prelude.{⊤};
-    ghost use Rattle.lane_run_tests.specs.Asks.{Asks, AsksInVain};
+    ghost use Rattle.lane_run_tests.specs.Asks.{Asks, AsksInVain, AwaitsLine};
 
     ghost State = { ⊤ };
 
@@ -60,7 +67,9 @@ impl Reconciler for Asker {
 
     ghost Refuses = { AsksInVain };
 
-    fn take<I: Source, K: Sink>(
+    ghost Asks = { AwaitsLine };
+
+    fn take<I: PacedSource<K>, K: Sink>(
         &mut self,
         _alloc: Global,
         item: Item,
@@ -70,10 +79,10 @@ impl Reconciler for Asker {
     ) -> Result<(), Status> {
         let byte = lane_byte(item.lane);
         drop(item);
-        if put_all(out, &[byte]).is_err() {
-            return Err(Status::WriteFault);
+        match put_all(out, &[byte]) {
+            Ok(()) => hear(reader, input, out),
+            Err(_) => Err(Status::WriteFault),
         }
-        hear(reader, input)
     }
 }
 

@@ -1,5 +1,5 @@
--- When all that came whole was answered.
-use Rattle.std.specs.Prelude.{ℕ, List, Option}
+-- When a source may be asked for more, and when all that came whole was answered.
+use Rattle.std.specs.Prelude.{◌≡◌, ℕ, List, Option}
 use Rattle.std.specs.Option.{option_map}
 use Rattle.mlb_edge.specs.declared.lines.Line.{Line}
 use Rattle.mlb_edge.specs.Reading.{Reading}
@@ -7,6 +7,10 @@ use Rattle.mlb_edge.specs.InputLines.{Follows, HoldsLine, input_of, to_come}
 use Rattle.mlb_edge.specs.Written.{Grows}
 use Rattle.line_run.specs.Machine.{Rules}
 use Rattle.line_run.specs.Run.{AreTaken, text_of}
+
+-- the source of this name may be asked for more wherever this is so of it, of what the reader holds and of the sink
+abbrev pub MayBeAsked : {I K : Type 0} → (I → Option (List ℕ)) → (I → Reading → K → Type 0) → I → (I → Reading → K → Type 0) → Type 0
+MayBeAsked {I} {K} name may_read input Where = (source : I) (reader : Reading) (out : K) → name source ≡ name input → Where source reader out → may_read source reader out
 
 -- From the first byte of the input up to what the reader holds just these lines came, each was taken, and just their text was written. No
 -- other line came whole.

@@ -3,8 +3,7 @@ ghost use Rattle.std.specs.Prelude.{◌≡◌, []};
 ghost use Rattle.line_run.specs.Clauses.{CanEnd, AtDone, AtEnd, AtBadLine, AtBadReply, AtNoReply, AtHeldLimit, AtLineLimit, AtInputLimit, AtReadFault, AfterRead, AtWriteFault, AfterWrite, AtNoMemory, IsExact, IsComplete};
 ghost use Rattle.line_run.specs.Explains.{Explains};
 ghost use Rattle.line_run.specs.RunOutput.{WritesOnly};
-ghost use Rattle.line_run.specs.Answered.{IsAnswered};
-ghost use Rattle.mlb_edge.specs.Reading.{Reading};
+ghost use Rattle.line_run.specs.Answered.{IsAnswered, MayBeAsked};
 
 use crate::machine::Machine;
 use crate::paced::PacedSource;
@@ -22,9 +21,8 @@ fn drive_lines<M: Machine, S: PacedSource<K>, K: Sink>(
     out: &mut K,
 ) -> Status
     requires fresh { reader.old ≡ record { held = []; passed = 0; number = 0 } }
-    requires live { (i : S) (r : Reading) (o : K) → S.name i ≡ S.name input.old
-        → IsAnswered M.rules (M.state machine.old) (S.left input.old) r (S.left i) (K.written out.old) (K.written o)
-        → S.may_read i r o }
+    requires live { MayBeAsked S.name S.may_read input.old
+        (λ i r o. IsAnswered M.rules (M.state machine.old) (S.left input.old) r (S.left i) (K.written out.old) (K.written o)) }
     ensures explains { Explains M.rules M.cause (M.state machine.old) result
         (S.left input.old) (S.left input.new) (K.written out.old) (K.written out.new)
         (S.faults input.old) (S.faults input.new) (K.faults out.old) (K.faults out.new) }
@@ -45,9 +43,8 @@ fn run_lines<M: Machine, S: PacedSource<K>, K: Sink>(
     input: &mut S,
     out: &mut K,
 ) -> Status
-    requires live { (i : S) (r : Reading) (o : K) → S.name i ≡ S.name input.old
-        → IsAnswered M.rules (M.state machine.old) (S.left input.old) r (S.left i) (K.written out.old) (K.written o)
-        → S.may_read i r o }
+    requires live { MayBeAsked S.name S.may_read input.old
+        (λ i r o. IsAnswered M.rules (M.state machine.old) (S.left input.old) r (S.left i) (K.written out.old) (K.written o)) }
     ensures explains { Explains M.rules M.cause (M.state machine.old) result
         (S.left input.old) (S.left input.new) (K.written out.old) (K.written out.new)
         (S.faults input.old) (S.faults input.new) (K.faults out.old) (K.faults out.new) }
@@ -71,9 +68,8 @@ pub fn run_machine<M: Machine, S: PacedSource<K>, K: Sink>(
 ) -> Status
     // Whenever all that came whole was answered, the source may be asked for more. Nothing else is known of when it
     // may, so at each call that may ask it all that came whole was answered.
-    requires live { (i : S) (r : Reading) (o : K) → S.name i ≡ S.name input.old
-        → IsAnswered M.rules (M.state machine.old) (S.left input.old) r (S.left i) (K.written out.old) (K.written o)
-        → S.may_read i r o }
+    requires live { MayBeAsked S.name S.may_read input.old
+        (λ i r o. IsAnswered M.rules (M.state machine.old) (S.left input.old) r (S.left i) (K.written out.old) (K.written o)) }
 
     // No status but those of the machine and of any run.
     ensures can_end { CanEnd M.cause result }

@@ -3,8 +3,10 @@
 use Rattle.std.specs.Prelude.{◌≡◌, ◌⊎◌, ℕ, List, String, Option}
 use Rattle.kube_model.specs.declared.status.Status.{Status}
 use Rattle.kube_model.specs.declared.status.Status.TheVariants.{Done, Usage}
+use Rattle.line_run.specs.Answered.{IsAnswered, MayBeAsked}
 use Rattle.line_run.specs.Clauses as run
 use Rattle.core_rules.specs.Core.{State, fresh}
+use Rattle.mlb_edge.specs.Reading.{Reading}
 use Rattle.mlb_controller.specs.Sound as sound
 use Rattle.mlb_controller.specs.Stream.{controller_rules, IsCause}
 use Rattle.command_options.specs.Options.{texts_of}
@@ -15,6 +17,11 @@ use Rattle.mlb_controller.specs.Trial.{TrialEnds, IsSafeTrial}
 -- the core that a run begins with
 abbrev pub begun_by : {Z : Type 0} → List (String Z) → State
 begun_by words = fresh (class_of (texts_of words))
+
+-- where the words ask for a run, the input may be asked for more wherever all that came whole was answered
+abbrev pub MayAskAnswered : {Z S K : Type 0} → List (String Z) → (name left : S → Option (List ℕ)) → (S → Reading → K → Type 0) → (K → Option (List ℕ)) → S → K → Type 0
+MayAskAnswered words name left may_read written input out = AskRun (texts_of words)
+    → MayBeAsked name may_read input (λ source reader out'. IsAnswered controller_rules (begun_by words) (left input) reader (left source) (written out) (written out'))
 
 -- the words are faulty, or it is one of the statuses that a run of the controller or a trial may end with: no file is opened, no lane is
 -- known but the input, and of what is held services alone have a limit

@@ -8,11 +8,14 @@ use Rattle.kube_model.specs.declared.status.LaneName.{LaneName}
 use Rattle.kube_model.specs.declared.status.LaneName.TheVariants as names
 use Rattle.kube_model.specs.declared.status.Status.{Status}
 use Rattle.kube_model.specs.declared.status.Status.TheVariants.{Done, Usage, OpenFault, ReadFault, WriteFault, BadLine, BadReply, NoReply, Limit, NoMemory}
+use Rattle.lane_drive.specs.Asking.{AsksMore}
 use Rattle.lane_drive.specs.Clauses as lanes
 use Rattle.lane_drive.specs.Drive.{entries_of}
 use Rattle.lane_drive.specs.Files.{FilesView}
-use Rattle.lane_run.specs.Views.{SourceView, source_view}
+use Rattle.lane_run.specs.Views.{SourceView, outside, source_view}
+use Rattle.line_run.specs.Answered.{MayBeAsked}
 use Rattle.line_run.specs.Clauses.{CanPass}
+use Rattle.mlb_edge.specs.Reading.{Reading}
 use Rattle.mlb_controller.specs.Asked.{AskLanes}
 use Rattle.mlb_controller.specs.Lanes.{belongs_to, lane_rules, name_of}
 use Rattle.mlb_controller.specs.Sound.{IsSafeThroughout, LeavesNothing}
@@ -21,6 +24,13 @@ use Rattle.mlb_controller.specs.Stream.{IsCause}
 -- where the words ask for a run over two lanes, this is so of the class and the files that they name
 abbrev pub OverLanes : {Z : Type 0} → List (String Z) → (Option (List ℕ) → LaneNames → Type 0) → Type 0
 OverLanes words Owes = (class : Option (List ℕ)) (files : LaneNames) → AskLanes (texts_of words) class files → Owes class files
+
+-- the input may be asked for more wherever all that was taken is answered, with all replies that came, and a reply is awaited or both lanes have ended
+abbrev pub LanesMayAsk : {S K : Type 0} → (List ℕ → Option (List ℕ)) → (name left : S → Option (List ℕ)) (reads : S → ℕ) → (S → Reading → K → Type 0) → (written : K → Option (List ℕ)) (writes : K → ℕ) → S → K → Option (List ℕ) → LaneNames → Type 0
+LanesMayAsk bytes name left reads may_read written writes input out class files =
+    MayBeAsked name may_read input (λ source reader out'. AsksMore belongs_to lane_rules (fresh class) (source_view (bytes files.first) (Some files.first) 0) (source_view (bytes files.second) (Some files.second) 0)
+    (outside lanes.unread (source_view (left input) (name input) (reads input)) (written out) (writes out))
+    (outside reader (source_view (left source) (name source) (reads source)) (written out') (writes out')))
 
 -- how the run ended, once both files are open
 abbrev pub LanesEnd : (List ℕ → Option (List ℕ)) → (files files' : FilesView) (replies replies' : SourceView) (before after : Option (List ℕ)) (writes writes' : ℕ) → Status → Option (List ℕ) → LaneNames → Type 0

@@ -6,13 +6,14 @@ ghost use Rattle.kube_model.specs.declared.status.LaneName.{LaneName};
 ghost use Rattle.lane_drive.specs.Files.{files_view};
 ghost use Rattle.lane_run.specs.Views.{source_view};
 ghost use Rattle.line_run.specs.Clauses.{AtWriteFault};
-ghost use Rattle.mlb_controller.specs.LaneClauses.{LanesEnd, LanesDone, LanesSound, LanesQuiet, CanEndLanes, LaneOpenFault, LaneReadFault, LaneOthers};
+ghost use Rattle.mlb_controller.specs.LaneClauses.{LanesMayAsk, LanesEnd, LanesDone, LanesSound, LanesQuiet, CanEndLanes, LaneOpenFault, LaneReadFault, LaneOthers};
 
 use crate::controller::Controller;
 use command_options::LaneFiles;
 use kube_model::Status;
 use lane_drive::run_lane_files;
-use mlb_edge::{Files, Sink, Source};
+use line_run::PacedSource;
+use mlb_edge::{Files, Sink};
 use std::alloc::Global;
 use std::sync::Wait;
 use std::thread::Threads;
@@ -22,7 +23,7 @@ use std::thread::Threads;
 pub(crate) fn lanes_controller<
     R: Threads + Wait + Sync,
     F: Files,
-    S: Source + Send,
+    S: PacedSource<K> + Send,
     K: Sink + Send,
 >(
     rt: &R,
@@ -33,6 +34,8 @@ pub(crate) fn lanes_controller<
     input: &mut S,
     out: &mut K,
 ) -> Status
+    requires live { LanesMayAsk (F.bytes files.old) S.name S.left S.faults S.may_read K.written K.faults input.old out.old
+        (option_map (λ c. c.now) class) (lane_seen lanes) }
     ensures ended { LanesEnd (F.bytes files.old)
         (files_view (F.failed_opens files.old) (F.failed_reads files.old))
         (files_view (F.failed_opens files.new) (F.failed_reads files.new))

@@ -9,20 +9,21 @@ ghost use Rattle.line_run.specs.Clauses.{AtReadFault, AtWriteFault};
 ghost use Rattle.command_options.specs.Options.{texts_of};
 ghost use Rattle.controller_words.specs.Words.{AreKnown};
 ghost use Rattle.mlb_controller.specs.Asked.{AskLanes, AskNoLanes};
-ghost use Rattle.mlb_controller.specs.LaneClauses.{OverLanes, LanesEnd, LanesDone, LanesSound, LanesQuiet, LaneCanEnd, LaneOpenFault, LaneReadFault, LaneOthers};
-ghost use Rattle.mlb_controller.specs.Clauses.{CanEnd, AtEnd, AtDone, AtNoReply, AtBadLine, AtBadReply, AtServiceLimit, AtLongLine, AtTooLong, AfterRead, AfterWrite, AtNoMemory, WritesSound, RunsSound, RunsSafe, EndsQuiet, HandlesNamed, IsExact, IsComplete, WritesTrial, LeavesInput, TrialIsSafe};
+ghost use Rattle.mlb_controller.specs.LaneClauses.{OverLanes, LanesMayAsk, LanesEnd, LanesDone, LanesSound, LanesQuiet, LaneCanEnd, LaneOpenFault, LaneReadFault, LaneOthers};
+ghost use Rattle.mlb_controller.specs.Clauses.{MayAskAnswered, CanEnd, AtEnd, AtDone, AtNoReply, AtBadLine, AtBadReply, AtServiceLimit, AtLongLine, AtTooLong, AfterRead, AfterWrite, AtNoMemory, WritesSound, RunsSound, RunsSafe, EndsQuiet, HandlesNamed, IsExact, IsComplete, WritesTrial, LeavesInput, TrialIsSafe};
 
 use crate::lane_files::lanes_controller;
 use crate::stream::stream_controller;
 use controller_words::{Asked, LaneFiles, controller_words};
 use kube_model::Status;
-use mlb_edge::{Files, Sink, Source};
+use line_run::PacedSource;
+use mlb_edge::{Files, Sink};
 use std::alloc::Global;
 use std::sync::Wait;
 use std::thread::Threads;
 
 /// All that the program does: the run over one stream, where no file is opened, or that over two lane files, where the words name them.
-pub fn run_controller<R: Threads + Wait + Sync, F: Files, S: Source + Send, K: Sink + Send>(
+pub fn run_controller<R: Threads + Wait + Sync, F: Files, S: PacedSource<K> + Send, K: Sink + Send>(
     rt: &R,
     alloc: Global,
     words: &[String],
@@ -30,6 +31,14 @@ pub fn run_controller<R: Threads + Wait + Sync, F: Files, S: Source + Send, K: S
     input: &mut S,
     out: &mut K,
 ) -> Status
+    // Over one stream no output is held back: the input may be asked for more where all that came whole was answered. Nothing else is known of
+    // when it may, so the program asks it nowhere else. Over two files it may be asked where all that was taken is answered, with all replies
+    // that came, and a reply is awaited or both lanes have ended; that a lane's reading failed is always possible there. What is only a
+    // `Source` may be asked at any time, and meets both.
+    requires live { MayAskAnswered words.now S.name S.left S.may_read K.written input.old out.old }
+    requires lanes_live { OverLanes words.now (LanesMayAsk (F.bytes files.old) S.name S.left S.faults S.may_read K.written K.faults
+        input.old out.old) }
+
     ensures no_file { AskNoLanes (texts_of words.now) → files.new ≡ files.old }
     ensures can_end { AskNoLanes (texts_of words.now) → CanEnd result }
     ensures usage { (result ≡ Status.Usage) ↔ (¬ (AreKnown (texts_of words.now))) }

@@ -4,26 +4,28 @@ ghost use Rattle.line_run.specs.Clauses.{AtReadFault, AtWriteFault};
 ghost use Rattle.command_options.specs.Options.{texts_of};
 ghost use Rattle.controller_words.specs.Words.{AreKnown};
 ghost use Rattle.mlb_controller.specs.Asked.{AskNoLanes};
-ghost use Rattle.mlb_controller.specs.Clauses.{CanEnd, AtEnd, AtDone, AtNoReply, AtBadLine, AtBadReply, AtServiceLimit, AtLongLine, AtTooLong, AfterRead, AfterWrite, AtNoMemory, WritesSound, RunsSound, RunsSafe, EndsQuiet, HandlesNamed, IsExact, IsComplete, WritesTrial, LeavesInput, TrialIsSafe};
+ghost use Rattle.mlb_controller.specs.Clauses.{MayAskAnswered, CanEnd, AtEnd, AtDone, AtNoReply, AtBadLine, AtBadReply, AtServiceLimit, AtLongLine, AtTooLong, AfterRead, AfterWrite, AtNoMemory, WritesSound, RunsSound, RunsSafe, EndsQuiet, HandlesNamed, IsExact, IsComplete, WritesTrial, LeavesInput, TrialIsSafe};
 
 use crate::controller::Controller;
 use crate::trial::run_trial;
 use controller_words::{Asked, controller_words};
 use kube_model::Status;
-use line_run::run_machine;
-use mlb_edge::{Sink, Source};
+use line_run::{PacedSource, run_machine};
+use mlb_edge::Sink;
 use std::alloc::Global;
 
 /// The work of the program on one stream: each line of the input is an event, or the reply to the put
-/// before it. What a line comes to is written before the next line is read (`line_run::next_step`).
-/// Where the words ask for a trial, it is made instead, and nothing is read.
-pub fn stream_controller<S: Source, K: Sink>(
+/// before it. What a line comes to is written before the source is asked for more: it may be one that gives the
+/// next line only once it has seen what came of those before. Where the words ask for a trial, it is made instead, and nothing is read.
+pub fn stream_controller<S: PacedSource<K>, K: Sink>(
     alloc: Global,
     words: &[String],
     input: &mut S,
     out: &mut K,
 ) -> Status
-    requires { AskNoLanes (texts_of words.now) }
+    requires asked { AskNoLanes (texts_of words.now) }
+    requires live { MayAskAnswered words.now S.name S.left S.may_read K.written input.old out.old }
+
     ensures can_end { CanEnd result }
     ensures usage { (result ≡ Status.Usage) ↔ (¬ (AreKnown (texts_of words.now))) }
     ensures named { HandlesNamed words.now }

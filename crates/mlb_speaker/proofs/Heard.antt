@@ -50,9 +50,10 @@ use Rattle.shown_views.proofs.Tellable.{routes_can_be_told}
 use Rattle.mlb_speaker.specs.declared.entries.Entry.{Entry}
 use Rattle.mlb_speaker.specs.declared.station.Interface.{Interface}
 use Rattle.mlb_speaker.specs.declared.station.Station.{Station}
-use Rattle.mlb_speaker.specs.Announced.{announced_by}
+use Rattle.announced_set.specs.Announced.{announced_by}
 use Rattle.mlb_speaker.specs.Clauses.{nothing_said, begun_with}
-use Rattle.mlb_speaker.specs.Entries.{difference, withdrawn, withdrawals, announcements, entries_for}
+use Rattle.announced_set.specs.Changes.{difference}
+use Rattle.mlb_speaker.specs.Entries.{withdrawn, withdrawals, announcements, entries_for}
 use Rattle.mlb_speaker.specs.Heard.{message_to, messages_told, IsSamePeer, IsThere, StaysOver, HasComeSince, GiveTable, AreToldBy, HearsItsRoutes, PeersHearTheirRoutes}
 use Rattle.mlb_speaker.specs.Sends.{unasked_by, unasked, listening, announcement, answer_on, sent_on, answer_by, interface_of}
 use Rattle.mlb_speaker.specs.Stream.{SpeakerState, Received, first_state, frame_in, changes_of, entries_at, line_step, speaker_rules}

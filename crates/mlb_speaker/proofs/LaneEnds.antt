@@ -1,5 +1,5 @@
 -- How a run over lane files may end.
-use Rattle.std.proofs.Common.{◌≡◌, ◌≢◌, ℕ, List, [], Option, Some, None, refl, sym, subst, inl, inr}
+use Rattle.std.proofs.Common.{◌≡◌, ◌≢◌, ℕ, true, false, List, [], Option, Some, None, refl, sym, subst, inl, inr}
 use Rattle.std.proofs.lemmas.Bool.{true≢false}
 use Rattle.kube_model.specs.declared.event.Event.{Event}
 use Rattle.kube_model.specs.declared.object.Kind.{Kind}
@@ -8,6 +8,7 @@ use Rattle.kube_model.specs.declared.status.What.{What}
 use Rattle.kube_model.specs.declared.status.What.TheVariants as whats
 use Rattle.kube_model.specs.declared.status.Status.{Status}
 use Rattle.kube_model.specs.declared.status.Status.TheVariants as statuses
+use Rattle.lane_drive.specs.Asking.{AsksMore}
 use Rattle.lane_drive.specs.Clauses.{AtEnd, AtOpenFault, OnlyWrites, unread}
 use Rattle.lane_drive.specs.Files.{FilesView}
 use Rattle.lane_drive.specs.Stops.{EndsSo, status_of_lane, status_of_lanes}
@@ -30,6 +31,11 @@ use Rattle.mlb_speaker.specs.Causes.{limit_cause, awaits_none}
 use Rattle.mlb_speaker.specs.LaneClauses.{CanEndLanes, IsLane}
 use Rattle.mlb_speaker.specs.Lanes.{belongs_to, lane_rules, name_of}
 use Rattle.mlb_speaker.specs.Stream.{SpeakerState, IsLimit, IsCause, limit_step, what_of}
+
+-- no reply is awaited, and the end of the input isn't either
+pub asks_never : (s : SpeakerState) (first second : SourceView) (before now : Outside) → AsksMore belongs_to lane_rules s first second before now → ⊥
+asks_never s first second before now (inl (items, more)) = let wrong : false ≡ true = more.waits in absurd (cc)
+asks_never s first second before now (inr more) = let wrong : false ≡ true = more.hears in absurd (cc)
 
 is_lane : (lane : Lane) → IsLane (name_of lane)
 is_lane First = inl refl

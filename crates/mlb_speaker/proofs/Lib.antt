@@ -1,5 +1,4 @@
 pub mod Begun
-pub mod Listed
 pub mod Meant
 pub mod Steps
 pub mod Tables

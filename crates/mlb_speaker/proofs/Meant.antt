@@ -26,9 +26,10 @@ use Rattle.speaker_words.specs.Reading.{said_in}
 use Rattle.mlb_speaker.specs.declared.entries.Entry.{Entry}
 use Rattle.mlb_speaker.specs.declared.station.Interface.{Interface}
 use Rattle.mlb_speaker.specs.declared.station.Station.{Station}
-use Rattle.mlb_speaker.specs.Announced.{announced_by}
+use Rattle.announced_set.specs.Announced.{announced_by}
 use Rattle.mlb_speaker.specs.Clauses.{begun_with}
-use Rattle.mlb_speaker.specs.Entries.{difference, withdrawn, withdrawals, announcements, entries_for}
+use Rattle.announced_set.specs.Changes.{difference}
+use Rattle.mlb_speaker.specs.Entries.{withdrawn, withdrawals, announcements, entries_for}
 use Rattle.mlb_speaker.specs.Meant.{SaysWhatIsMeant, SendsWhatIsMeant, AllSendWhatIsMeant}
 use Rattle.mlb_speaker.specs.Sends.{unasked_by, unasked, announcement, sent_on, answer_by, interface_of}
 use Rattle.mlb_speaker.specs.Stream.{SpeakerState, Received, frame_in, entries_at, line_step}

@@ -18,7 +18,7 @@ use Rattle.line_run.specs.Steps.{Breaks}
 use Rattle.line_run.specs.Text.{Halts}
 use Rattle.mlb_speaker.specs.declared.entries.Entry.{Entry}
 use Rattle.mlb_speaker.specs.declared.station.Station.{Station}
-use Rattle.mlb_speaker.specs.Announced.{announced_by}
+use Rattle.announced_set.specs.Announced.{announced_by}
 use Rattle.mlb_speaker.specs.Entries.{entries_for, entry_text}
 use Rattle.mlb_speaker.specs.declared.peers.PeerTable.{PeerTable}
 use Rattle.mlb_speaker.specs.PeerTables.{tables_of, updates_with}

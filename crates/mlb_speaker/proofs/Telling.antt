@@ -25,18 +25,19 @@ use Rattle.line_run.specs.Machine.{Goes}
 use Rattle.line_run.specs.Run.{AreTaken}
 use Rattle.mlb_speaker.specs.declared.entries.Entry.{Entry}
 use Rattle.mlb_speaker.specs.declared.entries.Entry.TheVariants.{Noted, Withdrawn, Announced, Sent, Updated}
-use Rattle.mlb_speaker.specs.Announced.{announced_by}
+use Rattle.announced_set.specs.Announced.{announced_by}
 use Rattle.mlb_speaker.specs.Clauses.{nothing_said, begun_with}
 use Rattle.mlb_speaker.specs.declared.station.Interface.{Interface}
 use Rattle.mlb_speaker.specs.declared.station.Station.{Station}
-use Rattle.mlb_speaker.specs.Entries.{difference, withdrawn, withdrawals, announcements, entries_for}
+use Rattle.announced_set.specs.Changes.{difference}
+use Rattle.mlb_speaker.specs.Entries.{withdrawn, withdrawals, announcements, entries_for}
 use Rattle.mlb_speaker.specs.Sends.{unasked_by, listening, announcement, answer_on, answer_by, sent_on, interface_of}
 use Rattle.mlb_speaker.specs.Stream.{SpeakerState, Received, first_state, state_after, frame_in, changes_of, entries_at, entries_of, limit_step, event_step, line_step, speaker_rules}
 use Rattle.mlb_speaker.specs.Told.{AllLeave, IsToldOf, TellsWhatIsAnnounced, LinesTellWhatIsAnnounced}
 use Rattle.speaker_words.specs.Reading.{said_in}
 use Rattle.speaker_words.specs.Words.{Said}
 use Rattle.mlb_speaker.specs.Updates.{peers_of, messages_to, updated, updates_to, updates_by, with_hop, update_entries}
-use Rattle.mlb_speaker.proofs.Listed.{has-announced}
+use Rattle.announced_set.proofs.Listed.{has-announced}
 use Rattle.mlb_speaker.proofs.Steps.{frame_leaves}
 
 -- ---- tests

@@ -1,20 +1,17 @@
 -- What is told of an event, and the text of it.
-use Rattle.std.specs.Prelude.{ℕ, not, List, [], ◌∷◌, ◌++◌, map, filter}
+use Rattle.std.specs.Prelude.{ℕ, List, [], ◌∷◌, ◌++◌, map}
 use Rattle.std.specs.List.{flat_map}
-use Rattle.ip_ranges.specs.Values.{AddressValue, has_address}
+use Rattle.ip_ranges.specs.Values.{AddressValue}
 use Rattle.kube_lines.specs.OutputLines.{accepted_text, refused_text, announce_text, withdraw_text, send_text, update_text}
 use Rattle.object_cache.specs.declared.change.TakeNote.{TakeNote}
 use Rattle.object_cache.specs.declared.change.TakeNote.TheVariants.{Quiet, Accepted, Refused}
 use Rattle.speaker_view.specs.ViewValue.{ViewValue}
+use Rattle.announced_set.specs.Changes.{difference}
 use Rattle.line_run.specs.Text.{line_of}
 use Rattle.mlb_speaker.specs.declared.entries.Entry.{Entry}
 use Rattle.mlb_speaker.specs.declared.entries.Entry.TheVariants.{Noted, Withdrawn, Announced, Sent, Updated}
 use Rattle.mlb_speaker.specs.declared.station.Station.{Station}
 use Rattle.mlb_speaker.specs.Sends.{announcement}
-
--- the addresses that aren't among the others
-abbrev pub difference : List AddressValue → List AddressValue → List AddressValue
-difference addresses others = filter (λ a. not (has_address others a)) addresses
 
 abbrev pub withdrawn : AddressValue → Entry
 withdrawn address = Withdrawn address

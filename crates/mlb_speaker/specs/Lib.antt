@@ -1,8 +1,8 @@
-pub mod Announced
 pub mod Causes
 pub mod Clauses
 pub mod Entries
 pub mod Heard
+pub mod Known
 pub mod LaneClauses
 pub mod LaneLaws
 pub mod Lanes

@@ -22,7 +22,7 @@ use Rattle.mlb_edge.specs.declared.lines.Line.{Line}
 use Rattle.speaker_words.specs.Words.{Said}
 use Rattle.mlb_speaker.specs.declared.entries.Entry.{Entry}
 use Rattle.mlb_speaker.specs.declared.station.Station.{Station}
-use Rattle.mlb_speaker.specs.Announced.{announced_by}
+use Rattle.announced_set.specs.Announced.{announced_by}
 use Rattle.mlb_speaker.specs.Entries.{entries_for, entry_text}
 use Rattle.mlb_speaker.specs.Sends.{answers}
 use Rattle.mlb_speaker.specs.Station.{station_of}

@@ -1,16 +1,22 @@
 //! What an event changes.
-ghost use Rattle.std.specs.Prelude.{◌≡◌, ◌++◌, ℕ, None, Some, OnOk, IfOk, IsErrOf};
+ghost use Rattle.std.specs.Prelude.{◌≡◌, ◌++◌, ◌∷◌, ℕ, map, None, Some, OnOk, IfOk, IsErrOf};
+ghost use Rattle.std.specs.List.{flat_map};
+ghost use Rattle.std.specs.Option.{option_map};
 ghost use Rattle.kube_model.specs.declared.object.Kind.{Kind};
-ghost use Rattle.speaker_view.specs.View.{view_after, limit_by};
-ghost use Rattle.mlb_speaker.specs.Announced.{announced_by};
+ghost use Rattle.speaker_view.specs.View.{limit_by};
+ghost use Rattle.announced_set.specs.Announced.{announced_by};
+ghost use Rattle.announced_set.specs.Changes.{AreUntouched};
+ghost use Rattle.announced_set.specs.Touched.{touched_by};
 ghost use Rattle.mlb_speaker.specs.Entries.{entries_for};
 ghost use Rattle.mlb_speaker.specs.PeerTables.{tables_of, updates_with};
-ghost use Rattle.mlb_speaker.specs.Stream.{state_of, changes_of};
+ghost use Rattle.mlb_speaker.specs.Known.{AreKnown};
+ghost use Rattle.mlb_speaker.specs.Stream.{changes_of, state_after};
 
-use crate::announced::announced;
 use crate::entries::{Entry, entries_for};
 use crate::peers::{PeerTable, push_updates, tables_of};
+use crate::speaker::Speaker;
 use crate::station::Station;
+use announced_set::{announced, touched_addresses, update_announced};
 use ip_ranges::Address;
 use kube_model::Event;
 use limited_view::LimitedView;
@@ -19,52 +25,72 @@ use object_cache::{ApplyFault, TakeNote};
 use std::alloc::Global;
 use std::collections::BTreeSet;
 
-/// What stands before an event: the addresses that the node announces, and the routes of the peers.
+/// What stands before an event: the addresses that the node announces, those of them and of others that the event may touch, and the
+/// routes of the peers.
 #[derive(Drop)]
 struct Standing {
     addresses: BTreeSet<Address>,
+    touched: Option<Vec<Address>>,
     tables: Sequence<PeerTable>,
 }
 
-/// Applies the event. What is to be told of what it changes.
-pub(crate) fn changes_by(
-    alloc: Global,
-    view: &mut LimitedView,
-    station: &Station,
-    event: Event,
-) -> Result<Sequence<Entry>, ApplyFault>
-    ensures ok { IfOk result (λ entries. entries ≡ changes_of (state_of view.old station.now) event) }
-    ensures view { OnOk result (view.new ≡ view_after event view.old) }
-    ensures within { OnOk result (limit_by view.old event ≡ None) }
-    ensures limit { (kind : Kind) (count : ℕ)
-        → IsErrOf result (ApplyFault.Limit kind count) → limit_by view.old event ≡ Some (kind, count) }
-{
-    let before = match current(alloc, view, station) {
-        Ok(before) => before,
-        Err(NoMemory) => {
-            drop(event);
-            return Err(ApplyFault::NoMemory);
-        }
-    };
-    let note = match view.apply(event) {
-        Ok(note) => note,
-        Err(fault) => {
-            drop(before);
-            return Err(fault);
-        }
-    };
-    let told = told_since(alloc, view, station, note, &before);
-    drop(before);
-    Ok(told?)
+impl Speaker {
+    /// Applies the event. What is to be told of what it changes.
+    pub(crate) fn changes_by(
+        &mut self,
+        alloc: Global,
+        event: Event,
+    ) -> Result<Sequence<Entry>, ApplyFault>
+        ensures ok { IfOk result (λ entries. entries ≡ changes_of self.old event) }
+        ensures state { OnOk result (self.new ≡ state_after self.old event) }
+        ensures within { OnOk result (limit_by self.old.view event ≡ None) }
+        ensures limit { (kind : Kind) (count : ℕ)
+            → IsErrOf result (ApplyFault.Limit kind count) → limit_by self.old.view event ≡ Some (kind, count) }
+    {
+        // While the view changes, nothing is known of what the node announces by it.
+        let known = self.announced.take();
+        let mut before = match stands_before(alloc, known, &self.view, &self.station, &event) {
+            Ok(before) => before,
+            Err(NoMemory) => {
+                drop(event);
+                return Err(ApplyFault::NoMemory);
+            }
+        };
+        let note = match self.view.apply(event) {
+            Ok(note) => note,
+            Err(fault) => {
+                drop(before);
+                return Err(fault);
+            }
+        };
+        let entries = told_since(alloc, &self.view, &self.station, note, &mut before)?;
+        self.announced = Some(before.addresses);
+        Ok(entries)
+    }
 }
 
-fn current(alloc: Global, view: &LimitedView, station: &Station) -> Result<Standing, NoMemory>
+/// What stands before the event, where these are known to be the addresses that the node announces.
+fn stands_before(
+    alloc: Global,
+    known: Option<BTreeSet<Address>>,
+    view: &LimitedView,
+    station: &Station,
+    event: &Event,
+) -> Result<Standing, NoMemory>
+    requires { AreKnown (option_map (λ a. a.keys) known) view.now station.now.node }
     ensures addresses { IfOk result (λ s. s.addresses.keys ≡ announced_by view.now station.now.node) }
+    ensures touched { IfOk result (λ s. option_map (λ t. t.items) s.touched ≡ touched_by view.now event.now) }
     ensures tables { IfOk result (λ s. s.tables ≡ tables_of view.now station.now) }
 {
-    let addresses = announced(alloc, view.as_view(), &station.node)?;
-    let tables = tables_of(alloc, view, station)?;
-    Ok(Standing { addresses, tables })
+    let addresses = match known {
+        Some(addresses) => addresses,
+        None => announced(alloc, view.as_view(), &station.node)?,
+    };
+    Ok(Standing {
+        addresses,
+        touched: touched_addresses(alloc, view.as_view(), event)?,
+        tables: tables_of(alloc, view, station)?,
+    })
 }
 
 /// What is told where this stood before, and the view is this one now.
@@ -73,40 +99,45 @@ fn told_since(
     view: &LimitedView,
     station: &Station,
     note: TakeNote,
-    before: &Standing,
+    before: &mut Standing,
 ) -> Result<Sequence<Entry>, NoMemory>
-    ensures { IfOk result (λ entries. entries
-        ≡ entries_for view.now station.now note before.now.addresses.keys (announced_by view.now station.now.node)
-        ++ updates_with before.now.tables view.now station.now.node station.now.next_hop) }
+    requires { AreUntouched (option_map (λ t. t.items) before.old.touched) before.old.addresses.keys view.now station.now.node }
+    ensures entries { IfOk result (λ entries. entries
+        ≡ entries_for view.now station.now note before.old.addresses.keys (announced_by view.now station.now.node)
+        ++ updates_with before.old.tables view.now station.now.node station.now.next_hop) }
+    ensures addresses { OnOk result (before.new.addresses.keys ≡ announced_by view.now station.now.node) }
 {
     let mut entries = changed_entries(alloc, view, station, note, before)?;
     push_updates(alloc, &mut entries, view, station, before.tables.as_slice())?;
     Ok(entries)
 }
 
+/// The note, and what is told of the addresses that are announced no more, or from now on.
 fn changed_entries(
     alloc: Global,
     view: &LimitedView,
     station: &Station,
     note: TakeNote,
-    before: &Standing,
+    before: &mut Standing,
 ) -> Result<Sequence<Entry>, NoMemory>
-    ensures { IfOk result (λ entries. entries
-        ≡ entries_for view.now station.now note before.now.addresses.keys (announced_by view.now station.now.node)) }
+    requires { AreUntouched (option_map (λ t. t.items) before.old.touched) before.old.addresses.keys view.now station.now.node }
+    ensures entries { IfOk result (λ entries. entries
+        ≡ entries_for view.now station.now note before.old.addresses.keys (announced_by view.now station.now.node)) }
+    ensures addresses { OnOk result (before.new.addresses.keys ≡ announced_by view.now station.now.node) }
+    ensures tables { OnOk result (before.new.tables ≡ before.old.tables) }
 {
-    let after = match announced(alloc, view.as_view(), &station.node) {
-        Ok(after) => after,
+    let changes = match update_announced(
+        alloc,
+        &mut before.addresses,
+        view.as_view(),
+        &station.node,
+        before.touched.as_deref(),
+    ) {
+        Ok(changes) => changes,
         Err(refused) => {
             drop(note);
             return Err(refused);
         }
     };
-    entries_for(
-        alloc,
-        view.as_view(),
-        station,
-        note,
-        &before.addresses,
-        &after,
-    )
+    entries_for(alloc, view.as_view(), station, note, &changes)
 }

@@ -1,10 +1,12 @@
 //! What is told of an event.
-ghost use Rattle.std.specs.Prelude.{◌≡◌, ◌++◌, IfOk, OnOk};
-ghost use Rattle.mlb_speaker.specs.Entries.{withdrawals, announcements, entries_for};
+ghost use Rattle.std.specs.Prelude.{◌≡◌, ◌++◌, ◌∷◌, map, IfOk, OnOk};
+ghost use Rattle.std.specs.List.{flat_map};
+ghost use Rattle.mlb_speaker.specs.Entries.{withdrawn};
 ghost use Rattle.mlb_speaker.specs.Sends.{announcement};
 
 use crate::sends::push_all_unasked;
 use crate::station::Station;
+use announced_set::AddressChanges;
 use ip_ranges::Address;
 use kube_labels::Text;
 use mlb_base::{ByteList, NoMemory, Sequence};
@@ -28,32 +30,31 @@ pub enum Entry {
     Updated { peer: Text, message: ByteList },
 }
 
-/// What is told where these addresses were announced before, and these are now, in this view.
+/// What is told where the addresses that the node announces by this view changed so.
 pub(crate) fn entries_for(
     alloc: Global,
     view: &View,
     station: &Station,
     note: TakeNote,
-    before: &BTreeSet<Address>,
-    after: &BTreeSet<Address>,
+    changes: &AddressChanges,
 ) -> Result<Sequence<Entry>, NoMemory>
-    ensures { IfOk result (λ entries. entries ≡ entries_for view.now station.now note before.now.keys after.now.keys) }
+    ensures { IfOk result (λ entries. entries
+        ≡ Entry.Noted note ∷ map withdrawn changes.now.withdrawn.keys ++ flat_map (announcement view.now station.now) changes.now.announced.keys) }
 {
     let mut entries = Sequence::new(alloc);
     entries.push(Entry::Noted { note })?;
-    push_withdrawals(&mut entries, before, after)?;
-    push_announcements(alloc, &mut entries, view, station, before, after)?;
+    push_withdrawals(&mut entries, &changes.withdrawn)?;
+    push_announcements(alloc, &mut entries, view, station, &changes.announced)?;
     Ok(entries)
 }
 
 fn push_withdrawals(
     entries: &mut Sequence<Entry>,
-    before: &BTreeSet<Address>,
-    after: &BTreeSet<Address>,
+    addresses: &BTreeSet<Address>,
 ) -> Result<(), NoMemory>
-    ensures { OnOk result (entries.new ≡ entries.old ++ withdrawals before.now.keys after.now.keys) }
+    ensures { OnOk result (entries.new ≡ entries.old ++ map withdrawn addresses.now.keys) }
 {
-    for address in before.difference(after) {
+    for address in addresses {
         entries.push(Entry::Withdrawn { address: *address })?;
     }
     Ok(())
@@ -64,12 +65,11 @@ fn push_announcements(
     entries: &mut Sequence<Entry>,
     view: &View,
     station: &Station,
-    before: &BTreeSet<Address>,
-    after: &BTreeSet<Address>,
+    addresses: &BTreeSet<Address>,
 ) -> Result<(), NoMemory>
-    ensures { OnOk result (entries.new ≡ entries.old ++ announcements view.now station.now before.now.keys after.now.keys) }
+    ensures { OnOk result (entries.new ≡ entries.old ++ flat_map (announcement view.now station.now) addresses.now.keys) }
 {
-    for address in after.difference(before) {
+    for address in addresses {
         push_announcement(alloc, entries, view, station, address)?;
     }
     Ok(())

@@ -2,19 +2,18 @@
 ghost use Rattle.std.specs.Prelude.{◌≡◌, ℕ, None, Some, OnOk, IfOk, IfErr, IsErrOf};
 ghost use Rattle.std.specs.Option.{option_map};
 ghost use Rattle.kube_model.specs.declared.object.Kind.{Kind};
-ghost use Rattle.speaker_view.specs.View.{view_after, limit_by};
+ghost use Rattle.speaker_view.specs.View.{limit_by};
 ghost use Rattle.line_run.specs.Machine.{Goes};
 ghost use Rattle.mlb_speaker.specs.Seen.{received_seen};
 ghost use Rattle.mlb_speaker.specs.Sends.{answers};
-ghost use Rattle.mlb_speaker.specs.Stream.{state_of, frame_in, entries_of, step_by, IsUnapplied, what_of};
+ghost use Rattle.mlb_speaker.specs.Stream.{state_after, frame_in, entries_of, step_by, IsUnapplied, what_of};
 
-use crate::changes::changes_by;
 use crate::entries::Entry;
 use crate::sends::answers;
+use crate::speaker::Speaker;
 use crate::station::Station;
 use kube_labels::Text;
 use kube_model::{Event, Kind, Status, What};
-use limited_view::LimitedView;
 use line_run::{Halt, Refusal};
 use mlb_base::{ByteList, NoMemory, Sequence};
 use object_cache::ApplyFault;
@@ -24,14 +23,13 @@ use std::alloc::Global;
 /// Applies the event to the view. What is to be told of it, or why it isn't applied.
 pub(crate) fn apply_event(
     alloc: Global,
-    view: &mut LimitedView,
-    station: &Station,
+    speaker: &mut Speaker,
     event: Event,
 ) -> Result<Sequence<Entry>, Refusal>
-    ensures ok { IfOk result (λ entries. step_by (state_of view.old station.now) event ≡ Goes (state_of view.new station.now) entries) }
-    ensures err { IfErr result (λ refusal. IsUnapplied refusal (state_of view.old station.now) event) }
+    ensures ok { IfOk result (λ entries. step_by speaker.old event ≡ Goes speaker.new entries) }
+    ensures err { IfErr result (λ refusal. IsUnapplied refusal speaker.old event) }
 {
-    match entries_by(alloc, view, station, event) {
+    match entries_by(alloc, speaker, event) {
         Ok(entries) => Ok(entries),
         Err(ApplyFault::NoMemory) => Err(Refusal::Halted {
             halt: Halt::NoMemory,
@@ -48,18 +46,17 @@ pub(crate) fn apply_event(
 /// Applies the event. What is to be told of it.
 fn entries_by(
     alloc: Global,
-    view: &mut LimitedView,
-    station: &Station,
+    speaker: &mut Speaker,
     event: Event,
 ) -> Result<Sequence<Entry>, ApplyFault>
-    ensures ok { IfOk result (λ entries. entries ≡ entries_of (state_of view.old station.now) event) }
-    ensures view { OnOk result (view.new ≡ view_after event view.old) }
-    ensures within { OnOk result (limit_by view.old event ≡ None) }
+    ensures ok { IfOk result (λ entries. entries ≡ entries_of speaker.old event) }
+    ensures state { OnOk result (speaker.new ≡ state_after speaker.old event) }
+    ensures within { OnOk result (limit_by speaker.old.view event ≡ None) }
     ensures limit { (kind : Kind) (count : ℕ)
-        → IsErrOf result (ApplyFault.Limit kind count) → limit_by view.old event ≡ Some (kind, count) }
+        → IsErrOf result (ApplyFault.Limit kind count) → limit_by speaker.old.view event ≡ Some (kind, count) }
 {
-    match answers_to(alloc, view.as_view(), station, &event) {
-        Ok(None) => changes_by(alloc, view, station, event),
+    match answers_to(alloc, speaker.view.as_view(), &speaker.station, &event) {
+        Ok(None) => speaker.changes_by(alloc, event),
         Ok(Some(entries)) => {
             drop(event);
             Ok(entries)

@@ -6,18 +6,16 @@ ghost use Rattle.line_run.specs.Run.{text_of};
 ghost use Rattle.line_run.specs.Text.{Halts, line_of};
 ghost use Rattle.mlb_edge.specs.Written.{Grows};
 ghost use Rattle.mlb_speaker.specs.Lanes.{lane_rules, name_of};
-ghost use Rattle.mlb_speaker.specs.Stream.{state_of, speaker_rules};
+ghost use Rattle.mlb_speaker.specs.Stream.{speaker_rules};
 
 use crate::entries::Entry;
 use crate::events::{apply_event, frame_in};
 use crate::output::write_entries;
 use crate::speaker::Speaker;
-use crate::station::Station;
 use kube_model::{Event, LaneName, Status};
 use lane_drive::{LaneMachine, write_took};
 use lane_mail::{Item, Lane};
 use lane_run::Lanes;
-use limited_view::LimitedView;
 use line_run::{Halt, Refusal};
 use mlb_base::NoMemory;
 use mlb_edge::{Line, Sink};
@@ -40,14 +38,14 @@ impl LaneMachine for Speaker {
     ghost use Rattle.std.specs.Prelude.{refl};
     ghost use Rattle.mlb_speaker.specs.Causes.{item_causes, awaits_none, names_taken, names_differ};
     ghost use Rattle.mlb_speaker.specs.Lanes.{lane_rules};
-    ghost use Rattle.mlb_speaker.specs.Stream.{SpeakerState, state_of};
+    ghost use Rattle.mlb_speaker.specs.Stream.{SpeakerState};
     ghost use Rattle.mlb_speaker.specs.declared.entries.Entry.{Entry as SpeakerEntry};
 
     ghost State = { SpeakerState };
 
     ghost Entry = { SpeakerEntry };
 
-    ghost state = { λ speaker. state_of speaker.view speaker.station };
+    ghost state = { λ speaker. speaker };
 
     ghost rules = { lane_rules };
 
@@ -69,7 +67,7 @@ impl LaneMachine for Speaker {
         item: Item,
         out: &mut K,
     ) -> Result<(), Refusal> {
-        drive_item(alloc, &mut self.view, &self.station, item, out)
+        drive_item(alloc, self, item, out)
     }
 
     // No reply is awaited, so no line of the input is one.
@@ -117,18 +115,17 @@ fn name_of(lane: Lane) -> LaneName
 /// Applies the item's event to the view, and writes the line that tells of the item, and then what comes of it.
 fn drive_item<K: Sink>(
     alloc: Global,
-    view: &mut LimitedView,
-    station: &Station,
+    speaker: &mut Speaker,
     item: Item,
     out: &mut K,
 ) -> Result<(), Refusal>
-    ensures ok { OnOk result (TakesItem lane_rules (state_of view.old station.now) (state_of view.new station.now) item
+    ensures ok { OnOk result (TakesItem lane_rules speaker.old speaker.new item
         (K.written out.old) (K.written out.new)) }
-    ensures err { IfErr result (λ refusal. RefusesItem refusal lane_rules (state_of view.old station.now) item
+    ensures err { IfErr result (λ refusal. RefusesItem refusal lane_rules speaker.old item
         (K.written out.old) (K.written out.new) (K.faults out.old) (K.faults out.new)) }
     ensures later { K.faults out.old ≤ K.faults out.new }
 {
-    let entries = apply_event(alloc, view, station, item.event)?;
+    let entries = apply_event(alloc, speaker, item.event)?;
     match write_item(alloc, out, item.lane, item.number, entries.as_slice()) {
         Ok(()) => Ok(()),
         Err(halt) => Err(Refusal::Halted { halt }),

@@ -1,14 +1,7 @@
 //! What holds of every run, and of every view.
-ghost use Rattle.mlb_speaker.specs.Announced.{AllAreAnnounced};
 ghost use Rattle.mlb_speaker.specs.Heard.{PeersHearTheirRoutes};
 ghost use Rattle.mlb_speaker.specs.Meant.{AllSendWhatIsMeant};
 ghost use Rattle.mlb_speaker.specs.Told.{LinesTellWhatIsAnnounced};
-
-/// The addresses that are told before and after an event are exactly those that the node announces, IPv4 before IPv6, each family
-/// ascending.
-pub fn all_are_announced()
-    ensures { AllAreAnnounced }
-{}
 
 /// After any lines that are taken, the addresses with an announce line and no later withdraw line are exactly those that the node
 /// announces.

@@ -1,14 +1,13 @@
 //! One line: an event that is applied to the view.
 ghost use Rattle.std.specs.Prelude.{◌≤◌, OnOk, IfErr};
 ghost use Rattle.line_run.specs.Steps.{Takes, Refuses};
-ghost use Rattle.mlb_speaker.specs.Stream.{speaker_rules, state_of};
+ghost use Rattle.mlb_speaker.specs.Stream.{speaker_rules};
 
 use crate::events::apply_event;
 use crate::output::write_entries;
-use crate::station::Station;
+use crate::speaker::Speaker;
 use kube_events::read_event;
 use kube_model::{EventFault, LaneName, Status};
-use limited_view::LimitedView;
 use line_run::{Halt, Refusal};
 use mlb_edge::{Line, Sink};
 use std::alloc::Global;
@@ -16,14 +15,13 @@ use std::alloc::Global;
 /// Applies the line's event to the view, and writes what comes of it.
 pub(crate) fn drive_line<K: Sink>(
     alloc: Global,
-    view: &mut LimitedView,
-    station: &Station,
+    speaker: &mut Speaker,
     line: Line,
     out: &mut K,
 ) -> Result<(), Refusal>
-    ensures ok { OnOk result (Takes speaker_rules (state_of view.old station.now) (state_of view.new station.now) line
+    ensures ok { OnOk result (Takes speaker_rules speaker.old speaker.new line
         (K.written out.old) (K.written out.new)) }
-    ensures err { IfErr result (λ refusal. Refuses refusal speaker_rules (state_of view.old station.now) line
+    ensures err { IfErr result (λ refusal. Refuses refusal speaker_rules speaker.old line
         (K.written out.old) (K.written out.new) (K.faults out.old) (K.faults out.new)) }
     ensures later { K.faults out.old ≤ K.faults out.new }
 {
@@ -44,7 +42,7 @@ pub(crate) fn drive_line<K: Sink>(
             });
         }
     };
-    let entries = apply_event(alloc, view, station, event)?;
+    let entries = apply_event(alloc, speaker, event)?;
     match write_entries(alloc, out, entries.as_slice()) {
         Ok(()) => Ok(()),
         Err(halt) => Err(Refusal::Halted { halt }),

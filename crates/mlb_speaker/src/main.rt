@@ -1,7 +1,6 @@
 //! The speaker: announces the addresses of services from its node, and withdraws them, by lines.
 #![tactic(auto)]
 
-mod announced;
 mod changes;
 mod entries;
 mod events;

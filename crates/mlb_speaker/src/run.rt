@@ -5,7 +5,7 @@ ghost use Rattle.lane_drive.specs.Files.{files_view};
 ghost use Rattle.lane_run.specs.Views.{source_view};
 ghost use Rattle.line_run.specs.Clauses.{AtEnd, AtReadFault, AtWriteFault};
 ghost use Rattle.command_options.specs.Options.{texts_of};
-ghost use Rattle.mlb_speaker.specs.Clauses.{InStream, CanEnd, SpeaksForNamed, AtDone, AtBadLine, AtHeldLimit, AtLongLine, AtTooLong, AfterRead, AfterWrite, AtNoMemory, WritesOnly, TellsWhatIsAnnounced, SendsWhatIsMeant, TellsPeersTheirRoutes, IsExact, IsComplete};
+ghost use Rattle.mlb_speaker.specs.Clauses.{InStream, MayAskAnswered, CanEnd, SpeaksForNamed, AtDone, AtBadLine, AtHeldLimit, AtLongLine, AtTooLong, AfterRead, AfterWrite, AtNoMemory, WritesOnly, TellsWhatIsAnnounced, SendsWhatIsMeant, TellsPeersTheirRoutes, IsExact, IsComplete};
 ghost use Rattle.mlb_speaker.specs.LaneClauses.{EndsLanes, LanesDone, LanesWriteOnly, AtLaneOpenFault, AtLaneReadFault, LeavesOtherFiles, LeavesInput, LanesCanEnd, LanesAreAsLines, LanesTellWhatIsAnnounced, LanesSendWhatIsMeant};
 ghost use Rattle.speaker_words.specs.Words.{AreKnown};
 
@@ -13,7 +13,8 @@ use crate::speaker::Speaker;
 use crate::stream::stream_speaker;
 use kube_model::Status;
 use lane_drive::run_lane_files;
-use mlb_edge::{Files, Sink, Source};
+use line_run::PacedSource;
+use mlb_edge::{Files, Sink};
 use speaker_words::speaker_words;
 use std::alloc::Global;
 use std::sync::Wait;
@@ -21,7 +22,7 @@ use std::thread::Threads;
 
 /// All that the program does: where the words name two lane files, the run over these, which doesn't read the input; else the run over one
 /// stream, which opens no file.
-pub fn run_speaker<R: Threads + Wait + Sync, F: Files, S: Source + Send, K: Sink + Send>(
+pub fn run_speaker<R: Threads + Wait + Sync, F: Files, S: PacedSource<K> + Send, K: Sink + Send>(
     rt: &R,
     alloc: Global,
     words: &[String],
@@ -29,6 +30,10 @@ pub fn run_speaker<R: Threads + Wait + Sync, F: Files, S: Source + Send, K: Sink
     input: &mut S,
     out: &mut K,
 ) -> Status
+    // In one stream no output is held back: the input may be asked for more where all that came whole was answered. Nothing else is known of
+    // when it may, so the program asks it nowhere else, and over two files never. What is only a `Source` may be asked at any time.
+    requires live { MayAskAnswered words.now S.name S.left S.may_read K.written input.old out.old }
+
     ensures no_file { InStream words.now (files.new ≡ files.old) }
     ensures can_end { InStream words.now (CanEnd result) }
     ensures usage { (result ≡ Status.Usage) ↔ (¬ (AreKnown (texts_of words.now))) }

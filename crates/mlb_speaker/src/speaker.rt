@@ -2,10 +2,11 @@
 ghost use Rattle.std.specs.Prelude.{◌≡◌, IfOk};
 ghost use Rattle.std.specs.Option.{option_map};
 ghost use Rattle.speaker_words.specs.Seen.{said_seen};
-ghost use Rattle.mlb_speaker.specs.Stream.{state_of, first_state};
+ghost use Rattle.mlb_speaker.specs.Stream.{first_state};
 
 use crate::line::drive_line;
 use crate::station::Station;
+use ip_ranges::Address;
 use kube_labels::Text;
 use kube_model::Status;
 use limited_view::LimitedView;
@@ -14,24 +15,41 @@ use mlb_base::NoMemory;
 use mlb_edge::{Line, Sink};
 use speaker_words::SpeakerWords;
 use std::alloc::Global;
+use std::collections::BTreeSet;
+use std::marker::Model;
 
 /// Applies lines to a view, and tells what its node announces.
 #[derive(Drop)]
 pub(crate) struct Speaker {
     pub(crate) view: LimitedView,
     pub(crate) station: Station,
+    // what the node announces by the view, once it is known: an event of a service or slice changes it at few addresses
+    pub(crate) announced: Option<BTreeSet<Address>>,
+}
+
+impl Model for Speaker {
+    ghost use Rattle.std.specs.Option.{option_map};
+    ghost use Rattle.mlb_speaker.specs.Known.{AreKnown};
+    ghost use Rattle.mlb_speaker.specs.Stream.{SpeakerState, state_of};
+
+    ghost Value = { SpeakerState };
+
+    ghost view = { λ s. state_of s.view s.station };
+
+    ghost invariant = { λ s. AreKnown (option_map (λ a. a.keys) s.announced) s.view s.station.node };
 }
 
 impl Speaker {
     /// A speaker that was shown nothing, where the words say. It announces services of their class, or those without one.
     pub(crate) fn new(alloc: Global, said: &SpeakerWords<'_>) -> Result<Speaker, NoMemory>
-        ensures { IfOk result (λ speaker. state_of speaker.view speaker.station ≡ first_state (said_seen said.now)) }
+        ensures { IfOk result (λ speaker. speaker ≡ first_state (said_seen said.now)) }
     {
         let class = owned(alloc, said.class)?;
         let station = Station::new(alloc, said)?;
         Ok(Speaker {
             view: LimitedView::new(alloc, class),
             station,
+            announced: None,
         })
     }
 }
@@ -47,7 +65,7 @@ fn owned(alloc: Global, class: Option<&str>) -> Result<Option<Text>, NoMemory>
 }
 
 impl Machine for Speaker {
-    ghost use Rattle.mlb_speaker.specs.Stream.{SpeakerState, state_of, speaker_rules, IsCause};
+    ghost use Rattle.mlb_speaker.specs.Stream.{SpeakerState, speaker_rules, IsCause};
     ghost use Rattle.mlb_speaker.specs.Causes.{line_causes, end_causes};
     ghost use Rattle.mlb_speaker.specs.declared.entries.Entry.{Entry as SpeakerEntry};
 
@@ -55,14 +73,14 @@ impl Machine for Speaker {
 
     ghost Entry = { SpeakerEntry };
 
-    ghost state = { λ speaker. state_of speaker.view speaker.station };
+    ghost state = { λ speaker. speaker };
 
     ghost rules = { speaker_rules };
 
     ghost cause = { IsCause };
 
     fn take<K: Sink>(&mut self, alloc: Global, line: Line, out: &mut K) -> Result<(), Refusal> {
-        drive_line(alloc, &mut self.view, &self.station, line, out)
+        drive_line(alloc, self, line, out)
     }
 
     fn end(&self) -> Result<Status, NoMemory> {

@@ -2,27 +2,29 @@
 ghost use Rattle.std.specs.Prelude.{◌≡◌, ◌↔◌, None};
 ghost use Rattle.line_run.specs.Clauses.{AtEnd, AtReadFault, AtWriteFault};
 ghost use Rattle.command_options.specs.Options.{texts_of};
-ghost use Rattle.mlb_speaker.specs.Clauses.{lanes_of, CanEnd, SpeaksForNamed, AtDone, AtBadLine, AtHeldLimit, AtLongLine, AtTooLong, AfterRead, AfterWrite, AtNoMemory, WritesOnly, TellsWhatIsAnnounced, SendsWhatIsMeant, TellsPeersTheirRoutes, IsExact, IsComplete};
+ghost use Rattle.mlb_speaker.specs.Clauses.{lanes_of, MayAskAnswered, CanEnd, SpeaksForNamed, AtDone, AtBadLine, AtHeldLimit, AtLongLine, AtTooLong, AfterRead, AfterWrite, AtNoMemory, WritesOnly, TellsWhatIsAnnounced, SendsWhatIsMeant, TellsPeersTheirRoutes, IsExact, IsComplete};
 ghost use Rattle.speaker_words.specs.Words.{AreKnown};
 
 use crate::speaker::Speaker;
 use kube_model::Status;
-use line_run::run_machine;
-use mlb_edge::{Sink, Source};
+use line_run::{PacedSource, run_machine};
+use mlb_edge::Sink;
 use speaker_words::speaker_words;
 use std::alloc::Global;
 
-/// The work of the program on one stream, where the words name no lane files: each line of the input is an event. What comes of it is written before the next line is read
-/// (`line_run::next_step`): the note of a configuration, a withdraw line for each address that isn't announced any more, an announce
+/// The work of the program on one stream, where the words name no lane files: each line of the input is an event. What comes of it is written before the source is
+/// asked for more, which may be one that gives the next line only once it has seen what came of those before: the note of a configuration, a withdraw line for each address that isn't announced any more, an announce
 /// line for each that is from now on, with the unasked frames that are sent, the update lines of each BGP peer, and the frame that is sent in answer to
 /// one that was received.
-pub fn stream_speaker<S: Source, K: Sink>(
+pub fn stream_speaker<S: PacedSource<K>, K: Sink>(
     alloc: Global,
     words: &[String],
     input: &mut S,
     out: &mut K,
 ) -> Status
-    requires { lanes_of (texts_of words.now) ≡ None }
+    requires asked { lanes_of (texts_of words.now) ≡ None }
+    requires live { MayAskAnswered words.now S.name S.left S.may_read K.written input.old out.old }
+
     ensures can_end { CanEnd result }
     ensures usage { (result ≡ Status.Usage) ↔ (¬ (AreKnown (texts_of words.now))) }
     ensures named { SpeaksForNamed words.now }

@@ -1,8 +1,18 @@
 use Rattle.std.proofs.Common.{ℕ, List, Err, refl, ap, ◌∙◌}
 use Rattle.mlb_edge.specs.Failed.{with_failed}
+use Rattle.lane_run.specs.Views.{outside, source_view}
+use Rattle.lane_drive.specs.Asking.{AsksMore}
 use Rattle.lane_drive.proofs.Ways.{writes_none}
 use Rattle.lane_drive.proofs.OverFiles as files
 use Rattle.lane_drive.proofs.files.run_lane_files.Goals as goal
+
+pub run_opened-status-requires-clause-live : goal.run_opened-status-requires-clause-live
+run_opened-status-requires-clause-live g c = λ _ _ i r o name more.
+    c.requires.live i r o name
+    (files.of_files c.args.first.now c.args.second.now _ _ _ _ _ _ _ _ _ c.in-Ok-open.ensures.opened c.in-Ok-open-2.ensures.opened (c.open.ensures.bytes c.args.second.now) c.in-Ok.reader c.in-Ok.ensures
+    (λ v v' reader. AsksMore g.M.Lanes.belongs g.M.LaneMachine.rules (g.M.LaneMachine.state c.args.machine) v v'
+    (outside reader (source_view (g.I.PacedSource.left c.args.input.now) (g.I.PacedSource.name c.args.input.now) (g.I.PacedSource.faults c.args.input.now)) (g.K.Sink.written c.args.out.now) (g.K.Sink.faults c.args.out.now))
+    (outside r (source_view (g.I.PacedSource.left i) (g.I.PacedSource.name i) (g.I.PacedSource.faults i)) (g.K.Sink.written o) (g.K.Sink.faults o))) more)
 
 pub returns-in_default-clause-ended : goal.returns-in_default-clause-ended
 returns-in_default-clause-ended g c =

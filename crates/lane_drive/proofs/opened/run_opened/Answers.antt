@@ -1,7 +1,12 @@
-use Rattle.std.proofs.Common.{ap}
+use Rattle.std.proofs.Common.{inl, ap}
 use Rattle.lane_run.specs.Views.{outside, source_view}
-use Rattle.lane_drive.proofs.Ways.{ends_undriven, ends_refused, leaves_refused, quiet_then, ends_unknown, ends_behind, ends_as_lanes, leaves_driven, leaves_lanes}
+use Rattle.lane_drive.proofs.Taken.{awaits_in}
+use Rattle.lane_drive.proofs.Ways.{asks_behind, ends_undriven, ends_refused, leaves_refused, quiet_then, ends_unknown, ends_behind, ends_as_lanes, leaves_driven, leaves_lanes}
 use Rattle.lane_drive.proofs.opened.run_opened.Goals as goal
+
+pub run_lanes-ran-requires-clause-live : goal.run_lanes-ran-requires-clause-live
+run_lanes-ran-requires-clause-live g c = λ _ _ i r o name asks.
+    c.requires.live i r o name (inl (awaits_in g.M.LaneMachine.rules (g.M.LaneMachine.state c.args.machine) _ _ c.requires.quiet asks))
 
 pub returns-in_default-clause-ended : goal.returns-in_default-clause-ended
 returns-in_default-clause-ended g c =
@@ -18,39 +23,44 @@ returns-in-Err-clause-unheard g c =
 pub look_behind-requires : goal.look_behind-requires
 look_behind-requires g c =
     let ran = c.run_lanes-ran.new in
-    let mid = outside ran.reader (source_view (g.I.Source.left ran.input) (g.I.Source.name ran.input) (g.I.Source.faults ran.input)) (g.K.Sink.written ran.out) (g.K.Sink.faults ran.out) in
-    record { quiet = quiet_then g.M.Lanes.belongs g.M.LaneMachine.rules (g.M.LaneMachine.state c.args.machine) c.requires.quiet _ _ _ _ _ mid (g.M.LaneMachine.state c.run_lanes-ran.new.machine.replies.machine) _ c.in-Ok.ensures.ran c.in_default-outcome.is }
+    let mid = outside ran.reader (source_view (g.I.PacedSource.left ran.input) (g.I.PacedSource.name ran.input) (g.I.PacedSource.faults ran.input)) (g.K.Sink.written ran.out) (g.K.Sink.faults ran.out) in
+    record {
+      quiet = quiet_then g.M.Lanes.belongs g.M.LaneMachine.rules (g.M.LaneMachine.state c.args.machine) c.requires.quiet _ _ _ _ _ mid (g.M.LaneMachine.state c.run_lanes-ran.new.machine.replies.machine) _ c.in-Ok.ensures.ran c.in_default-outcome.is;
+      paced = λ hears none_held. c.requires.live ran.input ran.reader ran.out c.run_lanes-ran.ensures.name
+          (asks_behind g.M.Lanes.belongs g.M.LaneMachine.rules (g.M.LaneMachine.state c.args.machine) c.requires.quiet _ _ _ _ _ mid (g.M.LaneMachine.state c.run_lanes-ran.new.machine.replies.machine) _ c.in-Ok.ensures.ran c.in_default-outcome.is
+          (c.are_known.ensures c.if-not-are_known.false) hears none_held);
+    }
 
 pub returns-in-Some-clause-ended : goal.returns-in-Some-clause-ended
 returns-in-Some-clause-ended g c =
     let ran = c.run_lanes-ran.new in
-    let mid = outside ran.reader (source_view (g.I.Source.left ran.input) (g.I.Source.name ran.input) (g.I.Source.faults ran.input)) (g.K.Sink.written ran.out) (g.K.Sink.faults ran.out) in
+    let mid = outside ran.reader (source_view (g.I.PacedSource.left ran.input) (g.I.PacedSource.name ran.input) (g.I.PacedSource.faults ran.input)) (g.K.Sink.written ran.out) (g.K.Sink.faults ran.out) in
     ends_behind g.M.Lanes.belongs g.M.LaneMachine.rules (g.M.LaneMachine.state c.args.machine) c.requires.quiet _ _ _ _ _ mid (g.M.LaneMachine.state c.run_lanes-ran.new.machine.replies.machine) _ c.in-Ok.ensures.ran c.in_default-outcome.is
     (c.are_known.ensures c.if-not-are_known.false) _ c.in-Some.status c.in-Some.ensures.some
 
 pub returns-clause-ended : goal.returns-clause-ended
 returns-clause-ended g c =
     let ran = c.run_lanes-ran.new in
-    let mid = outside ran.reader (source_view (g.I.Source.left ran.input) (g.I.Source.name ran.input) (g.I.Source.faults ran.input)) (g.K.Sink.written ran.out) (g.K.Sink.faults ran.out) in
+    let mid = outside ran.reader (source_view (g.I.PacedSource.left ran.input) (g.I.PacedSource.name ran.input) (g.I.PacedSource.faults ran.input)) (g.K.Sink.written ran.out) (g.K.Sink.faults ran.out) in
     rw c.status_of_lanes.ensures (ends_as_lanes g.M.Lanes.belongs g.M.LaneMachine.rules (g.M.LaneMachine.state c.args.machine) c.requires.quiet _ _ _ _ _ mid (g.M.LaneMachine.state c.run_lanes-ran.new.machine.replies.machine) _ c.in-Ok.ensures.ran
     c.in_default-outcome.is (c.are_known.ensures c.if-not-are_known.false) _ c.in_default-look_behind.ensures.none)
 
 pub returns-clause-unheard : goal.returns-clause-unheard
 returns-clause-unheard g c =
     let ran = c.run_lanes-ran.new in
-    let mid = outside ran.reader (source_view (g.I.Source.left ran.input) (g.I.Source.name ran.input) (g.I.Source.faults ran.input)) (g.K.Sink.written ran.out) (g.K.Sink.faults ran.out) in
+    let mid = outside ran.reader (source_view (g.I.PacedSource.left ran.input) (g.I.PacedSource.name ran.input) (g.I.PacedSource.faults ran.input)) (g.K.Sink.written ran.out) (g.K.Sink.faults ran.out) in
     leaves_lanes g.M.Lanes.belongs g.M.LaneMachine.rules (g.M.LaneMachine.state c.args.machine) c.requires.quiet _ _ _ _ _ mid (g.M.LaneMachine.state c.run_lanes-ran.new.machine.replies.machine) _ c.in-Ok.ensures.ran c.in_default-outcome.is
     _ (g.met.M.LaneMachine g.world.𝓛 g.world.𝓜 g.world.𝓡 ((λ s x. x), (λ x. x), (λ x. x), λ x. x)).unheard c.in_default-look_behind.ensures.none
 
 pub returns-then-not-are_known-clause-ended : goal.returns-then-not-are_known-clause-ended
 returns-then-not-are_known-clause-ended g c =
     let ran = c.run_lanes-ran.new in
-    let mid = outside ran.reader (source_view (g.I.Source.left ran.input) (g.I.Source.name ran.input) (g.I.Source.faults ran.input)) (g.K.Sink.written ran.out) (g.K.Sink.faults ran.out) in
+    let mid = outside ran.reader (source_view (g.I.PacedSource.left ran.input) (g.I.PacedSource.name ran.input) (g.I.PacedSource.faults ran.input)) (g.K.Sink.written ran.out) (g.K.Sink.faults ran.out) in
     ends_unknown g.M.Lanes.belongs g.M.LaneMachine.rules (g.M.LaneMachine.state c.args.machine) c.requires.quiet _ _ _ _ _ mid (g.M.LaneMachine.state c.run_lanes-ran.new.machine.replies.machine) _ c.in-Ok.ensures.ran c.in_default-outcome.is
 
 pub returns-then-not-are_known-clause-unheard : goal.returns-then-not-are_known-clause-unheard
 returns-then-not-are_known-clause-unheard g c = λ none.
     let ran = c.run_lanes-ran.new in
-    let mid = outside ran.reader (source_view (g.I.Source.left ran.input) (g.I.Source.name ran.input) (g.I.Source.faults ran.input)) (g.K.Sink.written ran.out) (g.K.Sink.faults ran.out) in
+    let mid = outside ran.reader (source_view (g.I.PacedSource.left ran.input) (g.I.PacedSource.name ran.input) (g.I.PacedSource.faults ran.input)) (g.K.Sink.written ran.out) (g.K.Sink.faults ran.out) in
     leaves_driven g.M.Lanes.belongs g.M.LaneMachine.rules (g.M.LaneMachine.state c.args.machine) c.requires.quiet _ _ _ _ _ mid (g.M.LaneMachine.state c.run_lanes-ran.new.machine.replies.machine) _ c.in-Ok.ensures.ran c.in_default-outcome.is
     ((g.met.M.LaneMachine g.world.𝓛 g.world.𝓜 g.world.𝓡 ((λ s x. x), (λ x. x), (λ x. x), λ x. x)).unheard none)

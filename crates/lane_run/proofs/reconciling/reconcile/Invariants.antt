@@ -6,7 +6,8 @@ use Rattle.lane_run.proofs.reconciling.reconcile.Given as goal
 abbrev pub invariant-loop : goal.invariant-loop
 invariant-loop g l = record {
   mail : l.inbox.mail ≡ l.fn.inbox.mail;
+  name : g.I.PacedSource.name l.input ≡ g.I.PacedSource.name l.fn.input;
   drove : Drove g.M.Reconciler.Drives g.M.Reconciler.Refuses l.inbox.taken (g.M.Reconciler.state l.fn.machine) (g.M.Reconciler.state l.machine)
-      (outside l.fn.reader (source_view (g.I.Source.left l.fn.input) (g.I.Source.name l.fn.input) (g.I.Source.faults l.fn.input)) (g.K.Sink.written l.fn.out) (g.K.Sink.faults l.fn.out))
-      (outside l.reader (source_view (g.I.Source.left l.input) (g.I.Source.name l.input) (g.I.Source.faults l.input)) (g.K.Sink.written l.out) (g.K.Sink.faults l.out)) l.outcome;
+      (outside l.fn.reader (source_view (g.I.PacedSource.left l.fn.input) (g.I.PacedSource.name l.fn.input) (g.I.PacedSource.faults l.fn.input)) (g.K.Sink.written l.fn.out) (g.K.Sink.faults l.fn.out))
+      (outside l.reader (source_view (g.I.PacedSource.left l.input) (g.I.PacedSource.name l.input) (g.I.PacedSource.faults l.input)) (g.K.Sink.written l.out) (g.K.Sink.faults l.out)) l.outcome;
 }

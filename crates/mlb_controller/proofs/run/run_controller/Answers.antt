@@ -4,6 +4,11 @@ use Rattle.mlb_controller.proofs.Asking.{class-named, lanes_no_run, lanes_no_tri
 use Rattle.mlb_controller.proofs.Rightful.{sound_where_told, safe_where_told}
 use Rattle.mlb_controller.proofs.run.run_controller.Goals as goal
 
+-- ---- when the input may be asked for more
+
+pub lanes_controller-requires-clause-live : goal.lanes_controller-requires-clause-live
+lanes_controller-requires-clause-live g c = λ _ _. c.requires.lanes_live _ _ c.in-Some.ensures.some
+
 -- ---- words that ask for no run over two lanes
 
 pub returns-in-None-clause-lanes : goal.returns-in-None-clause-lanes
@@ -69,10 +74,10 @@ pub returns-in-Some-clause-complete : goal.returns-in-Some-clause-complete
 returns-in-Some-clause-complete g c = λ ask. absurd (lanes_no_run (texts_of c.args.words.now) _ _ c.in-Some.ensures.some ask)
 
 pub returns-in-Some-clause-sound : goal.returns-in-Some-clause-sound
-returns-in-Some-clause-sound g c = sound_where_told (class_of (texts_of c.args.words.now)) (g.S.Source.left c.args.input.now)
+returns-in-Some-clause-sound g c = sound_where_told (class_of (texts_of c.args.words.now)) (g.S.PacedSource.left c.args.input.now)
 
 pub returns-in-Some-clause-safe : goal.returns-in-Some-clause-safe
-returns-in-Some-clause-safe g c = safe_where_told (class_of (texts_of c.args.words.now)) (g.S.Source.left c.args.input.now)
+returns-in-Some-clause-safe g c = safe_where_told (class_of (texts_of c.args.words.now)) (g.S.PacedSource.left c.args.input.now)
 
 pub returns-in-Some-clause-trial : goal.returns-in-Some-clause-trial
 returns-in-Some-clause-trial g c = λ seed steps ask. absurd (lanes_no_trial (texts_of c.args.words.now) _ _ c.in-Some.ensures.some seed steps ask)

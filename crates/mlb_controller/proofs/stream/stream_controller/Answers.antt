@@ -1,11 +1,13 @@
 use Rattle.std.proofs.Common.{◌≡◌, Some, ap, ◌∙◌, sym, subst}
 use Rattle.command_options.specs.Options.{texts_of}
 use Rattle.controller_words.specs.Seen.{asked_seen}
+use Rattle.controller_words.specs.Words.{Say}
 use Rattle.core_rules.specs.Core.{fresh}
 use Rattle.line_run.proofs.Driven.{only_nothing}
+use Rattle.line_run.specs.Answered.{IsAnswered}
 use Rattle.line_run.specs.Explains.{StopsFor}
 use Rattle.line_run.specs.RunOutput.{WritesOnly}
-use Rattle.mlb_controller.specs.Asked.{class_of}
+use Rattle.mlb_controller.specs.Asked.{AskRun, class_of}
 use Rattle.mlb_controller.specs.Stream.{controller_rules, IsCause}
 use Rattle.mlb_controller.specs.Trial.{TrialEnds}
 use Rattle.mlb_controller.proofs.Asking.{class-named, class-asked, no-run, no-trial, one-trial, trial-safe}
@@ -15,10 +17,10 @@ use Rattle.mlb_controller.proofs.stream.stream_controller.Goals as goal
 -- ---- words that aren't of the table
 
 pub returns-in-None-clause-sound : goal.returns-in-None-clause-sound
-returns-in-None-clause-sound g c = sound_where_told (class_of (texts_of c.args.words.now)) (g.S.Source.left c.args.input.now)
+returns-in-None-clause-sound g c = sound_where_told (class_of (texts_of c.args.words.now)) (g.S.PacedSource.left c.args.input.now)
 
 pub returns-in-None-clause-safe : goal.returns-in-None-clause-safe
-returns-in-None-clause-safe g c = safe_where_told (class_of (texts_of c.args.words.now)) (g.S.Source.left c.args.input.now)
+returns-in-None-clause-safe g c = safe_where_told (class_of (texts_of c.args.words.now)) (g.S.PacedSource.left c.args.input.now)
 
 -- ---- a trial
 
@@ -47,10 +49,10 @@ pub returns-in-Some-Trial-clause-exact : goal.returns-in-Some-Trial-clause-exact
 returns-in-Some-Trial-clause-exact g c = λ ask. absurd (no-run (texts_of c.args.words.now) c.in-Some-Trial.seed c.in-Some-Trial.steps (sym (ap (λ x. Some (asked_seen x)) c.in-Some-Trial.field-0-is) ∙ c.in-Some-Trial.ensures.value) ask)
 
 pub returns-in-Some-Trial-clause-sound : goal.returns-in-Some-Trial-clause-sound
-returns-in-Some-Trial-clause-sound g c = sound_where_told (class_of (texts_of c.args.words.now)) (g.S.Source.left c.args.input.now)
+returns-in-Some-Trial-clause-sound g c = sound_where_told (class_of (texts_of c.args.words.now)) (g.S.PacedSource.left c.args.input.now)
 
 pub returns-in-Some-Trial-clause-safe : goal.returns-in-Some-Trial-clause-safe
-returns-in-Some-Trial-clause-safe g c = safe_where_told (class_of (texts_of c.args.words.now)) (g.S.Source.left c.args.input.now)
+returns-in-Some-Trial-clause-safe g c = safe_where_told (class_of (texts_of c.args.words.now)) (g.S.PacedSource.left c.args.input.now)
 
 pub returns-in-Some-Trial-clause-trial : goal.returns-in-Some-Trial-clause-trial
 returns-in-Some-Trial-clause-trial g c = λ seed steps ask.
@@ -72,15 +74,25 @@ returns-in_default-clause-only g c = λ ask.
     only_sound class (g.K.Sink.written c.args.out.now) (g.K.Sink.written c.args.out.now) (only_nothing controller_rules (fresh class) (g.K.Sink.written c.args.out.now))
 
 pub returns-in_default-clause-sound : goal.returns-in_default-clause-sound
-returns-in_default-clause-sound g c = sound_where_told (class_of (texts_of c.args.words.now)) (g.S.Source.left c.args.input.now)
+returns-in_default-clause-sound g c = sound_where_told (class_of (texts_of c.args.words.now)) (g.S.PacedSource.left c.args.input.now)
 
 pub returns-in_default-clause-safe : goal.returns-in_default-clause-safe
-returns-in_default-clause-safe g c = safe_where_told (class_of (texts_of c.args.words.now)) (g.S.Source.left c.args.input.now)
+returns-in_default-clause-safe g c = safe_where_told (class_of (texts_of c.args.words.now)) (g.S.PacedSource.left c.args.input.now)
 
 pub returns-in_default-clause-trial_safe : goal.returns-in_default-clause-trial_safe
 returns-in_default-clause-trial_safe g c = λ seed steps ask. trial-safe seed
 
 -- ---- a run
+
+pub run_machine-status-requires : goal.run_machine-status-requires
+run_machine-status-requires g c =
+    let words = texts_of c.args.words.now in
+    let ask : AskRun words = (_, subst (λ x. Say words (asked_seen x)) c.in-Some-Run.field-0-is c.in-Some-Run.ensures.said) in
+    let begun : c.in-Ok.controller.core ≡ fresh (class_of words) = c.in-Ok.ensures ∙ ap fresh (class-asked words _ (sym (ap (λ x. Some (asked_seen x)) c.in-Some-Run.field-0-is) ∙ c.in-Some-Run.ensures.value)) in
+    record {
+      live = λ i r o name answered. c.requires.live ask i r o name
+          (subst (λ s. IsAnswered controller_rules s (g.S.PacedSource.left c.args.input.now) r (g.S.PacedSource.left i) (g.K.Sink.written c.args.out.now) (g.K.Sink.written o)) begun answered);
+    }
 
 pub returns-clause-named : goal.returns-clause-named
 returns-clause-named g c = class-named (texts_of c.args.words.now)
@@ -89,7 +101,7 @@ pub returns-clause-service_limit : goal.returns-clause-service_limit
 returns-clause-service_limit g c = λ ask what count held is.
     let class = class_of (texts_of c.args.words.now) in
     let begun : c.in-Ok.controller.core ≡ fresh (class_of (texts_of c.args.words.now)) = c.in-Ok.ensures ∙ ap fresh (class-asked (texts_of c.args.words.now) _ (sym (ap (λ x. Some (asked_seen x)) c.in-Some-Run.field-0-is) ∙ c.in-Some-Run.ensures.value)) in
-    let stopped : StopsFor controller_rules IsCause (fresh class) (g.S.Source.left c.args.input.now) (g.K.Sink.written c.args.out.now) (g.K.Sink.written c.run_machine-status.new.out) c.run_machine-status.result = rw begun at (c.run_machine-status.ensures.held_limit what count held is) in
+    let stopped : StopsFor controller_rules IsCause (fresh class) (g.S.PacedSource.left c.args.input.now) (g.K.Sink.written c.args.out.now) (g.K.Sink.written c.run_machine-status.new.out) c.run_machine-status.result = rw begun at (c.run_machine-status.ensures.held_limit what count held is) in
     stopped
 
 pub returns-clause-only : goal.returns-clause-only
@@ -100,17 +112,17 @@ returns-clause-only g c = λ ask.
     only_sound class (g.K.Sink.written c.args.out.now) (g.K.Sink.written c.run_machine-status.new.out) only
 
 pub returns-clause-sound : goal.returns-clause-sound
-returns-clause-sound g c = sound_where_told (class_of (texts_of c.args.words.now)) (g.S.Source.left c.args.input.now)
+returns-clause-sound g c = sound_where_told (class_of (texts_of c.args.words.now)) (g.S.PacedSource.left c.args.input.now)
 
 pub returns-clause-safe : goal.returns-clause-safe
-returns-clause-safe g c = safe_where_told (class_of (texts_of c.args.words.now)) (g.S.Source.left c.args.input.now)
+returns-clause-safe g c = safe_where_told (class_of (texts_of c.args.words.now)) (g.S.PacedSource.left c.args.input.now)
 
 pub returns-clause-quiet : goal.returns-clause-quiet
 returns-clause-quiet g c = λ ask done.
     let class = class_of (texts_of c.args.words.now) in
     let begun : c.in-Ok.controller.core ≡ fresh (class_of (texts_of c.args.words.now)) = c.in-Ok.ensures ∙ ap fresh (class-asked (texts_of c.args.words.now) _ (sym (ap (λ x. Some (asked_seen x)) c.in-Some-Run.field-0-is) ∙ c.in-Some-Run.ensures.value)) in
-    let stopped : StopsFor controller_rules IsCause (fresh class) (g.S.Source.left c.args.input.now) (g.K.Sink.written c.args.out.now) (g.K.Sink.written c.run_machine-status.new.out) c.run_machine-status.result = rw begun at (c.run_machine-status.ensures.done done) in
-    quiet_where_done class (g.S.Source.left c.args.input.now) (g.K.Sink.written c.args.out.now) (g.K.Sink.written c.run_machine-status.new.out) (rw done at stopped.stops)
+    let stopped : StopsFor controller_rules IsCause (fresh class) (g.S.PacedSource.left c.args.input.now) (g.K.Sink.written c.args.out.now) (g.K.Sink.written c.run_machine-status.new.out) c.run_machine-status.result = rw begun at (c.run_machine-status.ensures.done done) in
+    quiet_where_done class (g.S.PacedSource.left c.args.input.now) (g.K.Sink.written c.args.out.now) (g.K.Sink.written c.run_machine-status.new.out) (rw done at stopped.stops)
 
 pub returns-clause-trial : goal.returns-clause-trial
 returns-clause-trial g c = λ seed steps ask. absurd (no-trial (texts_of c.args.words.now) _ (sym (ap (λ x. Some (asked_seen x)) c.in-Some-Run.field-0-is) ∙ c.in-Some-Run.ensures.value) seed steps ask)

@@ -1,9 +1,7 @@
 use Rattle.std.proofs.Common.{◌≡◌, ◌++◌}
-use Rattle.std.specs.BTreeSet.{difference}
 use Rattle.std.specs.List.{flat_map}
-use Rattle.mlb_speaker.specs.Announced.{address_cmp}
 use Rattle.mlb_speaker.specs.Sends.{announcement}
 use Rattle.mlb_speaker.proofs.entries.push_announcements.Given as goal
 
 abbrev pub invariant-loop-address : goal.invariant-loop-address
-invariant-loop-address l = l.entries ++ flat_map (announcement l.view l.station) l.address-iterator ≡ l.fn.entries ++ flat_map (announcement l.view l.station) (difference address_cmp l.after l.before)
+invariant-loop-address l = l.entries ++ flat_map (announcement l.view l.station) l.address-iterator ≡ l.fn.entries ++ flat_map (announcement l.view l.station) l.addresses.keys

@@ -1,8 +1,6 @@
 use Rattle.std.proofs.Common.{◌≡◌, ◌++◌, map}
-use Rattle.mlb_speaker.specs.Announced.{address_cmp}
-use Rattle.std.specs.BTreeSet.{difference}
 use Rattle.mlb_speaker.specs.Entries.{withdrawn}
 use Rattle.mlb_speaker.proofs.entries.push_withdrawals.Given as goal
 
 abbrev pub invariant-loop-address : goal.invariant-loop-address
-invariant-loop-address l = l.entries ++ map withdrawn l.address-iterator ≡ l.fn.entries ++ map withdrawn (difference address_cmp l.before l.after)
+invariant-loop-address l = l.entries ++ map withdrawn l.address-iterator ≡ l.fn.entries ++ map withdrawn l.addresses.keys

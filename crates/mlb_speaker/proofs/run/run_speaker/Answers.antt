@@ -2,11 +2,14 @@ use Rattle.command_options.specs.Options.{texts_of}
 use Rattle.mlb_speaker.specs.Clauses.{begun_by}
 use Rattle.mlb_speaker.proofs.Begun.{named-begun}
 use Rattle.mlb_speaker.proofs.Heard.{heard_by}
-use Rattle.mlb_speaker.proofs.LaneEnds.{can_end, ends_none, writes_none}
+use Rattle.mlb_speaker.proofs.LaneEnds.{asks_never, can_end, ends_none, writes_none}
 use Rattle.mlb_speaker.proofs.LaneLines.{items_as_lines, items_tell, items_send}
 use Rattle.mlb_speaker.proofs.Meant.{meant_by}
 use Rattle.mlb_speaker.proofs.Telling.{told_by}
 use Rattle.mlb_speaker.proofs.run.run_speaker.Goals as goal
+
+pub run_lane_files-requires-clause-live : goal.run_lane_files-requires-clause-live
+run_lane_files-requires-clause-live g c = λ _ _ i r o name more. absurd (asks_never _ _ _ _ _ more)
 
 pub returns-in_default-clause-told : goal.returns-in_default-clause-told
 returns-in_default-clause-told g c = told_by (texts_of c.args.words.now)

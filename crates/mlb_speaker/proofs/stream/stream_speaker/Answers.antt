@@ -1,7 +1,8 @@
-use Rattle.std.proofs.Common.{◌≡◌, ◌∙◌, ap}
+use Rattle.std.proofs.Common.{◌≡◌, ◌∙◌, ap, subst}
 use Rattle.command_options.specs.Options.{texts_of}
+use Rattle.line_run.specs.Answered.{IsAnswered}
 use Rattle.mlb_speaker.specs.Clauses.{begun_by, begun_with}
-use Rattle.mlb_speaker.specs.Stream.{state_of}
+use Rattle.mlb_speaker.specs.Stream.{speaker_rules}
 use Rattle.mlb_speaker.proofs.Begun.{named-begun}
 use Rattle.mlb_speaker.proofs.Heard.{heard_by}
 use Rattle.mlb_speaker.proofs.Meant.{meant_by}
@@ -20,6 +21,14 @@ returns-in_default-new-clause-named g c = named-begun (texts_of c.args.words.now
 pub returns-in_default-new-clause-told : goal.returns-in_default-new-clause-told
 returns-in_default-new-clause-told g c = told_by (texts_of c.args.words.now)
 
+pub run_machine-status-requires : goal.run_machine-status-requires
+run_machine-status-requires g c =
+    let begun : c.in-Ok.speaker ≡ begun_by c.args.words.now = c.in-Ok.ensures ∙ ap begun_with c.in-Some.ensures.value in
+    record {
+      live = λ i r o name answered. c.requires.live c.requires.asked i r o name
+          (subst (λ s. IsAnswered speaker_rules s (g.S.PacedSource.left c.args.input.now) r (g.S.PacedSource.left i) (g.K.Sink.written c.args.out.now) (g.K.Sink.written o)) begun answered);
+    }
+
 pub returns-clause-named : goal.returns-clause-named
 returns-clause-named g c = named-begun (texts_of c.args.words.now)
 
@@ -28,7 +37,7 @@ returns-clause-told g c = told_by (texts_of c.args.words.now)
 
 pub returns-clause-held_limit : goal.returns-clause-held_limit
 returns-clause-held_limit g c =
-    let begun : state_of c.in-Ok.speaker.view c.in-Ok.speaker.station ≡ begun_by c.args.words.now = c.in-Ok.ensures ∙ ap begun_with c.in-Some.ensures.value in
+    let begun : c.in-Ok.speaker ≡ begun_by c.args.words.now = c.in-Ok.ensures ∙ ap begun_with c.in-Some.ensures.value in
     λ in_stream. rw begun at c.run_machine-status.ensures.held_limit
 
 pub returns-in_default-clause-sends : goal.returns-in_default-clause-sends

@@ -1,0 +1,11 @@
+pub mod Addresses
+pub mod Asked
+pub mod Kept
+pub mod Listed
+pub mod Objects
+pub mod Recording
+pub mod Services
+pub mod Slices
+pub mod Standing
+pub mod Untouched
+pub mod Updates

@@ -1,0 +1,4 @@
+pub mod Announced
+pub mod Changes
+pub mod Recorded
+pub mod Touched

@@ -1,0 +1,48 @@
+-- When the input may be asked for more: all that was taken is answered, with all replies that came.
+use Rattle.std.specs.Prelude.{◌≡◌, ◌⊎◌, Bool, true, false, List, [], ◌∷◌}
+use Rattle.kube_model.specs.declared.event.Event.{Event}
+use Rattle.lane_mail.specs.declared.item.Item.{Item}
+use Rattle.lane_mail.specs.declared.lane.Lane.{Lane}
+use Rattle.lane_run.specs.declared.lane_end.LaneEnd.{LaneEnd}
+use Rattle.lane_run.specs.Views.{SourceView, Outside}
+use Rattle.lane_drive.specs.LaneRules.{LaneRules}
+use Rattle.lane_drive.specs.Drive.{Told, Drives}
+use Rattle.lane_drive.specs.Hearing.{HearsSome}
+use Rattle.lane_drive.specs.Stops.{TakesAll}
+use Rattle.mlb_edge.specs.InputLines.{HoldsLine}
+
+-- Some replies were heard, and just their text was written. No other line came whole, and one more reply is awaited.
+pub record AwaitsMore {S E : Type 0} (rules : LaneRules S E) (s : S) (before now : Outside) : Type 0 where
+  pub state : S
+  pub hears : HearsSome rules s state before now
+  pub none_held : HoldsLine now.reading → ⊥
+  pub waits : rules.waits state ≡ true
+
+-- Just these items were taken, and the lines that came as replies to them were heard, and just their text was written. No other line came
+-- whole, and a reply is awaited.
+pub record AwaitsReply {S E : Type 0} (rules : LaneRules S E) (items : List Item) (s : S) (before now : Outside) : Type 0 where
+  pub state : S
+  pub told : List (Told E)
+  pub drove : Drives rules items s state told before now
+  pub none_held : HoldsLine now.reading → ⊥
+  pub waits : rules.waits state ≡ true
+
+-- a machine that awaits no reply takes the item, and awaits one behind it
+abbrev pub AsksFor : {S E : Type 0} → LaneRules S E → (s : S) (item : Item) (before now : Outside) → Type 0
+AsksFor rules s item before now = rules.waits s ≡ false → AwaitsReply rules (item ∷ []) s before now
+
+module _ {S E : Type 0} (belongs : Lane → Event → Bool) (rules : LaneRules S E) (start : S) where
+  -- All that both lanes sent was taken, and just its text was written. No other line came whole, and where there are replies it is still to
+  -- be seen that the input is at its end. That a lane ended because its reading failed is always possible.
+  pub record LooksBehind (first second : SourceView) (before now : Outside) : Type 0 where
+    pub first' : SourceView
+    pub second' : SourceView
+    pub end : LaneEnd
+    pub end' : LaneEnd
+    pub all : TakesAll belongs rules start first first' second second' before now end end'
+    pub none_held : HoldsLine now.reading → ⊥
+    pub hears : rules.hears ≡ true
+
+  -- a reply is awaited, or the end of the input
+  abbrev pub AsksMore : (first second : SourceView) (before now : Outside) → Type 0
+  AsksMore first second before now = ((items : List Item) × AwaitsReply rules items start before now) ⊎ LooksBehind first second before now

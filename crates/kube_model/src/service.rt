@@ -1,6 +1,6 @@
 //! Services.
 
-ghost use Rattle.std.specs.Prelude.{◌≡◌};
+ghost use Rattle.std.specs.Prelude.{◌≡◌, Ok, IfOk};
 ghost use Rattle.std.specs.Option.{option_copied};
 ghost use Rattle.kube_model.specs.Service.{is_handled, same_class};
 
@@ -70,22 +70,79 @@ impl TryCopy for Wanted {
 
 impl TryCopy for Service {
     fn copy(&self) -> Result<Service, NoMemory> {
+        let names_and_traffic = both(copied_names(self), copied_traffic(self));
+        let ((names, traffic), request) = both(names_and_traffic, copied_request(self))?;
+        let (key, labels, class) = names;
+        let (families, selector, ports) = traffic;
+        let (share_key, pool_asked, wanted, holding) = request;
         Ok(Service {
-            key: self.key.copy()?,
-            labels: self.labels.copy()?,
+            key,
+            labels,
             balancer: self.balancer,
-            class: self.class.copy()?,
-            families: self.families.copy()?,
+            class,
+            families,
             prefer_dual: self.prefer_dual,
             policy: self.policy,
-            selector: self.selector.copy()?,
-            ports: self.ports.copy()?,
-            share_key: self.share_key.copy()?,
-            pool_asked: self.pool_asked.copy()?,
-            wanted: self.wanted.copy()?,
-            holding: self.holding.copy()?,
+            selector,
+            ports,
+            share_key,
+            pool_asked,
+            wanted,
+            holding,
         })
     }
+}
+
+/// Both values, if there was memory for both.
+fn both<A: Drop, B: Drop>(
+    a: Result<A, NoMemory>,
+    b: Result<B, NoMemory>,
+) -> Result<(A, B), NoMemory>
+    ensures first { IfOk result (λ both. a ≡ Ok both.0) }
+    ensures second { IfOk result (λ both. b ≡ Ok both.1) }
+{
+    Ok((a?, b?))
+}
+
+/// Copies of the key, the labels and the class.
+fn copied_names(service: &Service) -> Result<(Key, Labels, Option<Text>), NoMemory>
+    ensures key { IfOk result (λ names. names.0 ≡ service.now.key) }
+    ensures labels { IfOk result (λ names. names.1 ≡ service.now.labels) }
+    ensures class { IfOk result (λ names. names.2 ≡ service.now.class) }
+{
+    Ok((
+        service.key.copy()?,
+        service.labels.copy()?,
+        service.class.copy()?,
+    ))
+}
+
+/// Copies of the families, the selector and the ports.
+fn copied_traffic(service: &Service) -> Result<(FamilyList, Labels, PortList), NoMemory>
+    ensures families { IfOk result (λ traffic. traffic.0 ≡ service.now.families) }
+    ensures selector { IfOk result (λ traffic. traffic.1 ≡ service.now.selector) }
+    ensures ports { IfOk result (λ traffic. traffic.2 ≡ service.now.ports) }
+{
+    Ok((
+        service.families.copy()?,
+        service.selector.copy()?,
+        service.ports.copy()?,
+    ))
+}
+
+/// Copies of the sharing key, of the pool and the addresses that are asked for, and of the record.
+fn copied_request(service: &Service) -> Result<(Text, Text, Wanted, Record), NoMemory>
+    ensures share_key { IfOk result (λ request. request.0 ≡ service.now.share_key) }
+    ensures pool_asked { IfOk result (λ request. request.1 ≡ service.now.pool_asked) }
+    ensures wanted { IfOk result (λ request. request.2 ≡ service.now.wanted) }
+    ensures holding { IfOk result (λ request. request.3 ≡ service.now.holding) }
+{
+    Ok((
+        service.share_key.copy()?,
+        service.pool_asked.copy()?,
+        service.wanted.copy()?,
+        service.holding.copy()?,
+    ))
 }
 
 impl Service {

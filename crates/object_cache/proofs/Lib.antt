@@ -1,2 +1,3 @@
 pub mod Limited
 pub mod Passing
+pub mod Values

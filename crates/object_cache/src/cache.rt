@@ -13,7 +13,9 @@ ghost use Rattle.object_cache.specs.Change.{applied, config_applied, with_object
 ghost use Rattle.object_cache.specs.Limits.{limit_of, object_limit};
 
 use crate::change::{Applied, ApplyFault, Change, TakeNote};
-use crate::kinds::{is_newer, show_namespace, show_node, show_service, show_slice, store_record};
+use crate::kinds::{
+    copy_with, is_newer, show_namespace, show_node, show_service, show_slice, store_record,
+};
 use crate::limits::{MOST_NODES, MOST_SERVICES, passes};
 use kube_labels::Text;
 use kube_model::{
@@ -23,6 +25,7 @@ use mlb_base::{NoMemory, Sequence, TryCopy};
 use pool_config::{CompileFault, Config, ObjectSet, compile};
 use std::alloc::Global;
 use std::marker::Model;
+use std::mem;
 use versioned_map::VersionedMap;
 
 /// The objects of a cluster as they were last shown, which lists have ended, and the configuration in force.
@@ -183,6 +186,7 @@ impl ObjectCache {
         ensures err { OnErr result (self.new ≡ self.old) }
     {
         if let Some((kind, count)) = self.limit_of(&event) {
+            drop(event);
             return Err(ApplyFault::Limit { kind, count });
         }
         Ok(self.apply_within(event)?)
@@ -237,14 +241,19 @@ impl ObjectCache {
         match event {
             Event::Changed { version, object } => self.show(version, object),
             Event::Deleted { kind, key } => self.delete(kind, key),
-            Event::ListEnd { group } => self.end_list(group),
+            Event::ListEnd { group } => {
+                drop(event);
+                self.end_list(group)
+            }
             Event::Expired => {
+                drop(event);
                 self.expire_config();
                 self.expire_services();
                 self.expire_endpoints();
                 Ok(quietly(Change::Other))
             }
             Event::Members { .. } | Event::Frame { .. } | Event::Ignored => {
+                drop(event);
                 Ok(quietly(Change::Other))
             }
         }
@@ -272,13 +281,11 @@ impl ObjectCache {
                 show_slice(&mut self.slices, version, slice)?;
                 Ok(quietly(Change::Other))
             }
-            Object::Pool(pool) => self.show_config(version, Object::Pool(pool)),
-            Object::L2(advertisement) => self.show_config(version, Object::L2(advertisement)),
-            Object::Bgp(advertisement) => self.show_config(version, Object::Bgp(advertisement)),
-            Object::Peer(peer) => self.show_config(version, Object::Peer(peer)),
-            Object::Community(community) => {
-                self.show_config(version, Object::Community(community))
-            }
+            Object::Pool(_)
+            | Object::L2(_)
+            | Object::Bgp(_)
+            | Object::Peer(_)
+            | Object::Community(_) => self.show_config(version, object),
         }
     }
 
@@ -293,14 +300,14 @@ impl ObjectCache {
         ensures err { OnErr result (self.new ≡ self.old) }
     {
         if !is_newer(&self.objects, version, &object) {
+            drop(object);
             return Ok(quietly(Change::Other));
         }
         if !self.config_ended {
             let _is_held = self.objects.show(version, object)?;
             return Ok(quietly(Change::Other));
         }
-        let mut objects = self.objects.copy()?;
-        let _is_held = objects.show(version, object)?;
+        let objects = copy_with(&self.objects, version, object)?;
         self.compile_objects(objects)
     }
 
@@ -312,21 +319,24 @@ impl ObjectCache {
     {
         match compile(self.alloc, &objects) {
             Ok(config) => {
-                self.objects = objects;
-                self.config = Some(config);
+                drop(mem::replace(&mut self.objects, objects));
+                drop(self.config.replace(config));
                 Ok(Applied {
                     change: Change::Other,
                     note: TakeNote::Accepted,
                 })
             }
             Err(CompileFault::Refused { fault }) => {
-                self.objects = objects;
+                drop(mem::replace(&mut self.objects, objects));
                 Ok(Applied {
                     change: Change::Other,
                     note: TakeNote::Refused { fault },
                 })
             }
-            Err(CompileFault::NoMemory) => Err(NoMemory),
+            Err(CompileFault::NoMemory) => {
+                drop(objects);
+                Err(NoMemory)
+            }
         }
     }
 
@@ -341,22 +351,24 @@ impl ObjectCache {
                 Ok(quietly(Change::Service { key, before }))
             }
             Kind::Namespace => {
-                let _before = self.namespaces.remove(&key.name);
+                drop(self.namespaces.remove(&key.name));
                 Ok(quietly(Change::Namespace { name: key.name }))
             }
             Kind::Node => {
-                let _before = self.nodes.remove(&key.name);
+                drop(self.nodes.remove(&key.name));
+                drop(key);
                 Ok(quietly(Change::Other))
             }
             Kind::Slice => {
-                let _before = self.slices.remove(&key);
+                drop(self.slices.remove(&key));
+                drop(key);
                 Ok(quietly(Change::Other))
             }
-            Kind::Pool => self.delete_config(Kind::Pool, &key.name),
-            Kind::L2 => self.delete_config(Kind::L2, &key.name),
-            Kind::Bgp => self.delete_config(Kind::Bgp, &key.name),
-            Kind::Peer => self.delete_config(Kind::Peer, &key.name),
-            Kind::Community => self.delete_config(Kind::Community, &key.name),
+            Kind::Pool | Kind::L2 | Kind::Bgp | Kind::Peer | Kind::Community => {
+                let applied = self.delete_config(kind, &key.name);
+                drop(key);
+                applied
+            }
         }
     }
 

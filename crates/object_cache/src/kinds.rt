@@ -1,10 +1,10 @@
 //! One kind's objects.
-ghost use Rattle.std.specs.Prelude.{◌≡◌, IfOk, OnOk, OnErr};
+ghost use Rattle.std.specs.Prelude.{◌≡◌, IfOk, IsOkAnd, OnOk, OnErr};
 ghost use Rattle.versioned_map.specs.Entries.{shown, shown_note, amended};
 ghost use Rattle.kube_labels.specs.Names.{name_cmp};
 ghost use Rattle.kube_model.specs.Keys.{key_cmp};
 ghost use Rattle.kube_model.specs.Service.{with_holding};
-ghost use Rattle.pool_config.specs.Objects.{set_shows};
+ghost use Rattle.pool_config.specs.Objects.{set_shown, set_shows};
 ghost use Rattle.object_cache.specs.Change.{service_change, namespace_change};
 
 use crate::change::Change;
@@ -25,11 +25,19 @@ pub(crate) fn show_service(
     ensures ok { OnOk result (services.new ≡ shown key_cmp services.old service.key version service) }
     ensures err { OnErr result (services.new ≡ services.old) }
 {
-    let key = service.key.copy()?;
-    let held_under = service.key.copy()?;
-    match services.show(held_under, version, service)? {
-        Shown::Held { before } => Ok(Change::Service { key, before }),
-        Shown::PassedOver { .. } => Ok(Change::Other),
+    let (key, shown) = show_keyed(services, service.key.copy(), version, service)?;
+    Ok(service_change(key, shown))
+}
+
+fn service_change(key: Key, shown: Shown<Service>) -> Change
+    ensures { result ≡ service_change key shown }
+{
+    match shown {
+        Shown::Held { before } => Change::Service { key, before },
+        Shown::PassedOver { object } => {
+            drop(object);
+            Change::Other
+        }
     }
 }
 
@@ -45,11 +53,22 @@ pub(crate) fn show_namespace(
     ensures ok { OnOk result (namespaces.new ≡ shown name_cmp namespaces.old namespace.name version namespace) }
     ensures err { OnErr result (namespaces.new ≡ namespaces.old) }
 {
-    let name = namespace.name.copy()?;
-    let held_under = namespace.name.copy()?;
-    match namespaces.show(held_under, version, namespace)? {
-        Shown::Held { .. } => Ok(Change::Namespace { name }),
-        Shown::PassedOver { .. } => Ok(Change::Other),
+    let (name, shown) = show_keyed(namespaces, namespace.name.copy(), version, namespace)?;
+    Ok(namespace_change(name, shown))
+}
+
+fn namespace_change(name: Text, shown: Shown<Namespace>) -> Change
+    ensures { result ≡ namespace_change name shown }
+{
+    match shown {
+        Shown::Held { before } => {
+            drop(before);
+            Change::Namespace { name }
+        }
+        Shown::PassedOver { object } => {
+            drop(object);
+            Change::Other
+        }
     }
 }
 
@@ -62,8 +81,7 @@ pub(crate) fn show_node(
     ensures ok { OnOk result (nodes.new ≡ shown name_cmp nodes.old node.name version node) }
     ensures err { OnErr result (nodes.new ≡ nodes.old) }
 {
-    let name = node.name.copy()?;
-    let _shown = nodes.show(name, version, node)?;
+    drop(show_under(nodes, node.name.copy(), version, node)?);
     Ok(())
 }
 
@@ -76,9 +94,68 @@ pub(crate) fn show_slice(
     ensures ok { OnOk result (slices.new ≡ shown key_cmp slices.old slice.key version slice) }
     ensures err { OnErr result (slices.new ≡ slices.old) }
 {
-    let key = slice.key.copy()?;
-    let _shown = slices.show(key, version, slice)?;
+    drop(show_under(slices, slice.key.copy(), version, slice)?);
     Ok(())
+}
+
+/// An object is shown under the key, if there was memory for it.
+fn show_under<K: Ord + Drop, T: Drop>(
+    held: &mut VersionedMap<K, T>,
+    key: Result<K, NoMemory>,
+    version: u64,
+    object: T,
+) -> Result<Shown<T>, NoMemory>
+    ensures note { IfOk result (λ note. IsOkAnd key (λ k. note ≡ shown_note K.cmp held.old k version object)) }
+    ensures ok { OnOk result (IsOkAnd key (λ k. held.new ≡ shown K.cmp held.old k version object)) }
+    ensures err { OnErr result (held.new ≡ held.old) }
+{
+    held.show(key?, version, object)
+}
+
+/// An object is shown under a copy of the key, which is handed back with what that comes to.
+fn show_keyed<K: Ord + TryCopy + Drop, T: Drop>(
+    held: &mut VersionedMap<K, T>,
+    key: Result<K, NoMemory>,
+    version: u64,
+    object: T,
+) -> Result<(K, Shown<T>), NoMemory>
+    ensures key { IfOk result (λ r. IsOkAnd key (λ k. r.0 ≡ k)) }
+    ensures note { IfOk result (λ r. IsOkAnd key (λ k. r.1 ≡ shown_note K.cmp held.old k version object)) }
+    ensures ok { OnOk result (IsOkAnd key (λ k. held.new ≡ shown K.cmp held.old k version object)) }
+    ensures err { OnErr result (held.new ≡ held.old) }
+{
+    let key = key?;
+    let shown = show_under(held, key.copy(), version, object)?;
+    Ok((key, shown))
+}
+
+/// A copy of the objects, in which one more is shown.
+pub(crate) fn copy_with(
+    held: &ObjectSet,
+    version: u64,
+    object: Object,
+) -> Result<ObjectSet, NoMemory>
+    ensures { IfOk result (λ objects. objects ≡ set_shown held.now version object) }
+{
+    match held.copy() {
+        Ok(objects) => with_shown(objects, version, object),
+        Err(NoMemory) => {
+            drop(object);
+            Err(NoMemory)
+        }
+    }
+}
+
+fn with_shown(mut objects: ObjectSet, version: u64, object: Object) -> Result<ObjectSet, NoMemory>
+    ensures { IfOk result (λ made. made ≡ set_shown objects version object) }
+{
+    match objects.show(version, object) {
+        Ok(_) => Ok(objects),
+        Err(NoMemory) => {
+            drop(objects);
+            Err(NoMemory)
+        }
+    }
 }
 
 /// The service has this record, written at this version, if it is held.

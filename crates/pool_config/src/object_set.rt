@@ -1,5 +1,5 @@
 //! The objects that make a configuration.
-ghost use Rattle.std.specs.Prelude.{◌≡◌, [], IfOk, OnOk, OnErr};
+ghost use Rattle.std.specs.Prelude.{◌≡◌, [], IfOk, IsOkAnd, OnOk, OnErr};
 ghost use Rattle.kube_labels.specs.Names.{name_cmp};
 ghost use Rattle.pool_config.specs.Objects.{no_objects, set_shown, set_shows, set_put, put_at, set_without, set_expired, set_listed};
 ghost use Rattle.versioned_map.specs.Entries.{is_newer, shown};
@@ -43,27 +43,28 @@ impl ObjectSet {
         ensures err { OnErr result (self.new ≡ self.old) }
     {
         match object {
-            Object::Pool(pool) => {
-                let name = pool.name.copy()?;
-                show_named(&mut self.pools, name, version, pool)
-            }
-            Object::L2(advertisement) => {
-                let name = advertisement.name.copy()?;
-                show_named(&mut self.l2s, name, version, advertisement)
-            }
-            Object::Bgp(advertisement) => {
-                let name = advertisement.name.copy()?;
-                show_named(&mut self.bgps, name, version, advertisement)
-            }
-            Object::Peer(peer) => {
-                let name = peer.name.copy()?;
-                show_named(&mut self.peers, name, version, peer)
-            }
-            Object::Community(community) => {
-                let name = community.name.copy()?;
-                show_named(&mut self.communities, name, version, community)
-            }
+            Object::Pool(pool) => show_named(&mut self.pools, pool.name.copy(), version, pool),
+            Object::L2(advertisement) => show_named(
+                &mut self.l2s,
+                advertisement.name.copy(),
+                version,
+                advertisement,
+            ),
+            Object::Bgp(advertisement) => show_named(
+                &mut self.bgps,
+                advertisement.name.copy(),
+                version,
+                advertisement,
+            ),
+            Object::Peer(peer) => show_named(&mut self.peers, peer.name.copy(), version, peer),
+            Object::Community(community) => show_named(
+                &mut self.communities,
+                community.name.copy(),
+                version,
+                community,
+            ),
             Object::Service(_) | Object::Namespace(_) | Object::Node(_) | Object::Slice(_) => {
+                drop(object);
                 Ok(false)
             }
         }
@@ -76,29 +77,21 @@ impl ObjectSet {
         ensures err { OnErr result (self.new ≡ self.old) }
     {
         match object {
-            Object::Pool(pool) => {
-                let name = pool.name.copy()?;
-                put_named(&mut self.pools, name, pool)
-            }
+            Object::Pool(pool) => put_named(&mut self.pools, pool.name.copy(), pool),
             Object::L2(advertisement) => {
-                let name = advertisement.name.copy()?;
-                put_named(&mut self.l2s, name, advertisement)
+                put_named(&mut self.l2s, advertisement.name.copy(), advertisement)
             }
             Object::Bgp(advertisement) => {
-                let name = advertisement.name.copy()?;
-                put_named(&mut self.bgps, name, advertisement)
+                put_named(&mut self.bgps, advertisement.name.copy(), advertisement)
             }
-            Object::Peer(peer) => {
-                let name = peer.name.copy()?;
-                put_named(&mut self.peers, name, peer)
-            }
+            Object::Peer(peer) => put_named(&mut self.peers, peer.name.copy(), peer),
             Object::Community(community) => {
-                let name = community.name.copy()?;
-                put_named(&mut self.communities, name, community)
+                put_named(&mut self.communities, community.name.copy(), community)
             }
-            Object::Service(_) | Object::Namespace(_) | Object::Node(_) | Object::Slice(_) => Ok(
-                (),
-            ),
+            Object::Service(_) | Object::Namespace(_) | Object::Node(_) | Object::Slice(_) => {
+                drop(object);
+                Ok(())
+            }
         }
     }
 
@@ -107,21 +100,11 @@ impl ObjectSet {
         ensures { self.new ≡ set_without self.old kind name.now }
     {
         match kind {
-            Kind::Pool => {
-                let _before = self.pools.remove(name);
-            }
-            Kind::L2 => {
-                let _before = self.l2s.remove(name);
-            }
-            Kind::Bgp => {
-                let _before = self.bgps.remove(name);
-            }
-            Kind::Peer => {
-                let _before = self.peers.remove(name);
-            }
-            Kind::Community => {
-                let _before = self.communities.remove(name);
-            }
+            Kind::Pool => drop(self.pools.remove(name)),
+            Kind::L2 => drop(self.l2s.remove(name)),
+            Kind::Bgp => drop(self.bgps.remove(name)),
+            Kind::Peer => drop(self.peers.remove(name)),
+            Kind::Community => drop(self.communities.remove(name)),
             Kind::Service | Kind::Namespace | Kind::Node | Kind::Slice => {}
         }
     }
@@ -161,32 +144,33 @@ impl TryCopy for ObjectSet {
     }
 }
 
-/// An object is shown under its name. Whether it is held now.
+/// An object is shown under the name, if there was memory for it. Whether it is held now.
 fn show_named<T: Drop>(
     held: &mut VersionedMap<Text, T>,
-    name: Text,
+    name: Result<Text, NoMemory>,
     version: u64,
     object: T,
 ) -> Result<bool, NoMemory>
-    ensures is_held { IfOk result (λ is_held. is_held ≡ is_newer name_cmp held.old name version) }
-    ensures ok { OnOk result (held.new ≡ shown name_cmp held.old name version object) }
+    ensures is_held { IfOk result (λ is_held. IsOkAnd name (λ n. is_held ≡ is_newer name_cmp held.old n version)) }
+    ensures ok { OnOk result (IsOkAnd name (λ n. held.new ≡ shown name_cmp held.old n version object)) }
     ensures err { OnErr result (held.new ≡ held.old) }
 {
-    match held.show(name, version, object)? {
+    match held.show(name?, version, object)? {
         Shown::Held { .. } => Ok(true),
         Shown::PassedOver { .. } => Ok(false),
     }
 }
 
-/// An object is put in place of the one of its name.
+/// An object is put in place of the one of the name, if there was memory for it.
 fn put_named<T: Drop>(
     held: &mut VersionedMap<Text, T>,
-    name: Text,
+    name: Result<Text, NoMemory>,
     object: T,
 ) -> Result<(), NoMemory>
-    ensures ok { OnOk result (held.new ≡ put_at held.old name object) }
+    ensures ok { OnOk result (IsOkAnd name (λ n. held.new ≡ put_at held.old n object)) }
     ensures err { OnErr result (held.new ≡ held.old) }
 {
+    let name = name?;
     let version = held.version_of(&name);
     held.put(name, version, object)
 }

@@ -197,7 +197,9 @@ fn apply_to(cache: &mut ObjectCache, event: Event) -> Result<TakeNote, ApplyFaul
 fn note_in(applied: Applied) -> TakeNote
     ensures { result ≡ applied.note }
 {
-    applied.note
+    let Applied { change, note } = applied;
+    drop(change);
+    note
 }
 
 /// Whether nodes with these labels aren't kept from load balancers (Kubernetes, "Well-Known Labels").

@@ -56,7 +56,7 @@ pub fn write_at(objects: &mut StoredList, alloc: Global, at: usize, stored: Stor
     ensures { objects.new ≡ slice_set objects.old at stored }
 {
     let mut items = mem::replace(objects, Sequence::new(alloc)).into_vec();
-    items[at] = stored;
+    drop(mem::replace(&mut items[at], stored));
     *objects = Sequence::from_vec(items);
 }
 
@@ -79,7 +79,7 @@ pub fn remove_at(objects: &mut StoredList, alloc: Global, at: usize)
     ensures { objects.new ≡ remove objects.old at }
 {
     let mut items = mem::replace(objects, Sequence::new(alloc)).into_vec();
-    let _removed = items.remove(at);
+    drop(items.remove(at));
     *objects = Sequence::from_vec(items);
 }
 

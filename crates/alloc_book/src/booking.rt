@@ -153,6 +153,7 @@ impl Book {
             remove_others(&mut self.index, number);
         } else {
             remove_all(&mut self.index, claim.key());
+            drop(claim);
         }
         loss_of(is_lost)
     }
@@ -175,7 +176,10 @@ impl Book {
         ensures err { OnErr result (self.new.claims ≡ self.old.claims) }
     {
         let claim = Claim::of(self.alloc, key, holding)?;
-        self.reserve(&claim)?;
+        let Ok(()) = self.reserve(&claim) else {
+            drop(claim);
+            return Err(NoMemory);
+        };
         Ok(self.settle_prepared(claim))
     }
 
@@ -188,6 +192,8 @@ impl Book {
         let stands = self.index.claims_it(claim.key(), claim.holding());
         if !stands && claim.holding().is_assigned() {
             let _number = self.index.add(claim);
+        } else {
+            drop(claim);
         }
     }
 
@@ -197,7 +203,10 @@ impl Book {
         ensures err { OnErr result (self.new.claims ≡ self.old.claims) }
     {
         let claim = Claim::of(self.alloc, key, holding)?;
-        self.reserve(&claim)?;
+        let Ok(()) = self.reserve(&claim) else {
+            drop(claim);
+            return Err(NoMemory);
+        };
         self.doubt_prepared(claim);
         Ok(())
     }

@@ -281,9 +281,12 @@ pub(crate) fn choose(
     ensures terms { OnOk result (AreTerms (terms_of service.now)) }
 {
     let terms = MarkedTerms::of(alloc, service)?;
-    let found = eligible_pools(alloc, config, service, namespace)?;
+    let Ok(found) = eligible_pools(alloc, config, service, namespace) else {
+        drop(terms);
+        return Err(NoMemory);
+    };
     let pools = config.pools.as_slice();
-    choose_for(
+    let choice = choose_for(
         alloc,
         book,
         pools,
@@ -292,5 +295,8 @@ pub(crate) fn choose(
         service,
         &terms,
         namespace,
-    )
+    );
+    drop(found);
+    drop(terms);
+    choice
 }

@@ -105,14 +105,17 @@ impl ClaimIndex {
         self.by_key.remove(claim.key(), number);
         remove_claim(&mut self.holders, &claim, number);
         unmix_each(&mut self.holders, claim.addresses());
-        if let Some(terms) = claim.terms() {
-            unshare_each(
-                &self.claims,
-                &mut self.holders,
-                &terms.key,
-                claim.addresses(),
-            );
-        }
+        let Some(terms) = claim.terms() else {
+            drop(claim);
+            return;
+        };
+        unshare_each(
+            &self.claims,
+            &mut self.holders,
+            &terms.key,
+            claim.addresses(),
+        );
+        drop(claim);
     }
 
     /// The numbers of the claims of the key.

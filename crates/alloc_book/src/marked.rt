@@ -37,7 +37,10 @@ impl MarkedTerms {
         ensures terms { OnOk result (AreTerms (terms_of service.now)) }
     {
         let terms = terms_of(alloc, service)?;
-        let mark = mark_text(alloc, &terms)?;
+        let Ok(mark) = mark_text(alloc, &terms) else {
+            drop(terms);
+            return Err(NoMemory);
+        };
         Ok(MarkedTerms { terms, mark })
     }
 

@@ -1,5 +1,7 @@
+pub mod Ages
 pub mod Assigned
 pub mod Awaiting
+pub mod Came
 pub mod Expired
 pub mod Free
 pub mod Keyed

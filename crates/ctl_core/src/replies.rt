@@ -12,10 +12,9 @@ ghost use Rattle.ctl_core.specs.Waiting.{lacks_with};
 
 use crate::claims::loses;
 use crate::keys::{Keys, Services, lacks_with};
-use crate::room::{append_new, make_room_for, push_new};
+use crate::room::{append_new, push_new, reserved_claim};
 use crate::state::CoreState;
 use crate::waiting::WaitingKeys;
-use alloc_book::Claim;
 use kube_labels::Text;
 use kube_model::{Key, Put, PutReply};
 use mlb_base::{NoMemory, TryCopy};
@@ -46,24 +45,36 @@ impl CoreState {
         ensures err { OnErr result (self.new ≡ self.old) }
     {
         let is_lost = loses(&self.book, &put.key, &put.holding);
-        let more = self.waiting.others_where(self.alloc, is_lost, &put.key)?;
-        let claim = Claim::of(self.alloc, &put.key, &put.holding)?;
-        self.book.reserve(&claim)?;
+        let Ok(more) = self.waiting.others_where(self.alloc, is_lost, &put.key) else {
+            drop(put);
+            return Err(NoMemory);
+        };
+        let Ok(claim) = reserved_claim(self.alloc, &mut self.book, &put) else {
+            drop(put);
+            drop(more);
+            return Err(NoMemory);
+        };
         let services = self.cache.services();
-        queue_and_let_wait(
+        let Ok(()) = queue_and_let_wait(
             &mut self.queue,
             &more,
             &mut self.waiting,
             self.class.as_ref(),
             services,
             &put,
-        )?;
+        ) else {
+            drop(put);
+            drop(more);
+            drop(claim);
+            return Err(NoMemory);
+        };
+        drop(more);
         self.waiting.release_others(is_lost, &put.key);
-        let key = put.key;
-        let holding = put.holding;
+        let Put { key, holding, .. } = put;
         self.cache.store(&key, version, holding);
+        drop(key);
         self.book.settle_prepared(claim);
-        self.out = None;
+        drop(self.out.take());
         Ok(())
     }
 
@@ -74,10 +85,23 @@ impl CoreState {
         ensures ok { OnOk result (self.new ≡ refused self.old put) }
         ensures err { OnErr result (self.new ≡ self.old) }
     {
-        let key = put.key.copy()?;
-        push_new(&mut self.awaiting, put.key)?;
+        let Ok(key) = put.key.copy() else {
+            drop(put);
+            return Err(NoMemory);
+        };
+        let Put {
+            key: awaited,
+            holding,
+            ..
+        } = put;
+        drop(holding);
+        let Ok(()) = push_new(&mut self.awaiting, awaited) else {
+            drop(key);
+            return Err(NoMemory);
+        };
         self.waiting.remove(&key);
-        self.out = None;
+        drop(key);
+        drop(self.out.take());
         Ok(())
     }
 
@@ -88,11 +112,19 @@ impl CoreState {
         ensures ok { OnOk result (self.new ≡ in_doubt self.old put) }
         ensures err { OnErr result (self.new ≡ self.old) }
     {
-        let claim = Claim::of(self.alloc, &put.key, &put.holding)?;
-        make_room_for(&mut self.book, &claim, &mut self.queue, put.key)?;
+        let Ok(claim) = reserved_claim(self.alloc, &mut self.book, &put) else {
+            drop(put);
+            return Err(NoMemory);
+        };
+        let Put { key, holding, .. } = put;
+        drop(holding);
+        let Ok(()) = push_new(&mut self.queue, key) else {
+            drop(claim);
+            return Err(NoMemory);
+        };
         self.waiting.remove(claim.key());
         self.book.doubt_prepared(claim);
-        self.out = None;
+        drop(self.out.take());
         Ok(())
     }
 }

@@ -1,29 +1,27 @@
 //! Room and keys, made before anything else changes, and taken back where nothing does.
-ghost use Rattle.std.specs.Prelude.{◌≡◌, ◌++◌, ◌∷◌, [], if◌then◌else◌, false, take, OnOk, OnErr};
+ghost use Rattle.std.specs.Prelude.{◌≡◌, ◌++◌, ◌∷◌, [], if◌then◌else◌, false, take, IfOk, OnOk, OnErr};
 ghost use Rattle.kube_model.specs.Keys.{has_key};
 ghost use Rattle.alloc_book.specs.Book.{HasRoom};
 ghost use Rattle.core_laws.specs.Queue.{AreApart, NoneAmong};
 
 use crate::keys::Keys;
 use alloc_book::{Book, Claim};
-use kube_model::Key;
+use kube_model::{Key, Put};
 use mlb_base::NoMemory;
+use std::alloc::Global;
 
-/// Room for the claim, and the key to the back of the queue. After want of memory the queue is unchanged.
-pub(crate) fn make_room_for(
-    book: &mut Book,
-    claim: &Claim,
-    queue: &mut Keys,
-    key: Key,
-) -> Result<(), NoMemory>
-    requires { has_key queue.old key ≡ false }
+/// A claim of the key on the put's record, and room for it.
+pub(crate) fn reserved_claim(alloc: Global, book: &mut Book, put: &Put) -> Result<Claim, NoMemory>
+    ensures claim { IfOk result (λ c. c ≡ record { key = put.now.key; holding = put.now.holding }) }
+    ensures room { IfOk result (HasRoom book.new) }
     ensures claims { book.new.claims ≡ book.old.claims }
-    ensures claim_room { OnOk result (HasRoom book.new claim.now) }
-    ensures ok { OnOk result (queue.new ≡ queue.old ++ key ∷ []) }
-    ensures err { OnErr result (queue.new ≡ queue.old) }
 {
-    book.reserve(claim)?;
-    push_new(queue, key)
+    let claim = Claim::of(alloc, &put.key, &put.holding)?;
+    let Ok(()) = book.reserve(&claim) else {
+        drop(claim);
+        return Err(NoMemory);
+    };
+    Ok(claim)
 }
 
 /// The keys, which aren't queued and differ from one another, to the back of the queue. After want of memory it is unchanged.

@@ -165,6 +165,7 @@ impl CoreState {
         ensures err { OnErr result (self.new ≡ self.old) }
     {
         if version <= self.cache.services().version_of(&service.key) {
+            drop(service);
             return Ok(TakeNote::Quiet);
         }
         self.hold_service(version, service)?;
@@ -223,14 +224,30 @@ impl CoreState {
         ensures ok { OnOk result (self.new ≡ held_service self.old version service) }
         ensures err { OnErr result (self.new ≡ self.old) }
     {
-        self.book.reserve(&prepared.claim)?;
+        let Ok(()) = self.book.reserve(&prepared.claim) else {
+            drop(service);
+            drop(prepared);
+            return Err(NoMemory);
+        };
         let object = Object::Service(service);
         let event = Event::Changed { version, object };
-        let applied = queue_and_apply(&mut self.queue, &mut self.cache, &prepared.more, event)?;
+        let Ok(applied) = queue_and_apply(&mut self.queue, &mut self.cache, &prepared.more, event)
+        else {
+            drop(prepared);
+            return Err(NoMemory);
+        };
         drop(applied);
-        self.book.settle_prepared(prepared.claim);
-        drop_key(&mut self.awaiting, &prepared.key);
-        self.waiting.release(prepared.is_lost, &prepared.key);
+        let Prepared {
+            key,
+            claim,
+            is_lost,
+            more,
+        } = prepared;
+        drop(more);
+        self.book.settle_prepared(claim);
+        drop_key(&mut self.awaiting, &key);
+        self.waiting.release(is_lost, &key);
+        drop(key);
         Ok(())
     }
 
@@ -362,8 +379,15 @@ impl CoreState {
     {
         let was_ready = is_ready(&self.cache);
         let queued = self.queue.len();
-        let woken = self.may_be_woken(&event)?;
-        let applied = queue_and_apply(&mut self.queue, &mut self.cache, &woken, event)?;
+        let Ok(woken) = self.may_be_woken(&event) else {
+            drop(event);
+            return Err(NoMemory);
+        };
+        let Ok(applied) = queue_and_apply(&mut self.queue, &mut self.cache, &woken, event) else {
+            drop(woken);
+            return Err(NoMemory);
+        };
+        drop(woken);
         let wakes = wakes(was_ready, &applied, is_ready(&self.cache));
         truncate_unless(wakes, &mut self.queue, queued);
         self.waiting.clear_where(wakes);

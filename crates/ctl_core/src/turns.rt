@@ -20,6 +20,7 @@ use kube_model::{Key, Put, Reason, Record, Service};
 use mlb_base::{NoMemory, TryCopy};
 use pool_config::Config;
 use std::alloc::Global;
+use std::mem;
 
 impl CoreState {
     /// Makes the next turn: the front key is taken out of the queue and chosen for. A put that is wanted is out until it is
@@ -32,16 +33,23 @@ impl CoreState {
         ensures err { OnErr result (self.new ≡ self.old) }
     {
         let turn = self.next_turn()?;
-        let out = put_in(&turn)?;
+        let Ok(out) = put_in(&turn) else {
+            drop(turn);
+            return Err(NoMemory);
+        };
         let services = self.cache.services();
-        let_front_wait(
+        let Ok(()) = let_front_wait(
             &mut self.waiting,
             self.class.as_ref(),
             services,
             &self.queue,
-        )?;
-        let _front = self.queue.pop_first();
-        self.out = out;
+        ) else {
+            drop(turn);
+            drop(out);
+            return Err(NoMemory);
+        };
+        drop(self.queue.pop_first());
+        drop(mem::replace(&mut self.out, out));
         Ok(turn)
     }
 
@@ -80,8 +88,12 @@ impl CoreState {
         let no_labels = Labels::new(self.alloc);
         let config = self.config_or(&no_config);
         let labels = self.labels_or(&no_labels, &service.key.namespace);
-        self.book
-            .choose(config, self.class.as_ref(), service, labels)
+        let choice = self
+            .book
+            .choose(config, self.class.as_ref(), service, labels);
+        drop(no_labels);
+        drop(no_config);
+        choice
     }
 
     /// The configuration in force, or this one, which has no pools.
@@ -158,8 +170,12 @@ fn turn_for(
 {
     let pending = reason_in(&choice);
     let holding = wanted_record(alloc, held, choice)?;
-    let key = key.copy()?;
+    let Ok(key) = key.copy() else {
+        drop(holding);
+        return Err(NoMemory);
+    };
     if holding.is_same(held) {
+        drop(holding);
         return Ok(Turn::NoPut { key, pending });
     }
     let put = Put {

@@ -15,6 +15,7 @@ use mlb_base::{NoMemory, TryCopy};
 use status_store::{Edit, Store};
 use std::alloc::Global;
 use std::collections::VecDeque;
+use std::mem;
 
 impl WorldState {
     /// The change is made, and a controller that is up is going to be shown it. After want of memory nothing is changed.
@@ -125,8 +126,11 @@ fn record_of(alloc: Global, object: &Object) -> Result<Record, NoMemory>
 fn with_holding(service: &Service, holding: Record) -> Result<Service, NoMemory>
     ensures { IfOk result (λ s. s ≡ with_holding holding service.now) }
 {
-    let mut service = service.copy()?;
-    service.holding = holding;
+    let Ok(mut service) = service.copy() else {
+        drop(holding);
+        return Err(NoMemory);
+    };
+    drop(mem::replace(&mut service.holding, holding));
     Ok(service)
 }
 

@@ -59,8 +59,15 @@ pub(crate) fn listing(
     ensures { IfOk result (λ lane. lane.items ≡ listing group store.now) }
 {
     let mut lane = VecDeque::new(alloc);
-    push_all_shown(&mut lane, store.list().as_slice(), group)?;
-    lane.push_back(Event::ListEnd { group })?;
+    let objects = store.list().as_slice();
+    let Ok(()) = push_all_shown(&mut lane, objects, group) else {
+        drop(lane);
+        return Err(NoMemory);
+    };
+    let Ok(()) = lane.push_back(Event::ListEnd { group }) else {
+        drop(lane);
+        return Err(NoMemory);
+    };
     Ok(lane)
 }
 

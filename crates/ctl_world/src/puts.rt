@@ -27,7 +27,11 @@ impl WorldState {
     {
         match next_put(&mut self.core)? {
             None => Ok(()),
-            Some(put) => self.send_or_stop(&put, outcome),
+            Some(put) => {
+                let sent = self.send_or_stop(&put, outcome);
+                drop(put);
+                sent
+            }
         }
     }
 
@@ -76,7 +80,7 @@ impl WorldState {
     {
         self.config_lane.clear();
         self.service_lane.clear();
-        self.core = None;
+        drop(self.core.take());
     }
 
     /// The controller stops. The put that its next turn would want has reached the store, if it is applied.
@@ -119,7 +123,10 @@ fn next_put(core: &mut Option<Core>) -> Result<Option<Put>, NoMemory>
     match core.next_put()? {
         Turn::Wants { put, .. } => Ok(Some(put)),
         Turn::Idle => Ok(None),
-        Turn::NoPut { .. } => Ok(None),
+        Turn::NoPut { key, .. } => {
+            drop(key);
+            Ok(None)
+        }
     }
 }
 
@@ -132,7 +139,9 @@ fn apply(store: &mut Store, put: Option<Put>) -> Result<(), NoMemory>
     match put {
         None => Ok(()),
         Some(put) => {
-            let _unknown = store.put(&put, Outcome::Lost { applied: true })?;
+            let reply = store.put(&put, Outcome::Lost { applied: true });
+            drop(put);
+            let _unknown = reply?;
             Ok(())
         }
     }

@@ -1,16 +1,20 @@
 //! The controller is started.
 ghost use Rattle.std.specs.Prelude.{◌≡◌, None, OnOk, OnErr, IfOk};
-ghost use Rattle.world_rules.specs.World.{started, restarted, store_of};
+ghost use Rattle.core_rules.specs.Core.{fresh};
+ghost use Rattle.kube_model.specs.declared.event.Group.TheVariants as groups;
+ghost use Rattle.world_rules.specs.World.{started, restarted, listing, store_of};
 ghost use Rattle.status_store.specs.Changes.{empty_store};
 
 use crate::lanes::listing;
 use crate::state::WorldState;
 use ctl_core::Core;
 use kube_labels::Text;
-use kube_model::{Group, ObjectList};
+use kube_model::{Event, Group, ObjectList};
 use mlb_base::{NoMemory, TryCopy};
 use status_store::{Edit, Store};
 use std::alloc::Global;
+use std::collections::VecDeque;
+use std::mem;
 
 impl WorldState {
     /// A controller that was just started over a store.
@@ -21,9 +25,11 @@ impl WorldState {
     ) -> Result<WorldState, NoMemory>
         ensures { IfOk result (λ w. w ≡ started class store) }
     {
-        let config_lane = listing(alloc, &store, Group::Config)?;
-        let service_lane = listing(alloc, &store, Group::Service)?;
-        let core = Core::new(alloc, class.copy()?)?;
+        let Ok((config_lane, service_lane, core)) = begun(alloc, &store, &class) else {
+            drop(store);
+            drop(class);
+            return Err(NoMemory);
+        };
         Ok(WorldState {
             alloc,
             class,
@@ -40,14 +46,35 @@ impl WorldState {
         ensures ok { OnOk result (self.new ≡ restarted None self.old) }
         ensures err { OnErr result (self.new ≡ self.old) }
     {
-        let config_lane = listing(self.alloc, &self.store, Group::Config)?;
-        let service_lane = listing(self.alloc, &self.store, Group::Service)?;
-        let core = Core::new(self.alloc, self.class.copy()?)?;
-        self.config_lane = config_lane;
-        self.service_lane = service_lane;
-        self.core = Some(core);
+        let (config_lane, service_lane, core) = begun(self.alloc, &self.store, &self.class)?;
+        drop(mem::replace(&mut self.config_lane, config_lane));
+        drop(mem::replace(&mut self.service_lane, service_lane));
+        drop(self.core.replace(core));
         Ok(())
     }
+}
+
+/// What a controller is going to be shown where it is started over the store, and its core, which knows nothing.
+fn begun(
+    alloc: Global,
+    store: &Store,
+    class: &Option<Text>,
+) -> Result<(VecDeque<Event>, VecDeque<Event>, Core), NoMemory>
+    ensures config_lane { IfOk result (λ b. b.0.items ≡ listing groups.Config store.now) }
+    ensures service_lane { IfOk result (λ b. b.1.items ≡ listing groups.Service store.now) }
+    ensures core { IfOk result (λ b. b.2 ≡ fresh class.now) }
+{
+    let core = Core::new(alloc, class.copy()?)?;
+    let Ok(config_lane) = listing(alloc, store, Group::Config) else {
+        drop(core);
+        return Err(NoMemory);
+    };
+    let Ok(service_lane) = listing(alloc, store, Group::Service) else {
+        drop(core);
+        drop(config_lane);
+        return Err(NoMemory);
+    };
+    Ok((config_lane, service_lane, core))
 }
 
 /// The store of these objects, each set after the other.
@@ -56,7 +83,10 @@ pub(crate) fn store_of(alloc: Global, objects: ObjectList) -> Result<Store, NoMe
 {
     let mut store = Store::new(alloc);
     for object in objects.into_vec() {
-        let _set = store.edit(Edit::Set { object })?;
+        let Ok(_set) = store.edit(Edit::Set { object }) else {
+            drop(store);
+            return Err(NoMemory);
+        };
     }
     Ok(store)
 }

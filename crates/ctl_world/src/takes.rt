@@ -14,6 +14,7 @@ use mlb_base::{NoMemory, TryCopy};
 use status_store::Store;
 use std::alloc::Global;
 use std::collections::VecDeque;
+use std::mem;
 use world_rules::StepFault;
 
 impl WorldState {
@@ -70,7 +71,10 @@ fn take_event(core: &mut Core, event: &Event) -> Result<(), StepFault>
 {
     let event = event.copy()?;
     match core.take(event) {
-        Ok(_note) => Ok(()),
+        Ok(note) => {
+            drop(note);
+            Ok(())
+        }
         Err(TakeFault::Limit { .. }) => Err(StepFault::Limit),
         Err(TakeFault::NoMemory) => Err(StepFault::NoMemory),
     }
@@ -94,7 +98,7 @@ fn take_first(core: &mut Option<Core>, lane: &mut VecDeque<Event>) -> Result<(),
         return Ok(());
     };
     take_event(core, event)?;
-    let _taken = lane.pop_front();
+    drop(lane.pop_front());
     Ok(())
 }
 
@@ -117,6 +121,6 @@ fn relist(
     };
     let list = listing(alloc, store, group)?;
     core.take_expired(group);
-    *lane = list;
+    drop(mem::replace(lane, list));
     Ok(())
 }

@@ -30,9 +30,15 @@ fn turn_puts(core: &Core) -> Result<u64, NoMemory>
     ensures { IfOk result (λ puts. puts ≡ (if is_some (put_in (core_turn core.now)) then 1 else 0)) }
 {
     match core.next_turn()? {
-        Turn::Wants { .. } => Ok(1),
+        Turn::Wants { put, .. } => {
+            drop(put);
+            Ok(1)
+        }
         Turn::Idle => Ok(0),
-        Turn::NoPut { .. } => Ok(0),
+        Turn::NoPut { key, .. } => {
+            drop(key);
+            Ok(0)
+        }
     }
 }
 

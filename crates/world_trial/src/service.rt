@@ -76,23 +76,48 @@ fn ports_of(alloc: Global, z: u64) -> Result<PortList, NoMemory>
     Ok(ports)
 }
 
+/// What a service of the form `z` asks for: its selector, its ports, its sharing key and the pool.
+fn asked_by(alloc: Global, z: u64) -> Result<(Labels, PortList, Text, Text), NoMemory>
+    ensures selector { IfOk result (λ asked. asked.0 ≡ selector_of z) }
+    ensures ports { IfOk result (λ asked. asked.1 ≡ port_of z ∷ []) }
+    ensures share_key { IfOk result (λ asked. asked.2 ≡ share_key_of z) }
+    ensures pool { IfOk result (λ asked. asked.3 ≡ []) }
+{
+    Ok((
+        selector_of(alloc, z)?,
+        ports_of(alloc, z)?,
+        share_key_of(alloc, z)?,
+        Text::new(alloc, "")?,
+    ))
+}
+
 /// The service of the number `y`, in the form `z`.
 #[tactic(auto, unfolding(crate::specs::Services::service_of))]
 pub(crate) fn service_of(alloc: Global, y: u64, z: u64) -> Result<Service, NoMemory>
     ensures { IfOk result (λ service. service ≡ service_of y z) }
 {
+    let key = numbered(alloc, y)?;
+    let Ok(families) = FamilyList::one(alloc, Family::V4) else {
+        drop(key);
+        return Err(NoMemory);
+    };
+    let Ok((selector, ports, share_key, pool_asked)) = asked_by(alloc, z) else {
+        drop(key);
+        drop(families);
+        return Err(NoMemory);
+    };
     Ok(Service {
-        key: numbered(alloc, y)?,
+        key,
         labels: Labels::new(alloc),
         balancer: true,
         class: None,
-        families: FamilyList::one(alloc, Family::V4)?,
+        families,
         prefer_dual: false,
         policy: policy_of(z),
-        selector: selector_of(alloc, z)?,
-        ports: ports_of(alloc, z)?,
-        share_key: share_key_of(alloc, z)?,
-        pool_asked: Text::new(alloc, "")?,
+        selector,
+        ports,
+        share_key,
+        pool_asked,
         wanted: Wanted::NotAsked,
         holding: Record::empty(alloc),
     })

@@ -30,8 +30,8 @@ unshare_each-requires-clause-shared c =
     c.remove_claim.ensures.numbers c.remove_claim.ensures.shared c.remove_claim.ensures.mixed c.unmix_each.ensures.slots c.unmix_each.ensures.shared c.unmix_each.ensures.mixed in
     left.shared
 
-pub invariant_of-self-in-Some-terms : goal.invariant_of-self-in-Some-terms
-invariant_of-self-in-Some-terms c =
+pub invariant_of-self-2 : goal.invariant_of-self-2
+invariant_of-self-2 c =
     let left : IsIndexed c.remove.new.self.items c.remove-2.new.self c.unmix_each.new.holders =
     indexed-left c.args.number c.self.inside.claims.items c.remove.new.self.items c.in-Some.claim c.key.result.now c.self.inside.by_key c.remove-2.new.self
     c.self.inside.holders c.remove_claim.new.holders c.unmix_each.new.holders

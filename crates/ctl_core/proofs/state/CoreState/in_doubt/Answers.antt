@@ -10,8 +10,8 @@ use Rattle.ctl_core.proofs.Reaches.{reached-orderly}
 use Rattle.ctl_core.proofs.WaitingTurns.{waiting-in_doubt}
 use Rattle.ctl_core.proofs.state.CoreState.in_doubt.Goals as goal
 
-pub make_room_for-requires : goal.make_room_for-requires
-make_room_for-requires c =
+pub push_new-requires : goal.push_new-requires
+push_new-requires c =
     let i = c.self.inside in
     let s : State = record { class = i.class; held = i.cache; claims = i.book.claims; queue = i.queue; awaiting = i.awaiting; out = i.out } in
     let reached : IsReached s = rw (← c.self.view_is) at c.requires.reached in
@@ -21,7 +21,7 @@ make_room_for-requires c =
 pub invariant_of-self-2 : goal.invariant_of-self-2
 invariant_of-self-2 c =
     let i = c.self.inside in
-    let own = c.key.ensures ∙ ap (λ (x : ClaimValue). x.key) c.in_ok-claim.ensures in
-    subst (λ (keys : List Key). AreWaiting i.class i.cache keys i.awaiting c.remove.new.self) (sym c.in_ok-make_room_for.ensures.ok)
+    let own = c.key.ensures ∙ ap (λ (x : ClaimValue). x.key) c.in-Ok.ensures.claim in
+    subst (λ (keys : List Key). AreWaiting i.class i.cache keys i.awaiting c.remove.new.self) (sym c.in-Ok-push_new.ensures.ok)
     (waiting-in_doubt i.class i.cache i.queue i.awaiting c.args.put.key i.waiting c.remove.new.self c.self.invariant
     (λ k. c.remove.ensures k ∙ ap (λ (x : Key). not (same_key x k) && contains key_cmp i.waiting k) own))

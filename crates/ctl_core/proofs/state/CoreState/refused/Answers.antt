@@ -20,6 +20,6 @@ push_new-requires c =
 pub invariant_of-self-2 : goal.invariant_of-self-2
 invariant_of-self-2 c =
     let i = c.self.inside in
-    subst (λ (keys : List Key). AreWaiting i.class i.cache i.queue keys c.remove.new.self) (sym c.in_ok-push_new.ensures.ok)
+    subst (λ (keys : List Key). AreWaiting i.class i.cache i.queue keys c.remove.new.self) (sym c.in-Ok-push_new.ensures.ok)
     (waiting-refused i.class i.cache i.queue i.awaiting c.args.put.key i.waiting c.remove.new.self c.self.invariant
-    (λ k. c.remove.ensures k ∙ ap (λ (x : Key). not (same_key x k) && contains key_cmp i.waiting k) c.in_ok-key.ensures))
+    (λ k. c.remove.ensures k ∙ ap (λ (x : Key). not (same_key x k) && contains key_cmp i.waiting k) c.in-Ok.ensures))

@@ -14,8 +14,8 @@ queue_and_let_wait-requires-clause-once c =
     let s : State = record { class = i.class; held = i.cache; claims = i.book.claims; queue = i.queue; awaiting = i.awaiting; out = i.out } in
     let reached : IsReached s = rw (← c.self.view_is) at c.requires.reached in
     let out : s.out ≡ Some c.args.put = rw (← c.self.view_is) at c.requires.out in
-    let others = c.deref.ensures.value ∙ c.in_ok-more.ensures.keys
-    ∙ others-out s reached c.args.put out c.loses-is_lost.result i.waiting c.self.invariant c.in_ok-more.ensures.ordered in
+    let others = c.deref.ensures.value ∙ c.in-Ok.ensures.keys
+    ∙ others-out s reached c.args.put out c.loses-is_lost.result i.waiting c.self.invariant c.in-Ok.ensures.ordered in
     subst AreApart (sym others) (others-new s reached c.args.put out c.loses-is_lost.result).once
 
 pub queue_and_let_wait-requires-clause-unqueued : goal.queue_and_let_wait-requires-clause-unqueued
@@ -24,8 +24,8 @@ queue_and_let_wait-requires-clause-unqueued c =
     let s : State = record { class = i.class; held = i.cache; claims = i.book.claims; queue = i.queue; awaiting = i.awaiting; out = i.out } in
     let reached : IsReached s = rw (← c.self.view_is) at c.requires.reached in
     let out : s.out ≡ Some c.args.put = rw (← c.self.view_is) at c.requires.out in
-    let others = c.deref.ensures.value ∙ c.in_ok-more.ensures.keys
-    ∙ others-out s reached c.args.put out c.loses-is_lost.result i.waiting c.self.invariant c.in_ok-more.ensures.ordered in
+    let others = c.deref.ensures.value ∙ c.in-Ok.ensures.keys
+    ∙ others-out s reached c.args.put out c.loses-is_lost.result i.waiting c.self.invariant c.in-Ok.ensures.ordered in
     subst (λ (keys : List Key). NoneAmong keys s.queue) (sym others) (others-new s reached c.args.put out c.loses-is_lost.result).unqueued
 
 pub invariant_of-self-2 : goal.invariant_of-self-2
@@ -34,13 +34,13 @@ invariant_of-self-2 c =
     let s : State = record { class = i.class; held = i.cache; claims = i.book.claims; queue = i.queue; awaiting = i.awaiting; out = i.out } in
     let reached : IsReached s = rw (← c.self.view_is) at c.requires.reached in
     let out : s.out ≡ Some c.args.put = rw (← c.self.view_is) at c.requires.out in
-    let others = c.deref.ensures.value ∙ c.in_ok-more.ensures.keys
-    ∙ others-out s reached c.args.put out c.loses-is_lost.result i.waiting c.self.invariant c.in_ok-more.ensures.ordered in
+    let others = c.deref.ensures.value ∙ c.in-Ok.ensures.keys
+    ∙ others-out s reached c.args.put out c.loses-is_lost.result i.waiting c.self.invariant c.in-Ok.ensures.ordered in
     stored-waits s reached c.args.put out c.args.version c.loses-is_lost.result i.waiting c.queue_and_let_wait.new.waiting c.release_others.new.self c.store.new.self
     c.queue_and_let_wait.new.queue c.deref.result.now c.self.invariant
-    (λ k. rw (← c.as_ref.ensures.value, ← c.services-services.ensures) (c.in_ok-queue_and_let_wait.ensures.waiting k))
+    (λ k. rw (← c.as_ref.ensures.value, ← c.services-services.ensures) (c.in-Ok-queue_and_let_wait.ensures.waiting k))
     (λ k. c.release_others.ensures k)
-    c.store.ensures c.in_ok-queue_and_let_wait.ensures.queue others
+    c.store.ensures c.in-Ok-queue_and_let_wait.ensures.queue others
 
 pub returns-clause-ok : goal.returns-clause-ok
 returns-clause-ok c =
@@ -48,11 +48,11 @@ returns-clause-ok c =
     let s : State = record { class = i.class; held = i.cache; claims = i.book.claims; queue = i.queue; awaiting = i.awaiting; out = i.out } in
     let reached : IsReached s = rw (← c.self.view_is) at c.requires.reached in
     let out : s.out ≡ Some c.args.put = rw (← c.self.view_is) at c.requires.out in
-    let others = c.deref.ensures.value ∙ c.in_ok-more.ensures.keys
-    ∙ others-out s reached c.args.put out c.loses-is_lost.result i.waiting c.self.invariant c.in_ok-more.ensures.ordered in
-    let claims = c.settle_prepared.ensures.claims ∙ ap (λ (x : ClaimValue). settled x.key x.holding c.reserve.new.self.claims) c.in_ok-claim.ensures
-    ∙ ap (λ (claims : List ClaimValue). settled c.args.put.key c.args.put.holding claims) c.reserve.ensures.claims in
-    rw (← c.self.view_is)
+    let others = c.deref.ensures.value ∙ c.in-Ok.ensures.keys
+    ∙ others-out s reached c.args.put out c.loses-is_lost.result i.waiting c.self.invariant c.in-Ok.ensures.ordered in
+    let claims = c.settle_prepared.ensures.claims ∙ ap (λ (x : ClaimValue). settled x.key x.holding c.reserved_claim.new.book.claims) c.in-Ok-reserved_claim.ensures.claim
+    ∙ ap (λ (claims : List ClaimValue). settled c.args.put.key c.args.put.holding claims) c.reserved_claim.ensures.claims in
+    rw (← c.self.view_is, c.take.ensures.after)
     (stored-is s c.args.put c.args.version c.store.new.self c.settle_prepared.new.self.claims c.queue_and_let_wait.new.queue c.deref.result.now
-    c.store.ensures claims c.in_ok-queue_and_let_wait.ensures.queue
+    c.store.ensures claims c.in-Ok-queue_and_let_wait.ensures.queue
     (others ∙ ap (λ lost. waiting lost s.class (same_key c.args.put.key) s.queue s.awaiting s.held.services) c.loses-is_lost.ensures))

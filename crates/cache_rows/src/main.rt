@@ -7,6 +7,7 @@ use mlb_base::NoMemory;
 use object_cache::{Applied, ApplyFault, Change, ObjectCache, TakeNote};
 use std::alloc::Global;
 use std::io;
+use std::io::Input;
 
 /// What the change is called. A service that wasn't held before is called new, also where it is deleted.
 fn change_name(change: &Change) -> &'static str {
@@ -46,14 +47,30 @@ fn outcome(alloc: Global, cache: &ObjectCache, applied: &Applied) -> Result<Stri
     Ok(format!(in alloc; "{change}, {note}; services {services}, pools {pools}\n")?)
 }
 
-fn applied(alloc: Global, cache: &mut ObjectCache, line: &str) -> Result<String, NoMemory> {
-    let Ok(event) = read_event(alloc, line.as_bytes()) else {
-        return Ok(String::from_str(alloc, "no event\n")?);
-    };
-    match cache.apply(event) {
-        Ok(applied) => outcome(alloc, cache, &applied),
+fn applied_text(
+    alloc: Global,
+    cache: &ObjectCache,
+    applied: &Result<Applied, ApplyFault>,
+) -> Result<String, NoMemory> {
+    match applied {
+        Ok(applied) => outcome(alloc, cache, applied),
         Err(ApplyFault::NoMemory) => Err(NoMemory),
         Err(ApplyFault::Limit { .. }) => Ok(String::from_str(alloc, "limit\n")?),
+    }
+}
+
+fn applied(alloc: Global, cache: &mut ObjectCache, line: &str) -> Result<String, NoMemory> {
+    match read_event(alloc, line.as_bytes()) {
+        Ok(event) => {
+            let applied = cache.apply(event);
+            let text = applied_text(alloc, cache, &applied);
+            drop(applied);
+            text
+        }
+        Err(fault) => {
+            drop(fault);
+            Ok(String::from_str(alloc, "no event\n")?)
+        }
     }
 }
 
@@ -64,14 +81,29 @@ fn written(alloc: Global, cache: &mut ObjectCache, line: &str) -> Result<String,
     applied(alloc, cache, line)
 }
 
+fn take_line(
+    rt: &impl Print,
+    alloc: Global,
+    cache: &mut ObjectCache,
+    line: &str,
+) -> io::Result<()> {
+    match written(alloc, cache, line) {
+        Ok(text) => print!(rt; "{text}"),
+        Err(_) => println!(rt; "out of memory"),
+    }
+}
+
+fn take_lines(rt: &(impl Print + Input), alloc: Global, cache: &mut ObjectCache) -> io::Result<()> {
+    for line in rt.lines(alloc) {
+        take_line(rt, alloc, cache, line?.as_str())?;
+    }
+    Ok(())
+}
+
 fn main(rt: HostRuntime) -> io::Result<()> {
     let alloc = rt.alloc();
     let mut cache = ObjectCache::new(alloc);
-    for line in rt.lines(alloc) {
-        match written(alloc, &mut cache, line?.as_str()) {
-            Ok(text) => print!(rt; "{text}")?,
-            Err(_) => println!(rt; "out of memory")?,
-        }
-    }
-    Ok(())
+    let outcome = take_lines(&rt, alloc, &mut cache);
+    drop(cache);
+    outcome
 }

@@ -37,21 +37,60 @@ fn chosen(choice: &Choice) -> Option<&Record> {
     }
 }
 
-/// The line of what is chosen for the service, which has it from now on.
 fn choose(
+    alloc: Global,
+    book: &Book,
+    config: &Config,
+    namespaces: &[Namespace],
+    service: &Service,
+) -> Result<Choice, NoMemory> {
+    let none = Labels::new(alloc);
+    let labels = labels_of(namespaces, &service.key.namespace).unwrap_or(&none);
+    let choice = book.choose(config, None, service, labels);
+    drop(none);
+    choice
+}
+
+/// The line of the choice for the service, which has what is chosen from now on.
+fn settle(
+    alloc: Global,
+    book: &mut Book,
+    service: &Service,
+    choice: &Choice,
+) -> Result<String, NoMemory> {
+    if let Some(holding) = chosen(choice) {
+        let _loss = book.settle(&service.key, holding)?;
+    }
+    choice_line(alloc, &service.key, choice)
+}
+
+fn serve(
     alloc: Global,
     book: &mut Book,
     config: &Config,
     namespaces: &[Namespace],
     service: &Service,
 ) -> Result<String, NoMemory> {
-    let none = Labels::new(alloc);
-    let labels = labels_of(namespaces, &service.key.namespace).unwrap_or(&none);
-    let choice = book.choose(config, None, service, labels)?;
-    if let Some(holding) = chosen(&choice) {
-        let _loss = book.settle(&service.key, holding)?;
+    let choice = choose(alloc, book, config, namespaces, service)?;
+    let line = settle(alloc, book, service, &choice);
+    drop(choice);
+    line
+}
+
+/// What is written where the objects aren't compiled.
+fn refusal(alloc: Global, fault: &CompileFault) -> Result<String, NoMemory> {
+    match fault {
+        CompileFault::NoMemory => Err(NoMemory),
+        CompileFault::Refused { .. } => Ok(String::from_str(alloc, "refused\n")?),
     }
-    choice_line(alloc, &service.key, &choice)
+}
+
+/// What is written of a line that is no event.
+fn no_event(alloc: Global, line: &str, fault: &EventFault) -> Result<String, NoMemory> {
+    match fault {
+        EventFault::NoMemory => Err(NoMemory),
+        _ => Ok(format!(in alloc; "no event: {line}\n")?),
+    }
 }
 
 impl Case {
@@ -68,11 +107,14 @@ impl Case {
     fn compile(&mut self, alloc: Global) -> Result<String, NoMemory> {
         match compile(alloc, &self.objects) {
             Ok(config) => {
-                self.config = Some(config);
+                drop(self.config.replace(config));
                 Ok(String::new(alloc))
             }
-            Err(CompileFault::NoMemory) => Err(NoMemory),
-            Err(CompileFault::Refused { .. }) => Ok(String::from_str(alloc, "refused\n")?),
+            Err(fault) => {
+                let text = refusal(alloc, &fault);
+                drop(fault);
+                text
+            }
         }
     }
 
@@ -82,7 +124,7 @@ impl Case {
             return Ok(text);
         };
         for service in &self.services {
-            let line = choose(alloc, &mut self.book, config, &self.namespaces, service)?;
+            let line = serve(alloc, &mut self.book, config, &self.namespaces, service)?;
             text.push_str(line.as_str())?;
         }
         Ok(text)
@@ -93,20 +135,33 @@ impl Case {
     }
 
     fn hold_service(&mut self, service: Service) -> Result<(), NoMemory> {
-        let _loss = self.book.settle(&service.key, &service.holding)?;
-        self.services.push(service)?;
-        Ok(())
+        match self.book.settle(&service.key, &service.holding) {
+            Ok(_loss) => Ok(self.services.push(service)?),
+            Err(NoMemory) => {
+                drop(service);
+                Err(NoMemory)
+            }
+        }
     }
 
     fn hold(&mut self, object: Object) -> Result<(), NoMemory> {
         match object {
             Object::Pool(pool) => self.hold_pool(pool),
             Object::Service(service) => self.hold_service(service),
-            Object::Namespace(namespace) => {
-                self.namespaces.push(namespace)?;
+            Object::Namespace(namespace) => Ok(self.namespaces.push(namespace)?),
+            other => {
+                drop(other);
                 Ok(())
             }
-            _ => Ok(()),
+        }
+    }
+
+    /// What is written at the end of the list.
+    fn end(&mut self, alloc: Global, group: Group) -> Result<String, NoMemory> {
+        match group {
+            Group::Config => self.compile(alloc),
+            Group::Service => self.choose_all(alloc),
+            Group::Endpoint => Ok(String::new(alloc)),
         }
     }
 
@@ -116,13 +171,11 @@ impl Case {
                 self.hold(object)?;
                 Ok(String::new(alloc))
             }
-            Event::ListEnd {
-                group: Group::Config,
-            } => self.compile(alloc),
-            Event::ListEnd {
-                group: Group::Service,
-            } => self.choose_all(alloc),
-            _ => Ok(String::new(alloc)),
+            Event::ListEnd { group } => self.end(alloc, group),
+            other => {
+                drop(other);
+                Ok(String::new(alloc))
+            }
         }
     }
 
@@ -130,8 +183,11 @@ impl Case {
     pub fn take(&mut self, alloc: Global, line: &str) -> Result<String, NoMemory> {
         match read_event(alloc, line.as_bytes()) {
             Ok(event) => self.happen(alloc, event),
-            Err(EventFault::NoMemory) => Err(NoMemory),
-            Err(_) => Ok(format!(in alloc; "no event: {line}\n")?),
+            Err(fault) => {
+                let text = no_event(alloc, line, &fault);
+                drop(fault);
+                text
+            }
         }
     }
 }

@@ -1,7 +1,9 @@
 //! What objects are compiled to, as lines.
+ghost use Rattle.std.specs.Prelude.{◌<◌, ◌^◌};
+ghost use Rattle.ip_ranges.specs.Values.{width_of};
 
 use anyhow::Result;
-use ip_ranges::{Address, Span, print_address};
+use ip_ranges::{Address, Family, Span, print_address};
 use mlb_base::NoMemory;
 use pool_config::{
     CompileFault, CompiledBgp, CompiledL2, CompiledPool, Config, ObjectSet, compile,
@@ -11,8 +13,22 @@ use std::alloc::Global;
 /// Prints what the objects are compiled to: the cause, kind and name of the fault, or each item of the lists with what was read of it.
 pub fn print(rt: &(impl Print + AllocGlobal), objects: &ObjectSet) -> Result<()> {
     match compile(rt.alloc(), objects) {
-        Ok(config) => print_config(rt, &config),
-        Err(CompileFault::Refused { fault }) => {
+        Ok(config) => {
+            let printed = print_config(rt, &config);
+            drop(config);
+            printed
+        }
+        Err(fault) => {
+            let printed = print_fault(rt, &fault);
+            drop(fault);
+            printed
+        }
+    }
+}
+
+fn print_fault(rt: &impl Print, fault: &CompileFault) -> Result<()> {
+    match fault {
+        CompileFault::Refused { fault } => {
             println!(rt;
                 "{} {} {}",
                 fault.cause.as_str(),
@@ -21,7 +37,7 @@ pub fn print(rt: &(impl Print + AllocGlobal), objects: &ObjectSet) -> Result<()>
             )?;
             Ok(())
         }
-        Err(CompileFault::NoMemory) => Err(NoMemory)?,
+        CompileFault::NoMemory => Err(NoMemory)?,
     }
 }
 
@@ -45,24 +61,27 @@ fn print_config(rt: &(impl Print + AllocGlobal), config: &Config) -> Result<()> 
 fn print_pool(rt: &(impl Print + AllocGlobal), pool: &CompiledPool) -> Result<()> {
     print!(rt; "pool {}", pool.name)?;
     for span in pool.spans.as_slice() {
-        let (low, high) = ends_of(rt.alloc(), span)?;
-        print!(rt; " {low}-{high}")?;
+        print_span(rt, span)?;
     }
     println!(rt; "")?;
     Ok(())
 }
 
 /// The first and the last address of a range.
-fn ends_of(alloc: Global, span: &Span) -> Result<(String, String), NoMemory> {
-    let low = Address {
-        family: span.family,
-        number: span.low,
-    };
-    let high = Address {
-        family: span.family,
-        number: span.high,
-    };
-    Ok((print_address(alloc, &low)?, print_address(alloc, &high)?))
+fn print_span(rt: &(impl Print + AllocGlobal), span: &Span) -> Result<()> {
+    print!(rt; " ")?;
+    print_number(rt, span.family, span.low)?;
+    print!(rt; "-")?;
+    print_number(rt, span.family, span.high)
+}
+
+fn print_number(rt: &(impl Print + AllocGlobal), family: Family, number: u128) -> Result<()>
+    requires { number < 2 ^ width_of family }
+{
+    let text = print_address(rt.alloc(), &Address { family, number })?;
+    let printed = print!(rt; "{text}");
+    drop(text);
+    Ok(printed?)
 }
 
 /// The advertisement's name, and those of the pools that it chooses.

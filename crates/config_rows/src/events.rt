@@ -10,8 +10,14 @@ use std::alloc::Global;
 pub fn apply(alloc: Global, objects: &mut ObjectSet, line: &str) -> Result<()> {
     match read_event(alloc, line.as_bytes())? {
         Event::Changed { object, .. } => objects.set(object)?,
-        Event::Deleted { kind, key } => objects.remove(kind, &key.name),
-        _ => bail!("the line is of no object: {line}"),
+        Event::Deleted { kind, key } => {
+            objects.remove(kind, &key.name);
+            drop(key);
+        }
+        other => {
+            drop(other);
+            bail!("the line is of no object: {line}");
+        }
     }
     Ok(())
 }

@@ -9,25 +9,35 @@ mod events;
 
 use anyhow::Result;
 use pool_config::ObjectSet;
+use std::io::Input;
+use std::mem;
 
 fn is_end(line: &str) -> bool {
     !line.is_empty() && line.bytes().all(|byte| byte == b'-')
 }
 
-fn main(rt: HostRuntime) -> Result<()> {
-    let alloc = rt.alloc();
-    let mut objects = ObjectSet::new(alloc);
-    for line in rt.lines(alloc) {
-        let line = line?;
-        let line = line.as_str();
-        if line.starts_with('#') {
-            println!(rt; "{line}")?;
-        } else if is_end(line) {
-            compiled::print(&rt, &objects)?;
-            objects = ObjectSet::new(alloc);
-        } else {
-            events::apply(alloc, &mut objects, line)?;
-        }
+fn take(rt: &(impl Print + AllocGlobal), objects: &mut ObjectSet, line: &str) -> Result<()> {
+    if line.starts_with('#') {
+        println!(rt; "{line}")?;
+    } else if is_end(line) {
+        compiled::print(rt, objects)?;
+        drop(mem::replace(objects, ObjectSet::new(rt.alloc())));
+    } else {
+        events::apply(rt.alloc(), objects, line)?;
     }
     Ok(())
+}
+
+fn take_lines(rt: &(impl Print + AllocGlobal + Input), objects: &mut ObjectSet) -> Result<()> {
+    for line in rt.lines(rt.alloc()) {
+        take(rt, objects, line?.as_str())?;
+    }
+    Ok(())
+}
+
+fn main(rt: HostRuntime) -> Result<()> {
+    let mut objects = ObjectSet::new(rt.alloc());
+    let outcome = take_lines(&rt, &mut objects);
+    drop(objects);
+    outcome
 }

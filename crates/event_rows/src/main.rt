@@ -7,7 +7,7 @@ mod parts;
 
 use json_fields::{FieldFault, read_value};
 use kube_events::{read_event, read_object};
-use kube_model::{Event, EventFault, Kind};
+use kube_model::{Event, EventFault, Kind, Object};
 use mlb_base::TryCopy;
 use objects::show_object;
 use serde_json::Value;
@@ -37,43 +37,89 @@ fn show_event(rt: &impl Print, alloc: Global, event: &Event) -> io::Result<()> {
 /// Shows a copy of the event: where memory is ample, an event of each kind is copied.
 fn show_copy(rt: &impl Print, alloc: Global, event: &Event) -> io::Result<()> {
     match event.copy() {
-        Ok(copied) => show_event(rt, alloc, &copied),
+        Ok(copied) => {
+            let shown = show_event(rt, alloc, &copied);
+            drop(copied);
+            shown
+        }
         Err(_) => println!(rt; "not copied"),
+    }
+}
+
+fn show_as_stated(rt: &impl Print, alloc: Global, object: &Object) -> io::Result<()> {
+    print!(rt; "Stated ")?;
+    show_object(rt, alloc, object)
+}
+
+fn show_field_fault(rt: &impl Print, fault: &FieldFault) -> io::Result<()> {
+    match fault {
+        FieldFault::Faulty(path) => println!(rt; "Field {path}"),
+        FieldFault::NoMemory => println!(rt; "NoMemory"),
     }
 }
 
 fn show_object_at(rt: &impl Print, alloc: Global, kind: Kind, value: &Value) -> io::Result<()> {
     match read_object(alloc, kind, value) {
         Ok(object) => {
-            print!(rt; "Stated ")?;
-            show_object(rt, alloc, &object)
+            let shown = show_as_stated(rt, alloc, &object);
+            drop(object);
+            shown
         }
-        Err(FieldFault::Faulty(path)) => println!(rt; "Field {path}"),
-        Err(FieldFault::NoMemory) => println!(rt; "NoMemory"),
+        Err(fault) => {
+            let shown = show_field_fault(rt, &fault);
+            drop(fault);
+            shown
+        }
+    }
+}
+
+fn kind_of(value: &Value) -> Option<Kind> {
+    value
+        .get("kind")
+        .and_then(Value::as_str)
+        .and_then(Kind::named)
+}
+
+fn show_value(rt: &impl Print, alloc: Global, value: &Value) -> io::Result<()> {
+    match kind_of(value) {
+        Some(kind) => show_object_at(rt, alloc, kind, value),
+        None => println!(rt; "NotEvent"),
     }
 }
 
 fn show_stated(rt: &impl Print, alloc: Global, line: &[u8]) -> io::Result<()> {
-    let Ok(Some(value)) = read_value(alloc, line) else {
-        return println!(rt; "NoMemory");
-    };
-    match value
-        .get("kind")
-        .and_then(Value::as_str)
-        .and_then(Kind::named)
-    {
-        Some(kind) => show_object_at(rt, alloc, kind, &value),
-        None => println!(rt; "NotEvent"),
+    match read_value(alloc, line) {
+        Ok(Some(value)) => {
+            let shown = show_value(rt, alloc, &value);
+            drop(value);
+            shown
+        }
+        Ok(None) => println!(rt; "NoMemory"),
+        Err(_) => println!(rt; "NoMemory"),
+    }
+}
+
+fn show_fault(rt: &impl Print, alloc: Global, line: &[u8], fault: &EventFault) -> io::Result<()> {
+    match fault {
+        EventFault::NotJson => println!(rt; "NotJson"),
+        EventFault::NotEvent => show_stated(rt, alloc, line),
+        EventFault::Field { path } => println!(rt; "Field {path}"),
+        EventFault::NoMemory => println!(rt; "NoMemory"),
     }
 }
 
 fn show_line(rt: &impl Print, alloc: Global, line: &[u8]) -> io::Result<()> {
     match read_event(alloc, line) {
-        Ok(event) => show_copy(rt, alloc, &event),
-        Err(EventFault::NotJson) => println!(rt; "NotJson"),
-        Err(EventFault::NotEvent) => show_stated(rt, alloc, line),
-        Err(EventFault::Field { path }) => println!(rt; "Field {path}"),
-        Err(EventFault::NoMemory) => println!(rt; "NoMemory"),
+        Ok(event) => {
+            let shown = show_copy(rt, alloc, &event);
+            drop(event);
+            shown
+        }
+        Err(fault) => {
+            let shown = show_fault(rt, alloc, line, &fault);
+            drop(fault);
+            shown
+        }
     }
 }
 

@@ -15,15 +15,23 @@ use kube_events::read_event;
 use speaker_view::View;
 use std::alloc::Global;
 use std::io::Input;
+use std::mem;
 
 fn happen(alloc: Global, view: &mut View, line: &str) -> Result<()> {
     let event = read_event(alloc, line.as_bytes())?;
-    let _note = view.apply(event)?;
+    drop(view.apply(event)?);
     Ok(())
 }
 
 fn begin(alloc: Global, view: &mut View) {
-    *view = View::new(alloc, None);
+    drop(mem::replace(view, View::new(alloc, None)));
+}
+
+fn show(rt: &impl Print, alloc: Global, view: &View, line: &str) -> Result<()> {
+    let answer = told(alloc, view, line)?;
+    let shown = println!(rt; "{answer}");
+    drop(answer);
+    Ok(shown?)
 }
 
 fn answer_line(rt: &impl Print, alloc: Global, view: &mut View, line: &str) -> Result<()> {
@@ -34,8 +42,7 @@ fn answer_line(rt: &impl Print, alloc: Global, view: &mut View, line: &str) -> R
     } else if line.starts_with('{') {
         happen(alloc, view, line)?;
     } else {
-        let answer = told(alloc, view, line)?;
-        println!(rt; "{answer}")?;
+        show(rt, alloc, view, line)?;
     }
     Ok(())
 }

@@ -44,13 +44,25 @@ fn show_reply(rt: &impl Print, alloc: Global, line: &[u8]) -> io::Result<()> {
     }
 }
 
+fn show_event(rt: &impl Print, alloc: Global, line: &[u8], event: &Event) -> io::Result<()> {
+    match event {
+        Event::Changed { version, object } => show_object(rt, alloc, *version, object),
+        Event::Frame { interface, bytes } => show_frame(rt, alloc, interface, bytes.as_slice()),
+        _ => show_reply(rt, alloc, line),
+    }
+}
+
 fn show_line(rt: &impl Print, alloc: Global, line: &[u8]) -> io::Result<()> {
     match read_event(alloc, line) {
-        Ok(Event::Changed { version, object }) => show_object(rt, alloc, version, &object),
-        Ok(Event::Frame { interface, bytes }) => {
-            show_frame(rt, alloc, &interface, bytes.as_slice())
+        Ok(event) => {
+            let shown = show_event(rt, alloc, line, &event);
+            drop(event);
+            shown
         }
-        _ => show_reply(rt, alloc, line),
+        Err(fault) => {
+            drop(fault);
+            show_reply(rt, alloc, line)
+        }
     }
 }
 

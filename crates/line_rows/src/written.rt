@@ -26,7 +26,9 @@ fn put_of(version: u64, service: &Service) -> Result<Put, NoMemory> {
 
 fn put_text(alloc: Global, version: u64, service: &Service) -> Result<Text, NoMemory> {
     let put = put_of(version, service)?;
-    put_line(alloc, &put)
+    let text = put_line(alloc, &put);
+    drop(put);
+    text
 }
 
 fn show_service(rt: &impl Print, alloc: Global, version: u64, service: &Service) -> io::Result<()> {
@@ -48,7 +50,9 @@ fn refusal(alloc: Global, pool: &Text) -> Result<Text, NoMemory> {
         kind: Kind::Pool,
         name: pool.copy()?,
     };
-    refused_line(alloc, &fault)
+    let text = refused_line(alloc, &fault);
+    drop(fault);
+    text
 }
 
 pub(crate) fn show_object(

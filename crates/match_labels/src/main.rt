@@ -18,30 +18,99 @@ use std::io;
 use unread::Unread;
 use written::{expressions, labels};
 
+fn selector_of(alloc: Global, wanted: &str, written: &str) -> Result<Selector, Unread> {
+    let wanted = labels(alloc, wanted)?;
+    match expressions(alloc, written) {
+        Ok(expressions) => Ok(Selector::new(wanted, expressions)?),
+        Err(NoMemory) => {
+            drop(wanted);
+            Err(Unread::NoMemory)
+        }
+    }
+}
+
+/// Whether a copy of the selector matches.
+fn copy_told(alloc: Global, selector: &Selector, held: &Labels) -> Result<String, Unread> {
+    let copied = selector.copy()?;
+    let matches = copied.matches(held);
+    drop(copied);
+    Ok(matches.to_string(alloc)?)
+}
+
+fn selected_told(alloc: Global, selector: &Selector, held: &str) -> Result<String, Unread> {
+    let held = labels(alloc, held)?;
+    let told = copy_told(alloc, selector, &held);
+    drop(held);
+    told
+}
+
 fn matches_told(alloc: Global, text: &str) -> Result<String, Unread> {
     let (held, text) = text.split_once('|').unwrap_or((text, ""));
     let (wanted, written) = text.split_once('|').unwrap_or((text, ""));
-    let selector = Selector::new(labels(alloc, wanted)?, expressions(alloc, written)?)?;
-    let matches = selector.copy()?.matches(&labels(alloc, held)?);
+    let selector = selector_of(alloc, wanted, written)?;
+    let told = selected_told(alloc, &selector, held);
+    drop(selector);
+    told
+}
+
+/// The selectors behind the labels; where no bar stands there is none.
+fn push_selectors(
+    alloc: Global,
+    written: Option<&str>,
+    selectors: &mut SelectorList,
+) -> Result<(), Unread> {
+    let Some(written) = written else {
+        return Ok(());
+    };
+    for wanted in written.split('|') {
+        selectors.push(selector_of(alloc, wanted, "")?)?;
+    }
+    Ok(())
+}
+
+/// Whether one of the selectors written matches.
+fn one_told(alloc: Global, written: Option<&str>, held: &Labels) -> Result<String, Unread> {
+    let mut selectors = SelectorList::new(alloc);
+    let pushed = push_selectors(alloc, written, &mut selectors);
+    let matches = any_matches(&selectors, held);
+    drop(selectors);
+    pushed?;
     Ok(matches.to_string(alloc)?)
 }
 
 fn any_told(alloc: Global, text: &str) -> Result<String, Unread> {
-    let mut fields = text.split('|');
-    let held = labels(alloc, fields.next().unwrap_or(""))?;
-    let mut selectors = SelectorList::new(alloc);
-    for wanted in fields {
-        selectors.push(Selector::new(labels(alloc, wanted)?, expressions(alloc, "")?)?)?;
-    }
-    Ok(any_matches(&selectors, &held).to_string(alloc)?)
+    let (held, written) = match text.split_once('|') {
+        Some((held, written)) => (held, Some(written)),
+        None => (text, None),
+    };
+    let held = labels(alloc, held)?;
+    let told = one_told(alloc, written, &held);
+    drop(held);
+    told
 }
 
 fn labels_told(alloc: Global, held: &Labels) -> Result<String, NoMemory> {
     let mut text = String::new(alloc);
     for (name, value) in held.iter() {
-        text.push_str(format!(in alloc; "{name}={value};")?.as_str())?;
+        let label = format!(in alloc; "{name}={value};")?;
+        text.push_str(label.as_str())?;
     }
     Ok(text)
+}
+
+/// A copy of the labels, as it is kept.
+fn kept_told(alloc: Global, held: &Labels) -> Result<String, NoMemory> {
+    let copied = held.copy()?;
+    let told = labels_told(alloc, &copied);
+    drop(copied);
+    told
+}
+
+fn held_told(alloc: Global, written: &str) -> Result<String, NoMemory> {
+    let held = labels(alloc, written)?;
+    let told = kept_told(alloc, &held);
+    drop(held);
+    told
 }
 
 fn told(alloc: Global, line: &str) -> Result<String, Unread> {
@@ -49,7 +118,7 @@ fn told(alloc: Global, line: &str) -> Result<String, Unread> {
     match word {
         "matches" => matches_told(alloc, text),
         "any" => any_told(alloc, text),
-        "labels" => Ok(labels_told(alloc, &labels(alloc, text)?.copy()?)?),
+        "labels" => Ok(held_told(alloc, text)?),
         _ => Err(Unread::Word),
     }
 }

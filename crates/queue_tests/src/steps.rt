@@ -1,4 +1,6 @@
 //! A queue of numbers.
+//!
+//! Each function here is proved: a queue is let go by a call of `drop` in one place, and what can fail before takes it by reference.
 
 use key_queue::{KeyQueue, KeyTest};
 use mlb_base::NoMemory;
@@ -6,6 +8,7 @@ use std::alloc::Global;
 use std::rt::HostRuntime;
 
 /// The numbers that are at least this one.
+#[derive(Drop)]
 struct AtLeast {
     least: u32,
 }
@@ -20,88 +23,163 @@ impl KeyTest<u32> for AtLeast {
     }
 }
 
-/// A queue of these keys, of which the first has left: those up to `front` stand at the front, and the others behind them.
-fn queue_of(alloc: Global, front: &[u32], behind: &[u32]) -> Result<KeyQueue<u32>, NoMemory> {
-    let mut queue = KeyQueue::new(alloc);
-    queue.append(front)?;
-    let _first = queue.pop_first();
-    queue.append(behind)?;
-    Ok(queue)
+#[derive(Clone, Copy)]
+enum Step {
+    Append(&'static [u32]),
+    PopFirst,
+    Push(u32),
+    Remove(u32),
+    /// What isn't at least this number is dropped.
+    Retain(u32),
+    Truncate(usize),
+    Clear,
 }
 
-/// The keys as they leave.
-fn all_popped(alloc: Global, queue: &mut KeyQueue<u32>) -> Result<Vec<u32>, NoMemory> {
-    let mut keys = Vec::new(alloc);
-    for _ in 0..queue.len() {
-        if let Some(key) = queue.pop_first() {
-            keys.push(key)?;
+/// What is done to an empty queue, and the keys that stand in it then.
+type Row = (&'static [Step], &'static [u32]);
+
+/// In each row one key has left before others came behind.
+const ROWS: [Row; 8] = [
+    // keys leave in the order in which they came
+    (
+        &[
+            Step::Append(&[5, 3, 8, 4]),
+            Step::PopFirst,
+            Step::Append(&[9, 5]),
+        ],
+        &[3, 8, 4, 9, 5],
+    ),
+    // a key that comes twice stands once
+    (
+        &[
+            Step::Append(&[5, 3, 8, 3, 5]),
+            Step::PopFirst,
+            Step::Append(&[8, 1, 5, 1]),
+            Step::Push(3),
+            Step::Push(1),
+        ],
+        &[3, 8, 1, 5],
+    ),
+    // a key is removed wherever it stands
+    (
+        &[
+            Step::Append(&[6, 5, 3, 8]),
+            Step::PopFirst,
+            Step::Append(&[9, 1, 7]),
+            Step::Remove(6),
+            Step::Remove(3),
+            Step::Remove(1),
+        ],
+        &[5, 8, 9, 7],
+    ),
+    // keys that don't pass are dropped
+    (
+        &[
+            Step::Append(&[6, 5, 3, 8]),
+            Step::PopFirst,
+            Step::Append(&[9, 1, 7]),
+            Step::Retain(6),
+        ],
+        &[8, 9, 7],
+    ),
+    // an emptied queue takes no key from before
+    (
+        &[
+            Step::Append(&[6, 5, 3, 8]),
+            Step::PopFirst,
+            Step::Append(&[9, 1, 7]),
+            Step::Retain(6),
+            Step::Push(3),
+            Step::Clear,
+        ],
+        &[],
+    ),
+    (
+        &[
+            Step::Append(&[8, 9]),
+            Step::PopFirst,
+            Step::Clear,
+            Step::Push(9),
+        ],
+        &[9],
+    ),
+    // the keys behind are cut first
+    (
+        &[
+            Step::Append(&[6, 5, 3, 8]),
+            Step::PopFirst,
+            Step::Append(&[9, 1]),
+            Step::Truncate(4),
+        ],
+        &[5, 3, 8, 9],
+    ),
+    (
+        &[
+            Step::Append(&[6, 5, 3, 8]),
+            Step::PopFirst,
+            Step::Append(&[9, 1]),
+            Step::Truncate(4),
+            Step::Truncate(2),
+        ],
+        &[5, 3],
+    ),
+];
+
+fn take(queue: &mut KeyQueue<u32>, step: Step) -> Result<(), NoMemory> {
+    match step {
+        Step::Append(keys) => return queue.append(keys),
+        Step::PopFirst => {
+            let _first = queue.pop_first();
+        }
+        Step::Push(key) => return queue.push(key),
+        Step::Remove(key) => queue.remove(&key),
+        Step::Retain(least) => queue.retain(&AtLeast { least }),
+        Step::Truncate(count) => queue.truncate(count),
+        Step::Clear => queue.clear(),
+    }
+    Ok(())
+}
+
+/// Whether these keys and no others stand in the queue.
+fn holds(queue: &KeyQueue<u32>, keys: &[u32]) -> bool {
+    for key in 0..10 {
+        if queue.contains(&key) != keys.contains(&key) {
+            return false;
         }
     }
-    Ok(keys)
+    queue.len() == keys.len() && queue.is_empty() == keys.is_empty()
+}
+
+/// Whether the keys leave in this order, and no others.
+fn are_given(queue: &mut KeyQueue<u32>, keys: &[u32]) -> bool {
+    for key in keys {
+        if queue.first() != Some(key) || queue.pop_first() != Some(*key) {
+            return false;
+        }
+    }
+    queue.is_empty() && queue.first().is_none()
+}
+
+fn is_right(queue: &mut KeyQueue<u32>, (steps, keys): Row) -> Result<bool, NoMemory> {
+    for step in steps {
+        take(queue, *step)?;
+    }
+    Ok(holds(queue, keys) && are_given(queue, keys))
+}
+
+fn is_right_anew(alloc: Global, row: Row) -> Result<bool, NoMemory> {
+    let mut queue = KeyQueue::new(alloc);
+    let is_right = is_right(&mut queue, row);
+    drop(queue);
+    is_right
 }
 
 #[test]
-fn keys_leave_in_the_order_in_which_they_came(rt: HostRuntime) -> Result<(), NoMemory> {
-    let mut queue = queue_of(rt.alloc(), &[5, 3, 8, 4], &[9, 5])?;
-    assert_eq!(rt; queue.len(), 5);
-    assert_eq!(rt; queue.first(), Some(&3));
-    assert!(rt; queue.contains(&8) && queue.contains(&5) && !queue.contains(&7));
-    assert_eq!(rt;
-        all_popped(rt.alloc(), &mut queue)?.as_slice(),
-        [3, 8, 4, 9, 5].as_slice()
-    );
-    assert!(rt; queue.is_empty() && queue.first().is_none());
-    Ok(())
-}
-
-#[test]
-fn a_key_that_comes_twice_stands_once(rt: HostRuntime) -> Result<(), NoMemory> {
-    let mut queue = queue_of(rt.alloc(), &[5, 3, 8, 3, 5], &[8, 1, 5, 1])?;
-    queue.push(3)?;
-    queue.push(1)?;
-    assert_eq!(rt;
-        all_popped(rt.alloc(), &mut queue)?.as_slice(),
-        [3, 8, 1, 5].as_slice()
-    );
-    Ok(())
-}
-
-#[test]
-fn a_key_is_removed_wherever_it_stands(rt: HostRuntime) -> Result<(), NoMemory> {
-    let mut queue = queue_of(rt.alloc(), &[6, 5, 3, 8], &[9, 1, 7])?;
-    queue.remove(&6);
-    queue.remove(&3);
-    queue.remove(&1);
-    assert_eq!(rt;
-        all_popped(rt.alloc(), &mut queue)?.as_slice(),
-        [5, 8, 9, 7].as_slice()
-    );
-    Ok(())
-}
-
-#[test]
-fn keys_that_do_not_pass_are_dropped(rt: HostRuntime) -> Result<(), NoMemory> {
-    let mut queue = queue_of(rt.alloc(), &[6, 5, 3, 8], &[9, 1, 7])?;
-    queue.retain(&AtLeast { least: 6 });
-    assert_eq!(rt;
-        all_popped(rt.alloc(), &mut queue)?.as_slice(),
-        [8, 9, 7].as_slice()
-    );
-    queue.push(3)?;
-    queue.clear();
-    assert!(rt; queue.is_empty() && !queue.contains(&3));
-    Ok(())
-}
-
-#[test]
-fn the_keys_behind_are_cut_first(rt: HostRuntime) -> Result<(), NoMemory> {
-    let mut queue = queue_of(rt.alloc(), &[6, 5, 3, 8], &[9, 1])?;
-    queue.truncate(4);
-    assert!(rt; queue.len() == 4 && queue.contains(&9) && !queue.contains(&1));
-    queue.truncate(2);
-    assert_eq!(rt;
-        all_popped(rt.alloc(), &mut queue)?.as_slice(),
-        [5, 3].as_slice()
-    );
+fn keys_stand_as_they_came(rt: HostRuntime) -> Result<(), NoMemory> {
+    let mut number = 0_usize;
+    for row in ROWS {
+        assert!(rt; is_right_anew(rt.alloc(), row)?, "row {number}");
+        number = number.saturating_add(1);
+    }
     Ok(())
 }

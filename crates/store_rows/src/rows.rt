@@ -1,10 +1,14 @@
 //! A store from its first object on, where memory is ample.
+//!
+//! Each function here is proved: a store, a put and an event are let go by a call of `drop` in one place, and what can fail before takes
+//! them by reference.
 
 use kube_events::read_event;
 use kube_model::{Event, Key, Kind, Object, Record, Text};
 use mlb_base::{NoMemory, Sequence};
 use status_store::{Edit, Outcome, Put, PutReply, Store, Stored};
 use std::alloc::Global;
+use std::process::Abort;
 use std::test::Fail;
 
 #[derive(Clone, Copy)]
@@ -94,20 +98,32 @@ fn key(alloc: Global, namespace: &str, name: &str) -> Result<Key, NoMemory> {
     })
 }
 
-fn put(alloc: Global, name: &str, version: u64) -> Result<Put, NoMemory> {
-    Ok(Put {
-        key: key(alloc, "d", name)?,
-        version,
-        holding: Record {
-            addresses: Sequence::new(alloc),
-            pool: Text::new(alloc, "p")?,
-            mark: Text::new(alloc, "")?,
-        },
+fn record(alloc: Global) -> Result<Record, NoMemory> {
+    Ok(Record {
+        pool: Text::new(alloc, "p")?,
+        mark: Text::new(alloc, "")?,
+        addresses: Sequence::new(alloc),
     })
+}
+
+fn put(alloc: Global, name: &str, version: u64) -> Result<Put, NoMemory> {
+    let key = key(alloc, "d", name)?;
+    match record(alloc) {
+        Ok(holding) => Ok(Put {
+            key,
+            version,
+            holding,
+        }),
+        Err(NoMemory) => {
+            drop(key);
+            Err(NoMemory)
+        }
+    }
 }
 
 fn edited(store: &mut Store, edit: Edit) -> Result<&'static str, NoMemory> {
     if store.counter() == u64::MAX {
+        drop(edit);
         return Ok("full");
     }
     Ok(if store.edit(edit)? { "true" } else { "false" })
@@ -125,21 +141,35 @@ fn written(store: &mut Store, put: &Put, outcome: Outcome) -> Result<&'static st
     })
 }
 
+fn set(alloc: Global, store: &mut Store, line: &str) -> Result<&'static str, Fail> {
+    match read_event(alloc, line.as_bytes())? {
+        Event::Changed { object, .. } => Ok(edited(store, Edit::Set { object })?),
+        other => {
+            drop(other);
+            Ok("no object")
+        }
+    }
+}
+
+fn put_at(
+    alloc: Global,
+    store: &mut Store,
+    (name, version, outcome): (&str, u64, Outcome),
+) -> Result<&'static str, NoMemory> {
+    let put = put(alloc, name, version)?;
+    let reply = written(store, &put, outcome);
+    drop(put);
+    reply
+}
+
 fn answer(alloc: Global, store: &mut Store, step: Step) -> Result<&'static str, Fail> {
     match step {
-        Step::Set(line) => match read_event(alloc, line.as_bytes())? {
-            Event::Changed { object, .. } => Ok(edited(store, Edit::Set { object })?),
-            _ => Ok("no object"),
-        },
+        Step::Set(line) => set(alloc, store, line),
         Step::Delete(kind, namespace, name) => {
             let key = key(alloc, namespace, name)?;
             Ok(edited(store, Edit::Delete { kind, key })?)
         }
-        Step::Put(name, version, outcome) => Ok(written(
-            store,
-            &put(alloc, name, version)?,
-            outcome,
-        )?),
+        Step::Put(name, version, outcome) => Ok(put_at(alloc, store, (name, version, outcome))?),
     }
 }
 
@@ -164,21 +194,39 @@ fn listed(alloc: Global, store: &Store) -> Result<String, NoMemory> {
     Ok(text)
 }
 
+fn has_list(alloc: Global, store: &Store, stored: &str) -> Result<bool, NoMemory> {
+    let list = listed(alloc, store)?;
+    let is_same = list.as_str() == stored;
+    drop(list);
+    Ok(is_same)
+}
+
+/// Whether the step is answered so, and leaves this.
+fn is_right(
+    alloc: Global,
+    store: &mut Store,
+    (step, answered, stored): (Step, &str, &str),
+) -> Result<bool, Fail> {
+    let answer = answer(alloc, store, step)?;
+    Ok(answer == answered && has_list(alloc, store, stored)?)
+}
+
+fn check_rows(rt: &impl Abort, alloc: Global, store: &mut Store) -> Result<(), Fail> {
+    let mut number = 0_usize;
+    for row in ROWS {
+        assert!(rt; is_right(alloc, store, row)?, "row {number}");
+        number = number.saturating_add(1);
+    }
+    Ok(())
+}
+
 #[test]
 fn a_store_keeps_what_is_set_and_put(rt: HostRuntime) -> Result<(), Fail> {
     let mut store = Store::new(rt.alloc());
-    for (number, (step, answered, stored)) in ROWS.into_iter().enumerate() {
-        assert_eq!(rt;
-            answer(rt.alloc(), &mut store, step)?,
-            answered,
-            "row {number}"
-        );
-        assert_eq!(rt;
-            listed(rt.alloc(), &store)?.as_str(),
-            stored,
-            "row {number}"
-        );
-    }
-    assert_eq!(rt; store.counter(), 10);
+    let checked = check_rows(&rt, rt.alloc(), &mut store);
+    let counter = store.counter();
+    drop(store);
+    checked?;
+    assert_eq!(rt; counter, 10);
     Ok(())
 }

@@ -15,20 +15,29 @@ mod told;
 mod words;
 
 use anyhow::Result;
+use std::io::Input;
+use std::mem;
 use tables::Tables;
 
-fn main(rt: HostRuntime) -> Result<()> {
-    let alloc = rt.alloc();
-    let mut tables = Tables::new(alloc);
-    for line in rt.lines(alloc) {
-        let line = line?;
-        let line = line.as_str();
-        if line.starts_with('#') {
-            println!(rt; "{line}")?;
-            tables = Tables::new(alloc);
-        } else {
-            tables = told::answer(&rt, tables, line)?;
-        }
+fn take(rt: &(impl Print + AllocGlobal), tables: &mut Tables, line: &str) -> Result<()> {
+    if line.starts_with('#') {
+        drop(mem::replace(tables, Tables::new(rt.alloc())));
+        println!(rt; "{line}")?;
+        return Ok(());
+    }
+    told::answer(rt, tables, line)
+}
+
+fn take_lines(rt: &(impl Print + AllocGlobal + Input), tables: &mut Tables) -> Result<()> {
+    for line in rt.lines(rt.alloc()) {
+        take(rt, tables, line?.as_str())?;
     }
     Ok(())
+}
+
+fn main(rt: HostRuntime) -> Result<()> {
+    let mut tables = Tables::new(rt.alloc());
+    let outcome = take_lines(&rt, &mut tables);
+    drop(tables);
+    outcome
 }

@@ -28,6 +28,9 @@ impl Tables {
     {
         let old = self.old.into_table();
         let new = self.new.into_table();
-        updates(alloc, &old, &new, &side.peer, &side.next_hop)
+        let messages = updates(alloc, &old, &new, &side.peer, &side.next_hop);
+        drop(old);
+        drop(new);
+        messages
     }
 }

@@ -1,22 +1,44 @@
 //! What is written of a line.
+ghost use Rattle.std.specs.Prelude.{◌≡◌};
+ghost use Rattle.ip_ranges.specs.declared.family.Family.TheVariants.{V4};
 
+use crate::draft::Draft;
 use crate::many;
 use crate::tables::Tables;
-use crate::words::{route_of, side_of};
+use crate::words::{Side, route_of, side_of};
 use anyhow::{Result, bail};
 use bgp_reading::{UpdateFault, UpdateParts, read_update};
 use bgp_updates::MessageList;
 use ip_ranges::{Address, Prefix, print_address};
+use std::alloc::Global;
+use std::mem;
+
+fn show_message(rt: &(impl Print + AllocGlobal), message: &[u8]) -> Result<()> {
+    let digits = hex::encode(rt.alloc(), message)?;
+    let shown = println!(rt; "{} {digits}", message.len());
+    drop(digits);
+    Ok(shown?)
+}
 
 fn show_messages(rt: &(impl Print + AllocGlobal), messages: &MessageList) -> Result<()> {
     if messages.is_empty() {
         println!(rt; "none")?;
     }
     for message in messages.as_slice() {
-        let digits = hex::encode(rt.alloc(), message.as_slice())?;
-        println!(rt; "{} {digits}", message.len())?;
+        show_message(rt, message.as_slice())?;
     }
     Ok(())
+}
+
+fn show_prefix(rt: &(impl Print + AllocGlobal), prefix: &Prefix) -> Result<()> {
+    let address = Address {
+        family: prefix.family,
+        number: prefix.number,
+    };
+    let address = print_address(rt.alloc(), &address)?;
+    let shown = print!(rt; " {address}/{}", prefix.length);
+    drop(address);
+    Ok(shown?)
 }
 
 /// Writes the prefixes behind their name, and nothing where there are none.
@@ -25,12 +47,7 @@ fn show_prefixes(rt: &(impl Print + AllocGlobal), name: &str, prefixes: &[Prefix
         print!(rt; " {name}")?;
     }
     for prefix in prefixes {
-        let address = Address {
-            family: prefix.family,
-            number: prefix.number,
-        };
-        let address = print_address(rt.alloc(), &address)?;
-        print!(rt; " {address}/{}", prefix.length)?;
+        show_prefix(rt, prefix)?;
     }
     Ok(())
 }
@@ -59,8 +76,18 @@ fn show_parts(rt: &(impl Print + AllocGlobal), parts: &UpdateParts) -> Result<()
 
 fn read(rt: &(impl Print + AllocGlobal), digits: &str) -> Result<()> {
     let message = hex::decode(rt.alloc(), digits.as_bytes())?;
-    match read_update(rt.alloc(), message.as_slice()) {
-        Ok(parts) => show_parts(rt, &parts),
+    let read = read_message(rt, message.as_slice());
+    drop(message);
+    read
+}
+
+fn read_message(rt: &(impl Print + AllocGlobal), message: &[u8]) -> Result<()> {
+    match read_update(rt.alloc(), message) {
+        Ok(parts) => {
+            let shown = show_parts(rt, &parts);
+            drop(parts);
+            shown
+        }
         Err(UpdateFault::NotUpdate) => {
             println!(rt; "no update")?;
             Ok(())
@@ -69,15 +96,26 @@ fn read(rt: &(impl Print + AllocGlobal), digits: &str) -> Result<()> {
     }
 }
 
+/// Adds the route, and answers whether it comes last.
+fn add_to(
+    alloc: Global,
+    draft: &mut Draft,
+    prefix: &str,
+    preference: &str,
+    communities: &[&str],
+) -> Result<bool> {
+    let route = route_of(alloc, prefix, preference, communities)?;
+    Ok(draft.add(route)?)
+}
+
 /// Adds the route to the table of the name.
 fn add(rt: &(impl Print + AllocGlobal), tables: &mut Tables, words: &[&str]) -> Result<()> {
     let [name, prefix, preference, communities @ ..] = words else {
         bail!("no route");
     };
-    let route = route_of(rt.alloc(), prefix, preference, communities)?;
     let comes_last = match *name {
-        "old" => tables.old.add(route)?,
-        "new" => tables.new.add(route)?,
+        "old" => add_to(rt.alloc(), &mut tables.old, prefix, preference, communities)?,
+        "new" => add_to(rt.alloc(), &mut tables.new, prefix, preference, communities)?,
         _ => bail!("no table: {name}"),
     };
     if !comes_last {
@@ -86,22 +124,44 @@ fn add(rt: &(impl Print + AllocGlobal), tables: &mut Tables, words: &[&str]) -> 
     Ok(())
 }
 
-/// Writes what the line asks for, and answers the tables that follow.
-pub fn answer(rt: &(impl Print + AllocGlobal), mut tables: Tables, line: &str) -> Result<Tables> {
-    let alloc = rt.alloc();
-    let words: Vec<&str> = line.split_whitespace().collect(alloc)?;
-    match words.as_slice() {
-        ["read", digits] => read(rt, digits)?,
+/// Writes the messages between the tables, which are begun anew.
+fn update(rt: &(impl Print + AllocGlobal), tables: &mut Tables, side: &Side) -> Result<()>
+    requires { side.now.next_hop.family ≡ V4 }
+{
+    let ended = mem::replace(tables, Tables::new(rt.alloc()));
+    let messages = ended.messages(rt.alloc(), side)?;
+    let shown = show_messages(rt, &messages);
+    drop(messages);
+    shown
+}
+
+fn answer_words(
+    rt: &(impl Print + AllocGlobal),
+    tables: &mut Tables,
+    words: &[&str],
+) -> Result<()> {
+    match words {
+        ["read", digits] => read(rt, digits),
         ["updates", my_asn, peer_asn, next_hop] => {
-            let side = side_of(alloc, my_asn, peer_asn, next_hop)?;
-            show_messages(rt, &tables.messages(alloc, &side)?)?;
-            return Ok(Tables::new(alloc));
+            let side = side_of(rt.alloc(), my_asn, peer_asn, next_hop)?;
+            let updated = update(rt, tables, &side);
+            drop(side);
+            updated
         }
         ["many", count, groups, my_asn, peer_asn, next_hop] => {
-            let side = side_of(alloc, my_asn, peer_asn, next_hop)?;
-            many::show(rt, count, groups, &side)?;
+            let side = side_of(rt.alloc(), my_asn, peer_asn, next_hop)?;
+            let shown = many::show(rt, count, groups, &side);
+            drop(side);
+            shown
         }
-        route => add(rt, &mut tables, route)?,
+        route => add(rt, tables, route),
     }
-    Ok(tables)
+}
+
+/// Writes what the line asks for.
+pub fn answer(rt: &(impl Print + AllocGlobal), tables: &mut Tables, line: &str) -> Result<()> {
+    let words: Vec<&str> = line.split_whitespace().collect(rt.alloc())?;
+    let answered = answer_words(rt, tables, words.as_slice());
+    drop(words);
+    answered
 }

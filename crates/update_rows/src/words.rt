@@ -43,8 +43,7 @@ fn preference_of(word: &str) -> Result<Option<u32>> {
     Ok(Some(word.parse::<u32>()?))
 }
 
-fn communities_of(alloc: Global, words: &[&str]) -> Result<CommunityNumbers> {
-    let mut numbers = BTreeSet::new(alloc);
+fn read_numbers(words: &[&str], numbers: &mut BTreeSet<u32>) -> Result<()> {
     for word in words {
         match read_number(word) {
             Some(number) => {
@@ -53,7 +52,21 @@ fn communities_of(alloc: Global, words: &[&str]) -> Result<CommunityNumbers> {
             None => bail!("no community: {word}"),
         }
     }
-    Ok(numbers_from(alloc, &numbers)?)
+    Ok(())
+}
+
+fn numbers_of(alloc: Global, numbers: &BTreeSet<u32>) -> Result<CommunityNumbers> {
+    Ok(numbers_from(alloc, numbers)?)
+}
+
+fn communities_of(alloc: Global, words: &[&str]) -> Result<CommunityNumbers> {
+    let mut numbers = BTreeSet::new(alloc);
+    let made = match read_numbers(words, &mut numbers) {
+        Ok(()) => numbers_of(alloc, &numbers),
+        Err(error) => Err(error),
+    };
+    drop(numbers);
+    made
 }
 
 /// The route of a prefix, a preference and at most 512 communities.
@@ -70,6 +83,7 @@ pub fn route_of(
     let preference = preference_of(preference)?;
     let communities = communities_of(alloc, communities)?;
     if communities.as_slice().len() > 512 {
+        drop(communities);
         bail!("more than 512 communities");
     }
     Ok(Route {
@@ -91,10 +105,12 @@ pub fn side_of(alloc: Global, my_asn: &str, peer_asn: &str, next_hop: &str) -> R
     ensures { IfOk result (λ side. side.next_hop.family ≡ V4) }
 {
     let next_hop = address_of(next_hop)?;
+    let my_asn = my_asn.parse::<u32>()?;
+    let peer_asn = peer_asn.parse::<u32>()?;
     let peer = CompiledPeer {
         name: Text::new(alloc, "peer")?,
-        my_asn: my_asn.parse::<u32>()?,
-        peer_asn: peer_asn.parse::<u32>()?,
+        my_asn,
+        peer_asn,
         node_selectors: Sequence::new(alloc),
     };
     Ok(Side { peer, next_hop })

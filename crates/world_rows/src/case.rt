@@ -44,8 +44,7 @@ impl Case {
 
     fn begin(&mut self) -> Result<String, NoMemory> {
         let world = world_of(self.alloc, &self.objects)?;
-        let earlier = self.world.replace(world);
-        drop(earlier);
+        drop(self.world.replace(world));
         Ok(String::new(self.alloc))
     }
 

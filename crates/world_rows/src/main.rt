@@ -19,20 +19,23 @@ use std::{io, mem};
 
 fn written(alloc: Global, case: &mut Case, line: &str) -> Result<String, NoMemory> {
     if line.as_bytes().starts_with(b"#") {
-        let earlier = mem::replace(case, Case::new(alloc));
-        drop(earlier);
+        drop(mem::replace(case, Case::new(alloc)));
         return Ok(format!(in alloc; "{line}\n")?);
     }
     case.take(line)
 }
 
+fn take_line(rt: &impl Print, alloc: Global, case: &mut Case, line: &str) -> io::Result<()> {
+    match written(alloc, case, line) {
+        Ok(text) => print!(rt; "{text}"),
+        Err(_) => println!(rt; "out of memory"),
+    }
+}
+
 /// The case is dropped in one place: each way out of a function that holds one would drop it anew.
 fn take_lines(rt: &(impl Print + Input), alloc: Global, case: &mut Case) -> io::Result<()> {
     for line in rt.lines(alloc) {
-        match written(alloc, case, line?.as_str()) {
-            Ok(text) => print!(rt; "{text}")?,
-            Err(_) => println!(rt; "out of memory")?,
-        }
+        take_line(rt, alloc, case, line?.as_str())?;
     }
     Ok(())
 }

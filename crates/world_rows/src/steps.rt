@@ -10,8 +10,15 @@ use std::alloc::Global;
 fn event_of(alloc: Global, line: &str) -> Result<Option<Event>, NoMemory> {
     match read_event(alloc, line.as_bytes()) {
         Ok(event) => Ok(Some(event)),
-        Err(EventFault::NoMemory) => Err(NoMemory),
-        Err(_) => Ok(None),
+        Err(fault) => {
+            let lacks_memory = matches!(fault, EventFault::NoMemory);
+            drop(fault);
+            if lacks_memory {
+                Err(NoMemory)
+            } else {
+                Ok(None)
+            }
+        }
     }
 }
 
@@ -19,18 +26,16 @@ fn edit_of(event: Event) -> Option<Edit> {
     match event {
         Event::Changed { object, .. } => Some(Edit::Set { object }),
         Event::Deleted { kind, key } => Some(Edit::Delete { kind, key }),
-        _ => None,
+        other => {
+            drop(other);
+            None
+        }
     }
 }
 
 fn edit_step(alloc: Global, line: &str) -> Result<Option<Step>, NoMemory> {
-    match event_of(alloc, line)? {
-        None => Ok(None),
-        Some(event) => match edit_of(event) {
-            None => Ok(None),
-            Some(edit) => Ok(Some(Step::Edit { edit })),
-        },
-    }
+    let edit = event_of(alloc, line)?.and_then(edit_of);
+    Ok(edit.map(|edit| Step::Edit { edit }))
 }
 
 fn group_of(word: &str) -> Option<Group> {
@@ -82,22 +87,44 @@ pub fn step_of(alloc: Global, line: &str) -> Result<Option<Step>, NoMemory> {
     }
 }
 
-fn object_of(alloc: Global, line: &str) -> Result<Option<Object>, NoMemory> {
-    match event_of(alloc, line)? {
-        Some(Event::Changed { object, .. }) => Ok(Some(object)),
-        _ => Ok(None),
+fn object_of(event: Event) -> Option<Object> {
+    match event {
+        Event::Changed { object, .. } => Some(object),
+        other => {
+            drop(other);
+            None
+        }
     }
+}
+
+fn read_object(alloc: Global, line: &Text, objects: &mut Sequence<Object>) -> Result<(), NoMemory> {
+    match event_of(alloc, line.as_str())?.and_then(object_of) {
+        None => Ok(()),
+        Some(object) => objects.push(object),
+    }
+}
+
+fn read_objects(
+    alloc: Global,
+    lines: &[Text],
+    objects: &mut Sequence<Object>,
+) -> Result<(), NoMemory> {
+    for line in lines {
+        read_object(alloc, line, objects)?;
+    }
+    Ok(())
 }
 
 /// A new world of the objects that these lines show.
 pub fn world_of(alloc: Global, lines: &[Text]) -> Result<World, NoMemory> {
     let mut objects = Sequence::new(alloc);
-    for line in lines {
-        if let Some(object) = object_of(alloc, line.as_str())? {
-            objects.push(object)?;
+    match read_objects(alloc, lines, &mut objects) {
+        Ok(()) => World::new(alloc, objects, None),
+        Err(NoMemory) => {
+            drop(objects);
+            Err(NoMemory)
         }
     }
-    World::new(alloc, objects, None)
 }
 
 /// Makes the step that the line says; one that isn't made is answered with its fault.

@@ -53,14 +53,22 @@ fn core_of(world: &World) -> Option<&Core> {
     world.core()
 }
 
-/// What the controller holds of the service of this name in the namespace `default`.
-pub fn held_text(alloc: Global, world: &World, name: &str) -> Result<String, NoMemory> {
-    let key = Key {
+fn key_of(alloc: Global, name: &str) -> Result<Key, NoMemory> {
+    Ok(Key {
         namespace: Text::new(alloc, "default")?,
         name: Text::new(alloc, name)?,
-    };
+    })
+}
+
+/// What the controller holds of the service of this name in the namespace `default`.
+pub fn held_text(alloc: Global, world: &World, name: &str) -> Result<String, NoMemory> {
     match core_of(world) {
         None => Ok(String::from_str(alloc, "down")?),
-        Some(core) => record_text(alloc, core, &key),
+        Some(core) => {
+            let key = key_of(alloc, name)?;
+            let text = record_text(alloc, core, &key);
+            drop(key);
+            text
+        }
     }
 }

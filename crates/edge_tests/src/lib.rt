@@ -6,4 +6,6 @@ mod devices;
 #[cfg(test)]
 mod faults;
 #[cfg(test)]
+mod files;
+#[cfg(test)]
 mod lines;

@@ -1,60 +1,134 @@
 //! Lines read from a source, and the limit of a line.
+//!
+//! Each function here is proved: sources and readers are let go by a call of `drop` in one place, and what can fail before takes them by
+//! reference.
+ghost use Rattle.std.specs.Prelude.{◌<◌};
 
-use mlb_edge::{LINE_LIMIT, LineEnd, LineReader, MemSource, SafeSource, Source};
+use mlb_edge::{LINE_LIMIT, Line, LineEnd, LineReader, MemSource, SafeSource, Source};
 use std::alloc::Global;
 use std::process::Abort;
 use std::test::Fail;
+
+/// What the next line is to be.
+#[derive(Clone, Copy)]
+pub enum Next {
+    /// A line of this number and these bytes.
+    Found(u64, &'static str),
+    /// None is left.
+    End,
+    ReadFault,
+    /// The line of this number is too long.
+    LineLimit(u64),
+}
 
 pub fn bytes_of(alloc: Global, text: &str) -> Result<Vec<u8>, Fail> {
     Ok(Vec::from_slice(alloc, text.as_bytes())?)
 }
 
-/// Reads one line, which must have this number and these bytes.
-pub fn check_line<S: Source>(
+fn is_next(found: &Result<Option<Line>, LineEnd>, next: Next) -> bool {
+    match (found, next) {
+        (Ok(Some(line)), Next::Found(number, text)) => {
+            line.number == number && line.bytes.as_slice() == text.as_bytes()
+        }
+        (Ok(None), Next::End) => true,
+        (Err(LineEnd::ReadFault), Next::ReadFault) => true,
+        (Err(LineEnd::LineLimit { number }), Next::LineLimit(wanted)) => *number == wanted,
+        _ => false,
+    }
+}
+
+/// Reads on, and must find this.
+pub fn check_reads<S: Source>(
     rt: &impl Abort,
     reader: &mut LineReader,
     source: &mut S,
-    number: u64,
-    text: &str,
+    reads: &[Next],
+) {
+    for (place, next) in reads.iter().enumerate() {
+        let found = reader.next_line(source);
+        let is_found = is_next(&found, *next);
+        drop(found);
+        assert!(rt; is_found, "read {place}");
+    }
+}
+
+/// The same from the source's beginning on.
+pub fn check_source<S: Source>(
+    rt: &impl Abort,
+    alloc: Global,
+    source: &mut S,
+    reads: &[Next],
 ) -> Result<(), Fail> {
-    let line = reader.next_line(source)?.ok_or("no line is left")?;
-    assert_eq!(rt; line.number, number);
-    assert_eq!(rt; line.bytes.as_slice(), text.as_bytes());
+    let mut reader = LineReader::new(alloc)?;
+    check_reads(rt, &mut reader, source, reads);
+    drop(reader);
     Ok(())
 }
 
 #[test]
 fn blank_lines_are_passed_over_and_counted(rt: HostRuntime) -> Result<(), Fail> {
-    let alloc = rt.alloc();
-    let mut source = SafeSource::new(bytes_of(alloc, "a\n \t\r\n\n b\r\nc")?);
-    let mut reader = LineReader::new(alloc)?;
-    check_line(&rt, &mut reader, &mut source, 1, "a")?;
-    check_line(&rt, &mut reader, &mut source, 4, " b\r")?;
-    check_line(&rt, &mut reader, &mut source, 5, "c")?;
-    assert!(rt; reader.next_line(&mut source)?.is_none());
-    Ok(())
+    let text = "a\n \t\r\n\n b\r\nc";
+    let mut source = SafeSource::new(bytes_of(rt.alloc(), text)?);
+    let reads = [
+        Next::Found(1, "a"),
+        Next::Found(4, " b\r"),
+        Next::Found(5, "c"),
+        Next::End,
+    ];
+    let checked = check_source(&rt, rt.alloc(), &mut source, &reads);
+    drop(source);
+    checked
+}
+
+/// A source that gives pieces of at most this size, and whose second read fails.
+pub fn failing_source(alloc: Global, text: &str, piece: usize) -> Result<MemSource, Fail>
+    requires { 0 < piece }
+{
+    let bytes = bytes_of(alloc, text)?;
+    match vec![in alloc; 2] {
+        Ok(failing) => Ok(MemSource::new(bytes, piece, failing)),
+        Err(refused) => {
+            drop(bytes);
+            Err(refused)?
+        }
+    }
 }
 
 /// A reader that read on although it holds a line would fail at the second read.
 #[test]
 fn a_line_is_given_before_the_next_read(rt: HostRuntime) -> Result<(), Fail> {
-    let alloc = rt.alloc();
-    let failing = vec![in alloc; 2]?;
-    let mut source = MemSource::new(bytes_of(alloc, "\na\nb")?, 4, failing);
+    let mut source = failing_source(rt.alloc(), "\na\nb", 4)?;
+    let checked = check_source(&rt, rt.alloc(), &mut source, &[Next::Found(2, "a")]);
+    let has_failed = source.has_failed();
+    drop(source);
+    assert!(rt; !has_failed);
+    checked
+}
+
+/// The length of the next line.
+fn length_of(alloc: Global, source: &mut MemSource) -> Result<Option<usize>, Fail> {
     let mut reader = LineReader::new(alloc)?;
-    check_line(&rt, &mut reader, &mut source, 2, "a")?;
-    assert!(rt; !source.has_failed());
-    Ok(())
+    let found = reader.next_line(source);
+    drop(reader);
+    match found? {
+        Some(line) => {
+            let length = line.bytes.len();
+            drop(line);
+            Ok(Some(length))
+        }
+        None => Ok(None),
+    }
 }
 
 /// A reader that looked at each byte again after each read would take hours.
 #[test]
 fn a_long_line_comes_in_single_bytes(rt: HostRuntime) -> Result<(), Fail> {
     let alloc = rt.alloc();
-    let mut source = MemSource::new(vec![in alloc; b'x'; LINE_LIMIT]?, 1, Vec::new(alloc));
-    let mut reader = LineReader::new(alloc)?;
-    let line = reader.next_line(&mut source)?.ok_or("no line is left")?;
-    assert_eq!(rt; line.bytes.len(), LINE_LIMIT);
+    let bytes = vec![in alloc; b'x'; LINE_LIMIT]?;
+    let mut source = MemSource::new(bytes, 1, Vec::new(alloc));
+    let length = length_of(alloc, &mut source);
+    drop(source);
+    assert_eq!(rt; length?, Some(LINE_LIMIT));
     Ok(())
 }
 
@@ -62,12 +136,7 @@ fn a_long_line_comes_in_single_bytes(rt: HostRuntime) -> Result<(), Fail> {
 fn a_line_past_the_limit_is_refused(rt: HostRuntime) -> Result<(), Fail> {
     let alloc = rt.alloc();
     let mut source = SafeSource::new(vec![in alloc; b' '; LINE_LIMIT + 1]?);
-    let mut reader = LineReader::new(alloc)?;
-    assert!(rt;
-        matches!(
-            reader.next_line(&mut source),
-            Err(LineEnd::LineLimit { number: 1 })
-        )
-    );
-    Ok(())
+    let checked = check_source(&rt, alloc, &mut source, &[Next::LineLimit(1)]);
+    drop(source);
+    checked
 }

@@ -3,7 +3,6 @@ use Rattle.std.proofs.Common.{◌≡◌, ◌≢◌, ◌⊎◌, inl, inr, ℕ, �
 use Rattle.std.specs.Bool.{⊤}
 use Rattle.std.specs.List.{flat_map}
 use Rattle.std.proofs.lemmas.List.{append-nil}
-use Rattle.std.proofs.lemmas.List.Elements.{filter-append}
 use Rattle.kube_model.specs.declared.event.Event.{Event}
 use Rattle.kube_model.specs.declared.put.Put.{Put}
 use Rattle.kube_model.specs.declared.status.LaneName.{LaneName}
@@ -13,11 +12,13 @@ use Rattle.kube_model.specs.declared.status.Status.TheVariants as statuses
 use Rattle.lane_mail.specs.declared.lane.Lane.{Lane}
 use Rattle.lane_mail.specs.declared.lane.Lane.TheVariants.{First, Second}
 use Rattle.lane_mail.specs.declared.item.Item.{Item}
-use Rattle.lane_mail.specs.Lanes.{is_lane, item_lane, items_of}
+use Rattle.lane_mail.specs.Lanes.{items_of}
 use Rattle.lane_run.specs.declared.lane_end.LaneEnd.{LaneEnd}
 use Rattle.lane_run.specs.declared.lane_end.LaneEnd.TheVariants.{Done, ReadFault, LineLimit, InputLimit, BadLine, NoMemory}
 use Rattle.lane_run.specs.Views.{SourceView, Outside}
-use Rattle.lane_run.specs.Watched.{Begins, Sends}
+use Rattle.lane_run.specs.Ran.{LanesEnded}
+use Rattle.lane_run.specs.Watched.{Sends}
+use Rattle.lane_run.proofs.RanSo.{begins_part}
 use Rattle.line_run.specs.declared.halt.Halt.{Halt}
 use Rattle.line_run.specs.declared.halt.Halt.TheVariants as halts
 use Rattle.line_run.specs.declared.halt.Refusal.{Refusal}
@@ -191,36 +192,29 @@ module _ {S E : Type 0} (belongs : Lane → Event → Bool) (rules : LaneRules S
     upto_stopped status item writes writes' begin begin' quiet' (inl stops) = upto_still begin stops.1
     upto_stopped status item writes writes' begin begin' quiet' (inr (halt, is, h)) = upto_unwritten halt item writes writes' begin begin' quiet' h
 
-  -- the items before the last one
-  begins_less : (lane : Lane) (left : Option (List ℕ)) (items : List Item) (item : Item) → Begins belongs lane left (items_of lane (items ++ item ∷ [])) → Begins belongs lane left (items_of lane items)
-  begins_less lane left items item b =
-      let last = items_of lane (item ∷ []) in
-      record {
-        input = b.input;
-        is = b.is;
-        begins = (
-          last ++ b.begins.0,
-          b.begins.1 ∙ (ap (λ (l : List Item). l ++ b.begins.0) (filter-append (λ x. is_lane lane (item_lane x)) items (item ∷ [])) ∙ append_assoc (items_of lane items) last b.begins.0),
-        );
-      }
-
-  begins_before : (first second : Option (List ℕ)) (items : List Item) (item : Item) → AreBeginnings belongs first second (items ++ item ∷ []) → AreBeginnings belongs first second items
-  begins_before first second items item begin = record { firsts = begins_less First first items item begin.firsts; seconds = begins_less Second second items item begin.seconds }
+  -- a beginning of what both lanes sent
+  pub begins_of : (first first' second second' : SourceView) (sent part rest : List Item) (end end' : LaneEnd) → LanesEnded belongs first first' second second' sent end end' → sent ≡ part ++ rest → AreBeginnings belongs first.left second.left part
+  begins_of first first' second second' sent part rest end end' lanes split = record {
+    firsts = begins_part belongs First first.left sent part rest split lanes.first_ended.begins;
+    seconds = begins_part belongs Second second.left sent part rest split lanes.second_ended.begins;
+  }
 
   -- what both lanes sent
-  begins_all : (first first' second second' : SourceView) (before mid : Outside) (end end' : LaneEnd) (all : TakesAll belongs rules start first first' second second' before mid end end') → AreBeginnings belongs first.left second.left all.items
-  begins_all first first' second second' before mid end end' all = record { firsts = all.first_ended.begins; seconds = all.second_ended.begins }
+  begins_all : (first first' second second' : SourceView) (sent : List Item) (end end' : LaneEnd) → LanesEnded belongs first first' second second' sent end end' → AreBeginnings belongs first.left second.left sent
+  begins_all first first' second second' sent end end' lanes = record { firsts = lanes.first_ended.begins; seconds = lanes.second_ended.begins }
 
   module _ (first first' second second' : SourceView) (before after : Outside) where
     -- however the run ends, a beginning of the text of some items was written
     pub writes_upto : (status : Status) → rules.waits start ≡ false → EndsSo belongs rules start first first' second second' before after status → WritesUpTo belongs rules start first.left second.left (to_come before.reading before.replies.left) before.written after.written
     writes_upto status quiet (inl s) =
-        upto_stopped quiet first.left second.left s.items s.state s.told before s.mid s.drove after.written status s.item s.mid.faults after.faults (begins_before first.left second.left s.items s.item s.begin) s.begin s.quiet s.stops
-    writes_upto status quiet (inr (inl s)) = upto_read quiet first.left second.left s.items s.state s.told before s.mid s.drove after.written status _ _ _ _ _ _ _ s.begin s.stops
+        upto_stopped quiet first.left second.left s.items s.state s.told before s.mid s.drove after.written status s.item s.mid.faults after.faults (begins_of first first' second second' (s.items ++ s.item ∷ s.dropped) s.items (s.item ∷ s.dropped) s.end s.end' s.lanes refl)
+        (begins_of first first' second second' (s.items ++ s.item ∷ s.dropped) (s.items ++ s.item ∷ []) s.dropped s.end s.end' s.lanes (sym (append_assoc s.items (s.item ∷ []) s.dropped))) s.quiet s.stops
+    writes_upto status quiet (inr (inl s)) = upto_read quiet first.left second.left s.items s.state s.told before s.mid s.drove after.written status _ _ _ _ _ _ _
+        (begins_of first first' second second' (s.items ++ s.dropped) s.items s.dropped s.end s.end' s.lanes refl) s.stops
     writes_upto status quiet (inr (inr (inl s))) =
-        upto_read quiet first.left second.left s.all.items s.all.state s.all.told before s.mid s.all.drove after.written status _ _ _ _ _ _ _ (begins_all first first' second second' before s.mid s.end s.end' s.all) s.stops
+        upto_read quiet first.left second.left s.all.items s.all.state s.all.told before s.mid s.all.drove after.written status _ _ _ _ _ _ _ (begins_all first first' second second' s.all.items s.end s.end' s.all.lanes) s.stops
     writes_upto status quiet (inr (inr (inr (inl s)))) =
-        upto_still quiet first.left second.left s.all.items s.all.state s.all.told before s.mid s.all.drove after.written (begins_all first first' second second' before s.mid s.end s.end' s.all) s.kept
+        upto_still quiet first.left second.left s.all.items s.all.state s.all.told before s.mid s.all.drove after.written (begins_all first first' second second' s.all.items s.end s.end' s.all.lanes) s.kept
     writes_upto status quiet (inr (inr (inr (inr s)))) = s.1
 
     -- all was taken
@@ -229,15 +223,15 @@ module _ {S E : Type 0} (belongs : Lane → Event → Bool) (rules : LaneRules S
     takes_whole fresh s =
         let ends = lanes_done rules.name s.end s.end' s.is in
         let all = s.all in
-        let one : Sends belongs First first first' (items_of First all.items) Done = subst (λ (end : LaneEnd). Sends belongs First first first' (items_of First all.items) end) ends.0 all.first_ended.sends in
-        let two : Sends belongs Second second second' (items_of Second all.items) Done = subst (λ (end : LaneEnd). Sends belongs Second second second' (items_of Second all.items) end) ends.1 all.second_ended.sends in
+        let one : Sends belongs First first first' (items_of First all.items) Done = subst (λ (end : LaneEnd). Sends belongs First first first' (items_of First all.items) end) ends.0 all.lanes.first_ended.sends in
+        let two : Sends belongs Second second second' (items_of Second all.items) Done = subst (λ (end : LaneEnd). Sends belongs Second second second' (items_of Second all.items) end) ends.1 all.lanes.second_ended.sends in
         let comes : Follows (to_come unread before.replies.left) all.drove.replies (to_come s.mid.reading s.mid.replies.left) =
         subst (λ (r : Reading). Follows (to_come r before.replies.left) all.drove.replies (to_come s.mid.reading s.mid.replies.left)) fresh all.drove.comes in
         record {
           items = all.items;
           firsts = one.0;
           seconds = two.0;
-          merge = all.merge;
+          merge = all.lanes.merge;
           heard = all.drove.replies;
           state = all.state;
           told = all.told;
@@ -335,7 +329,7 @@ module _ {S E : Type 0} (belongs : Lane → Event → Bool) (rules : LaneRules S
 
       read_by : (status : Status) (lane : LaneName) → status ≡ statuses.ReadFault lane → EndsAsLanes belongs rules start first first' second second' before after status ⊎ IsIllBy status before.replies.faults after.replies.faults before.faults after.faults
           → ((lane ≡ lanes.Input) × Rose before.replies.faults after.replies.faults) ⊎ (((lane ≡ rules.name First) × Rose first.faults first'.faults) ⊎ ((lane ≡ rules.name Second) × Rose second.faults second'.faults))
-      read_by status lane is (inl s) = inr (lanes_read rules.name belongs first first' second second' (items_of First s.all.items) (items_of Second s.all.items) lane s.end s.end' s.all.first_ended.sends s.all.second_ended.sends (sym is ∙ s.is))
+      read_by status lane is (inl s) = inr (lanes_read rules.name belongs first first' second second' (items_of First s.all.items) (items_of Second s.all.items) lane s.end s.end' s.all.lanes.first_ended.sends s.all.lanes.second_ended.sends (sym is ∙ s.is))
       read_by status lane is (inr ill) = inl (subst (λ (x : Status). IsIllBy x before.replies.faults after.replies.faults before.faults after.faults) is ill)
 
       -- the input or a file wasn't read

@@ -71,7 +71,7 @@ module _ {S E : Type 0} (rules : LaneRules S E) where
     still = λ none. absurd (cc);
   }
 
-  none_heard : (s t : S) (lines : List Line) (entries : List E) → rules.waits s ≡ false → AreHeard rules lines s t entries → (lines ≡ []) × (t ≡ s)
+  pub none_heard : (s t : S) (lines : List Line) (entries : List E) → rules.waits s ≡ false → AreHeard rules lines s t entries → (lines ≡ []) × (t ≡ s)
   none_heard s t [] entries quiet heard = (refl, heard.0)
   none_heard s t (line ∷ lines) entries quiet (next, first, rest, waits, goes, others, is) = absurd (cc)
 

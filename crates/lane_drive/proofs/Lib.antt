@@ -5,3 +5,4 @@ pub mod OverFiles
 pub mod ReadItems
 pub mod Taken
 pub mod Ways
+pub mod Complete

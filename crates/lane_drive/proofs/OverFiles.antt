@@ -11,7 +11,7 @@ use Rattle.kube_model.specs.declared.status.Status.TheVariants as statuses
 use Rattle.lane_mail.specs.declared.item.Item.{Item}
 use Rattle.lane_mail.specs.declared.lane.Lane.{Lane}
 use Rattle.lane_mail.specs.declared.lane.Lane.TheVariants.{First, Second}
-use Rattle.lane_run.specs.Views.{SourceView, Outside, outside, source_view}
+use Rattle.lane_run.specs.Views.{SourceView, Outside, lane_view, outside}
 use Rattle.line_run.specs.Machine.{Stops}
 use Rattle.mlb_edge.specs.Causes.{Rose}
 use Rattle.mlb_edge.specs.Failed.{IsOpened, times, with_closed, with_failed, times-later, Rose-closed}
@@ -52,6 +52,11 @@ second_counted own m0 m1 m2 m3 name name' faults faults' a b c is some =
     let rises : Rose (times own m2) (times own (with_closed m2 name' faults')) = counted own m2 name' faults' is some in
     omega (arith, rises, later, ap (times own) a, ap (times own) b, ap (times own) c)
 
+-- of both inputs it is kept whether their readings failed
+pub kept_so : (own own' : List ℕ) (m0 m1 m2 m3 : List (List ℕ)) (name name' : Option (List ℕ)) (faults faults' : ℕ) → m1 ≡ m0 → m2 ≡ with_closed m1 name faults → m3 ≡ with_closed m2 name' faults' → name ≡ Some own → name' ≡ Some own'
+    → m3 ≡ with_closed (with_closed m0 (Some own) faults) (Some own') faults'
+kept_so own own' m0 m1 m2 m3 name name' faults faults' a b c is is' = rw (c, b, a, is, is') refl
+
 -- an input that wasn't read leaves nothing to keep
 pub unread_closed : {T : Type 0} (closed : Result T MemoryEnd) (names names' : List (List ℕ)) (name : Option (List ℕ)) (faults : ℕ) → OnOk closed (names' ≡ with_closed names name faults) → OnErr closed (names' ≡ names) → faults ≡ 0 → names' ≡ names
 unread_closed (Ok done) names names' name faults ok err none =
@@ -76,14 +81,14 @@ module _ (name : Lane → LaneName) (file file' : List ℕ) (status : Status) (o
   second_failed T NoMemory is failed same = ((λ lane it. absurd (cc)), (λ other. failed))
 
 -- Both inputs were just opened, and the reader has read nothing: what is so of them is so of the bytes of their files.
-pub of_files : (own own' : List ℕ) (bytes bytes' told : Option (List ℕ)) (name left : Option (List ℕ)) (faults : ℕ) (name' left' : Option (List ℕ)) (faults' : ℕ) → IsOpened name left faults own bytes → IsOpened name' left' faults' own' told → told ≡ bytes'
-    → (reader : Reading) → reader ≡ unread → (So : SourceView → SourceView → Reading → Type 0) → So (source_view left name faults) (source_view left' name' faults') reader → So (source_view bytes (Some own) 0) (source_view bytes' (Some own') 0) unread
-of_files own own' bytes bytes' told name left faults name' left' faults' opened opened' same reader fresh So so =
-    let one : source_view left name faults ≡ source_view bytes (Some own) 0 = rw (opened.named, opened.whole, opened.none) refl in
-    let two : source_view left' name' faults' ≡ source_view bytes' (Some own') 0 = rw (opened'.named, opened'.whole, opened'.none, same) refl in
-    let x = subst (λ (v : SourceView). So v (source_view left' name' faults') reader) one so in
-    let y = subst (λ (v : SourceView). So (source_view bytes (Some own) 0) v reader) two x in
-    subst (λ (r : Reading). So (source_view bytes (Some own) 0) (source_view bytes' (Some own') 0) r) fresh y
+pub of_files : (own own' : List ℕ) (bytes bytes' told : Option (List ℕ)) (safe safe' known : Bool) (name left : Option (List ℕ)) (faults : ℕ) (is_safe : Bool) (name' left' : Option (List ℕ)) (faults' : ℕ) (is_safe' : Bool) → IsOpened name left faults is_safe own bytes safe → IsOpened name' left' faults' is_safe' own' told known → told ≡ bytes' → known ≡ safe'
+    → (reader : Reading) → reader ≡ unread → (So : SourceView → SourceView → Reading → Type 0) → So (lane_view left name faults is_safe) (lane_view left' name' faults' is_safe') reader → So (lane_view bytes (Some own) 0 safe) (lane_view bytes' (Some own') 0 safe') unread
+of_files own own' bytes bytes' told safe safe' known name left faults is_safe name' left' faults' is_safe' opened opened' same same' reader fresh So so =
+    let one : lane_view left name faults is_safe ≡ lane_view bytes (Some own) 0 safe = rw (opened.named, opened.whole, opened.none, opened.safety) refl in
+    let two : lane_view left' name' faults' is_safe' ≡ lane_view bytes' (Some own') 0 safe' = rw (opened'.named, opened'.whole, opened'.none, opened'.safety, same, same') refl in
+    let x = subst (λ (v : SourceView). So v (lane_view left' name' faults' is_safe') reader) one so in
+    let y = subst (λ (v : SourceView). So (lane_view bytes (Some own) 0 safe) v reader) two x in
+    subst (λ (r : Reading). So (lane_view bytes (Some own) 0 safe) (lane_view bytes' (Some own') 0 safe') r) fresh y
 
 module _ {S E : Type 0} (belongs : Lane → Event → Bool) (rules : LaneRules S E) (start : S) (quiet : rules.waits start ≡ false) where
   -- nothing was read or written
@@ -94,48 +99,45 @@ module _ {S E : Type 0} (belongs : Lane → Event → Bool) (rules : LaneRules S
     second' = second;
     reading = unread;
     ends = rw is (ends_undriven belongs rules start quiet first first second second (outside unread replies before writes) (outside unread replies before writes) refl);
-    first_told = λ known some. absurd (known is);
-    second_told = λ known some. absurd (known is);
+    kept = λ known. absurd (known is);
   }
 
   -- both inputs were just opened, and the reader has read nothing
-  module _ (own own' : List ℕ) (bytes bytes' told : Option (List ℕ)) (name left : Option (List ℕ)) (faults : ℕ) (name' left' : Option (List ℕ)) (faults' : ℕ) (opened : IsOpened name left faults own bytes) (opened' : IsOpened name' left' faults' own' told) (same : told ≡ bytes')
+  module _ (own own' : List ℕ) (bytes bytes' told : Option (List ℕ)) (safe safe' known : Bool) (name left : Option (List ℕ)) (faults : ℕ) (is_safe : Bool) (name' left' : Option (List ℕ)) (faults' : ℕ) (is_safe' : Bool) (opened : IsOpened name left faults is_safe own bytes safe) (opened' : IsOpened name' left' faults' is_safe' own' told known) (same : told ≡ bytes') (same' : known ≡ safe')
       (reader : Reading) (fresh : reader ≡ unread) (first second replies : SourceView) (before : Option (List ℕ)) (writes : ℕ) (after : Outside) (status : Status)
-      (run : EndsSo belongs rules start (source_view left name faults) first (source_view left' name' faults') second (outside reader replies before writes) after status) where
-    over_files : EndsSo belongs rules start (source_view bytes (Some own) 0) first (source_view bytes' (Some own') 0) second (outside unread replies before writes) after status
-    over_files = of_files own own' bytes bytes' told name left faults name' left' faults' opened opened' same reader fresh
+      (run : EndsSo belongs rules start (lane_view left name faults is_safe) first (lane_view left' name' faults' is_safe') second (outside reader replies before writes) after status) where
+    over_files : EndsSo belongs rules start (lane_view bytes (Some own) 0 safe) first (lane_view bytes' (Some own') 0 safe') second (outside unread replies before writes) after status
+    over_files = of_files own own' bytes bytes' told safe safe' known name left faults is_safe name' left' faults' is_safe' opened opened' same same' reader fresh
         (λ v v' r. EndsSo belongs rules start v first v' second (outside r replies before writes) after status) run
 
-    pub ends_with : (files files' : FilesView) → (first.faults ≢ 0 → Rose (times own files.failed_reads) (times own files'.failed_reads)) → (second.faults ≢ 0 → Rose (times own' files.failed_reads) (times own' files'.failed_reads))
-        → EndsWith belongs rules start own own' files files' (source_view bytes (Some own) 0) (source_view bytes' (Some own') 0) replies after.replies before after.written writes after.faults status
-    ends_with files files' told_first told_second =
-        record { first' = first; second' = second; reading = after.reading; ends = over_files; first_told = λ known. told_first; second_told = λ known. told_second }
+    pub ends_with : (files files' : FilesView) → files'.failed_reads ≡ with_closed (with_closed files.failed_reads (Some own) first.faults) (Some own') second.faults
+        → EndsWith belongs rules start own own' files files' (lane_view bytes (Some own) 0 safe) (lane_view bytes' (Some own') 0 safe') replies after.replies before after.written writes after.faults status
+    ends_with files files' kept = record { first' = first; second' = second; reading = after.reading; ends = over_files; kept = λ known. kept }
 
     pub only : WritesUpTo belongs rules start bytes bytes' (to_come unread replies.left) before after.written
-    only = endings.writes_upto belongs rules start (source_view bytes (Some own) 0) first (source_view bytes' (Some own') 0) second (outside unread replies before writes) after status quiet over_files
+    only = endings.writes_upto belongs rules start (lane_view bytes (Some own) 0 safe) first (lane_view bytes' (Some own') 0 safe') second (outside unread replies before writes) after status quiet over_files
 
     -- that a reading failed isn't kept
     pub ends_unkept : (files files' : FilesView)
-        → EndsWith belongs rules start own own' files files' (source_view bytes (Some own) 0) (source_view bytes' (Some own') 0) replies after.replies before after.written writes after.faults statuses.NoMemory
+        → EndsWith belongs rules start own own' files files' (lane_view bytes (Some own) 0 safe) (lane_view bytes' (Some own') 0 safe') replies after.replies before after.written writes after.faults statuses.NoMemory
     ends_unkept files files' = record {
       first' = first;
       second' = second;
       reading = after.reading;
       ends = inr (inr (inr (inr (refl, only))));
-      first_told = λ known some. absurd (known refl);
-      second_told = λ known some. absurd (known refl);
+      kept = λ known. absurd (known refl);
     }
 
     module _ (items_stop : (s : S) (item : Item) (status' : Status) → rules.take s item ≡ Stops status' → IsHeldLimit status') (replies_stop : (s : S) (line : Line) (status' : Status) → rules.waits s ≡ true → rules.hear s line ≡ Stops status' → (status' ≡ statuses.BadReply line.number line.bytes) ⊎ IsHeldLimit status')
         (puts : (s : S) → rules.waits s ≡ true → (put : Put) × (rules.unanswered s ≡ statuses.NoReply put)) where
       pub done : status ≡ statuses.Done → TakesWhole belongs rules start bytes bytes' replies.left after.replies.left before after.written
-      done = endings.done_whole belongs rules start (source_view bytes (Some own) 0) first (source_view bytes' (Some own') 0) second (outside unread replies before writes) after items_stop replies_stop puts status refl over_files
+      done = endings.done_whole belongs rules start (lane_view bytes (Some own) 0 safe) first (lane_view bytes' (Some own') 0 safe') second (outside unread replies before writes) after items_stop replies_stop puts status refl over_files
 
       pub write_fault : status ≡ statuses.WriteFault → Rose writes after.faults
-      write_fault = endings.write_fault belongs rules start (source_view bytes (Some own) 0) first (source_view bytes' (Some own') 0) second (outside unread replies before writes) after items_stop replies_stop puts status over_files
+      write_fault = endings.write_fault belongs rules start (lane_view bytes (Some own) 0 safe) first (lane_view bytes' (Some own') 0 safe') second (outside unread replies before writes) after items_stop replies_stop puts status over_files
 
       pub no_open_fault : (lane : LaneName) → status ≢ statuses.OpenFault lane
-      no_open_fault = endings.no_open_fault belongs rules start (source_view bytes (Some own) 0) first (source_view bytes' (Some own') 0) second (outside unread replies before writes) after items_stop replies_stop puts status over_files
+      no_open_fault = endings.no_open_fault belongs rules start (lane_view bytes (Some own) 0 safe) first (lane_view bytes' (Some own') 0 safe') second (outside unread replies before writes) after items_stop replies_stop puts status over_files
 
       by_lane : (names names' : List (List ℕ)) → (first.faults ≢ 0 → Rose (times own names) (times own names')) → (second.faults ≢ 0 → Rose (times own' names) (times own' names')) → (lane : LaneName)
           → ((lane ≡ lanes.Input) × Rose replies.faults after.replies.faults) ⊎ (((lane ≡ rules.name First) × Rose 0 first.faults) ⊎ ((lane ≡ rules.name Second) × Rose 0 second.faults))
@@ -148,4 +150,4 @@ module _ {S E : Type 0} (belongs : Lane → Event → Bool) (rules : LaneRules S
           → ((lane ≡ lanes.Input) × Rose replies.faults after.replies.faults) ⊎ (RoseFor lane (rules.name First) own names names' ⊎ RoseFor lane (rules.name Second) own' names names')
       read_fault names names' rise rise' lane is =
           by_lane names names' rise rise' lane
-          (endings.read_fault belongs rules start (source_view bytes (Some own) 0) first (source_view bytes' (Some own') 0) second (outside unread replies before writes) after items_stop replies_stop puts status over_files lane is)
+          (endings.read_fault belongs rules start (lane_view bytes (Some own) 0 safe) first (lane_view bytes' (Some own') 0 safe') second (outside unread replies before writes) after items_stop replies_stop puts status over_files lane is)

@@ -1,18 +1,18 @@
 -- Items that are taken, with the replies behind each.
-use Rattle.std.proofs.Common.{◌≡◌, inl, inr, ℕ, ◌≤◌, true, false, List, [], ◌∷◌, ◌++◌, refl, sym, ap, ◌∙◌, subst, arith, append_assoc}
+use Rattle.std.proofs.Common.{◌≡◌, inl, inr, ℕ, ◌≤◌, true, false, List, [], ◌∷◌, ◌++◌, Option, refl, sym, ap, ◌∙◌, subst, arith, append_assoc}
 use Rattle.std.specs.List.{flat_map}
 use Rattle.std.proofs.lemmas.Grind.{flat_map-append}
 use Rattle.std.proofs.lemmas.List.{append-nil}
 use Rattle.kube_model.specs.declared.status.Status.{Status}
 use Rattle.lane_mail.specs.declared.item.Item.{Item}
-use Rattle.lane_run.specs.Reconciled.{AreDriven, AsksIn}
+use Rattle.lane_run.specs.Reconciled.{AreDriven, AsksIn, HasDriven}
 use Rattle.lane_run.specs.Views.{SourceView, Outside}
 use Rattle.line_run.specs.Ended.{status_of_refusal}
 use Rattle.line_run.specs.Machine.{Goes}
 use Rattle.line_run.specs.Text.{line_of}
 use Rattle.line_run.specs.declared.halt.Refusal.{Refusal}
 use Rattle.kube_lines.specs.OutputLines.{took_text}
-use Rattle.lane_drive.specs.Asking.{AwaitsMore, AwaitsReply, AsksFor}
+use Rattle.lane_drive.specs.Asking.{AnswersAll, AwaitsMore, AwaitsReply, AsksFor}
 use Rattle.lane_drive.specs.LaneRules.{LaneRules, item_text, TakesItem, RefusesItem}
 use Rattle.lane_drive.specs.Drive.{Told, AreHeard, AreTaken, Drives, told_text}
 use Rattle.lane_drive.specs.Hearing.{HearsSome, Hears, StopsHearing, DrivesItem, FailsItem, RefusesNext}
@@ -244,3 +244,9 @@ module _ {S E : Type 0} (rules : LaneRules S E) where
           waits = more.waits;
         },
       )
+
+  -- Where the next item is waited for, all that were taken are answered.
+  pub answers_in : (s : S) (before : Outside) (items : List Item) (written : Option (List ℕ)) → rules.waits s ≡ false → HasDriven (DrivesItem rules) s before items written → AnswersAll rules s before items written
+  answers_in s before items written quiet has =
+      let d = drives_all items s has.state before has.now quiet has.drove in
+      record { state = has.state; told = d.0; now = has.now; drove = d.1; quiet = d.2; is = has.is }

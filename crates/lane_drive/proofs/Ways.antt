@@ -1,5 +1,5 @@
 -- How the run of two lanes that are open ends.
-use Rattle.std.proofs.Common.{◌≡◌, ◌≢◌, ◌⊎◌, inl, inr, ℕ, Bool, true, false, List, [], ◌∷◌, ◌++◌, Option, None, Some, Result, Ok, refl, sym, ap, ◌∙◌, subst}
+use Rattle.std.proofs.Common.{◌≡◌, ◌≢◌, ◌⊎◌, inl, inr, ℕ, Bool, true, false, List, [], ◌∷◌, ◌++◌, Option, None, Some, Result, Ok, Err, refl, sym, ap, ◌∙◌, subst, append_assoc}
 use Rattle.std.proofs.lemmas.List.{append-nil}
 use Rattle.kube_model.specs.declared.event.Event.{Event}
 use Rattle.kube_model.specs.declared.status.Status.{Status}
@@ -10,9 +10,9 @@ use Rattle.lane_mail.specs.declared.item.Item.{Item}
 use Rattle.lane_run.specs.declared.lane_end.LaneEnd.TheVariants.{NoMemory}
 use Rattle.lane_run.specs.declared.lane_run.LaneRun.{LaneRun}
 use Rattle.lane_run.specs.LaneInputs.{lane_input, lane_input_from}
-use Rattle.lane_run.specs.Ran as lane_runs
-use Rattle.lane_run.specs.Ran.{Ran}
-use Rattle.lane_run.specs.Reconciled.{AreDriven, Drove}
+use Rattle.lane_run.specs.declared.lane_end.LaneEnd.{LaneEnd}
+use Rattle.lane_run.specs.Ran.{LanesEnded, Ran}
+use Rattle.lane_run.specs.Reconciled.{AreDriven, Drove, Leaves}
 use Rattle.lane_run.specs.Views.{SourceView, Outside}
 use Rattle.lane_run.specs.Watched.{Begins}
 use Rattle.line_run.specs.declared.halt.Halt.{Halt}
@@ -59,7 +59,7 @@ module _ {S E : Type 0} (rules : LaneRules S E) where
       absurd (cc)
 
   -- where no reply is ever awaited, none is heard
-  silent : (items : List Item) (replies : List Line) (s t : S) (told : List (Told E)) → ((x : S) → rules.waits x ≡ false) → AreTaken rules items replies s t told → replies ≡ []
+  pub silent : (items : List Item) (replies : List Line) (s t : S) (told : List (Told E)) → ((x : S) → rules.waits x ≡ false) → AreTaken rules items replies s t told → replies ≡ []
   silent [] replies s t told never taken = taken.0
   silent (item ∷ items) replies s t told never (own, behind, next, entries, more, replies_are, taken, others, told_are) =
       let none : own ≡ [] = never_heard own taken.next next taken.rest never taken.heard in
@@ -85,13 +85,17 @@ module _ {S E : Type 0} (belongs : Lane → Event → Bool) (rules : LaneRules S
   ends_undriven first first' second second' before after same =
       inr (inr (inr (inr (refl, subst (λ (o : Option (List ℕ)). WritesUpTo belongs rules start first.left second.left (to_come before.reading before.replies.left) before.written o) (sym same) (writes_none first.left second.left (to_come before.reading before.replies.left) before.written)))))
 
-  by_refusal : (first second : Option (List ℕ)) (before mid after : Outside) (status : Status) (items : List Item) (item : Item) (state : S) (told : List (Told E)) → AreBeginnings belongs first second (items ++ item ∷ []) → Drives rules items start state told before mid
+  by_refusal : (first first' second second' : SourceView) (end end' : LaneEnd) (before mid after : Outside) (status : Status) (items : List Item) (item : Item) (dropped : List Item) (state : S) (told : List (Told E))
+      → LanesEnded belongs first first' second second' (items ++ item ∷ dropped) end end' → Drives rules items start state told before mid
       → rules.waits state ≡ false → FailsItem rules status state item mid after ⊎ FailsBehind rules status state item mid after
-      → StopsAtItem belongs rules start first second before after status ⊎ StopsAtReply belongs rules start first second before after status
-  by_refusal first second before mid after status items item state told begin drove quiet' (inl fails) = inl (record {
+      → StopsAtItem belongs rules start first first' second second' before after status ⊎ StopsAtReply belongs rules start first first' second second' before after status
+  by_refusal first first' second second' end end' before mid after status items item dropped state told lanes drove quiet' (inl fails) = inl (record {
     items = items;
     item = item;
-    begin = begin;
+    dropped = dropped;
+    end = end;
+    end' = end';
+    lanes = lanes;
     state = state;
     told = told;
     mid = mid;
@@ -100,9 +104,12 @@ module _ {S E : Type 0} (belongs : Lane → Event → Bool) (rules : LaneRules S
     stops = rw fails.is (why rules fails.refusal state item mid after fails.refuses);
     unread = fails.unread;
   })
-  by_refusal first second before mid after status items item state told begin drove quiet' (inr fails) = inr (record {
+  by_refusal first first' second second' end end' before mid after status items item dropped state told lanes drove quiet' (inr fails) = inr (record {
     items = items ++ item ∷ [];
-    begin = begin;
+    dropped = dropped;
+    end = end;
+    end' = end';
+    lanes = subst (λ (l : List Item). LanesEnded belongs first first' second second' l end end') (sym (append_assoc items (item ∷ []) dropped)) lanes;
     state = fails.state;
     told = told ++ fails.told;
     mid = fails.mid;
@@ -111,35 +118,37 @@ module _ {S E : Type 0} (belongs : Lane → Event → Bool) (rules : LaneRules S
     stops = fails.stops;
   })
 
-  -- the reconciler refused an item
-  at_item : (first second : Option (List ℕ)) (before after : Outside) (status : Status) → lane_runs.RefusesNext belongs (DrivesItem rules) (RefusesNext rules) first second start before after status
-      → StopsAtItem belongs rules start first second before after status ⊎ StopsAtReply belongs rules start first second before after status
-  at_item first second before after status r =
-      let d = drives_all rules r.driven start r.state before r.mid quiet r.drove in
-      let begin : AreBeginnings belongs first second (r.driven ++ r.item ∷ []) = record { firsts = r.first_begins; seconds = r.second_begins } in
-      by_refusal first second before r.mid after status r.driven r.item r.state d.0 begin d.1 d.2 (r.refuses d.2)
-
-  stops_first : (first first' second second' : SourceView) (before after : Outside) (status : Status) → StopsAtItem belongs rules start first.left second.left before after status ⊎ StopsAtReply belongs rules start first.left second.left before after status
+  stops_first : (first first' second second' : SourceView) (before after : Outside) (status : Status) → StopsAtItem belongs rules start first first' second second' before after status ⊎ StopsAtReply belongs rules start first first' second second' before after status
       → EndsSo belongs rules start first first' second second' before after status
   stops_first first first' second second' before after status (inl stops) = inl stops
   stops_first first first' second second' before after status (inr stops) = inr (inl stops)
 
-  pub ends_refused : (first first' second second' : SourceView) (before after : Outside) (status : Status) → lane_runs.RefusesNext belongs (DrivesItem rules) (RefusesNext rules) first.left second.left start before after status
-      → EndsSo belongs rules start first first' second second' before after status
-  ends_refused first first' second second' before after status r = stops_first first first' second second' before after status (at_item first.left second.left before after status r)
-
   -- where no reply is ever awaited, nothing was read
-  leaves_first : (first second : Option (List ℕ)) (before after : Outside) (status : Status) → ((x : S) → rules.waits x ≡ false) → StopsAtItem belongs rules start first second before after status ⊎ StopsAtReply belongs rules start first second before after status
-      → after.replies ≡ before.replies
-  leaves_first first second before after status never (inl stops) = stops.unread.1 ∙ (stops.drove.unread (silent rules stops.items stops.drove.replies start stops.state stops.told never stops.drove.taken)).1
-  leaves_first first second before after status never (inr stops) =
+  leaves_first : (first first' second second' : SourceView) (before after : Outside) (status : Status) → ((x : S) → rules.waits x ≡ false)
+      → StopsAtItem belongs rules start first first' second second' before after status ⊎ StopsAtReply belongs rules start first first' second second' before after status → after.replies ≡ before.replies
+  leaves_first first first' second second' before after status never (inl stops) = stops.unread.1 ∙ (stops.drove.unread (silent rules stops.items stops.drove.replies start stops.state stops.told never stops.drove.taken)).1
+  leaves_first first first' second second' before after status never (inr stops) =
       let waits : rules.waits stops.state ≡ true = stops.waits in
       let quiet' : rules.waits stops.state ≡ false = never stops.state in
       absurd (cc)
 
-  pub leaves_refused : (first second : Option (List ℕ)) (before after : Outside) (status : Status) → (rules.hears ≡ false → (x : S) → rules.waits x ≡ false) → lane_runs.RefusesNext belongs (DrivesItem rules) (RefusesNext rules) first second start before after status
-      → rules.hears ≡ false → LeavesInput before.replies after.replies
-  leaves_refused first second before after status never r none = leaves_first first second before after status (never none) (at_item first second before after status r)
+  -- the reconciler refused an item
+  module _ (first first' second second' : SourceView) (before after : Outside) (t : S) (run : LaneRun) (ran : Ran belongs (DrivesItem rules) (RefusesNext rules) first first' second second' start t before after run) (status : Status) (ill : run.outcome ≡ Err status) where
+    at_item : StopsAtItem belongs rules start first first' second second' before after status ⊎ StopsAtReply belongs rules start first first' second second' before after status
+    at_item =
+        let failed : Result (Unit {0}) Status = Err status in
+        let drove : Drove (DrivesItem rules) (RefusesNext rules) ran.taken start t before after failed = rw ill at ran.drove in
+        let leaves : Leaves (RefusesNext rules) failed drove.behind drove.state t drove.mid after = drove.leaves in
+        let d = drives_all rules drove.driven start drove.state before drove.mid quiet drove.drove in
+        let split : ran.taken ≡ drove.driven ++ leaves.0 ∷ leaves.1 = drove.split ∙ ap (λ (l : List Item). drove.driven ++ l) leaves.2 in
+        by_refusal first first' second second' run.first run.second before drove.mid after status drove.driven leaves.0 leaves.1 drove.state d.0
+        (subst (λ (l : List Item). LanesEnded belongs first first' second second' l run.first run.second) split ran.lanes) d.1 d.2 (leaves.3 d.2)
+
+    pub ends_refused : EndsSo belongs rules start first first' second second' before after status
+    ends_refused = stops_first first first' second second' before after status at_item
+
+    pub leaves_refused : (rules.hears ≡ false → (x : S) → rules.waits x ≡ false) → rules.hears ≡ false → LeavesInput before.replies after.replies
+    leaves_refused never none = leaves_first first first' second second' before after status (never none) at_item
 
   -- all that both lanes sent was taken
   module _ (first first' second second' : SourceView) (before mid : Outside) (t : S) (run : LaneRun) (ran : Ran belongs (DrivesItem rules) (RefusesNext rules) first first' second second' start t before mid run) (done : run.outcome ≡ Ok tt) where
@@ -163,7 +172,7 @@ module _ {S E : Type 0} (belongs : Lane → Event → Bool) (rules : LaneRules S
             replies = d.1.replies;
             next = to_come mid.reading mid.replies.left;
             comes = d.1.comes;
-            begin = record { firsts = ran.first_ended.begins; seconds = ran.second_ended.begins };
+            begin = record { firsts = ran.lanes.first_ended.begins; seconds = ran.lanes.second_ended.begins };
             state = t;
             told = d.0;
             taken = d.1.taken;
@@ -176,9 +185,7 @@ module _ {S E : Type 0} (belongs : Lane → Event → Bool) (rules : LaneRules S
         let d = drives_all rules ran.taken start t before mid quiet all_driven in
         record {
           items = ran.taken;
-          first_ended = ran.first_ended;
-          second_ended = ran.second_ended;
-          merge = ran.merge;
+          lanes = ran.lanes;
           state = t;
           told = d.0;
           drove = d.1;

@@ -1,5 +1,5 @@
--- When the input may be asked for more: all that was taken is answered, with all replies that came.
-use Rattle.std.specs.Prelude.{◌≡◌, ◌⊎◌, Bool, true, false, List, [], ◌∷◌}
+-- When the input may be asked for more, or the next item waited for: all that was taken is answered, with all replies that came.
+use Rattle.std.specs.Prelude.{◌≡◌, ◌⊎◌, ℕ, Bool, true, false, List, [], ◌∷◌, Option}
 use Rattle.kube_model.specs.declared.event.Event.{Event}
 use Rattle.lane_mail.specs.declared.item.Item.{Item}
 use Rattle.lane_mail.specs.declared.lane.Lane.{Lane}
@@ -31,9 +31,18 @@ pub record AwaitsReply {S E : Type 0} (rules : LaneRules S E) (items : List Item
 abbrev pub AsksFor : {S E : Type 0} → LaneRules S E → (s : S) (item : Item) (before now : Outside) → Type 0
 AsksFor rules s item before now = rules.waits s ≡ false → AwaitsReply rules (item ∷ []) s before now
 
+-- Just these items were taken, with the replies to them, and just their text was written. No reply is awaited.
+pub record AnswersAll {S E : Type 0} (rules : LaneRules S E) (start : S) (before : Outside) (items : List Item) (written : Option (List ℕ)) : Type 0 where
+  pub state : S
+  pub told : List (Told E)
+  pub now : Outside
+  pub drove : Drives rules items start state told before now
+  pub quiet : rules.waits state ≡ false
+  pub is : written ≡ now.written
+
 module _ {S E : Type 0} (belongs : Lane → Event → Bool) (rules : LaneRules S E) (start : S) where
   -- All that both lanes sent was taken, and just its text was written. No other line came whole, and where there are replies it is still to
-  -- be seen that the input is at its end. That a lane ended because its reading failed is always possible.
+  -- be seen that the input is at its end. That a lane ended because its reading failed is possible only where its source isn't safe.
   pub record LooksBehind (first second : SourceView) (before now : Outside) : Type 0 where
     pub first' : SourceView
     pub second' : SourceView

@@ -19,7 +19,7 @@ use Rattle.lane_drive.specs.Drive.{Told, AreTaken, told_text}
 use Rattle.lane_drive.specs.Files.{FilesView}
 use Rattle.lane_drive.specs.Stops.{EndsSo, WritesUpTo}
 use Rattle.mlb_edge.specs.Causes.{Rose}
-use Rattle.mlb_edge.specs.Failed.{times}
+use Rattle.mlb_edge.specs.Failed.{times, with_closed}
 use Rattle.mlb_edge.specs.declared.files.OpenEnd.{OpenEnd}
 use Rattle.mlb_edge.specs.declared.files.OpenEnd.TheVariants.{Failed, NoMemory}
 use Rattle.mlb_edge.specs.declared.lines.Line.{Line}
@@ -54,14 +54,13 @@ module _ {S E : Type 0} (belongs : Lane → Event → Bool) (rules : LaneRules S
   abbrev pub AtDone : (first second : Option (List ℕ)) → Status → (replies left before after : Option (List ℕ)) → Type 0
   AtDone first second status replies left before after = status ≡ statuses.Done → TakesWhole first second replies left before after
 
-  -- The run of both lanes ended so. An input whose reading failed is told of under its file's name when it is handed back.
+  -- The run of both lanes ended so. Of each file's input it is kept, when it is handed back, whether its reading failed, unless memory is wanting.
   pub record EndsWith (file file' : List ℕ) (files files' : FilesView) (first second : SourceView) (replies replies' : SourceView) (before after : Option (List ℕ)) (writes writes' : ℕ) (status : Status) : Type 0 where
     pub first' : SourceView
     pub second' : SourceView
     pub reading : Reading
     pub ends : EndsSo belongs rules start first first' second second' (outside unread replies before writes) (outside reading replies' after writes') status
-    pub first_told : status ≢ statuses.NoMemory → first'.faults ≢ 0 → Rose (times file files.failed_reads) (times file files'.failed_reads)
-    pub second_told : status ≢ statuses.NoMemory → second'.faults ≢ 0 → Rose (times file' files.failed_reads) (times file' files'.failed_reads)
+    pub kept : status ≢ statuses.NoMemory → files'.failed_reads ≡ with_closed (with_closed files.failed_reads (Some file) first'.faults) (Some file') second'.faults
 
   -- so it is where both files were opened
   abbrev pub AtEnd : (file file' : List ℕ) (files files' : FilesView) (first second : SourceView) (replies replies' : SourceView) (before after : Option (List ℕ)) (writes writes' : ℕ) → Status → Type 0

@@ -7,3 +7,4 @@ pub mod Hearing
 pub mod LaneRules
 pub mod Laws
 pub mod Stops
+pub mod Complete

@@ -10,11 +10,11 @@ use Rattle.lane_mail.specs.declared.lane.Lane.{Lane}
 use Rattle.lane_mail.specs.declared.lane.Lane.TheVariants.{First, Second}
 use Rattle.lane_mail.specs.declared.item.Item.{Item}
 use Rattle.lane_mail.specs.Lanes.{items_of}
-use Rattle.lane_mail.specs.Merges.{IsMerge}
 use Rattle.lane_run.specs.declared.lane_end.LaneEnd.{LaneEnd}
 use Rattle.lane_run.specs.declared.lane_end.LaneEnd.TheVariants.{Done, ReadFault, LineLimit, InputLimit, BadLine, NoMemory}
 use Rattle.lane_run.specs.Views.{SourceView, Outside}
-use Rattle.lane_run.specs.Watched.{Begins, Ended}
+use Rattle.lane_run.specs.Ran.{LanesEnded}
+use Rattle.lane_run.specs.Watched.{Begins}
 use Rattle.line_run.specs.declared.halt.Halt.{Halt}
 use Rattle.line_run.specs.Ended.{status_of_halt}
 use Rattle.line_run.specs.Ends.{Ends}
@@ -56,11 +56,15 @@ pub record AreBeginnings (belongs : Lane → Event → Bool) (first second : Opt
   pub seconds : Begins belongs Second second (items_of Second items)
 
 module _ {S E : Type 0} (belongs : Lane → Event → Bool) (rules : LaneRules S E) (start : S) where
-  -- The run stops at an item that isn't taken, or whose text isn't written whole.
-  pub record StopsAtItem (first second : Option (List ℕ)) (before after : Outside) (status : Status) : Type 0 where
+  -- The run stops at an item that isn't taken, or whose text isn't written whole. The lanes were read to their ends, and what they sent behind
+  -- that item was dropped.
+  pub record StopsAtItem (first first' second second' : SourceView) (before after : Outside) (status : Status) : Type 0 where
     pub items : List Item
     pub item : Item
-    pub begin : AreBeginnings belongs first second (items ++ item ∷ [])
+    pub dropped : List Item
+    pub end : LaneEnd
+    pub end' : LaneEnd
+    pub lanes : LanesEnded belongs first first' second second' (items ++ item ∷ dropped) end end'
     pub state : S
     pub told : List (Told E)
     pub mid : Outside
@@ -70,10 +74,14 @@ module _ {S E : Type 0} (belongs : Lane → Event → Bool) (rules : LaneRules S
         ⊎ ((halt : Halt) × (status ≡ status_of_halt halt) × HaltsItem halt rules state item mid.written after.written mid.faults after.faults)
     pub unread : (after.reading ≡ mid.reading) × (after.replies ≡ mid.replies)
 
-  -- A reply is awaited, and the next line isn't one, can't be read, or isn't there; or what it comes to isn't written whole.
-  pub record StopsAtReply (first second : Option (List ℕ)) (before after : Outside) (status : Status) : Type 0 where
+  -- A reply is awaited, and the next line isn't one, can't be read, or isn't there; or what it comes to isn't written whole. What the lanes sent
+  -- behind the items was dropped.
+  pub record StopsAtReply (first first' second second' : SourceView) (before after : Outside) (status : Status) : Type 0 where
     pub items : List Item
-    pub begin : AreBeginnings belongs first second items
+    pub dropped : List Item
+    pub end : LaneEnd
+    pub end' : LaneEnd
+    pub lanes : LanesEnded belongs first first' second second' (items ++ dropped) end end'
     pub state : S
     pub told : List (Told E)
     pub mid : Outside
@@ -84,9 +92,7 @@ module _ {S E : Type 0} (belongs : Lane → Event → Bool) (rules : LaneRules S
   -- All that both lanes sent was taken, in an order that is each lane's own, and no reply is awaited. The lanes ended so.
   pub record TakesAll (first first' second second' : SourceView) (before mid : Outside) (end end' : LaneEnd) : Type 0 where
     pub items : List Item
-    pub first_ended : Ended belongs First first first' (items_of First items) end
-    pub second_ended : Ended belongs Second second second' (items_of Second items) end'
-    pub merge : IsMerge items (items_of First items) (items_of Second items)
+    pub lanes : LanesEnded belongs first first' second second' items end end'
     pub state : S
     pub told : List (Told E)
     pub drove : Drives rules items start state told before mid
@@ -131,8 +137,8 @@ module _ {S E : Type 0} (belongs : Lane → Event → Bool) (rules : LaneRules S
   -- how the run of two open lanes ends: by the reconciler, behind the last reply, as the lanes did, or for want of memory
   abbrev pub EndsSo : (first first' second second' : SourceView) (before after : Outside) → Status → Type 0
   EndsSo first first' second second' before after status =
-      StopsAtItem first.left second.left before after status
-      ⊎ (StopsAtReply first.left second.left before after status
+      StopsAtItem first first' second second' before after status
+      ⊎ (StopsAtReply first first' second second' before after status
       ⊎ (StopsBehind first first' second second' before after status
       ⊎ (EndsAsLanes first first' second second' before after status
       ⊎ ((status ≡ statuses.NoMemory) × WritesUpTo first.left second.left (to_come before.reading before.replies.left) before.written after.written))))

@@ -1,10 +1,12 @@
 //! The run over two lane files.
 ghost use Rattle.std.specs.Prelude.{◌≡◌, ℕ, List, Some, false};
 ghost use Rattle.kube_model.specs.declared.status.LaneName.{LaneName as Name};
-ghost use Rattle.lane_drive.specs.Asking.{AsksMore};
+ghost use Rattle.lane_drive.specs.Asking.{AnswersAll, AsksMore};
 ghost use Rattle.lane_drive.specs.Clauses.{AtDone, AtEnd, AtOpenFault, AtReadFault, LeavesInput, LeavesOthers, OnlyWrites, status_of_open, unread};
+ghost use Rattle.lane_drive.specs.Complete.{IsComplete};
 ghost use Rattle.lane_drive.specs.Files.{files_view};
-ghost use Rattle.lane_run.specs.Views.{outside, source_view};
+ghost use Rattle.lane_run.specs.Views.{lane_view, outside, source_view};
+ghost use Rattle.lane_run.specs.Waiting.{MayBeAwaited};
 ghost use Rattle.line_run.specs.Answered.{MayBeAsked};
 ghost use Rattle.line_run.specs.Clauses.{AtWriteFault};
 
@@ -12,11 +14,10 @@ use crate::lane_machine::LaneMachine;
 use crate::opened::run_opened;
 use kube_model::{LaneName, Status};
 use lane_mail::Lane;
-use lane_run::Lanes;
+use lane_run::{Lanes, PacedWait};
 use line_run::PacedSource;
 use mlb_edge::{Files, LineReader, OpenEnd, Sink};
 use std::alloc::Global;
-use std::sync::Wait;
 use std::thread::Threads;
 
 /// Drives the machine by the items of the lines of both files, in the order in which they come; each file's come in its order.
@@ -27,7 +28,7 @@ use std::thread::Threads;
 /// ends at a fault, the second does. A lane that ends at a fault doesn't end the other, and what it sent before is taken all the same.
 pub fn run_lane_files<
     M: LaneMachine + Lanes + Drop + Send,
-    R: Threads + Wait + Sync,
+    R: Threads + PacedWait + Sync,
     F: Files,
     I: PacedSource<K> + Send,
     K: Sink + Send,
@@ -44,21 +45,27 @@ pub fn run_lane_files<
     requires quiet { M.rules.waits (M.state machine) ≡ false }
 
     // The source of the replies may be asked for more where all that was taken is answered, with all replies that came, and a reply is
-    // awaited or both lanes have ended. Nothing else is known of when it may. That a lane ended because its reading failed is always
-    // possible, so this allows to ask wherever just the text of whole items stands written and no reply is awaited.
+    // awaited or both lanes have ended. Nothing else is known of when it may. That a lane ended because its reading failed is possible where
+    // its file isn't safe; where both are, it may be asked behind all that both carry.
     requires live { MayBeAsked I.name I.may_read input.old (λ i r o. AsksMore M.belongs M.rules (M.state machine)
-        (source_view (F.bytes files.old first.now) (Some first.now) 0)
-        (source_view (F.bytes files.old second.now) (Some second.now) 0)
+        (lane_view (F.bytes files.old first.now) (Some first.now) 0 (F.safe files.old first.now))
+        (lane_view (F.bytes files.old second.now) (Some second.now) 0 (F.safe files.old second.now))
         (outside unread (source_view (I.left input.old) (I.name input.old) (I.faults input.old))
         (K.written out.old) (K.faults out.old))
         (outside r (source_view (I.left i) (I.name i) (I.faults i)) (K.written o) (K.faults o))) }
+
+    // The next item may be waited for where just the text of all items taken before stands written, with all replies to them heard. Nothing
+    // else is known of when it may, so nothing is held back while a lane is waited for.
+    requires waits { MayBeAwaited R.may_wait rt.now (AnswersAll M.rules (M.state machine)
+        (outside unread (source_view (I.left input.old) (I.name input.old) (I.faults input.old))
+        (K.written out.old) (K.faults out.old))) }
 
     // How the run ended, once both files are open.
     ensures ended { AtEnd M.belongs M.rules (M.state machine) first.now second.now
         (files_view (F.failed_opens files.old) (F.failed_reads files.old))
         (files_view (F.failed_opens files.new) (F.failed_reads files.new))
-        (source_view (F.bytes files.old first.now) (Some first.now) 0)
-        (source_view (F.bytes files.old second.now) (Some second.now) 0)
+        (lane_view (F.bytes files.old first.now) (Some first.now) 0 (F.safe files.old first.now))
+        (lane_view (F.bytes files.old second.now) (Some second.now) 0 (F.safe files.old second.now))
         (source_view (I.left input.old) (I.name input.old) (I.faults input.old))
         (source_view (I.left input.new) (I.name input.new) (I.faults input.new))
         (K.written out.old) (K.written out.new) (K.faults out.old) (K.faults out.new) result }
@@ -72,6 +79,14 @@ pub fn run_lane_files<
     // to them are the first lines of the input.
     ensures only { OnlyWrites M.belongs M.rules (M.state machine)
         (F.bytes files.old first.now) (F.bytes files.old second.now) (I.left input.old) (K.written out.old) (K.written out.new) }
+
+    // Where each line of both files is an event of its lane, and in whatever order they come all can be taken, with the lines of the input as
+    // the replies, and no count of faults rises, it is done, but for want of memory.
+    ensures complete { IsComplete M.belongs M.rules (M.state machine)
+        (F.bytes files.old first.now) (F.bytes files.old second.now) result
+        (files_view (F.failed_opens files.old) (F.failed_reads files.old))
+        (files_view (F.failed_opens files.new) (F.failed_reads files.new))
+        (I.left input.old) (I.faults input.old) (I.faults input.new) (K.faults out.old) (K.faults out.new) }
 
     // A fault comes only where its count rose, and a file isn't opened exactly where its opening failed.
     ensures open_fault { AtOpenFault M.rules.name first.now second.now result

@@ -1,9 +1,10 @@
 //! The run over two lanes that are open.
 ghost use Rattle.std.specs.Prelude.{◌≡◌, false};
-ghost use Rattle.lane_drive.specs.Asking.{AsksMore};
+ghost use Rattle.lane_drive.specs.Asking.{AnswersAll, AsksMore};
 ghost use Rattle.lane_drive.specs.Clauses.{LeavesInput, unread};
 ghost use Rattle.lane_drive.specs.Stops.{EndsSo};
-ghost use Rattle.lane_run.specs.Views.{outside, source_view};
+ghost use Rattle.lane_run.specs.Views.{lane_view, outside, source_view};
+ghost use Rattle.lane_run.specs.Waiting.{MayBeAwaited};
 ghost use Rattle.line_run.specs.Answered.{MayBeAsked};
 
 use crate::driver::Driver;
@@ -12,18 +13,17 @@ use crate::lane_machine::LaneMachine;
 use crate::replies::Replies;
 use crate::status::{are_known, status_of_lanes};
 use kube_model::Status;
-use lane_run::{LaneRun, Lanes, run_lanes};
+use lane_run::{LaneRun, Lanes, PacedWait, run_lanes};
 use line_run::PacedSource;
 use mlb_edge::{LineReader, Sink, Source};
 use std::alloc::Global;
-use std::sync::Wait;
 use std::thread::Threads;
 
 /// Drives the machine by the items of both sources, and by the lines of the input as replies, until both lanes have ended. Where there
 /// are replies, the input is at its end then.
 pub(crate) fn run_opened<
     M: LaneMachine + Lanes + Drop + Send,
-    R: Threads + Wait + Sync,
+    R: Threads + PacedWait + Sync,
     S: Source + Send,
     I: PacedSource<K> + Send,
     K: Sink + Send,
@@ -40,16 +40,19 @@ pub(crate) fn run_opened<
     requires fresh { reader.old ≡ unread }
     requires quiet { M.rules.waits (M.state machine) ≡ false }
     requires live { MayBeAsked I.name I.may_read input.old (λ i r o. AsksMore M.belongs M.rules (M.state machine)
-        (source_view (S.left first.old) (S.name first.old) (S.faults first.old))
-        (source_view (S.left second.old) (S.name second.old) (S.faults second.old))
+        (lane_view (S.left first.old) (S.name first.old) (S.faults first.old) (S.safe first.old))
+        (lane_view (S.left second.old) (S.name second.old) (S.faults second.old) (S.safe second.old))
         (outside reader.old (source_view (I.left input.old) (I.name input.old) (I.faults input.old))
         (K.written out.old) (K.faults out.old))
         (outside r (source_view (I.left i) (I.name i) (I.faults i)) (K.written o) (K.faults o))) }
+    requires waits { MayBeAwaited R.may_wait rt.now (AnswersAll M.rules (M.state machine)
+        (outside reader.old (source_view (I.left input.old) (I.name input.old) (I.faults input.old))
+        (K.written out.old) (K.faults out.old))) }
     ensures ended { EndsSo M.belongs M.rules (M.state machine)
-        (source_view (S.left first.old) (S.name first.old) (S.faults first.old))
-        (source_view (S.left first.new) (S.name first.new) (S.faults first.new))
-        (source_view (S.left second.old) (S.name second.old) (S.faults second.old))
-        (source_view (S.left second.new) (S.name second.new) (S.faults second.new))
+        (lane_view (S.left first.old) (S.name first.old) (S.faults first.old) (S.safe first.old))
+        (lane_view (S.left first.new) (S.name first.new) (S.faults first.new) (S.safe first.new))
+        (lane_view (S.left second.old) (S.name second.old) (S.faults second.old) (S.safe second.old))
+        (lane_view (S.left second.new) (S.name second.new) (S.faults second.new) (S.safe second.new))
         (outside reader.old (source_view (I.left input.old) (I.name input.old) (I.faults input.old))
         (K.written out.old) (K.faults out.old))
         (outside reader.new (source_view (I.left input.new) (I.name input.new) (I.faults input.new))

@@ -1,10 +1,13 @@
 //! Runs over files in memory.
+//!
+//! Each function here is proved: files, sinks and statuses are let go by a call of `drop` in one place, and what can fail before takes them
+//! by reference.
 
 use crate::teller::Teller;
+use kube_model::Status;
 use lane_drive::run_lane_files;
 use mlb_edge::{MemFiles, SafeSink, SafeSource};
 use std::alloc::Global;
-use std::process::Abort;
 use std::sync::Wait;
 use std::test::Fail;
 use std::thread::Threads;
@@ -34,29 +37,83 @@ type Case<'a> = (
     usize,
 );
 
-fn check<R: Threads + Wait + Sync + Abort>(
-    rt: &R,
-    alloc: Global,
-    case: Case<'_>,
-) -> Result<(), Fail> {
-    let (watch, frame, failing, text, watched, framed) = case;
-    let mut files = MemFiles::new(alloc);
+fn add_files(files: &mut MemFiles, case: &Case<'_>) -> Result<(), Fail> {
+    let (watch, frame, failing, ..) = case;
     if let Some(bytes) = watch {
         files.add("watch", bytes, PIECE, &[])?;
     }
     if let Some(bytes) = frame {
-        files.add("frame", bytes, PIECE, &[failing])?;
+        files.add("frame", bytes, PIECE, &[*failing])?;
     }
-    let mut input = SafeSource::new(Vec::from_slice(alloc, b"unread\n")?);
-    let mut out = SafeSink::with_room(alloc, ROOM)?;
-    let status = run_lane_files(
-        rt, alloc, "watch", "frame", &mut files, Teller, &mut input, &mut out,
-    );
-    assert_eq!(rt; status.text(alloc)?.as_str(), text);
-    let written = str::from_utf8(out.bytes())?;
-    assert_eq!(rt; written.matches("{\"lane\":\"watch\"").count(), watched);
-    assert_eq!(rt; written.matches("{\"lane\":\"frame\"").count(), framed);
     Ok(())
+}
+
+/// The run over the files, of which the input is not read.
+fn run_files<R: Threads + Wait + Sync>(
+    rt: &R,
+    alloc: Global,
+    files: &mut MemFiles,
+    out: &mut SafeSink,
+) -> Result<Status, Fail> {
+    let mut input = SafeSource::new(Vec::from_slice(alloc, b"unread\n")?);
+    let status = run_lane_files(rt, alloc, "watch", "frame", files, Teller, &mut input, out);
+    drop(input);
+    Ok(status)
+}
+
+fn run_case<R: Threads + Wait + Sync>(
+    rt: &R,
+    alloc: Global,
+    case: &Case<'_>,
+    out: &mut SafeSink,
+) -> Result<Status, Fail> {
+    let mut files = MemFiles::new(alloc);
+    let ran = match add_files(&mut files, case) {
+        Ok(()) => run_files(rt, alloc, &mut files, out),
+        Err(fail) => Err(fail),
+    };
+    drop(files);
+    ran
+}
+
+fn is_told(alloc: Global, status: &Status, text: &str) -> Result<bool, Fail> {
+    let told = status.text(alloc)?;
+    let is_told = told.as_str() == text;
+    drop(told);
+    Ok(is_told)
+}
+
+/// Whether so many items of each file are told of.
+fn are_told(bytes: &[u8], case: &Case<'_>) -> Result<bool, Fail> {
+    let (.., watched, framed) = case;
+    let written = str::from_utf8(bytes)?;
+    let watch = written.matches("{\"lane\":\"watch\"").count();
+    let frame = written.matches("{\"lane\":\"frame\"").count();
+    Ok(watch == *watched && frame == *framed)
+}
+
+fn ends_right<R: Threads + Wait + Sync>(
+    rt: &R,
+    alloc: Global,
+    case: &Case<'_>,
+    out: &mut SafeSink,
+) -> Result<bool, Fail> {
+    let status = run_case(rt, alloc, case, out)?;
+    let is_told = is_told(alloc, &status, case.3);
+    drop(status);
+    Ok(is_told? && are_told(out.bytes(), case)?)
+}
+
+/// Whether the run of the case is as it must be.
+fn is_right<R: Threads + Wait + Sync>(
+    rt: &R,
+    alloc: Global,
+    case: &Case<'_>,
+) -> Result<bool, Fail> {
+    let mut out = SafeSink::with_room(alloc, ROOM)?;
+    let is_right = ends_right(rt, alloc, case, &mut out);
+    drop(out);
+    is_right
 }
 
 #[test]
@@ -73,8 +130,10 @@ fn runs_end_as_their_files_do(rt: HostRuntime) -> Result<(), Fail> {
         (Some(TWO), None, 0, "cannot open the frame lane", 0, 0),
         (None, None, 0, "cannot open the watch lane", 0, 0),
     ];
-    for case in cases {
-        check(&rt, alloc, case)?;
+    let mut number = 0_usize;
+    for case in &cases {
+        assert!(rt; is_right(&rt, alloc, case)?, "case {number}");
+        number = number.saturating_add(1);
     }
     Ok(())
 }

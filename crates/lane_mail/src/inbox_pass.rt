@@ -1,6 +1,7 @@
 //! The right to take.
-ghost use Rattle.std.specs.Prelude.{◌↔◌, IsTrue};
+ghost use Rattle.std.specs.Prelude.{◌≡◌, ◌↔◌, length, IsTrue};
 
+use crate::lane::Lane;
 use crate::rules::{ItemPass, MarkPass};
 use std::marker::Model;
 
@@ -27,11 +28,22 @@ impl Model for InboxPass {
 }
 
 impl InboxPass {
+    ghost use Rattle.lane_mail.specs.Lanes.{items_of};
     ghost use Rattle.lane_mail.specs.Values.{HasAll};
 
     pub(crate) fn has_all(&self) -> bool
         ensures { IsTrue result ↔ HasAll self.now }
     {
         self.first == Some(self.first_count) && self.second == Some(self.second_count)
+    }
+
+    // How many items of the lane were taken.
+    pub(crate) fn count_of(&self, lane: Lane) -> u64
+        ensures { result ≡ length (items_of lane self.now.taken) }
+    {
+        match lane {
+            Lane::First => self.first_count,
+            Lane::Second => self.second_count,
+        }
     }
 }

@@ -11,6 +11,7 @@ mod laws;
 mod lists;
 mod mail;
 mod mark;
+mod parking;
 mod put_back;
 mod rules;
 mod taken;

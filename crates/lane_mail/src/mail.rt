@@ -1,4 +1,4 @@
-//! An unbounded queue of items, and beside it one of two end marks.
+//! A queue of items, and beside it one of two end marks.
 ghost use Rattle.std.specs.Prelude.{◌≡◌, ◌^◌, ◌<◌, ◌↔◌, [], ◌∷◌, ◌++◌, length, Some, None, IfOk, OnOk, IfErr, MatchOption};
 
 use crate::inbox_pass::InboxPass;
@@ -8,6 +8,7 @@ use crate::lane_done::LaneDone;
 use crate::lane_pass::LanePass;
 use crate::lists::Lists;
 use crate::mark::Mark;
+use crate::parking::Parking;
 use crate::put_back::PutBack;
 use crate::rules::{FirstLane, Gather, Get, Items, Marks, Put, SecondLane, Whole};
 use crate::taken::Taken;
@@ -15,7 +16,6 @@ use mlb_base::NoMemory;
 use std::alloc::Global;
 use std::marker::Model;
 use std::sync::Wait;
-use std::thread;
 
 /// The mail of two lanes, which contracts see as the name by which it is told from any other.
 ///
@@ -23,6 +23,7 @@ use std::thread;
 pub struct Mail {
     items: Items,
     marks: Marks,
+    parking: Parking,
 }
 
 impl Model for Mail {
@@ -38,7 +39,11 @@ impl Model for Mail {
 
 impl Drop for Mail {
     fn drop(self) {
-        let Self { items, marks: _ } = self;
+        let Self {
+            items,
+            marks: _,
+            parking: _,
+        } = self;
         items.destroy();
     }
 }
@@ -78,10 +83,20 @@ impl Mail {
             first: None,
             second: None,
         };
-        Ok((Mail { items, marks }, first, second, inbox))
+        let parking = Parking::new();
+        let mail = Mail {
+            items,
+            marks,
+            parking,
+        };
+        Ok((mail, first, second, inbox))
     }
 
-    /// Sends the item. It comes back only for want of memory, and then nothing was sent. A lane may send 2^61 items.
+    /// Sends the item, and waits until fewer than 65,536 items of the lane lie untaken. The item comes back only for want of memory, and then nothing was
+    /// sent. A lane may send 2^61 items.
+    ///
+    /// Before the first `take` it doesn't wait for room: where no thread could be made for whoever takes, both lanes are sent whole before anything is
+    /// taken. So whoever takes goes on until both lanes have ended.
     pub fn put<R: Wait>(&self, rt: &R, pass: &mut LanePass, item: Item) -> Result<(), PutBack>
         requires mail { pass.old.mail ≡ self.now }
         requires lane { item.lane ≡ pass.old.lane }
@@ -92,6 +107,8 @@ impl Mail {
         match self.items.push_as::<Put, R>(rt, &mut pass.items, item) {
             Ok(()) => {
                 pass.count += 1;
+                self.parking.wake_taker();
+                self.parking.wait_for_room(rt, pass.lane, pass.count);
                 Ok(())
             }
             Err(item) => Err(PutBack { item }),
@@ -113,7 +130,10 @@ impl Mail {
             .marks
             .push_as::<Put, R>(rt, &mut marks, Mark { lane, count })
         {
-            Ok(()) => LaneDone { lane, items, marks },
+            Ok(()) => {
+                self.parking.wake_taker();
+                LaneDone { lane, items, marks }
+            }
             Err(_) => unreachable!(),
         }
     }
@@ -162,15 +182,17 @@ impl Mail {
         ensures ends { EndsStay pass.old pass.new }
         ensures at_end { HasAll pass.old → pass.new ≡ pass.old }
     {
+        self.parking.begin_to_take();
         for _ in rt.forever() {
             if pass.has_all() {
                 return Taken::AllEnded;
             }
             if let Some(item) = self.pop_item(rt, pass) {
+                self.parking.tell_taken(item.lane, pass.count_of(item.lane));
                 return Taken::Item(item);
             }
             if !self.pop_mark(rt, pass) {
-                thread::yield_now();
+                self.parking.wait_for_more(rt);
             }
         }
         unreachable!()
@@ -191,7 +213,11 @@ impl Mail {
         ensures second { (result.second ≡ second.sent) × (items_of Lane.Second inbox.taken ≡ second.sent) }
         ensures merge { IsMerge inbox.taken first.sent second.sent }
     {
-        let Mail { items, marks } = self;
+        let Mail {
+            items,
+            marks,
+            parking: _,
+        } = self;
         let InboxPass {
             items: mut taken,
             marks: mut ends,

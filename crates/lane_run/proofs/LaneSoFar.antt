@@ -107,25 +107,26 @@ module _ (belongs : Lane → Event → Bool) (lane : Lane) where
 
   -- the lane ends
   pub ended_by : (before now after : SourceView) (r r' : Reading) (sent : List Item) (end : LaneEnd) → Watching belongs lane before.left (to_come r now.left) sent → Passes fresh r' before.left after.left
-      → before.faults ≤ now.faults → EndsAt belongs lane (to_come r now.left) (to_come r' after.left) r'.held after.left now.faults after.faults end → Sends belongs lane before after sent end
-  ended_by before now after r r' sent Done w passes later e = (stops before.left (to_come r now.left) sent Whole w e.0, e.1)
-  ended_by before now after r r' sent ReadFault w passes later e = (sends_read before.left after.left r r' now.left sent w e.0 passes e.1, omega (arith, e.2, later))
-  ended_by before now after r r' sent (LineLimit number) w passes later e = stops before.left (to_come r now.left) sent (LongLine number) w e
-  ended_by before now after r r' sent InputLimit w passes later e = stops before.left (to_come r now.left) sent LongInput w e
-  ended_by before now after r r' sent (BadLine number bytes) w passes later e = stops_at before.left (to_come r now.left) (to_come r' after.left) sent number bytes w e
-  ended_by before now after r r' sent NoMemory w passes later e = tt
+      → before.faults ≤ now.faults → now.safe ≡ before.safe → EndsAt belongs lane (to_come r now.left) (to_come r' after.left) r'.held after.left now.faults after.faults now.safe end → Sends belongs lane before after sent end
+  ended_by before now after r r' sent Done w passes later safety e = (stops before.left (to_come r now.left) sent Whole w e.0, e.1)
+  ended_by before now after r r' sent ReadFault w passes later safety e = (sends_read before.left after.left r r' now.left sent w e.0 passes e.1, omega (arith, e.2, later), sym safety ∙ e.3)
+  ended_by before now after r r' sent (LineLimit number) w passes later safety e = stops before.left (to_come r now.left) sent (LongLine number) w e
+  ended_by before now after r r' sent InputLimit w passes later safety e = stops before.left (to_come r now.left) sent LongInput w e
+  ended_by before now after r r' sent (BadLine number bytes) w passes later safety e = stops_at before.left (to_come r now.left) (to_come r' after.left) sent number bytes w e
+  ended_by before now after r r' sent NoMemory w passes later safety e = tt
 
   -- where nothing more is sent
   pub ended_so : (before now after : SourceView) (r r' : Reading) (sent sent' : List Item) (end : LaneEnd) → Watching belongs lane before.left (to_come r now.left) sent → Passes fresh r' before.left after.left
-      → before.faults ≤ now.faults → now.name ≡ before.name → EndsAt belongs lane (to_come r now.left) (to_come r' after.left) r'.held after.left now.faults after.faults end → sent' ≡ sent → now.faults ≤ after.faults → after.name ≡ now.name
+      → before.faults ≤ now.faults → now.name ≡ before.name → now.safe ≡ before.safe → EndsAt belongs lane (to_come r now.left) (to_come r' after.left) r'.held after.left now.faults after.faults now.safe end → sent' ≡ sent → now.faults ≤ after.faults → after.name ≡ now.name → after.safe ≡ now.safe
       → Ended belongs lane before after sent' end
-  ended_so before now after r r' sent sent' end w passes later named e same later' named' = rw same (record {
-    sends = ended_by before now after r r' sent end w passes later e;
+  ended_so before now after r r' sent sent' end w passes later named safety e same later' named' safety' = rw same (record {
+    sends = ended_by before now after r r' sent end w passes later safety e;
     begins = begins_so before.left (to_come r now.left) sent w;
     later = omega (arith, later, later');
     named = named' ∙ named;
+    safety = safety' ∙ safety;
   })
 
   -- there was no memory for a reader
   pub ended_unread : (view : SourceView) (sent : List Item) → sent ≡ [] → Ended belongs lane view view sent NoMemory
-  ended_unread view sent none = rw none (record { sends = tt; begins = begins_so view.left (to_come fresh view.left) [] (begins view.left); later = omega arith; named = refl })
+  ended_unread view sent none = rw none (record { sends = tt; begins = begins_so view.left (to_come fresh view.left) [] (begins view.left); later = omega arith; named = refl; safety = refl })

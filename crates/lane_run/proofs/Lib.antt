@@ -1,4 +1,4 @@
 mod Inputs
 mod LaneSoFar
 mod DroveSoFar
-mod RanSo
+pub mod RanSo

@@ -1,5 +1,5 @@
 -- What follows of a run of two lanes.
-use Rattle.std.proofs.Common.{◌≡◌, ℕ, Bool, List, [], ◌∷◌, ◌++◌, Option, Result, Err, sym, ap, ◌∙◌, append_assoc}
+use Rattle.std.proofs.Common.{◌≡◌, ℕ, Bool, List, ◌++◌, Option, ap, ◌∙◌, append_assoc}
 use Rattle.std.proofs.lemmas.List.Elements.{filter-append}
 use Rattle.kube_model.specs.declared.event.Event.{Event}
 use Rattle.kube_model.specs.declared.status.Status.{Status}
@@ -11,14 +11,14 @@ use Rattle.lane_mail.specs.Merges.{IsMerge}
 use Rattle.lane_mail.specs.Values.{MailId, Sender, Receiver}
 use Rattle.lane_run.specs.declared.lane_end.LaneEnd.{LaneEnd}
 use Rattle.lane_run.specs.declared.lane_run.LaneRun.{LaneRun}
-use Rattle.lane_run.specs.Ran.{Ran, DrivesBeginnings, RefusesNext}
-use Rattle.lane_run.specs.Reconciled.{Leaves, Reconciled}
+use Rattle.lane_run.specs.Ran.{Ran}
+use Rattle.lane_run.specs.Reconciled.{Reconciled}
 use Rattle.lane_run.specs.Views.{SourceView, Outside}
 use Rattle.lane_run.specs.Watched.{Begins, Ended, Watched}
 
 module _ (belongs : Lane → Event → Bool) (lane : Lane) where
   -- a part of what a lane sent
-  begins_part : (left : Option (List ℕ)) (taken part rest : List Item) → taken ≡ part ++ rest → Begins belongs lane left (items_of lane taken) → Begins belongs lane left (items_of lane part)
+  pub begins_part : (left : Option (List ℕ)) (taken part rest : List Item) → taken ≡ part ++ rest → Begins belongs lane left (items_of lane taken) → Begins belongs lane left (items_of lane part)
   begins_part left taken part rest split b =
       let two : items_of lane taken ≡ items_of lane part ++ items_of lane rest = ap (items_of lane) split ∙ filter-append (λ x. is_lane lane (item_lane x)) part rest in
       record {
@@ -41,38 +41,10 @@ module _ {S : Type 0} (belongs : Lane → Event → Bool) (Drives : S → S → 
       → Ran belongs Drives Refuses first first' second second' s t before after run
   ran_of mail mail' mail'' inbox one two run r w w' e e' merge = record {
     taken = inbox.taken;
-    first_ended = ended_of belongs First mail' first first' one run.first inbox.taken w e;
-    second_ended = ended_of belongs Second mail'' second second' two run.second inbox.taken w' e';
-    merge = rw (e, e') merge;
+    lanes = record {
+      first_ended = ended_of belongs First mail' first first' one run.first inbox.taken w e;
+      second_ended = ended_of belongs Second mail'' second second' two run.second inbox.taken w' e';
+      merge = rw (e, e') merge;
+    };
     drove = r.drove;
   }
-
-  module _ (run : LaneRun) (r : Ran belongs Drives Refuses first first' second second' s t before after run) where
-    pub drives_beginnings : DrivesBeginnings belongs Drives Refuses first.left second.left s t before after run.outcome
-    drives_beginnings = record {
-      driven = r.drove.driven;
-      behind = r.drove.behind;
-      state = r.drove.state;
-      mid = r.drove.mid;
-      drove = r.drove.drove;
-      leaves = r.drove.leaves;
-      first_begins = begins_part belongs First first.left r.taken r.drove.driven r.drove.behind r.drove.split r.first_ended.begins;
-      second_begins = begins_part belongs Second second.left r.taken r.drove.driven r.drove.behind r.drove.split r.second_ended.begins;
-    }
-
-    pub refuses_next : (status : Status) → run.outcome ≡ Err status → RefusesNext belongs Drives Refuses first.left second.left s before after status
-    refuses_next status ill =
-        let failed : Result (Unit {0}) Status = Err status in
-        let leaves : Leaves Refuses failed r.drove.behind r.drove.state t r.drove.mid after = rw ill at r.drove.leaves in
-        let item : Item = leaves.0 in
-        let split : r.taken ≡ (r.drove.driven ++ item ∷ []) ++ leaves.1 = r.drove.split ∙ (ap (λ (l : List Item). r.drove.driven ++ l) leaves.2 ∙ sym (append_assoc r.drove.driven (item ∷ []) leaves.1)) in
-        record {
-          driven = r.drove.driven;
-          item = item;
-          state = r.drove.state;
-          mid = r.drove.mid;
-          drove = r.drove.drove;
-          refuses = leaves.3;
-          first_begins = begins_part belongs First first.left r.taken (r.drove.driven ++ item ∷ []) leaves.1 split r.first_ended.begins;
-          second_begins = begins_part belongs Second second.left r.taken (r.drove.driven ++ item ∷ []) leaves.1 split r.second_ended.begins;
-        }

@@ -5,3 +5,4 @@ pub mod Watched
 pub mod Reconciled
 pub mod Ran
 pub mod Laws
+pub mod Waiting

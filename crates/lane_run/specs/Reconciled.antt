@@ -1,5 +1,5 @@
 -- What a reconciler makes of the items that it takes.
-use Rattle.std.specs.Prelude.{◌≡◌, List, [], ◌∷◌, ◌++◌, Result, Ok, Err, MatchResult}
+use Rattle.std.specs.Prelude.{◌≡◌, ℕ, List, [], ◌∷◌, ◌++◌, Option, Result, Ok, Err}
 use Rattle.kube_model.specs.declared.status.Status.{Status}
 use Rattle.lane_mail.specs.declared.item.Item.{Item}
 use Rattle.lane_mail.specs.Values.{MailId, Receiver, HasAll}
@@ -19,6 +19,13 @@ pub record AsksIn {S : Type 0} (Drives : S → S → Item → Outside → Outsid
   pub drove : AreDriven Drives driven s state before mid
   pub asks : Asks state item mid now
 
+-- Just these items drove it, and this stands written.
+pub record HasDriven {S : Type 0} (Drives : S → S → Item → Outside → Outside → Type 0) (s : S) (before : Outside) (items : List Item) (written : Option (List ℕ)) : Type 0 where
+  pub state : S
+  pub now : Outside
+  pub drove : AreDriven Drives items s state before now
+  pub is : written ≡ now.written
+
 -- what is behind the driven items: nothing, or first the item that was refused
 abbrev pub Leaves : {S U : Type 0} → (Status → S → Item → Outside → Outside → Type 0) → Result U Status → List Item → S → S → Outside → Outside → Type 0
 Leaves Refuses (Ok done) behind s t before after = (behind ≡ []) × (t ≡ s) × (after ≡ before)
@@ -33,11 +40,6 @@ pub record Drove {S U : Type 0} (Drives : S → S → Item → Outside → Outsi
   pub mid : Outside
   pub drove : AreDriven Drives driven s state before mid
   pub leaves : Leaves Refuses outcome behind state t mid after
-
--- one item more: it is driven or refused, or dropped where one was refused before
-abbrev pub GoesOn : {S U : Type 0} → (S → S → Item → Outside → Outside → Type 0) → (Status → S → Item → Outside → Outside → Type 0) → (outcome outcome' : Result U Status) → Item → S → S → Outside → Outside → Type 0
-GoesOn Drives Refuses (Ok done) outcome' item s t before after = MatchResult outcome' (λ _. Drives s t item before after) (λ status. Refuses status s item before after)
-GoesOn Drives Refuses (Err status) outcome' item s t before after = (outcome' ≡ Err status) × (t ≡ s) × (after ≡ before)
 
 -- Both lanes have ended and each of their items was taken, and these were driven.
 pub record Reconciled {S U : Type 0} (Drives : S → S → Item → Outside → Outside → Type 0) (Refuses : Status → S → Item → Outside → Outside → Type 0) (mail : MailId) (inbox : Receiver) (s t : S) (before after : Outside) (outcome : Result U Status) : Type 0 where

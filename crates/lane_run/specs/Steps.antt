@@ -1,5 +1,5 @@
 -- What one step of a watcher does: a line is read and its event sent, or the lane ends.
-use Rattle.std.specs.Prelude.{◌≡◌, ◌⊎◌, ⊤, ℕ, Bool, List, [], ◌∷◌, Option, Some, None}
+use Rattle.std.specs.Prelude.{◌≡◌, ◌⊎◌, ⊤, ℕ, Bool, false, List, [], ◌∷◌, Option, Some, None}
 use Rattle.std.specs.Io.KnownBytes.{IsAtEnd}
 use Rattle.kube_model.specs.declared.event.Event.{Event}
 use Rattle.lane_mail.specs.declared.lane.Lane.{Lane}
@@ -34,10 +34,10 @@ pub record IsBad (belongs : Lane → Event → Bool) (lane : Lane) (now next : O
   pub bytes_are : bytes ≡ line.bytes
 
 -- why the lane ends
-abbrev pub EndsAt : (Lane → Event → Bool) → Lane → (now next : Option Input) (held' : List ℕ) (left' : Option (List ℕ)) (faults faults' : ℕ) → LaneEnd → Type 0
-EndsAt belongs lane now next held' left' faults faults' Done = EndsAs now Whole × IsAtEnd left'
-EndsAt belongs lane now next held' left' faults faults' ReadFault = Follows now [] next × HasNoNewline held' × Rose faults faults'
-EndsAt belongs lane now next held' left' faults faults' (LineLimit number) = EndsAs now (LongLine number)
-EndsAt belongs lane now next held' left' faults faults' InputLimit = EndsAs now LongInput
-EndsAt belongs lane now next held' left' faults faults' (BadLine number bytes) = IsBad belongs lane now next number bytes
-EndsAt belongs lane now next held' left' faults faults' NoMemory = ⊤
+abbrev pub EndsAt : (Lane → Event → Bool) → Lane → (now next : Option Input) (held' : List ℕ) (left' : Option (List ℕ)) (faults faults' : ℕ) (safe : Bool) → LaneEnd → Type 0
+EndsAt belongs lane now next held' left' faults faults' safe Done = EndsAs now Whole × IsAtEnd left'
+EndsAt belongs lane now next held' left' faults faults' safe ReadFault = Follows now [] next × HasNoNewline held' × Rose faults faults' × (safe ≡ false)
+EndsAt belongs lane now next held' left' faults faults' safe (LineLimit number) = EndsAs now (LongLine number)
+EndsAt belongs lane now next held' left' faults faults' safe InputLimit = EndsAs now LongInput
+EndsAt belongs lane now next held' left' faults faults' safe (BadLine number bytes) = IsBad belongs lane now next number bytes
+EndsAt belongs lane now next held' left' faults faults' safe NoMemory = ⊤

@@ -1,5 +1,5 @@
 -- What contracts see of a source, and of what surrounds a reconciler.
-use Rattle.std.specs.Prelude.{ℕ, List, Option}
+use Rattle.std.specs.Prelude.{ℕ, Bool, false, List, Option}
 use Rattle.mlb_edge.specs.Reading.{Reading}
 
 -- a source
@@ -10,10 +10,16 @@ pub record SourceView : Type 0 where
   pub name : Option (List ℕ)
   -- how often reading has failed
   pub faults : ℕ
+  -- it is known that no read fails
+  pub safe : Bool
 
--- a source that tells this
+-- a source that tells this, and of which any read may fail
 abbrev pub source_view : Option (List ℕ) → Option (List ℕ) → ℕ → SourceView
-source_view left name faults = record { left = left; name = name; faults = faults }
+source_view left name faults = record { left = left; name = name; faults = faults; safe = false }
+
+-- a source that tells this, and whether it is known that no read fails
+abbrev pub lane_view : Option (List ℕ) → Option (List ℕ) → ℕ → Bool → SourceView
+lane_view left name faults safe = record { left = left; name = name; faults = faults; safe = safe }
 
 -- the replies that a reconciler reads, and the sink that it writes to
 pub record Outside : Type 0 where

@@ -1,15 +1,14 @@
 //! The run of two lanes: three threads, joined.
-ghost use Rattle.std.specs.Prelude.{◌≡◌, Ok, Err, IfOk, OnErr};
-ghost use Rattle.kube_model.specs.declared.status.Status.{Status};
-ghost use Rattle.lane_mail.specs.declared.lane.Lane.TheVariants.{First, Second};
-ghost use Rattle.lane_run.specs.Ran.{EndsSo, Ran, DrivesBeginnings, DrivesAll, DrivesInputs, RefusesNext};
-ghost use Rattle.lane_run.specs.Reconciled.{AsksIn};
-ghost use Rattle.lane_run.specs.Views.{outside, source_view};
+ghost use Rattle.std.specs.Prelude.{◌≡◌, IfOk, OnErr};
+ghost use Rattle.lane_run.specs.Ran.{Ran};
+ghost use Rattle.lane_run.specs.Reconciled.{AsksIn, HasDriven};
+ghost use Rattle.lane_run.specs.Views.{lane_view, outside, source_view};
+ghost use Rattle.lane_run.specs.Waiting.{MayBeAwaited};
 ghost use Rattle.line_run.specs.Answered.{MayBeAsked};
 
-use crate::lane_end::LaneEnd;
 use crate::lane_run::LaneRun;
 use crate::lanes::Lanes;
+use crate::paced::PacedWait;
 use crate::reconciler::Reconciler;
 use crate::threads::run_threads;
 use lane_mail::Mail;
@@ -17,7 +16,6 @@ use line_run::PacedSource;
 use mlb_base::NoMemory;
 use mlb_edge::{LineReader, Sink, Source};
 use std::alloc::Global;
-use std::sync::Wait;
 use std::thread::Threads;
 
 /// Drives the reconciler by the events of both sources' lines, in the order in which they come. Each lane's
@@ -29,7 +27,7 @@ use std::thread::Threads;
 pub fn run_lanes<
     L: Lanes + Send,
     M: Reconciler + Send,
-    R: Threads + Wait + Sync,
+    R: Threads + PacedWait + Sync,
     S: Source + Send,
     I: PacedSource<K> + Send,
     K: Sink + Send,
@@ -49,63 +47,22 @@ pub fn run_lanes<
         (K.written out.old) (K.faults out.old))
         (outside r (source_view (I.left i) (I.name i) (I.faults i)) (K.written o) (K.faults o))) }
 
-    // What was driven, and how it ended: all that follows, of one list of items.
+    // Behind each item that it took it waits for the next only where it was driven by all of them and what they came to stands written.
+    requires waits { MayBeAwaited R.may_wait rt.now (HasDriven M.Drives (M.state machine.old)
+        (outside reader.old (source_view (I.left input.old) (I.name input.old) (I.faults input.old))
+        (K.written out.old) (K.faults out.old))) }
+
+    // How both lanes ended, and what they sent. It was driven by all of that, or up to the item that it refused.
     ensures ran { IfOk result (λ run. Ran L.belongs M.Drives M.Refuses
-        (source_view (S.left first.old) (S.name first.old) (S.faults first.old))
-        (source_view (S.left first.new) (S.name first.new) (S.faults first.new))
-        (source_view (S.left second.old) (S.name second.old) (S.faults second.old))
-        (source_view (S.left second.new) (S.name second.new) (S.faults second.new))
+        (lane_view (S.left first.old) (S.name first.old) (S.faults first.old) (S.safe first.old))
+        (lane_view (S.left first.new) (S.name first.new) (S.faults first.new) (S.safe first.new))
+        (lane_view (S.left second.old) (S.name second.old) (S.faults second.old) (S.safe second.old))
+        (lane_view (S.left second.new) (S.name second.new) (S.faults second.new) (S.safe second.new))
         (M.state machine.old) (M.state machine.new)
         (outside reader.old (source_view (I.left input.old) (I.name input.old) (I.faults input.old))
         (K.written out.old) (K.faults out.old))
         (outside reader.new (source_view (I.left input.new) (I.name input.new) (I.faults input.new))
         (K.written out.new) (K.faults out.new)) run) }
-
-    // At every end the items driven are of each lane a beginning of its events, in order and each once.
-    ensures driven { IfOk result (λ run. DrivesBeginnings L.belongs M.Drives M.Refuses
-        (S.left first.old) (S.left second.old) (M.state machine.old) (M.state machine.new)
-        (outside reader.old (source_view (I.left input.old) (I.name input.old) (I.faults input.old))
-        (K.written out.old) (K.faults out.old))
-        (outside reader.new (source_view (I.left input.new) (I.name input.new) (I.faults input.new))
-        (K.written out.new) (K.faults out.new)) run.outcome) }
-
-    // Where nothing was refused, all that was sent was driven, also before a lane's fault.
-    ensures all { IfOk result (λ run. run.outcome ≡ Ok tt → DrivesAll L.belongs M.Drives
-        (source_view (S.left first.old) (S.name first.old) (S.faults first.old))
-        (source_view (S.left first.new) (S.name first.new) (S.faults first.new))
-        (source_view (S.left second.old) (S.name second.old) (S.faults second.old))
-        (source_view (S.left second.new) (S.name second.new) (S.faults second.new))
-        (M.state machine.old) (M.state machine.new)
-        (outside reader.old (source_view (I.left input.old) (I.name input.old) (I.faults input.old))
-        (K.written out.old) (K.faults out.old))
-        (outside reader.new (source_view (I.left input.new) (I.name input.new) (I.faults input.new))
-        (K.written out.new) (K.faults out.new)) run.first run.second) }
-
-    // Where nothing was refused and both lanes are done, a merge of both inputs' events was driven.
-    ensures done { IfOk result (λ run. run.outcome ≡ Ok tt → run.first ≡ LaneEnd.Done → run.second ≡ LaneEnd.Done
-        → DrivesInputs L.belongs M.Drives (S.left first.old) (S.left second.old)
-        (M.state machine.old) (M.state machine.new)
-        (outside reader.old (source_view (I.left input.old) (I.name input.old) (I.faults input.old))
-        (K.written out.old) (K.faults out.old))
-        (outside reader.new (source_view (I.left input.new) (I.name input.new) (I.faults input.new))
-        (K.written out.new) (K.faults out.new))) }
-
-    // A refusal is that of the item behind the driven ones.
-    ensures refused { IfOk result (λ run. (status : Status) → run.outcome ≡ Err status
-        → RefusesNext L.belongs M.Drives M.Refuses (S.left first.old) (S.left second.old)
-        (M.state machine.old)
-        (outside reader.old (source_view (I.left input.old) (I.name input.old) (I.faults input.old))
-        (K.written out.old) (K.faults out.old))
-        (outside reader.new (source_view (I.left input.new) (I.name input.new) (I.faults input.new))
-        (K.written out.new) (K.faults out.new)) status) }
-
-    // How each lane ends.
-    ensures first { IfOk result (λ run. EndsSo L.belongs First
-        (source_view (S.left first.old) (S.name first.old) (S.faults first.old))
-        (source_view (S.left first.new) (S.name first.new) (S.faults first.new)) run.first) }
-    ensures second { IfOk result (λ run. EndsSo L.belongs Second
-        (source_view (S.left second.old) (S.name second.old) (S.faults second.old))
-        (source_view (S.left second.new) (S.name second.new) (S.faults second.new)) run.second) }
 
     // The source of the replies keeps its name.
     ensures name { I.name input.new ≡ I.name input.old }
@@ -137,7 +94,7 @@ pub fn run_lanes<
         input,
         out,
     );
-    mail.into_lists(rt, inbox, first_done, second_done);
+    rt.into_lists(mail, inbox, first_done, second_done);
     Ok(LaneRun {
         outcome,
         first: first_end,

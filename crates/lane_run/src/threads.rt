@@ -2,13 +2,15 @@
 ghost use Rattle.std.specs.Prelude.{◌≡◌, []};
 ghost use Rattle.std.specs.Thread.{IsSync};
 ghost use Rattle.lane_mail.specs.declared.lane.Lane.TheVariants.{First, Second};
-ghost use Rattle.lane_run.specs.Reconciled.{AsksIn, Reconciled};
-ghost use Rattle.lane_run.specs.Views.{outside, source_view};
+ghost use Rattle.lane_run.specs.Reconciled.{AsksIn, HasDriven, Reconciled};
+ghost use Rattle.lane_run.specs.Waiting.{MayBeAwaited};
+ghost use Rattle.lane_run.specs.Views.{lane_view, outside, source_view};
 ghost use Rattle.lane_run.specs.Watched.{CanWatch, Watched};
 ghost use Rattle.line_run.specs.Answered.{MayBeAsked};
 
 use crate::lane_end::LaneEnd;
 use crate::lanes::Lanes;
+use crate::paced::PacedWait;
 use crate::reconciler::Reconciler;
 use crate::reconciling::reconcile;
 use crate::watching::watch;
@@ -17,7 +19,6 @@ use lane_mail::{InboxPass, Lane, LaneDone, LanePass, Mail};
 use line_run::PacedSource;
 use mlb_edge::{LineReader, Sink, Source};
 use std::alloc::Global;
-use std::sync::Wait;
 use std::thread::{Threads, join_mut};
 
 /// What a watcher leaves: what is left of its lane, and how it ended.
@@ -28,7 +29,7 @@ pub(crate) type Watch = (LaneDone, LaneEnd);
 pub(crate) fn run_threads<
     L: Lanes + Send,
     M: Reconciler + Send,
-    R: Threads + Wait + Sync,
+    R: Threads + PacedWait + Sync,
     S: Source + Send,
     I: PacedSource<K> + Send,
     K: Sink + Send,
@@ -53,6 +54,9 @@ pub(crate) fn run_threads<
         (outside reader.old (source_view (I.left input.old) (I.name input.old) (I.faults input.old))
         (K.written out.old) (K.faults out.old))
         (outside r (source_view (I.left i) (I.name i) (I.faults i)) (K.written o) (K.faults o))) }
+    requires waits { MayBeAwaited R.may_wait rt.now (HasDriven M.Drives (M.state machine.old)
+        (outside reader.old (source_view (I.left input.old) (I.name input.old) (I.faults input.old))
+        (K.written out.old) (K.faults out.old))) }
     ensures name { I.name input.new ≡ I.name input.old }
     ensures inbox { Reconciled M.Drives M.Refuses mail.now inbox.new (M.state machine.old) (M.state machine.new)
         (outside reader.old (source_view (I.left input.old) (I.name input.old) (I.faults input.old))
@@ -60,12 +64,12 @@ pub(crate) fn run_threads<
         (outside reader.new (source_view (I.left input.new) (I.name input.new) (I.faults input.new))
         (K.written out.new) (K.faults out.new)) result.0 }
     ensures first { Watched L.belongs mail.now First
-        (source_view (S.left first.old) (S.name first.old) (S.faults first.old))
-        (source_view (S.left first.new) (S.name first.new) (S.faults first.new))
+        (lane_view (S.left first.old) (S.name first.old) (S.faults first.old) (S.safe first.old))
+        (lane_view (S.left first.new) (S.name first.new) (S.faults first.new) (S.safe first.new))
         result.1.0 result.1.1 }
     ensures second { Watched L.belongs mail.now Second
-        (source_view (S.left second.old) (S.name second.old) (S.faults second.old))
-        (source_view (S.left second.new) (S.name second.new) (S.faults second.new))
+        (lane_view (S.left second.old) (S.name second.old) (S.faults second.old) (S.safe second.old))
+        (lane_view (S.left second.new) (S.name second.new) (S.faults second.new) (S.safe second.new))
         result.2.0 result.2.1 }
 {
     let (mut first_slot, mut second_slot) = (Some(first_pass), Some(second_pass));
@@ -77,6 +81,9 @@ pub(crate) fn run_threads<
                 (outside reader.now (source_view (I.left input.now) (I.name input.now) (I.faults input.now))
                 (K.written out.now) (K.faults out.now))
                 (outside r (source_view (I.left i) (I.name i) (I.faults i)) (K.written o) (K.faults o))) }
+            requires waits { MayBeAwaited R.may_wait rt.now (HasDriven M.Drives (M.state machine.now)
+                (outside reader.now (source_view (I.left input.now) (I.name input.now) (I.faults input.now))
+                (K.written out.now) (K.faults out.now))) }
             ensures name { I.name input.exit.now ≡ I.name input.entry.now }
             ensures reconciled { Reconciled M.Drives M.Refuses mail.entry.now inbox.exit.now (M.state machine.entry.now) (M.state machine.exit.now)
                 (outside reader.entry.now (source_view (I.left input.entry.now) (I.name input.entry.now) (I.faults input.entry.now))
@@ -87,12 +94,12 @@ pub(crate) fn run_threads<
         &mut || -> (Watch, Watch)
             requires { IsSync R.row × CanWatch mail.now First first_slot × CanWatch mail.now Second second_slot }
             ensures { Watched L.belongs mail.entry.now Second
-                (source_view (S.left second.entry.now) (S.name second.entry.now) (S.faults second.entry.now))
-                (source_view (S.left second.exit.now) (S.name second.exit.now) (S.faults second.exit.now))
+                (lane_view (S.left second.entry.now) (S.name second.entry.now) (S.faults second.entry.now) (S.safe second.entry.now))
+                (lane_view (S.left second.exit.now) (S.name second.exit.now) (S.faults second.exit.now) (S.safe second.exit.now))
                 result.0.0 result.0.1
                 × Watched L.belongs mail.entry.now First
-                (source_view (S.left first.entry.now) (S.name first.entry.now) (S.faults first.entry.now))
-                (source_view (S.left first.exit.now) (S.name first.exit.now) (S.faults first.exit.now))
+                (lane_view (S.left first.entry.now) (S.name first.entry.now) (S.faults first.entry.now) (S.safe first.entry.now))
+                (lane_view (S.left first.exit.now) (S.name first.exit.now) (S.faults first.exit.now) (S.safe first.exit.now))
                 result.1.0 result.1.1 }
         {
             join_mut(
@@ -100,15 +107,15 @@ pub(crate) fn run_threads<
                 &mut || -> Watch
                     requires { CanWatch mail.now Second second_slot }
                     ensures { Watched L.belongs mail.entry.now Second
-                        (source_view (S.left second.entry.now) (S.name second.entry.now) (S.faults second.entry.now))
-                        (source_view (S.left second.exit.now) (S.name second.exit.now) (S.faults second.exit.now))
+                        (lane_view (S.left second.entry.now) (S.name second.entry.now) (S.faults second.entry.now) (S.safe second.entry.now))
+                        (lane_view (S.left second.exit.now) (S.name second.exit.now) (S.faults second.exit.now) (S.safe second.exit.now))
                         result.0 result.1 }
                 { watch::<L, R, S>(rt, alloc, Lane::Second, mail, &mut second_slot, second) },
                 &mut || -> Watch
                     requires { CanWatch mail.now First first_slot }
                     ensures { Watched L.belongs mail.entry.now First
-                        (source_view (S.left first.entry.now) (S.name first.entry.now) (S.faults first.entry.now))
-                        (source_view (S.left first.exit.now) (S.name first.exit.now) (S.faults first.exit.now))
+                        (lane_view (S.left first.entry.now) (S.name first.entry.now) (S.faults first.entry.now) (S.safe first.entry.now))
+                        (lane_view (S.left first.exit.now) (S.name first.exit.now) (S.faults first.exit.now) (S.safe first.exit.now))
                         result.0 result.1 }
                 { watch::<L, R, S>(rt, alloc, Lane::First, mail, &mut first_slot, first) },
             )

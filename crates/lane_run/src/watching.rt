@@ -4,25 +4,25 @@ ghost use Rattle.lane_mail.specs.Values.{sent_more};
 ghost use Rattle.mlb_edge.specs.InputLines.{Passes, to_come};
 ghost use Rattle.lane_run.specs.Steps.{SendsNext, EndsAt};
 ghost use Rattle.lane_run.specs.Watched.{Ended, CanWatch, Watched};
-ghost use Rattle.lane_run.specs.Views.{source_view};
+ghost use Rattle.lane_run.specs.Views.{lane_view};
 
 use crate::lane_end::{LaneEnd, end_of};
 use crate::lanes::Lanes;
 use crate::line_items::item_of_line;
+use crate::paced::PacedWait;
 use lane_mail::{Item, Lane, LaneDone, LanePass, Mail};
 use mlb_edge::{LineReader, Source};
 use std::alloc::Global;
-use std::sync::Wait;
 
 /// Sends the item, and answers whether there was memory for it.
-fn put_item<R: Wait>(rt: &R, mail: &Mail, pass: &mut LanePass, item: Item) -> bool
+fn put_item<R: PacedWait>(rt: &R, mail: &Mail, pass: &mut LanePass, item: Item) -> bool
     requires mail { pass.old.mail ≡ mail.now }
     requires lane { item.lane ≡ pass.old.lane }
     requires room { length pass.old.sent < 2 ^ 61 }
     ensures sent { IsTrue result → pass.new ≡ sent_more pass.old item }
     ensures unsent { IsTrue (not result) → pass.new ≡ pass.old }
 {
-    match mail.put(rt, pass, item) {
+    match rt.put(mail, pass, item) {
         Ok(()) => true,
         Err(back) => {
             drop(back);
@@ -32,7 +32,7 @@ fn put_item<R: Wait>(rt: &R, mail: &Mail, pass: &mut LanePass, item: Item) -> bo
 }
 
 /// Reads one line and sends its event. `Some` says how the lane ended, and then nothing was sent.
-fn send_next<L: Lanes, R: Wait, S: Source>(
+fn send_next<L: Lanes, R: PacedWait, S: Source>(
     rt: &R,
     alloc: Global,
     lane: Lane,
@@ -48,13 +48,14 @@ fn send_next<L: Lanes, R: Wait, S: Source>(
         (to_come reader.old (S.left source.old)) (to_come reader.new (S.left source.new))) }
     ensures ends { IfSome result (λ end. EndsAt L.belongs lane
         (to_come reader.old (S.left source.old)) (to_come reader.new (S.left source.new))
-        reader.new.held (S.left source.new) (S.faults source.old) (S.faults source.new) end) }
+        reader.new.held (S.left source.new) (S.faults source.old) (S.faults source.new) (S.safe source.old) end) }
     ensures unsent { IfSome result (λ _. pass.new ≡ pass.old) }
     ensures passes { Passes reader.old reader.new (S.left source.old) (S.left source.new) }
     ensures near { IfNone result
         ((reader.old.passed < reader.new.passed) × (reader.new.passed ≤ 2 ^ 40)) }
     ensures later { S.faults source.old ≤ S.faults source.new }
     ensures name { S.name source.new ≡ S.name source.old }
+    ensures safe { S.safe source.new ≡ S.safe source.old }
 {
     let line = match reader.next_line(source) {
         Ok(Some(line)) => line,
@@ -73,7 +74,7 @@ fn send_next<L: Lanes, R: Wait, S: Source>(
 }
 
 /// Sends the events of the lines, one after the other, until the lane ends.
-fn send_lines<L: Lanes, R: Wait, S: Source>(
+fn send_lines<L: Lanes, R: PacedWait, S: Source>(
     rt: &R,
     alloc: Global,
     lane: Lane,
@@ -89,8 +90,8 @@ fn send_lines<L: Lanes, R: Wait, S: Source>(
     ensures mail { pass.new.mail ≡ pass.old.mail }
     ensures lane { pass.new.lane ≡ pass.old.lane }
     ensures ended { Ended L.belongs lane
-        (source_view (S.left source.old) (S.name source.old) (S.faults source.old))
-        (source_view (S.left source.new) (S.name source.new) (S.faults source.new))
+        (lane_view (S.left source.old) (S.name source.old) (S.faults source.old) (S.safe source.old))
+        (lane_view (S.left source.new) (S.name source.new) (S.faults source.new) (S.safe source.new))
         pass.new.sent result }
 {
     'lines: loop {
@@ -101,7 +102,7 @@ fn send_lines<L: Lanes, R: Wait, S: Source>(
 }
 
 /// Sends the events of the source, with a reader of its own.
-fn send_source<L: Lanes, R: Wait, S: Source>(
+fn send_source<L: Lanes, R: PacedWait, S: Source>(
     rt: &R,
     alloc: Global,
     lane: Lane,
@@ -115,8 +116,8 @@ fn send_source<L: Lanes, R: Wait, S: Source>(
     ensures mail { pass.new.mail ≡ pass.old.mail }
     ensures lane { pass.new.lane ≡ pass.old.lane }
     ensures ended { Ended L.belongs lane
-        (source_view (S.left source.old) (S.name source.old) (S.faults source.old))
-        (source_view (S.left source.new) (S.name source.new) (S.faults source.new))
+        (lane_view (S.left source.old) (S.name source.old) (S.faults source.old) (S.safe source.old))
+        (lane_view (S.left source.new) (S.name source.new) (S.faults source.new) (S.safe source.new))
         pass.new.sent result }
 {
     let Ok(mut reader) = LineReader::new(alloc) else {
@@ -127,7 +128,7 @@ fn send_source<L: Lanes, R: Wait, S: Source>(
 
 /// Sends the events of the source's lines until the input ends or something stops it, and then puts the
 /// lane's end mark. The lane's pass is taken out of its slot.
-pub(crate) fn watch<L: Lanes, R: Wait, S: Source>(
+pub(crate) fn watch<L: Lanes, R: PacedWait, S: Source>(
     rt: &R,
     alloc: Global,
     lane: Lane,
@@ -137,13 +138,13 @@ pub(crate) fn watch<L: Lanes, R: Wait, S: Source>(
 ) -> (LaneDone, LaneEnd)
     requires { CanWatch mail.now lane slot.old }
     ensures { Watched L.belongs mail.now lane
-        (source_view (S.left source.old) (S.name source.old) (S.faults source.old))
-        (source_view (S.left source.new) (S.name source.new) (S.faults source.new))
+        (lane_view (S.left source.old) (S.name source.old) (S.faults source.old) (S.safe source.old))
+        (lane_view (S.left source.new) (S.name source.new) (S.faults source.new) (S.safe source.new))
         result.0 result.1 }
 {
     let Some(mut pass) = slot.take() else {
         unreachable!();
     };
     let end = send_source::<L, R, S>(rt, alloc, lane, mail, &mut pass, source);
-    (mail.end(rt, pass), end)
+    (rt.end(mail, pass), end)
 }

@@ -1,8 +1,8 @@
 //! A reconciler that tells the lane of each item, and waits for a line.
 ghost use Rattle.std.specs.Prelude.{◌≡◌, [], OnOk, IfOk, IfErr};
 ghost use Rattle.mlb_edge.specs.InputLines.{HoldsLine, to_come};
-ghost use Rattle.lane_run.specs.Ran.{DrivesBeginnings};
-ghost use Rattle.lane_run.specs.Views.{Outside, outside, source_view};
+ghost use Rattle.lane_run.specs.Ran.{Ran};
+ghost use Rattle.lane_run.specs.Views.{Outside, lane_view, outside, source_view};
 ghost use Rattle.lane_run_tests.specs.Asks.{lane_byte, Hears, Unheard, Asks, AsksInVain};
 ghost use Rattle.lane_run_tests.specs.Halves.{belongs_to};
 
@@ -95,14 +95,17 @@ pub fn ask_lanes<R: Threads + Wait + Sync, S: Source + Send, I: Source + Send, K
     input: &mut I,
     out: &mut K,
 ) -> Result<LaneRun, NoMemory>
-    ensures { IfOk result (λ run. (after : Outside) × DrivesBeginnings belongs_to Asks AsksInVain
-        (S.left first.old) (S.left second.old) tt tt
+    ensures { IfOk result (λ run. (after : Outside) × Ran belongs_to Asks AsksInVain
+        (lane_view (S.left first.old) (S.name first.old) (S.faults first.old) (S.safe first.old))
+        (lane_view (S.left first.new) (S.name first.new) (S.faults first.new) (S.safe first.new))
+        (lane_view (S.left second.old) (S.name second.old) (S.faults second.old) (S.safe second.old))
+        (lane_view (S.left second.new) (S.name second.new) (S.faults second.new) (S.safe second.new)) tt tt
         (outside (record { held = []; passed = 0; number = 0 })
         (source_view (I.left input.old) (I.name input.old) (I.faults input.old))
-        (K.written out.old) (K.faults out.old)) after run.outcome) }
+        (K.written out.old) (K.faults out.old)) after run) }
 {
     let mut reader = LineReader::new(alloc)?;
-    run_lanes::<Halves, Asker, R, S, I, K>(
+    let ran = run_lanes::<Halves, Asker, R, S, I, K>(
         rt,
         alloc,
         first,
@@ -111,5 +114,7 @@ pub fn ask_lanes<R: Threads + Wait + Sync, S: Source + Send, I: Source + Send, K
         &mut reader,
         input,
         out,
-    )
+    );
+    drop(reader);
+    ran
 }

@@ -1,4 +1,7 @@
 //! Runs over sources and sinks in memory.
+//!
+//! Each function here is proved: sources, sinks and runs are let go by a call of `drop` in one place, and what can fail before takes them
+//! by reference.
 
 mod ends;
 mod meeting;
@@ -14,12 +17,6 @@ use std::thread::Threads;
 // More than any run here writes.
 const ROOM: usize = 100;
 
-/// An event of either lane.
-const EXPIRED: &str = "{\"type\":\"ERROR\"}\n";
-
-/// An event of the second lane alone.
-const MEMBERS: &str = "{\"type\":\"MEMBERS\",\"members\":[\"a\"]}\n";
-
 /// The run over both lanes, with these replies.
 fn run<R: Threads + Wait + Sync, S: Source + Send>(
     rt: &R,
@@ -30,5 +27,7 @@ fn run<R: Threads + Wait + Sync, S: Source + Send>(
     out: &mut SafeSink,
 ) -> Result<LaneRun, NoMemory> {
     let mut input = SafeSource::new(Vec::from_slice(alloc, replies.as_bytes())?);
-    ask_lanes(rt, alloc, first, second, &mut input, out)
+    let ran = ask_lanes(rt, alloc, first, second, &mut input, out);
+    drop(input);
+    ran
 }

@@ -2,6 +2,8 @@
 #![tactic(auto)]
 
 #[cfg(test)]
+mod room;
+#[cfg(test)]
 mod shared;
 #[cfg(test)]
 mod steps;

@@ -15,6 +15,11 @@ fn a_mail_is_shared_and_its_passes_are_sent(rt: HostRuntime) -> Result<(), NoMem
     can_be_sent(&first);
     can_be_sent(&second);
     can_be_sent(&inbox);
-    can_be_sent(&mail.end(&rt, first));
+    let done = mail.end(&rt, first);
+    can_be_sent(&done);
+    drop(done);
+    drop(second);
+    drop(inbox);
+    drop(mail);
     Ok(())
 }

@@ -1,4 +1,6 @@
 //! A mail in one thread.
+//!
+//! Each function here is proved, so an item, a mail and what comes of it are let go by a call of `drop`.
 ghost use Rattle.std.specs.Prelude.{◌≡◌, ◌+◌, ◌^◌, ◌<◌, [], length};
 ghost use Rattle.lane_mail.specs.Values.{HasAll};
 
@@ -28,31 +30,43 @@ pub fn send<R: Abort + Wait>(rt: &R, mail: &Mail, pass: &mut LanePass, lane: Lan
             event,
         },
     );
-    assert!(rt; sent.is_ok());
+    let is_sent = sent.is_ok();
+    drop(sent);
+    assert!(rt; is_sent);
 }
 
 /// Takes the next item, which must be of this lane and have this number.
-fn check_next<R: Abort + Wait>(rt: &R, mail: &Mail, inbox: &mut InboxPass, lane: Lane, number: u64)
+pub fn check_next<R: Abort + Wait>(
+    rt: &R,
+    mail: &Mail,
+    inbox: &mut InboxPass,
+    lane: Lane,
+    number: u64,
+)
     requires { inbox.old.mail ≡ mail.now }
     ensures { inbox.new.mail ≡ inbox.old.mail }
 {
     match mail.take(rt, inbox) {
         Taken::Item(item) => {
-            assert_eq!(rt; item.lane, lane);
-            assert_eq!(rt; item.number, number);
+            let is_next = item.lane == lane && item.number == number;
+            drop(item);
+            assert!(rt; is_next, "number {number}");
         }
         Taken::AllEnded => panic!(rt; "no item is left"),
     }
 }
 
 /// Looks into the mail where both lanes have ended and all is taken.
-fn check_end<R: Abort + Wait>(rt: &R, mail: &Mail, inbox: &mut InboxPass)
+pub fn check_end<R: Abort + Wait>(rt: &R, mail: &Mail, inbox: &mut InboxPass)
     requires { inbox.old.mail ≡ mail.now }
     ensures mail { inbox.new.mail ≡ inbox.old.mail }
     ensures ended { HasAll inbox.new }
 {
     match mail.take(rt, inbox) {
-        Taken::Item(_) => panic!(rt; "an item is left"),
+        Taken::Item(item) => {
+            drop(item);
+            panic!(rt; "an item is left")
+        }
         Taken::AllEnded => {}
     }
 }
@@ -90,7 +104,7 @@ fn pass_items<R: Abort + Wait>(
 fn items_are_taken_as_they_were_put(rt: HostRuntime) -> Result<(), NoMemory> {
     let (mail, first, second, mut inbox) = Mail::new(rt.alloc())?;
     let (first, second) = pass_items(&rt, &mail, first, second, &mut inbox);
-    let _lists = mail.into_lists(&rt, inbox, first, second);
+    drop(mail.into_lists(&rt, inbox, first, second));
     Ok(())
 }
 
@@ -104,8 +118,8 @@ fn end_both<R: Abort + Wait>(
 )
     requires mail { (first.mail ≡ mail.now) × (second.mail ≡ mail.now) × (inbox.old.mail ≡ mail.now) }
 {
-    let _second = mail.end(rt, second);
-    let _first = mail.end(rt, first);
+    drop(mail.end(rt, second));
+    drop(mail.end(rt, first));
     check_end(rt, mail, inbox);
     check_end(rt, mail, inbox);
 }
@@ -115,5 +129,7 @@ fn end_both<R: Abort + Wait>(
 fn lanes_without_items_end(rt: HostRuntime) -> Result<(), NoMemory> {
     let (mail, first, second, mut inbox) = Mail::new(rt.alloc())?;
     end_both(&rt, &mail, first, second, &mut inbox);
+    drop(inbox);
+    drop(mail);
     Ok(())
 }

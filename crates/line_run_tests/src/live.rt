@@ -1,6 +1,6 @@
 //! The two ends of a live bridge: the source gives a line only once the sink has the text of all lines before it, as where a
 //! reply waits for its put.
-ghost use Rattle.std.specs.Prelude.{◌≡◌, ◌≤◌, None, length};
+ghost use Rattle.std.specs.Prelude.{◌≡◌, ◌≤◌, None, false, length};
 
 use mlb_edge::{ReadFailed, Sink, Source, WriteFailed};
 use std::alloc::Global;
@@ -44,6 +44,8 @@ impl Source for LiveSource<'_> {
     ghost name = { λ _. None };
 
     ghost faults = { λ s. s.faults };
+
+    ghost safe = { λ _. false };
 
     fn read(&mut self, buf: &mut [u8]) -> Result<usize, ReadFailed> {
         if self.written.get() < self.given {

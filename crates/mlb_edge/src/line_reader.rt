@@ -1,6 +1,6 @@
 //! Reads the lines of a source, one after the other.
 
-ghost use Rattle.std.specs.Prelude.{◌≡◌, ◌≢◌, ◌≤◌, ◌<◌, ◌+◌, ◌^◌, ◌++◌, ◌∷◌, ℕ, List, [], length, slice_index, IfSome, IfNone, OnSome, ◌⊎◌, IfOk, OnOk, IfErr, OnErr, IsErrOf, IsTrue, MatchResult, take, drop, slice_range, ◌-◌, vec_len};
+ghost use Rattle.std.specs.Prelude.{◌≡◌, ◌≢◌, true, false, IsOk, ◌≤◌, ◌<◌, ◌+◌, ◌^◌, ◌++◌, ◌∷◌, ℕ, List, [], length, slice_index, IfSome, IfNone, OnSome, ◌⊎◌, IfOk, OnOk, IfErr, OnErr, IsErrOf, IsTrue, MatchResult, take, drop, slice_range, ◌-◌, vec_len};
 ghost use Rattle.mlb_edge.specs.Causes.{HasCause, Rose};
 ghost use Rattle.std.specs.Io.KnownBytes.{Consumes, IsAtEnd, Keeps};
 ghost use Rattle.mlb_edge.specs.Rows.{is_blank, CutsRow, HasNoNewline};
@@ -116,6 +116,8 @@ fn read_behind<S: Source>(
     ensures end { IfOk result (λ n. n ≡ 0 → IsAtEnd (S.left source.new)) }
     ensures name { S.name source.new ≡ S.name source.old }
     ensures cause { HasCause (S.faults source.old) (S.faults source.new) result }
+    ensures safe { S.safe source.new ≡ S.safe source.old }
+    ensures well { S.safe source.old ≡ true → IsOk result }
 {
     source.read(&mut buffer[end..end + BLOCK])
 }
@@ -172,6 +174,10 @@ impl LineReader {
         ensures unread { HoldsLine self.old → source.new ≡ source.old }
         ensures later { S.faults source.old ≤ S.faults source.new }
         ensures name { S.name source.new ≡ S.name source.old }
+
+        // A safe source stays one, and never fails.
+        ensures safe { S.safe source.new ≡ S.safe source.old }
+        ensures unsafe_read { IsErrOf result LineEnd.ReadFault → S.safe source.old ≡ false }
     {
         let mut is_last = false;
         loop {
@@ -272,6 +278,8 @@ impl LineReader {
         ensures name { S.name source.new ≡ S.name source.old }
         ensures later { S.faults source.old ≤ S.faults source.new }
         ensures cause { IsErrOf result LineEnd.ReadFault → Rose (S.faults source.old) (S.faults source.new) }
+        ensures safe { S.safe source.new ≡ S.safe source.old }
+        ensures unsafe_read { IsErrOf result LineEnd.ReadFault → S.safe source.old ≡ false }
         ensures fault { IfErr result (λ e. (e ≡ LineEnd.ReadFault) ⊎ (e ≡ LineEnd.NoMemory)) }
     {
         move_to_front(&mut self.buffer, self.start, self.end);

@@ -1,10 +1,17 @@
 //! The watchers run beside each other.
 
-use super::{EXPIRED, ROOM, run};
-use lane_run::LaneEnd;
+use super::{ROOM, run};
+use lane_run::{LaneEnd, LaneRun};
 use mlb_edge::{ReadFailed, SafeSink, SafeSource, Source};
+use std::alloc::Global;
+use std::process::Abort;
+use std::sync::Wait;
 use std::sync::atomic::{AtomicU64, Ordering};
 use std::test::Fail;
+use std::thread::Threads;
+
+/// An event of either lane.
+const EXPIRED: &str = "{\"type\":\"ERROR\"}\n";
 
 const LOOKS: u64 = 1_000_000_000;
 
@@ -31,13 +38,15 @@ impl Meeting<'_> {
 }
 
 impl Source for Meeting<'_> {
-    ghost use Rattle.std.specs.Prelude.{Some, None};
+    ghost use Rattle.std.specs.Prelude.{Some, None, false};
 
     ghost left = { λ s. Some s.source };
 
     ghost name = { λ _. None };
 
     ghost faults = { λ s. s.faults };
+
+    ghost safe = { λ _. false };
 
     fn read(&mut self, buf: &mut [u8]) -> Result<usize, ReadFailed> {
         if !self.has_met {
@@ -51,29 +60,55 @@ impl Source for Meeting<'_> {
     }
 }
 
+/// A source of one event.
+fn meeting<'a>(
+    alloc: Global,
+    mine: &'a AtomicU64,
+    theirs: &'a AtomicU64,
+) -> Result<Meeting<'a>, Fail> {
+    Ok(Meeting {
+        mine,
+        theirs,
+        source: SafeSource::new(Vec::from_slice(alloc, EXPIRED.as_bytes())?),
+        has_met: false,
+        faults: 0,
+    })
+}
+
+fn run_meeting<R: Threads + Wait + Sync>(
+    rt: &R,
+    alloc: Global,
+    (a, b): (&AtomicU64, &AtomicU64),
+    out: &mut SafeSink,
+) -> Result<LaneRun, Fail> {
+    let mut first = meeting(alloc, a, b)?;
+    let mut second = match meeting(alloc, b, a) {
+        Ok(second) => second,
+        Err(fail) => {
+            drop(first);
+            return Err(fail);
+        }
+    };
+    let ran = run(rt, alloc, &mut first, &mut second, "a\na\n", out);
+    drop(first);
+    drop(second);
+    Ok(ran?)
+}
+
+fn check_run(rt: &impl Abort, run: &LaneRun) {
+    assert!(rt; run.outcome.is_ok());
+    assert!(rt; matches!((&run.first, &run.second), (LaneEnd::Done, LaneEnd::Done)));
+}
+
 #[test]
 fn both_lanes_are_read_at_once(rt: HostRuntime) -> Result<(), Fail> {
-    let alloc = rt.alloc();
     let (a, b) = (AtomicU64::new(0), AtomicU64::new(0));
-    let mut first = Meeting {
-        mine: &a,
-        theirs: &b,
-        source: SafeSource::new(Vec::from_slice(alloc, EXPIRED.as_bytes())?),
-        has_met: false,
-        faults: 0,
-    };
-    let mut second = Meeting {
-        mine: &b,
-        theirs: &a,
-        source: SafeSource::new(Vec::from_slice(alloc, EXPIRED.as_bytes())?),
-        has_met: false,
-        faults: 0,
-    };
-    let mut out = SafeSink::with_room(alloc, ROOM)?;
-    let run = run(&rt, alloc, &mut first, &mut second, "a\na\n", &mut out)?;
-    assert!(rt; matches!(run.outcome, Ok(())));
-    assert!(rt; matches!(run.first, LaneEnd::Done));
-    assert!(rt; matches!(run.second, LaneEnd::Done));
+    let mut out = SafeSink::with_room(rt.alloc(), ROOM)?;
+    let ran = run_meeting(&rt, rt.alloc(), (&a, &b), &mut out);
     assert_eq!(rt; out.bytes().len(), 2);
+    drop(out);
+    let run = ran?;
+    check_run(&rt, &run);
+    drop(run);
     Ok(())
 }

@@ -1,6 +1,6 @@
 use Rattle.std.proofs.Common.{inl, ap}
 use Rattle.lane_run.specs.Views.{outside, source_view}
-use Rattle.lane_drive.proofs.Taken.{awaits_in}
+use Rattle.lane_drive.proofs.Taken.{answers_in, awaits_in}
 use Rattle.lane_drive.proofs.Ways.{asks_behind, ends_undriven, ends_refused, leaves_refused, quiet_then, ends_unknown, ends_behind, ends_as_lanes, leaves_driven, leaves_lanes}
 use Rattle.lane_drive.proofs.opened.run_opened.Goals as goal
 
@@ -8,17 +8,22 @@ pub run_lanes-ran-requires-clause-live : goal.run_lanes-ran-requires-clause-live
 run_lanes-ran-requires-clause-live g c = λ _ _ i r o name asks.
     c.requires.live i r o name (inl (awaits_in g.M.LaneMachine.rules (g.M.LaneMachine.state c.args.machine) _ _ c.requires.quiet asks))
 
+pub run_lanes-ran-requires-clause-waits : goal.run_lanes-ran-requires-clause-waits
+run_lanes-ran-requires-clause-waits g c = λ _ _ items written has.
+    c.requires.waits items written (answers_in g.M.LaneMachine.rules (g.M.LaneMachine.state c.args.machine) _ items written c.requires.quiet has)
+
 pub returns-in_default-clause-ended : goal.returns-in_default-clause-ended
 returns-in_default-clause-ended g c =
     ends_undriven g.M.Lanes.belongs g.M.LaneMachine.rules (g.M.LaneMachine.state c.args.machine) c.requires.quiet _ _ _ _ _ _ (ap g.K.Sink.written c.in_default.ensures.undriven.3)
 
 pub returns-in-Err-clause-ended : goal.returns-in-Err-clause-ended
 returns-in-Err-clause-ended g c =
-    ends_refused g.M.Lanes.belongs g.M.LaneMachine.rules (g.M.LaneMachine.state c.args.machine) c.requires.quiet _ _ _ _ _ _ c.in-Err.status (c.in-Ok.ensures.refused c.in-Err.status c.in-Err.is)
+    ends_refused g.M.Lanes.belongs g.M.LaneMachine.rules (g.M.LaneMachine.state c.args.machine) c.requires.quiet _ _ _ _ _ _ (g.M.LaneMachine.state c.run_lanes-ran.new.machine.replies.machine) _ c.in-Ok.ensures.ran c.in-Err.status c.in-Err.is
 
 pub returns-in-Err-clause-unheard : goal.returns-in-Err-clause-unheard
 returns-in-Err-clause-unheard g c =
-    leaves_refused g.M.Lanes.belongs g.M.LaneMachine.rules (g.M.LaneMachine.state c.args.machine) c.requires.quiet _ _ _ _ c.in-Err.status (g.met.M.LaneMachine g.world.𝓛 g.world.𝓜 g.world.𝓡 ((λ s x. x), (λ x. x), (λ x. x), λ x. x)).unheard (c.in-Ok.ensures.refused c.in-Err.status c.in-Err.is)
+    leaves_refused g.M.Lanes.belongs g.M.LaneMachine.rules (g.M.LaneMachine.state c.args.machine) c.requires.quiet _ _ _ _ _ _ (g.M.LaneMachine.state c.run_lanes-ran.new.machine.replies.machine) _ c.in-Ok.ensures.ran c.in-Err.status c.in-Err.is
+    (g.met.M.LaneMachine g.world.𝓛 g.world.𝓜 g.world.𝓡 ((λ s x. x), (λ x. x), (λ x. x), λ x. x)).unheard
 
 pub look_behind-requires : goal.look_behind-requires
 look_behind-requires g c =

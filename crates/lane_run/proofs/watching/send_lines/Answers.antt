@@ -1,7 +1,7 @@
 use Rattle.std.proofs.Common.{◌≡◌, ◌∷◌, [], ◌++◌, length, refl, ap, ◌∙◌, arith, length-append}
 use Rattle.lane_mail.specs.Values.{Sender}
 use Rattle.mlb_edge.specs.InputLines.{Passes-refl, Passes-append}
-use Rattle.lane_run.specs.Views.{source_view}
+use Rattle.lane_run.specs.Views.{lane_view}
 use Rattle.lane_run.proofs.LaneSoFar.{begins, goes_on, ended_so}
 use Rattle.lane_run.proofs.watching.send_lines.Goals as goal
 
@@ -14,6 +14,7 @@ lines-init g c = record {
   counted = rw c.requires.fresh (omega arith);
   later = omega arith;
   named = refl;
+  safety = refl;
 }
 
 pub returns-in-Some-clause-ended : goal.returns-in-Some-clause-ended
@@ -22,12 +23,13 @@ returns-in-Some-clause-ended g c =
     let left = g.S.Source.left in
     let name = g.S.Source.name in
     let faults = g.S.Source.faults in
+    let safe = g.S.Source.safe in
     let first = c.args.source.now in
     let now = c.lines.source in
     let after = c.send_next.new.source in
-    ended_so g.L.Lanes.belongs c.args.lane (source_view (left first) (name first) (faults first)) (source_view (left now) (name now) (faults now)) (source_view (left after) (name after) (faults after)) c.lines.reader c.send_next.new.reader
+    ended_so g.L.Lanes.belongs c.args.lane (lane_view (left first) (name first) (faults first) (safe first)) (lane_view (left now) (name now) (faults now) (safe now)) (lane_view (left after) (name after) (faults after) (safe after)) c.lines.reader c.send_next.new.reader
     c.lines.pass.sent c.send_next.new.pass.sent c.in-Some.end i.watching (Passes-append _ c.lines.reader c.send_next.new.reader _ (left now) _ i.passes c.send_next.ensures.passes)
-    i.later i.named c.in-Some.ensures.ends (ap (λ (s : Sender). s.sent) c.in-Some.ensures.unsent) c.send_next.ensures.later c.send_next.ensures.name
+    i.later i.named i.safety c.in-Some.ensures.ends (ap (λ (s : Sender). s.sent) c.in-Some.ensures.unsent) c.send_next.ensures.later c.send_next.ensures.name c.send_next.ensures.safe
 
 pub lines-preserved : goal.lines-preserved
 lines-preserved g c =
@@ -42,4 +44,5 @@ lines-preserved g c =
       counted = omega (arith, i.counted, c.in_default.ensures.near.0, ap length more, length-append c.lines.pass.sent (s.item ∷ []));
       later = omega (arith, i.later, c.send_next.ensures.later);
       named = c.send_next.ensures.name ∙ i.named;
+      safety = c.send_next.ensures.safe ∙ i.safety;
     }

@@ -49,7 +49,7 @@ loop-len-preserved-in-Some g c =
     let held : c.held.result.now ≡ c.loop-len.self.held = c.held.ensures ∙ ap (λ (r : Reading). r.held) c.first_row.ensures.same in
     let blank : is_blank (take c.in-Some.len c.loop-len.self.held) ≡ true = rw (← held) (sym c.is_blank.ensures ∙ c.if-not-is_blank.false) in
     rw (c.pass.ensures, c.first_row.ensures.same)
-    (going_past g.S.Source.left g.S.Source.name g.S.Source.faults c.args.self.now c.loop-len.self c.args.source.now c.loop-len.source c.loop-len.is_last c.in-Some.len c.in-Some.size
+    (going_past g.S.Source.left g.S.Source.name g.S.Source.faults g.S.Source.safe c.args.self.now c.loop-len.self c.args.source.now c.loop-len.source c.loop-len.is_last c.in-Some.len c.in-Some.size
     i c.in-Some.ensures.row near.0 near.1 blank)
 
 pub returns-in_err-check_open-in-None-2-clause-line_limit : goal.returns-in_err-check_open-in-None-2-clause-line_limit
@@ -77,8 +77,8 @@ loop-len-preserved g c =
     let i = c.loop-len.invariant in
     let read = rw c.first_row.ensures.same at c.in_ok-is_last-in-None-2.ensures.bytes in
     let same = rw c.first_row.ensures.same at c.fill.ensures.same in
-    going_read g.S.Source.left g.S.Source.name g.S.Source.faults c.args.self.now c.loop-len.self c.fill.new.self c.args.source.now c.loop-len.source c.fill.new.source c.loop-len.is_last _ read.0
-    i c.in-None.ensures.none read.3 read.1 same.0 same.1 (λ zero. c.in_ok-is_last-in-None-2.ensures.end (eqb-true _ _ zero)) c.fill.ensures.later c.fill.ensures.name
+    going_read g.S.Source.left g.S.Source.name g.S.Source.faults g.S.Source.safe c.args.self.now c.loop-len.self c.fill.new.self c.args.source.now c.loop-len.source c.fill.new.source c.loop-len.is_last _ read.0
+    i c.in-None.ensures.none read.3 read.1 same.0 same.1 (λ zero. c.in_ok-is_last-in-None-2.ensures.end (eqb-true _ _ zero)) c.fill.ensures.later c.fill.ensures.name c.fill.ensures.safe
 
 pub loop-len-init : goal.loop-len-init
 loop-len-init g c = record {
@@ -87,6 +87,7 @@ loop-len-init g c = record {
   end = λ no. absurd (false≢true no);
   later = omega arith;
   named = refl;
+  safety = refl;
   further = omega arith;
   untouched = λ holds. (refl, refl, holds);
 }

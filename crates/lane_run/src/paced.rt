@@ -1,0 +1,98 @@
+//! Waiting for lanes, only at times.
+ghost use Rattle.std.specs.Prelude.{◌≡◌, ◌^◌, ◌<◌, ◌↔◌, ◌++◌, ◌∷◌, [], ⊤, ℕ, List, Option, length, OnOk, IfErr};
+ghost use Rattle.lane_mail.specs.Lanes.{items_of};
+ghost use Rattle.lane_mail.specs.Merges.{IsMerge};
+ghost use Rattle.lane_mail.specs.Values.{HasAll, sent_more};
+ghost use Rattle.lane_mail.specs.declared.item.Item.{Item};
+ghost use Rattle.lane_mail.specs.declared.lane.Lane.TheVariants.{First, Second};
+ghost use Rattle.lane_run.specs.Watched.{IsBeginning};
+
+use lane_mail::{InboxPass, Item, LaneDone, LanePass, Lists, Mail, PutBack, Taken};
+use mlb_edge::Sink;
+use std::sync::Wait;
+
+/// May wait for lanes, and for the next item of a mail only at times, as a live bridge, which sends the next event once it has seen
+/// what those before came to.
+///
+/// It isn't a `Wait`, so nothing else can be waited for by it. A run over any such runtime therefore shows, at each call that may wait
+/// for an item, that it may be waited for.
+pub trait PacedWait {
+    /// The next item may be waited for when these were taken, and this stands written, where the sink tells it.
+    ghost may_wait: { Self → List Item → Option (List ℕ) → Type 0 };
+
+    /// The next item, as `Mail::take` gives it. `out` is the sink that the items taken before are answered to.
+    fn take_next<K: Sink>(&self, mail: &Mail, inbox: &mut InboxPass, out: &K) -> Taken
+        requires mail { inbox.old.mail ≡ mail.now }
+        requires paced { may_wait self.now inbox.old.taken (K.written out.now) }
+        ensures mail { inbox.new.mail ≡ inbox.old.mail }
+        ensures item { (item : Item) → result ≡ Taken.Item item → inbox.new.taken ≡ inbox.old.taken ++ item ∷ [] }
+        ensures ended { (result ≡ Taken.AllEnded) ↔ ((inbox.new.taken ≡ inbox.old.taken) × HasAll inbox.new) };
+
+    /// Takes all that the lanes still send, and drops it unseen.
+    fn drop_rest(&self, mail: &Mail, inbox: &mut InboxPass)
+        requires { inbox.old.mail ≡ mail.now }
+        ensures mail { inbox.new.mail ≡ inbox.old.mail }
+        ensures taken { IsBeginning inbox.old.taken inbox.new.taken }
+        ensures ended { HasAll inbox.new };
+
+    /// `Mail::put`.
+    fn put(&self, mail: &Mail, pass: &mut LanePass, item: Item) -> Result<(), PutBack>
+        requires mail { pass.old.mail ≡ mail.now }
+        requires lane { item.lane ≡ pass.old.lane }
+        requires room { length pass.old.sent < 2 ^ 61 }
+        ensures ok { OnOk result (pass.new ≡ sent_more pass.old item) }
+        ensures err { IfErr result (λ back. (back.item ≡ item) × (pass.new ≡ pass.old)) };
+
+    /// `Mail::end`.
+    fn end(&self, mail: &Mail, pass: LanePass) -> LaneDone
+        requires { pass.mail ≡ mail.now }
+        ensures { result ≡ pass };
+
+    /// `Mail::into_lists`.
+    fn into_lists(&self, mail: Mail, inbox: InboxPass, first: LaneDone, second: LaneDone) -> Lists
+        requires mail { (inbox.mail ≡ mail) × (first.mail ≡ mail) × (second.mail ≡ mail) }
+        requires lanes { (first.lane ≡ First) × (second.lane ≡ Second) }
+        requires ended { HasAll inbox }
+        ensures first { items_of First inbox.taken ≡ first.sent }
+        ensures second { items_of Second inbox.taken ≡ second.sent }
+        ensures merge { IsMerge inbox.taken first.sent second.sent };
+
+    /// Never returns.
+    fn block(&self) -> !;
+}
+
+/// What is a `Wait` may wait at any time.
+impl<R: Wait> PacedWait for R {
+    ghost may_wait = { λ _ _ _. ⊤ };
+
+    fn take_next<K: Sink>(&self, mail: &Mail, inbox: &mut InboxPass, _out: &K) -> Taken {
+        mail.take(self, inbox)
+    }
+
+    fn drop_rest(&self, mail: &Mail, inbox: &mut InboxPass) {
+        for _ in self.forever() {
+            match mail.take(self, inbox) {
+                Taken::Item(item) => drop(item),
+                Taken::AllEnded => return,
+            }
+        }
+        unreachable!()
+    }
+
+    fn put(&self, mail: &Mail, pass: &mut LanePass, item: Item) -> Result<(), PutBack> {
+        mail.put(self, pass, item)
+    }
+
+    fn end(&self, mail: &Mail, pass: LanePass) -> LaneDone {
+        mail.end(self, pass)
+    }
+
+    fn into_lists(&self, mail: Mail, inbox: InboxPass, first: LaneDone, second: LaneDone) -> Lists {
+        mail.into_lists(self, inbox, first, second)
+    }
+
+    fn block(&self) -> ! {
+        for _ in self.forever() {}
+        unreachable!()
+    }
+}

@@ -157,6 +157,5 @@ ends_unbegun start file file' files files' first second replies written n opened
   second' = second;
   reading = unread;
   ends = inr (inr (inr (inr (refl, writes_nothing start first.left second.left replies.left written))));
-  first_told = λ known. absurd (known refl);
-  second_told = λ known. absurd (known refl);
+  kept = λ known. absurd (known refl);
 }

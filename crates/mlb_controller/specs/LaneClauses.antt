@@ -1,5 +1,5 @@
 -- What the controller owes where the words ask for a run over two lanes. Each definition is of the class and the files that they name.
-use Rattle.std.specs.Prelude.{◌≡◌, ◌⊎◌, ℕ, ⊤, List, String, Option, Some}
+use Rattle.std.specs.Prelude.{◌≡◌, ◌⊎◌, ℕ, Bool, ⊤, List, String, Option, Some}
 use Rattle.command_options.specs.Lanes.{LaneNames}
 use Rattle.command_options.specs.Options.{texts_of}
 use Rattle.core_drive.specs.Sound.{IsSound}
@@ -8,11 +8,14 @@ use Rattle.kube_model.specs.declared.status.LaneName.{LaneName}
 use Rattle.kube_model.specs.declared.status.LaneName.TheVariants as names
 use Rattle.kube_model.specs.declared.status.Status.{Status}
 use Rattle.kube_model.specs.declared.status.Status.TheVariants.{Done, Usage, OpenFault, ReadFault, WriteFault, BadLine, BadReply, NoReply, Limit, NoMemory}
-use Rattle.lane_drive.specs.Asking.{AsksMore}
+use Rattle.lane_drive.specs.Asking.{AnswersAll, AsksMore}
 use Rattle.lane_drive.specs.Clauses as lanes
+use Rattle.lane_drive.specs.Complete as can_be_done
 use Rattle.lane_drive.specs.Drive.{entries_of}
 use Rattle.lane_drive.specs.Files.{FilesView}
-use Rattle.lane_run.specs.Views.{SourceView, outside, source_view}
+use Rattle.lane_mail.specs.declared.item.Item.{Item}
+use Rattle.lane_run.specs.Views.{SourceView, lane_view, outside, source_view}
+use Rattle.lane_run.specs.Waiting.{MayBeAwaited}
 use Rattle.line_run.specs.Answered.{MayBeAsked}
 use Rattle.line_run.specs.Clauses.{CanPass}
 use Rattle.mlb_edge.specs.Reading.{Reading}
@@ -26,16 +29,20 @@ abbrev pub OverLanes : {Z : Type 0} → List (String Z) → (Option (List ℕ) �
 OverLanes words Owes = (class : Option (List ℕ)) (files : LaneNames) → AskLanes (texts_of words) class files → Owes class files
 
 -- the input may be asked for more wherever all that was taken is answered, with all replies that came, and a reply is awaited or both lanes have ended
-abbrev pub LanesMayAsk : {S K : Type 0} → (List ℕ → Option (List ℕ)) → (name left : S → Option (List ℕ)) (reads : S → ℕ) → (S → Reading → K → Type 0) → (written : K → Option (List ℕ)) (writes : K → ℕ) → S → K → Option (List ℕ) → LaneNames → Type 0
-LanesMayAsk bytes name left reads may_read written writes input out class files =
-    MayBeAsked name may_read input (λ source reader out'. AsksMore belongs_to lane_rules (fresh class) (source_view (bytes files.first) (Some files.first) 0) (source_view (bytes files.second) (Some files.second) 0)
+abbrev pub LanesMayAsk : {S K : Type 0} → (List ℕ → Option (List ℕ)) → (List ℕ → Bool) → (name left : S → Option (List ℕ)) (reads : S → ℕ) → (S → Reading → K → Type 0) → (written : K → Option (List ℕ)) (writes : K → ℕ) → S → K → Option (List ℕ) → LaneNames → Type 0
+LanesMayAsk bytes safe name left reads may_read written writes input out class files =
+    MayBeAsked name may_read input (λ source reader out'. AsksMore belongs_to lane_rules (fresh class) (lane_view (bytes files.first) (Some files.first) 0 (safe files.first)) (lane_view (bytes files.second) (Some files.second) 0 (safe files.second))
     (outside lanes.unread (source_view (left input) (name input) (reads input)) (written out) (writes out))
     (outside reader (source_view (left source) (name source) (reads source)) (written out') (writes out')))
 
+-- the next item may be waited for wherever just the text of all items taken before stands written, with all replies to them heard
+abbrev pub LanesMayWait : {R : Type 0} → (R → List Item → Option (List ℕ) → Type 0) → R → (replies : SourceView) (written : Option (List ℕ)) (writes : ℕ) → Option (List ℕ) → LaneNames → Type 0
+LanesMayWait may_wait rt replies written writes class files = MayBeAwaited may_wait rt (AnswersAll lane_rules (fresh class) (outside lanes.unread replies written writes))
+
 -- how the run ended, once both files are open
-abbrev pub LanesEnd : (List ℕ → Option (List ℕ)) → (files files' : FilesView) (replies replies' : SourceView) (before after : Option (List ℕ)) (writes writes' : ℕ) → Status → Option (List ℕ) → LaneNames → Type 0
-LanesEnd bytes opened opened' replies replies' before after writes writes' status class files =
-    lanes.AtEnd belongs_to lane_rules (fresh class) files.first files.second opened opened' (source_view (bytes files.first) (Some files.first) 0) (source_view (bytes files.second) (Some files.second) 0)
+abbrev pub LanesEnd : (List ℕ → Option (List ℕ)) → (List ℕ → Bool) → (files files' : FilesView) (replies replies' : SourceView) (before after : Option (List ℕ)) (writes writes' : ℕ) → Status → Option (List ℕ) → LaneNames → Type 0
+LanesEnd bytes safe opened opened' replies replies' before after writes writes' status class files =
+    lanes.AtEnd belongs_to lane_rules (fresh class) files.first files.second opened opened' (lane_view (bytes files.first) (Some files.first) 0 (safe files.first)) (lane_view (bytes files.second) (Some files.second) 0 (safe files.second))
     replies replies' before after writes writes' status
 
 -- where it is done all that both files carry was taken, with all lines of the input as the replies, and just its text was written
@@ -62,6 +69,12 @@ pub record LeavesServed (first second left left' before after class : Option (Li
 -- so it is where the run is done
 abbrev pub LanesQuiet : (List ℕ → Option (List ℕ)) → Status → (left left' before after : Option (List ℕ)) → Option (List ℕ) → LaneNames → Type 0
 LanesQuiet bytes status left left' before after class files = status ≡ Done → LeavesServed (bytes files.first) (bytes files.second) left left' before after class
+
+-- where each line of both files can be taken, in whatever order the events of both come, with a reply to each put and no line behind the last,
+-- and no count of faults rises, the run is done, but for want of memory
+abbrev pub LanesComplete : (List ℕ → Option (List ℕ)) → Status → (files files' : FilesView) (replies : Option (List ℕ)) (reads reads' writes writes' : ℕ) → Option (List ℕ) → LaneNames → Type 0
+LanesComplete bytes status before after replies reads reads' writes writes' class files =
+    can_be_done.IsComplete belongs_to lane_rules (fresh class) (bytes files.first) (bytes files.second) status before after replies reads reads' writes writes'
 
 -- a file isn't opened exactly where its opening failed, and then nothing was read; else no opening failed
 abbrev pub LaneOpenFault : Status → (files files' : FilesView) → Option (List ℕ) → LaneNames → Type 0

@@ -6,22 +6,22 @@ ghost use Rattle.kube_model.specs.declared.status.LaneName.{LaneName};
 ghost use Rattle.lane_drive.specs.Files.{files_view};
 ghost use Rattle.lane_run.specs.Views.{source_view};
 ghost use Rattle.line_run.specs.Clauses.{AtWriteFault};
-ghost use Rattle.mlb_controller.specs.LaneClauses.{LanesMayAsk, LanesEnd, LanesDone, LanesSound, LanesQuiet, CanEndLanes, LaneOpenFault, LaneReadFault, LaneOthers};
+ghost use Rattle.mlb_controller.specs.LaneClauses.{LanesMayAsk, LanesMayWait, LanesEnd, LanesComplete, LanesDone, LanesSound, LanesQuiet, CanEndLanes, LaneOpenFault, LaneReadFault, LaneOthers};
 
 use crate::controller::Controller;
 use command_options::LaneFiles;
 use kube_model::Status;
 use lane_drive::run_lane_files;
+use lane_run::PacedWait;
 use line_run::PacedSource;
 use mlb_edge::{Files, Sink};
 use std::alloc::Global;
-use std::sync::Wait;
 use std::thread::Threads;
 
 /// The run over two files, that of the configuration and that of the services, for the services of the class. The lines of the input are the
 /// replies to its puts.
 pub(crate) fn lanes_controller<
-    R: Threads + Wait + Sync,
+    R: Threads + PacedWait + Sync,
     F: Files,
     S: PacedSource<K> + Send,
     K: Sink + Send,
@@ -34,9 +34,12 @@ pub(crate) fn lanes_controller<
     input: &mut S,
     out: &mut K,
 ) -> Status
-    requires live { LanesMayAsk (F.bytes files.old) S.name S.left S.faults S.may_read K.written K.faults input.old out.old
+    requires live { LanesMayAsk (F.bytes files.old) (F.safe files.old) S.name S.left S.faults S.may_read K.written K.faults input.old out.old
         (option_map (λ c. c.now) class) (lane_seen lanes) }
-    ensures ended { LanesEnd (F.bytes files.old)
+    requires waits { LanesMayWait R.may_wait rt.now
+        (source_view (S.left input.old) (S.name input.old) (S.faults input.old)) (K.written out.old) (K.faults out.old)
+        (option_map (λ c. c.now) class) (lane_seen lanes) }
+    ensures ended { LanesEnd (F.bytes files.old) (F.safe files.old)
         (files_view (F.failed_opens files.old) (F.failed_reads files.old))
         (files_view (F.failed_opens files.new) (F.failed_reads files.new))
         (source_view (S.left input.old) (S.name input.old) (S.faults input.old))
@@ -61,6 +64,11 @@ pub(crate) fn lanes_controller<
         (files_view (F.failed_opens files.new) (F.failed_reads files.new)) (S.faults input.old) (S.faults input.new)
         (option_map (λ c. c.now) class.entry) (lane_seen lanes.entry) }
     ensures write_fault { AtWriteFault result (K.faults out.old) (K.faults out.new) }
+    ensures complete { LanesComplete (F.bytes files.old) result
+        (files_view (F.failed_opens files.old) (F.failed_reads files.old))
+        (files_view (F.failed_opens files.new) (F.failed_reads files.new))
+        (S.left input.old) (S.faults input.old) (S.faults input.new) (K.faults out.old) (K.faults out.new)
+        (option_map (λ c. c.now) class.entry) (lane_seen lanes.entry) }
     ensures unopened { (lane : LaneName) → result ≡ Status.OpenFault lane → (input.new ≡ input.old) × (out.new ≡ out.old) }
     ensures others { LaneOthers
         (files_view (F.failed_opens files.old) (F.failed_reads files.old))

@@ -183,10 +183,21 @@ fn drive_item<K: Sink>(
         (K.written out.old) (K.written out.new) (K.faults out.old) (K.faults out.new)) }
     ensures later { K.faults out.old ≤ K.faults out.new }
 {
-    let note = take_from(core, item.lane, item.event)?;
-    match tell_item(alloc, core, item.lane, item.number, &note, out) {
-        Ok(()) => Ok(()),
-        Err(halt) => Err(Refusal::Halted { halt }),
+    let Item {
+        lane,
+        number,
+        event,
+    } = item;
+    let note = take_from(core, lane, event)?;
+    match tell_item(alloc, core, lane, number, &note, out) {
+        Ok(()) => {
+            drop(note);
+            Ok(())
+        }
+        Err(halt) => {
+            drop(note);
+            Err(Refusal::Halted { halt })
+        }
     }
 }
 

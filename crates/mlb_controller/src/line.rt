@@ -32,11 +32,13 @@ fn take_line<K: Sink>(
     let event = match read_event(alloc, line.bytes.as_slice()) {
         Ok(event) => event,
         Err(EventFault::NoMemory) => {
+            drop(line);
             return Err(Refusal::Halted {
                 halt: Halt::NoMemory,
             });
         }
-        Err(_) => {
+        Err(fault) => {
+            drop(fault);
             return Err(Refusal::Stopped {
                 status: Status::BadLine {
                     lane: LaneName::Input,
@@ -46,10 +48,17 @@ fn take_line<K: Sink>(
             });
         }
     };
+    drop(line);
     let note = take_event(core, event)?;
     match tell(alloc, core, &note, out) {
-        Ok(()) => Ok(()),
-        Err(halt) => Err(Refusal::Halted { halt }),
+        Ok(()) => {
+            drop(note);
+            Ok(())
+        }
+        Err(halt) => {
+            drop(note);
+            Err(Refusal::Halted { halt })
+        }
     }
 }
 
@@ -81,9 +90,12 @@ pub(crate) fn hear_line<K: Sink>(
 {
     let reply = match reply_in(alloc, core, &line) {
         Ok(reply) => reply,
-        Err(ReplyFault::NoMemory) => return Err(Refusal::Halted {
-            halt: Halt::NoMemory,
-        }),
+        Err(ReplyFault::NoMemory) => {
+            drop(line);
+            return Err(Refusal::Halted {
+                halt: Halt::NoMemory,
+            });
+        }
         Err(ReplyFault::BadReply) => {
             return Err(Refusal::Stopped {
                 status: Status::BadReply {
@@ -93,6 +105,7 @@ pub(crate) fn hear_line<K: Sink>(
             });
         }
     };
+    drop(line);
     if core.answered(reply).is_err() {
         return Err(Refusal::Halted {
             halt: Halt::NoMemory,

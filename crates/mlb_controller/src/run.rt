@@ -9,35 +9,39 @@ ghost use Rattle.line_run.specs.Clauses.{AtReadFault, AtWriteFault};
 ghost use Rattle.command_options.specs.Options.{texts_of};
 ghost use Rattle.controller_words.specs.Words.{AreKnown};
 ghost use Rattle.mlb_controller.specs.Asked.{AskLanes, AskNoLanes};
-ghost use Rattle.mlb_controller.specs.LaneClauses.{OverLanes, LanesMayAsk, LanesEnd, LanesDone, LanesSound, LanesQuiet, LaneCanEnd, LaneOpenFault, LaneReadFault, LaneOthers};
+ghost use Rattle.mlb_controller.specs.LaneClauses.{OverLanes, LanesMayAsk, LanesMayWait, LanesEnd, LanesComplete, LanesDone, LanesSound, LanesQuiet, LaneCanEnd, LaneOpenFault, LaneReadFault, LaneOthers};
 ghost use Rattle.mlb_controller.specs.Clauses.{MayAskAnswered, CanEnd, AtEnd, AtDone, AtNoReply, AtBadLine, AtBadReply, AtServiceLimit, AtLongLine, AtTooLong, AfterRead, AfterWrite, AtNoMemory, WritesSound, RunsSound, RunsSafe, EndsQuiet, HandlesNamed, IsExact, IsComplete, WritesTrial, LeavesInput, TrialIsSafe};
 
 use crate::lane_files::lanes_controller;
 use crate::stream::stream_controller;
 use controller_words::{Asked, LaneFiles, controller_words};
 use kube_model::Status;
+use lane_run::PacedWait;
 use line_run::PacedSource;
 use mlb_edge::{Files, Sink};
 use std::alloc::Global;
-use std::sync::Wait;
 use std::thread::Threads;
 
 /// All that the program does: the run over one stream, where no file is opened, or that over two lane files, where the words name them.
-pub fn run_controller<R: Threads + Wait + Sync, F: Files, S: PacedSource<K> + Send, K: Sink + Send>(
-    rt: &R,
-    alloc: Global,
-    words: &[String],
-    files: &mut F,
-    input: &mut S,
-    out: &mut K,
-) -> Status
+pub fn run_controller<
+    R: Threads + PacedWait + Sync,
+    F: Files,
+    S: PacedSource<K> + Send,
+    K: Sink + Send,
+>(rt: &R, alloc: Global, words: &[String], files: &mut F, input: &mut S, out: &mut K) -> Status
     // Over one stream no output is held back: the input may be asked for more where all that came whole was answered. Nothing else is known of
     // when it may, so the program asks it nowhere else. Over two files it may be asked where all that was taken is answered, with all replies
-    // that came, and a reply is awaited or both lanes have ended; that a lane's reading failed is always possible there. What is only a
-    // `Source` may be asked at any time, and meets both.
+    // that came, and a reply is awaited or both lanes have ended; that a lane's reading failed is possible there where its file isn't safe.
+    // What is only a `Source` may be asked at any time, and meets both.
     requires live { MayAskAnswered words.now S.name S.left S.may_read K.written input.old out.old }
-    requires lanes_live { OverLanes words.now (LanesMayAsk (F.bytes files.old) S.name S.left S.faults S.may_read K.written K.faults
+    requires lanes_live { OverLanes words.now (LanesMayAsk (F.bytes files.old) (F.safe files.old) S.name S.left S.faults S.may_read K.written K.faults
         input.old out.old) }
+
+    // The next event of the files may be waited for where just the text of all that were taken before stands written, with the replies to
+    // their puts heard. Nothing else is known of when it may, so nothing is held back while a lane is waited for. What is a `Wait` may wait
+    // at any time, and meets this.
+    requires lanes_wait { OverLanes words.now (LanesMayWait R.may_wait rt.now
+        (source_view (S.left input.old) (S.name input.old) (S.faults input.old)) (K.written out.old) (K.faults out.old)) }
 
     ensures no_file { AskNoLanes (texts_of words.now) → files.new ≡ files.old }
     ensures can_end { AskNoLanes (texts_of words.now) → CanEnd result }
@@ -93,7 +97,7 @@ pub fn run_controller<R: Threads + Wait + Sync, F: Files, S: PacedSource<K> + Se
     ensures trial_safe { TrialIsSafe words.now }
 
     // Where the words ask for a run over two files: how it ended, once both are open, and with which statuses it may.
-    ensures lanes { OverLanes words.now (LanesEnd (F.bytes files.old)
+    ensures lanes { OverLanes words.now (LanesEnd (F.bytes files.old) (F.safe files.old)
         (files_view (F.failed_opens files.old) (F.failed_reads files.old))
         (files_view (F.failed_opens files.new) (F.failed_reads files.new))
         (source_view (S.left input.old) (S.name input.old) (S.faults input.old))
@@ -111,6 +115,13 @@ pub fn run_controller<R: Threads + Wait + Sync, F: Files, S: PacedSource<K> + Se
     // However it ends, and in whatever order the events of both came, a beginning of the text of what was taken was written. That is sound, as
     // a run over one stream is, and in every world that explains it services recorded with one address share it by their recorded terms.
     ensures lanes_sound { OverLanes words.now (LanesSound (F.bytes files.old) (S.left input.old) (K.written out.old) (K.written out.new)) }
+
+    // Where all can be taken in whatever order it comes, with a reply to each put and no line behind the last, and no count of faults rises,
+    // it is done, but for want of memory.
+    ensures lanes_complete { OverLanes words.now (LanesComplete (F.bytes files.old) result
+        (files_view (F.failed_opens files.old) (F.failed_reads files.old))
+        (files_view (F.failed_opens files.new) (F.failed_reads files.new))
+        (S.left input.old) (S.faults input.old) (S.faults input.new) (K.faults out.old) (K.faults out.new)) }
 
     // A file isn't opened exactly where its opening failed, and then nothing is read or written; a fault of reading comes only where its count
     // rose. Of no other file an opening or a reading failed.

@@ -32,10 +32,15 @@ pub(crate) fn make_turns<K: Sink>(alloc: Global, core: &mut Core, out: &mut K) -
 {
     'turns: while core.has_turn() {
         let turn = core.next_put()?;
-        write_turn(alloc, out, &turn)?;
+        if let Err(halt) = write_turn(alloc, out, &turn) {
+            drop(turn);
+            return Err(halt);
+        }
         if wants_put(&turn) {
+            drop(turn);
             return Ok(());
         }
+        drop(turn);
     }
     Ok(())
 }

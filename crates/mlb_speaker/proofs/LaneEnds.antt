@@ -133,6 +133,5 @@ module _ (start : SpeakerState) where
     second' = second;
     reading = unread;
     ends = inr (inr (inr (inr (refl, writes_none first.left second.left input.left before))));
-    first_told = λ known failed. absurd (known refl);
-    second_told = λ known failed. absurd (known refl);
+    kept = λ known. absurd (known refl);
   }

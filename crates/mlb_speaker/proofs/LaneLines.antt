@@ -13,8 +13,9 @@ use Rattle.line_run.specs.Run.{AreTaken}
 use Rattle.mlb_edge.specs.declared.lines.Line.{Line}
 use Rattle.mlb_speaker.specs.declared.entries.Entry.{Entry}
 use Rattle.mlb_speaker.specs.Causes.{awaits_none}
-use Rattle.mlb_speaker.specs.LaneLaws.{HaveEvents, event_in, ItemsAreAsLines, ItemsTellWhatIsAnnounced, ItemsSendWhatIsMeant}
+use Rattle.mlb_speaker.specs.LaneLaws.{HaveEvents, event_in, ItemsAreAsLines, ItemsTellWhatIsAnnounced, ItemsSendWhatIsMeant, ItemsMakeRoutes}
 use Rattle.mlb_speaker.specs.Lanes.{belongs_to, item_step, lane_rules}
+use Rattle.mlb_speaker.specs.Heard.{HearsItsRoutes}
 use Rattle.mlb_speaker.specs.Meant.{SendsWhatIsMeant}
 use Rattle.mlb_speaker.specs.Stream.{SpeakerState, line_step, speaker_rules}
 use Rattle.mlb_speaker.specs.Told.{TellsWhatIsAnnounced}
@@ -71,6 +72,11 @@ module _ (start : SpeakerState) where
   items_tell tells items t told taken =
       let (lines, events, goes) = items_as_lines items t told taken in
       tells lines t (entries_of told) goes
+
+  pub items_make : HearsItsRoutes start → ItemsMakeRoutes start
+  items_make hears items t told taken hop is peer inside =
+      let (lines, events, goes) = items_as_lines items t told taken in
+      (lines, events, goes, hears lines t (entries_of told) goes hop is peer inside)
 
   pub items_send : SendsWhatIsMeant start → ItemsSendWhatIsMeant start
   items_send sends items item s t told entries taken goes =

@@ -77,13 +77,16 @@ pub record IsSender (peer : CompiledPeer) (hop : AddressValue) (sender : Peering
 abbrev pub AreToldBy : CompiledPeer → AddressValue → List (List ℕ) → Type 0
 AreToldBy peer hop messages = (sender : Peering) × IsSender peer hop sender × AllByRecursion (IsMessageOf sender) messages
 
--- After any lines, with a next hop, each peer of the configuration in force has come with one of them, and what it was told since then are
--- messages after which its table is that of its routes.
+-- The peer has come with one of these lines, and what it was told since then are messages after which its table is that of its routes.
+abbrev pub HearsSince : (start : SpeakerState) (lines : List Line) (t : SpeakerState) → AddressValue → CompiledPeer → Type 0
+HearsSince start lines t hop peer =
+    ((told : List Entry) × HasComeSince start lines peer t told)
+    × ((told : List Entry) → HasComeSince start lines peer t told → GiveTable (messages_told peer.name told) (routes_of t.view start.station.node peer) × AreToldBy peer hop (messages_told peer.name told))
+
+-- so it is after any lines, with a next hop, with each peer of the configuration in force
 abbrev pub HearsItsRoutes : SpeakerState → Type 0
 HearsItsRoutes start = (lines : List Line) (t : SpeakerState) (all : List Entry) → AreTaken speaker_rules lines start t all
-    → (hop : AddressValue) → start.station.next_hop ≡ Some hop → (peer : CompiledPeer) → IsIn (peers_of t.view) peer
-    → ((told : List Entry) × HasComeSince start lines peer t told)
-    × ((told : List Entry) → HasComeSince start lines peer t told → GiveTable (messages_told peer.name told) (routes_of t.view start.station.node peer) × AreToldBy peer hop (messages_told peer.name told))
+    → (hop : AddressValue) → start.station.next_hop ≡ Some hop → (peer : CompiledPeer) → IsIn (peers_of t.view) peer → HearsSince start lines t hop peer
 
 -- so it is of a run that begins with what words say
 abbrev pub PeersHearTheirRoutes : Type 0

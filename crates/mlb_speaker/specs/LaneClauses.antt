@@ -1,15 +1,19 @@
 -- What the speaker owes where its words name two lane files: the clauses of a run over lane files, with the speaker's rules and the words' node
 -- and class.
-use Rattle.std.specs.Prelude.{◌≡◌, ◌⊎◌, ⊤, ℕ, List, String, Option, Some}
+use Rattle.std.specs.Prelude.{◌≡◌, ◌⊎◌, ⊤, ℕ, Bool, List, String, Option, Some}
 use Rattle.kube_model.specs.declared.status.LaneName.{LaneName}
 use Rattle.kube_model.specs.declared.status.LaneName.TheVariants.{Watch, Frame}
 use Rattle.kube_model.specs.declared.status.Status.{Status}
 use Rattle.kube_model.specs.declared.status.Status.TheVariants.{Done, Usage, OpenFault, ReadFault, WriteFault, BadLine, BadReply, NoReply, Limit, NoMemory}
 use Rattle.command_options.specs.Lanes.{LaneNames}
 use Rattle.command_options.specs.Options.{texts_of}
+use Rattle.lane_drive.specs.Asking.{AnswersAll}
 use Rattle.lane_drive.specs.Clauses as drive
+use Rattle.lane_drive.specs.Complete as can_be_done
 use Rattle.lane_drive.specs.Files.{FilesView}
-use Rattle.lane_run.specs.Views.{SourceView, source_view}
+use Rattle.lane_mail.specs.declared.item.Item.{Item}
+use Rattle.lane_run.specs.Views.{SourceView, lane_view, outside}
+use Rattle.lane_run.specs.Waiting.{MayBeAwaited}
 use Rattle.line_run.specs.Clauses.{CanPass}
 use Rattle.mlb_speaker.specs.Clauses.{begun_by, lanes_of}
 use Rattle.mlb_speaker.specs.LaneLaws as laws
@@ -21,13 +25,17 @@ abbrev pub OverLanes : {Z : Type 0} → List (String Z) → (LaneNames → Type 
 OverLanes words so = (files : LaneNames) → lanes_of (texts_of words) ≡ Some files → so files
 
 -- a file of these bytes, of which nothing is read yet
-abbrev pub opened : (List ℕ → Option (List ℕ)) → List ℕ → SourceView
-opened bytes file = source_view (bytes file) (Some file) 0
+abbrev pub opened : (List ℕ → Option (List ℕ)) → (List ℕ → Bool) → List ℕ → SourceView
+opened bytes safe file = lane_view (bytes file) (Some file) 0 (safe file)
+
+-- the next item may be waited for wherever just the text of all items taken before stands written
+abbrev pub LanesMayWait : {Z R : Type 0} → List (String Z) → (R → List Item → Option (List ℕ) → Type 0) → R → (input : SourceView) (written : Option (List ℕ)) (faults : ℕ) → Type 0
+LanesMayWait words may_wait rt input written faults = OverLanes words (λ files. MayBeAwaited may_wait rt (AnswersAll lane_rules (begun_by words) (outside drive.unread input written faults)))
 
 -- how the run ended, once both files are open
-abbrev pub EndsLanes : {Z K : Type 0} → List (String Z) → Status → (List ℕ → Option (List ℕ)) → (seen seen' : FilesView) (input input' : SourceView) → (K → Option (List ℕ)) → (K → ℕ) → K → K → Type 0
-EndsLanes words status bytes seen seen' input input' written faults out out' = OverLanes words (λ files. drive.AtEnd belongs_to lane_rules (begun_by words) files.first files.second seen seen'
-    (opened bytes files.first) (opened bytes files.second) input input' (written out) (written out') (faults out) (faults out') status)
+abbrev pub EndsLanes : {Z K : Type 0} → List (String Z) → Status → (List ℕ → Option (List ℕ)) → (List ℕ → Bool) → (seen seen' : FilesView) (input input' : SourceView) → (K → Option (List ℕ)) → (K → ℕ) → K → K → Type 0
+EndsLanes words status bytes safe seen seen' input input' written faults out out' = OverLanes words (λ files. drive.AtEnd belongs_to lane_rules (begun_by words) files.first files.second seen seen'
+    (opened bytes safe files.first) (opened bytes safe files.second) input input' (written out) (written out') (faults out) (faults out') status)
 
 -- where it is done, all that both files carry was taken, and just its text was written
 abbrev pub LanesDone : {Z K : Type 0} → List (String Z) → Status → (List ℕ → Option (List ℕ)) → (input input' : SourceView) → (K → Option (List ℕ)) → K → K → Type 0
@@ -38,6 +46,12 @@ LanesDone words status bytes input input' written out out' = OverLanes words (λ
 abbrev pub LanesWriteOnly : {Z K : Type 0} → List (String Z) → (List ℕ → Option (List ℕ)) → (left : Option (List ℕ)) → (K → Option (List ℕ)) → K → K → Type 0
 LanesWriteOnly words bytes left written out out' = OverLanes words (λ files. drive.OnlyWrites belongs_to lane_rules (begun_by words)
     (bytes files.first) (bytes files.second) left (written out) (written out'))
+
+-- where each line of both files can be applied, in whatever order the events of both come, and no count of faults rises, the run is done, but for want
+-- of memory
+abbrev pub LanesComplete : {Z : Type 0} → List (String Z) → Status → (List ℕ → Option (List ℕ)) → (seen seen' : FilesView) (input input' : SourceView) (writes writes' : ℕ) → Type 0
+LanesComplete words status bytes seen seen' input input' writes writes' = OverLanes words (λ files. can_be_done.IsComplete belongs_to lane_rules (begun_by words)
+    (bytes files.first) (bytes files.second) status seen seen' input.left input.faults input'.faults writes writes')
 
 -- a lane isn't opened exactly where the opening of its file failed, and then nothing was read; else no opening failed
 abbrev pub AtLaneOpenFault : {Z : Type 0} → List (String Z) → Status → (seen seen' : FilesView) → Type 0
@@ -86,3 +100,7 @@ LanesTellWhatIsAnnounced words = laws.ItemsTellWhatIsAnnounced (begun_by words)
 -- each frame that is sent at an item says that an interface's hardware address has an address for which the node listens on it
 abbrev pub LanesSendWhatIsMeant : {Z : Type 0} → List (String Z) → Type 0
 LanesSendWhatIsMeant words = laws.ItemsSendWhatIsMeant (begun_by words)
+
+-- after any items, with a next hop, each peer of the configuration in force has heard its routes
+abbrev pub LanesMakeRoutes : {Z : Type 0} → List (String Z) → Type 0
+LanesMakeRoutes words = laws.ItemsMakeRoutes (begun_by words)

@@ -1,5 +1,5 @@
 -- What is told of the items of two lanes.
-use Rattle.std.specs.Prelude.{◌≡◌, ◌↔◌, ℕ, List, [], ◌∷◌, ◌++◌, map, Option, Result, Ok}
+use Rattle.std.specs.Prelude.{◌≡◌, ◌↔◌, ℕ, List, [], ◌∷◌, ◌++◌, map, Option, Some, Result, Ok}
 use Rattle.std.specs.List.{AllByRecursion}
 use Rattle.ip_ranges.specs.Values.{AddressValue}
 use Rattle.kube_events.specs.Event.{event_of_line}
@@ -11,12 +11,16 @@ use Rattle.lane_drive.specs.Stops.{AreBeginnings}
 use Rattle.lane_mail.specs.declared.item.Item.{Item}
 use Rattle.line_run.specs.Machine.{Goes}
 use Rattle.line_run.specs.Run.{AreTaken}
+use Rattle.mlb_base.specs.Items.{IsIn}
 use Rattle.mlb_edge.specs.declared.lines.Line.{Line}
+use Rattle.pool_config.specs.declared.compiled.CompiledPeer.{CompiledPeer}
 use Rattle.mlb_speaker.specs.declared.entries.Entry.{Entry}
+use Rattle.mlb_speaker.specs.Heard.{HearsSince}
 use Rattle.mlb_speaker.specs.Lanes.{belongs_to, item_step, lane_rules}
 use Rattle.mlb_speaker.specs.Meant.{SaysWhatIsMeant}
 use Rattle.mlb_speaker.specs.Stream.{SpeakerState, speaker_rules}
 use Rattle.mlb_speaker.specs.Told.{IsToldOf}
+use Rattle.mlb_speaker.specs.Updates.{peers_of}
 
 -- Items of two lanes are taken one after the other. More may come behind them.
 pub record TakesItems (start : SpeakerState) (items behind : List Item) (t : SpeakerState) (told : List (Told Entry)) : Type 0 where
@@ -49,3 +53,10 @@ ItemsTellWhatIsAnnounced start = (items : List Item) (t : SpeakerState) (told : 
 abbrev pub ItemsSendWhatIsMeant : SpeakerState → Type 0
 ItemsSendWhatIsMeant start = (items : List Item) (item : Item) (s t : SpeakerState) (told : List (Told Entry)) (entries : List Entry)
     → TakesItems start items (item ∷ []) s told → item_step s item ≡ Goes t entries → AllByRecursion (SaysWhatIsMeant t.view t.station) entries
+
+-- After any items that are taken, with a next hop, it is with each peer of the configuration in force as behind lines with their events, which are
+-- taken so in one stream: it has come with one of them, and what it was told since makes its routes of the empty table.
+abbrev pub ItemsMakeRoutes : SpeakerState → Type 0
+ItemsMakeRoutes start = (items : List Item) (t : SpeakerState) (told : List (Told Entry)) → TakesItems start items [] t told
+    → (hop : AddressValue) → start.station.next_hop ≡ Some hop → (peer : CompiledPeer) → IsIn (peers_of t.view) peer
+    → (lines : List Line) × HaveEvents lines items × AreTaken speaker_rules lines start t (entries_of told) × HearsSince start lines t hop peer

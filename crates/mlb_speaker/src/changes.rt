@@ -63,8 +63,18 @@ impl Speaker {
                 return Err(fault);
             }
         };
-        let entries = told_since(alloc, &self.view, &self.station, note, &mut before)?;
-        self.announced = Some(before.addresses);
+        let Ok(entries) = told_since(alloc, &self.view, &self.station, note, &mut before) else {
+            drop(before);
+            return Err(ApplyFault::NoMemory);
+        };
+        let Standing {
+            addresses,
+            touched,
+            tables,
+        } = before;
+        drop(touched);
+        drop(tables);
+        drop(self.announced.replace(addresses));
         Ok(entries)
     }
 }
@@ -86,10 +96,19 @@ fn stands_before(
         Some(addresses) => addresses,
         None => announced(alloc, view.as_view(), &station.node)?,
     };
+    let Ok(touched) = touched_addresses(alloc, view.as_view(), event) else {
+        drop(addresses);
+        return Err(NoMemory);
+    };
+    let Ok(tables) = tables_of(alloc, view, station) else {
+        drop(addresses);
+        drop(touched);
+        return Err(NoMemory);
+    };
     Ok(Standing {
         addresses,
-        touched: touched_addresses(alloc, view.as_view(), event)?,
-        tables: tables_of(alloc, view, station)?,
+        touched,
+        tables,
     })
 }
 
@@ -108,7 +127,11 @@ fn told_since(
     ensures addresses { OnOk result (before.new.addresses.keys ≡ announced_by view.now station.now.node) }
 {
     let mut entries = changed_entries(alloc, view, station, note, before)?;
-    push_updates(alloc, &mut entries, view, station, before.tables.as_slice())?;
+    let tables = before.tables.as_slice();
+    let Ok(()) = push_updates(alloc, &mut entries, view, station, tables) else {
+        drop(entries);
+        return Err(NoMemory);
+    };
     Ok(entries)
 }
 
@@ -139,5 +162,7 @@ fn changed_entries(
             return Err(refused);
         }
     };
-    entries_for(alloc, view.as_view(), station, note, &changes)
+    let entries = entries_for(alloc, view.as_view(), station, note, &changes);
+    drop(changes);
+    entries
 }

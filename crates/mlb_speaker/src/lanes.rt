@@ -125,10 +125,21 @@ fn drive_item<K: Sink>(
         (K.written out.old) (K.written out.new) (K.faults out.old) (K.faults out.new)) }
     ensures later { K.faults out.old ≤ K.faults out.new }
 {
-    let entries = apply_event(alloc, speaker, item.event)?;
-    match write_item(alloc, out, item.lane, item.number, entries.as_slice()) {
-        Ok(()) => Ok(()),
-        Err(halt) => Err(Refusal::Halted { halt }),
+    let Item {
+        lane,
+        number,
+        event,
+    } = item;
+    let entries = apply_event(alloc, speaker, event)?;
+    match write_item(alloc, out, lane, number, entries.as_slice()) {
+        Ok(()) => {
+            drop(entries);
+            Ok(())
+        }
+        Err(halt) => {
+            drop(entries);
+            Err(Refusal::Halted { halt })
+        }
     }
 }
 

@@ -28,11 +28,13 @@ pub(crate) fn drive_line<K: Sink>(
     let event = match read_event(alloc, line.bytes.as_slice()) {
         Ok(event) => event,
         Err(EventFault::NoMemory) => {
+            drop(line);
             return Err(Refusal::Halted {
                 halt: Halt::NoMemory,
             });
         }
-        Err(_) => {
+        Err(fault) => {
+            drop(fault);
             return Err(Refusal::Stopped {
                 status: Status::BadLine {
                     lane: LaneName::Input,
@@ -42,9 +44,16 @@ pub(crate) fn drive_line<K: Sink>(
             });
         }
     };
+    drop(line);
     let entries = apply_event(alloc, speaker, event)?;
     match write_entries(alloc, out, entries.as_slice()) {
-        Ok(()) => Ok(()),
-        Err(halt) => Err(Refusal::Halted { halt }),
+        Ok(()) => {
+            drop(entries);
+            Ok(())
+        }
+        Err(halt) => {
+            drop(entries);
+            Err(Refusal::Halted { halt })
+        }
     }
 }

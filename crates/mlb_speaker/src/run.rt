@@ -6,33 +6,36 @@ ghost use Rattle.lane_run.specs.Views.{source_view};
 ghost use Rattle.line_run.specs.Clauses.{AtEnd, AtReadFault, AtWriteFault};
 ghost use Rattle.command_options.specs.Options.{texts_of};
 ghost use Rattle.mlb_speaker.specs.Clauses.{InStream, MayAskAnswered, CanEnd, SpeaksForNamed, AtDone, AtBadLine, AtHeldLimit, AtLongLine, AtTooLong, AfterRead, AfterWrite, AtNoMemory, WritesOnly, TellsWhatIsAnnounced, SendsWhatIsMeant, TellsPeersTheirRoutes, IsExact, IsComplete};
-ghost use Rattle.mlb_speaker.specs.LaneClauses.{EndsLanes, LanesDone, LanesWriteOnly, AtLaneOpenFault, AtLaneReadFault, LeavesOtherFiles, LeavesInput, LanesCanEnd, LanesAreAsLines, LanesTellWhatIsAnnounced, LanesSendWhatIsMeant};
+ghost use Rattle.mlb_speaker.specs.LaneClauses.{EndsLanes, LanesMayWait, LanesComplete, LanesDone, LanesWriteOnly, AtLaneOpenFault, AtLaneReadFault, LeavesOtherFiles, LeavesInput, LanesCanEnd, LanesAreAsLines, LanesTellWhatIsAnnounced, LanesSendWhatIsMeant, LanesMakeRoutes};
 ghost use Rattle.speaker_words.specs.Words.{AreKnown};
 
 use crate::speaker::Speaker;
 use crate::stream::stream_speaker;
 use kube_model::Status;
 use lane_drive::run_lane_files;
+use lane_run::PacedWait;
 use line_run::PacedSource;
 use mlb_edge::{Files, Sink};
 use speaker_words::speaker_words;
 use std::alloc::Global;
-use std::sync::Wait;
 use std::thread::Threads;
 
 /// All that the program does: where the words name two lane files, the run over these, which doesn't read the input; else the run over one
 /// stream, which opens no file.
-pub fn run_speaker<R: Threads + Wait + Sync, F: Files, S: PacedSource<K> + Send, K: Sink + Send>(
-    rt: &R,
-    alloc: Global,
-    words: &[String],
-    files: &mut F,
-    input: &mut S,
-    out: &mut K,
-) -> Status
+pub fn run_speaker<
+    R: Threads + PacedWait + Sync,
+    F: Files,
+    S: PacedSource<K> + Send,
+    K: Sink + Send,
+>(rt: &R, alloc: Global, words: &[String], files: &mut F, input: &mut S, out: &mut K) -> Status
     // In one stream no output is held back: the input may be asked for more where all that came whole was answered. Nothing else is known of
     // when it may, so the program asks it nowhere else, and over two files never. What is only a `Source` may be asked at any time.
     requires live { MayAskAnswered words.now S.name S.left S.may_read K.written input.old out.old }
+
+    // Over two files the next event may be waited for where just the text of all that were taken before stands written. Nothing else is known
+    // of when it may, so nothing is held back while a lane is waited for. What is a `Wait` may wait at any time.
+    requires lanes_wait { LanesMayWait words.now R.may_wait rt.now
+        (source_view (S.left input.old) (S.name input.old) (S.faults input.old)) (K.written out.old) (K.faults out.old) }
 
     ensures no_file { InStream words.now (files.new ≡ files.old) }
     ensures can_end { InStream words.now (CanEnd result) }
@@ -79,7 +82,7 @@ pub fn run_speaker<R: Threads + Wait + Sync, F: Files, S: PacedSource<K> + Send,
 
     // Over two lane files: how the run ended, once both are open. The items of both are taken in the order in which they come, and of each the
     // line that tells of it is written, and then what it comes to.
-    ensures lanes { EndsLanes words.now result (F.bytes files.old)
+    ensures lanes { EndsLanes words.now result (F.bytes files.old) (F.safe files.old)
         (files_view (F.failed_opens files.old) (F.failed_reads files.old))
         (files_view (F.failed_opens files.new) (F.failed_reads files.new))
         (source_view (S.left input.old) (S.name input.old) (S.faults input.old))
@@ -100,6 +103,14 @@ pub fn run_speaker<R: Threads + Wait + Sync, F: Files, S: PacedSource<K> + Send,
     ensures lanes_as_lines { LanesAreAsLines words.now }
     ensures lanes_told { LanesTellWhatIsAnnounced words.now }
     ensures lanes_sends { LanesSendWhatIsMeant words.now }
+    ensures lanes_routes { LanesMakeRoutes words.now }
+
+    // Where all can be applied in whatever order it comes, and no count of faults rises, the run is done, but for want of memory.
+    ensures lanes_complete { LanesComplete words.now result (F.bytes files.old)
+        (files_view (F.failed_opens files.old) (F.failed_reads files.old))
+        (files_view (F.failed_opens files.new) (F.failed_reads files.new))
+        (source_view (S.left input.old) (S.name input.old) (S.faults input.old))
+        (source_view (S.left input.new) (S.name input.new) (S.faults input.new)) (K.faults out.old) (K.faults out.new) }
 
     // A lane isn't opened exactly where the opening of its file failed, and then nothing is read or written. It isn't read only where the
     // count of failed readings of its file rose.

@@ -1,9 +1,9 @@
 use Rattle.std.specs.Option.{option_map}
 use Rattle.core_rules.specs.Core.{fresh}
-use Rattle.std.proofs.Common.{Some, subst}
-use Rattle.lane_drive.specs.Asking.{AsksMore}
+use Rattle.std.proofs.Common.{Some, inr, refl, subst}
+use Rattle.lane_drive.specs.Asking.{AnswersAll, AsksMore}
 use Rattle.lane_drive.specs.Clauses.{OnlyWrites, TakesWhole, unread}
-use Rattle.lane_run.specs.Views.{outside, source_view}
+use Rattle.lane_run.specs.Views.{lane_view, outside, source_view}
 use Rattle.mlb_controller.specs.Lanes.{belongs_to, lane_rules}
 use Rattle.mlb_controller.proofs.LaneEnds.{ends_unbegun, lanes_can_end, writes_nothing}
 use Rattle.mlb_controller.proofs.RightLanes.{lanes_sound, lanes_quiet}
@@ -19,6 +19,9 @@ returns-in_default-clause-sound g c =
     let class = option_map (λ t. t.now) c.args.class in
     lanes_sound class _ _ _ _ _ (writes_nothing (fresh class) _ _ _ _)
 
+pub returns-in_default-clause-complete : goal.returns-in_default-clause-complete
+returns-in_default-clause-complete g c = λ ready opens reads none none'. inr refl
+
 -- ---- a run
 
 pub run_lane_files-requires-clause-live : goal.run_lane_files-requires-clause-live
@@ -26,10 +29,19 @@ run_lane_files-requires-clause-live g c = λ _ _ i r o name more.
     c.requires.live i r o name
     (subst
     (λ s. AsksMore belongs_to lane_rules s
-    (source_view (g.F.Files.bytes c.args.files.now c.args.lanes.first.now) (Some c.args.lanes.first.now) 0) (source_view (g.F.Files.bytes c.args.files.now c.args.lanes.second.now) (Some c.args.lanes.second.now) 0)
+    (lane_view (g.F.Files.bytes c.args.files.now c.args.lanes.first.now) (Some c.args.lanes.first.now) 0 (g.F.Files.safe c.args.files.now c.args.lanes.first.now))
+    (lane_view (g.F.Files.bytes c.args.files.now c.args.lanes.second.now) (Some c.args.lanes.second.now) 0 (g.F.Files.safe c.args.files.now c.args.lanes.second.now))
     (outside unread (source_view (g.S.PacedSource.left c.args.input.now) (g.S.PacedSource.name c.args.input.now) (g.S.PacedSource.faults c.args.input.now)) (g.K.Sink.written c.args.out.now) (g.K.Sink.faults c.args.out.now))
     (outside r (source_view (g.S.PacedSource.left i) (g.S.PacedSource.name i) (g.S.PacedSource.faults i)) (g.K.Sink.written o) (g.K.Sink.faults o)))
     c.in-Ok.ensures more)
+
+pub run_lane_files-requires-clause-waits : goal.run_lane_files-requires-clause-waits
+run_lane_files-requires-clause-waits g c = λ _ _ items written answers.
+    c.requires.waits items written
+    (subst
+    (λ s. AnswersAll lane_rules s
+    (outside unread (source_view (g.S.PacedSource.left c.args.input.now) (g.S.PacedSource.name c.args.input.now) (g.S.PacedSource.faults c.args.input.now)) (g.K.Sink.written c.args.out.now) (g.K.Sink.faults c.args.out.now)) items written)
+    c.in-Ok.ensures answers)
 
 pub returns-clause-can_end : goal.returns-clause-can_end
 returns-clause-can_end g c = lanes_can_end c.in-Ok.controller.core _ _ _ _ _ _ _ _ _ _ _ _ c.run_lane_files.result c.run_lane_files.ensures.ended c.run_lane_files.ensures.open_fault

@@ -9,6 +9,9 @@ use Rattle.mlb_controller.proofs.run.run_controller.Goals as goal
 pub lanes_controller-requires-clause-live : goal.lanes_controller-requires-clause-live
 lanes_controller-requires-clause-live g c = λ _ _. c.requires.lanes_live _ _ c.in-Some.ensures.some
 
+pub lanes_controller-requires-clause-waits : goal.lanes_controller-requires-clause-waits
+lanes_controller-requires-clause-waits g c = λ _ _. c.requires.lanes_wait _ _ c.in-Some.ensures.some
+
 -- ---- words that ask for no run over two lanes
 
 pub returns-in-None-clause-lanes : goal.returns-in-None-clause-lanes
@@ -22,6 +25,9 @@ returns-in-None-clause-lanes_done g c = λ class files say. absurd (c.in-None.en
 
 pub returns-in-None-clause-lanes_quiet : goal.returns-in-None-clause-lanes_quiet
 returns-in-None-clause-lanes_quiet g c = λ class files say. absurd (c.in-None.ensures.none class files say)
+
+pub returns-in-None-clause-lanes_complete : goal.returns-in-None-clause-lanes_complete
+returns-in-None-clause-lanes_complete g c = λ class files say. absurd (c.in-None.ensures.none class files say)
 
 pub returns-in-None-clause-lanes_sound : goal.returns-in-None-clause-lanes_sound
 returns-in-None-clause-lanes_sound g c = λ class files say. absurd (c.in-None.ensures.none class files say)
@@ -109,6 +115,11 @@ pub returns-in-Some-clause-lanes_sound : goal.returns-in-Some-clause-lanes_sound
 returns-in-Some-clause-lanes_sound g c = λ class files say.
     let one = one_lanes (texts_of c.args.words.now) _ class _ files c.in-Some.ensures.some say in
     rw (← one.0, ← one.1) c.lanes_controller.ensures.sound
+
+pub returns-in-Some-clause-lanes_complete : goal.returns-in-Some-clause-lanes_complete
+returns-in-Some-clause-lanes_complete g c = λ class files say.
+    let one = one_lanes (texts_of c.args.words.now) _ class _ files c.in-Some.ensures.some say in
+    rw (← one.0, ← one.1) c.lanes_controller.ensures.complete
 
 pub returns-in-Some-clause-lane_open_fault : goal.returns-in-Some-clause-lane_open_fault
 returns-in-Some-clause-lane_open_fault g c = λ class files say.

@@ -1,15 +1,32 @@
+use Rattle.std.proofs.Common.{◌∙◌, ap, inr, refl, subst, sym}
+use Rattle.std.specs.Option.{option_map}
+use Rattle.command_options.specs.Lanes.{lane_seen}
 use Rattle.command_options.specs.Options.{texts_of}
+use Rattle.lane_drive.specs.Asking.{AnswersAll}
+use Rattle.lane_drive.specs.Clauses.{unread}
+use Rattle.lane_run.specs.Views.{outside, source_view}
 use Rattle.mlb_speaker.specs.Clauses.{begun_by}
+use Rattle.mlb_speaker.specs.Lanes.{lane_rules}
+use Rattle.mlb_speaker.specs.Stream.{SpeakerState}
 use Rattle.mlb_speaker.proofs.Begun.{named-begun}
 use Rattle.mlb_speaker.proofs.Heard.{heard_by}
 use Rattle.mlb_speaker.proofs.LaneEnds.{asks_never, can_end, ends_none, writes_none}
-use Rattle.mlb_speaker.proofs.LaneLines.{items_as_lines, items_tell, items_send}
+use Rattle.mlb_speaker.proofs.LaneLines.{items_as_lines, items_make, items_tell, items_send}
 use Rattle.mlb_speaker.proofs.Meant.{meant_by}
 use Rattle.mlb_speaker.proofs.Telling.{told_by}
+use Rattle.speaker_words.specs.Seen.{said_seen}
 use Rattle.mlb_speaker.proofs.run.run_speaker.Goals as goal
 
 pub run_lane_files-requires-clause-live : goal.run_lane_files-requires-clause-live
 run_lane_files-requires-clause-live g c = λ _ _ i r o name more. absurd (asks_never _ _ _ _ _ more)
+
+pub run_lane_files-requires-clause-waits : goal.run_lane_files-requires-clause-waits
+run_lane_files-requires-clause-waits g c = λ _ _ items written answers.
+    (let before = outside unread (source_view (g.S.PacedSource.left c.args.input.now) (g.S.PacedSource.name c.args.input.now) (g.S.PacedSource.faults c.args.input.now))
+    (g.K.Sink.written c.args.out.now) (g.K.Sink.faults c.args.out.now) in
+    let begun = named-begun (texts_of c.args.words.now) (said_seen c.in-Some.said) c.in-Some.ensures.said in
+    c.requires.lanes_wait (lane_seen c.in-Some-lanes.lanes) (begun.1 ∙ ap (option_map lane_seen) c.in-Some-lanes.is) items written
+    (subst (λ (s : SpeakerState). AnswersAll lane_rules s before items written) (c.in-Ok.ensures ∙ sym begun.0) answers))
 
 pub returns-in_default-clause-told : goal.returns-in_default-clause-told
 returns-in_default-clause-told g c = told_by (texts_of c.args.words.now)
@@ -23,6 +40,9 @@ returns-in_default-clause-lanes_as_lines g c = items_as_lines (begun_by c.args.w
 pub returns-in_default-clause-lanes_told : goal.returns-in_default-clause-lanes_told
 returns-in_default-clause-lanes_told g c = items_tell (begun_by c.args.words.now) (told_by (texts_of c.args.words.now))
 
+pub returns-in_default-clause-lanes_routes : goal.returns-in_default-clause-lanes_routes
+returns-in_default-clause-lanes_routes g c = items_make (begun_by c.args.words.now) (heard_by (texts_of c.args.words.now))
+
 pub returns-in_default-clause-lanes_sends : goal.returns-in_default-clause-lanes_sends
 returns-in_default-clause-lanes_sends g c = items_send (begun_by c.args.words.now) (meant_by (texts_of c.args.words.now))
 
@@ -31,6 +51,9 @@ returns-in_default-lanes-clause-lanes_as_lines g c = items_as_lines (begun_by c.
 
 pub returns-in_default-lanes-clause-lanes_told : goal.returns-in_default-lanes-clause-lanes_told
 returns-in_default-lanes-clause-lanes_told g c = items_tell (begun_by c.args.words.now) (told_by (texts_of c.args.words.now))
+
+pub returns-in_default-lanes-clause-lanes_routes : goal.returns-in_default-lanes-clause-lanes_routes
+returns-in_default-lanes-clause-lanes_routes g c = items_make (begun_by c.args.words.now) (heard_by (texts_of c.args.words.now))
 
 pub returns-in_default-lanes-clause-lanes_sends : goal.returns-in_default-lanes-clause-lanes_sends
 returns-in_default-lanes-clause-lanes_sends g c = items_send (begun_by c.args.words.now) (meant_by (texts_of c.args.words.now))
@@ -52,6 +75,9 @@ returns-in_default-new-clause-lanes_as_lines g c = items_as_lines (begun_by c.ar
 
 pub returns-in_default-new-clause-lanes_told : goal.returns-in_default-new-clause-lanes_told
 returns-in_default-new-clause-lanes_told g c = items_tell (begun_by c.args.words.now) (told_by (texts_of c.args.words.now))
+
+pub returns-in_default-new-clause-lanes_routes : goal.returns-in_default-new-clause-lanes_routes
+returns-in_default-new-clause-lanes_routes g c = items_make (begun_by c.args.words.now) (heard_by (texts_of c.args.words.now))
 
 pub returns-in_default-new-clause-lanes_sends : goal.returns-in_default-new-clause-lanes_sends
 returns-in_default-new-clause-lanes_sends g c = items_send (begun_by c.args.words.now) (meant_by (texts_of c.args.words.now))
@@ -80,9 +106,15 @@ returns-clause-lanes_as_lines g c = items_as_lines (begun_by c.args.words.now)
 pub returns-clause-lanes_told : goal.returns-clause-lanes_told
 returns-clause-lanes_told g c = items_tell (begun_by c.args.words.now) (told_by (texts_of c.args.words.now))
 
+pub returns-clause-lanes_routes : goal.returns-clause-lanes_routes
+returns-clause-lanes_routes g c = items_make (begun_by c.args.words.now) (heard_by (texts_of c.args.words.now))
+
 pub returns-clause-lanes_sends : goal.returns-clause-lanes_sends
 returns-clause-lanes_sends g c = items_send (begun_by c.args.words.now) (meant_by (texts_of c.args.words.now))
 
 pub returns-clause-lane_can_end : goal.returns-clause-lane_can_end
 returns-clause-lane_can_end g c files named =
     can_end _ _ _ _ _ _ _ _ _ _ _ _ _ c.run_lane_files.result c.run_lane_files.ensures.open_fault c.run_lane_files.ensures.ended
+
+pub returns-in_default-new-clause-lanes_complete : goal.returns-in_default-new-clause-lanes_complete
+returns-in_default-new-clause-lanes_complete g c files named = λ ready opens reads none none'. inr refl

@@ -18,6 +18,6 @@ returns-in-Err-apply-clause-limit c = rw (← c.self.view_is) (λ kind count e. 
 pub returns-clause-ok : goal.returns-clause-ok
 returns-clause-ok c =
     let was : state_of c.self.inside.view c.self.inside.station ≡ c.args.self.now = c.self.view_is in
-    changes-are c.self.inside.view c.self.inside.station c.args.event c.in-Ok-apply.note c.in-Ok.before.addresses.keys c.in-Ok.before.tables c.apply.new.self c.in_ok-entries.entries
-    c.in_ok-entries.ensures.entries c.in-Ok.ensures.addresses c.in-Ok.ensures.tables c.in-Ok-apply.ensures.ok c.in-Ok-apply.ensures.note
+    changes-are c.self.inside.view c.self.inside.station c.args.event c.in-Ok-apply.note c.in-Ok.before.addresses.keys c.in-Ok.before.tables c.apply.new.self c.in-Ok-told_since.entries
+    c.in-Ok-told_since.ensures.entries c.in-Ok.ensures.addresses c.in-Ok.ensures.tables c.in-Ok-apply.ensures.ok c.in-Ok-apply.ensures.note
     ∙ ap (λ (s : SpeakerState). changes_of s c.args.event) was

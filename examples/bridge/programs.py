@@ -1,0 +1,105 @@
+"""A program over two lanes, from its start to its end, and anew."""
+import asyncio
+import contextlib
+import json
+import tempfile
+import time
+
+from common import Stop, tell
+from lanes import Lane
+
+LONGEST = 2 ** 24  # octets of a line that is read
+LAST_WAIT = 5.0  # seconds for a program to end once all is closed
+BAD_WORDS = 2  # the status of a program whose words aren't as stated
+IDLE_RUNS, PAUSE = 3, 1.0  # after so many runs in which nothing was taken, each starts so many seconds later
+
+
+class Ended(Exception):
+    """The program ended, or is to be ended since it takes nothing more."""
+
+
+class Program:
+    """A run of a program, from its start to its end."""
+
+    def __init__(self, process, lanes, options):
+        self.process, self.lanes, self.trace, self.patience = process, {lane.name: lane for lane in lanes}, options.trace, options.patience
+        self.waits_for_reply = False
+
+    async def open(self):
+        """Opens the lanes as the program does: the first one first."""
+        for lane in self.lanes.values():
+            await lane.open()
+
+    async def written(self):
+        """The lines that the program writes, as values, each once it is whole. What it has taken of a lane is noted on the way."""
+        while (line := await self.process.stdout.readline()).endswith(b"\n"):
+            self.trace("written", line)
+            value = json.loads(line)
+            if value["op"] == "took":
+                await self.lanes[value["lane"]].took(value["n"])
+            yield value
+
+    async def reply(self, value):
+        """Gives a reply by the standard input."""
+        line = json.dumps(value).encode() + b"\n"
+        self.trace("reply", line)
+        self.process.stdin.write(line)
+        await self.process.stdin.drain()
+
+    async def until_ended(self):
+        """A program that stopped inside tells of nothing more that it takes, and ends only once all is closed. So it is given up then."""
+        while True:
+            with contextlib.suppress(TimeoutError):
+                async with asyncio.timeout(1):
+                    if await self.process.wait() == BAD_WORDS:
+                        raise Stop(BAD_WORDS, "the program doesn't take its words")
+                    raise Ended()
+            for lane in self.lanes.values():
+                if self.waits_for_reply:
+                    lane.moved = time.monotonic()
+                elif lane.is_stuck(self.patience):
+                    tell(f"nothing more is taken of the {lane.name} lane")
+                    raise Ended()
+                lane.probe()
+
+    async def close(self):
+        """Closes the lanes and the input, and waits until the program has ended. What it writes until then is passed over."""
+        if not all(lane.writer for lane in self.lanes.values()):
+            with contextlib.suppress(ProcessLookupError):
+                self.process.kill()
+        for lane in self.lanes.values():
+            lane.close()
+        self.process.stdin.close()
+        try:
+            async with asyncio.timeout(LAST_WAIT):
+                while await self.process.stdout.read(65536):
+                    pass
+        except TimeoutError:
+            self.process.kill()
+        tell(f"program ended: {await self.process.wait()}")
+
+
+@contextlib.asynccontextmanager
+async def started(command, names, options):
+    """The program over lanes of these names. Once this is left it has ended, and its pipes are gone."""
+    with tempfile.TemporaryDirectory(prefix="mlb-bridge-") as folder:
+        lanes = [Lane(name, folder, options.trace) for name in names]
+        words = [word for lane in lanes for word in (f"--{lane.name}-lane", lane.path)]
+        pipes = {"stdin": asyncio.subprocess.PIPE, "stdout": asyncio.subprocess.PIPE, "limit": LONGEST}
+        # In a session of its own it isn't ended by the terminal, but by the bridge, which is.
+        process = await asyncio.create_subprocess_exec(*command, *words, **pipes, start_new_session=True)
+        tell(f"program started: {process.pid}")
+        program = Program(process, lanes, options)
+        try:
+            yield program
+        finally:
+            await program.close()
+
+
+async def forever(run):
+    """Runs a program anew each time that it ends. `run` tells whether it took anything."""
+    idle = 0
+    while True:
+        idle = 0 if await run() else idle + 1
+        if idle >= IDLE_RUNS:
+            await asyncio.sleep(PAUSE)

@@ -1,0 +1,118 @@
+"""The watches of a lane: they begin with what there is, go on where they broke, and begin anew where they can't."""
+import asyncio
+import contextlib
+import json
+
+from api import Broken, NotSent, Refused
+from common import tell, together
+
+FIRST = "watch=1&sendInitialEvents=true&resourceVersionMatch=NotOlderThan&allowWatchBookmarks=true"
+NEXT = "watch=1&resourceVersion={}&allowWatchBookmarks=true"
+ERROR = b'{"type":"ERROR","object":{}}\n'
+PAUSE = 0.1  # seconds before a watch that broke is asked for again
+LONG_PAUSE = 2.0  # and before one that the server refused
+AWAITED_TOLD = 15.0  # seconds until it is told which lists are awaited, and again
+
+
+class Expired(Exception):
+    """A watch can't go on from what was given of it."""
+
+
+def config_paths(namespace):
+    own = f"/apis/metallb.io/{{}}/namespaces/{namespace}/{{}}"
+    return {
+        "IPAddressPool": own.format("v1beta1", "ipaddresspools"),
+        "L2Advertisement": own.format("v1beta1", "l2advertisements"),
+        "BGPAdvertisement": own.format("v1beta1", "bgpadvertisements"),
+        "Community": own.format("v1beta1", "communities"),
+        "BGPPeer": own.format("v1beta2", "bgppeers"),
+        "Namespace": "/api/v1/namespaces",
+    }
+
+
+SERVICE_PATHS = {"Service": "/api/v1/services"}
+HOLD_NOTHING_BACK = ("IPAddressPool", "Service", "EndpointSlice")
+SPEAKER_PATHS = {"Node": "/api/v1/nodes", "EndpointSlice": "/apis/discovery.k8s.io/v1/endpointslices"}
+
+
+def ends_list(event):
+    annotations = event["object"].get("metadata", {}).get("annotations") or {}
+    return event["type"] == "BOOKMARK" and annotations.get("k8s.io/initial-events-end") == "true"
+
+
+class Watches:
+    """`until_quiet` waits until no request of a put is out. `note` is told of each line's number and event ahead of its being given."""
+
+    def __init__(self, api, lane, paths, until_quiet=None, note=lambda number, event: None):
+        self.api, self.lane, self.paths, self.until_quiet, self.note = api, lane, paths, until_quiet, note
+        self.lists = {kind: asyncio.Event() for kind in paths}
+
+    async def keep(self):
+        """Gives the lane its watches' lines. Where one expires all end; once the program has taken note of that, all begin anew."""
+        while True:
+            for ended in self.lists.values():
+                ended.clear()
+            with contextlib.suppress(Expired):
+                await self.follow_all()
+            self.note(self.lane.given + 1, {"type": "ERROR"})
+            await self.lane.until_taken(await self.lane.give(ERROR))
+            if self.until_quiet:
+                await self.until_quiet()
+
+    async def follow_all(self):
+        async with together() as group:
+            group.create_task(self.tell_awaited())
+            for kind, path in self.paths.items():
+                group.create_task(self.follow(kind, path))
+
+    async def tell_awaited(self):
+        """Tells which first lists haven't ended, as long as there are such."""
+        while True:
+            await asyncio.sleep(AWAITED_TOLD)
+            if awaited := [kind for kind, ended in self.lists.items() if not ended.is_set()]:
+                tell(f"{self.lane.name} lane: no end yet of the lists of {', '.join(awaited)}")
+
+    async def follow(self, kind, path):
+        """Gives the lines of one watch, over as many connections as it takes."""
+        begun, version, told = False, None, None
+        while True:
+            pause = PAUSE
+            try:
+                query = NEXT.format(version) if self.lists[kind].is_set() else FIRST
+                async with contextlib.aclosing(self.api.lines(f"{path}?{query}")) as lines:
+                    async for line in lines:
+                        event = json.loads(line)
+                        if event["type"] == "ERROR":
+                            raise Expired()
+                        begun, told = True, None
+                        await self.pass_on(kind, event, line)
+                        version = event["object"]["metadata"]["resourceVersion"]
+            except (NotSent, Broken):
+                pass
+            except Refused as fault:
+                if fault.status == 410:
+                    raise Expired() from fault
+                pause = LONG_PAUSE
+                if told != fault.status:
+                    tell(f"no watch of {path}: {fault}")
+                told = fault.status
+            if begun and not self.lists[kind].is_set():
+                raise Expired()
+            await asyncio.sleep(pause)
+
+    async def pass_on(self, kind, event, line):
+        """Gives one line. The end of the list of pools is held back until the first lists of the other configuration kinds have ended."""
+        ends = ends_list(event)
+        if ends and kind == "IPAddressPool":
+            for other, ended in self.lists.items():
+                if other not in HOLD_NOTHING_BACK:
+                    await ended.wait()
+        self.note(self.lane.given + 1, event)
+        await self.lane.give(line)
+        if ends:
+            self.lists[kind].set()
+
+    async def until_listed(self):
+        """Waits until all first lists have been given."""
+        for ended in self.lists.values():
+            await ended.wait()

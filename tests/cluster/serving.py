@@ -1,0 +1,364 @@
+"""HTTP over the store: the paths of an API server, watches, and faults drawn from a seed."""
+import json
+import random
+import re
+import select
+import socket
+import threading
+import time
+from http.server import BaseHTTPRequestHandler, ThreadingHTTPServer
+from urllib.parse import parse_qs, unquote, urlsplit
+
+from kinds import BY_PLURAL, discovery
+from store import Refused
+
+PATH = re.compile(r"/(?:api|apis/(?P<group>[^/]+))/(?P<version>[^/]+)(?:/namespaces/(?P<namespace>[^/]+)(?=/[^/]))?"
+                  r"/(?P<plural>[^/]+)(?:/(?P<name>[^/]+))?(?:/(?P<sub>status))?$")
+BOOKMARK_SECONDS, LATE_SECONDS = 1, 0.03
+END = {"k8s.io/initial-events-end": "true"}
+
+
+class Faults:
+    """What goes wrong, each a share of the times that it could: replies to changes of a status that are lost, and watches that break, expire or are late."""
+
+    def __init__(self, seed=0, puts=0.0, events=0.0):
+        self.random, self.puts, self.events, self.lock = random.Random(seed), puts, events, threading.Lock()
+
+    def draw(self, share, *kinds):
+        with self.lock:
+            return self.random.choice(kinds) if self.random.random() < share else None
+
+    def of_put(self, _agent, _key):
+        return self.draw(self.puts, "lost before", "lost behind")
+
+    def of_event(self, _watch):
+        return self.draw(self.events, "breaks", "expires", "is late")
+
+
+class Watch:
+    """What a watch was given so far. `sent` is the version up to which its changes were written, or are about to be."""
+
+    def __init__(self, agent, kind, listed):
+        self.agent, self.kind, self.listed = agent, kind, listed  # `listed`: the version of its list, where it began with one
+        self.sent, self.ended, self.began = listed or 0, listed is None, time.monotonic()
+
+
+class Selection:
+    """The objects that a request is of: those of a namespace and a name, and that its selectors select."""
+
+    def __init__(self, namespace, name, labels, fields):
+        self.namespace, self.name = namespace, name
+        self.labels = [term for term in labels.split(",") if term]
+        for term in filter(None, fields.split(",")):
+            field, _, value = term.replace("==", "=").partition("=")
+            if field == "metadata.name":
+                self.name = value
+            elif field == "metadata.namespace":
+                self.namespace = value
+            else:
+                raise Refused(400, f"field label not supported: {field}")
+
+    def has(self, thing):
+        if thing is None:
+            return False
+        metadata = thing["metadata"]
+        if self.namespace not in (None, metadata.get("namespace", "")) or self.name not in (None, metadata["name"]):
+            return False
+        labels = metadata.get("labels") or {}
+        return all(self.selects(term, labels) for term in self.labels)
+
+    @staticmethod
+    def selects(term, labels):
+        if "!=" in term:
+            name, value = term.split("!=", 1)
+            return labels.get(name) != value
+        name, equals, value = term.replace("==", "=").partition("=")
+        return (labels.get(name) == value) if equals else (name.lstrip("!") in labels) != name.startswith("!")
+
+
+class Server(ThreadingHTTPServer):
+    daemon_threads, allow_reuse_address, request_queue_size = True, True, 64
+
+    def __init__(self, store, port=0, faults=None, log=None, host="127.0.0.1"):
+        super().__init__((host, port), Handler)
+        self.store, self.faults, self.log, self.stopping = store, faults or Faults(), log, False
+        self.watches, self.on_watch = [], []  # told of each watch as it begins, the store locked
+
+    @property
+    def url(self):
+        return f"http://{self.server_address[0]}:{self.server_address[1]}"
+
+    def start(self):
+        threading.Thread(target=self.serve_forever, args=(0.05,), daemon=True).start()
+        return self
+
+    def stop(self):
+        self.stopping = True
+        with self.store.lock:
+            for news in self.store.news.values():
+                news.notify_all()
+        self.shutdown()
+        self.server_close()
+
+    def handle_error(self, request, client_address):
+        """A client that went away is no fault of the server."""
+        import sys
+        if not isinstance(sys.exc_info()[1], (ConnectionError, TimeoutError)):
+            super().handle_error(request, client_address)
+
+
+class Handler(BaseHTTPRequestHandler):
+    protocol_version = "HTTP/1.1"
+    disable_nagle_algorithm = True
+    wbufsize = -1
+
+    # Answers
+
+    def log_message(self, *_):
+        pass
+
+    def log_request(self, code="-", size="-"):
+        if self.server.log:
+            print(self.command, self.path, int(code), file=self.server.log, flush=True)
+
+    def answer(self, code, body):
+        data = json.dumps(body, separators=(",", ":")).encode()
+        self.send_response(code)
+        self.send_header("Content-Type", "application/json")
+        self.send_header("Content-Length", str(len(data)))
+        self.end_headers()
+        self.wfile.write(data)
+        self.wfile.flush()
+
+    def body(self):
+        data = self.rfile.read(int(self.headers.get("Content-Length") or 0))
+        if not data:
+            return {}
+        if "json" not in (self.headers.get("Content-Type") or "json"):
+            raise Refused(415, "the body of the request was in an unknown format - accepted media types include: application/json")
+        try:
+            return json.loads(data)
+        except ValueError as error:
+            raise Refused(400, f"the body is no JSON: {error}") from error
+
+    def serve(self):
+        url = urlsplit(self.path)
+        asked = {name: values[-1] for name, values in parse_qs(url.query, keep_blank_values=True).items()}
+        try:
+            told = discovery(url.path) if self.command == "GET" else None
+            if told is not None:
+                return self.answer(200, told)
+            if url.path in ("/healthz", "/readyz", "/livez"):
+                return self.answer(200, "ok")
+            return self.resource(url.path, asked)
+        except Refused as refused:
+            return self.answer(refused.code, refused.status())
+        except (BrokenPipeError, ConnectionError):
+            self.close_connection = True
+
+    do_GET = do_POST = do_PUT = do_PATCH = do_DELETE = serve
+
+    def resource(self, path, asked):
+        found = PATH.match(path)
+        kind = found and BY_PLURAL.get(found["plural"])
+        if not kind or (found["group"] or "", found["version"]) != (kind.group, kind.version):
+            self.body()
+            raise Refused(404, "the server could not find the requested resource")
+        namespace, name = (unquote(found[part]) if found[part] else None for part in ("namespace", "name"))
+        status = found["sub"] == "status"
+        if status and not kind.status:
+            raise Refused(404, "the server could not find the requested resource")
+        key = (namespace or "" if kind.namespaced else "", name)
+        store = self.server.store
+        if self.command == "GET":
+            if name and asked.get("watch") not in ("1", "true"):
+                return self.answer(200, store.get(kind, key))
+            return self.listed(kind, Selection(namespace if kind.namespaced else None, name, asked.get("labelSelector", ""),
+                                               asked.get("fieldSelector", "")), asked)
+        body = self.body()
+        if self.command == "POST" and not name:
+            return self.answer(201, store.create(kind, namespace, body))
+        if self.command == "DELETE" and name:
+            gone = store.delete(kind, key, body)
+            return self.answer(200, gone)
+        if self.command == "PUT" and name:
+            return self.answer(200, store.update(kind, key, body, status))
+        if self.command == "PATCH" and name:
+            form = (self.headers.get("Content-Type") or "").split(";")[0]
+            if status and kind.name == "Service":
+                return self.put(kind, key, body, form)
+            return self.answer(200, store.patch(kind, key, body, form, status))
+        raise Refused(405, "the server does not allow this method on the requested resource")
+
+    def put(self, kind, key, body, form):
+        """A patch of a service's status, whose reply may be lost. Whoever listens is told of it ahead, and of what came of it."""
+        store, agent = self.server.store, self.headers.get("User-Agent", "")
+        fault = self.server.faults.of_put(agent, key)
+        told = [judge(agent, key, body) for judge in store.on_put]
+        if fault == "lost before":
+            answer = None
+        else:
+            with store.lock:
+                for tell in told:
+                    tell("arrives")
+                try:
+                    answer = 200, store.patch(kind, key, body, form, True)
+                except Refused as refused:
+                    answer = refused.code, refused.status()
+                for tell in told:
+                    tell("applied" if answer[0] == 200 else "refused")
+        if fault is None:
+            for tell in told:
+                tell("answered", answer)
+            return self.answer(*answer)
+        for tell in told:
+            tell("lost")
+        self.cut()
+
+    def cut(self):
+        """Ends the connection without an answer."""
+        self.close_connection = True
+        try:
+            self.connection.shutdown(socket.SHUT_RDWR)
+        except OSError:
+            pass
+
+    # Lists and watches
+
+    def listed(self, kind, selection, asked):
+        store = self.server.store
+        if asked.get("watch") in ("1", "true"):
+            return self.watch(kind, selection, asked)
+        if asked.get("sendInitialEvents"):
+            raise Refused(422, "ListOptions.meta.k8s.io is invalid: sendInitialEvents: Forbidden: sendInitialEvents is forbidden for list")
+        items, version = store.list(kind)
+        told = {"kind": kind.name + "List", "apiVersion": kind.api_version, "metadata": {"resourceVersion": str(version)}}
+        return self.answer(200, {**told, "items": [item for item in items if selection.has(item)]})
+
+    def watch(self, kind, selection, asked):
+        initial, given = asked.get("sendInitialEvents"), asked.get("resourceVersion", "")
+        if initial and asked.get("resourceVersionMatch") != "NotOlderThan":
+            raise Refused(422, "ListOptions.meta.k8s.io is invalid: resourceVersionMatch: Forbidden: sendInitialEvents requires setting "
+                               "resourceVersionMatch to NotOlderThan")
+        if not initial and asked.get("resourceVersionMatch"):
+            raise Refused(422, "ListOptions.meta.k8s.io is invalid: resourceVersionMatch: Forbidden: resourceVersionMatch is forbidden for watch "
+                               "unless sendInitialEvents is provided")
+        if given and not given.isdigit():
+            raise Refused(400, f"Invalid resource version: {given}")
+        begins = initial == "true" or given in ("", "0") and initial != "false"
+        self.send_response(200)
+        self.send_header("Content-Type", "application/json")
+        self.send_header("Transfer-Encoding", "chunked")
+        self.end_headers()
+        self.wfile.flush()
+        self.stream = Stream(self, kind, selection, asked.get("allowWatchBookmarks") in ("1", "true"))
+        seconds = float(asked.get("timeoutSeconds") or 3600)
+        try:
+            if self.stream.run(None if begins else int(given or self.server.store.version), initial == "true", time.monotonic() + seconds):
+                self.wfile.write(b"0\r\n\r\n")
+                self.wfile.flush()
+            else:
+                self.cut()
+        except (BrokenPipeError, ConnectionError, ValueError):
+            self.close_connection = True
+
+
+class Stream:
+    """One watch as it is written."""
+
+    def __init__(self, handler, kind, selection, bookmarks):
+        self.handler, self.kind, self.selection, self.bookmarks = handler, kind, selection, bookmarks
+        self.server, self.store = handler.server, handler.server.store
+
+    def run(self, version, marked, until):
+        """Goes on from the version, or begins with what there is. True where it ends as it should, False where it breaks."""
+        store = self.store
+        with store.lock:
+            items, listed = store.list(self.kind)
+            self.watch = Watch(self.handler.headers.get("User-Agent", ""), self.kind, listed if version is None else None)
+            self.watch.sent = listed if version is None else version
+            self.server.watches.append(self.watch)
+            for told in self.server.on_watch:
+                told(self.watch)
+            too_old = version is not None and version < store.oldest()
+        try:
+            if too_old:
+                return self.expire(f"too old resource version: {version} ({store.oldest()})")
+            if version is None:
+                version = listed
+                if not all(self.give("ADDED", item) for item in items if self.selection.has(item)):
+                    return False
+                self.watch.ended = True
+                if marked and self.bookmarks:
+                    self.bookmark(version, END)
+            return self.follow(version, until)
+        finally:
+            with store.lock:
+                self.server.watches.remove(self.watch)
+
+    def follow(self, version, until):
+        store, quiet = self.store, time.monotonic() + BOOKMARK_SECONDS
+        while not self.server.stopping and time.monotonic() < until:
+            with store.lock:
+                if store.latest[self.kind] <= version:
+                    store.news[self.kind].wait(max(0, min(quiet, until) - time.monotonic()))
+                changes, old = store.since(version), version < store.oldest()
+                version = store.version
+                if not old:
+                    self.watch.sent = version
+            if old:
+                return self.expire("too old resource version")
+            for change in changes:
+                if change.kind != self.kind:
+                    continue
+                event = self.event_of(change)
+                if event and not self.give(*event):
+                    return False
+            if time.monotonic() > quiet:
+                if self.gone():
+                    return False
+                if self.bookmarks:
+                    self.bookmark(version, {})
+                quiet = time.monotonic() + BOOKMARK_SECONDS
+        return True
+
+    def event_of(self, change):
+        """The change as one of the objects selected: one that isn't selected any more is told as deleted."""
+        was, is_ = self.selection.has(change.old), change.type != "DELETED" and self.selection.has(change.object)
+        if is_:
+            return "MODIFIED" if was else "ADDED", change.object
+        if was:
+            return "DELETED", change.object if change.type == "DELETED" else {**change.old, "metadata": {
+                **change.old["metadata"], "resourceVersion": str(change.version)}}
+        return None
+
+    def give(self, type_, thing):
+        """Writes an event, unless the watch breaks or expires ahead of it."""
+        fault = self.server.faults.of_event(self.watch)
+        if fault == "is late":
+            time.sleep(LATE_SECONDS)
+        if fault == "breaks":
+            return False
+        if fault == "expires":
+            self.expire("the watch expired")
+            return False
+        self.write({"type": type_, "object": thing})
+        return True
+
+    def bookmark(self, version, annotations):
+        metadata = {"resourceVersion": str(version), **({"annotations": annotations} if annotations else {})}
+        self.write({"type": "BOOKMARK", "object": {"kind": self.kind.name, "apiVersion": self.kind.api_version, "metadata": metadata}})
+
+    def expire(self, why):
+        self.write({"type": "ERROR", "object": Refused(410, why).status()})
+        return True
+
+    def write(self, event):
+        data = json.dumps(event, separators=(",", ":")).encode() + b"\n"
+        self.handler.wfile.write(b"%x\r\n%s\r\n" % (len(data), data))
+        self.handler.wfile.flush()
+
+    def gone(self):
+        """Whether the client closed the connection."""
+        connection = self.handler.connection
+        return bool(select.select([connection], [], [], 0)[0]) and not connection.recv(1, socket.MSG_PEEK)

@@ -1,0 +1,255 @@
+"""The objects of a small cluster, with the rules by which an API server takes changes of them.
+
+Each change takes the next version of one counter and is kept, so that a watch can go on at any version that isn't too old. Stored objects are
+never changed in place, so whoever was given one may keep it. `on_change` is called after each change, `on_put` ahead of each change of a
+service's status, both while the store is locked."""
+import copy
+import threading
+import time
+import uuid
+from typing import NamedTuple
+
+import service_rules
+from kinds import BY_NAME, BY_PLURAL, KINDS
+from patches import BadPatch, json_patch, merge, strategic
+
+MERGE, STRATEGIC, JSON_PATCH = (f"application/{name}+json" for name in ("merge-patch", "strategic-merge-patch", "json-patch"))
+
+
+class Refused(Exception):
+    """An answer other than success, by its HTTP status."""
+    REASONS = {400: "BadRequest", 403: "Forbidden", 404: "NotFound", 405: "MethodNotAllowed", 409: "Conflict", 410: "Expired",
+               415: "UnsupportedMediaType", 422: "Invalid", 500: "InternalError"}
+
+    def __init__(self, code, message, reason=None):
+        super().__init__(message)
+        self.code, self.reason = code, reason or self.REASONS[code]
+
+    def status(self):
+        told = {"kind": "Status", "apiVersion": "v1", "metadata": {}, "status": "Failure", "message": str(self), "reason": self.reason}
+        if self.code == 422:
+            told["details"] = {"causes": [{"message": str(self)}]}
+        return {**told, "code": self.code}
+
+
+class Change(NamedTuple):
+    version: int
+    type: str  # ADDED, MODIFIED or DELETED
+    kind: object
+    key: tuple  # namespace, name
+    object: dict  # after the change, or as it last was
+    old: dict  # before the change, or None
+
+
+def version_of(thing):
+    return int(thing["metadata"]["resourceVersion"])
+
+
+def list_order(key):
+    """The order of a list: by namespace/name as text, as the keys of etcd go."""
+    return "/".join(part for part in key if part)
+
+
+class Store:
+    def __init__(self, history=1000):
+        self.lock = threading.RLock()  # held by whoever looks at the store or changes it
+        self.news = {kind: threading.Condition(self.lock) for kind in KINDS}
+        self.latest = dict.fromkeys(KINDS, 0)  # the version of each kind's last change
+        self.objects = {kind: {} for kind in KINDS}
+        self.version, self.changes, self.history = 0, [], history
+        self.on_change, self.on_put = [], []
+        self.forbidden = lambda verb, kind, key, body: None  # a text refuses the request (403)
+        for name in ("default", "kube-system", "metallb-system"):
+            self.create(BY_PLURAL["namespaces"], None, {"metadata": {"name": name, "labels": {"kubernetes.io/metadata.name": name}}})
+
+    # What there is
+
+    def get(self, kind, key):
+        with self.lock:
+            found = self.objects[kind].get(key)
+            if found is None:
+                raise Refused(404, f'{kind.plural} "{key[1]}" not found')
+            return found
+
+    def list(self, kind, namespace=None):
+        """The objects in the order of a list, and the version at which they are so."""
+        with self.lock:
+            keys = sorted((key for key in self.objects[kind] if namespace in (None, key[0])), key=list_order)
+            return [self.objects[kind][key] for key in keys], self.version
+
+    def oldest(self):
+        """The least version at which a watch can go on."""
+        return max(0, self.version - self.history)
+
+    def since(self, version):
+        """The changes after the version."""
+        return self.changes[version:]  # each change takes one version
+
+    # What changes it
+
+    def record(self, type_, kind, key, thing):
+        """Makes the change, at the next version. What is handed in belongs to the store from now on."""
+        old = self.objects[kind].get(key)
+        self.version += 1
+        thing["metadata"]["resourceVersion"] = str(self.version)
+        if type_ == "DELETED":
+            del self.objects[kind][key]
+        else:
+            self.objects[kind][key] = thing
+        change = Change(self.version, type_, kind, key, thing, old)
+        self.changes.append(change)
+        for told in self.on_change:
+            told(change)
+        self.latest[kind] = self.version
+        self.news[kind].notify_all()
+        return thing
+
+    def create(self, kind, namespace, body):
+        with self.lock:
+            thing = self.named(kind, namespace, body)
+            metadata = thing["metadata"]
+            key = (metadata.get("namespace", ""), metadata["name"])
+            if kind.namespaced and ("", key[0]) not in self.objects[BY_PLURAL["namespaces"]]:
+                raise Refused(404, f'namespaces "{key[0]}" not found')
+            self.may("create", kind, key, thing)
+            if key in self.objects[kind]:
+                raise Refused(409, f'{kind.plural} "{key[1]}" already exists', "AlreadyExists")
+            if metadata.get("resourceVersion"):
+                raise Refused(400, "resourceVersion should not be set on objects to be created")
+            metadata.update(uid=str(uuid.uuid4()), creationTimestamp=time.strftime("%Y-%m-%dT%H:%M:%SZ", time.gmtime()))
+            if kind.status:
+                thing.pop("status", None)
+            self.settle(kind, thing, None)
+            return self.record("ADDED", kind, key, thing)
+
+    def named(self, kind, namespace, body):
+        """A copy of the body with the kind and the namespace of the request."""
+        if not isinstance(body, dict) or not isinstance(body.get("metadata"), dict):
+            raise Refused(400, "the body is no object with metadata")
+        thing = copy.deepcopy(body)
+        if thing.get("kind", kind.name) != kind.name or thing.get("apiVersion", kind.api_version) != kind.api_version:
+            raise Refused(400, f"the object is no {kind.name} of {kind.api_version}")
+        thing = {"kind": kind.name, "apiVersion": kind.api_version, **thing}
+        metadata = thing["metadata"]
+        if not metadata.get("name") and metadata.get("generateName"):
+            metadata["name"] = metadata["generateName"] + uuid.uuid4().hex[:5]
+        if not metadata.get("name"):
+            raise Refused(422, f"{kind.name} is invalid: metadata.name: Required value: name or generateName is required")
+        if kind.namespaced:
+            if metadata.setdefault("namespace", namespace or "default") != (namespace or metadata["namespace"]):
+                raise Refused(400, "the namespace of the object does not match the namespace of the request")
+        else:
+            metadata.pop("namespace", None)
+        return thing
+
+    def may(self, verb, kind, key, body):
+        why = self.forbidden(verb, kind, key, body)
+        if why:
+            raise Refused(403, f'{kind.plural} "{key[1]}" is forbidden: {why}')
+
+    def settle(self, kind, thing, old):
+        """Gives defaults and refuses what isn't valid."""
+        for name in ("labels", "annotations"):
+            texts = thing["metadata"].get(name) or {}
+            if not isinstance(texts, dict) or any(not isinstance(text, str) for text in texts.values()):
+                raise Refused(422 if isinstance(texts, dict) else 400, f"{kind.name} is invalid: metadata.{name}: Invalid value")
+        if kind.name == "Service":
+            fault = service_rules.settle(thing, old)
+            if fault:
+                raise Refused(422, f'Service "{thing["metadata"]["name"]}" is invalid: {fault}')
+
+    def update(self, kind, key, body, status=False):
+        """A PUT of the object, or of its status."""
+        with self.lock:
+            thing = self.named(kind, key[0], body)
+            if thing["metadata"]["name"] != key[1]:
+                raise Refused(400, "the name of the object does not match the name on the URL")
+            if not thing["metadata"].get("resourceVersion") and (kind.custom or kind.name == "Lease") and not status:
+                raise Refused(422, f"{kind.name} is invalid: metadata.resourceVersion: Invalid value: 0: must be specified for an update")
+            return self.replace(kind, key, self.get(kind, key), thing, status, "update")
+
+    def patch(self, kind, key, body, form, status=False):
+        """A PATCH of the object, or of its status, in one of three forms."""
+        with self.lock:
+            old = self.get(kind, key)
+            if form == STRATEGIC and kind.custom:
+                raise Refused(415, "the body of the request was in an unknown format - accepted media types include: "
+                                   "application/json-patch+json, application/merge-patch+json")
+            if form not in (MERGE, STRATEGIC, JSON_PATCH):
+                raise Refused(415, f"the patch type {form} isn't served")
+            try:
+                apply = {MERGE: merge, STRATEGIC: strategic, JSON_PATCH: json_patch}[form]
+                thing = copy.deepcopy(apply(old, body))
+            except (BadPatch, KeyError, AttributeError, TypeError) as error:
+                raise Refused(422 if form == JSON_PATCH else 400, f"the patch can't be applied: {error}") from error
+            if (thing.get("kind"), thing.get("metadata", {}).get("name")) != (kind.name, key[1]):
+                raise Refused(422, f"{kind.name} is invalid: metadata.name: Invalid value: field is immutable")
+            return self.replace(kind, key, old, thing, status, "patch")
+
+    def replace(self, kind, key, old, thing, status, verb):
+        """Puts the thing in the old one's place: its status and annotations, or all but its status."""
+        metadata = thing["metadata"]
+        if metadata.get("resourceVersion") not in (None, "", old["metadata"]["resourceVersion"]):
+            raise Refused(409, f'Operation cannot be fulfilled on {kind.plural} "{key[1]}": the object has been modified; '
+                               "please apply your changes to the latest version and try again")
+        if metadata.get("uid") not in (None, "", old["metadata"]["uid"]):
+            raise Refused(409, f"Precondition failed: UID in precondition: {metadata['uid']}, UID in object meta: {old['metadata']['uid']}")
+        self.may(verb + ("/status" if status else ""), kind, key, thing)
+        for name in ("uid", "creationTimestamp", "namespace", "name", "deletionTimestamp"):
+            if name in old["metadata"]:
+                metadata[name] = old["metadata"][name]
+        if status:
+            texts = metadata if not kind.custom else old["metadata"]
+            kept = {**copy.deepcopy(old["metadata"]), "resourceVersion": old["metadata"]["resourceVersion"]}
+            for name in ("labels", "annotations"):
+                kept.pop(name, None)
+                if texts.get(name):
+                    kept[name] = copy.deepcopy(texts[name])
+            thing = {**copy.deepcopy(old), "metadata": kept, "status": thing.get("status") or {}}
+            if kind.name == "Service":
+                fault = service_rules.status_fault(thing)
+                if fault:
+                    raise Refused(422, f'Service "{key[1]}" is invalid: {fault}')
+        else:
+            if kind.status and "status" in old:
+                thing["status"] = copy.deepcopy(old["status"])
+            self.settle(kind, thing, old)
+        metadata = thing["metadata"]
+        for name in ("labels", "annotations"):
+            if not metadata.get(name):
+                metadata.pop(name, None)
+        metadata["resourceVersion"] = old["metadata"]["resourceVersion"]
+        if thing == old:
+            return old
+        if metadata.get("deletionTimestamp") and not metadata.get("finalizers"):
+            return self.record("DELETED", kind, key, thing)
+        return self.record("MODIFIED", kind, key, thing)
+
+    def delete(self, kind, key, asked=None):
+        """A DELETE, at most of the version and the uid that it asks for. One with finalizers is marked, and goes with the last of them."""
+        with self.lock:
+            old = self.get(kind, key)
+            for name, value in ((asked or {}).get("preconditions") or {}).items():
+                if old["metadata"].get(name) != value:
+                    raise Refused(409, f"Precondition failed: {name} in precondition: {value}, in object meta: {old['metadata'].get(name)}")
+            self.may("delete", kind, key, None)
+            thing = copy.deepcopy(old)
+            if old["metadata"].get("finalizers"):
+                thing["metadata"].setdefault("deletionTimestamp", time.strftime("%Y-%m-%dT%H:%M:%SZ", time.gmtime()))
+                return old if thing == old else self.record("MODIFIED", kind, key, thing)
+            if kind.name == "Namespace":
+                for other in KINDS:
+                    for inside in [inside for inside in self.objects[other] if inside[0] == key[1]]:
+                        self.delete(other, inside)
+            return self.record("DELETED", kind, key, thing)
+
+    def put(self, body):
+        """Creates the object, or puts it in place of the one of its name, whatever that one's version. For users of the store in this process."""
+        kind = BY_NAME[body["kind"]]
+        metadata = body["metadata"]
+        key = (metadata.get("namespace", "default") if kind.namespaced else "", metadata["name"])
+        with self.lock:
+            if key not in self.objects[kind]:
+                return self.create(kind, key[0], body)
+            version = self.objects[kind][key]["metadata"]["resourceVersion"]
+            return self.update(kind, key, {**body, "metadata": {**metadata, "resourceVersion": version}})

@@ -1,0 +1,224 @@
+"""Users who edit a small cluster at random: services, pools, and what speakers go by. They never write what the controller writes."""
+import copy
+
+from kinds import BY_NAME
+from rules import ADDRESSES, POOL, SHARED, Config, compiled
+from store import Refused
+
+METALLB = "metallb-system"
+SPACES = {"default": {}, "team-a": {"tier": "front"}, "team-b": {"tier": "back"}}
+NAMES = ["a", "b", "c", "d"]
+SPANS = ["192.0.2.0/30", "192.0.2.4-192.0.2.6", "192.0.2.6-192.0.2.9", "192.0.2.254-192.0.3.1", "198.51.100.8/31", "198.51.100.10/32",
+         "2001:db8::/126", "2001:db8::8-2001:db8::a"]
+ASKED = ["192.0.2.1", "192.0.2.5", "198.51.100.10", "2001:db8::9", "203.0.113.1", "192.0.2.1,2001:db8::1", "x"]
+PORTS = [("TCP", 80), ("TCP", 443), ("UDP", 53), ("TCP", 53)]
+NODES = ["n1", "n2", "n3"]
+CONFIG = ["IPAddressPool", "L2Advertisement", "BGPAdvertisement", "BGPPeer", "Community"]
+
+
+def custom(kind, name, spec, **labels):
+    version = BY_NAME[kind].api_version
+    return {"apiVersion": version, "kind": kind, "metadata": {"name": name, "namespace": METALLB, "labels": labels}, "spec": spec}
+
+
+class Users:
+    """Edits of a store. With `speakers` they change endpoints, nodes' labels and advertisements too."""
+
+    def __init__(self, store, random, speakers=False):
+        self.store, self.random, self.speakers, self.made = store, random, speakers, 0
+
+    def flip(self, share):
+        return self.random.random() < share
+
+    def begin(self):
+        """The namespaces, two pools, an advertisement of each kind, and some services."""
+        for name, labels in SPACES.items():
+            self.store.put({"apiVersion": "v1", "kind": "Namespace", "metadata": {"name": name, "labels": labels}})
+        self.store.put(custom("IPAddressPool", "p0", {"addresses": SPANS[:1]}))
+        self.store.put(custom("IPAddressPool", "p1", {"addresses": [SPANS[5], SPANS[6]]}))
+        self.store.put(custom("L2Advertisement", "l0", {}))
+        self.store.put(custom("BGPAdvertisement", "b0", {}))
+        for _ in range(self.random.randrange(8)):
+            self.edit()
+
+    # Edits; each is tried, and may be refused as a user's edit is
+
+    def edit(self):
+        edits = [self.set_service] * 8 + [self.delete_service] * 3 + [self.set_pool] * 2 + [self.delete_pool, self.label_space]
+        if self.speakers:
+            edits += [self.set_slice] * 6 + [self.label_node] * 2 + [self.set_advertisement] * 2 + [self.set_peer]
+        try:
+            self.random.choice(edits)()
+            self.made += 1
+        except Refused:
+            pass
+
+    def set_service(self):
+        namespace, name = self.random.choice(list(SPACES)), self.random.choice(NAMES)
+        kind = BY_NAME["Service"]
+        with self.store.lock:
+            old = self.store.objects[kind].get((namespace, name))
+            if old is None:
+                self.store.create(kind, namespace, self.service(name))
+            else:
+                thing = copy.deepcopy(old)
+                for change in self.random.sample(self.CHANGES, self.random.choice([1, 1, 2])):
+                    change(self, thing)
+                self.store.update(kind, (namespace, name), thing)
+        if self.speakers and self.flip(0.5):
+            self.slice_of(namespace, name)
+
+    def service(self, name):
+        thing = {"metadata": {"name": name}, "spec": {"type": "LoadBalancer", "selector": {"app": "web"}, "ports": self.ports()}}
+        for change in self.CHANGES[:5]:
+            if self.flip(0.25):
+                change(self, thing)
+        if self.flip(0.25):
+            thing["spec"]["ipFamilies"] = self.random.choice([["IPv6"], ["IPv4", "IPv6"], ["IPv6", "IPv4"]])
+            thing["spec"]["ipFamilyPolicy"] = "SingleStack" if len(thing["spec"]["ipFamilies"]) == 1 else "RequireDualStack"
+        return thing
+
+    def ports(self):
+        return [{"name": f"x{at}", "protocol": protocol, "port": port}
+                for at, (protocol, port) in enumerate(self.random.sample(PORTS, self.random.choice([1, 1, 1, 2])))]
+
+    def note(self, thing, name, values):
+        """Sets an annotation to one of the values, or takes it away."""
+        notes = thing["metadata"].setdefault("annotations", {})
+        value = self.random.choice(values)
+        if value is None:
+            notes.pop(name, None)
+        else:
+            notes[name] = value
+
+    def change_key(self, thing):
+        self.note(thing, SHARED, ["k1", "k1", "k2", None])
+
+    def change_policy(self, thing):
+        thing["spec"]["externalTrafficPolicy"] = self.random.choice(["Cluster", "Local"])
+
+    def change_pool(self, thing):
+        self.note(thing, POOL, ["p0", "p1", "p2", "p3", None, None, None])
+
+    def change_asked(self, thing):
+        self.note(thing, ADDRESSES, [*ASKED, None, None, None, None, None, None, None])
+
+    def change_labels(self, thing):
+        thing["metadata"]["labels"] = self.random.choice([{}, {"team": "a"}, {"team": "b"}])
+
+    def change_ports(self, thing):
+        thing["spec"]["ports"] = self.ports()
+
+    def change_type(self, thing):
+        thing["spec"]["type"] = self.random.choice(["LoadBalancer", "LoadBalancer", "ClusterIP", "NodePort"])
+        thing["spec"].pop("externalTrafficPolicy", None)
+
+    def change_selector(self, thing):
+        thing["spec"]["selector"] = {"app": self.random.choice(["web", "db"])}
+
+    CHANGES = [change_key, change_policy, change_pool, change_asked, change_labels, change_ports, change_ports, change_type, change_type, change_selector]
+
+    def delete_service(self):
+        self.store.delete(BY_NAME["Service"], (self.random.choice(list(SPACES)), self.random.choice(NAMES)))
+
+    def set_pool(self):
+        spec = {"addresses": self.random.sample(SPANS, self.random.choice([1, 2, 2, 3]))}
+        if self.flip(0.2):
+            spec["autoAssign"] = self.flip(0.3)
+        if self.flip(0.3):
+            spec["avoidBuggyIPs"] = True
+        if self.flip(0.4):
+            spec["serviceAllocation"] = {"priority": self.random.choice([0, 10, 20])}
+            if self.flip(0.5):
+                spec["serviceAllocation"]["namespaces"] = self.random.sample(list(SPACES), 2)
+            if self.flip(0.3):
+                spec["serviceAllocation"]["namespaceSelectors"] = [{"matchLabels": {"tier": "front"}}]
+            if self.flip(0.3):
+                terms = [{"key": "team", "operator": "In", "values": ["a", "b"]}, {"key": "team", "operator": "DoesNotExist"}]
+                spec["serviceAllocation"]["serviceSelectors"] = [{"matchExpressions": [self.random.choice(terms)]}]
+        labels = {"zone": self.random.choice("xy")}
+        self.store.put(custom("IPAddressPool", self.random.choice(["p0", "p1", "p2", "p3"]), spec, **labels))
+
+    def delete_pool(self):
+        self.store.delete(BY_NAME["IPAddressPool"], (METALLB, self.random.choice(["p0", "p1", "p2", "p3"])))
+
+    def label_space(self):
+        name = self.random.choice(list(SPACES))
+        labels = {"tier": self.random.choice(["front", "back"])} if self.flip(0.8) else {}
+        self.store.put({"apiVersion": "v1", "kind": "Namespace", "metadata": {"name": name, "labels": labels}})
+
+    # What speakers go by
+
+    def set_slice(self):
+        self.slice_of(self.random.choice(list(SPACES)), self.random.choice(NAMES))
+
+    def slice_of(self, namespace, name):
+        endpoints = [{"addresses": [f"10.0.0.{at}"], "nodeName": node, "conditions": {"ready": self.flip(0.9)}}
+                     for at, node in enumerate(NODES) if self.flip(0.6)]
+        self.store.put({"apiVersion": "discovery.k8s.io/v1", "kind": "EndpointSlice", "addressType": "IPv4", "endpoints": endpoints,
+                        "metadata": {"name": name, "namespace": namespace, "labels": {"kubernetes.io/service-name": name}}})
+
+    def label_node(self):
+        labels = {"rack": self.random.choice("12")}
+        if self.flip(0.15):
+            labels["node.kubernetes.io/exclude-from-external-load-balancers"] = ""
+        self.store.put({"apiVersion": "v1", "kind": "Node", "metadata": {"name": self.random.choice(NODES), "labels": labels}})
+
+    def set_advertisement(self):
+        spec = {}
+        if self.flip(0.3):
+            spec["ipAddressPools"] = self.random.sample(["p0", "p1", "p2", "p3"], 2)
+        if self.flip(0.3):
+            spec["ipAddressPoolSelectors"] = [{"matchLabels": {"zone": "x"}}]
+        if self.flip(0.3):
+            spec["nodeSelectors"] = [{"matchLabels": {"rack": self.random.choice("12")}}]
+        kind, name = self.random.choice([("L2Advertisement", "l0"), ("L2Advertisement", "l1"), ("BGPAdvertisement", "b0"), ("BGPAdvertisement", "b1")])
+        if kind == "BGPAdvertisement":
+            if self.flip(0.3):
+                spec["communities"] = self.random.sample(["65535:65281", "64512:1", "64512:2"], 2)
+            if self.flip(0.3):
+                spec["aggregationLength"] = self.random.choice([30, 31])
+            if self.flip(0.3):
+                spec["localPref"] = self.random.choice([100, 200])
+        elif self.flip(0.2):
+            spec["interfaces"] = [self.random.choice(["eth0", "eth1"])]
+        if self.flip(0.1) and name.endswith("1"):
+            self.store.delete(BY_NAME[kind], (METALLB, name))
+        else:
+            self.store.put(custom(kind, name, spec))
+
+    def begin_speakers(self):
+        """The nodes, and the routers as peers. `router_ports` says where each router listens."""
+        for node in NODES:
+            self.store.put({"apiVersion": "v1", "kind": "Node", "metadata": {"name": node, "labels": {"rack": "1"}}})
+        for name in self.router_ports:
+            self.put_peer(name, {"peerASN": 64513 if name == "q0" else 64512})
+
+    def put_peer(self, name, spec):
+        self.store.put(custom("BGPPeer", name, {"myASN": 64512, "peerAddress": "127.0.0.1", "peerPort": self.router_ports[name], **spec}))
+
+    def peer_number(self, name):
+        """The AS number of the router, which is always what the peer's object says."""
+        found = self.store.objects[BY_NAME["BGPPeer"]].get((METALLB, name))
+        return found["spec"]["peerASN"] if found else 64513
+
+    def set_peer(self):
+        name, spec = self.random.choice(list(self.router_ports)), {"peerASN": self.random.choice([64512, 64513, 64514])}
+        if self.flip(0.3):
+            spec["nodeSelectors"] = [{"matchLabels": {"rack": self.random.choice("12")}}]
+        if self.flip(0.2):
+            self.store.delete(BY_NAME["BGPPeer"], (METALLB, name))
+        else:
+            self.put_peer(name, spec)
+
+    # At the end of a round
+
+    def objects(self):
+        """The objects of the configuration as they are, by kind and name."""
+        with self.store.lock:
+            return {kind: {key[1]: thing for key, thing in self.store.objects[BY_NAME[kind]].items()} for kind in CONFIG}
+
+    def mend(self):
+        """Makes the configuration one that compiles: what is named as its fault is taken away, until there is none."""
+        while not isinstance(fault := compiled(self.objects()), Config):
+            self.store.delete(BY_NAME[fault[1]], (METALLB, fault[2]))

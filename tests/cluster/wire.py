@@ -1,0 +1,161 @@
+"""The wire of a small cluster: the links over which the speakers' bridges send and receive frames, and routers as their BGP peers."""
+import os
+import pathlib
+import socket
+import struct
+import sys
+import threading
+
+sys.path.append(str(pathlib.Path(__file__).resolve().parents[1]))
+from route_readers import table_after
+
+HOSTS = bytes.fromhex("0200ff")  # the beginning of the hardware addresses of the neighbors that ask
+HOST_V4, HOST_V6 = socket.inet_aton("192.0.2.250"), socket.inet_pton(socket.AF_INET6, "2001:db8::99")
+ALL_NODES = socket.inet_pton(socket.AF_INET6, "ff02::1")
+
+
+def checksum(source, target, message):
+    """The ICMPv6 checksum over the pseudo header (RFC 4443, section 2.3)."""
+    data = source + target + struct.pack(">II", len(message), 58) + message
+    total = sum(struct.unpack(f">{len(data) // 2}H", data))
+    while total >> 16:
+        total = (total & 0xFFFF) + (total >> 16)
+    return total ^ 0xFFFF
+
+
+def icmp_frame(to, hardware, source, target, message):
+    message = message[:2] + struct.pack(">H", checksum(source, target, message)) + message[4:]
+    return to + hardware + bytes.fromhex("86dd60000000") + struct.pack(">HBB", len(message), 58, 255) + source + target + message
+
+
+def octets_of(address):
+    return address[1].to_bytes(4 if address[0] == 4 else 16, "big")
+
+
+def question(address, host):
+    """The ARP request (RFC 826) or the neighbor solicitation (RFC 4861, section 4.3) for the address, by a neighbor of this hardware address."""
+    octets = octets_of(address)
+    if address[0] == 4:
+        return b"\xff" * 6 + host + bytes.fromhex("08060001080006040001") + host + HOST_V4 + bytes(6) + octets
+    group = bytes.fromhex("ff0200000000000000000001ff") + octets[13:]
+    return icmp_frame(b"\x33\x33" + group[12:], host, HOST_V6, group, b"\x87" + bytes(7) + octets + b"\x01\x01" + host)
+
+
+def answer(address, hardware, host):
+    """The one frame that answers the neighbor's question: the address is at this hardware address."""
+    octets = octets_of(address)
+    if address[0] == 4:
+        return host + hardware + bytes.fromhex("08060001080006040002") + hardware + octets + host + HOST_V4
+    return icmp_frame(host, hardware, octets, HOST_V6, b"\x88" + bytes(3) + bytes.fromhex("40000000") + octets + b"\x02\x01" + hardware)
+
+
+def unasked(address, hardware):
+    """The frame that tells all neighbors unasked (RFC 5227, section 2.3; RFC 4861, section 7.2.6)."""
+    octets = octets_of(address)
+    if address[0] == 4:
+        return b"\xff" * 6 + hardware + bytes.fromhex("08060001080006040002") + hardware + octets + b"\xff" * 6 + octets
+    to = bytes.fromhex("333300000001")
+    return icmp_frame(to, hardware, octets, ALL_NODES, b"\x88" + bytes(3) + bytes.fromhex("20000000") + octets + b"\x02\x01" + hardware)
+
+
+class Links:
+    """The datagram sockets of a folder: each frame that is sent comes to `hub`, and is given with the link (NODE-INTERFACE) that sent it."""
+
+    def __init__(self, folder):
+        self.folder, self.asked, self.answers, self.told, self.lock = folder, 0, {}, {}, threading.Lock()
+        self.hub = socket.socket(socket.AF_UNIX, socket.SOCK_DGRAM)
+        self.hub.bind(os.path.join(folder, "hub"))
+        threading.Thread(target=self.listen, daemon=True).start()
+
+    def listen(self):
+        while True:
+            try:
+                frame, sender = self.hub.recvfrom(65536)
+            except OSError:
+                return
+            with self.lock:
+                if frame[:3] == HOSTS:
+                    self.answers.setdefault(frame[:6], []).append((os.path.basename(sender), frame))
+                else:
+                    self.told.setdefault(os.path.basename(sender), set()).add(frame)
+
+    def forget(self, node):
+        """What the node told unasked so far."""
+        with self.lock:
+            for link in [link for link in self.told if link.startswith(node + "-")]:
+                del self.told[link]
+
+    def neighbor(self):
+        """The hardware address of a neighbor that hasn't asked yet."""
+        self.asked += 1
+        return HOSTS + struct.pack(">I", self.asked)[1:]
+
+    def ask(self, frame):
+        """Gives the frame to each link that there is."""
+        for link in os.listdir(self.folder):
+            if link != "hub":
+                try:
+                    self.hub.sendto(frame, socket.MSG_DONTWAIT, os.path.join(self.folder, link))
+                except OSError:
+                    pass
+
+    def answered(self, host):
+        with self.lock:
+            return list(self.answers.get(host, ()))
+
+    def close(self):
+        self.hub.close()
+
+
+def message(kind, body):
+    return b"\xff" * 16 + struct.pack(">HB", 19 + len(body), kind) + body
+
+
+class Router:
+    """A BGP peer (RFC 4271) that listens, and keeps what each node's session says, by the identifier of its OPEN. `number` tells its AS number."""
+
+    def __init__(self, number):
+        self.number, self.sessions, self.lock = number, {}, threading.Lock()
+        self.server = socket.create_server(("127.0.0.1", 0))
+        self.port = self.server.getsockname()[1]
+        threading.Thread(target=self.accept, daemon=True).start()
+
+    def accept(self):
+        while True:
+            try:
+                connection, _ = self.server.accept()
+            except OSError:
+                return
+            threading.Thread(target=self.serve, args=(connection,), daemon=True).start()
+
+    def serve(self, connection):
+        messages, node, stream = [], None, connection.makefile("rb")
+        try:
+            while head := stream.read(19):
+                body = stream.read(struct.unpack(">H", head[16:18])[0] - 19)
+                if head[18] == 1:
+                    node = socket.inet_ntoa(body[5:9])
+                    capability = b"\x02\x06\x41\x04" + struct.pack(">I", self.number())
+                    connection.sendall(message(1, struct.pack(">BHH4sB", 4, 23456, 0, b"\x7f\0\0\1", len(capability)) + capability) + message(4, b""))
+                    with self.lock:
+                        self.sessions.setdefault(node, []).append(messages)
+                elif head[18] == 2:
+                    with self.lock:
+                        messages.append(head + body)
+                elif head[18] == 3:
+                    break
+        except (OSError, struct.error):
+            pass
+        finally:
+            connection.close()
+            with self.lock:
+                if node is not None:
+                    self.sessions[node] = [one for one in self.sessions[node] if one is not messages]
+
+    def tables(self, node):
+        """The table of each session that the node has."""
+        with self.lock:
+            return [table_after(messages) for messages in self.sessions.get(node, [])]
+
+    def close(self):
+        self.server.close()

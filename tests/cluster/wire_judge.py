@@ -1,0 +1,93 @@
+"""Judges what speakers do by the wire alone, once all is still: who answers for each address, who told of it unasked, and each peer's routes."""
+import time
+
+from kinds import BY_NAME
+from rules import Sight, compiled, name_of, printed, selects_node
+from wire import answer, question, unasked
+
+CONFIG = ("IPAddressPool", "L2Advertisement", "BGPAdvertisement", "BGPPeer", "Community")
+ANSWER_SECONDS, PATIENCE = 0.1, 10.0  # for answers that shouldn't come, once those came that should; and for those
+
+
+class WireJudge:
+    """`nodes` is told by the world: of each node whose speaker runs its next hop and the hardware address of each interface."""
+
+    def __init__(self, store, links, routers, nodes):
+        self.store, self.links, self.routers, self.nodes = store, links, routers, nodes
+        self.asked = 0
+
+    def sight(self):
+        """What each speaker must have been shown when all is still."""
+        with self.store.lock:
+            by_name = {kind: {key[1]: thing for key, thing in self.store.objects[BY_NAME[kind]].items()} for kind in (*CONFIG, "Node")}
+            services, slices = (list(self.store.objects[BY_NAME[kind]].values()) for kind in ("Service", "EndpointSlice"))
+        return Sight(compiled(by_name), services, slices, by_name["Node"], sorted(self.nodes()))
+
+    def left(self):
+        """What isn't as it must be, a line each."""
+        sight = self.sight()
+        addresses = sorted(sight.addresses() | {(4, 0xC0000201), (6, 0x20010DB8 << 96)})
+        return self.wrong_answers(sight, addresses) + self.untold(sight, addresses) + self.wrong_routes(sight)
+
+    def wrong_answers(self, sight, addresses):
+        """A new neighbor asks each node for each address, and so knows the answers to its own questions however late they come."""
+        host, began = self.links.neighbor(), time.monotonic()
+        wanted = {(f"{node}-{interface}", answer(address, hardware, host)): address
+                  for address in addresses for node, (_, interfaces) in self.nodes().items() for interface, hardware in interfaces.items()
+                  if sight.listens(address, node, interface)}
+        for address in addresses:
+            self.links.ask(question(address, host))
+        self.asked += len(addresses)
+        while len(self.links.answered(host)) < len(wanted) and time.monotonic() < began + PATIENCE:
+            time.sleep(0.005)
+        time.sleep(ANSWER_SECONDS + time.monotonic() - began)
+        got = self.links.answered(host)
+        lines = [f"ANSWERED {link}: {self.text_of(frame, addresses)} is announced by {self.announcer(sight, frame, addresses)}: {frame.hex()}"
+                 for link, frame in got if (link, frame) not in wanted]
+        lines += [f"SILENT {link} for {printed(address)}" for (link, frame), address in wanted.items() if (link, frame) not in got]
+        return lines + [f"TWICE {link}: {frame.hex()}" for link, frame in set(got) if got.count((link, frame)) > 1]
+
+    @staticmethod
+    def address_in(frame, addresses):
+        octets = frame[28:32] if frame[12:14] == b"\x08\x06" else frame[62:78]
+        return next((one for one in addresses if one[1] == int.from_bytes(octets, "big")), None)
+
+    def text_of(self, frame, addresses):
+        found = self.address_in(frame, addresses)
+        return printed(found) if found else "an address that nobody asked for"
+
+    def announcer(self, sight, frame, addresses):
+        found = self.address_in(frame, addresses)
+        return (found and sight.announcer(found)) or "none"
+
+    def untold(self, sight, addresses):
+        """Addresses whose announcer has told nobody since it began."""
+        lines, nodes = [], self.nodes()
+        for address in addresses:
+            node = sight.announcer(address)
+            if node:
+                with self.links.lock:
+                    told = any(unasked(address, hardware) in self.links.told.get(f"{node}-{interface}", ()) for interface, hardware in nodes[node][1].items())
+                if not told:
+                    lines.append(f"UNTOLD {printed(address)} by {node}")
+        return lines
+
+    def wrong_routes(self, sight):
+        lines = []
+        for peer in sight.config.peers:
+            for node, (hop, _) in self.nodes().items():
+                tables = self.routers[name_of(peer)].tables(hop)
+                if not selects_node(peer, sight.labels(node)):
+                    lines += [f"SESSION {node} with {name_of(peer)}, which doesn't select it"] if tables else []
+                    continue
+                wanted = self.table(sight, node, hop, peer)
+                if tables != [wanted]:
+                    lines.append(f"ROUTES {node} to {name_of(peer)}: {tables}, and they must be {wanted}")
+        return lines
+
+    @staticmethod
+    def table(sight, node, hop, peer):
+        inside = peer["spec"]["myASN"] == peer["spec"]["peerASN"]
+        path = [] if inside else [peer["spec"]["myASN"]]
+        return {prefix: {"next hop": hop, "path": path, "preference": preference, "communities": sorted(communities)}
+                for prefix, (communities, preference) in sight.routes(node, peer).items()}

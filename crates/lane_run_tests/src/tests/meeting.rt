@@ -61,7 +61,7 @@ impl Source for Meeting<'_> {
 }
 
 /// A source of one event.
-fn meeting<'a>(
+fn make_meeting<'a>(
     alloc: Global,
     mine: &'a AtomicU64,
     theirs: &'a AtomicU64,
@@ -81,8 +81,8 @@ fn run_meeting<R: Threads + Wait + Sync>(
     (a, b): (&AtomicU64, &AtomicU64),
     out: &mut SafeSink,
 ) -> Result<LaneRun, Fail> {
-    let mut first = meeting(alloc, a, b)?;
-    let mut second = match meeting(alloc, b, a) {
+    let mut first = make_meeting(alloc, a, b)?;
+    let mut second = match make_meeting(alloc, b, a) {
         Ok(second) => second,
         Err(fail) => {
             drop(first);

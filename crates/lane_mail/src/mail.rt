@@ -183,6 +183,7 @@ impl Mail {
         ensures at_end { HasAll pass.old → pass.new ≡ pass.old }
     {
         self.parking.begin_to_take();
+        let mut looks = 0;
         for _ in rt.forever() {
             if pass.has_all() {
                 return Taken::AllEnded;
@@ -192,7 +193,7 @@ impl Mail {
                 return Taken::Item(item);
             }
             if !self.pop_mark(rt, pass) {
-                self.parking.wait_for_more(rt);
+                looks = self.parking.wait_for_more(rt, looks);
             }
         }
         unreachable!()

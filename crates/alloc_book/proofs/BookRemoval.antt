@@ -15,6 +15,7 @@ use Rattle.kube_model.specs.Records.{is_assigned}
 use Rattle.kube_model.proofs.KeyLaws.{same_key-is, same_key-itself}
 use Rattle.mlb_base.proofs.Among.{contains-none, contains-cons, contains-first, contains-later}
 use Rattle.pool_choice.proofs.Filters.{filter-contains, filter-keeps}
+use Rattle.sharing_terms.specs.declared.terms.Terms.{Terms}
 use Rattle.alloc_book.specs.Claims.{ClaimValue, others, settled}
 use Rattle.alloc_book.specs.Index.{numbers_of, first_but, first_other}
 
@@ -355,16 +356,16 @@ values-pushed (e ∷ items) n c fresh =
 
 pub settled-assigned : (items more thinned : List (ℕ × ClaimValue)) (n : ℕ) (c : ClaimValue) → is_assigned c.holding ≡ true → All (λ p. p.0 < n) items → more ≡ items ++ (n, c) ∷ []
     → ((d : ClaimValue) → lookup (λ k. k == n) more ≡ Some d → thinned ≡ filter (is_alone n d.key) more)
-    → values_of thinned ≡ settled c.key c.holding (values_of items)
+    → values_of thinned ≡ settled c.key c.holding c.terms (values_of items)
 settled-assigned items more thinned n c assigned all e each =
     let fresh = recursion_from_All (λ (p : ℕ × ClaimValue). p.0 < n) items all in
     let here : lookup (λ k. k == n) more ≡ Some c = subst (λ (l : List (ℕ × ClaimValue)). lookup (λ k. k == n) l ≡ Some c) (sym e) (lookup-pushed items n c fresh) in
     let left : thinned ≡ filter (is_alone n c.key) (items ++ (n, c) ∷ []) = each c here ∙ ap (filter (is_alone n c.key)) e in
     rw assigned (ap (λ (l : List (ℕ × ClaimValue)). values_of l) left ∙ values-pushed items n c fresh)
 
-pub settled-unassigned : (items left : List (ℕ × ClaimValue)) (key : Key) (r : Record) → is_assigned r ≡ false → left ≡ filter (λ p. not (same_key p.1.key key)) items
-    → values_of left ≡ settled key r (values_of items)
-settled-unassigned items left key r unassigned e = rw unassigned (others-values key items left e ∙ sym (append-nil (others key (values_of items))))
+pub settled-unassigned : (items left : List (ℕ × ClaimValue)) (key : Key) (r : Record) (t : Terms) → is_assigned r ≡ false → left ≡ filter (λ p. not (same_key p.1.key key)) items
+    → values_of left ≡ settled key r t (values_of items)
+settled-unassigned items left key r t unassigned e = rw unassigned (others-values key items left e ∙ sym (append-nil (others key (values_of items))))
 
 -- ---- claims of keys that a list doesn't show
 module _ {X : Type 0} where

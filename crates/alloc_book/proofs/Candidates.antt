@@ -1,18 +1,15 @@
 -- The least of several candidates is the least usable number, and each usable number is a candidate.
-use Rattle.std.proofs.Common.{◌≡◌, ℕ, ◌+◌, ◌-◌, ◌<◌, ◌≤◌, suc, zero, Bool, true, false, cond, not, ◌&&◌, ◌||◌, leb, eqb, add-one, get_or, IfSome, IfNone, List, [], ◌∷◌, ◌++◌, take, drop, filter, length, Option, Some, None, ◌⊎◌, inl, inr, refl, sym, ap, ◌∙◌, subst, arith, ⊎_elim, eq-or-lt_of_le, leb-true, true≢false}
+use Rattle.std.proofs.Common.{◌≡◌, ℕ, ◌+◌, ◌-◌, ◌<◌, ◌≤◌, suc, zero, Bool, true, false, cond, not, ◌&&◌, ◌||◌, leb, eqb, add-one, get_or, IfSome, IfNone, List, [], ◌∷◌, take, drop, filter, length, Option, Some, None, ◌⊎◌, inl, inr, refl, sym, ap, ◌∙◌, subst, arith, ⊎_elim, eq-or-lt_of_le, leb-true, true≢false}
 use Rattle.std.proofs.lemmas.Bool.{cases_lt, and_parts, and_from, or_left, or_right, or_cases, le-leb, not-true, not-false, false_from_ne_true}
 use Rattle.std.proofs.lemmas.Bool.Decides.{nat_tests}
 use Rattle.std.proofs.lemmas.List.{take_more, take-append-drop}
 use Rattle.std.proofs.lemmas.List.Elements.{Contains-append_left}
 use Rattle.std.proofs.lemmas.List.Folds.{list_any-append}
-use Rattle.std.proofs.lemmas.Map.Views.{lookup-from_Contains}
-use Rattle.std.proofs.lemmas.Map.Keys.{IsDistinct-from_sorted}
-use Rattle.std.proofs.lemmas.Cmp.{eq_by_cmp_equiv, nat_cmp_total}
 use Rattle.std.specs.List.{Contains, list_any, list_all}
 use Rattle.std.specs.List.Sorted.{IsStrictlySortedBy}
 use Rattle.std.specs.Map.{lookup, keys_of, values_of}
 use Rattle.std.specs.Option.{option_or, unwrap_or}
-use Rattle.std.specs.Ordering.{nat_cmp, eq_by_cmp}
+use Rattle.std.specs.Ordering.{nat_cmp}
 use Rattle.std.specs.Str.{bytes_eq}
 use Rattle.ip_ranges.specs.declared.family.Family.{Family}
 use Rattle.ip_ranges.specs.Values.{AddressValue, SpanValue, same_family, has_address, is_buggy, holds}
@@ -25,13 +22,12 @@ use Rattle.mlb_base.proofs.Among.{contains-none, contains-cons, contains-later, 
 use Rattle.number_sets.specs.Least.{IsLeastIn, NonePasses}
 use Rattle.pool_config.specs.declared.compiled.CompiledPool.{CompiledPool}
 use Rattle.sharing_terms.specs.declared.terms.Terms.{Terms}
-use Rattle.sharing_terms.specs.Spelled.{recorded_terms}
-use Rattle.sharing_terms.specs.Sharing.{has_port, is_alike}
+use Rattle.sharing_terms.specs.Sharing.{has_port, is_alike, may_share}
 use Rattle.sharing_terms.proofs.SharingLaws.{may_share-is}
 use Rattle.alloc_book.specs.declared.slot.Slot.TheVariants.{OfPort}
 use Rattle.alloc_book.specs.Claims.{ClaimValue}
 use Rattle.alloc_book.specs.Index.{numbers_of, is_marked, is_held, is_own, is_shared, is_offered, is_taken, is_barred, is_free, Covers, NoneShared, AreBarred}
-use Rattle.alloc_book.specs.Search.{shares_by, leaves, usable, address_of, numbered, least_between}
+use Rattle.alloc_book.specs.Search.{leaves, usable, address_of, numbered, least_between}
 use Rattle.alloc_book.specs.Usable.{is_in}
 use Rattle.alloc_book.specs.Slots.{occupies}
 use Rattle.alloc_book.proofs.LeastLaws.{numbered-is}
@@ -128,16 +124,15 @@ free-usable claims key terms pool span family n listed same from upto free =
     (and_from (same_family span.family family && leb span.low n) (leb n span.high) (and_from (same_family span.family family) (leb span.low n) families lower) upper) in
     let left : list_all (leaves key terms a) claims ≡ true =
     all-from (leaves key terms a) claims (λ c there.
-    left_free (same_key c.key key) (has_address c.holding.addresses a) (shares_by terms (recorded_terms c.holding.mark))
+    left_free (same_key c.key key) (has_address c.holding.addresses a) (may_share terms c.terms)
     (false_from_ne_true (has_address c.holding.addresses a)
     (λ has. true≢false (sym (any-contains (λ (d : ClaimValue). has_address d.holding.addresses a) claims c there has) ∙ parts.0)))) in
     and_from (is_in pool a && not (pool.avoid_buggy && is_buggy a)) (list_all (leaves key terms a) claims)
     (and_from (is_in pool a) (not (pool.avoid_buggy && is_buggy a)) within parts.1) left
 
 -- terms that share with those have their sharing key
-marked_by : (terms : Terms) (held : Option Terms) → shares_by terms held ≡ true → is_marked terms.key held ≡ true
-marked_by terms None e = absurd (true≢false (sym e))
-marked_by terms (Some t) e =
+marked_by : (terms t : Terms) → may_share terms t ≡ true → is_marked terms.key t ≡ true
+marked_by terms t e =
     let most = and_parts (bytes_eq terms.key t.key && not (is_nil terms.key) && not (list_any (has_port t.ports) terms.ports)) (is_alike terms.backend t.backend) e in
     let keys = and_parts (bytes_eq terms.key t.key && not (is_nil terms.key)) (not (list_any (has_port t.ports) terms.ports)) most.0 in
     let parts = and_parts (bytes_eq terms.key t.key) (not (is_nil terms.key)) keys.0 in
@@ -157,9 +152,9 @@ held_candidate claims key terms pool a c there has left =
     (λ own. inl (inr (any-contains (λ (d : ClaimValue). same_key d.key key && has_address d.holding.addresses a) claims c there (and_from (same_key c.key key) (has_address c.holding.addresses a) own has))))
     (λ gone. absurd (true≢false (sym has ∙ not-true (has_address c.holding.addresses a) gone)))
     (or_cases (same_key c.key key) (not (has_address c.holding.addresses a)) first))
-    (λ shared. own-or_offered (is_own key claims a) refl (any-contains (λ (d : ClaimValue). is_marked terms.key (recorded_terms d.holding.mark) && has_address d.holding.addresses a) claims c there
-    (and_from (is_marked terms.key (recorded_terms c.holding.mark)) (has_address c.holding.addresses a) (marked_by terms (recorded_terms c.holding.mark) shared) has)))
-    (or_cases (same_key c.key key || not (has_address c.holding.addresses a)) (shares_by terms (recorded_terms c.holding.mark)) left)
+    (λ shared. own-or_offered (is_own key claims a) refl (any-contains (λ (d : ClaimValue). is_marked terms.key d.terms && has_address d.holding.addresses a) claims c there
+    (and_from (is_marked terms.key c.terms) (has_address c.holding.addresses a) (marked_by terms c.terms shared) has)))
+    (or_cases (same_key c.key key || not (has_address c.holding.addresses a)) (may_share terms c.terms) left)
   where
     own-or_offered : (own : Bool) → is_own key claims a ≡ own → is_shared terms.key claims a ≡ true → IsCandidate claims key terms pool a
     own-or_offered true e shared = inl (inr e)
@@ -400,14 +395,13 @@ pub free-from : (claims : List ClaimValue) (pool : CompiledPool) (a : AddressVal
 free-from claims pool a unheld kept = and_from (not (is_held claims a)) (not (pool.avoid_buggy && is_buggy a)) unheld (ap not kept)
 
 -- nothing is shared under the empty sharing key
-marked_none : (held : Option Terms) → is_marked [] held ≡ true → ⊥
-marked_none None e = true≢false (sym e)
-marked_none (Some t) e = true≢false (sym (and_parts (bytes_eq t.key []) false e).1)
+marked_none : (t : Terms) → is_marked [] t ≡ true → ⊥
+marked_none t e = true≢false (sym (and_parts (bytes_eq t.key []) false e).1)
 
 pub no-key : (key : List ℕ) (claims : List ClaimValue) (a : AddressValue) → eqb (length key) 0 ≡ true → is_shared key claims a ≡ true → ⊥
 no-key [] claims a e shared =
-    let found = any-found (λ (c : ClaimValue). is_marked [] (recorded_terms c.holding.mark) && has_address c.holding.addresses a) claims shared in
-    marked_none (recorded_terms found.0.holding.mark) (and_parts (is_marked [] (recorded_terms found.0.holding.mark)) (has_address found.0.holding.addresses a) found.2).0
+    let found = any-found (λ (c : ClaimValue). is_marked [] c.terms && has_address c.holding.addresses a) claims shared in
+    marked_none found.0.terms (and_parts (is_marked [] found.0.terms) (has_address found.0.holding.addresses a) found.2).0
 no-key (k ∷ key) claims a e shared = grind (arith, nat_tests)
 
 -- what is found is within the bounds
@@ -447,7 +441,7 @@ barred-unusable claims key terms pool a barred others =
     let c = held.0 in
     let parts = and_parts (occupies (OfPort port.0) c) (has_address c.holding.addresses a) held.2 in
     let left = all-contains (leaves key terms a) claims c (and_parts (is_in pool a && not (pool.avoid_buggy && is_buggy a)) (list_all (leaves key terms a) claims) passes).1 held.1 in
-    let given = yields-left (same_key c.key key) (has_address c.holding.addresses a) terms (recorded_terms c.holding.mark) port.0 port.1 left in
+    let given = yields-left (same_key c.key key) (has_address c.holding.addresses a) terms c.terms port.0 port.1 left in
     let own : same_key c.key key ≡ true = subst (λ (b : Bool). (not b || same_key c.key key) ≡ true) held.2 given in
     true≢false (sym (any-contains (λ (d : ClaimValue). same_key d.key key && has_address d.holding.addresses a) claims c held.1 (and_from (same_key c.key key) (has_address c.holding.addresses a) own parts.1)) ∙ others))
 

@@ -1,10 +1,10 @@
 -- What is computed is what is chosen.
-use Rattle.std.proofs.Common.{Bor, slice_get, drop, drop-cons, get_or, add-one, append_assoc, ◌++◌, ◌+◌, ◌<◌, ◌≡◌, ◌≢◌, ℕ, Bool, true, false, not, ◌&&◌, ◌||◌, eqb, eqb-true, List, [], ◌∷◌, Option, Some, None, is_some, is_none, length, refl, sym, ap, ◌∙◌, subst}
-use Rattle.std.proofs.lemmas.Bool.{not-true, not-false, not_from_false, eq-eqb, true≢false}
+use Rattle.std.proofs.Common.{Bor, slice_get, drop, drop-cons, get_or, add-one, append_assoc, ◌++◌, ◌+◌, ◌<◌, ◌≡◌, ◌≢◌, ℕ, Bool, true, false, not, ◌&&◌, ◌||◌, eqb, eqb-true, List, [], ◌∷◌, Option, Some, None, is_some, is_none, length, refl, sym, ap, ◌∙◌, subst, ◌⊎◌, inl, inr, ⊎_elim}
+use Rattle.std.proofs.lemmas.Bool.{or_cases, or_left, or_right, not-true, not-false, not_from_false, eq-eqb, true≢false}
 use Rattle.std.proofs.lemmas.Slice.Eq.{bytes_eq-Decides}
 use Rattle.std.specs.Bool.{Decides}
 use Rattle.std.proofs.lemmas.Bool.Decides.{Decides-and, Decides-not}
-use Rattle.std.specs.List.{Contains, list_all}
+use Rattle.std.specs.List.{Contains, list_all, list_any}
 use Rattle.std.specs.Str.{bytes_eq}
 use Rattle.ip_ranges.specs.declared.family.Family.{Family}
 use Rattle.ip_ranges.specs.declared.family.Family.TheVariants.{V4, V6}
@@ -19,14 +19,14 @@ use Rattle.mlb_base.proofs.Among.{all-contains, all-from}
 use Rattle.alloc_book.specs.declared.choice.Choice.{Choice}
 use Rattle.alloc_book.specs.declared.choice.Choice.TheVariants.{Keep, New}
 use Rattle.pool_config.specs.declared.compiled.CompiledPool.{CompiledPool}
-use Rattle.alloc_book.specs.Asking.{Asker, Holders, Offer, asker_of, asked_in, is_asked, is_unreadable, is_given}
+use Rattle.alloc_book.specs.Asking.{Asker, Offer, asker_of, asked_in, is_asked, is_unreadable, is_given}
 use Rattle.mlb_base.specs.Cases.{IsFirst, NoneIs}
-use Rattle.alloc_book.specs.Choose.{addresses_of, wanted_of, one_of_each, is_open, all_usable, same_addresses, is_kept, is_home, kept_in, home_of, is_refused, is_unusable, kept_from, asked_from, choose_for, choose}
+use Rattle.alloc_book.specs.Choose.{addresses_of, wanted_of, one_of_each, fits_option, is_open, all_usable, same_addresses, is_kept, is_home, kept_in, home_of, is_refused, is_unusable, kept_from, asked_from, choose_for, choose}
 use Rattle.alloc_book.specs.Chosen.{named, asked_pools, Gives, IsChosenFor, IsChosen}
-use Rattle.alloc_book.specs.Claims.{ClaimValue, holders}
-use Rattle.alloc_book.specs.First.{record_in, IsOneOfEach, IsOpen, AllUsable, AreSame, IsKept, IsHome}
+use Rattle.alloc_book.specs.Claims.{ClaimValue, Holders, holders}
+use Rattle.alloc_book.specs.First.{record_in, IsOneOfEach, FitsOption, IsOpen, AllUsable, AreSame, IsKept, IsHome}
 use Rattle.alloc_book.specs.Search.{usable}
-use Rattle.mlb_base.specs.Items.{is_nil}
+use Rattle.mlb_base.specs.Items.{Has, is_nil}
 use Rattle.pool_choice.proofs.ServingLaws.{nil-Decides}
 use Rattle.alloc_book.specs.Usable.{IsUsable, is_in}
 use Rattle.mlb_base.proofs.CaseLaws.{case-at, find-first, find-none, first-none, first-only}
@@ -87,6 +87,19 @@ one_of_each-is families addresses =
 all-is : {X : Type 0} (P : X → Type 0) (test : X → Bool) (xs : List X) → ((x : X) → Decides (test x) (P x)) → Decides (list_all test xs) ((x : X) → Contains xs x → P x)
 all-is P test xs d = (λ e x there. (d x).0 (all-contains test xs x e there), λ each. all-from test xs (λ x there. (d x).1 (each x there)))
 
+any_by : {P : Type 0} {Q : Type 0} (a b : Bool) → Decides a P → Decides b Q → Decides (a || b) (P ⊎ Q)
+any_by a b p q = (
+  λ e. ⊎_elim (λ here. inl (p.0 here)) (λ there. inr (q.0 there)) (or_cases a b e),
+  λ h. ⊎_elim (λ here. or_left a b (p.1 here)) (λ there. or_right a b (q.1 there)) h,
+)
+
+any-is : {X : Type 0} (P : X → Type 0) (test : X → Bool) (xs : List X) → ((x : X) → Decides (test x) (P x)) → Decides (list_any test xs) (Has P xs)
+any-is P test [] d = (λ e. true≢false (sym e), λ h. absurd h)
+any-is P test (x ∷ xs) d = any_by (test x) (list_any test xs) (d x) (any-is P test xs d)
+
+pub fits_option-is : (q : Asker) (addresses : List AddressValue) → Decides (fits_option q addresses) (FitsOption q addresses)
+fits_option-is q addresses = any-is (λ families. IsOneOfEach families addresses) (λ families. one_of_each families addresses) q.options (λ families. one_of_each-is families addresses)
+
 has_address-Decides : (addresses : List AddressValue) (a : AddressValue) → Decides (has_address addresses a) (Contains addresses a)
 has_address-Decides addresses a = (has_address-is addresses a, has_address-from addresses a)
 
@@ -108,11 +121,11 @@ module _ (claims : List ClaimValue) (o : Offer) (q : Asker) where
   kept-is : (pool : CompiledPool) → Decides (is_kept claims o q pool) (IsKept (holders claims) o q pool)
   kept-is pool =
       let asked = decides-then (is_asked q.wanted) (same_addresses q.recorded (asked_in q.wanted)) (same_addresses-is q.recorded (asked_in q.wanted)) in
-      let two = Decides-and (is_open o q pool) (one_of_each q.families q.recorded) (open-is o q pool) (one_of_each-is q.families q.recorded) in
-      let three = Decides-and (is_open o q pool && one_of_each q.families q.recorded) (all_usable claims q pool q.recorded) two (all_usable-is pool q.recorded) in
-      let four = Decides-and (is_open o q pool && one_of_each q.families q.recorded && all_usable claims q pool q.recorded) (not (is_asked q.wanted) || same_addresses q.recorded (asked_in q.wanted)) three asked in (
-        λ e. let h = four.0 e in record { is_open = h.0.0.0; each = h.0.0.1; usable = h.0.1; as_asked = h.1 },
-        λ k. four.1 (((k.is_open, k.each), k.usable), k.as_asked),
+      let two = Decides-and (is_open o q pool) (fits_option q q.recorded) (open-is o q pool) (fits_option-is q q.recorded) in
+      let three = Decides-and (is_open o q pool && fits_option q q.recorded) (all_usable claims q pool q.recorded) two (all_usable-is pool q.recorded) in
+      let four = Decides-and (is_open o q pool && fits_option q q.recorded && all_usable claims q pool q.recorded) (not (is_asked q.wanted) || same_addresses q.recorded (asked_in q.wanted)) three asked in (
+        λ e. let h = four.0 e in record { is_open = h.0.0.0; fits = h.0.0.1; usable = h.0.1; as_asked = h.1 },
+        λ k. four.1 (((k.is_open, k.fits), k.usable), k.as_asked),
       )
 
   home-is : (pool : CompiledPool) → Decides (is_home o q pool) (IsHome o q pool)
@@ -179,8 +192,8 @@ module _ (claims : List ClaimValue) (o : Offer) (q : Asker) where
       start (λ is _. is) (λ one _.
       case-at (not service.balancer) (decides-false service.balancer) one (λ is _. is) (λ two _.
       case-at (is_unreadable q.wanted) (unreadable-is q.wanted) two (λ is _. is) (λ three _.
-      case-at (is_asked q.wanted && not (one_of_each q.families (asked_in q.wanted)))
-      (Decides-and (is_asked q.wanted) (not (one_of_each q.families (asked_in q.wanted))) (decides-itself (is_asked q.wanted)) (Decides-not (one_of_each q.families (asked_in q.wanted)) (one_of_each-is q.families (asked_in q.wanted))))
+      case-at (is_asked q.wanted && not (fits_option q (asked_in q.wanted)))
+      (Decides-and (is_asked q.wanted) (not (fits_option q (asked_in q.wanted))) (decides-itself (is_asked q.wanted)) (Decides-not (fits_option q (asked_in q.wanted)) (fits_option-is q (asked_in q.wanted))))
       three (λ is _. is) (λ four _.
       case-at (is_given q.pool_asked && is_none (named o.pools q.pool_asked))
       (Decides-and (is_given q.pool_asked) (is_none (named o.pools q.pool_asked)) (given-is q.pool_asked) (none-is (named o.pools q.pool_asked)))

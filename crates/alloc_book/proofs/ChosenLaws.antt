@@ -1,6 +1,7 @@
 -- One thing at most is chosen; what is chosen may be used; what is pending stays so where no claim is lost.
 use Rattle.std.proofs.Common.{◌≡◌, ℕ, Bool, true, false, cond, List, [], ◌∷◌, Option, Some, ◌⊎◌, inl, inr, refl, sym, ap, ◌∙◌, subst, ⊎_elim}
 use Rattle.std.specs.List.{Contains, AllZip}
+use Rattle.ip_ranges.specs.declared.family.Family.{Family}
 use Rattle.ip_ranges.specs.Values.{AddressValue}
 use Rattle.kube_model.specs.declared.reason.Reason.{Reason}
 use Rattle.kube_model.specs.declared.reason.Reason.TheVariants.{RequestUnreadable, RequestFamilies, PoolUnknown, PoolRefused, AddressOutside, AddressUnusable, PoolExhausted, NoPool, Exhausted}
@@ -10,10 +11,11 @@ use Rattle.mlb_base.proofs.Among.{contains-none, contains-cons, contains-first, 
 use Rattle.alloc_book.specs.declared.choice.Choice.{Choice}
 use Rattle.alloc_book.specs.declared.choice.Choice.TheVariants.{Foreign, Clear, Pending, Keep, New}
 use Rattle.pool_config.specs.declared.compiled.CompiledPool.{CompiledPool}
-use Rattle.alloc_book.specs.Asking.{Asker, Holders, Offer, asked_in}
+use Rattle.alloc_book.specs.Asking.{Asker, Offer, asked_in}
+use Rattle.alloc_book.specs.Claims.{Holders}
 use Rattle.mlb_base.specs.Cases.{IsFirst}
 use Rattle.alloc_book.specs.Chosen.{named, asked_pools, Gives, IsChosenFor}
-use Rattle.alloc_book.specs.First.{HasEach, record_in, IsNew, AllUsable, IsKept, IsHome}
+use Rattle.alloc_book.specs.First.{HasEach, SomeHasEach, IsLeastOfEach, record_in, IsNew, AllUsable, IsKept, IsHome}
 use Rattle.alloc_book.specs.Granted.{IsGranted, IsFor}
 use Rattle.alloc_book.specs.Least.{IsLeast}
 use Rattle.alloc_book.specs.Usable.{IsUsable}
@@ -55,24 +57,29 @@ named-stands name [] pool there = absurd (contains-none pool there)
 named-stands name (p ∷ pools) pool there = named_by (bytes_eq p.name name) p pools pool (named pools name) (named-stands name pools pool) there
 
 module _ (has : Holders) (o : Offer) (q : Asker) where
-  new-only : (pools : List CompiledPool) → IsOnly (IsNew has q pools)
-  new-only pools r s here there =
-      let pool : here.0 ≡ there.0 = first-only (HasEach has q) pools here.0 there.0 here.1 there.1 in
-      let moved : AllZip (IsLeast has q.key q.terms there.0) q.families r.addresses = subst (λ (p : CompiledPool). AllZip (IsLeast has q.key q.terms p) q.families r.addresses) pool here.2 in
-      let addresses : r.addresses ≡ s.addresses = zip-only (IsLeast has q.key q.terms there.0) q.families (λ family a b. least-only has q.key q.terms there.0 family a b) r.addresses s.addresses moved there.2 in
+  least-of_each-only : (pools : List CompiledPool) (families : List Family) → IsOnly (IsLeastOfEach has q pools families)
+  least-of_each-only pools families r s here there =
+      let pool : here.0 ≡ there.0 = first-only (HasEach has q families) pools here.0 there.0 here.1 there.1 in
+      let moved : AllZip (IsLeast has q.key q.terms there.0) families r.addresses = subst (λ (p : CompiledPool). AllZip (IsLeast has q.key q.terms p) families r.addresses) pool here.2 in
+      let addresses : r.addresses ≡ s.addresses = zip-only (IsLeast has q.key q.terms there.0) families (λ family a b. least-only has q.key q.terms there.0 family a b) r.addresses s.addresses moved there.2 in
       let by_pool : CompiledPool → Record = λ p. record_in p q r.addresses in
       let by_addresses : List AddressValue → Record = λ as'. record_in there.0 q as' in
       here.3 ∙ ap by_pool pool ∙ ap by_addresses addresses ∙ sym there.3
+
+  new-only : (pools : List CompiledPool) → IsOnly (IsNew has q pools)
+  new-only pools r s here there =
+      let same : here.0 ≡ there.0 = first-only (SomeHasEach has q pools) q.options here.0 there.0 here.1 there.1 in
+      least-of_each-only pools there.0 r s (subst (λ (families : List Family). IsLeastOfEach has q pools families r) same here.2) there.2
 
   gives-only : (pools : List CompiledPool) (reason : Reason) → IsOnly (Gives has q pools reason)
   gives-only pools reason x y p p' =
       ⊎_elim
       (λ here. ⊎_elim
       (λ there. here.2 ∙ ap New (new-only pools here.0 there.0 here.1 there.1) ∙ sym there.2)
-      (λ there. absurd (first-none (HasEach has q) pools here.1.0 here.1.1 there.0))
+      (λ there. absurd (first-none (SomeHasEach has q pools) q.options here.1.0 here.1.1 there.0))
       p')
       (λ here. ⊎_elim
-      (λ there. absurd (first-none (HasEach has q) pools there.1.0 there.1.1 here.0))
+      (λ there. absurd (first-none (SomeHasEach has q pools) q.options there.1.0 there.1.1 here.0))
       (λ there. here.1 ∙ sym there.1)
       p')
       p
@@ -133,11 +140,13 @@ module _ (has : Holders) (o : Offer) (q : Asker) where
       ⊎_elim
       (λ given.
       let is = given.2 in
-      let pool = given.1.0 in
-      let usable : AllUsable has q pool given.0.addresses = zip-each (IsLeast has q.key q.terms pool) (IsUsable has q.key q.terms pool) q.families given.0.addresses (λ family a least. least.0.1) given.1.2 in
+      let families = given.1.0 in
+      let least = given.1.2 in
+      let pool = least.0 in
+      let usable : AllUsable has q pool given.0.addresses = zip-each (IsLeast has q.key q.terms pool) (IsUsable has q.key q.terms pool) families given.0.addresses (λ family a l. l.0.1) least.2 in
       ⊎_elim
       (λ kept. absurd (cc))
-      (λ same. granted-with pool given.0.addresses r (among pool (first-stands (HasEach has q) pools pool given.1.1)) usable (sym given.1.3 ∙ (cc)))
+      (λ same. granted-with pool given.0.addresses r (among pool (first-stands (HasEach has q families) pools pool least.1)) usable (sym least.3 ∙ (cc)))
       for)
       (λ full. absurd (is_for-pending r reason c full.1 for))
       gives

@@ -1,34 +1,36 @@
--- The records that a key has by the claims, after a change of the claims.
+-- The claims of a key, after a change of the claims.
 use Rattle.std.proofs.Common.{◌≡◌, Bool, true, false, cond, ◌&&◌, ◌||◌, not, List, [], ◌∷◌, ◌++◌, append-nil, refl, sym, ap, ◌∙◌, subst}
 use Rattle.std.specs.List.{list_any}
 use Rattle.kube_model.specs.declared.key.Key.{Key}
 use Rattle.kube_model.specs.declared.record.Record.{Record}
 use Rattle.kube_model.specs.Keys.{same_key}
-use Rattle.alloc_book.specs.Claims.{ClaimValue, claims_of, others, claim_of, settled, claims_it, doubted, claimed_by, added}
-use Rattle.kube_model.specs.Records.{is_assigned, same_record}
+use Rattle.sharing_terms.specs.declared.terms.Terms.{Terms}
+use Rattle.alloc_book.specs.Claims.{ClaimValue, claims_of, others, claim_of, settled, claims_it, doubted, added, is_under}
+use Rattle.kube_model.specs.Records.{is_assigned}
 use Rattle.kube_model.proofs.KeyLaws.{same_key-is, same_key-by, same_key-left}
+use Rattle.alloc_book.proofs.TermLaws.{made}
 
-append_by : (b : Bool) (r : Record) (xs ys zs : List Record) → xs ≡ ys ++ zs → cond b (r ∷ xs) xs ≡ cond b (r ∷ ys) ys ++ zs
-append_by true r xs ys zs e = ap (λ (rest : List Record). r ∷ rest) e
+append_by : (b : Bool) (r : ClaimValue) (xs ys zs : List ClaimValue) → xs ≡ ys ++ zs → cond b (r ∷ xs) xs ≡ cond b (r ∷ ys) ys ++ zs
+append_by true r xs ys zs e = ap (λ (rest : List ClaimValue). r ∷ rest) e
 append_by false r xs ys zs e = e
 
 claims_of-append : (xs ys : List ClaimValue) (key : Key) → claims_of key (xs ++ ys) ≡ claims_of key xs ++ claims_of key ys
 claims_of-append [] ys key = refl
-claims_of-append (c ∷ xs) ys key = append_by (same_key c.key key) c.holding _ _ _ (claims_of-append xs ys key)
+claims_of-append (c ∷ xs) ys key = append_by (same_key c.key key) c _ _ _ (claims_of-append xs ys key)
 
-either_same : (b : Bool) (rs : List Record) → rs ≡ cond b rs rs
+either_same : (b : Bool) (rs : List ClaimValue) → rs ≡ cond b rs rs
 either_same true rs = refl
 either_same false rs = refl
 
 -- x: the claim's key is the one left out; y: it is the one looked up; z: these two are the same
 others_by : (x : Bool) (y z : Bool) (c : ClaimValue) (q : Key) (cs rest : List ClaimValue) → y ≡ same_key c.key q → (x ≡ true → y ≡ z) → (x ≡ false → y ≡ true → z ≡ false)
     → claims_of q rest ≡ cond z [] (claims_of q cs)
-    → claims_of q (cond (not x) (c ∷ rest) rest) ≡ cond z [] (cond y (c.holding ∷ claims_of q cs) (claims_of q cs))
+    → claims_of q (cond (not x) (c ∷ rest) rest) ≡ cond z [] (cond y (c ∷ claims_of q cs) (claims_of q cs))
 others_by true true z c q cs rest s same apart ih = rw ih (rw (← same refl) refl)
 others_by true false z c q cs rest s same apart ih = ih
 others_by false true z c q cs rest s same apart ih =
     let no : z ≡ false = apart refl refl in
-    rw (← s, no) (ap (λ (rs : List Record). c.holding ∷ rs) (ih ∙ ap (λ b. cond b [] (claims_of q cs)) no))
+    rw (← s, no) (ap (λ (rs : List ClaimValue). c ∷ rs) (ih ∙ ap (λ b. cond b [] (claims_of q cs)) no))
 others_by false false z c q cs rest s same apart ih = rw (← s) ih
 
 pub claims_of-others : (cs : List ClaimValue) (key q : Key) → claims_of q (others key cs) ≡ cond (same_key key q) [] (claims_of q cs)
@@ -45,50 +47,50 @@ claims_of-others (c ∷ cs) key q =
         let same : same_key c.key key ≡ true = same_key-by c.key key (same_key-is c.key q here ∙ sym (same_key-is key q (sym s))) in
         absurd (cc)
 
-claim_by : (b : Bool) (key q : Key) (r : Record) → claims_of q (cond b (record { key = key; holding = r } ∷ []) []) ≡ cond (same_key key q) (cond b (r ∷ []) []) []
-claim_by true key q r = refl
-claim_by false key q r = either_same (same_key key q) []
+claim_by : (b : Bool) (key q : Key) (r : Record) (t : Terms) → claims_of q (cond b (made key r t ∷ []) []) ≡ cond (same_key key q) (cond b (made key r t ∷ []) []) []
+claim_by true key q r t = refl
+claim_by false key q r t = either_same (same_key key q) []
 
-claims_of-claim : (key q : Key) (r : Record) → claims_of q (claim_of key r) ≡ cond (same_key key q) (claimed_by r) []
-claims_of-claim key q r = claim_by (is_assigned r) key q r
+claims_of-claim : (key q : Key) (r : Record) (t : Terms) → claims_of q (claim_of key r t) ≡ cond (same_key key q) (claim_of key r t) []
+claims_of-claim key q r t = claim_by (is_assigned r) key q r t
 
-settled_by : (z : Bool) (rs more : List Record) → cond z [] rs ++ cond z more [] ≡ cond z more rs
+settled_by : (z : Bool) (rs more : List ClaimValue) → cond z [] rs ++ cond z more [] ≡ cond z more rs
 settled_by true rs more = refl
 settled_by false rs more = append-nil rs
 
--- the key has the record alone
-pub claims_of-settled : (cs : List ClaimValue) (key q : Key) (r : Record) → claims_of q (settled key r cs) ≡ cond (same_key key q) (claimed_by r) (claims_of q cs)
-claims_of-settled cs key q r =
-    claims_of-append (others key cs) (claim_of key r) q
-    ∙ rw (claims_of-others cs key q, claims_of-claim key q r) (settled_by (same_key key q) (claims_of q cs) (claimed_by r))
+-- the key has this claim alone
+pub claims_of-settled : (cs : List ClaimValue) (key q : Key) (r : Record) (t : Terms) → claims_of q (settled key r t cs) ≡ cond (same_key key q) (claim_of key r t) (claims_of q cs)
+claims_of-settled cs key q r t =
+    claims_of-append (others key cs) (claim_of key r t) q
+    ∙ rw (claims_of-others cs key q, claims_of-claim key q r t) (settled_by (same_key key q) (claims_of q cs) (claim_of key r t))
 
-claims_it_by : (b : Bool) (r s : Record) (rest : Bool) (rs : List Record) → rest ≡ list_any (λ x. same_record x r) rs → ((b && same_record s r) || rest) ≡ list_any (λ x. same_record x r) (cond b (s ∷ rs) rs)
-claims_it_by true r s rest rs e = ap (λ t. same_record s r || t) e
-claims_it_by false r s rest rs e = e
+claims_it_by : (b : Bool) (r : Record) (t : Terms) (c : ClaimValue) (rest : Bool) (rs : List ClaimValue) → rest ≡ list_any (is_under r t) rs → ((b && is_under r t c) || rest) ≡ list_any (is_under r t) (cond b (c ∷ rs) rs)
+claims_it_by true r t c rest rs e = ap (λ x. is_under r t c || x) e
+claims_it_by false r t c rest rs e = e
 
-claims_it-of : (cs : List ClaimValue) (key : Key) (r : Record) → claims_it key r cs ≡ list_any (λ x. same_record x r) (claims_of key cs)
-claims_it-of [] key r = refl
-claims_it-of (c ∷ cs) key r = claims_it_by (same_key c.key key) r c.holding _ _ (claims_it-of cs key r)
+claims_it-of : (cs : List ClaimValue) (key : Key) (r : Record) (t : Terms) → claims_it key r t cs ≡ list_any (is_under r t) (claims_of key cs)
+claims_it-of [] key r t = refl
+claims_it-of (c ∷ cs) key r t = claims_it_by (same_key c.key key) r t c _ _ (claims_it-of cs key r t)
 
-doubted_there : (t : Bool) (cs : List ClaimValue) (key : Key) (r : Record) → claims_of key (cond t cs (cs ++ claim_of key r)) ≡ cond t (claims_of key cs) (claims_of key cs ++ claimed_by r)
-doubted_there true cs key r = refl
-doubted_there false cs key r =
-    claims_of-append cs (claim_of key r) key
-    ∙ ap (λ (rs : List Record). claims_of key cs ++ rs) (claims_of-claim key key r ∙ ap (λ b. cond b (claimed_by r) []) (same_key-by key key refl))
+doubted_there : (b : Bool) (cs : List ClaimValue) (key : Key) (r : Record) (t : Terms) → claims_of key (cond b cs (cs ++ claim_of key r t)) ≡ cond b (claims_of key cs) (claims_of key cs ++ claim_of key r t)
+doubted_there true cs key r t = refl
+doubted_there false cs key r t =
+    claims_of-append cs (claim_of key r t) key
+    ∙ ap (λ (rs : List ClaimValue). claims_of key cs ++ rs) (claims_of-claim key key r t ∙ ap (λ b. cond b (claim_of key r t) []) (same_key-by key key refl))
 
-doubted_elsewhere : (t : Bool) (cs : List ClaimValue) (key q : Key) (r : Record) → same_key key q ≡ false → claims_of q (cond t cs (cs ++ claim_of key r)) ≡ claims_of q cs
-doubted_elsewhere true cs key q r apart = refl
-doubted_elsewhere false cs key q r apart =
-    claims_of-append cs (claim_of key r) q
-    ∙ ap (λ (rs : List Record). claims_of q cs ++ rs) (claims_of-claim key q r ∙ ap (λ b. cond b (claimed_by r) []) apart)
+doubted_elsewhere : (b : Bool) (cs : List ClaimValue) (key q : Key) (r : Record) (t : Terms) → same_key key q ≡ false → claims_of q (cond b cs (cs ++ claim_of key r t)) ≡ claims_of q cs
+doubted_elsewhere true cs key q r t apart = refl
+doubted_elsewhere false cs key q r t apart =
+    claims_of-append cs (claim_of key r t) q
+    ∙ ap (λ (rs : List ClaimValue). claims_of q cs ++ rs) (claims_of-claim key q r t ∙ ap (λ b. cond b (claim_of key r t) []) apart)
     ∙ append-nil (claims_of q cs)
 
-doubted_by : (z : Bool) (cs : List ClaimValue) (key q : Key) (r : Record) → same_key key q ≡ z → claims_of q (doubted key r cs) ≡ cond z (added r (claims_of q cs)) (claims_of q cs)
-doubted_by true cs key q r s =
-    subst (λ k. claims_of k (doubted key r cs) ≡ added r (claims_of k cs)) (same_key-is key q s)
-    (rw (claims_it-of cs key r) (doubted_there (list_any (λ x. same_record x r) (claims_of key cs)) cs key r))
-doubted_by false cs key q r s = doubted_elsewhere (claims_it key r cs) cs key q r s
+doubted_by : (z : Bool) (cs : List ClaimValue) (key q : Key) (r : Record) (t : Terms) → same_key key q ≡ z → claims_of q (doubted key r t cs) ≡ cond z (added key r t (claims_of q cs)) (claims_of q cs)
+doubted_by true cs key q r t s =
+    subst (λ k. claims_of k (doubted key r t cs) ≡ added key r t (claims_of k cs)) (same_key-is key q s)
+    (rw (claims_it-of cs key r t) (doubted_there (list_any (is_under r t) (claims_of key cs)) cs key r t))
+doubted_by false cs key q r t s = doubted_elsewhere (claims_it key r t cs) cs key q r t s
 
--- the key may have the record too
-pub claims_of-doubted : (cs : List ClaimValue) (key q : Key) (r : Record) → claims_of q (doubted key r cs) ≡ cond (same_key key q) (added r (claims_of q cs)) (claims_of q cs)
-claims_of-doubted cs key q r = doubted_by (same_key key q) cs key q r refl
+-- the key may have this claim too
+pub claims_of-doubted : (cs : List ClaimValue) (key q : Key) (r : Record) (t : Terms) → claims_of q (doubted key r t cs) ≡ cond (same_key key q) (added key r t (claims_of q cs)) (claims_of q cs)
+claims_of-doubted cs key q r t = doubted_by (same_key key q) cs key q r t refl

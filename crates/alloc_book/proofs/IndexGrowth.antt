@@ -1,5 +1,5 @@
 -- An index of claims that gets room, or one claim more.
-use Rattle.std.proofs.Common.{◌≡◌, ◌≢◌, ℕ, ◌+◌, ◌<◌, ◌≤◌, Bool, true, false, cond, not, ◌==◌, ◌&&◌, ◌||◌, List, [], ◌∷◌, ◌++◌, length, map, filter, take, drop, get_or, suc, Option, Some, None, is_eq, refl, sym, ap, subst, ◌∙◌, arith, append_assoc, add-one, ⊎_elim}
+use Rattle.std.proofs.Common.{◌≡◌, ◌≢◌, ℕ, ◌+◌, ◌<◌, ◌≤◌, Bool, true, false, cond, not, ◌==◌, ◌&&◌, ◌||◌, List, [], ◌∷◌, ◌++◌, length, map, filter, take, drop, get_or, suc, Some, None, refl, sym, ap, subst, ◌∙◌, arith, append_assoc, add-one, ⊎_elim}
 use Rattle.std.proofs.lemmas.Bool.{and_parts, and_from, or_cases, or_left, or_right, eq-eqb, true≢false}
 use Rattle.std.proofs.lemmas.Bool.Decides.{nat_tests, same_from_decides}
 use Rattle.std.proofs.lemmas.List.{map-append, append-nil}
@@ -9,9 +9,8 @@ use Rattle.std.proofs.lemmas.Slice.Eq.{bytes_eq-Decides}
 use Rattle.std.proofs.Math.Seq.{take-suc, drop-cons}
 use Rattle.std.proofs.Math.ListN.{drop_of_length-le}
 use Rattle.std.specs.BTreeMap.{is_at}
-use Rattle.std.specs.List.{All, Contains, list_any}
+use Rattle.std.specs.List.{All, Contains}
 use Rattle.std.specs.Map.{lookup, keys_of, values_of}
-use Rattle.std.specs.Option.{unwrap_or}
 use Rattle.std.specs.Str.{bytes_eq}
 use Rattle.ip_ranges.specs.declared.family.Family.{Family}
 use Rattle.ip_ranges.specs.Values.{AddressValue, same_address, has_address}
@@ -24,12 +23,10 @@ use Rattle.mlb_base.specs.Items.{is_nil}
 use Rattle.mlb_base.proofs.Among.{contains-none, contains-first, contains-later}
 use Rattle.numbered_items.specs.Index.{IndexValue, numbers_under, room_under}
 use Rattle.sharing_terms.specs.declared.terms.Terms.{Terms}
-use Rattle.sharing_terms.specs.Spelled.{recorded_terms}
 use Rattle.alloc_book.specs.Book.{AreAssigned, HasRoomFor}
 use Rattle.alloc_book.specs.Claims.{ClaimValue}
 use Rattle.alloc_book.specs.declared.slot.Slot.{Slot}
-use Rattle.alloc_book.specs.declared.slot.Slot.TheVariants.{Any, OfPort}
-use Rattle.alloc_book.specs.Slots.{occupies, same_slot}
+use Rattle.alloc_book.specs.Slots.{occupies}
 use Rattle.alloc_book.specs.Alike.{are_alike}
 use Rattle.alloc_book.specs.Holders.{AddressHoldersValue, ClaimantsValue, HasRoomAt, CanBeMixed, AreKnown, in_slot, claims_at, claim_room_at, claims_having, claim_room, address_room, is_known, mixed_of, is_mixed, mixed_room}
 use Rattle.number_sets.specs.Runs.{RunsValue, has}
@@ -76,7 +73,7 @@ pub room-claim : (room : ℕ) (keys : IndexValue Key) (before after : AddressHol
     → ((slot : Slot) → occupies slot c ≡ true → HasRoomAt before (length c.holding.addresses) slot c.holding.addresses)
     → CanBeMixed before (length c.holding.addresses) c.holding.addresses
     → in_slot after ≡ in_slot before → mixed_of after ≡ mixed_of before
-    → AreKnown after (recorded_terms c.holding.mark) c.holding.addresses
+    → AreKnown after c.terms c.holding.addresses
     → HasRoomFor (record { claims = room; keys = keys; holders = after }) c
 room-claim room keys before after c key claim under same at mixed slots mixed_is known = record {
   claim = claim;
@@ -88,12 +85,10 @@ room-claim room keys before after c key claim under same at mixed slots mixed_is
 
 -- each of the addresses is known by the sharing key of the terms
 pub known-claim : (h : AddressHoldersValue) (c : ClaimValue) (terms : Terms) (shown : List AddressValue)
-    → Some terms ≡ recorded_terms c.holding.mark → (terms.key ≢ [] → (a : AddressValue) → Contains shown a → is_known h terms.key a ≡ true) → shown ≡ c.holding.addresses
-    → AreKnown h (recorded_terms c.holding.mark) c.holding.addresses
-known-claim h c terms shown marked known shown_is = λ t t_is given a there.
-    let one : terms ≡ t = ap (λ (o : Option Terms). unwrap_or o terms) (marked ∙ t_is) in
-    subst (λ (x : Terms). is_known h x.key a ≡ true) one
-    (known (subst (λ (x : Terms). x.key ≢ []) (sym one) given) a (subst (λ (xs : List AddressValue). Contains xs a) (sym shown_is) there))
+    → terms ≡ c.terms → (terms.key ≢ [] → (a : AddressValue) → Contains shown a → is_known h terms.key a ≡ true) → shown ≡ c.holding.addresses
+    → AreKnown h c.terms c.holding.addresses
+known-claim h c terms shown terms_is known shown_is =
+    subst (λ (xs : List AddressValue). AreKnown h c.terms xs) shown_is (subst (λ (t : Terms). AreKnown h t shown) terms_is known)
 
 -- one address more can be mixed, and those before keep their room
 pub mixed-more : (before after : AddressHoldersValue) (more : ℕ) (addresses : List AddressValue) (i : ℕ) (x : AddressValue)
@@ -250,13 +245,12 @@ not-nil : (key : List ℕ) → not (is_nil key) ≡ true → key ≡ [] → ⊥
 not-nil [] e none = true≢false (sym e)
 not-nil (b ∷ key) e none = cc
 
-marked-known : (h : AddressHoldersValue) (terms : Option Terms) (addresses : List AddressValue) (key : List ℕ) (a : AddressValue)
+marked-known : (h : AddressHoldersValue) (terms : Terms) (addresses : List AddressValue) (key : List ℕ) (a : AddressValue)
     → AreKnown h terms addresses → is_marked key terms ≡ true → has_address addresses a ≡ true → is_known h key a ≡ true
-marked-known h None addresses key a known e has = absurd (true≢false (sym e))
-marked-known h (Some terms) addresses key a known e has =
+marked-known h terms addresses key a known e has =
     let parts = and_parts (bytes_eq terms.key key) (not (is_nil key)) e in
     let same : terms.key ≡ key = (bytes_eq-Decides terms.key key).0 parts.0 in
-    subst (λ k. is_known h k a ≡ true) same (known terms refl (λ none. not-nil key parts.1 (sym same ∙ none)) a (has_address-is addresses a has))
+    subst (λ k. is_known h k a ≡ true) same (known (λ none. not-nil key parts.1 (sym same ∙ none)) a (has_address-is addresses a has))
 
 or_one : (b : Bool) → (b || false) ≡ true → b ≡ true
 or_one true e = refl
@@ -266,7 +260,7 @@ pub indexed-added : (items more : List (ℕ × ClaimValue)) (number : ℕ) (c : 
     → IsIndexed items keys h → more ≡ items ++ (number, c) ∷ [] → is_assigned c.holding ≡ true
     → numbers_under key_cmp keys_after ≡ (λ key. cond (is_at (key_cmp c.key) key) (numbers_under key_cmp keys key ++ number ∷ []) (numbers_under key_cmp keys key))
     → ((slot : Slot) → claims_having h_after slot ≡ (λ a. claims_having h slot a ++ numbered_at slot a (number, c)))
-    → is_known h_after ≡ is_known h → AreKnown h (recorded_terms c.holding.mark) c.holding.addresses
+    → is_known h_after ≡ is_known h → AreKnown h c.terms c.holding.addresses
     → AreUniform h_after (items ++ (number, c) ∷ [])
     → IsIndexed more keys_after h_after
 indexed-added items more number c keys keys_after h h_after indexed is assigned adds_key adds_holders same_known known uniform =
@@ -300,13 +294,13 @@ indexed-added items more number c keys keys_after h h_after indexed is assigned 
     shared_all : AreShared h_after (values_of (items ++ (number, c) ∷ []))
     shared_all key a e =
         let either : (is_shared key (values_of items) a || is_shared key (c ∷ []) a) ≡ true =
-        sym (ap (λ (claims : List ClaimValue). is_shared key claims a) values ∙ list_any-append (λ (x : ClaimValue). is_marked key (recorded_terms x.holding.mark) && has_address x.holding.addresses a) (values_of items) (c ∷ [])) ∙ e in
+        sym (ap (λ (claims : List ClaimValue). is_shared key claims a) values ∙ list_any-append (λ (x : ClaimValue). is_marked key x.terms && has_address x.holding.addresses a) (values_of items) (c ∷ [])) ∙ e in
         let before : is_known h key a ≡ true = ⊎_elim
         (λ old. indexed.shared key a old)
         (λ new.
-        let own = or_one (is_marked key (recorded_terms c.holding.mark) && has_address c.holding.addresses a) new in
-        let parts = and_parts (is_marked key (recorded_terms c.holding.mark)) (has_address c.holding.addresses a) own in
-        marked-known h (recorded_terms c.holding.mark) c.holding.addresses key a known parts.0 parts.1)
+        let own = or_one (is_marked key c.terms && has_address c.holding.addresses a) new in
+        let parts = and_parts (is_marked key c.terms) (has_address c.holding.addresses a) own in
+        marked-known h c.terms c.holding.addresses key a known parts.0 parts.1)
         (or_cases (is_shared key (values_of items) a) (is_shared key (c ∷ []) a) either) in
         ap (λ (f : List ℕ → AddressValue → Bool). f key a) same_known ∙ before
 
@@ -327,10 +321,10 @@ pub indexed-pushed : (items more : List (ℕ × ClaimValue)) (number : ℕ) (c f
     → numbers_under key_cmp keys_after ≡ (λ k. cond (is_at (key_cmp key) k) (numbers_under key_cmp keys k ++ number ∷ []) (numbers_under key_cmp keys k))
     → in_slot mixing ≡ in_slot h → is_known mixing ≡ is_known h
     → ((slot : Slot) → claims_having h_after slot ≡ (λ a. claims_having mixing slot a ++ numbered_at slot a (number, found)))
-    → is_known h_after ≡ is_known mixing → AreKnown h (recorded_terms c.holding.mark) c.holding.addresses
+    → is_known h_after ≡ is_known mixing → AreKnown h c.terms c.holding.addresses
     → AreUniform mixing items → mixed_of h_after ≡ mixed_of mixing
     → ((a : AddressValue) → Contains c.holding.addresses a → is_mixed mixing a ≡ false → (p : ℕ × ClaimValue) → HasIt items a p
-    → are_alike (recorded_terms p.1.holding.mark) (recorded_terms c.holding.mark) ≡ true)
+    → are_alike p.1.terms c.terms ≡ true)
     → IsIndexed more keys_after h_after
 indexed-pushed items more number c found key keys keys_after h mixing h_after indexed is key_is found_is assigned adds_key same_slots same_known adds_holders kept_known known uniform kept_mixed alike =
     let list_by : Key → Key → List ℕ = λ term k. cond (is_at (key_cmp term) k) (numbers_under key_cmp keys k ++ number ∷ []) (numbers_under key_cmp keys k) in

@@ -16,15 +16,15 @@ use Rattle.mlb_base.specs.Items.{is_nil}
 use Rattle.mlb_base.proofs.Among.{contains-none, contains-cons}
 use Rattle.number_sets.specs.Least.{IsLeastIn, NonePasses}
 use Rattle.sharing_terms.specs.declared.terms.Terms.{Terms}
-use Rattle.sharing_terms.specs.Spelled.{recorded_terms}
+use Rattle.sharing_terms.specs.Sharing.{may_share}
 use Rattle.alloc_book.specs.declared.slot.Slot.{Slot}
 use Rattle.alloc_book.specs.declared.slot.Slot.TheVariants.{Any}
 use Rattle.alloc_book.specs.Slots.{occupies}
 use Rattle.alloc_book.specs.Claims.{ClaimValue, has_claims, loses, claims_it}
 use Rattle.alloc_book.specs.Holders.{AddressHoldersValue, claims_having, is_known}
-use Rattle.alloc_book.specs.Index.{numbers_of, numbers_at, numbered_at, is_taken, is_shared, AreShared, NoneShared}
-use Rattle.alloc_book.specs.Reading.{has_record, gives_way, is_of, yields}
-use Rattle.alloc_book.specs.Search.{address_of, shares_by, leaves}
+use Rattle.alloc_book.specs.Index.{numbers_of, numbers_at, is_taken, is_shared, AreShared, NoneShared}
+use Rattle.alloc_book.specs.Reading.{is_claim_under, gives_way, is_of, yields}
+use Rattle.alloc_book.specs.Search.{address_of, leaves}
 
 -- ---- numbers and tests
 below-apart : (n m : ℕ) → nat_cmp n m ≡ Less → (n == m) ≡ false
@@ -189,11 +189,11 @@ module _ (items : List (ℕ × ClaimValue)) (numbers : List ℕ) (sorted : is_ni
         ap (list_any (λ n. test (under items n))) are
         ∙ any-of (under items) test key items (found (λ c. same_key c.key key) numbers items (ap is_nil are ∙ nil-of key items) sorted)
 
-    pub loses-is : (holding : Record) → list_any (λ n. not (has_record holding (under items n))) numbers ≡ loses key holding (values_of items)
-    loses-is holding = any-is (λ o. not (has_record holding o))
+    pub loses-is : (holding : Record) (terms : Terms) → list_any (λ n. not (is_claim_under holding terms (under items n))) numbers ≡ loses key holding terms (values_of items)
+    loses-is holding terms = any-is (λ o. not (is_claim_under holding terms o))
 
-    pub claims_it-is : (holding : Record) → list_any (λ n. has_record holding (under items n)) numbers ≡ claims_it key holding (values_of items)
-    claims_it-is holding = any-is (has_record holding)
+    pub claims_it-is : (holding : Record) (terms : Terms) → list_any (λ n. is_claim_under holding terms (under items n)) numbers ≡ claims_it key holding terms (values_of items)
+    claims_it-is holding terms = any-is (is_claim_under holding terms)
 
   module _ (slot : Slot) (a : AddressValue) (are : numbers ≡ numbers_at slot a items) where
     all-is : (test : Option ClaimValue → Bool) → list_all (λ n. test (under items n)) numbers ≡ list_all (λ c. not (occupies slot c && has_address c.holding.addresses a) || test (Some c)) (values_of items)
@@ -211,7 +211,7 @@ module _ (items : List (ℕ × ClaimValue)) (numbers : List ℕ) (sorted : is_ni
       leaves-each : (claims : List ClaimValue) → list_all (λ c. not (has_address c.holding.addresses a) || gives_way key terms (Some c)) claims ≡ list_all (leaves key terms a) claims
       leaves-each [] = refl
       leaves-each (c ∷ claims) =
-          ap (λ x. x && list_all (λ c. not (has_address c.holding.addresses a) || gives_way key terms (Some c)) claims) (or-swap (not (has_address c.holding.addresses a)) (same_key c.key key) (shares_by terms (recorded_terms c.holding.mark)))
+          ap (λ x. x && list_all (λ c. not (has_address c.holding.addresses a) || gives_way key terms (Some c)) claims) (or-swap (not (has_address c.holding.addresses a)) (same_key c.key key) (may_share terms c.terms))
           ∙ ap (λ x. leaves key terms a c && x) (leaves-each claims)
 
 -- ---- addresses that aren't known by a sharing key have no claim under it

@@ -12,7 +12,7 @@ use Rattle.std.specs.BTreeMap.{is_at}
 use Rattle.std.specs.List.{Contains, list_any, AllByRecursion}
 use Rattle.std.specs.List.Sorted.{IsStrictlySortedBy}
 use Rattle.std.specs.Map.{lookup, keys_of, values_of}
-use Rattle.std.specs.Option.{option_and_then}
+use Rattle.std.specs.Option.{option_map}
 use Rattle.std.specs.Ordering.{nat_cmp}
 use Rattle.std.specs.Str.{bytes_eq}
 use Rattle.ip_ranges.specs.Values.{AddressValue, has_address, same_address}
@@ -23,7 +23,6 @@ use Rattle.kube_model.proofs.KeyLaws.{is_eq-key_cmp}
 use Rattle.mlb_base.specs.Items.{is_nil}
 use Rattle.mlb_base.proofs.Among.{contains-none, contains-cons, contains-first, contains-later, any-contains, any-found}
 use Rattle.numbered_items.specs.Index.{IndexValue, numbers_under}
-use Rattle.sharing_terms.specs.Spelled.{recorded_terms}
 use Rattle.alloc_book.specs.Book.{AreAssigned}
 use Rattle.alloc_book.specs.Claims.{ClaimValue}
 use Rattle.alloc_book.specs.Holders.{AddressHoldersValue, claims_having, is_known}
@@ -153,7 +152,7 @@ assigned-without n items all c there = all c (among n items c there)
 -- what is known by each sharing key is for fewer claims too
 shared-without : (n : ℕ) (h : AddressHoldersValue) (items : List (ℕ × ClaimValue)) → AreShared h (values_of items) → AreShared h (values_of (without n items))
 shared-without n h items all key a e =
-    let test : ClaimValue → Bool = λ c. is_marked key (recorded_terms c.holding.mark) && has_address c.holding.addresses a in
+    let test : ClaimValue → Bool = λ c. is_marked key c.terms && has_address c.holding.addresses a in
     let found = any-found test (values_of (without n items)) e in
     all key a (any-contains test (values_of items) found.0 (among n items found.0 found.1) found.2)
 
@@ -287,12 +286,8 @@ holders-left n c items before after only e change slot =
     ∙ slot-left (occupies slot c) n slot c items only refl
 
 -- ---- what isn't known by a sharing key any more
-marked-has : (key : List ℕ) (c : ClaimValue) → is_marked key (recorded_terms c.holding.mark) ≡ true → has_sharing_key key (recorded_terms c.holding.mark) ≡ true
-marked-has key c e = has (recorded_terms c.holding.mark) e
-  where
-    has : (terms : _) → is_marked key terms ≡ true → has_sharing_key key terms ≡ true
-    has None e = e
-    has (Some terms) e = (and_parts (bytes_eq terms.key key) (not (is_nil key)) e).0
+marked-has : (key : List ℕ) (c : ClaimValue) → is_marked key c.terms ≡ true → has_sharing_key key (Some c.terms) ≡ true
+marked-has key c e = (and_parts (bytes_eq c.terms.key key) (not (is_nil key)) e).0
 
 named-by : (test : ℕ → Bool) (b : Bool) (n : ℕ) (x : AddressValue) (rest : List AddressValue) → test n ≡ true → (b ≡ true) ⊎ (list_any test (map (λ _. n) rest) ≡ true)
     → list_any test (map (λ _. n) (cond b (x ∷ rest) rest)) ≡ true
@@ -313,14 +308,14 @@ marked-among key a items (p ∷ rest) found e =
     list_any-append (is_marked_at key items) (numbered_at Any a p) (numbers_at Any a rest)
     ∙ ⊎_elim
     (λ here.
-    let parts = and_parts (is_marked key (recorded_terms p.1.holding.mark)) (has_address p.1.holding.addresses a) here in
+    let parts = and_parts (is_marked key p.1.terms) (has_address p.1.holding.addresses a) here in
     let marked : is_marked_at key items p.0 ≡ true =
-    ap (λ (o : Option ClaimValue). has_sharing_key key (option_and_then (λ c. recorded_terms c.holding.mark) o)) (found p (contains-first p rest)) ∙ marked-has key p.1 parts.0 in
+    ap (λ (o : Option ClaimValue). has_sharing_key key (option_map (λ c. c.terms) o)) (found p (contains-first p rest)) ∙ marked-has key p.1 parts.0 in
     or_left (list_any (is_marked_at key items) (numbered_at Any a p)) (list_any (is_marked_at key items) (numbers_at Any a rest))
     (named (is_marked_at key items) p.0 a p.1.holding.addresses marked parts.1))
     (λ later. or_right (list_any (is_marked_at key items) (numbered_at Any a p)) (list_any (is_marked_at key items) (numbers_at Any a rest))
     (marked-among key a items rest (λ q there. found q (contains-later p rest q there)) later))
-    (or_cases (is_marked key (recorded_terms p.1.holding.mark) && has_address p.1.holding.addresses a) (is_shared key (values_of rest) a) e)
+    (or_cases (is_marked key p.1.terms && has_address p.1.holding.addresses a) (is_shared key (values_of rest) a) e)
 
 unshared-by : (same here known : Bool) → (same && here) ≡ false → known ≡ true → (not (same && here) && known) ≡ true
 unshared-by same here known apart e = rw apart e

@@ -7,7 +7,7 @@ use Rattle.ip_ranges.specs.Values.{AddressValue, SpanValue, same_family, holds, 
 use Rattle.kube_model.specs.declared.key.Key.{Key}
 use Rattle.sharing_terms.specs.declared.terms.Terms.{Terms}
 use Rattle.pool_config.specs.declared.compiled.CompiledPool.{CompiledPool}
-use Rattle.alloc_book.specs.Asking.{Holders}
+use Rattle.alloc_book.specs.Claims.{Holders}
 use Rattle.alloc_book.specs.Claims.{ClaimValue, holders}
 use Rattle.alloc_book.specs.Least.{StandsBefore, IsLeast}
 use Rattle.alloc_book.specs.Search.{usable, address_of, numbered, least_between, least_in, least_of, least_usable, or_else}

@@ -15,5 +15,6 @@ pub mod MixLaws
 pub mod PendingLaws
 pub mod SearchLaws
 pub mod SlotLaws
+pub mod TermLaws
 pub mod UniformLaws
 pub mod UsableLaws

@@ -1,5 +1,6 @@
 -- What is pending stays pending where nothing is left that wasn't left before; and equal holders make equal choices.
 use Rattle.std.proofs.Common.{◌≡◌, ℕ, List, [], ◌∷◌, Option, inl, inr, refl, subst, ⊎_elim}
+use Rattle.ip_ranges.specs.declared.family.Family.{Family}
 use Rattle.ip_ranges.specs.Values.{AddressValue}
 use Rattle.kube_model.specs.declared.key.Key.{Key}
 use Rattle.kube_model.specs.declared.reason.Reason.{Reason}
@@ -9,10 +10,12 @@ use Rattle.sharing_terms.specs.declared.terms.Terms.{Terms}
 use Rattle.alloc_book.specs.declared.choice.Choice.{Choice}
 use Rattle.alloc_book.specs.declared.choice.Choice.TheVariants.{Pending, New}
 use Rattle.pool_config.specs.declared.compiled.CompiledPool.{CompiledPool}
-use Rattle.alloc_book.specs.Asking.{Asker, Holders, Offer, asked_in}
+use Rattle.alloc_book.specs.Asking.{Asker, Offer, asked_in}
+use Rattle.alloc_book.specs.Claims.{Holders}
 use Rattle.mlb_base.specs.Cases.{Case, IsFirst, NoneIs}
 use Rattle.alloc_book.specs.Chosen.{asked_pools, AsksAddresses, Gives, IsChosenFor, IsChosen}
-use Rattle.alloc_book.specs.First.{HasEach, record_in, AreFull, AllUsable, IsKept, IsHome}
+use Rattle.mlb_base.specs.Items.{Has}
+use Rattle.alloc_book.specs.First.{HasEach, SomeHasEach, record_in, AreFull, AllUsable, IsKept, IsHome}
 use Rattle.alloc_book.specs.Granted.{IsTighter, HaveMore}
 use Rattle.alloc_book.specs.Usable.{IsUsable, IsUsableOf}
 use Rattle.mlb_base.proofs.CaseLaws.{first-none, none-fewer}
@@ -37,6 +40,11 @@ no-first P (z ∷ zs) none =
     let not_here : ¬ (P z) = λ p. none (z, inl (p, refl)) in
     (not_here, no-first P zs (λ found. none (found.0, inr (not_here, found.1))))
 
+-- what holds of more is so of some item where what holds of fewer is
+has-more : {X : Type 0} (P Q : X → Type 0) (xs : List X) → ((x : X) → P x → Q x) → Has P xs → Has Q xs
+has-more P Q [] more has = has
+has-more P Q (z ∷ zs) more has = ⊎_elim (λ here. inl (more z here)) (λ later. inr (has-more P Q zs more later)) has
+
 module _ (before after : Holders) (o : Offer) (q : Asker) (tighter : IsTighter q.key q.terms before after) where
   usable_before : (pool : CompiledPool) (a : AddressValue) → IsUsable after q.key q.terms pool a → IsUsable before q.key q.terms pool a
   usable_before pool a u = record { in_pool = u.in_pool; not_avoided = u.not_avoided; left = tighter a u.left }
@@ -45,14 +53,17 @@ module _ (before after : Holders) (o : Offer) (q : Asker) (tighter : IsTighter q
   all_before pool addresses all a there = usable_before pool a (all a there)
 
   kept_before : (pool : CompiledPool) → IsKept after o q pool → IsKept before o q pool
-  kept_before pool k = record { is_open = k.is_open; each = k.each; usable = all_before pool q.recorded k.usable; as_asked = k.as_asked }
+  kept_before pool k = record { is_open = k.is_open; fits = k.fits; usable = all_before pool q.recorded k.usable; as_asked = k.as_asked }
 
-  each_before : (pool : CompiledPool) → HasEach after q pool → HasEach before q pool
-  each_before pool h =
-      (h.0, zip-map (IsUsableOf after q.key q.terms pool) (IsUsableOf before q.key q.terms pool) q.families h.0 (λ family a u. (u.0, usable_before pool a u.1)) h.1)
+  each_before : (families : List Family) (pool : CompiledPool) → HasEach after q families pool → HasEach before q families pool
+  each_before families pool h =
+      (h.0, zip-map (IsUsableOf after q.key q.terms pool) (IsUsableOf before q.key q.terms pool) families h.0 (λ family a u. (u.0, usable_before pool a u.1)) h.1)
+
+  some_before : (pools : List CompiledPool) (families : List Family) → SomeHasEach after q pools families → SomeHasEach before q pools families
+  some_before pools families some = has-more (HasEach after q families) (HasEach before q families) pools (each_before families) some
 
   full_after : (pools : List CompiledPool) → AreFull before q pools → AreFull after q pools
-  full_after pools full = none-fewer (HasEach before q) (HasEach after q) pools each_before full
+  full_after pools full = none-fewer (SomeHasEach before q pools) (SomeHasEach after q pools) q.options (some_before pools) full
 
   not_kept_after : ¬ ((pool : CompiledPool) × IsFirst (IsKept before o q) o.pools pool) → ¬ ((pool : CompiledPool) × IsFirst (IsKept after o q) o.pools pool)
   not_kept_after none found =

@@ -1,5 +1,5 @@
 -- Claims on one address that are alike in sharing key and backend.
-use Rattle.std.proofs.Common.{◌≡◌, ◌≢◌, ℕ, ◌<◌, ◌==◌, Bool, true, false, not, ◌&&◌, ◌||◌, List, [], ◌∷◌, ◌++◌, length, filter, Option, Some, None, ◌⊎◌, refl, sym, ap, ◌∙◌, subst, ⊎_elim, eqb-true, cond, map}
+use Rattle.std.proofs.Common.{◌≡◌, ◌≢◌, ℕ, ◌==◌, Bool, true, false, not, ◌&&◌, ◌||◌, List, [], ◌∷◌, ◌++◌, filter, Option, Some, ◌⊎◌, refl, sym, ap, ◌∙◌, subst, ⊎_elim, eqb-true, cond, map}
 use Rattle.std.proofs.lemmas.List.Elements.{Contains-push_cases}
 use Rattle.std.specs.List.{Contains, list_any, list_all, slice_get}
 use Rattle.std.specs.List.Sorted.{IsStrictlySortedBy}
@@ -8,15 +8,12 @@ use Rattle.std.proofs.lemmas.Bool.{and_parts, and_from, or_left, or_right, not-t
 use Rattle.std.proofs.lemmas.Bool.Decides.{same_from_decides}
 use Rattle.std.proofs.lemmas.Map.Made.{Contains-values_of}
 use Rattle.std.proofs.lemmas.Slice.Eq.{bytes_eq-Decides}
-use Rattle.std.specs.Cmp.Lexicographic.{pointwise}
-use Rattle.std.specs.Option.{option_and_then}
+use Rattle.std.specs.Option.{option_map_or}
 use Rattle.std.specs.Ordering.{nat_cmp}
 use Rattle.std.specs.Str.{bytes_eq}
 use Rattle.ip_ranges.specs.declared.family.Family.{Family}
 use Rattle.ip_ranges.specs.Values.{AddressValue, has_address, same_address}
 use Rattle.ip_ranges.proofs.AddressLaws.{has_address-is, has_address-from}
-use Rattle.kube_labels.specs.Pairs.{pair_eq}
-use Rattle.kube_labels.proofs.PairLaws.{pairs_eq-Decides}
 use Rattle.kube_model.specs.declared.key.Key.{Key}
 use Rattle.kube_model.specs.declared.port.Port.{Port}
 use Rattle.kube_model.specs.Keys.{same_key}
@@ -25,63 +22,43 @@ use Rattle.mlb_base.proofs.Among.{contains-none, contains-cons, contains-first, 
 use Rattle.number_sets.specs.Runs.{RunsValue, has}
 use Rattle.sharing_terms.specs.declared.terms.Terms.{Terms}
 use Rattle.sharing_terms.specs.declared.terms.Backend.{Backend}
-use Rattle.sharing_terms.specs.declared.terms.Backend.TheVariants.{Cluster, Local}
 use Rattle.sharing_terms.specs.Sharing.{has_port, is_alike, may_share}
-use Rattle.sharing_terms.specs.Spelled.{recorded_terms}
-use Rattle.alloc_book.specs.declared.slot.Slot.{Slot}
 use Rattle.alloc_book.specs.declared.slot.Slot.TheVariants.{Any, OfPort}
-use Rattle.alloc_book.specs.Alike.{are_alike, is_like_first, terms_at}
+use Rattle.alloc_book.specs.Alike.{are_alike}
 use Rattle.alloc_book.specs.Claims.{ClaimValue}
-use Rattle.alloc_book.specs.Holders.{AddressHoldersValue, claims_having, is_mixed, mixed_of}
-use Rattle.alloc_book.specs.Index.{numbers_at, HasIt, AreUniform}
+use Rattle.alloc_book.specs.Holders.{AddressHoldersValue, is_mixed, mixed_of}
+use Rattle.alloc_book.specs.Index.{numbers_at, HasIt, AreUniform, is_like_first}
 use Rattle.alloc_book.specs.Reading.{yields}
-use Rattle.alloc_book.specs.Search.{shares_by, leaves}
-use Rattle.alloc_book.specs.Slots.{ports_by}
+use Rattle.alloc_book.specs.Search.{leaves}
+use Rattle.alloc_book.proofs.TermLaws.{backend-same, backend-itself}
 use Rattle.alloc_book.proofs.IndexReading.{or-true, nil-at, under, found-of}
 
 -- ---- terms that are alike
-backend-same : (a b : Backend) → is_alike a b ≡ true → a ≡ b
-backend-same Cluster Cluster e = refl
-backend-same Cluster (Local n s) e = absurd (true≢false (sym e))
-backend-same (Local n s) Cluster e = absurd (true≢false (sym e))
-backend-same (Local n s) (Local m t) e =
-    let parts = and_parts (bytes_eq n m) (pointwise pair_eq s t) e in
-    ap (λ (x : List ℕ). Local x s) ((bytes_eq-Decides n m).0 parts.0) ∙ ap (λ (x : List (List ℕ × List ℕ)). Local m x) ((pairs_eq-Decides s t).0 parts.1)
-
-backend-itself : (a : Backend) → is_alike a a ≡ true
-backend-itself Cluster = refl
-backend-itself (Local n s) = and_from (bytes_eq n n) (pointwise pair_eq s s) ((bytes_eq-Decides n n).1 refl) ((pairs_eq-Decides s s).1 refl)
-
 -- They have one sharing key, which isn't empty, and one backend.
 record AreOne (a b : Terms) : Type 0 where
   key : a.key ≡ b.key
   given : not (is_nil a.key) ≡ true
   backend : a.backend ≡ b.backend
 
-one-from_alike : (a b : Terms) → are_alike (Some a) (Some b) ≡ true → AreOne a b
+one-from_alike : (a b : Terms) → are_alike a b ≡ true → AreOne a b
 one-from_alike a b e =
     let two = and_parts (bytes_eq a.key b.key && not (is_nil a.key)) (is_alike a.backend b.backend) e in
     let one = and_parts (bytes_eq a.key b.key) (not (is_nil a.key)) two.0 in
     record { key = (bytes_eq-Decides a.key b.key).0 one.0; given = one.1; backend = backend-same a.backend b.backend two.1 }
 
-alike-from_one : (a b : Terms) → AreOne a b → are_alike (Some a) (Some b) ≡ true
+alike-from_one : (a b : Terms) → AreOne a b → are_alike a b ≡ true
 alike-from_one a b one =
     and_from (bytes_eq a.key b.key && not (is_nil a.key)) (is_alike a.backend b.backend)
     (and_from (bytes_eq a.key b.key) (not (is_nil a.key)) ((bytes_eq-Decides a.key b.key).1 one.key) one.given)
     (subst (λ (x : Backend). is_alike a.backend x ≡ true) one.backend (backend-itself a.backend))
 
-pub alike-flip : (a b : Option Terms) → are_alike a b ≡ true → are_alike b a ≡ true
-alike-flip None b e = absurd (true≢false (sym e))
-alike-flip (Some a) None e = absurd (true≢false (sym e))
-alike-flip (Some a) (Some b) e =
+pub alike-flip : (a b : Terms) → are_alike a b ≡ true → are_alike b a ≡ true
+alike-flip a b e =
     let one = one-from_alike a b e in
     alike-from_one b a (record { key = sym one.key; given = subst (λ (k : List ℕ). not (is_nil k) ≡ true) one.key one.given; backend = sym one.backend })
 
-pub alike-through : (a b c : Option Terms) → are_alike a b ≡ true → are_alike b c ≡ true → are_alike a c ≡ true
-alike-through None b c e f = absurd (true≢false (sym e))
-alike-through (Some a) None c e f = absurd (true≢false (sym e))
-alike-through (Some a) (Some b) None e f = absurd (true≢false (sym f))
-alike-through (Some a) (Some b) (Some c) e f =
+pub alike-through : (a b c : Terms) → are_alike a b ≡ true → are_alike b c ≡ true → are_alike a c ≡ true
+alike-through a b c e f =
     let one = one-from_alike a b e in
     let more = one-from_alike b c f in
     alike-from_one a c (record { key = one.key ∙ more.key; given = one.given; backend = one.backend ∙ more.backend })
@@ -93,18 +70,18 @@ uniform-kept items before after same uniform = λ a e. uniform a (ap (λ (f : Ad
 -- a claim more, with which those on each of its addresses are alike that isn't mixed
 pub uniform-added : (items : List (ℕ × ClaimValue)) (number : ℕ) (c : ClaimValue) (before after : AddressHoldersValue) → AreUniform before items → mixed_of after ≡ mixed_of before
     → ((a : AddressValue) → Contains c.holding.addresses a → is_mixed before a ≡ false → (p : ℕ × ClaimValue) → HasIt items a p
-    → are_alike (recorded_terms p.1.holding.mark) (recorded_terms c.holding.mark) ≡ true)
+    → are_alike p.1.terms c.terms ≡ true)
     → AreUniform after (items ++ (number, c) ∷ [])
 uniform-added items number c before after uniform same alike a e p q has_p has_q apart =
     ⊎_elim
     (λ old_p. ⊎_elim
     (λ old_q. uniform a unmixed p q (old_p, has_p.1) (old_q, has_q.1) apart)
-    (λ new_q. subst (λ (r : ℕ × ClaimValue). are_alike (recorded_terms p.1.holding.mark) (recorded_terms r.1.holding.mark) ≡ true) new_q
+    (λ new_q. subst (λ (r : ℕ × ClaimValue). are_alike p.1.terms r.1.terms ≡ true) new_q
     (alike a (subst (λ (r : ℕ × ClaimValue). Contains r.1.holding.addresses a) (sym new_q) has_q.1) unmixed p (old_p, has_p.1)))
     (Contains-push_cases items (number, c) q has_q.0))
     (λ new_p. ⊎_elim
-    (λ old_q. alike-flip (recorded_terms q.1.holding.mark) (recorded_terms p.1.holding.mark)
-    (subst (λ (r : ℕ × ClaimValue). are_alike (recorded_terms q.1.holding.mark) (recorded_terms r.1.holding.mark) ≡ true) new_p
+    (λ old_q. alike-flip q.1.terms p.1.terms
+    (subst (λ (r : ℕ × ClaimValue). are_alike q.1.terms r.1.terms ≡ true) new_p
     (alike a (subst (λ (r : ℕ × ClaimValue). Contains r.1.holding.addresses a) (sym new_p) has_p.1) unmixed q (old_q, has_q.1))))
     (λ new_q. absurd (apart (ap (λ (r : ℕ × ClaimValue). r.0) (sym new_p ∙ new_q))))
     (Contains-push_cases items (number, c) q has_q.0))
@@ -149,39 +126,41 @@ same-claim items p q sorted there_p there_q same =
     let found : Some p.1 ≡ Some q.1 = sym (found-of items p sorted there_p) ∙ ap (under items) same ∙ found-of items q sorted there_q in
     cc
 
-terms-of : (items : List (ℕ × ClaimValue)) (p : ℕ × ClaimValue) (n : ℕ) → IsStrictlySortedBy nat_cmp (keys_of items) → Contains items p → p.0 ≡ n → terms_at items n ≡ recorded_terms p.1.holding.mark
-terms-of items p n sorted there is = ap (option_and_then (λ (c : ClaimValue). recorded_terms c.holding.mark)) (ap (under items) (sym is) ∙ found-of items p sorted there)
-
 -- a claim that has the address is listed there
 listed-at : (a : AddressValue) (items : List (ℕ × ClaimValue)) (p : ℕ × ClaimValue) → HasIt items a p → is_nil (numbers_at Any a items) ≡ false
 listed-at a items p has =
     nil-at a Any items
     ∙ ap not (any-contains (λ (c : ClaimValue). has_address c.holding.addresses a) (values_of items) p.1 (Contains-values_of items p.0 p.1 has.0) (has_address-from p.1.holding.addresses a has.1))
 
+-- whether there is a claim, and it is alike
+abbrev pub like : Terms → Option ClaimValue → Bool
+like terms found = option_map_or (λ (c : ClaimValue). are_alike c.terms terms) found false
+
 -- whether the first claim is alike
-pub first-like : (terms : Option Terms) (items : List (ℕ × ClaimValue)) (numbers : List ℕ) (n : ℕ) (c : ClaimValue) → Some n ≡ slice_get numbers 0 → Some c ≡ under items n
-    → are_alike (recorded_terms c.holding.mark) terms ≡ is_like_first terms items numbers
+pub first-like : (terms : Terms) (items : List (ℕ × ClaimValue)) (numbers : List ℕ) (n : ℕ) (c : ClaimValue) → Some n ≡ slice_get numbers 0 → Some c ≡ under items n
+    → are_alike c.terms terms ≡ is_like_first terms items numbers
 first-like terms items [] n c at found = absurd (cc)
 first-like terms items (m ∷ numbers) n c at found =
     let same : n ≡ m = cc in
-    ap (λ (claim : Option ClaimValue). are_alike (option_and_then (λ (d : ClaimValue). recorded_terms d.holding.mark) claim) terms) (found ∙ ap (under items) same)
+    ap (like terms) (found ∙ ap (under items) same)
 
-pub like-first : (h : AddressHoldersValue) (items : List (ℕ × ClaimValue)) (numbers : List ℕ) (terms : Option Terms) (a : AddressValue)
+pub like-first : (h : AddressHoldersValue) (items : List (ℕ × ClaimValue)) (numbers : List ℕ) (terms : Terms) (a : AddressValue)
     → (is_nil numbers ≡ false → IsStrictlySortedBy nat_cmp (keys_of items)) → AreUniform h items → numbers ≡ numbers_at Any a items
     → is_mixed h a ≡ false → is_like_first terms items numbers ≡ true
-    → (p : ℕ × ClaimValue) → HasIt items a p → are_alike (recorded_terms p.1.holding.mark) terms ≡ true
+    → (p : ℕ × ClaimValue) → HasIt items a p → are_alike p.1.terms terms ≡ true
 like-first h items [] terms a sorted uniform listed unmixed first p has = absurd (true≢false (ap is_nil listed ∙ listed-at a items p has))
 like-first h items (n ∷ rest) terms a sorted uniform listed unmixed first p has =
     let at = first-at a items n rest (sym listed) in
     let q = at.claim in
-    let here : are_alike (recorded_terms q.1.holding.mark) terms ≡ true = subst (λ (t : Option Terms). are_alike t terms ≡ true) (terms-of items q n (sorted refl) at.has.0 at.numbered) first in
+    let there : under items n ≡ Some q.1 = ap (under items) (sym at.numbered) ∙ found-of items q (sorted refl) at.has.0 in
+    let here : are_alike q.1.terms terms ≡ true = ap (like terms) (sym there) ∙ first in
     by_number q (p.0 == q.0) refl at.has here
   where
-    by_number : (q : ℕ × ClaimValue) (same : Bool) → same ≡ (p.0 == q.0) → HasIt items a q → are_alike (recorded_terms q.1.holding.mark) terms ≡ true → are_alike (recorded_terms p.1.holding.mark) terms ≡ true
+    by_number : (q : ℕ × ClaimValue) (same : Bool) → same ≡ (p.0 == q.0) → HasIt items a q → are_alike q.1.terms terms ≡ true → are_alike p.1.terms terms ≡ true
     by_number q true is has_q here =
-        subst (λ (c : ClaimValue). are_alike (recorded_terms c.holding.mark) terms ≡ true) (same-claim items q p (sorted refl) has_q.0 has.0 (sym (eqb-true p.0 q.0 (sym is)))) here
+        subst (λ (c : ClaimValue). are_alike c.terms terms ≡ true) (same-claim items q p (sorted refl) has_q.0 has.0 (sym (eqb-true p.0 q.0 (sym is)))) here
     by_number q false is has_q here =
-        alike-through (recorded_terms p.1.holding.mark) (recorded_terms q.1.holding.mark) terms
+        alike-through p.1.terms q.1.terms terms
         (uniform a unmixed p q has has_q (λ same. true≢false (sym (eq-eqb p.0 q.0 same) ∙ sym is))) here
 
 -- ---- where the claims on an address are alike with the terms, those with a port of theirs decide
@@ -189,9 +168,9 @@ not-neither : (b : Bool) → not (b && false) ≡ true
 not-neither true = refl
 not-neither false = refl
 
-shares-alike : (terms t : Terms) → are_alike (Some t) (Some terms) ≡ true → ((port : Port) → Contains terms.ports port → (not (has_port t.ports port && true) || false) ≡ true) → may_share terms t ≡ true
+shares-alike : (terms t : Terms) → are_alike t terms ≡ true → ((port : Port) → Contains terms.ports port → (not (has_port t.ports port && true) || false) ≡ true) → may_share terms t ≡ true
 shares-alike terms t alike each =
-    let parts = and_parts (bytes_eq terms.key t.key && not (is_nil terms.key)) (is_alike terms.backend t.backend) (alike-flip (Some t) (Some terms) alike) in
+    let parts = and_parts (bytes_eq terms.key t.key && not (is_nil terms.key)) (is_alike terms.backend t.backend) (alike-flip t terms alike) in
     let none : list_any (has_port t.ports) terms.ports ≡ false =
     false_from_ne_true (list_any (has_port t.ports) terms.ports) (λ some.
     let found = any-found (has_port t.ports) terms.ports some in
@@ -201,25 +180,23 @@ shares-alike terms t alike each =
     parts.1
 
 -- a claim whose terms are alike leaves the address where it yields each port
-leaves-each : (own has : Bool) (terms : Terms) (held : Option Terms) → (has ≡ true → are_alike held (Some terms) ≡ true)
-    → ((port : Port) → Contains terms.ports port → (not (has_port (ports_by held) port && has) || own) ≡ true) → (own || not has || shares_by terms held) ≡ true
+leaves-each : (own has : Bool) (terms held : Terms) → (has ≡ true → are_alike held terms ≡ true)
+    → ((port : Port) → Contains terms.ports port → (not (has_port held.ports port && has) || own) ≡ true) → (own || not has || may_share terms held) ≡ true
 leaves-each true has terms held alike each = refl
 leaves-each false false terms held alike each = refl
-leaves-each false true terms None alike each = absurd (true≢false (sym (alike refl)))
-leaves-each false true terms (Some t) alike each = shares-alike terms t (alike refl) each
+leaves-each false true terms held alike each = shares-alike terms held (alike refl) each
 
 -- and where it leaves the address it yields each port
-pub yields-left : (own has : Bool) (terms : Terms) (held : Option Terms) (port : Port) → Contains terms.ports port
-    → (own || not has || shares_by terms held) ≡ true → (not (has_port (ports_by held) port && has) || own) ≡ true
-yields-left true has terms held port there left = or-true (not (has_port (ports_by held) port && has))
+pub yields-left : (own has : Bool) (terms held : Terms) (port : Port) → Contains terms.ports port
+    → (own || not has || may_share terms held) ≡ true → (not (has_port held.ports port && has) || own) ≡ true
+yields-left true has terms held port there left = or-true (not (has_port held.ports port && has))
 yields-left false false terms held port there left = rw not-neither refl
-yields-left false true terms None port there left = absurd (true≢false (sym left))
-yields-left false true terms (Some t) port there left =
-    let most = and_parts (bytes_eq terms.key t.key && not (is_nil terms.key) && not (list_any (has_port t.ports) terms.ports)) (is_alike terms.backend t.backend) left in
-    let keys = and_parts (bytes_eq terms.key t.key && not (is_nil terms.key)) (not (list_any (has_port t.ports) terms.ports)) most.0 in
-    let apart : has_port t.ports port ≡ false =
-    false_from_ne_true (has_port t.ports port)
-    (λ some. true≢false (sym (any-contains (has_port t.ports) terms.ports port there some) ∙ not-true (list_any (has_port t.ports) terms.ports) keys.1)) in
+yields-left false true terms held port there left =
+    let most = and_parts (bytes_eq terms.key held.key && not (is_nil terms.key) && not (list_any (has_port held.ports) terms.ports)) (is_alike terms.backend held.backend) left in
+    let keys = and_parts (bytes_eq terms.key held.key && not (is_nil terms.key)) (not (list_any (has_port held.ports) terms.ports)) most.0 in
+    let apart : has_port held.ports port ≡ false =
+    false_from_ne_true (has_port held.ports port)
+    (λ some. true≢false (sym (any-contains (has_port held.ports) terms.ports port there some) ∙ not-true (list_any (has_port held.ports) terms.ports) keys.1)) in
     rw apart refl
 
 item-of : (items : List (ℕ × ClaimValue)) (c : ClaimValue) → Contains (values_of items) c → (p : ℕ × ClaimValue) × Contains items p × (p.1 ≡ c)
@@ -231,7 +208,7 @@ item-of (p ∷ items) c there =
     (contains-cons p.1 (values_of items) c there)
 
 pub leave-by_ports : (items : List (ℕ × ClaimValue)) (key : Key) (terms : Terms) (a : AddressValue)
-    → ((p : ℕ × ClaimValue) → HasIt items a p → are_alike (recorded_terms p.1.holding.mark) (Some terms) ≡ true)
+    → ((p : ℕ × ClaimValue) → HasIt items a p → are_alike p.1.terms terms ≡ true)
     → list_all (λ port. list_all (yields key (OfPort port) a) (values_of items)) terms.ports ≡ list_all (leaves key terms a) (values_of items)
 leave-by_ports items key terms a alike =
     same_from_decides (list_all (λ port. list_all (yields key (OfPort port) a) claims) terms.ports) (list_all (leaves key terms a) claims) (to, back) (λ e. e, λ e. e)
@@ -243,8 +220,8 @@ leave-by_ports items key terms a alike =
     to each =
         all-from (leaves key terms a) claims (λ c there.
         let of = item-of items c there in
-        leaves-each (same_key c.key key) (has_address c.holding.addresses a) terms (recorded_terms c.holding.mark)
-        (λ has. subst (λ (d : ClaimValue). are_alike (recorded_terms d.holding.mark) (Some terms) ≡ true) of.2
+        leaves-each (same_key c.key key) (has_address c.holding.addresses a) terms c.terms
+        (λ has. subst (λ (d : ClaimValue). are_alike d.terms terms ≡ true) of.2
         (alike of.0 (of.1, has_address-is of.0.1.holding.addresses a (subst (λ (d : ClaimValue). has_address d.holding.addresses a ≡ true) (sym of.2) has))))
         (λ port at. all-contains (yields key (OfPort port) a) claims c (all-contains (λ (q : Port). list_all (yields key (OfPort q) a) claims) terms.ports port each at) there))
 
@@ -252,4 +229,4 @@ leave-by_ports items key terms a alike =
     back left =
         all-from (λ (port : Port). list_all (yields key (OfPort port) a) claims) terms.ports (λ port at.
         all-from (yields key (OfPort port) a) claims (λ c there.
-        yields-left (same_key c.key key) (has_address c.holding.addresses a) terms (recorded_terms c.holding.mark) port at (all-contains (leaves key terms a) claims c left there)))
+        yields-left (same_key c.key key) (has_address c.holding.addresses a) terms c.terms port at (all-contains (leaves key terms a) claims c left there)))

@@ -1,34 +1,23 @@
 -- The tests of usable addresses are their relation.
-use Rattle.std.proofs.Common.{◌≡◌, ◌≢◌, ℕ, Bool, true, false, cond, not, ◌&&◌, ◌||◌, List, [], ◌∷◌, Option, Some, None, refl, sym, ap, ◌∙◌, subst, ⊎_elim}
+use Rattle.std.proofs.Common.{◌≡◌, ◌≢◌, Bool, true, false, cond, not, ◌&&◌, ◌||◌, List, [], ◌∷◌, refl, sym, ap, ◌∙◌, subst, ⊎_elim}
 use Rattle.std.proofs.lemmas.Bool.{and_parts, and_from, or_cases, not-true, true≢false}
 use Rattle.std.specs.List.{Contains, list_all}
 use Rattle.ip_ranges.specs.Values.{AddressValue, is_buggy, has_address}
 use Rattle.ip_ranges.proofs.AddressLaws.{has_address-is, has_address-from}
 use Rattle.kube_model.proofs.KeyLaws.{same_key-is, same_key-by}
 use Rattle.kube_model.specs.declared.key.Key.{Key}
-use Rattle.kube_model.specs.declared.record.Record.{Record}
 use Rattle.sharing_terms.specs.declared.terms.Terms.{Terms}
-use Rattle.sharing_terms.specs.Marked.{IsMarkOf}
-use Rattle.sharing_terms.specs.Spelled.{recorded_terms}
-use Rattle.sharing_terms.proofs.ReadBack.{recorded-exact}
-use Rattle.sharing_terms.specs.Sharing.{MayShare}
+use Rattle.sharing_terms.specs.Sharing.{MayShare, may_share}
 use Rattle.mlb_base.proofs.Among.{contains-none, contains-cons, contains-first, contains-later, all-contains, all-from}
 use Rattle.sharing_terms.proofs.SharingLaws.{may_share-is, may_share-from}
 use Rattle.pool_config.specs.declared.compiled.CompiledPool.{CompiledPool}
 use Rattle.alloc_book.specs.Claims.{ClaimValue, claims_of, holders}
 use Rattle.kube_model.specs.Keys.{same_key}
-use Rattle.alloc_book.specs.Search.{shares_by, leaves, usable}
-use Rattle.alloc_book.specs.Usable.{IsShared, IsLeftTo, IsUsable, is_in}
+use Rattle.alloc_book.specs.Search.{leaves, usable}
+use Rattle.alloc_book.specs.Usable.{IsLeftTo, IsUsable, is_in}
 
-shares-is : (terms : Terms) (mark : List ℕ) (held : Option Terms) → recorded_terms mark ≡ held → shares_by terms held ≡ true → (t : Terms) × IsMarkOf t mark × MayShare terms t
-shares-is terms mark None is e = absurd (true≢false (sym e))
-shares-is terms mark (Some t) is e = (t, (recorded-exact mark t).0 is, may_share-is terms t e)
-
-shares-from : (terms : Terms) (r : Record) → IsShared terms r → shares_by terms (recorded_terms r.mark) ≡ true
-shares-from terms r s = subst (λ held. shares_by terms held ≡ true) (sym ((recorded-exact r.mark s.0).1 s.1)) (may_share-from terms s.0 s.2)
-
--- a claim of another key leaves the address where it is shared, or the claim hasn't it
-left_by : (key : Key) (terms : Terms) (a : AddressValue) (c : ClaimValue) → leaves key terms a c ≡ true → c.key ≢ key → Contains c.holding.addresses a → IsShared terms c.holding
+-- a claim of another key leaves the address where it may share, or the claim hasn't it
+left_by : (key : Key) (terms : Terms) (a : AddressValue) (c : ClaimValue) → leaves key terms a c ≡ true → c.key ≢ key → Contains c.holding.addresses a → MayShare terms c.terms
 left_by key terms a c e apart there =
     let own = same_key c.key key in
     let free = not (has_address c.holding.addresses a) in
@@ -37,52 +26,44 @@ left_by key terms a c e apart there =
     (λ same. absurd (apart (same_key-is c.key key same)))
     (λ gone. absurd (true≢false (sym (has_address-from c.holding.addresses a there) ∙ not-true (has_address c.holding.addresses a) gone)))
     (or_cases own free first))
-    (λ shared. shares-is terms c.holding.mark (recorded_terms c.holding.mark) refl shared)
-    (or_cases (own || free) (shares_by terms (recorded_terms c.holding.mark)) e)
+    (λ shared. may_share-is terms c.terms shared)
+    (or_cases (own || free) (may_share terms c.terms) e)
 
--- A record of a key by the claims is that of a claim of the key.
-pub record IsClaimOf (claims : List ClaimValue) (key : Key) (r : Record) : Type 0 where
-  pub claim : ClaimValue
-  pub stands : Contains claims claim
-  pub of_key : claim.key ≡ key
-  pub with_record : claim.holding ≡ r
+-- a claim of a key, by the claims, is one of them, and of the key
+abbrev pub IsClaimOf : List ClaimValue → Key → ClaimValue → Type 0
+IsClaimOf claims key c = Contains claims c × (c.key ≡ key)
 
-claim_later : (c : ClaimValue) (claims : List ClaimValue) (key : Key) (r : Record) → IsClaimOf claims key r → IsClaimOf (c ∷ claims) key r
-claim_later c claims key r d = record { claim = d.claim; stands = contains-later c claims d.claim d.stands; of_key = d.of_key; with_record = d.with_record }
-
-claim_by : (b : Bool) (c : ClaimValue) (claims : List ClaimValue) (key : Key) (r : Record) → b ≡ same_key c.key key → (Contains (claims_of key claims) r → IsClaimOf claims key r)
-    → Contains (cond b (c.holding ∷ claims_of key claims) (claims_of key claims)) r → IsClaimOf (c ∷ claims) key r
-claim_by true c claims key r s ih there =
+claim_by : (b : Bool) (d : ClaimValue) (claims : List ClaimValue) (key : Key) (c : ClaimValue) → b ≡ same_key d.key key → (Contains (claims_of key claims) c → IsClaimOf claims key c)
+    → Contains (cond b (d ∷ claims_of key claims) (claims_of key claims)) c → IsClaimOf (d ∷ claims) key c
+claim_by true d claims key c s ih there =
     ⊎_elim
-    (λ same. record { claim = c; stands = contains-first c claims; of_key = same_key-is c.key key (sym s); with_record = same })
-    (λ more. claim_later c claims key r (ih more))
-    (contains-cons c.holding (claims_of key claims) r there)
-claim_by false c claims key r s ih there = claim_later c claims key r (ih there)
+    (λ same. (subst (Contains (d ∷ claims)) same (contains-first d claims), ap (λ (x : ClaimValue). x.key) (sym same) ∙ same_key-is d.key key (sym s)))
+    (λ more. let found = ih more in (contains-later d claims c found.0, found.1))
+    (contains-cons d (claims_of key claims) c there)
+claim_by false d claims key c s ih there = let found = ih there in (contains-later d claims c found.0, found.1)
 
-pub claim-of : (claims : List ClaimValue) (key : Key) (r : Record) → Contains (claims_of key claims) r → IsClaimOf claims key r
-claim-of [] key r found = absurd (contains-none r found)
-claim-of (c ∷ claims) key r found = claim_by (same_key c.key key) c claims key r refl (claim-of claims key r) found
+pub claim-of : (claims : List ClaimValue) (key : Key) (c : ClaimValue) → Contains (claims_of key claims) c → IsClaimOf claims key c
+claim-of [] key c found = absurd (contains-none c found)
+claim-of (d ∷ claims) key c found = claim_by (same_key d.key key) d claims key c refl (claim-of claims key c) found
 
 -- and the other way round
-pub record-of : (claims : List ClaimValue) (c : ClaimValue) → Contains claims c → Contains (claims_of c.key claims) c.holding
+pub record-of : (claims : List ClaimValue) (c : ClaimValue) → Contains claims c → Contains (claims_of c.key claims) c
 record-of [] c found = absurd (contains-none c found)
 record-of (d ∷ claims) c found =
     ⊎_elim (λ same. by_same (same_key d.key c.key) refl same) (λ more. by_more (same_key d.key c.key) (record-of claims c more)) (contains-cons d claims c found)
   where
-    by_same : (b : Bool) → b ≡ same_key d.key c.key → d ≡ c → Contains (cond b (d.holding ∷ claims_of c.key claims) (claims_of c.key claims)) c.holding
-    by_same true s same = subst (λ r. Contains (d.holding ∷ claims_of c.key claims) r) (ap (λ (x : ClaimValue). x.holding) same) (contains-first d.holding (claims_of c.key claims))
+    by_same : (b : Bool) → b ≡ same_key d.key c.key → d ≡ c → Contains (cond b (d ∷ claims_of c.key claims) (claims_of c.key claims)) c
+    by_same true s same = subst (λ r. Contains (d ∷ claims_of c.key claims) r) same (contains-first d (claims_of c.key claims))
     by_same false s same = absurd (true≢false (sym (same_key-by d.key c.key (ap (λ (x : ClaimValue). x.key) same)) ∙ sym s))
 
-    by_more : (b : Bool) → Contains (claims_of c.key claims) c.holding → Contains (cond b (d.holding ∷ claims_of c.key claims) (claims_of c.key claims)) c.holding
-    by_more true there = contains-later d.holding (claims_of c.key claims) c.holding there
+    by_more : (b : Bool) → Contains (claims_of c.key claims) c → Contains (cond b (d ∷ claims_of c.key claims) (claims_of c.key claims)) c
+    by_more true there = contains-later d (claims_of c.key claims) c there
     by_more false there = there
 
 pub left-is : (claims : List ClaimValue) (key : Key) (terms : Terms) (a : AddressValue) → list_all (leaves key terms a) claims ≡ true → IsLeftTo (holders claims) key terms a
-left-is claims key terms a e other apart r there has =
-    let claim = claim-of claims other r there in
-    let leaves_it = all-contains (leaves key terms a) claims claim.claim e claim.stands in
-    let here : Contains claim.claim.holding.addresses a = subst (λ (x : Record). Contains x.addresses a) (sym claim.with_record) has in
-    subst (IsShared terms) claim.with_record (left_by key terms a claim.claim leaves_it (λ same. apart (sym claim.of_key ∙ same)) here)
+left-is claims key terms a e other apart c there has =
+    let found = claim-of claims other c there in
+    left_by key terms a c (all-contains (leaves key terms a) claims c e found.0) (λ same. apart (sym found.1 ∙ same)) has
 
 left_from : (b h s : Bool) → (b ≡ false → h ≡ true → s ≡ true) → (b || not h || s) ≡ true
 left_from true h s each = refl
@@ -92,8 +73,8 @@ left_from false true s each = each refl refl
 pub left-from : (claims : List ClaimValue) (key : Key) (terms : Terms) (a : AddressValue) → IsLeftTo (holders claims) key terms a → list_all (leaves key terms a) claims ≡ true
 left-from claims key terms a left =
     all-from (leaves key terms a) claims (λ c there.
-    left_from (same_key c.key key) (has_address c.holding.addresses a) (shares_by terms (recorded_terms c.holding.mark))
-    (λ other has. shares-from terms c.holding (left c.key (λ same. true≢false (sym (same_key-by c.key key same) ∙ other)) c.holding (record-of claims c there) (has_address-is c.holding.addresses a has))))
+    left_from (same_key c.key key) (has_address c.holding.addresses a) (may_share terms c.terms)
+    (λ other has. may_share-from terms c.terms (left c.key (λ same. true≢false (sym (same_key-by c.key key same) ∙ other)) c (record-of claims c there) (has_address-is c.holding.addresses a has))))
 
 not_both : (b h : Bool) → not (b && h) ≡ true → b ≡ true → h ≡ false
 not_both true true e s = absurd (true≢false (sym e))

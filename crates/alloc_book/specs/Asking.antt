@@ -1,9 +1,8 @@
--- Who has what, who asks for what, and what is offered.
-use Rattle.std.specs.Prelude.{ℕ, List, [], ◌∷◌, Bool, true, false}
+-- Who asks for what, and what is offered.
+use Rattle.std.specs.Prelude.{ℕ, List, [], ◌∷◌, map, length, ◌==◌, ◌&&◌, if◌then◌else◌, Bool, true, false}
 use Rattle.ip_ranges.specs.declared.family.Family.{Family}
 use Rattle.ip_ranges.specs.Values.{AddressValue}
 use Rattle.kube_model.specs.declared.key.Key.{Key}
-use Rattle.kube_model.specs.declared.record.Record.{Record}
 use Rattle.kube_model.specs.declared.service.Service.{Service}
 use Rattle.kube_model.specs.declared.service.Wanted.{Wanted}
 use Rattle.kube_model.specs.declared.service.Wanted.TheVariants.{NotAsked, Unreadable, Asked}
@@ -13,26 +12,33 @@ use Rattle.pool_config.specs.declared.compiled.CompiledPool.{CompiledPool}
 use Rattle.pool_choice.specs.Eligible.{eligible}
 use Rattle.pool_choice.specs.Serving.{serves}
 
--- Who has what: for each key the records that it has, or may have. A list of claims gives it, and so does a look back over
--- what was shown.
-abbrev pub Holders : Type 0
-Holders = Key → List Record
-
 -- Who asks, and for what.
 pub record Asker : Type 0 where
   pub key : Key
   pub terms : Terms
-  pub families : List Family  -- one address of each is wanted
+  pub options : List (List Family)  -- one address of each family of one of these is wanted, the first that can be had
   pub wanted : Wanted  -- the addresses that are asked for, if some are
   pub pool_asked : List ℕ  -- the pool that is asked for, empty for none
   pub recorded : List AddressValue  -- the addresses that are recorded
+
+-- the families of which one alone will do, where not both can be had
+abbrev pub alone_of : Bool → List Family → List Family
+alone_of prefers families = if prefers && (length families == 2) then families else []
+
+-- all the families; and where either of two will do, each alone
+abbrev pub options_by : Bool → List Family → List (List Family)
+options_by prefers families = families ∷ map (λ family. family ∷ []) (alone_of prefers families)
+
+-- the lists of families of which the service wants one, the first that can be had
+abbrev pub options_of : Service → List (List Family)
+options_of service = options_by service.prefer_dual service.families
 
 -- the service asks, under these terms
 abbrev pub asking : Service → Terms → Asker
 asking service terms = record {
   key = service.key;
   terms = terms;
-  families = service.families;
+  options = options_of service;
   wanted = service.wanted;
   pool_asked = service.pool_asked;
   recorded = service.holding.addresses;

@@ -4,7 +4,6 @@ use Rattle.std.specs.List.{Contains}
 use Rattle.kube_model.specs.declared.key.Key.{Key}
 use Rattle.kube_model.specs.Keys.{key_cmp}
 use Rattle.numbered_items.specs.Index.{IndexValue, room_under}
-use Rattle.sharing_terms.specs.Spelled.{recorded_terms}
 use Rattle.alloc_book.specs.declared.choice.Loss.{Loss}
 use Rattle.alloc_book.specs.declared.choice.Loss.TheVariants.{Kept, Lost}
 use Rattle.alloc_book.specs.Claims.{ClaimValue}
@@ -21,7 +20,7 @@ pub record BookRoom : Type 0 where
 
 -- A book as contracts see it.
 pub record BookValue : Type 0 where
-  pub claims : List ClaimValue  -- the records that each key has, or may have
+  pub claims : List ClaimValue  -- the records that each key has, or may have, under their terms
   pub room : BookRoom  -- for what more it has room
 
 -- There is room for a claim that has addresses.
@@ -30,7 +29,7 @@ pub record HasRoomFor (room : BookRoom) (c : ClaimValue) : Type 0 where
   pub key : 0 < room_under key_cmp room.keys c.key
   pub addresses : (slot : Slot) → occupies slot c ≡ true → HasRoomAt room.holders (length c.holding.addresses) slot c.holding.addresses
   pub mixed : CanBeMixed room.holders (length c.holding.addresses) c.holding.addresses
-  pub known : AreKnown room.holders (recorded_terms c.holding.mark) c.holding.addresses
+  pub known : AreKnown room.holders c.terms c.holding.addresses
 
 -- the book can take the claim without memory
 abbrev pub HasRoom : BookValue → ClaimValue → Type 0

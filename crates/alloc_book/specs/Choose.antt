@@ -1,6 +1,6 @@
 -- The choice as it is computed over a list of claims.
 use Rattle.std.specs.Prelude.{ℕ, ◌==◌, Bool, false, ◌&&◌, ◌||◌, not, if◌then◌else◌, List, Option, Some, None, is_some, is_none, find, filter, length}
-use Rattle.std.specs.List.{list_all}
+use Rattle.std.specs.List.{list_all, list_any}
 use Rattle.std.specs.Str.{bytes_eq}
 use Rattle.ip_ranges.specs.declared.family.Family.{Family}
 use Rattle.ip_ranges.specs.declared.family.Family.TheVariants.{V4, V6}
@@ -17,7 +17,7 @@ use Rattle.alloc_book.specs.Asking.{Asker, Offer, asker_of, asked_in, is_asked, 
 use Rattle.alloc_book.specs.Chosen.{named, asked_pools}
 use Rattle.alloc_book.specs.Claims.{ClaimValue}
 use Rattle.alloc_book.specs.First.{record_in}
-use Rattle.alloc_book.specs.Search.{usable, first_pool}
+use Rattle.alloc_book.specs.Search.{usable, first_option}
 use Rattle.mlb_base.specs.Items.{is_nil}
 use Rattle.alloc_book.specs.Usable.{is_in}
 
@@ -32,6 +32,9 @@ abbrev pub one_of_each : List Family → List AddressValue → Bool
 one_of_each families addresses =
     (addresses_of V4 addresses == wanted_of V4 families) && (addresses_of V6 addresses == wanted_of V6 families)
 
+abbrev pub fits_option : Asker → List AddressValue → Bool
+fits_option q addresses = list_any (λ families. one_of_each families addresses) q.options
+
 abbrev pub is_open : Offer → Asker → CompiledPool → Bool
 is_open o q pool = o.serves pool && (not (is_given q.pool_asked) || bytes_eq pool.name q.pool_asked)
 
@@ -43,7 +46,7 @@ same_addresses xs ys = list_all (has_address ys) xs && list_all (has_address xs)
 
 abbrev pub is_kept : List ClaimValue → Offer → Asker → CompiledPool → Bool
 is_kept claims o q pool =
-    is_open o q pool && one_of_each q.families q.recorded && all_usable claims q pool q.recorded
+    is_open o q pool && fits_option q q.recorded && all_usable claims q pool q.recorded
     && (not (is_asked q.wanted) || same_addresses q.recorded (asked_in q.wanted))
 
 abbrev pub is_home : Offer → Asker → CompiledPool → Bool
@@ -77,12 +80,17 @@ abbrev pub new_or : Reason → Option Record → Choice
 new_or reason (Some holding) = New holding
 new_or reason None = Pending reason
 
+-- case 11
+abbrev pub from_asked : List ClaimValue → Offer → Asker → Choice
+from_asked claims o q = new_or PoolExhausted (first_option claims q (asked_pools o q))
+
+-- cases 12 and 13
+abbrev pub from_eligible : List ClaimValue → Offer → Asker → Choice
+from_eligible claims o q = if is_nil o.eligible then Pending NoPool else new_or Exhausted (first_option claims q o.eligible)
+
 -- cases 11 to 13
 abbrev pub unasked : List ClaimValue → Offer → Asker → Choice
-unasked claims o q =
-    if is_given q.pool_asked then new_or PoolExhausted (first_pool claims q (asked_pools o q))
-    else (if is_nil o.eligible then Pending NoPool
-    else new_or Exhausted (first_pool claims q o.eligible))
+unasked claims o q = if is_given q.pool_asked then from_asked claims o q else from_eligible claims o q
 
 -- cases 8 to 13
 abbrev pub anew : List ClaimValue → Offer → Asker → Choice
@@ -96,15 +104,26 @@ anew claims o q =
 abbrev pub granted : List ClaimValue → Offer → Asker → Choice
 granted claims o q = if is_some (kept_in claims o q) then kept_from q (kept_in claims o q) else anew claims o q
 
+-- cases 5 to 13
+abbrev pub pooled : List ClaimValue → Offer → Asker → Choice
+pooled claims o q =
+    if is_given q.pool_asked && is_none (named o.pools q.pool_asked) then Pending PoolUnknown
+    else (if is_given q.pool_asked && is_refused o (named o.pools q.pool_asked) then Pending PoolRefused
+    else granted claims o q)
+
+-- cases 4 to 13
+abbrev pub fitting : List ClaimValue → Offer → Asker → Choice
+fitting claims o q =
+    if is_asked q.wanted && not (fits_option q (asked_in q.wanted)) then Pending RequestFamilies
+    else pooled claims o q
+
+-- the whole table
 abbrev pub choose_for : List ClaimValue → Offer → Option (List ℕ) → Service → Asker → Choice
 choose_for claims o class service q =
     if service.balancer && not (same_class class service.class) then Foreign
     else (if not service.balancer then Clear
     else (if is_unreadable q.wanted then Pending RequestUnreadable
-    else (if is_asked q.wanted && not (one_of_each q.families (asked_in q.wanted)) then Pending RequestFamilies
-    else (if is_given q.pool_asked && is_none (named o.pools q.pool_asked) then Pending PoolUnknown
-    else (if is_given q.pool_asked && is_refused o (named o.pools q.pool_asked) then Pending PoolRefused
-    else granted claims o q)))))
+    else fitting claims o q))
 
 abbrev pub choose : List ClaimValue → Offer → Option (List ℕ) → Service → Choice
 choose claims o class service = choose_for claims o class service (asker_of service)

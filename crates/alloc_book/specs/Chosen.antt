@@ -10,9 +10,10 @@ use Rattle.kube_model.specs.declared.service.Wanted.TheVariants.{Unreadable}
 use Rattle.alloc_book.specs.declared.choice.Choice.{Choice}
 use Rattle.alloc_book.specs.declared.choice.Choice.TheVariants.{Foreign, Clear, Pending, Keep, New}
 use Rattle.pool_config.specs.declared.compiled.CompiledPool.{CompiledPool}
-use Rattle.alloc_book.specs.Asking.{Asker, Holders, Offer, asker_of, asked_in, is_asked}
+use Rattle.alloc_book.specs.Asking.{Asker, Offer, asker_of, asked_in, is_asked}
+use Rattle.alloc_book.specs.Claims.{Holders}
 use Rattle.mlb_base.specs.Cases.{Case, IsFirst, NoneIs}
-use Rattle.alloc_book.specs.First.{IsNew, AreFull, IsOneOfEach, AllUsable, IsKept, IsHome, record_in}
+use Rattle.alloc_book.specs.First.{IsNew, AreFull, FitsOption, AllUsable, IsKept, IsHome, record_in}
 
 -- the pool of that name
 abbrev pub named : List CompiledPool → List ℕ → Option CompiledPool
@@ -40,8 +41,8 @@ IsChosenFor has o class service q c =
     (Case (service.balancer ≡ false) (c ≡ Clear)
     -- 3: the addresses asked for can't be read
     (Case (q.wanted ≡ Unreadable) (c ≡ Pending RequestUnreadable)
-    -- 4: they aren't exactly one of each wanted family
-    (Case (AsksAddresses q × ¬ (IsOneOfEach q.families (asked_in q.wanted))) (c ≡ Pending RequestFamilies)
+    -- 4: they aren't exactly one of each family of some option
+    (Case (AsksAddresses q × ¬ (FitsOption q (asked_in q.wanted))) (c ≡ Pending RequestFamilies)
     -- 5: the pool asked for isn't configured
     (Case (AsksPool q × (named o.pools q.pool_asked ≡ None)) (c ≡ Pending PoolUnknown)
     -- 6: it doesn't serve the service

@@ -1,5 +1,5 @@
 -- Who has the addresses: by each address the numbers of the claims that have it.
-use Rattle.std.specs.Prelude.{◌≡◌, ◌≢◌, ◌≤◌, ℕ, Bool, true, List, [], Option, Some}
+use Rattle.std.specs.Prelude.{◌≡◌, ◌≢◌, ◌≤◌, ℕ, Bool, true, List, []}
 use Rattle.std.specs.List.{Contains}
 use Rattle.std.specs.Map.{lookup}
 use Rattle.std.specs.Option.{unwrap_or}
@@ -98,6 +98,6 @@ pub record HasRoomAt (h : AddressHoldersValue) (more : ℕ) (slot : Slot) (addre
 abbrev pub CanBeMixed : AddressHoldersValue → ℕ → List AddressValue → Type 0
 CanBeMixed h more addresses = (a : AddressValue) → Contains addresses a → more ≤ mixed_room h a.family
 
--- each of the addresses is known by the sharing key of the terms, where there are some with one
-abbrev pub AreKnown : AddressHoldersValue → Option Terms → List AddressValue → Type 0
-AreKnown h terms addresses = (t : Terms) → terms ≡ Some t → t.key ≢ [] → (a : AddressValue) → Contains addresses a → is_known h t.key a ≡ true
+-- each of the addresses is known by the sharing key of the terms, where they have one
+abbrev pub AreKnown : AddressHoldersValue → Terms → List AddressValue → Type 0
+AreKnown h terms addresses = terms.key ≢ [] → (a : AddressValue) → Contains addresses a → is_known h terms.key a ≡ true

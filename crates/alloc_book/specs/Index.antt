@@ -1,19 +1,16 @@
 -- The claims under their numbers, and by what each is found.
-use Rattle.std.specs.Prelude.{◌≡◌, ◌≢◌, ◌≤◌, ◌<◌, ℕ, Bool, true, false, ◌==◌, ◌&&◌, not, if◌then◌else◌, find, List, [], ◌∷◌, ◌++◌, map, filter, length, Option, Some, None}
+use Rattle.std.specs.Prelude.{◌≡◌, ◌≢◌, ◌≤◌, ◌<◌, ℕ, Bool, true, false, ◌==◌, ◌&&◌, not, if◌then◌else◌, find, List, [], ◌∷◌, ◌++◌, map, filter, Option, Some, None}
 use Rattle.std.specs.List.{Contains, list_any}
 use Rattle.std.specs.Map.{lookup, keys_of, values_of}
-use Rattle.std.specs.Option.{option_and_then}
+use Rattle.std.specs.Option.{option_and_then, option_map_or}
 use Rattle.std.specs.Str.{bytes_eq}
 use Rattle.ip_ranges.specs.declared.family.Family.{Family}
-use Rattle.ip_ranges.specs.declared.family.Family.TheVariants.{V4, V6}
 use Rattle.ip_ranges.specs.Values.{AddressValue, has_address, same_address, is_buggy}
 use Rattle.kube_model.specs.declared.key.Key.{Key}
 use Rattle.kube_model.specs.Keys.{key_cmp, same_key}
-use Rattle.kube_model.specs.Records.{is_assigned}
 use Rattle.mlb_base.specs.Items.{is_nil}
 use Rattle.numbered_items.specs.Index.{IndexValue, numbers_under}
 use Rattle.sharing_terms.specs.declared.terms.Terms.{Terms}
-use Rattle.sharing_terms.specs.Spelled.{recorded_terms}
 use Rattle.pool_config.specs.declared.compiled.CompiledPool.{CompiledPool}
 use Rattle.kube_model.specs.declared.port.Port.{Port}
 use Rattle.alloc_book.specs.declared.slot.Slot.{Slot}
@@ -47,9 +44,8 @@ numbers_at slot a [] = []
 numbers_at slot a (p ∷ items) = numbered_at slot a p ++ numbers_at slot a items
 
 -- the terms are those of this sharing key, which isn't empty
-abbrev pub is_marked : List ℕ → Option Terms → Bool
-is_marked key None = false
-is_marked key (Some terms) = bytes_eq terms.key key && not (is_nil key)
+abbrev pub is_marked : List ℕ → Terms → Bool
+is_marked key terms = bytes_eq terms.key key && not (is_nil key)
 
 -- a claim has the address
 abbrev pub is_held : List ClaimValue → AddressValue → Bool
@@ -59,9 +55,9 @@ is_held claims a = list_any (λ c. has_address c.holding.addresses a) claims
 abbrev pub is_own : Key → List ClaimValue → AddressValue → Bool
 is_own key claims a = list_any (λ c. same_key c.key key && has_address c.holding.addresses a) claims
 
--- a claim that is marked with this sharing key has the address
+-- a claim under this sharing key has the address
 abbrev pub is_shared : List ℕ → List ClaimValue → AddressValue → Bool
-is_shared key claims a = list_any (λ c. is_marked key (recorded_terms c.holding.mark) && has_address c.holding.addresses a) claims
+is_shared key claims a = list_any (λ c. is_marked key c.terms && has_address c.holding.addresses a) claims
 
 -- a claim that is listed in the slot has the address
 abbrev pub is_taken : Slot → List ClaimValue → AddressValue → Bool
@@ -71,7 +67,7 @@ is_taken slot claims a = list_any (λ c. occupies slot c && has_address c.holdin
 abbrev pub is_barred : List Port → List ClaimValue → AddressValue → Bool
 is_barred ports claims a = list_any (λ port. is_taken (OfPort port) claims a) ports
 
--- a claim that is marked with this sharing key has the address, and none of the key does
+-- a claim under this sharing key has the address, and none of the key does
 abbrev pub is_offered : Key → List ℕ → List ClaimValue → AddressValue → Bool
 is_offered key share claims a = is_shared share claims a && not (is_own key claims a)
 
@@ -95,7 +91,7 @@ HasIt items a p = Contains items p × Contains p.1.holding.addresses a
 -- the claims on an address that isn't mixed are alike; those on others may be too
 abbrev pub AreUniform : AddressHoldersValue → List (ℕ × ClaimValue) → Type 0
 AreUniform h items = (a : AddressValue) → is_mixed h a ≡ false → (p q : ℕ × ClaimValue) → HasIt items a p → HasIt items a q → p.0 ≢ q.0
-    → are_alike (recorded_terms p.1.holding.mark) (recorded_terms q.1.holding.mark) ≡ true
+    → are_alike p.1.terms q.1.terms ≡ true
 
 -- The claims have addresses, and these are what each is found by.
 pub record IsIndexed (items : List (ℕ × ClaimValue)) (by_key : IndexValue Key) (h : AddressHoldersValue) : Type 0 where
@@ -112,6 +108,11 @@ NoneShared family key claims low high = (n : ℕ) → low ≤ n → n < high →
 -- each address of the family with a number from low on, below high, has a claim with one of the ports
 abbrev pub AreBarred : List Port → List ClaimValue → Family → ℕ → ℕ → Type 0
 AreBarred ports claims family low high = (n : ℕ) → low ≤ n → n < high → is_barred ports claims (address_of family n) ≡ true
+
+-- the first claim of the numbers is alike with the terms, or there is no number
+abbrev pub is_like_first : Terms → List (ℕ × ClaimValue) → List ℕ → Bool
+is_like_first terms items [] = true
+is_like_first terms items (n ∷ numbers) = option_map_or (λ c. are_alike c.terms terms) (lookup (λ m. m == n) items) false
 
 -- An index of claims as the book sees it.
 pub record ClaimIndexValue : Type 0 where

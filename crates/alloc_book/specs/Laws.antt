@@ -7,13 +7,14 @@ use Rattle.kube_model.specs.declared.reason.Reason.{Reason}
 use Rattle.kube_model.specs.declared.record.Record.{Record}
 use Rattle.kube_model.specs.declared.service.Service.{Service}
 use Rattle.sharing_terms.specs.declared.terms.Terms.{Terms}
+use Rattle.sharing_terms.specs.Marked.{IsMarkOf}
 use Rattle.alloc_book.specs.declared.choice.Choice.{Choice}
 use Rattle.alloc_book.specs.declared.choice.Choice.TheVariants.{Pending}
 use Rattle.pool_config.specs.declared.compiled.CompiledPool.{CompiledPool}
-use Rattle.alloc_book.specs.Asking.{Holders, Offer, asker_of}
+use Rattle.alloc_book.specs.Asking.{Offer, asker_of}
 use Rattle.alloc_book.specs.Book.{AreAssigned, HasLost}
 use Rattle.alloc_book.specs.Chosen.{IsChosen}
-use Rattle.alloc_book.specs.Claims.{ClaimValue, claims_of, holders, others, settled, doubted, claimed_by, added}
+use Rattle.alloc_book.specs.Claims.{ClaimValue, claims_of, holders, others, settled, doubted, claim_of, added, terms_under, Holders}
 use Rattle.kube_model.specs.Keys.{same_key}
 use Rattle.alloc_book.specs.Granted.{IsGranted, IsFor, IsTighter, HaveMore}
 use Rattle.alloc_book.specs.Least.{IsLeast}
@@ -52,14 +53,21 @@ ChosenBySame =
 -- each key has, by the claims, what the changes of them say
 abbrev pub ClaimsAreKeyed : Type 0
 ClaimsAreKeyed =
-    (claims : List ClaimValue) (key other : Key) (r : Record)
-    → (claims_of other (settled key r claims) ≡ (if same_key key other then claimed_by r else claims_of other claims))
-    × (claims_of other (doubted key r claims) ≡ (if same_key key other then added r (claims_of other claims) else claims_of other claims))
+    (claims : List ClaimValue) (key other : Key) (r : Record) (t : Terms)
+    → (claims_of other (settled key r t claims) ≡ (if same_key key other then claim_of key r t else claims_of other claims))
+    × (claims_of other (doubted key r t claims) ≡ (if same_key key other then added key r t (claims_of other claims) else claims_of other claims))
     × (claims_of other (others key claims) ≡ (if same_key key other then [] else claims_of other claims))
 
 -- neither a doubt nor a settled record by which no claim is lost takes anything from anyone
 abbrev pub NothingIsTaken : Type 0
 NothingIsTaken =
-    (claims : List ClaimValue) (key any : Key) (r : Record) → AreAssigned claims
-    → HaveMore any (holders claims) (holders (doubted key r claims))
-    × (¬ (HasLost claims (settled key r claims)) → HaveMore any (holders claims) (holders (settled key r claims)))
+    (claims : List ClaimValue) (key any : Key) (r : Record) (t : Terms) → AreAssigned claims
+    → HaveMore any (holders claims) (holders (doubted key r t claims))
+    × (¬ (HasLost claims (settled key r t claims)) → HaveMore any (holders claims) (holders (settled key r t claims)))
+
+-- the terms of a record are those of its mark, and where it is the mark of none the adopted ones
+abbrev pub TermsAreRecorded : Type 0
+TermsAreRecorded =
+    (holding : Record) (adopted : Terms)
+    → ((t : Terms) → IsMarkOf t holding.mark → terms_under holding adopted ≡ t)
+    × (((t : Terms) → ¬ (IsMarkOf t holding.mark)) → terms_under holding adopted ≡ adopted)

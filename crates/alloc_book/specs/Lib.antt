@@ -2,6 +2,7 @@ pub mod Alike
 pub mod Asking
 pub mod Book
 pub mod Choose
+pub mod Choosing
 pub mod Chosen
 pub mod Claims
 pub mod First

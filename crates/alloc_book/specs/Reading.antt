@@ -4,23 +4,21 @@ use Rattle.ip_ranges.specs.Values.{AddressValue, has_address}
 use Rattle.kube_model.specs.declared.key.Key.{Key}
 use Rattle.kube_model.specs.declared.record.Record.{Record}
 use Rattle.kube_model.specs.Keys.{same_key}
-use Rattle.kube_model.specs.Records.{same_record}
+use Rattle.sharing_terms.specs.Sharing.{may_share}
 use Rattle.sharing_terms.specs.declared.terms.Terms.{Terms}
-use Rattle.sharing_terms.specs.Spelled.{recorded_terms}
 use Rattle.alloc_book.specs.declared.slot.Slot.{Slot}
 use Rattle.alloc_book.specs.Slots.{occupies}
-use Rattle.alloc_book.specs.Claims.{ClaimValue}
-use Rattle.alloc_book.specs.Search.{shares_by}
+use Rattle.alloc_book.specs.Claims.{ClaimValue, is_under}
 
--- there is a claim, and it has this record
-abbrev pub has_record : Record → Option ClaimValue → Bool
-has_record holding None = false
-has_record holding (Some c) = same_record c.holding holding
+-- there is a claim, and it is this record under these terms
+abbrev pub is_claim_under : Record → Terms → Option ClaimValue → Bool
+is_claim_under holding terms None = false
+is_claim_under holding terms (Some c) = is_under holding terms c
 
 -- the claim, if there is one, leaves its addresses to a service of this key and these terms
 abbrev pub gives_way : Key → Terms → Option ClaimValue → Bool
 gives_way key terms None = true
-gives_way key terms (Some c) = same_key c.key key || shares_by terms (recorded_terms c.holding.mark)
+gives_way key terms (Some c) = same_key c.key key || may_share terms c.terms
 
 -- the claim, if there is one, is of the key
 abbrev pub is_of : Key → Option ClaimValue → Bool

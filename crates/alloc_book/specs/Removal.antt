@@ -1,11 +1,10 @@
 -- What is left of a claim in the index once it was removed.
 use Rattle.std.specs.Prelude.{ℕ, Bool, false, ◌==◌, not, List, filter, Option, Some, None, if◌then◌else◌}
 use Rattle.std.specs.Map.{lookup}
-use Rattle.std.specs.Option.{option_and_then}
+use Rattle.std.specs.Option.{option_map}
 use Rattle.std.specs.Str.{bytes_eq}
 use Rattle.ip_ranges.specs.Values.{AddressValue, has_address}
 use Rattle.sharing_terms.specs.declared.terms.Terms.{Terms}
-use Rattle.sharing_terms.specs.Spelled.{recorded_terms}
 use Rattle.alloc_book.specs.Claims.{ClaimValue}
 
 -- the terms are those of this sharing key
@@ -15,7 +14,7 @@ has_sharing_key key (Some terms) = bytes_eq terms.key key
 
 -- the claim of that number has terms of this sharing key
 abbrev pub is_marked_at : List ℕ → List (ℕ × ClaimValue) → ℕ → Bool
-is_marked_at key items n = has_sharing_key key (option_and_then (λ c. recorded_terms c.holding.mark) (lookup (λ m. m == n) items))
+is_marked_at key items n = has_sharing_key key (option_map (λ c. c.terms) (lookup (λ m. m == n) items))
 
 -- the other numbers
 abbrev pub all_but : ℕ → List ℕ → List ℕ

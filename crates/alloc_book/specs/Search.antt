@@ -1,5 +1,5 @@
 -- Usable addresses as tests over a list of claims, and the least of them by a search.
-use Rattle.std.specs.Prelude.{ℕ, ◌+◌, ◌-◌, suc, zero, Bool, false, ◌&&◌, ◌||◌, not, if◌then◌else◌, List, [], ◌∷◌, Option, Some, None}
+use Rattle.std.specs.Prelude.{ℕ, ◌+◌, ◌-◌, suc, zero, Bool, ◌&&◌, ◌||◌, not, if◌then◌else◌, List, [], ◌∷◌, Option, Some, None}
 use Rattle.std.specs.Option.{option_map}
 use Rattle.std.specs.List.{list_all}
 use Rattle.ip_ranges.specs.declared.family.Family.{Family}
@@ -7,7 +7,6 @@ use Rattle.ip_ranges.specs.Values.{AddressValue, SpanValue, same_family, has_add
 use Rattle.kube_model.specs.declared.key.Key.{Key}
 use Rattle.kube_model.specs.declared.record.Record.{Record}
 use Rattle.sharing_terms.specs.declared.terms.Terms.{Terms}
-use Rattle.sharing_terms.specs.Spelled.{recorded_terms}
 use Rattle.sharing_terms.specs.Sharing.{may_share}
 use Rattle.pool_config.specs.declared.compiled.CompiledPool.{CompiledPool}
 use Rattle.alloc_book.specs.Asking.{Asker}
@@ -16,14 +15,9 @@ use Rattle.alloc_book.specs.First.{record_in}
 use Rattle.kube_model.specs.Keys.{same_key}
 use Rattle.alloc_book.specs.Usable.{is_in}
 
--- the terms may share with those, if there are some
-abbrev pub shares_by : Terms → Option Terms → Bool
-shares_by terms None = false
-shares_by terms (Some held) = may_share terms held
-
 -- the claim leaves the address to a service of this key and these terms
 abbrev pub leaves : Key → Terms → AddressValue → ClaimValue → Bool
-leaves key terms a c = same_key c.key key || not (has_address c.holding.addresses a) || shares_by terms (recorded_terms c.holding.mark)
+leaves key terms a c = same_key c.key key || not (has_address c.holding.addresses a) || may_share terms c.terms
 
 abbrev pub usable : List ClaimValue → Key → Terms → CompiledPool → AddressValue → Bool
 usable claims key terms pool a = is_in pool a && not (pool.avoid_buggy && is_buggy a) && list_all (leaves key terms a) claims
@@ -71,8 +65,16 @@ least_each claims key terms pool [] = Some []
 least_each claims key terms pool (family ∷ families) =
     both (least_usable claims key terms pool family) (least_each claims key terms pool families)
 
--- the least usable addresses of the first pool that has one of each family
-abbrev pub first_pool : List ClaimValue → Asker → List CompiledPool → Option Record
-first_pool claims q [] = None
-first_pool claims q (pool ∷ pools) =
-    or_else (option_map (record_in pool q) (least_each claims q.key q.terms pool q.families)) (first_pool claims q pools)
+-- the least usable addresses of the first pool that has one of each of the families
+abbrev pub first_pool : List ClaimValue → Asker → List Family → List CompiledPool → Option Record
+first_pool claims q families [] = None
+first_pool claims q families (pool ∷ pools) =
+    or_else (option_map (record_in pool q) (least_each claims q.key q.terms pool families)) (first_pool claims q families pools)
+
+-- the same for the first of the lists of families for which some pool has one of each
+abbrev pub first_of : List ClaimValue → Asker → List CompiledPool → List (List Family) → Option Record
+first_of claims q pools [] = None
+first_of claims q pools (families ∷ options) = or_else (first_pool claims q families pools) (first_of claims q pools options)
+
+abbrev pub first_option : List ClaimValue → Asker → List CompiledPool → Option Record
+first_option claims q pools = first_of claims q pools q.options

@@ -1,9 +1,7 @@
 -- In what claims are listed at an address.
-use Rattle.std.specs.Prelude.{Bool, true, false, List, [], Option, Some, None}
+use Rattle.std.specs.Prelude.{Bool, true, false, List}
 use Rattle.kube_model.specs.declared.port.Port.{Port}
-use Rattle.sharing_terms.specs.declared.terms.Terms.{Terms}
 use Rattle.sharing_terms.specs.Sharing.{has_port, same_port}
-use Rattle.sharing_terms.specs.Spelled.{recorded_terms}
 use Rattle.alloc_book.specs.declared.slot.Slot.{Slot}
 use Rattle.alloc_book.specs.declared.slot.Slot.TheVariants.{Any, OfPort}
 use Rattle.alloc_book.specs.Claims.{ClaimValue}
@@ -15,14 +13,9 @@ same_slot Any (OfPort other) = false
 same_slot (OfPort port) Any = false
 same_slot (OfPort port) (OfPort other) = same_port port other
 
--- the ports of the terms, where there are some
-abbrev pub ports_by : Option Terms → List Port
-ports_by None = []
-ports_by (Some terms) = terms.ports
-
--- the ports of the terms of the claim's mark; none where it is the mark of no terms
+-- the ports of the claim's terms
 abbrev pub ports_of : ClaimValue → List Port
-ports_of c = ports_by (recorded_terms c.holding.mark)
+ports_of c = c.terms.ports
 
 -- the slot is that of all claims, or that of one of the ports
 abbrev pub is_slot_of : List Port → Slot → Bool

@@ -4,20 +4,15 @@ use Rattle.std.specs.List.{Contains, list_any}
 use Rattle.ip_ranges.specs.declared.family.Family.{Family}
 use Rattle.ip_ranges.specs.Values.{AddressValue, holds, is_buggy}
 use Rattle.kube_model.specs.declared.key.Key.{Key}
-use Rattle.kube_model.specs.declared.record.Record.{Record}
 use Rattle.sharing_terms.specs.declared.terms.Terms.{Terms}
-use Rattle.sharing_terms.specs.Marked.{IsMarkOf}
 use Rattle.sharing_terms.specs.Sharing.{MayShare}
 use Rattle.pool_config.specs.declared.compiled.CompiledPool.{CompiledPool}
-use Rattle.alloc_book.specs.Asking.{Holders}
+use Rattle.alloc_book.specs.Claims.{ClaimValue, Holders}
 
--- the record is marked, and the terms may share with those of its mark
-abbrev pub IsShared : Terms → Record → Type 0
-IsShared terms r = (held : Terms) × IsMarkOf held r.mark × MayShare terms held
-
--- whoever else has the address shares it
+-- whoever else has the address has it under terms that may share it
 abbrev pub IsLeftTo : Holders → Key → Terms → AddressValue → Type 0
-IsLeftTo has key terms a = (other : Key) → other ≢ key → (r : Record) → Contains (has other) r → Contains r.addresses a → IsShared terms r
+IsLeftTo has key terms a =
+    (other : Key) → other ≢ key → (c : ClaimValue) → Contains (has other) c → Contains c.holding.addresses a → MayShare terms c.terms
 
 -- one of the pool's entries has the address
 abbrev pub is_in : CompiledPool → AddressValue → Bool

@@ -1,23 +1,19 @@
-//! Terms that may share an address where they have no port in common.
+//! Terms that are one, and terms that may share an address where they have no port in common.
 ghost use Rattle.std.specs.Prelude.{◌≡◌, false};
 ghost use Rattle.std.specs.List.Sorted.{IsStrictlySortedBy};
 ghost use Rattle.std.specs.Map.{keys_of};
-ghost use Rattle.std.specs.Option.{option_copied};
 ghost use Rattle.std.specs.Ordering.{nat_cmp};
 ghost use Rattle.mlb_base.specs.Items.{is_nil};
-ghost use Rattle.alloc_book.specs.Alike.{are_alike, is_like_first};
+ghost use Rattle.alloc_book.specs.Alike.{are_alike, same_terms};
+ghost use Rattle.alloc_book.specs.Index.{is_like_first};
 
 use crate::claims::Claim;
 use numbered_items::NumberedList;
 use sharing_terms::{Terms, is_alike};
 
 /// Whether the first claim of the numbers is alike with the terms; where there is no number, it is.
-pub(crate) fn is_like_first(
-    claims: &NumberedList<Claim>,
-    numbers: &[u64],
-    terms: Option<&Terms>,
-) -> bool
-    ensures value { result ≡ is_like_first (option_copied terms.entry) claims.now.items numbers.now }
+pub(crate) fn is_like_first(claims: &NumberedList<Claim>, numbers: &[u64], terms: &Terms) -> bool
+    ensures value { result ≡ is_like_first terms.now claims.now.items numbers.now }
     ensures ascending { is_nil numbers.now ≡ false → IsStrictlySortedBy nat_cmp (keys_of claims.now.items) }
 {
     let Some(number) = numbers.first() else {
@@ -29,16 +25,18 @@ pub(crate) fn is_like_first(
     }
 }
 
-/// Whether there are terms on both sides, of one sharing key, which isn't empty, and of backends that are alike.
-fn are_alike(terms: Option<&Terms>, held: Option<&Terms>) -> bool
-    ensures { result ≡ are_alike (option_copied terms.entry) (option_copied held.entry) }
+/// Whether the terms are of one sharing key, which isn't empty, and of backends that are alike.
+fn are_alike(terms: &Terms, held: &Terms) -> bool
+    ensures { result ≡ are_alike terms.now held.now }
 {
-    match (terms, held) {
-        (Some(terms), Some(held)) => {
-            terms.key == held.key
-                && !terms.key.as_str().is_empty()
-                && is_alike(&terms.backend, &held.backend)
-        }
-        _ => false,
-    }
+    terms.key == held.key
+        && !terms.key.as_str().is_empty()
+        && is_alike(&terms.backend, &held.backend)
+}
+
+/// Whether the terms are one.
+pub(crate) fn same_terms(a: &Terms, b: &Terms) -> bool
+    ensures { result ≡ same_terms a.now b.now }
+{
+    a.key == b.key && a.ports.as_slice() == b.ports.as_slice() && is_alike(&a.backend, &b.backend)
 }

@@ -9,13 +9,14 @@ ghost use Rattle.kube_model.specs.Keys.{same_key};
 ghost use Rattle.ip_ranges.specs.Values.{AddressValue};
 ghost use Rattle.kube_model.specs.declared.record.Record.{Record};
 ghost use Rattle.sharing_terms.specs.Marked.{AreTerms, IsMarkOf};
+ghost use Rattle.sharing_terms.specs.Spelled.{recorded_terms};
 ghost use Rattle.sharing_terms.specs.Terms.{terms_of};
 ghost use Rattle.alloc_book.specs.declared.choice.Choice.{Choice};
 ghost use Rattle.alloc_book.specs.Asking.{offer_of};
 ghost use Rattle.alloc_book.specs.Book.{AreAssigned, HasLost, HasRoom, loss_of};
 ghost use Rattle.alloc_book.specs.Choose.{choose};
 ghost use Rattle.alloc_book.specs.Chosen.{IsChosen};
-ghost use Rattle.alloc_book.specs.Claims.{ClaimValue, others, settled, doubted, loses, has_claims, holders};
+ghost use Rattle.alloc_book.specs.Claims.{ClaimValue, others, settled, doubted, doubted_by, loses, has_claims, holders, terms_under};
 ghost use Rattle.alloc_book.specs.Granted.{IsFor};
 ghost use Rattle.alloc_book.specs.Least.{IsLeast};
 ghost use Rattle.alloc_book.specs.Usable.{IsUsable, IsUsableOf};
@@ -143,11 +144,11 @@ impl Book {
 
     fn put(&mut self, claim: Claim) -> Loss
         requires { HasRoom self.old claim }
-        ensures claims { self.new.claims ≡ settled claim.key claim.holding self.old.claims }
-        ensures loss { result ≡ loss_of (loses claim.key claim.holding self.old.claims) }
+        ensures claims { self.new.claims ≡ settled claim.key claim.holding claim.terms self.old.claims }
+        ensures loss { result ≡ loss_of (loses claim.key claim.holding claim.terms self.old.claims) }
         ensures assigned { AreAssigned self.old.claims }
     {
-        let is_lost = self.index.loses(claim.key(), claim.holding());
+        let is_lost = self.index.loses(&claim);
         if claim.holding().is_assigned() {
             let number = self.index.add(claim);
             remove_others(&mut self.index, number);
@@ -158,24 +159,25 @@ impl Book {
         loss_of(is_lost)
     }
 
-    /// The key's claims become this one, or none where its record has no address. There is room for it, so it takes no memory.
-    /// `Lost` is answered exactly where a claim that stood isn't there any more.
+    /// The claim's key has this claim and no other, or none where its record has no address. There is room for it, so it takes no
+    /// memory. `Lost` is answered exactly where a claim that stood, its terms included, isn't there any more.
     pub fn settle_prepared(&mut self, claim: Claim) -> Loss
         requires { HasRoom self.old claim }
-        ensures claims { self.new.claims ≡ settled claim.key claim.holding self.old.claims }
+        ensures claims { self.new.claims ≡ settled claim.key claim.holding claim.terms self.old.claims }
         ensures loss { (result ≡ Loss.Lost) ↔ HasLost self.old.claims self.new.claims }
     {
         self.put(claim)
     }
 
-    /// The key's claims become this record, or none where it has no address. `Lost` is answered exactly where a claim that stood
-    /// isn't there any more. Where there is no memory all claims stay.
-    pub fn settle(&mut self, key: &Key, holding: &Record) -> Result<Loss, NoMemory>
-        ensures ok { OnOk result (self.new.claims ≡ settled key.now holding.now self.old.claims) }
+    /// The key's claims become the one of this record, under the terms of its mark or, where it is the mark of none, the adopted ones;
+    /// none where it has no address. `Lost` is answered exactly where a claim that stood, its terms included, isn't there any more. Where
+    /// there is no memory all claims stay.
+    pub fn settle(&mut self, key: &Key, holding: &Record, adopted: &Terms) -> Result<Loss, NoMemory>
+        ensures ok { OnOk result (self.new.claims ≡ settled key.now holding.now (terms_under holding.now adopted.now) self.old.claims) }
         ensures loss { IfOk result (λ loss. (loss ≡ Loss.Lost) ↔ HasLost self.old.claims self.new.claims) }
         ensures err { OnErr result (self.new.claims ≡ self.old.claims) }
     {
-        let claim = Claim::of(self.alloc, key, holding)?;
+        let claim = Claim::adopting(self.alloc, key, holding, adopted)?;
         let Ok(()) = self.reserve(&claim) else {
             drop(claim);
             return Err(NoMemory);
@@ -183,13 +185,13 @@ impl Book {
         Ok(self.settle_prepared(claim))
     }
 
-    /// The claim's key may have its record too, unless that stands already or has no address. There is room for it, so it takes
+    /// The claim's key has this claim too, unless it stands already or its record has no address. There is room for it, so it takes
     /// no memory.
     pub fn doubt_prepared(&mut self, claim: Claim)
         requires { HasRoom self.old claim }
-        ensures { self.new.claims ≡ doubted claim.key claim.holding self.old.claims }
+        ensures { self.new.claims ≡ doubted claim.key claim.holding claim.terms self.old.claims }
     {
-        let stands = self.index.claims_it(claim.key(), claim.holding());
+        let stands = self.index.claims_it(&claim);
         if !stands && claim.holding().is_assigned() {
             let _number = self.index.add(claim);
         } else {
@@ -197,18 +199,28 @@ impl Book {
         }
     }
 
-    /// The key may have this record too, unless that stands already or has no address. Where there is no memory all claims stay.
-    pub fn doubt(&mut self, key: &Key, holding: &Record) -> Result<(), NoMemory>
-        ensures ok { OnOk result (self.new.claims ≡ doubted key.now holding.now self.old.claims) }
+    fn doubt_claim(&mut self, claim: Claim) -> Result<(), NoMemory>
+        ensures ok { OnOk result (self.new.claims ≡ doubted claim.key claim.holding claim.terms self.old.claims) }
         ensures err { OnErr result (self.new.claims ≡ self.old.claims) }
     {
-        let claim = Claim::of(self.alloc, key, holding)?;
         let Ok(()) = self.reserve(&claim) else {
             drop(claim);
             return Err(NoMemory);
         };
         self.doubt_prepared(claim);
         Ok(())
+    }
+
+    /// The key may have this record too, under the terms of its mark, unless that claim stands already or the record has no address. A
+    /// record that is the mark of no terms adds nothing. Where there is no memory all claims stay.
+    pub fn doubt(&mut self, key: &Key, holding: &Record) -> Result<(), NoMemory>
+        ensures ok { OnOk result (self.new.claims ≡ doubted_by key.now holding.now (recorded_terms holding.now.mark) self.old.claims) }
+        ensures err { OnErr result (self.new.claims ≡ self.old.claims) }
+    {
+        match Claim::marked(self.alloc, key, holding)? {
+            Some(claim) => self.doubt_claim(claim),
+            None => Ok(()),
+        }
     }
 
     fn remove(&mut self, key: &Key) -> Loss
@@ -242,13 +254,12 @@ impl Book {
         first_unlisted(&self.index, listing, 0).is_some()
     }
 
-    /// Whether the key has a claim that settling this record gives up: one with another record.
-    pub fn loses(&self, key: &Key, holding: &Record) -> bool
-        ensures value { result ≡ loses key.now holding.now self.now.claims }
-        ensures meaning { IsTrue result
-            ↔ HasLost self.now.claims (settled key.now holding.now self.now.claims) }
+    /// Whether the claim's key has a claim that settling this one gives up: another one.
+    pub fn loses(&self, claim: &Claim) -> bool
+        ensures value { result ≡ loses claim.now.key claim.now.holding claim.now.terms self.now.claims }
+        ensures meaning { IsTrue result ↔ HasLost self.now.claims (settled claim.now.key claim.now.holding claim.now.terms self.now.claims) }
     {
-        self.index.loses(key, holding)
+        self.index.loses(claim)
     }
 
     /// Whether the key has a claim.
@@ -266,7 +277,7 @@ impl Book {
     }
 
     /// Whether a service of this key and these terms may use the address of the pool: it lies in the pool, isn't one that the
-    /// pool avoids, and each claim of another key that has it is marked with terms that may share. It takes no memory.
+    /// pool avoids, and each claim of another key that has it may share by the claim's own terms. It takes no memory.
     pub fn usable(&self, pool: &CompiledPool, key: &Key, terms: &Terms, address: &Address) -> bool
         ensures { IsTrue result ↔ IsUsable (holders self.now.claims) key.now terms.now pool.now address.now }
     {

@@ -1,22 +1,20 @@
 //! What is chosen for a service: the first case of the table that holds.
-ghost use Rattle.std.specs.Prelude.{◌≡◌, [], IfOk, OnOk, map, filter_map, slice_get};
-ghost use Rattle.std.specs.Option.{option_copied, option_to_list};
-ghost use Rattle.kube_model.specs.declared.reason.Reason.TheVariants.{PoolExhausted};
+ghost use Rattle.std.specs.Prelude.{◌≡◌, IfOk, OnOk, map, filter_map, slice_get};
+ghost use Rattle.std.specs.Option.{option_copied};
 ghost use Rattle.sharing_terms.specs.Marked.{AreTerms};
 ghost use Rattle.sharing_terms.specs.Terms.{terms_of};
 ghost use Rattle.pool_choice.specs.Eligible.{eligible};
-ghost use Rattle.alloc_book.specs.Asking.{asking, offering, offer_of};
-ghost use Rattle.alloc_book.specs.Choose.{new_or, is_unusable, is_refused, asked_from, kept_from, unasked, anew, granted, choose_for, choose};
-ghost use Rattle.alloc_book.specs.Chosen.{named};
-ghost use Rattle.alloc_book.specs.Search.{first_pool};
+ghost use Rattle.alloc_book.specs.Asking.{offer_of};
+ghost use Rattle.alloc_book.specs.Choose.{new_or, is_unusable, is_refused, asked_from, kept_from, from_asked, from_eligible, unasked, anew, granted, pooled, fitting, choose_for, choose};
+ghost use Rattle.alloc_book.specs.Choosing.{claims_in, offer_for, asker_in};
 
 use crate::booking::Book;
 use crate::choice::Choice;
 use crate::marked::MarkedTerms;
 use crate::requests::{
-    all_usable, asked_in, home_of, is_asked, is_given, is_unreadable, kept_in, named, one_of_each,
+    all_usable, asked_in, fits_option, home_of, is_asked, is_given, is_unreadable, kept_in, named,
 };
-use crate::search::{first_pool, record_in};
+use crate::search::{first_option, record_in};
 use ip_ranges::AddressList;
 use kube_labels::{Labels, Text};
 use kube_model::{Reason, Record, Service};
@@ -34,200 +32,204 @@ fn new_or(reason: Reason, found: Option<Record>) -> Choice
     }
 }
 
-/// A new record from the pool that is asked for.
-fn from_asked(
+/// A service for which addresses are chosen, by whose claims, from which pools, under which terms, and by which labels of its namespace.
+#[derive(Drop)]
+struct Choosing<'a> {
     alloc: Global,
-    book: &Book,
-    pools: &[CompiledPool],
-    service: &Service,
-    terms: &MarkedTerms,
-) -> Result<Choice, NoMemory>
-    ensures { IfOk result (λ c. c ≡ new_or PoolExhausted (first_pool book.now.claims (asking service.now terms.now) (option_to_list (named pools.now service.now.pool_asked)))) }
-{
-    let reason = Reason::PoolExhausted;
-    match named(pools, &service.pool_asked) {
-        None => Ok(Choice::Pending { reason }),
-        Some(pool) => {
-            let found = first_pool(alloc, book, &[pool], service, terms)?;
-            Ok(new_or(reason, found))
+    book: &'a Book,
+    config: &'a Config,
+    service: &'a Service,
+    terms: &'a MarkedTerms,
+    namespace: &'a Labels,
+}
+
+impl<'a> Choosing<'a> {
+    fn pools(&self) -> &'a [CompiledPool]
+        ensures { result.now ≡ self.now.config.now.pools }
+    {
+        let config = self.config;
+        config.pools.as_slice()
+    }
+
+    /// A new record from the pool that is asked for.
+    fn from_asked(&self) -> Result<Choice, NoMemory>
+        ensures { IfOk result (λ c. c ≡ from_asked (claims_in self.now) (offer_for self.now) (asker_in self.now)) }
+    {
+        let reason = Reason::PoolExhausted;
+        match named(self.pools(), &self.service.pool_asked) {
+            None => Ok(Choice::Pending { reason }),
+            Some(pool) => {
+                let found = first_option(self.alloc, self.book, &[pool], self.service, self.terms)?;
+                Ok(new_or(reason, found))
+            }
         }
     }
-}
 
-/// Cases 11 to 13: no addresses are asked for.
-fn unasked(
-    alloc: Global,
-    book: &Book,
-    pools: &[CompiledPool],
-    eligible: &[&CompiledPool],
-    service: &Service,
-    terms: &MarkedTerms,
-    namespace: &Labels,
-) -> Result<Choice, NoMemory>
-    ensures { IfOk result (λ c. c ≡ unasked book.now.claims (offering pools.now (map (λ p. p.now) eligible.now) service.now namespace.now) (asking service.now terms.now)) }
-{
-    if is_given(&service.pool_asked) {
-        return from_asked(alloc, book, pools, service, terms);
-    }
-    if eligible.is_empty() {
-        return Ok(Choice::Pending {
-            reason: Reason::NoPool,
-        });
-    }
-    let found = first_pool(alloc, book, eligible, service, terms)?;
-    Ok(new_or(Reason::Exhausted, found))
-}
-
-/// Whether there is such a pool, from which not all the addresses asked for may be used.
-fn is_unusable(
-    book: &Book,
-    service: &Service,
-    terms: &MarkedTerms,
-    home: Option<&CompiledPool>,
-) -> bool
-    ensures { result ≡ is_unusable book.now.claims (asking service.now terms.now) (option_copied home.entry) }
-{
-    match home {
-        None => false,
-        Some(pool) => !all_usable(book, service, terms, pool, asked_in(&service.wanted)),
-    }
-}
-
-/// The addresses asked for, as addresses of the pool.
-fn asked_from(
-    alloc: Global,
-    service: &Service,
-    terms: &MarkedTerms,
-    home: Option<&CompiledPool>,
-) -> Result<Choice, NoMemory>
-    ensures { IfOk result (λ c. c ≡ asked_from (asking service.now terms.now) (option_copied home.entry)) }
-{
-    let Some(pool) = home else {
-        return Ok(Choice::Clear);
-    };
-    let addresses = AddressList::from_slice(alloc, asked_in(&service.wanted))?;
-    Ok(Choice::New {
-        holding: record_in(pool, terms, addresses)?,
-    })
-}
-
-/// The recorded addresses, as addresses of the pool.
-fn kept_from(
-    service: &Service,
-    terms: &MarkedTerms,
-    kept: Option<&CompiledPool>,
-) -> Result<Choice, NoMemory>
-    ensures { IfOk result (λ c. c ≡ kept_from (asking service.now terms.now) (option_copied kept.entry)) }
-{
-    let Some(pool) = kept else {
-        return Ok(Choice::Clear);
-    };
-    let addresses = service.holding.addresses.copy()?;
-    Ok(Choice::Keep {
-        holding: record_in(pool, terms, addresses)?,
-    })
-}
-
-/// Cases 8 to 13: the recorded addresses may not stay.
-fn anew(
-    alloc: Global,
-    book: &Book,
-    pools: &[CompiledPool],
-    eligible: &[&CompiledPool],
-    service: &Service,
-    terms: &MarkedTerms,
-    namespace: &Labels,
-) -> Result<Choice, NoMemory>
-    ensures { IfOk result (λ c. c ≡ anew book.now.claims (offering pools.now (map (λ p. p.now) eligible.now) service.now namespace.now) (asking service.now terms.now)) }
-{
-    if !is_asked(&service.wanted) {
-        return unasked(alloc, book, pools, eligible, service, terms, namespace);
-    }
-    let home = home_of(pools, service, terms, namespace);
-    if home.is_none() {
-        return Ok(Choice::Pending {
-            reason: Reason::AddressOutside,
-        });
-    }
-    if is_unusable(book, service, terms, home) {
-        return Ok(Choice::Pending {
-            reason: Reason::AddressUnusable,
-        });
-    }
-    asked_from(alloc, service, terms, home)
-}
-
-/// Cases 7 to 13: what is asked for can be read, and the pool asked for may be used.
-fn granted(
-    alloc: Global,
-    book: &Book,
-    pools: &[CompiledPool],
-    eligible: &[&CompiledPool],
-    service: &Service,
-    terms: &MarkedTerms,
-    namespace: &Labels,
-) -> Result<Choice, NoMemory>
-    ensures { IfOk result (λ c. c ≡ granted book.now.claims (offering pools.now (map (λ p. p.now) eligible.now) service.now namespace.now) (asking service.now terms.now)) }
-{
-    let kept = kept_in(book, pools, service, terms, namespace);
-    if kept.is_some() {
-        return kept_from(service, terms, kept);
-    }
-    anew(alloc, book, pools, eligible, service, terms, namespace)
-}
-
-fn is_refused(service: &Service, namespace: &Labels, asked: Option<&CompiledPool>) -> bool
-    ensures { result ≡ is_refused (offering [] [] service.now namespace.now) (option_copied asked.entry) }
-{
-    match asked {
-        None => false,
-        Some(pool) => !serves(pool, service, namespace),
-    }
-}
-
-/// The whole table, for a service of these terms.
-fn choose_for(
-    alloc: Global,
-    book: &Book,
-    pools: &[CompiledPool],
-    eligible: &[&CompiledPool],
-    class: Option<&Text>,
-    service: &Service,
-    terms: &MarkedTerms,
-    namespace: &Labels,
-) -> Result<Choice, NoMemory>
-    ensures { IfOk result (λ c. c ≡ choose_for book.now.claims (offering pools.now (map (λ p. p.now) eligible.now) service.now namespace.now) (option_copied class.entry) service.now (asking service.now terms.now)) }
-{
-    if service.balancer && !service.is_handled(class) {
-        return Ok(Choice::Foreign);
-    }
-    if !service.balancer {
-        return Ok(Choice::Clear);
-    }
-    if is_unreadable(&service.wanted) {
-        return Ok(Choice::Pending {
-            reason: Reason::RequestUnreadable,
-        });
-    }
-    if is_asked(&service.wanted)
-        && !one_of_each(service.families.as_slice(), asked_in(&service.wanted))
+    /// A new record from the first eligible pool that can give one.
+    fn from_eligible(&self) -> Result<Choice, NoMemory>
+        ensures { IfOk result (λ c. c ≡ from_eligible (claims_in self.now) (offer_for self.now) (asker_in self.now)) }
     {
-        return Ok(Choice::Pending {
-            reason: Reason::RequestFamilies,
-        });
+        let pools = eligible_pools(self.alloc, self.config, self.service, self.namespace)?;
+        if pools.is_empty() {
+            return Ok(Choice::Pending {
+                reason: Reason::NoPool,
+            });
+        }
+        let found = first_option(
+            self.alloc,
+            self.book,
+            pools.as_slice(),
+            self.service,
+            self.terms,
+        );
+        drop(pools);
+        Ok(new_or(Reason::Exhausted, found?))
     }
-    let asked = named(pools, &service.pool_asked);
-    if is_given(&service.pool_asked) && asked.is_none() {
-        return Ok(Choice::Pending {
-            reason: Reason::PoolUnknown,
-        });
+
+    /// Cases 11 to 13: no addresses are asked for.
+    fn unasked(&self) -> Result<Choice, NoMemory>
+        ensures { IfOk result (λ c. c ≡ unasked (claims_in self.now) (offer_for self.now) (asker_in self.now)) }
+    {
+        if is_given(&self.service.pool_asked) {
+            self.from_asked()
+        } else {
+            self.from_eligible()
+        }
     }
-    if is_given(&service.pool_asked) && is_refused(service, namespace, asked) {
-        return Ok(Choice::Pending {
-            reason: Reason::PoolRefused,
-        });
+
+    /// Whether there is such a pool, from which not all the addresses asked for may be used.
+    fn is_unusable(&self, home: Option<&CompiledPool>) -> bool
+        ensures { result ≡ is_unusable (claims_in self.now) (asker_in self.now) (option_copied home.entry) }
+    {
+        let Some(pool) = home else {
+            return false;
+        };
+        let asked = asked_in(&self.service.wanted);
+        !all_usable(self.book, self.service, self.terms, pool, asked)
     }
-    granted(alloc, book, pools, eligible, service, terms, namespace)
+
+    /// The addresses asked for, as addresses of the pool.
+    fn asked_from(&self, home: Option<&CompiledPool>) -> Result<Choice, NoMemory>
+        ensures { IfOk result (λ c. c ≡ asked_from (asker_in self.now) (option_copied home.entry)) }
+    {
+        let Some(pool) = home else {
+            return Ok(Choice::Clear);
+        };
+        let addresses = AddressList::from_slice(self.alloc, asked_in(&self.service.wanted))?;
+        Ok(Choice::New {
+            holding: record_in(pool, self.terms, addresses)?,
+        })
+    }
+
+    /// The recorded addresses, as addresses of the pool.
+    fn kept_from(&self, kept: Option<&CompiledPool>) -> Result<Choice, NoMemory>
+        ensures { IfOk result (λ c. c ≡ kept_from (asker_in self.now) (option_copied kept.entry)) }
+    {
+        let Some(pool) = kept else {
+            return Ok(Choice::Clear);
+        };
+        let addresses = self.service.holding.addresses.copy()?;
+        Ok(Choice::Keep {
+            holding: record_in(pool, self.terms, addresses)?,
+        })
+    }
+
+    /// Cases 8 to 13: the recorded addresses may not stay.
+    fn anew(&self) -> Result<Choice, NoMemory>
+        ensures { IfOk result (λ c. c ≡ anew (claims_in self.now) (offer_for self.now) (asker_in self.now)) }
+    {
+        if !is_asked(&self.service.wanted) {
+            return self.unasked();
+        }
+        let home = home_of(self.pools(), self.service, self.terms, self.namespace);
+        if home.is_none() {
+            return Ok(Choice::Pending {
+                reason: Reason::AddressOutside,
+            });
+        }
+        if self.is_unusable(home) {
+            return Ok(Choice::Pending {
+                reason: Reason::AddressUnusable,
+            });
+        }
+        self.asked_from(home)
+    }
+
+    /// Cases 7 to 13: what is asked for can be read, and the pool asked for may be used.
+    fn granted(&self) -> Result<Choice, NoMemory>
+        ensures { IfOk result (λ c. c ≡ granted (claims_in self.now) (offer_for self.now) (asker_in self.now)) }
+    {
+        let kept = kept_in(
+            self.book,
+            self.pools(),
+            self.service,
+            self.terms,
+            self.namespace,
+        );
+        if kept.is_some() {
+            return self.kept_from(kept);
+        }
+        self.anew()
+    }
+
+    /// Whether there is such a pool, and it doesn't serve the service.
+    fn is_refused(&self, asked: Option<&CompiledPool>) -> bool
+        ensures { result ≡ is_refused (offer_for self.now) (option_copied asked.entry) }
+    {
+        match asked {
+            None => false,
+            Some(pool) => !serves(pool, self.service, self.namespace),
+        }
+    }
+
+    /// Cases 5 to 13: what is asked for is one address of each family of some option.
+    fn pooled(&self) -> Result<Choice, NoMemory>
+        ensures { IfOk result (λ c. c ≡ pooled (claims_in self.now) (offer_for self.now) (asker_in self.now)) }
+    {
+        let asked = named(self.pools(), &self.service.pool_asked);
+        if is_given(&self.service.pool_asked) && asked.is_none() {
+            return Ok(Choice::Pending {
+                reason: Reason::PoolUnknown,
+            });
+        }
+        if is_given(&self.service.pool_asked) && self.is_refused(asked) {
+            return Ok(Choice::Pending {
+                reason: Reason::PoolRefused,
+            });
+        }
+        self.granted()
+    }
+
+    /// Cases 4 to 13: what is asked for can be read.
+    fn fitting(&self) -> Result<Choice, NoMemory>
+        ensures { IfOk result (λ c. c ≡ fitting (claims_in self.now) (offer_for self.now) (asker_in self.now)) }
+    {
+        let wanted = &self.service.wanted;
+        if is_asked(wanted) && !fits_option(self.service, asked_in(wanted)) {
+            return Ok(Choice::Pending {
+                reason: Reason::RequestFamilies,
+            });
+        }
+        self.pooled()
+    }
+
+    /// The whole table, where services of this class are handled.
+    fn choose(&self, class: Option<&Text>) -> Result<Choice, NoMemory>
+        ensures { IfOk result (λ c. c ≡ choose_for (claims_in self.now) (offer_for self.now) (option_copied class.entry) self.now.service.now (asker_in self.now)) }
+    {
+        if self.service.balancer && !self.service.is_handled(class) {
+            return Ok(Choice::Foreign);
+        }
+        if !self.service.balancer {
+            return Ok(Choice::Clear);
+        }
+        if is_unreadable(&self.service.wanted) {
+            return Ok(Choice::Pending {
+                reason: Reason::RequestUnreadable,
+            });
+        }
+        self.fitting()
+    }
 }
 
 fn pool_at(pools: &[CompiledPool], place: usize) -> Option<&CompiledPool>
@@ -281,22 +283,15 @@ pub(crate) fn choose(
     ensures terms { OnOk result (AreTerms (terms_of service.now)) }
 {
     let terms = MarkedTerms::of(alloc, service)?;
-    let Ok(found) = eligible_pools(alloc, config, service, namespace) else {
-        drop(terms);
-        return Err(NoMemory);
-    };
-    let pools = config.pools.as_slice();
-    let choice = choose_for(
+    let choosing = Choosing {
         alloc,
         book,
-        pools,
-        found.as_slice(),
-        class,
+        config,
         service,
-        &terms,
+        terms: &terms,
         namespace,
-    );
-    drop(found);
+    };
+    let choice = choosing.choose(class);
     drop(terms);
     choice
 }

@@ -1,9 +1,9 @@
 //! Claims.
 ghost use Rattle.std.specs.Prelude.{◌≡◌, IfOk};
-ghost use Rattle.std.specs.Option.{option_copied};
+ghost use Rattle.std.specs.Option.{option_map};
 ghost use Rattle.sharing_terms.specs.Ports.{AreAscending};
 ghost use Rattle.sharing_terms.specs.Spelled.{recorded_terms};
-ghost use Rattle.alloc_book.specs.Slots.{ports_of};
+ghost use Rattle.alloc_book.specs.Claims.{ClaimValue, terms_under};
 
 use ip_ranges::Address;
 use kube_model::{Key, Port, Record};
@@ -12,28 +12,58 @@ use sharing_terms::{Terms, read_mark};
 use std::alloc::Global;
 use std::marker::Model;
 
-/// A key has this record, or may have it. The terms of its mark are read when it is made, so that the book can take it without
-/// memory. Contracts see the key and the record.
+/// A key has this record, or may have it, under these terms.
 #[derive(Drop)]
 pub struct Claim {
     key: Key,
     holding: Record,
-    terms: Option<Terms>,
+    terms: Terms,
 }
 
 impl Model for Claim {
-    ghost use Rattle.std.specs.Prelude.{◌≡◌};
-    ghost use Rattle.sharing_terms.specs.Spelled.{recorded_terms};
     ghost use Rattle.alloc_book.specs.Claims.{ClaimValue};
 
     ghost Value = { ClaimValue };
 
-    ghost view = { λ c. record { key = c.key; holding = c.holding } };
-
-    ghost invariant = { λ c. c.terms ≡ recorded_terms c.holding.mark };
+    ghost view = { λ c. record { key = c.key; holding = c.holding; terms = c.terms } };
 }
 
 impl Claim {
+    /// The key has this record: under the terms of its mark, and where it is the mark of none under the adopted ones.
+    pub fn adopting(
+        alloc: Global,
+        key: &Key,
+        holding: &Record,
+        adopted: &Terms,
+    ) -> Result<Claim, NoMemory>
+        ensures { IfOk result (λ c. c ≡ record { key = key.now; holding = holding.now; terms = terms_under holding.now adopted.now }) }
+    {
+        let terms = match read_mark(alloc, holding.mark.as_str())? {
+            Some(terms) => terms,
+            None => adopted.copy()?,
+        };
+        Ok(Claim {
+            key: key.copy()?,
+            holding: holding.copy()?,
+            terms,
+        })
+    }
+
+    /// The key may have this record, under the terms of its mark; `None` where it is the mark of none.
+    pub fn marked(alloc: Global, key: &Key, holding: &Record) -> Result<Option<Claim>, NoMemory>
+        ensures { IfOk result (λ c. c
+            ≡ option_map (λ terms. record { key = key.now; holding = holding.now; terms = terms }) (recorded_terms holding.now.mark)) }
+    {
+        let Some(terms) = read_mark(alloc, holding.mark.as_str())? else {
+            return Ok(None);
+        };
+        Ok(Some(Claim {
+            key: key.copy()?,
+            holding: holding.copy()?,
+            terms,
+        }))
+    }
+
     /// The key that has the record, or may have it.
     pub fn key(&self) -> &Key
         ensures { result.now ≡ self.now.key }
@@ -48,22 +78,19 @@ impl Claim {
         &self.holding
     }
 
-    /// The terms of the record's mark; `None` where it is the mark of none.
-    pub(crate) fn terms(&self) -> Option<&Terms>
-        ensures { option_copied result ≡ recorded_terms self.now.holding.mark }
+    /// The terms under which it has it, or may have it.
+    pub(crate) fn terms(&self) -> &Terms
+        ensures { result.now ≡ self.now.terms }
     {
-        self.terms.as_ref()
+        &self.terms
     }
 
-    /// The ports of the terms of the record's mark.
+    /// The ports of the terms.
     pub(crate) fn ports(&self) -> &[Port]
-        ensures listed { result.now ≡ ports_of self.now }
+        ensures listed { result.now ≡ self.now.terms.ports }
         ensures ascending { AreAscending result.now }
     {
-        match &self.terms {
-            Some(terms) => terms.ports.as_slice(),
-            None => &[],
-        }
+        self.terms.ports.as_slice()
     }
 
     /// The addresses that it has, or may have.
@@ -71,16 +98,5 @@ impl Claim {
         ensures { result.now ≡ self.now.holding.addresses }
     {
         self.holding.addresses.as_slice()
-    }
-
-    /// The key has this record.
-    pub fn of(alloc: Global, key: &Key, holding: &Record) -> Result<Claim, NoMemory>
-        ensures { IfOk result (λ c. c ≡ record { key = key.now; holding = holding.now }) }
-    {
-        Ok(Claim {
-            key: key.copy()?,
-            holding: holding.copy()?,
-            terms: read_mark(alloc, holding.mark.as_str())?,
-        })
     }
 }

@@ -3,7 +3,6 @@ ghost use Rattle.std.specs.Prelude.{◌≡◌, ◌≢◌, ◌≤◌, ℕ, List, 
 ghost use Rattle.std.specs.List.{Contains};
 ghost use Rattle.ip_ranges.specs.declared.family.Family.{Family};
 ghost use Rattle.ip_ranges.specs.Values.{AddressValue, same_address};
-ghost use Rattle.sharing_terms.specs.Spelled.{recorded_terms};
 ghost use Rattle.alloc_book.specs.declared.slot.Slot.{Slot};
 ghost use Rattle.alloc_book.specs.declared.slot.Slot.TheVariants.{Any};
 ghost use Rattle.alloc_book.specs.Alike.{are_alike};
@@ -100,7 +99,7 @@ pub(crate) fn mix_each(claims: &NumberedList<Claim>, holders: &mut AddressHolder
     ensures shared { is_known holders.new ≡ is_known holders.old }
     ensures uniform { AreUniform holders.new claims.now.items }
     ensures alike { (a : AddressValue) → Contains claim.now.holding.addresses a → is_mixed holders.new a ≡ false
-        → (p : ℕ × ClaimValue) → HasIt claims.now.items a p → are_alike (recorded_terms p.1.holding.mark) (recorded_terms claim.now.holding.mark) ≡ true }
+        → (p : ℕ × ClaimValue) → HasIt claims.now.items a p → are_alike p.1.terms claim.now.terms ≡ true }
 {
     for address in claim.addresses() {
         let numbers = holders.numbers(Slot::Any, address);

@@ -6,25 +6,24 @@ ghost use Rattle.std.specs.Map.{lookup, keys_of, values_of};
 ghost use Rattle.std.specs.Option.{option_copied, option_map};
 ghost use Rattle.std.specs.Ordering.{nat_cmp};
 ghost use Rattle.kube_model.specs.Records.{is_assigned};
-ghost use Rattle.sharing_terms.specs.Spelled.{recorded_terms};
 ghost use Rattle.alloc_book.specs.declared.slot.Slot.TheVariants.{OfPort};
 ghost use Rattle.alloc_book.specs.Alike.{are_alike};
 ghost use Rattle.alloc_book.specs.Book.{AreAssigned, HasRoomFor};
 ghost use Rattle.alloc_book.specs.Claims.{ClaimValue, loses, claims_it, has_claims};
 ghost use Rattle.alloc_book.specs.Index.{numbers_of, first_but, first_other, is_taken, HasIt, NoneShared};
-ghost use Rattle.alloc_book.specs.Reading.{has_record, gives_way, is_of, yields};
-ghost use Rattle.alloc_book.specs.Search.{address_of, shares_by, leaves};
+ghost use Rattle.alloc_book.specs.Reading.{is_claim_under, gives_way, is_of, yields};
+ghost use Rattle.alloc_book.specs.Search.{address_of, leaves};
 ghost use Rattle.number_sets.specs.Least.{IsLeastIn, NonePasses};
 
 use crate::address_holders::AddressHolders;
-use crate::alike::is_like_first;
+use crate::alike::{is_like_first, same_terms};
 use crate::claims::Claim;
 use crate::growth::{add_claim, mix_each, reserve_claim, share_each};
 use crate::removal::{remove_claim, unmix_each, unshare_each};
 use crate::slot::Slot;
 use ip_ranges::{Address, Family};
 use kube_labels::Text;
-use kube_model::{Key, Port, Record};
+use kube_model::{Key, Port};
 use mlb_base::{NoMemory, TryCopy};
 use numbered_items::{InvertedIndex, NumberedList};
 use sharing_terms::{Terms, may_share};
@@ -72,10 +71,7 @@ impl ClaimIndex {
         self.claims.reserve()?;
         self.by_key.reserve(claim.key().copy()?, 1)?;
         reserve_claim(&mut self.holders, claim)?;
-        let Some(terms) = claim.terms() else {
-            return Ok(());
-        };
-        share_each(&mut self.holders, &terms.key, claim.addresses())?;
+        share_each(&mut self.holders, &claim.terms().key, claim.addresses())?;
         Ok(())
     }
 
@@ -105,14 +101,10 @@ impl ClaimIndex {
         self.by_key.remove(claim.key(), number);
         remove_claim(&mut self.holders, &claim, number);
         unmix_each(&mut self.holders, claim.addresses());
-        let Some(terms) = claim.terms() else {
-            drop(claim);
-            return;
-        };
         unshare_each(
             &self.claims,
             &mut self.holders,
-            &terms.key,
+            &claim.terms().key,
             claim.addresses(),
         );
         drop(claim);
@@ -152,27 +144,27 @@ impl ClaimIndex {
         first_but(self.by_key.numbers(claim.key()), number)
     }
 
-    /// Whether the key has a claim with another record than this one.
-    pub(crate) fn loses(&self, key: &Key, holding: &Record) -> bool
-        ensures value { result ≡ loses key.now holding.now (values_of self.now.items) }
+    /// Whether the claim's key has another claim than this one.
+    pub(crate) fn loses(&self, claim: &Claim) -> bool
+        ensures value { result ≡ loses claim.now.key claim.now.holding claim.now.terms (values_of self.now.items) }
         ensures assigned { AreAssigned (values_of self.now.items) }
     {
         let claims = &self.claims;
         self.by_key
-            .numbers(key)
+            .numbers(claim.key())
             .iter()
-            .any(|number| !has_record(claims, *number, holding))
+            .any(|number| !is_claim_under(claims, *number, claim))
     }
 
-    /// Whether the key has a claim with this very record.
-    pub(crate) fn claims_it(&self, key: &Key, holding: &Record) -> bool
-        ensures { result ≡ claims_it key.now holding.now (values_of self.now.items) }
+    /// Whether the claim's key has this very claim.
+    pub(crate) fn claims_it(&self, claim: &Claim) -> bool
+        ensures { result ≡ claims_it claim.now.key claim.now.holding claim.now.terms (values_of self.now.items) }
     {
         let claims = &self.claims;
         self.by_key
-            .numbers(key)
+            .numbers(claim.key())
             .iter()
-            .any(|number| has_record(claims, *number, holding))
+            .any(|number| is_claim_under(claims, *number, claim))
     }
 
     /// Whether the key has a claim.
@@ -197,10 +189,10 @@ impl ClaimIndex {
     /// Whether the claims on the address are known to be alike with the terms.
     fn are_like(&self, terms: &Terms, address: &Address) -> bool
         ensures { IsTrue result → (p : ℕ × ClaimValue) → HasIt self.now.items address.now p
-            → are_alike (recorded_terms p.1.holding.mark) (Some terms.now) ≡ true }
+            → are_alike p.1.terms terms.now ≡ true }
     {
         let numbers = self.holders.numbers(Slot::Any, address);
-        !self.holders.is_mixed(address) && is_like_first(&self.claims, numbers, Some(terms))
+        !self.holders.is_mixed(address) && is_like_first(&self.claims, numbers, terms)
     }
 
     /// Whether each claim that has the address and one of the ports is of the key.
@@ -270,12 +262,15 @@ fn first_but(numbers: &[u64], number: u64) -> Option<u64>
     numbers.iter().copied().find(|other| *other != number)
 }
 
-fn has_record(claims: &NumberedList<Claim>, number: u64, holding: &Record) -> bool
-    ensures value { result ≡ has_record holding.now (lookup (λ n. n == number) claims.now.items) }
+/// Whether the claim of that number is of this one's record and terms.
+fn is_claim_under(claims: &NumberedList<Claim>, number: u64, claim: &Claim) -> bool
+    ensures value { result ≡ is_claim_under claim.now.holding claim.now.terms (lookup (λ n. n == number) claims.now.items) }
     ensures ascending { IsStrictlySortedBy nat_cmp (keys_of claims.now.items) }
 {
     match claims.get(number) {
-        Some(claim) => claim.holding().is_same(holding),
+        Some(other) => {
+            other.holding().is_same(claim.holding()) && same_terms(other.terms(), claim.terms())
+        }
         None => false,
     }
 }
@@ -287,7 +282,7 @@ fn gives_way(claims: &NumberedList<Claim>, number: u64, key: &Key, terms: &Terms
     let Some(claim) = claims.get(number) else {
         return true;
     };
-    claim.key() == key || shares(terms, claim.terms())
+    claim.key() == key || may_share(terms, claim.terms())
 }
 
 fn is_of(claims: &NumberedList<Claim>, number: u64, key: &Key) -> bool
@@ -297,14 +292,5 @@ fn is_of(claims: &NumberedList<Claim>, number: u64, key: &Key) -> bool
     match claims.get(number) {
         Some(claim) => claim.key() == key,
         None => true,
-    }
-}
-
-fn shares(terms: &Terms, held: Option<&Terms>) -> bool
-    ensures { result ≡ shares_by terms.now (option_copied held.entry) }
-{
-    match held {
-        None => false,
-        Some(held) => may_share(terms, held),
     }
 }

@@ -21,4 +21,7 @@ mod slot;
 pub use booking::{Book, Listing};
 pub use choice::{Choice, Loss};
 pub use claims::Claim;
-pub use laws::{chosen_by_same, chosen_is_granted, chosen_is_one, claims_are_kept, pending_stays};
+pub use laws::{
+    chosen_by_same, chosen_is_granted, chosen_is_one, claims_are_kept, pending_stays,
+    terms_are_recorded,
+};

@@ -84,17 +84,14 @@ fn is_shared_at(claims: &NumberedList<Claim>, numbers: &[u64], key: &Text) -> bo
 {
     numbers
         .iter()
-        .any(|number| is_marked_with(claims, *number, key))
+        .any(|number| is_marked_at(claims, *number, key))
 }
 
-fn is_marked_with(claims: &NumberedList<Claim>, number: u64, key: &Text) -> bool
+fn is_marked_at(claims: &NumberedList<Claim>, number: u64, key: &Text) -> bool
     ensures { result ≡ is_marked_at key.now claims.now.items number }
 {
-    let Some(claim) = claims.get(number) else {
-        return false;
-    };
-    match claim.terms() {
-        Some(terms) => terms.key == *key,
+    match claims.get(number) {
+        Some(claim) => claim.terms().key == *key,
         None => false,
     }
 }

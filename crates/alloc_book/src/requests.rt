@@ -1,12 +1,11 @@
 //! What a service asks for, and which pools could meet it.
-ghost use Rattle.std.specs.Prelude.{◌≡◌, ◌≤◌, ◌+◌, [], filter, length, find};
+ghost use Rattle.std.specs.Prelude.{◌≡◌, ◌+◌, ◌∷◌, [], map, find};
 ghost use Rattle.std.specs.Option.{option_copied};
-ghost use Rattle.std.specs.List.{list_all};
-ghost use Rattle.ip_ranges.specs.Values.{same_family, has_address};
-ghost use Rattle.alloc_book.specs.Asking.{asked_in, is_asked, is_unreadable, is_given, asking, offering};
+ghost use Rattle.std.specs.List.{list_all, list_any};
+ghost use Rattle.ip_ranges.specs.Values.{has_address};
+ghost use Rattle.alloc_book.specs.Asking.{alone_of, asked_in, is_asked, is_unreadable, is_given, asking, offering, options_of};
 ghost use Rattle.alloc_book.specs.Chosen.{named};
 ghost use Rattle.alloc_book.specs.Choose.{addresses_of, wanted_of, one_of_each, is_open, all_usable, same_addresses, is_kept, is_home, kept_in, home_of};
-ghost use Rattle.alloc_book.specs.Search.{usable};
 ghost use Rattle.alloc_book.specs.Usable.{is_in};
 
 use crate::booking::Book;
@@ -90,6 +89,37 @@ pub(crate) fn named<'a>(pools: &'a [CompiledPool], name: &Text) -> Option<&'a Co
     None
 }
 
+/// The families of which one alone will do: none, unless the service prefers two and takes either.
+pub(crate) fn alone_of(service: &Service) -> &[Family]
+    ensures { result.now ≡ alone_of service.now.prefer_dual service.now.families }
+{
+    let families = service.families.as_slice();
+    if service.prefer_dual && families.len() == 2 {
+        families
+    } else {
+        &[]
+    }
+}
+
+/// Whether the addresses are exactly one of each family of one of the service's options.
+pub(crate) fn fits_option(service: &Service, addresses: &[Address]) -> bool
+    ensures { result ≡ list_any (λ families. one_of_each families addresses.now) (options_of service.now) }
+{
+    one_of_each(service.families.as_slice(), addresses) || fit_alone(alone_of(service), addresses)
+}
+
+/// Whether the addresses are exactly one, of one of the families.
+fn fit_alone(families: &[Family], addresses: &[Address]) -> bool
+    ensures { result ≡ list_any (λ families. one_of_each families addresses.now) (map (λ family. family ∷ []) families.now) }
+{
+    for family in families {
+        if one_of_each(&[*family], addresses) {
+            return true;
+        }
+    }
+    false
+}
+
 /// Whether the service may use the pool: it is served, and asks for this pool, where it asks for one.
 fn is_open(service: &Service, terms: &MarkedTerms, namespace: &Labels, pool: &CompiledPool) -> bool
     ensures { result ≡ is_open (offering [] [] service.now namespace.now) (asking service.now terms.now) pool.now }
@@ -137,7 +167,7 @@ fn is_kept(
 {
     let recorded = service.holding.addresses.as_slice();
     is_open(service, terms, namespace, pool)
-        && one_of_each(service.families.as_slice(), recorded)
+        && fits_option(service, recorded)
         && all_usable(book, service, terms, pool, recorded)
         && (!is_asked(&service.wanted) || same_addresses(recorded, asked_in(&service.wanted)))
 }

@@ -1,5 +1,5 @@
 //! The addresses that claims leave, and the least of them.
-ghost use Rattle.std.specs.Prelude.{◌≡◌, ◌≤◌, ◌<◌, ◌^◌, ◌↔◌, ◌&&◌, nat_le, IsTrue, IfOk, IfSome, IfNone, map, ◌+◌, ◌-◌};
+ghost use Rattle.std.specs.Prelude.{◌≡◌, ◌≤◌, ◌<◌, ◌^◌, ◌↔◌, ◌&&◌, ◌∷◌, [], nat_le, IsTrue, IfOk, IfSome, IfNone, map, ◌+◌, ◌-◌};
 ghost use Rattle.std.specs.Option.{option_map};
 ghost use Rattle.std.specs.List.{Contains};
 ghost use Rattle.std.specs.Map.{values_of};
@@ -9,7 +9,7 @@ ghost use Rattle.sharing_terms.specs.Marks.{mark_of};
 ghost use Rattle.alloc_book.specs.Asking.{asking};
 ghost use Rattle.alloc_book.specs.Index.{is_own, is_offered, is_free, AreBarred, Covers};
 ghost use Rattle.number_sets.specs.Least.{IsLeastIn, NonePasses};
-ghost use Rattle.alloc_book.specs.Search.{usable, address_of, numbered, least_between, least_in, least_usable, least_each, first_pool};
+ghost use Rattle.alloc_book.specs.Search.{usable, address_of, numbered, least_between, least_in, least_usable, least_each, first_pool, first_of, first_option};
 ghost use Rattle.alloc_book.specs.Claims.{holders};
 ghost use Rattle.alloc_book.specs.Least.{IsLeast};
 ghost use Rattle.alloc_book.specs.Usable.{is_in, IsUsable, IsUsableOf};
@@ -17,6 +17,7 @@ ghost use Rattle.alloc_book.specs.Usable.{is_in, IsUsable, IsUsableOf};
 use crate::booking::Book;
 use crate::index::ClaimIndex;
 use crate::marked::MarkedTerms;
+use crate::requests::alone_of;
 use crate::slot::Slot;
 use ip_ranges::{Address, AddressList, Family, Span, is_buggy};
 use kube_model::{Key, Port, Record, Service};
@@ -297,13 +298,14 @@ fn least_each(
     alloc: Global,
     book: &Book,
     pool: &CompiledPool,
+    families: &[Family],
     service: &Service,
     terms: &MarkedTerms,
 ) -> Result<Option<AddressList>, NoMemory>
-    ensures { IfOk result (λ found. found ≡ least_each book.now.claims service.now.key terms.now pool.now service.now.families) }
+    ensures { IfOk result (λ found. found ≡ least_each book.now.claims service.now.key terms.now pool.now families.now) }
 {
     let mut addresses = AddressList::new(alloc);
-    for family in service.families.as_slice() {
+    for family in families {
         match least_usable(book, pool, &service.key, terms.terms(), *family) {
             Some(address) => addresses.push(address)?,
             None => return Ok(None),
@@ -328,20 +330,60 @@ pub(crate) fn record_in(
     })
 }
 
-/// What the first pool gives that has an address of each family.
-pub(crate) fn first_pool(
+/// What the first pool gives that has an address of each of the families.
+fn first_pool(
+    alloc: Global,
+    book: &Book,
+    pools: &[&CompiledPool],
+    families: &[Family],
+    service: &Service,
+    terms: &MarkedTerms,
+) -> Result<Option<Record>, NoMemory>
+    ensures { IfOk result (λ found. found ≡ first_pool book.now.claims (asking service.now terms.now) families.now (map (λ p. p.now) pools.now)) }
+{
+    for pool in pools {
+        if let Some(addresses) = least_each(alloc, book, pool, families, service, terms)? {
+            return Ok(Some(record_in(pool, terms, addresses)?));
+        }
+    }
+    Ok(None)
+}
+
+/// The same for the first of the families that a pool has an address of.
+fn first_alone(
+    alloc: Global,
+    book: &Book,
+    pools: &[&CompiledPool],
+    families: &[Family],
+    service: &Service,
+    terms: &MarkedTerms,
+) -> Result<Option<Record>, NoMemory>
+    ensures { IfOk result (λ found. found
+        ≡ first_of book.now.claims (asking service.now terms.now) (map (λ p. p.now) pools.now) (map (λ family. family ∷ []) families.now)) }
+{
+    for family in families {
+        let found = first_pool(alloc, book, pools, &[*family], service, terms)?;
+        if found.is_some() {
+            return Ok(found);
+        }
+    }
+    Ok(None)
+}
+
+/// What the first pool gives that has an address of each family, and where none has, of one family that will do alone.
+pub(crate) fn first_option(
     alloc: Global,
     book: &Book,
     pools: &[&CompiledPool],
     service: &Service,
     terms: &MarkedTerms,
 ) -> Result<Option<Record>, NoMemory>
-    ensures { IfOk result (λ found. found ≡ first_pool book.now.claims (asking service.now terms.now) (map (λ p. p.now) pools.now)) }
+    ensures { IfOk result (λ found. found ≡ first_option book.now.claims (asking service.now terms.now) (map (λ p. p.now) pools.now)) }
 {
-    for pool in pools {
-        if let Some(addresses) = least_each(alloc, book, pool, service, terms)? {
-            return Ok(Some(record_in(pool, terms, addresses)?));
-        }
+    let families = service.families.as_slice();
+    let found = first_pool(alloc, book, pools, families, service, terms)?;
+    if found.is_some() {
+        return Ok(found);
     }
-    Ok(None)
+    first_alone(alloc, book, pools, alone_of(service), service, terms)
 }

@@ -7,6 +7,7 @@ use kube_labels::{Labels, Text};
 use kube_model::{Event, EventFault, Group, Namespace, Object, Pool, Record, Service};
 use mlb_base::NoMemory;
 use pool_config::{CompileFault, Config, ObjectSet, compile};
+use sharing_terms::terms_of;
 use std::alloc::Global;
 
 /// The objects of a case, and the records that its services have.
@@ -51,15 +52,28 @@ fn choose(
     choice
 }
 
-/// The line of the choice for the service, which has what is chosen from now on.
+/// The service has the record from now on.
 fn settle(
+    alloc: Global,
+    book: &mut Book,
+    service: &Service,
+    holding: &Record,
+) -> Result<(), NoMemory> {
+    let adopted = terms_of(alloc, service)?;
+    let settled = book.settle(&service.key, holding, &adopted);
+    drop(adopted);
+    settled.map(|_loss| ())
+}
+
+/// The line of the choice for the service, which has what is chosen from now on.
+fn settle_chosen(
     alloc: Global,
     book: &mut Book,
     service: &Service,
     choice: &Choice,
 ) -> Result<String, NoMemory> {
     if let Some(holding) = chosen(choice) {
-        let _loss = book.settle(&service.key, holding)?;
+        settle(alloc, book, service, holding)?;
     }
     choice_line(alloc, &service.key, choice)
 }
@@ -72,7 +86,7 @@ fn serve(
     service: &Service,
 ) -> Result<String, NoMemory> {
     let choice = choose(alloc, book, config, namespaces, service)?;
-    let line = settle(alloc, book, service, &choice);
+    let line = settle_chosen(alloc, book, service, &choice);
     drop(choice);
     line
 }
@@ -134,9 +148,9 @@ impl Case {
         self.objects.set(Object::Pool(pool))
     }
 
-    fn hold_service(&mut self, service: Service) -> Result<(), NoMemory> {
-        match self.book.settle(&service.key, &service.holding) {
-            Ok(_loss) => Ok(self.services.push(service)?),
+    fn hold_service(&mut self, alloc: Global, service: Service) -> Result<(), NoMemory> {
+        match settle(alloc, &mut self.book, &service, &service.holding) {
+            Ok(()) => Ok(self.services.push(service)?),
             Err(NoMemory) => {
                 drop(service);
                 Err(NoMemory)
@@ -144,10 +158,10 @@ impl Case {
         }
     }
 
-    fn hold(&mut self, object: Object) -> Result<(), NoMemory> {
+    fn hold(&mut self, alloc: Global, object: Object) -> Result<(), NoMemory> {
         match object {
             Object::Pool(pool) => self.hold_pool(pool),
-            Object::Service(service) => self.hold_service(service),
+            Object::Service(service) => self.hold_service(alloc, service),
             Object::Namespace(namespace) => Ok(self.namespaces.push(namespace)?),
             other => {
                 drop(other);
@@ -168,7 +182,7 @@ impl Case {
     fn happen(&mut self, alloc: Global, event: Event) -> Result<String, NoMemory> {
         match event {
             Event::Changed { object, .. } => {
-                self.hold(object)?;
+                self.hold(alloc, object)?;
                 Ok(String::new(alloc))
             }
             Event::ListEnd { group } => self.end(alloc, group),

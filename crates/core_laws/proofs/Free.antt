@@ -18,7 +18,7 @@ use Rattle.core_rules.specs.declared.turn.Turn.{Turn}
 use Rattle.core_rules.specs.declared.turn.Turn.TheVariants.{NoPut, Wants}
 use Rattle.core_rules.specs.Core.{State, is_ready, service_of, waiting}
 use Rattle.core_rules.specs.Turn.{turn_of, turn_at, rest_of, put_in, wanted_record, chosen_at}
-use Rattle.core_rules.specs.Replied.{replied_to}
+use Rattle.core_rules.specs.Replied.{replied_to, put_terms}
 use Rattle.core_rules.specs.Run.{Entry, Took, Expired, Turned, Heard, core_after, IsRun, observed}
 use Rattle.core_rules.proofs.Runs.{core_holds_what_was_observed}
 use Rattle.core_laws.specs.Queue.{AreApart}
@@ -98,8 +98,8 @@ heard-orderly : (out : Option Put) (reply : PutReply) (s : State) (observations 
 heard-orderly None reply s observations e o there i = absurd (cc)
 heard-orderly (Some put) (StoredReply version) s observations e o there i =
     not-out _ _ None refl
-    (added s.queue (waiting (loses put.key put.holding s.claims) s.class (same_key put.key) s.queue s.awaiting s.held.services) s.awaiting i.order
-    (new-added _ s.queue s.awaiting (same_key put.key) (waiting-new (loses put.key put.holding s.claims) s.class (same_key put.key) s.queue s.awaiting s.held.services (sorted-services s observations e))))
+    (added s.queue (waiting (loses put.key put.holding (put_terms s.held put) s.claims) s.class (same_key put.key) s.queue s.awaiting s.held.services) s.awaiting i.order
+    (new-added _ s.queue s.awaiting (same_key put.key) (waiting-new (loses put.key put.holding (put_terms s.held put) s.claims) s.class (same_key put.key) s.queue s.awaiting s.held.services (sorted-services s observations e))))
 heard-orderly (Some put) Stale s observations e o there i = not-out _ _ None refl (refused-order s.queue s.awaiting put.key i.order (i.out_queue put o))
 heard-orderly (Some put) Missing s observations e o there i = not-out _ _ None refl (refused-order s.queue s.awaiting put.key i.order (i.out_queue put o))
 heard-orderly (Some put) Unknown s observations e o there i =

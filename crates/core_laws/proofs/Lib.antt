@@ -2,6 +2,7 @@ pub mod Ages
 pub mod Assigned
 pub mod Awaiting
 pub mod Came
+pub mod Claimed
 pub mod Expired
 pub mod Free
 pub mod Keyed
@@ -20,6 +21,7 @@ pub mod Ready
 pub mod Rows
 pub mod Served
 pub mod ServedRows
+pub mod Settled
 pub mod Shared
 pub mod Sound
 pub mod Telling

@@ -21,7 +21,7 @@ use Rattle.object_cache.specs.Change.{applied}
 use Rattle.object_cache.specs.Told.{passing}
 use Rattle.kube_model.specs.Records.{is_assigned}
 use Rattle.alloc_book.specs.Claims.{loses, has_claims}
-use Rattle.core_rules.specs.Core.{State, is_ready, is_free_with, all_free, waiting}
+use Rattle.core_rules.specs.Core.{State, is_ready, is_free_with, all_free, waiting, shown_terms}
 use Rattle.core_rules.specs.Keys.{own_key}
 use Rattle.core_rules.specs.Take.{core_by, core_take, no_key, is_unlisted, listed_keys, have_claims, listed_and_free, own_and_waiting, wakes}
 use Rattle.core_rules.proofs.Concerns.{by_concern}
@@ -158,7 +158,7 @@ sorted-services s observations e = subst (λ (held : Cached). IsStrictlySortedBy
 
 pub took-order : (s : State) (observations : List Observation) → s.held ≡ cached observations → IsInOrder s.queue s.awaiting → (event : Event) → IsInOrder (core_take s event).queue (core_take s event).awaiting
 took-order s observations e o = by_concern (λ event c. IsInOrder (core_by c s event).queue (core_by c s event).awaiting)
-    (λ version service. shown-order (is_newer key_cmp s.held.services service.key version) s service.key (loses service.key service.holding s.claims) (sorted-services s observations e) o)
+    (λ version service. shown-order (is_newer key_cmp s.held.services service.key version) s service.key (loses service.key service.holding (shown_terms service) s.claims) (sorted-services s observations e) o)
     (λ key. added (without key s.queue) (waiting (is_ready s.held && has_claims key s.claims) s.class (same_key key) s.queue s.awaiting s.held.services) (without key s.awaiting)
     (fewer-awaiting (λ k. same_key k key) (without key s.queue) s.awaiting (fewer-order (λ k. same_key k key) s.queue s.awaiting o))
     (added-fewer (λ k. same_key k key) s.queue _ s.awaiting (new-added _ s.queue s.awaiting (same_key key) (waiting-new (is_ready s.held && has_claims key s.claims) s.class (same_key key) s.queue s.awaiting s.held.services (sorted-services s observations e)))))

@@ -26,11 +26,11 @@ use Rattle.object_history.proofs.Held.{held_at-held_after, ascending-held_after}
 use Rattle.object_cache.specs.Change.{applied}
 use Rattle.object_cache.specs.Told.{passing}
 use Rattle.alloc_book.specs.Claims.{loses, has_claims}
-use Rattle.core_rules.specs.Core.{State, is_ready, is_free_with, all_free, waits, waiting}
+use Rattle.core_rules.specs.Core.{State, is_ready, is_free_with, all_free, waits, waiting, shown_terms}
 use Rattle.core_rules.specs.Keys.{own_key}
 use Rattle.core_rules.specs.Take.{core_by, core_take, no_key, is_unlisted, listed_keys, have_claims, listed_and_free, own_and_waiting, wakes, shows}
 use Rattle.core_rules.specs.Turn.{turn_of, rest_of, put_in}
-use Rattle.core_rules.specs.Replied.{replied_to}
+use Rattle.core_rules.specs.Replied.{replied_to, put_terms}
 use Rattle.core_rules.specs.Run.{Entry, Took, Expired, Turned, Heard, core_after, IsRun, observed}
 use Rattle.core_rules.proofs.Concerns.{by_concern, config-services}
 use Rattle.core_rules.proofs.Runs.{core_holds_what_was_observed, took-out, heard-out}
@@ -174,7 +174,7 @@ configured-in false s sorted all = all
 
 took-in : (s : State) → IsStrictlySortedBy key_cmp (keys_of s.held.services) → AllIn s.held.services s.queue → (event : Event) → AllIn (core_take s event).held.services (core_take s event).queue
 took-in s sorted all = by_concern (λ event c. AllIn (core_by c s event).held.services (core_by c s event).queue)
-    (λ version service. shown-in (is_newer key_cmp s.held.services service.key version) (loses service.key service.holding s.claims) s version service sorted refl all)
+    (λ version service. shown-in (is_newer key_cmp s.held.services service.key version) (loses service.key service.holding (shown_terms service) s.claims) s version service sorted refl all)
     (λ key. dropped-in s key (is_ready s.held && has_claims key s.claims) sorted all)
     (append-in (listed s.held.services) (listed_keys (listed s.held.services) s.queue)
     (listed_and_free (is_ready s.held) (s.held.config_ended && is_some s.held.config) (have_claims s.held.services s.claims) s)
@@ -213,10 +213,10 @@ heard-in : (out : Option Put) (reply : PutReply) (s : State) → IsStrictlySorte
     → AllIn (replied_to out s reply).held.services (replied_to out s reply).queue
 heard-in None reply s sorted held o = held.queued
 heard-in (Some put) (StoredReply version) s sorted held o =
-    let others = waiting (loses put.key put.holding s.claims) s.class (same_key put.key) s.queue s.awaiting s.held.services in
+    let others = waiting (loses put.key put.holding (put_terms s.held put) s.claims) s.class (same_key put.key) s.queue s.awaiting s.held.services in
     let stay = λ (key : Key) (there : IsIn s.held.services key). stays (Written put.key version put.holding) s.held.services sorted key refl there in
     append-in (held_after service_resource (Written put.key version put.holding) s.held.services) s.queue others (λ key there. stay key (held.queued key there))
-    (λ key there. stay key (waiting-in (loses put.key put.holding s.claims) s.class (same_key put.key) s.queue s.awaiting s.held.services sorted key there))
+    (λ key there. stay key (waiting-in (loses put.key put.holding (put_terms s.held put) s.claims) s.class (same_key put.key) s.queue s.awaiting s.held.services sorted key there))
 heard-in (Some put) Stale s sorted held o = held.queued
 heard-in (Some put) Missing s sorted held o = held.queued
 heard-in (Some put) Unknown s sorted held o =

@@ -13,9 +13,9 @@ use Rattle.object_history.specs.Cache.{Cached}
 use Rattle.kube_model.specs.Keys.{key_cmp, same_key, has_key}
 use Rattle.object_cache.specs.Told.{passing}
 use Rattle.alloc_book.specs.declared.choice.Choice.TheVariants.{Pending}
-use Rattle.alloc_book.specs.Asking.{Holders, Offer}
+use Rattle.alloc_book.specs.Asking.{Offer}
 use Rattle.alloc_book.specs.Chosen.{IsChosen}
-use Rattle.alloc_book.specs.Claims.{holders}
+use Rattle.alloc_book.specs.Claims.{holders, Holders}
 use Rattle.kube_model.specs.declared.record.Record.{Record}
 use Rattle.kube_model.specs.Records.{empty_record, same_record}
 use Rattle.kube_model.proofs.RecordLaws.{same_record-is}

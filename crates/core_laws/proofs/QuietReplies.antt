@@ -22,7 +22,7 @@ use Rattle.alloc_book.specs.Asking.{asker_of}
 use Rattle.alloc_book.specs.Book.{AreAssigned, HasLost}
 use Rattle.object_cache.specs.Told.{passing}
 use Rattle.alloc_book.specs.Chosen.{IsChosen}
-use Rattle.alloc_book.specs.Claims.{ClaimValue, holders, claims_of, claimed_by, settled, doubted, loses}
+use Rattle.alloc_book.specs.Claims.{ClaimValue, holders, claims_of, claim_of, settled, doubted, loses}
 use Rattle.alloc_book.specs.Granted.{IsTighter}
 use Rattle.alloc_book.proofs.BookLaws.{settled-lost, settled-more, doubted-more}
 use Rattle.alloc_book.proofs.ChooseLaws.{choose-is}
@@ -30,7 +30,7 @@ use Rattle.alloc_book.proofs.ClaimLaws.{claims_of-settled}
 use Rattle.alloc_book.proofs.PendingLaws.{pending_for-stays, more-tighter}
 use Rattle.core_rules.specs.Core.{State, service_of, offer_in, is_settled, waiting, waits}
 use Rattle.core_rules.specs.Turn.{wanted_record, chosen_at}
-use Rattle.core_rules.specs.Replied.{stored, refused, in_doubt, replied_to}
+use Rattle.core_rules.specs.Replied.{stored, refused, in_doubt, replied_to, put_terms}
 use Rattle.core_laws.specs.Quiet.{MeetsRow, is_put_of, IsQuiet}
 use Rattle.core_laws.proofs.Rows.{has_key-append, neither, row-on}
 use Rattle.core_laws.proofs.Quiet.{settled-parts, settled-from, waits-queued, row-handled, row-empty}
@@ -62,8 +62,8 @@ doubt-quiet s put o quiet key service settled out found =
     let parts = settled-parts (in_doubt s put) key settled in
     let apart = behind s.queue put.key key parts.1 in
     let row = quiet key service (settled-from s key service parts.0 found apart.0 parts.2) (not-out s put key o apart.1) found in
-    row-on s.class s.held s.held (holders s.claims) (holders (doubted put.key put.holding s.claims)) service row (λ x. refl)
-    (λ reason is. more-tighter row.before.key (asker_of row.before).terms (holders s.claims) (holders (doubted put.key put.holding s.claims)) (doubted-more s.claims put.key row.before.key put.holding))
+    row-on s.class s.held s.held (holders s.claims) (holders (doubted put.key put.holding (put_terms s.held put) s.claims)) service row (λ x. refl)
+    (λ reason is. more-tighter row.before.key (asker_of row.before).terms (holders s.claims) (holders (doubted put.key put.holding (put_terms s.held put) s.claims)) (doubted-more s.claims put.key row.before.key put.holding (put_terms s.held put)))
 
 -- ---- a claim that isn't lost
 pub not-lost : (lost : Bool) (class : Option (List ℕ)) (told : Key → Bool) (queue awaiting : List Key) (services : List (Key × Versioned Service)) (key : Key)
@@ -71,23 +71,23 @@ pub not-lost : (lost : Bool) (class : Option (List ℕ)) (told : Key → Bool) (
 not-lost true class told queue awaiting services key out here = absurd (true≢false (sym here ∙ out))
 not-lost false class told queue awaiting services key out here = refl
 
-kept-claims : (claims : List ClaimValue) (key : Key) (r : Record) → AreAssigned claims → loses key r claims ≡ false → ¬ (HasLost claims (settled key r claims))
-kept-claims claims key r a e lost = true≢false (sym ((settled-lost claims key r a).1 lost) ∙ e)
+kept-claims : (claims : List ClaimValue) (key : Key) (r : Record) (t : Terms) → AreAssigned claims → loses key r t claims ≡ false → ¬ (HasLost claims (settled key r t claims))
+kept-claims claims key r t a e lost = true≢false (sym ((settled-lost claims key r t a).1 lost) ∙ e)
 
 -- a record that settles a key's claims takes nothing from the others, where no claim is lost
-pub settled-tighter : (claims : List ClaimValue) (key : Key) (r : Record) → AreAssigned claims → loses key r claims ≡ false → (any : Key) (terms : Terms)
-    → IsTighter any terms (holders claims) (holders (settled key r claims))
-settled-tighter claims key r a e any terms =
-    more-tighter any terms (holders claims) (holders (settled key r claims)) (settled-more claims key any r a (kept-claims claims key r a e))
+pub settled-tighter : (claims : List ClaimValue) (key : Key) (r : Record) (t : Terms) → AreAssigned claims → loses key r t claims ≡ false → (any : Key) (terms : Terms)
+    → IsTighter any terms (holders claims) (holders (settled key r t claims))
+settled-tighter claims key r t a e any terms =
+    more-tighter any terms (holders claims) (holders (settled key r t claims)) (settled-more claims key any r t a (kept-claims claims key r t a e))
 
 -- its own claims don't matter to a service
-own-by : (b : Bool) (claims : List ClaimValue) (key other : Key) (r : Record) → b ≡ same_key key other → other ≢ key → claims_of other (settled key r claims) ≡ claims_of other claims
-own-by true claims key other r b apart = absurd (apart (sym (same_key-is key other (sym b))))
-own-by false claims key other r b apart = claims_of-settled claims key other r ∙ ap (λ x. cond x (claimed_by r) (claims_of other claims)) (sym b)
+own-by : (b : Bool) (claims : List ClaimValue) (key other : Key) (r : Record) (t : Terms) → b ≡ same_key key other → other ≢ key → claims_of other (settled key r t claims) ≡ claims_of other claims
+own-by true claims key other r t b apart = absurd (apart (sym (same_key-is key other (sym b))))
+own-by false claims key other r t b apart = claims_of-settled claims key other r t ∙ ap (λ x. cond x (claim_of key r t) (claims_of other claims)) (sym b)
 
-own-tighter : (claims : List ClaimValue) (key own : Key) (r : Record) (terms : Terms) → own ≡ key → IsTighter own terms (holders claims) (holders (settled key r claims))
-own-tighter claims key own r terms is a left other apart x there has =
-    left other apart x (subst (λ (rs : List Record). Contains rs x) (sym (own-by (same_key key other) claims key other r refl (λ e. apart (e ∙ sym is)))) there) has
+own-tighter : (claims : List ClaimValue) (key own : Key) (r : Record) (t terms : Terms) → own ≡ key → IsTighter own terms (holders claims) (holders (settled key r t claims))
+own-tighter claims key own r t terms is a left other apart x there has =
+    left other apart x (subst (λ (cs : List ClaimValue). Contains cs x) (sym (own-by (same_key key other) claims key other r t refl (λ e. apart (e ∙ sym is)))) there) has
 
 -- ---- a record that was stored
 apart-by : (b : Bool) (k key : Key) → b ≡ same_key k key → is_eq (key_cmp k key) ≡ false → b ≡ false
@@ -130,8 +130,8 @@ own-row s put version chosen =
       chosen = is_chosen;
       holding_is = chosen.holding_is;
       pending_now = λ reason is.
-          pending_for-stays (holders s.claims) (holders (settled put.key put.holding s.claims)) (offer_in s.held chosen.service) (asker_of chosen.service)
-          (own-tighter s.claims put.key chosen.service.key put.holding (asker_of chosen.service).terms chosen.keyed) s.class chosen.service reason
+          pending_for-stays (holders s.claims) (holders (settled put.key put.holding (put_terms s.held put) s.claims)) (offer_in s.held chosen.service) (asker_of chosen.service)
+          (own-tighter s.claims put.key chosen.service.key put.holding (put_terms s.held put) (asker_of chosen.service).terms chosen.keyed) s.class chosen.service reason
           (subst (IsChosen (holders s.claims) (offer_in s.held chosen.service) s.class chosen.service) is is_chosen);
     }
 
@@ -152,11 +152,11 @@ stored-by false s put version key service b o quiet chosen a is_set found =
     let apart_key : same_key put.key key ≡ false = apart put.key key (sym b) in
     let before : service_of s.held key ≡ Some service = sym (over-other (held_at key_cmp s.held.services key) key) ∙ sym (seen-stored s.held.services put.key key version put.holding false b) ∙ found in
     let parts = settled-parts (stored s put version) key is_set in
-    let queues = neither (has_key s.queue key) _ (sym (has_key-append s.queue (waiting (loses put.key put.holding s.claims) s.class (same_key put.key) s.queue s.awaiting s.held.services) key) ∙ parts.1) in
+    let queues = neither (has_key s.queue key) _ (sym (has_key-append s.queue (waiting (loses put.key put.holding (put_terms s.held put) s.claims) s.class (same_key put.key) s.queue s.awaiting s.held.services) key) ∙ parts.1) in
     let row = quiet key service (settled-from s key service parts.0 before queues.0 parts.2) (not-out s put key o apart_key) before in
-    row-on s.class s.held (stored s put version).held (holders s.claims) (holders (settled put.key put.holding s.claims)) service row (λ x. refl)
-    (λ reason is. settled-tighter s.claims put.key put.holding a
-    (not-lost (loses put.key put.holding s.claims) s.class (same_key put.key) s.queue s.awaiting s.held.services key queues.1
+    row-on s.class s.held (stored s put version).held (holders s.claims) (holders (settled put.key put.holding (put_terms s.held put) s.claims)) service row (λ x. refl)
+    (λ reason is. settled-tighter s.claims put.key put.holding (put_terms s.held put) a
+    (not-lost (loses put.key put.holding (put_terms s.held put) s.claims) s.class (same_key put.key) s.queue s.awaiting s.held.services key queues.1
     (waits-queued s.class (same_key put.key) s.queue s.awaiting s.held.services key service before apart_key queues.0 parts.2
     (row-handled s.class s.held (holders s.claims) service row reason is) (row-empty s.class s.held (holders s.claims) service row reason is)))
     row.before.key (asker_of row.before).terms)

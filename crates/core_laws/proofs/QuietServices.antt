@@ -26,7 +26,7 @@ use Rattle.alloc_book.specs.Granted.{IsTighter}
 use Rattle.alloc_book.proofs.BookLaws.{kept-more}
 use Rattle.pool_choice.proofs.Filters.{filter-keeps}
 use Rattle.alloc_book.proofs.PendingLaws.{more-tighter}
-use Rattle.core_rules.specs.Core.{offer_in, State, is_ready, service_of, is_settled, waiting}
+use Rattle.core_rules.specs.Core.{offer_in, State, is_ready, service_of, is_settled, waiting, shown_terms}
 use Rattle.core_rules.specs.Keys.{own_key}
 use Rattle.core_rules.specs.Take.{shows, with_service, without_service, own_and_waiting}
 use Rattle.core_laws.specs.Quiet.{MeetsRow, is_put_of, IsQuiet}
@@ -76,9 +76,9 @@ more-by false queue own more key r e = absurd (cc)
 abbrev held_service : State → ℕ → Service → State
 held_service s version service = record s {
   held = cached_after (Watched (shows version service)) s.held;
-  claims = settled service.key service.holding s.claims;
+  claims = settled service.key service.holding (shown_terms service) s.claims;
   awaiting = without service.key s.awaiting;
-  queue = s.queue ++ own_and_waiting (is_ready s.held) (loses service.key service.holding s.claims) s service.key;
+  queue = s.queue ++ own_and_waiting (is_ready s.held) (loses service.key service.holding (shown_terms service) s.claims) s service.key;
 }
 
 passed-over : (s : State) (version : ℕ) (service : Service) → leb version (version_at key_cmp s.held.services service.key) ≡ true → s ≡ with_service s version service
@@ -98,18 +98,18 @@ held-by : (b : Bool) (s : State) (observations : List Observation) (version : �
 held-by true s observations version new key service b e newer o quiet a is_set found =
     let same : new.key ≡ key = key_cmp-exact new.key key ((Equal-is (key_cmp new.key key)).0 (sym b)) in
     let parts = settled-parts (held_service s version new) key is_set in
-    let there = own-there (is_ready s.held) s.queue (waiting (loses new.key new.holding s.claims) s.class (same_key new.key) s.queue s.awaiting s.held.services) new.key parts.0 in
+    let there = own-there (is_ready s.held) s.queue (waiting (loses new.key new.holding (shown_terms new) s.claims) s.class (same_key new.key) s.queue s.awaiting s.held.services) new.key parts.0 in
     absurd (true≢false (sym there ∙ subst (λ k. has_key (held_service s version new).queue k ≡ false) (sym same) parts.1))
 held-by false s observations version new key service b e newer o quiet a is_set found =
     let apart_key : same_key new.key key ≡ false = apart new.key key (sym b) in
     let before : service_of s.held key ≡ Some service = sym (untold-same s observations e (shows version new) key (tells-other s version new key newer (sym b))) ∙ found in
     let parts = settled-parts (held_service s version new) key is_set in
-    let queues = more-by (is_ready s.held) s.queue (own_key new.key s.queue) (waiting (loses new.key new.holding s.claims) s.class (same_key new.key) s.queue s.awaiting s.held.services) key parts.0 parts.1 in
+    let queues = more-by (is_ready s.held) s.queue (own_key new.key s.queue) (waiting (loses new.key new.holding (shown_terms new) s.claims) s.class (same_key new.key) s.queue s.awaiting s.held.services) key parts.0 parts.1 in
     let free : has_key s.awaiting key ≡ false = sym (without-other new.key key s.awaiting apart_key) ∙ parts.2 in
     let row = quiet key service (settled-from s key service parts.0 before queues.0 free) (no-out s key o) before in
-    row-on s.class s.held (held_service s version new).held (holders s.claims) (holders (settled new.key new.holding s.claims)) service row (λ x. refl)
-    (λ reason is. settled-tighter s.claims new.key new.holding a
-    (not-lost (loses new.key new.holding s.claims) s.class (same_key new.key) s.queue s.awaiting s.held.services key queues.1
+    row-on s.class s.held (held_service s version new).held (holders s.claims) (holders (settled new.key new.holding (shown_terms new) s.claims)) service row (λ x. refl)
+    (λ reason is. settled-tighter s.claims new.key new.holding (shown_terms new) a
+    (not-lost (loses new.key new.holding (shown_terms new) s.claims) s.class (same_key new.key) s.queue s.awaiting s.held.services key queues.1
     (waits-queued s.class (same_key new.key) s.queue s.awaiting s.held.services key service before apart_key queues.0 free
     (row-handled s.class s.held (holders s.claims) service row reason is) (row-empty s.class s.held (holders s.claims) service row reason is)))
     row.before.key (asker_of row.before).terms)

@@ -20,7 +20,7 @@ use Rattle.object_history.specs.Observations.{Watched, WatchExpired}
 use Rattle.pool_config.specs.Compile.{compiled}
 use Rattle.kube_model.specs.Keys.{key_cmp}
 use Rattle.alloc_book.specs.Claims.{loses}
-use Rattle.core_rules.specs.Core.{State, is_ready}
+use Rattle.core_rules.specs.Core.{State, is_ready, shown_terms}
 use Rattle.core_rules.specs.Take.{Configures, concern, core_by, core_take, own_and_waiting, listed_and_free, listed_keys, have_claims}
 use Rattle.core_rules.specs.Turn.{turn_of, rest_of, put_in}
 use Rattle.core_rules.specs.Replied.{replied_to}
@@ -98,7 +98,7 @@ before-ready false after stays n = refl
 
 took-idle : (s : State) → IsIdle (is_ready s.held) s.queue s.out → s.out ≡ None → (event : Event) → IsIdle (is_ready (core_take s event).held) (core_take s event).queue (core_take s event).out
 took-idle s idle o = by_concern (λ event c. IsIdle (is_ready (core_by c s event).held) (core_by c s event).queue (core_by c s event).out)
-    (λ version service n. (shown-idle (is_newer key_cmp s.held.services service.key version) (is_ready s.held) s.queue (own_and_waiting (is_ready s.held) (loses service.key service.holding s.claims) s service.key) n (idle n).0 (rw n refl), o))
+    (λ version service n. (shown-idle (is_newer key_cmp s.held.services service.key version) (is_ready s.held) s.queue (own_and_waiting (is_ready s.held) (loses service.key service.holding (shown_terms service) s.claims) s service.key) n (idle n).0 (rw n refl), o))
     (λ key n. (rw ((idle n).0, n) refl, o))
     (λ n. (
       listed-idle s.held.config_ended s.held.config (is_ready s.held) (have_claims s.held.services s.claims) s (listed s.held.services) s.queue

@@ -1,6 +1,5 @@
--- Whatever record is chosen has one address of each wanted family, of one pool that serves the service.
-use Rattle.std.proofs.Common.{arith, ◌≡◌, ◌≢◌, ℕ, suc, Bool, true, false, cond, eqb, List, [], ◌∷◌, length, filter, Option, Some, None, ⊎_elim, refl, sym, ap, subst, ◌∙◌}
-use Rattle.std.proofs.lemmas.Bool.Decides.{nat_tests}
+-- Whatever record is chosen has one address of each family of some option, of one pool that serves the service.
+use Rattle.std.proofs.Common.{◌≡◌, ◌≢◌, ℕ, suc, Bool, true, false, cond, List, [], ◌∷◌, length, filter, Option, Some, None, inl, inr, ⊎_elim, refl, sym, ap, subst, ◌∙◌, Decides}
 use Rattle.std.proofs.lemmas.Slice.Eq.{bytes_eq-Decides}
 use Rattle.std.specs.List.{Contains, AllZip}
 use Rattle.std.specs.Option.{option_to_list}
@@ -15,29 +14,31 @@ use Rattle.pool_config.specs.declared.compiled.CompiledPool.{CompiledPool}
 use Rattle.mlb_base.proofs.Among.{contains-none, contains-cons, contains-first, contains-later}
 use Rattle.alloc_book.specs.declared.choice.Choice.{Choice}
 use Rattle.alloc_book.specs.declared.choice.Choice.TheVariants.{Pending, Keep, New}
-use Rattle.alloc_book.specs.Asking.{Asker, Holders, Offer, asker_of, asked_in}
+use Rattle.alloc_book.specs.Asking.{Asker, Offer, asker_of, asked_in}
+use Rattle.alloc_book.specs.Claims.{Holders}
 use Rattle.alloc_book.specs.Chosen.{named, asked_pools, AsksAddresses, Gives, IsChosenFor}
 use Rattle.mlb_base.specs.Cases.{IsFirst}
-use Rattle.alloc_book.specs.First.{HasEach, AllUsable, IsOneOfEach, IsKept, IsHome, record_in}
+use Rattle.mlb_base.specs.Items.{Has}
+use Rattle.alloc_book.specs.First.{HasEach, SomeHasEach, AllUsable, IsOneOfEach, FitsOption, IsKept, IsHome, record_in}
+use Rattle.alloc_book.specs.Choose.{fits_option}
 use Rattle.alloc_book.specs.Granted.{IsFor}
 use Rattle.alloc_book.specs.Least.{IsLeast}
 use Rattle.alloc_book.specs.Usable.{IsUsable}
-use Rattle.mlb_base.proofs.CaseLaws.{case-has, first-holds, first-stands}
+use Rattle.mlb_base.proofs.CaseLaws.{case-has, fails, first-holds, first-stands}
+use Rattle.alloc_book.proofs.ChooseLaws.{fits_option-is}
 use Rattle.core_laws.specs.Served.{IsServed, AreOffered, ChosenIsServed}
 
--- ---- one of each
-nat-same : (a b : ℕ) → eqb a b ≡ true → a ≡ b
-nat-same a b e = grind (arith, nat_tests)
+-- ---- one of each family of an option
+by-test : {P : Type 0} → (b : Bool) → Decides b P → ¬ (¬ P) → P
+by-test true decides twice = decides.0 refl
+by-test false decides twice = absurd (twice (fails false decides refl))
 
-nat-other : (a b : ℕ) → eqb a b ≡ false → a ≡ b → ⊥
-nat-other a b e is = grind (arith, nat_tests)
+fits-stable : (q : Asker) (addresses : List AddressValue) → ¬ (¬ (FitsOption q addresses)) → FitsOption q addresses
+fits-stable q addresses twice = by-test (fits_option q addresses) (fits_option-is q addresses) twice
 
-nat-by : (t : Bool) (a b : ℕ) → t ≡ eqb a b → ¬ (¬ (a ≡ b)) → a ≡ b
-nat-by true a b t twice = nat-same a b (sym t)
-nat-by false a b t twice = absurd (twice (nat-other a b (sym t)))
-
-each-stable : (families : List Family) (addresses : List AddressValue) → ¬ (¬ (IsOneOfEach families addresses)) → IsOneOfEach families addresses
-each-stable families addresses twice family = nat-by (eqb _ _) _ _ refl (λ n. twice (λ each. n (each family)))
+first-is : {X : Type 0} (P Q : X → Type 0) (xs : List X) (x : X) → IsFirst P xs x → Q x → Has Q xs
+first-is P Q [] x first is = absurd first
+first-is P Q (z ∷ zs) x first is = ⊎_elim (λ here. inl (subst Q here.1 is)) (λ there. inr (first-is P Q zs x there.1 is)) first
 
 count-by : (b : Bool) (a : AddressValue) (f : Family) (xs : List AddressValue) (fs : List Family) → length xs ≡ length fs → length (cond b (a ∷ xs) xs) ≡ length (cond b (f ∷ fs) fs)
 count-by true a f xs fs e = ap suc e
@@ -91,7 +92,7 @@ module _ (has : Holders) (o : Offer) (q : Asker) where
         pool = k.0;
         stands = first-stands (IsKept has o q) o.pools k.0 k.1;
         serves = kept.is_open.0;
-        each = kept.each;
+        fits = kept.fits;
         usable = kept.usable;
         as_asked = kept.as_asked;
         from_asked = kept.is_open.1;
@@ -99,7 +100,7 @@ module _ (has : Holders) (o : Offer) (q : Asker) where
       } in
       ⊎_elim (λ same. subst (IsServed has o q) (cc) made) (λ new. absurd (cc)) for
 
-  served-home : (r : Record) (c : Choice) → AsksAddresses q → ¬ (AsksAddresses q × ¬ (IsOneOfEach q.families (asked_in q.wanted)))
+  served-home : (r : Record) (c : Choice) → AsksAddresses q → ¬ (AsksAddresses q × ¬ (FitsOption q (asked_in q.wanted)))
       → (pool : CompiledPool) × IsFirst (IsHome o q) o.pools pool × AllUsable has q pool (asked_in q.wanted) × (c ≡ New (record_in pool q (asked_in q.wanted))) → IsFor r c → IsServed has o q r
   served-home r c asked four k for =
       let home : IsHome o q k.0 = first-holds (IsHome o q) o.pools k.0 k.1 in
@@ -108,7 +109,7 @@ module _ (has : Holders) (o : Offer) (q : Asker) where
         pool = k.0;
         stands = first-stands (IsHome o q) o.pools k.0 k.1;
         serves = home.is_open.0;
-        each = each-stable q.families (asked_in q.wanted) (λ n. four (asked, n));
+        fits = fits-stable q (asked_in q.wanted) (λ n. four (asked, n));
         usable = k.2;
         as_asked = λ _. (λ a there. there, λ a there. there);
         from_asked = home.is_open.1;
@@ -117,24 +118,28 @@ module _ (has : Holders) (o : Offer) (q : Asker) where
       ⊎_elim (λ kept. absurd (cc)) (λ new. subst (IsServed has o q) (cc) made) for
 
   served-new : (pools : List CompiledPool) (reason : Reason) (r : Record) (c : Choice) → ¬ (AsksAddresses q)
-      → ((pool : CompiledPool) → IsFirst (HasEach has q) pools pool → Contains o.pools pool × (o.serves pool ≡ true) × (q.pool_asked ≢ [] → pool.name ≡ q.pool_asked))
+      → ((families : List Family) (pool : CompiledPool) → IsFirst (HasEach has q families) pools pool → Contains o.pools pool × (o.serves pool ≡ true) × (q.pool_asked ≢ [] → pool.name ≡ q.pool_asked))
       → Gives has q pools reason c → IsFor r c → IsServed has o q r
   served-new pools reason r c unasked offered gives for =
       ⊎_elim
       (λ given.
-      let pool = given.1.0 in
-      let zip = given.1.2 in
+      let families = given.1.0 in
+      let option = given.1.1 in
+      let least = given.1.2 in
+      let pool = least.0 in
+      let zip = least.2 in
       let is = given.2 in
-      let from = offered pool given.1.1 in
+      let from = offered families pool least.1 in
       let made : IsServed has o q given.0 = record {
         pool = pool;
         stands = from.0;
         serves = from.1;
-        each = each-zip (IsLeast has q.key q.terms pool) q.families given.0.addresses (λ f a least. least.0.0) zip;
-        usable = all-zip (IsLeast has q.key q.terms pool) (IsUsable has q.key q.terms pool) q.families given.0.addresses (λ f a least. least.0.1) zip;
+        fits = first-is (SomeHasEach has q pools) (λ (fs : List Family). IsOneOfEach fs given.0.addresses) q.options families option
+            (each-zip (IsLeast has q.key q.terms pool) families given.0.addresses (λ f a l. l.0.0) zip);
+        usable = all-zip (IsLeast has q.key q.terms pool) (IsUsable has q.key q.terms pool) families given.0.addresses (λ f a l. l.0.1) zip;
         as_asked = λ asked. absurd (unasked asked);
         from_asked = from.2;
-        is = given.1.3;
+        is = least.3;
       } in
       ⊎_elim (λ kept. absurd (cc)) (λ new. subst (IsServed has o q) (cc) made) for)
       (λ full. absurd (for-pending r reason c full.1 for))
@@ -153,14 +158,14 @@ module _ (has : Holders) (o : Offer) (q : Asker) where
       case-has _ _ _ _ (λ _ is. absurd (for-pending r AddressUnusable c is for)) (λ _.
       case-has _ _ _ _ (λ asked home. served-home r c asked four home for) (λ unasked.
       case-has _ _ _ _ (λ asks gives. served-new (asked_pools o q) PoolExhausted r c unasked
-      (λ pool first.
-      let found : named o.pools q.pool_asked ≡ Some pool = only-first (HasEach has q) (named o.pools q.pool_asked) pool first in
+      (λ families pool first.
+      let found : named o.pools q.pool_asked ≡ Some pool = only-first (HasEach has q families) (named o.pools q.pool_asked) pool first in
       let from = named-from o.pools q.pool_asked pool found in
       (from.0, true-unless (o.serves pool) (λ refused. six (asks, (pool, found, refused))), λ _. from.1))
       gives for) (λ unasked_pool.
       case-has _ _ _ _ (λ _ is. absurd (for-pending r NoPool c is for)) (λ _ gives.
       served-new o.eligible Exhausted r c unasked
-      (λ pool first. let from = offered pool (first-stands (HasEach has q) o.eligible pool first) in (from.0, from.1, λ asks. absurd (unasked_pool asks)))
+      (λ families pool first. let from = offered pool (first-stands (HasEach has q families) o.eligible pool first) in (from.0, from.1, λ asks. absurd (unasked_pool asks)))
       gives for))))))))))))
 
 pub chosen_is_served : ChosenIsServed

@@ -1,5 +1,5 @@
 -- A service that waits is pending: the record that it has doesn't matter.
-use Rattle.std.proofs.Common.{◌≡◌, ◌≢◌, ℕ, suc, true, cond, List, [], ◌∷◌, length, filter, Option, Some, None, inl, inr, ⊎_elim, refl, sym, ap, subst, ◌∙◌}
+use Rattle.std.proofs.Common.{◌≡◌, ◌≢◌, ℕ, suc, true, cond, List, [], ◌∷◌, map, length, filter, Option, Some, None, inl, inr, ⊎_elim, refl, sym, ap, subst, ◌∙◌}
 use Rattle.std.proofs.lemmas.Bool.{and_parts, true≢false}
 use Rattle.std.proofs.lemmas.Slice.Eq.{bytes_eq-Decides}
 use Rattle.ip_ranges.specs.declared.family.Family.{Family}
@@ -11,14 +11,16 @@ use Rattle.kube_model.specs.declared.service.Service.{Service}
 use Rattle.kube_model.specs.Records.{empty_record}
 use Rattle.kube_model.specs.Service.{is_handled, same_class, with_holding}
 use Rattle.mlb_base.specs.Cases.{Case, IsFirst, NoneIs}
+use Rattle.mlb_base.specs.Items.{Has}
 use Rattle.mlb_base.proofs.CaseLaws.{case-has, first-none, none-fewer}
 use Rattle.sharing_terms.specs.declared.terms.Terms.{Terms}
 use Rattle.pool_config.specs.declared.compiled.CompiledPool.{CompiledPool}
 use Rattle.alloc_book.specs.declared.choice.Choice.{Choice}
 use Rattle.alloc_book.specs.declared.choice.Choice.TheVariants.{Foreign, Clear, Pending, Keep, New}
-use Rattle.alloc_book.specs.Asking.{Asker, Holders, Offer, asker_of, asked_in}
+use Rattle.alloc_book.specs.Asking.{Asker, Offer, alone_of, options_of, asker_of, asked_in}
+use Rattle.alloc_book.specs.Claims.{Holders}
 use Rattle.alloc_book.specs.Chosen.{AsksAddresses, Gives, IsChosen, IsChosenFor}
-use Rattle.alloc_book.specs.First.{AllUsable, IsHome, IsKept, IsOneOfEach, record_in}
+use Rattle.alloc_book.specs.First.{AllUsable, FitsOption, IsHome, IsKept, IsOneOfEach, record_in}
 use Rattle.alloc_book.specs.Granted.{IsFor}
 use Rattle.core_rules.specs.Turn.{wanted_record}
 use Rattle.core_laws.specs.Quiet.{MeetsRow}
@@ -34,6 +36,21 @@ some-wanted (f ∷ families) some each =
     let counted : 0 ≡ length (cond (same_family f f) (f ∷ filter (λ (g : Family). same_family g f) families) (filter (λ (g : Family). same_family g f) families)) = each f in
     let more : 0 ≡ suc (length (filter (λ (g : Family). same_family g f) families)) = rw (same_family-itself f) at counted in
     absurd (cc)
+
+-- nor of each family of an option that has a family
+abbrev AreSome : List (List Family) → Type 0
+AreSome options = NoneIs (λ (families : List Family). families ≡ []) options
+
+none-fits : (options : List (List Family)) → AreSome options → ¬ (Has (λ (families : List Family). IsOneOfEach families []) options)
+none-fits [] some has = has
+none-fits (families ∷ options) some has = ⊎_elim (λ here. some-wanted families some.0 here) (λ later. none-fits options some.1 later) has
+
+alone-some : (families : List Family) → AreSome (map (λ (family : Family). family ∷ []) families)
+alone-some [] = tt
+alone-some (f ∷ families) = (λ e. absurd (cc), alone-some families)
+
+options-some : (service : Service) → service.families ≢ [] → AreSome (options_of service)
+options-some service some = (some, alone-some (alone_of service.prefer_dual service.families))
 
 -- ---- the same choice under another record
 first-turned : {X : Type 0} (P Q : X → Type 0) (xs : List X) (x : X) → ((z : X) → P z → Q z) → ((z : X) → Q z → P z) → IsFirst P xs x → IsFirst Q xs x
@@ -106,7 +123,7 @@ handled-parts class service e =
     let parts = and_parts service.balancer (same_class class service.class) e in
     (parts.0, same_class-is class service.class parts.1)
 
-not-foreign : (has : Holders) (o : Offer) (class : Option (List ℕ)) (service : Service) (q : Asker) → is_handled class service ≡ true → IsChosenFor has o class service q Foreign → ⊥
+pub not-foreign : (has : Holders) (o : Offer) (class : Option (List ℕ)) (service : Service) (q : Asker) → is_handled class service ≡ true → IsChosenFor has o class service q Foreign → ⊥
 not-foreign has o class service q handled =
     case-has _ _ _ _ (λ one _. one.1 (handled-parts class service handled).1) (λ _.
     case-has _ _ _ _ (λ _ is. absurd (cc)) (λ _.
@@ -124,7 +141,7 @@ not-foreign has o class service q handled =
     given : (pools : List CompiledPool) (reason : Reason) → Gives has q pools reason Foreign → ⊥
     given pools reason gives = ⊎_elim (λ new. let is = new.2 in absurd (cc)) (λ full. let is = full.1 in absurd (cc)) gives
 
-not-cleared : (has : Holders) (o : Offer) (class : Option (List ℕ)) (service : Service) (q : Asker) → is_handled class service ≡ true → IsChosenFor has o class service q Clear → ⊥
+pub not-cleared : (has : Holders) (o : Offer) (class : Option (List ℕ)) (service : Service) (q : Asker) → is_handled class service ≡ true → IsChosenFor has o class service q Clear → ⊥
 not-cleared has o class service q handled =
     case-has _ _ _ _ (λ _ is. absurd (cc)) (λ _.
     case-has _ _ _ _ (λ two _. true≢false (sym (handled-parts class service handled).0 ∙ two)) (λ _.
@@ -148,7 +165,7 @@ asker-with service holding =
     let by : Terms → Asker = λ terms. record {
       key = service.key;
       terms = terms;
-      families = service.families;
+      options = options_of service;
       wanted = service.wanted;
       pool_asked = service.pool_asked;
       recorded = holding.addresses;
@@ -156,12 +173,12 @@ asker-with service holding =
     ap by (terms-kept service holding)
 
 -- with no address nothing is kept
-kept-none : (has : Holders) (o : Offer) (q : Asker) → q.families ≢ [] → q.recorded ≡ [] → ¬ ((pool : CompiledPool) × IsFirst (IsKept has o q) o.pools pool)
+kept-none : (has : Holders) (o : Offer) (q : Asker) → AreSome q.options → q.recorded ≡ [] → ¬ ((pool : CompiledPool) × IsFirst (IsKept has o q) o.pools pool)
 kept-none has o q some none found =
     first-none (IsKept has o q) o.pools found.0 found.1 (all-not o.pools)
   where
     not-kept : (pool : CompiledPool) → ¬ (IsKept has o q pool)
-    not-kept pool k = some-wanted q.families some (subst (IsOneOfEach q.families) none k.each)
+    not-kept pool k = none-fits q.options some (subst (FitsOption q) none k.fits)
 
     all-not : (pools : List CompiledPool) → NoneIs (IsKept has o q) pools
     all-not [] = tt
@@ -172,14 +189,14 @@ module _ (class : Option (List ℕ)) (offer_for : Service → Offer) (has : Hold
   before-handled : is_handled class row.before ≡ true
   before-handled = sym (ap (is_handled class) row.only_record) ∙ handled
 
-  before-some : row.before.families ≢ []
-  before-some e = some (ap (λ (s : Service). s.families) row.only_record ∙ e)
+  before-some : AreSome (options_of row.before)
+  before-some = options-some row.before (λ e. some (ap (λ (s : Service). s.families) row.only_record ∙ e))
 
   -- a record with no address was not chosen
   not-served : (r : Record) → IsFor r row.choice → service.holding ≡ r → ⊥
   not-served r for is =
       let served : IsServed row.chosen_by (offer_for row.before) (asker_of row.before) r = chosen_is_served row.chosen_by (offer_for row.before) class row.before r row.choice (for_service.offered row.before) for row.chosen in
-      some-wanted row.before.families before-some (subst (λ (x : Record). IsOneOfEach row.before.families x.addresses) (sym is ∙ empty) served.each)
+      none-fits (options_of row.before) before-some (subst (λ (x : Record). FitsOption (asker_of row.before) x.addresses) (sym is ∙ empty) served.fits)
 
   pending-of : (reason : Reason) → row.choice ≡ Pending reason → IsChosen has (offer_for service) class service (Pending reason)
   pending-of reason is =

@@ -1,9 +1,11 @@
+pub mod Claimed
 pub mod Expired
 pub mod Puts
 pub mod Queue
 pub mod Quiet
 pub mod QuietShown
 pub mod Served
+pub mod Settled
 pub mod Shared
 pub mod Shown
 pub mod Sound

@@ -7,9 +7,9 @@ use Rattle.kube_model.specs.declared.service.Service.{Service}
 use Rattle.kube_model.specs.Service.{with_holding}
 use Rattle.alloc_book.specs.declared.choice.Choice.{Choice}
 use Rattle.alloc_book.specs.declared.choice.Choice.TheVariants.{Pending}
-use Rattle.alloc_book.specs.Asking.{Holders, Offer}
+use Rattle.alloc_book.specs.Asking.{Offer}
 use Rattle.alloc_book.specs.Chosen.{IsChosen}
-use Rattle.alloc_book.specs.Claims.{holders}
+use Rattle.alloc_book.specs.Claims.{holders, Holders}
 use Rattle.kube_model.specs.Keys.{same_key}
 use Rattle.core_rules.specs.Core.{State, service_of, offer_in, is_settled}
 use Rattle.core_rules.specs.Turn.{wanted_record}

@@ -5,21 +5,22 @@ use Rattle.kube_model.specs.declared.record.Record.{Record}
 use Rattle.kube_model.specs.declared.service.Service.{Service}
 use Rattle.pool_config.specs.declared.compiled.CompiledPool.{CompiledPool}
 use Rattle.alloc_book.specs.declared.choice.Choice.{Choice}
-use Rattle.alloc_book.specs.Asking.{Asker, Holders, Offer, asker_of, asked_in, is_asked}
+use Rattle.alloc_book.specs.Asking.{Asker, Offer, asker_of, asked_in, is_asked}
+use Rattle.alloc_book.specs.Claims.{Holders}
 use Rattle.alloc_book.specs.Chosen.{IsChosen}
-use Rattle.alloc_book.specs.First.{AllUsable, AreSame, IsOneOfEach, record_in}
+use Rattle.alloc_book.specs.First.{AllUsable, AreSame, FitsOption, record_in}
 use Rattle.alloc_book.specs.Granted.{IsFor}
 use Rattle.object_history.specs.Cache.{Cached}
 use Rattle.core_rules.specs.Core.{offer_in}
 use Rattle.core_laws.specs.Quiet.{MeetsRow}
 
--- The record has one address of each wanted family and no others, of one pool that serves the service, that pool's name, and the
+-- The record has one address of each family of some option and no others, of one pool that serves the service, that pool's name, and the
 -- mark of the service's terms. Asked addresses and an asked pool are those.
 pub record IsServed (has : Holders) (o : Offer) (q : Asker) (r : Record) : Type 0 where
   pub pool : CompiledPool
   pub stands : Contains o.pools pool
   pub serves : o.serves pool ≡ true
-  pub each : IsOneOfEach q.families r.addresses
+  pub fits : FitsOption q r.addresses
   pub usable : AllUsable has q pool r.addresses
   pub as_asked : is_asked q.wanted ≡ true → AreSame r.addresses (asked_in q.wanted)
   pub from_asked : q.pool_asked ≢ [] → pool.name ≡ q.pool_asked

@@ -6,7 +6,8 @@ use Rattle.kube_model.specs.declared.service.Service.{Service}
 use Rattle.kube_model.specs.Records.{empty_record}
 use Rattle.kube_model.specs.Service.{is_handled, with_holding}
 use Rattle.alloc_book.specs.declared.choice.Choice.TheVariants.{Pending}
-use Rattle.alloc_book.specs.Asking.{Holders, Offer}
+use Rattle.alloc_book.specs.Asking.{Offer}
+use Rattle.alloc_book.specs.Claims.{Holders}
 use Rattle.alloc_book.specs.Chosen.{IsChosen}
 use Rattle.core_laws.specs.Quiet.{MeetsRow}
 use Rattle.core_laws.specs.Served.{AreOffered}
@@ -17,7 +18,7 @@ pub record AreForService (offer_for : Service → Offer) : Type 0 where
   pub offered : (service : Service) → AreOffered (offer_for service)
 
 -- A handled service that wants some family and has an empty record is pending: its request can't be met, or no pool that it may
--- use has a usable address of each wanted family. The table of choices says which.
+-- use has a usable address of each family of some option. The table of choices says which.
 abbrev pub WaitsInVain : Type 0
 WaitsInVain =
     (class : Option (List ℕ)) (offer_for : Service → Offer) (has : Holders) (service : Service) → AreForService offer_for

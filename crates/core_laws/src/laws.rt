@@ -1,10 +1,12 @@
 //! What holds of every run.
+ghost use Rattle.core_laws.specs.Claimed.{ServicesAreClaimed};
 ghost use Rattle.core_laws.specs.Expired.{ExpiredIsBoth};
 ghost use Rattle.core_laws.specs.Puts.{PutsAreRight, NoPutsAreRight, TurnsAreReady};
 ghost use Rattle.core_laws.specs.Queue.{QueuesAreOrderly};
 ghost use Rattle.core_laws.specs.Quiet.{RunsAreQuiet};
 ghost use Rattle.core_laws.specs.QuietShown.{RunsAreQuietAsShown};
 ghost use Rattle.core_laws.specs.Served.{ChosenIsServed, RowsAreServed};
+ghost use Rattle.core_laws.specs.Settled.{OffersAreForServices, HeldAreServed, OthersAreBare};
 ghost use Rattle.core_laws.specs.Shared.{RunsAreShared};
 ghost use Rattle.core_laws.specs.Sound.{RunsAreSound};
 ghost use Rattle.core_laws.specs.Telling.{ReasonsAreRight, NotesAreRight};
@@ -49,22 +51,36 @@ pub fn turns_are_of_free_keys()
     ensures { TurnsAreOfFreeKeys }
 {}
 
-/// Whatever record is chosen has one address of each wanted family, of one pool that serves the service.
+/// Whatever record is chosen has one address of each family of some option, of one pool that serves the service.
 pub fn chosen_is_served()
     ensures chosen { ChosenIsServed }
     ensures rows { RowsAreServed }
 {}
 
-/// At no moment have two services, or may they have, one address, unless they share it by their recorded terms, or the one
-/// that came to it later was shown with it by the cluster.
+/// Whatever arrives, each held service with an address has a claim of its record: under the terms of its mark, and where it is the mark
+/// of none under those of the service.
+pub fn services_are_claimed()
+    ensures { ServicesAreClaimed }
+{}
+
+/// At no moment have two services, or may they have, one address, unless they share it by their terms, or the one that came to it
+/// later, or came later to its terms, was shown with it so by the cluster.
 pub fn runs_are_shared()
     ensures { RunsAreShared }
 {}
 
 /// A handled service with an empty record is pending: its request can't be met, or no pool that it may use has a usable address
-/// of each wanted family.
+/// of each family of some option.
 pub fn services_wait_in_vain()
     ensures { WaitsInVain }
+{}
+
+/// What a service has that meets its row: one that is handled and has a record has what serves it, and one that isn't of type
+/// LoadBalancer has none.
+pub fn settled_are_served()
+    ensures offers { OffersAreForServices }
+    ensures held { HeldAreServed }
+    ensures others { OthersAreBare }
 {}
 
 /// Whenever nothing is queued and no put is out, each held service that doesn't await a newer event has what is chosen for it,

@@ -15,7 +15,10 @@ use Rattle.object_history.specs.Cache.{Cached, nothing}
 use Rattle.kube_model.specs.Keys.{key_cmp}
 use Rattle.object_cache.specs.Told.{passing}
 use Rattle.alloc_book.specs.Asking.{Offer, offer_of}
-use Rattle.alloc_book.specs.Claims.{ClaimValue}
+use Rattle.sharing_terms.specs.declared.terms.Terms.{Terms}
+use Rattle.sharing_terms.specs.declared.terms.Backend.TheVariants.{Cluster}
+use Rattle.sharing_terms.specs.Terms.{terms_of}
+use Rattle.alloc_book.specs.Claims.{ClaimValue, terms_under}
 use Rattle.kube_model.specs.Records.{empty_record, is_assigned, same_record}
 use Rattle.core_rules.specs.Keys.{is_free}
 
@@ -42,6 +45,18 @@ service_of held key = object_at key_cmp held.services key
 -- the record last shown for a held service
 abbrev pub record_of : Cached → Key → Option Record
 record_of held key = option_map (λ s. s.holding) (service_of held key)
+
+-- no sharing key, and no port
+abbrev pub no_terms : Terms
+no_terms = record { key = []; ports = []; backend = Cluster }
+
+-- the terms of the held service
+abbrev pub terms_in : Cached → Key → Terms
+terms_in held key = option_map_or terms_of (service_of held key) no_terms
+
+-- A record as it is claimed for a service: under the terms of its mark, and where it is the mark of none under those of the service.
+abbrev pub shown_terms : Service → Terms
+shown_terms service = terms_under service.holding (terms_of service)
 
 -- ready, held, and neither queued nor awaiting
 abbrev pub is_settled : State → Key → Bool

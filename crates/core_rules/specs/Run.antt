@@ -5,17 +5,21 @@ use Rattle.kube_model.specs.declared.event.Group.{Group}
 use Rattle.kube_model.specs.declared.event.Group.TheVariants as groups
 use Rattle.kube_model.specs.declared.key.Key.{Key}
 use Rattle.kube_model.specs.declared.put.Put.{Put}
-use Rattle.kube_model.specs.declared.record.Record.{Record}
 use Rattle.kube_model.specs.declared.reply.PutReply.{PutReply}
 use Rattle.kube_model.specs.declared.reply.PutReply.TheVariants.{Ok as StoredReply, Stale, Missing, Unknown}
 use Rattle.object_history.specs.Cache.{cached}
 use Rattle.object_history.specs.Observations.{Observation, Watched, WatchExpired, Written}
 use Rattle.object_history.specs.Kinds.{service_resource}
-use Rattle.object_history.specs.LookBack.{version_last_shown}
-use Rattle.alloc_book.specs.Claims.{claims_of, claimed_by, added}
+use Rattle.object_history.specs.LookBack.{last_shown, version_last_shown}
+use Rattle.std.specs.List.{Contains}
+use Rattle.std.specs.Option.{option_map_or}
+use Rattle.sharing_terms.specs.declared.terms.Terms.{Terms}
+use Rattle.sharing_terms.specs.Marked.{IsMarkOf}
+use Rattle.sharing_terms.specs.Terms.{terms_of}
+use Rattle.alloc_book.specs.Claims.{ClaimValue, claims_of, claim_of, terms_under, added}
 use Rattle.kube_model.specs.Keys.{same_key}
 use Rattle.core_rules.specs.declared.turn.Turn.{Turn}
-use Rattle.core_rules.specs.Core.{State, fresh}
+use Rattle.core_rules.specs.Core.{State, fresh, no_terms, shown_terms}
 use Rattle.core_rules.specs.Take.{Concern, Shows, Drops, EndsServices, Configures, Lapses, Nothing, concern, core_take, core_expired}
 use Rattle.core_rules.specs.Turn.{core_turn, after_turn, put_in}
 use Rattle.core_rules.specs.Replied.{core_reply}
@@ -87,38 +91,49 @@ observed (Heard reply ∷ earlier) = heard_by (put_out earlier) reply (observed 
 abbrev pub version_shown : Key → List Entry → ℕ
 version_shown key run = version_last_shown service_resource key (observed run)
 
-abbrev pub claims_told : Key → Concern → ℕ → List Record → List Record
-claims_told key (Shows version service) shown before = if same_key service.key key && not (nat_le version shown) then claimed_by service.holding else before
+-- the terms of the key's service, as the last newer event shows it
+abbrev pub terms_shown : Key → List Entry → Terms
+terms_shown key run = option_map_or (λ h. terms_of h.object) (last_shown service_resource key (observed run)) no_terms
+
+abbrev pub claims_told : Key → Concern → ℕ → List ClaimValue → List ClaimValue
+claims_told key (Shows version service) shown before =
+    if same_key service.key key && not (nat_le version shown) then claim_of service.key service.holding (shown_terms service) else before
 claims_told key (Drops k) shown before = if same_key k key then [] else before
 claims_told key EndsServices shown before = if shown == 0 then [] else before
 claims_told key Configures shown before = before
 claims_told key Lapses shown before = before
 claims_told key Nothing shown before = before
 
-abbrev pub claims_replied : Key → Put → PutReply → List Record → List Record
-claims_replied key put (StoredReply version) before = if same_key put.key key then claimed_by put.holding else before
-claims_replied key put Stale before = before
-claims_replied key put Missing before = before
-claims_replied key put Unknown before = if same_key put.key key then added put.holding before else before
+abbrev pub claims_replied : Key → Put → PutReply → Terms → List ClaimValue → List ClaimValue
+claims_replied key put (StoredReply version) adopted before = if same_key put.key key then claim_of put.key put.holding (terms_under put.holding adopted) else before
+claims_replied key put Stale adopted before = before
+claims_replied key put Missing adopted before = before
+claims_replied key put Unknown adopted before = if same_key put.key key then added put.key put.holding (terms_under put.holding adopted) before else before
 
-abbrev pub claims_heard : Key → Option Put → PutReply → List Record → List Record
-claims_heard key None reply before = before
-claims_heard key (Some put) reply before = claims_replied key put reply before
+abbrev pub claims_heard : Key → Option Put → PutReply → Terms → List ClaimValue → List ClaimValue
+claims_heard key None reply adopted before = before
+claims_heard key (Some put) reply adopted before = claims_replied key put reply adopted before
 
 -- The records that the key has, or may have: that of its last newer event or of its last put that was answered ok, whichever came
--- later, and those of the puts since then that were answered unknown; none after its deletion.
-abbrev pub claims_shown : Key → List Entry → List Record
+-- later, and those of the puts since then that were answered unknown; none after its deletion. Each is claimed under the terms of its
+-- mark, and where it is the mark of none under those of the service as the last newer event showed it.
+abbrev pub claims_shown : Key → List Entry → List ClaimValue
 claims_shown key [] = []
 claims_shown key (Took event ∷ earlier) = claims_told key (concern event) (version_shown key earlier) (claims_shown key earlier)
 claims_shown key (Expired group ∷ earlier) = claims_shown key earlier
 claims_shown key (Turned turn ∷ earlier) = claims_shown key earlier
-claims_shown key (Heard reply ∷ earlier) = claims_heard key (put_out earlier) reply (claims_shown key earlier)
+claims_shown key (Heard reply ∷ earlier) = claims_heard key (put_out earlier) reply (terms_shown key earlier) (claims_shown key earlier)
 
 -- ---- laws
 -- whatever arrives, the core holds what observed
 abbrev pub HoldsWhatWasObserved : Type 0
 HoldsWhatWasObserved = (class : Option (List ℕ)) (run : List Entry) → IsRun class run
     → ((core_after class run).held ≡ cached (observed run)) × ((core_after class run).out ≡ put_out run)
+
+-- whatever arrives, where the record of a claim is marked, the claim's terms are those of the mark
+abbrev pub ClaimsAreByMark : Type 0
+ClaimsAreByMark = (class : Option (List ℕ)) (run : List Entry) → (c : ClaimValue) → Contains (core_after class run).claims c
+    → (t : Terms) → IsMarkOf t c.holding.mark → c.terms ≡ t
 
 -- whatever arrives, each key has the claims that the look back shows
 abbrev pub ClaimsAreShown : Type 0

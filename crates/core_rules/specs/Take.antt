@@ -24,7 +24,7 @@ use Rattle.object_cache.specs.declared.change.Applied.{Applied}
 use Rattle.object_cache.specs.Change.{applied}
 use Rattle.object_cache.specs.Limits.{most_services, passes}
 use Rattle.alloc_book.specs.Claims.{ClaimValue, others, settled, loses, has_claims}
-use Rattle.core_rules.specs.Core.{State, is_ready, all_free, waiting}
+use Rattle.core_rules.specs.Core.{State, shown_terms, is_ready, all_free, waiting}
 use Rattle.core_rules.specs.Keys.{own_key}
 
 -- what an event is about, for a controller
@@ -87,9 +87,9 @@ with_service s version service =
     let newer = is_newer key_cmp s.held.services service.key version in
     record s {
       held = cached_after (Watched (shows version service)) s.held;
-      claims = if newer then settled service.key service.holding s.claims else s.claims;
+      claims = if newer then settled service.key service.holding (shown_terms service) s.claims else s.claims;
       awaiting = if newer then without service.key s.awaiting else s.awaiting;
-      queue = if newer then s.queue ++ own_and_waiting (is_ready s.held) (loses service.key service.holding s.claims) s service.key else s.queue;
+      queue = if newer then s.queue ++ own_and_waiting (is_ready s.held) (loses service.key service.holding (shown_terms service) s.claims) s service.key else s.queue;
     }
 
 -- the service is dropped with its claims, its place in the queue and its awaiting
@@ -115,7 +115,7 @@ listed_keys services keys = filter (λ k. not (is_unlisted services k)) keys
 abbrev pub listed_claims : List (Key × Versioned Service) → List ClaimValue → List ClaimValue
 listed_claims services claims = filter (λ c. not (is_unlisted services c.key)) claims
 
--- another has a claim
+-- a key that wasn't listed has a claim
 abbrev pub have_claims : List (Key × Versioned Service) → List ClaimValue → Bool
 have_claims services claims = list_any (λ c. is_unlisted services c.key) claims
 

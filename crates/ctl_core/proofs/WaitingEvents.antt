@@ -26,7 +26,7 @@ use Rattle.object_history.proofs.Held.{ascending-held_after}
 use Rattle.object_cache.specs.Change.{applied}
 use Rattle.object_cache.specs.Told.{passing}
 use Rattle.alloc_book.specs.Claims.{loses, has_claims}
-use Rattle.core_rules.specs.Core.{State, is_ready, service_of, is_free_with, all_free, waits, waiting}
+use Rattle.core_rules.specs.Core.{State, is_ready, service_of, is_free_with, all_free, waits, waiting, shown_terms}
 use Rattle.core_rules.specs.Keys.{own_key}
 use Rattle.core_rules.specs.Take.{Configures, concern, no_key, is_unlisted, listed_keys, have_claims, listed_and_free, without_service, with_services_listed, is_accepted, is_namespace, wakes, configured, core_expired}
 use Rattle.core_rules.proofs.Concerns.{config-services}
@@ -197,12 +197,12 @@ shown-other es version service key apart_key =
 
 held-at : (b : Bool) (s : State) (version : ℕ) (service : Service) (old new : BTreeSet Key) (key : Key) → IsStrictlySortedBy key_cmp (keys_of s.held.services) → b ≡ same_key service.key key
     → WaitIn s old
-    → contains key_cmp new key ≡ (not (loses service.key service.holding s.claims) && (not b && contains key_cmp old key))
+    → contains key_cmp new key ≡ (not (loses service.key service.holding (shown_terms service) s.claims) && (not b && contains key_cmp old key))
     → contains key_cmp new key
     ≡ (is_ready s.held && waits_at s.class (held_service s version service).queue (held_service s version service).awaiting key (service_of (held_service s version service).held key))
 held-at true s version service old new key sorted b waits_old new_is =
     let after = held_service s version service in
-    let lost = loses service.key service.holding s.claims in
+    let lost = loses service.key service.holding (shown_terms service) s.claims in
     let more = waiting lost s.class (same_key service.key) s.queue s.awaiting s.held.services in
     let a = has_key after.awaiting key in
     let l = lacks_record s.class (service_of after.held key) in
@@ -211,7 +211,7 @@ held-at true s version service old new key sorted b waits_old new_is =
     ∙ subst (λ k. (is_ready s.held && free_lacks (has_key after.queue k) a l) ≡ false) (same_key-is service.key key (sym b)) (own-out (is_ready s.held) s.queue more service.key a l))
 held-at false s version service old new key sorted b waits_old new_is =
     let after = held_service s version service in
-    let lost = loses service.key service.holding s.claims in
+    let lost = loses service.key service.holding (shown_terms service) s.claims in
     let more = waiting lost s.class (same_key service.key) s.queue s.awaiting s.held.services in
     let stays : Stays s.class key (is_ready s.held) lost s.queue after.queue s.awaiting after.awaiting (service_of s.held key) (service_of after.held key) = record {
       queued = others-behind (is_ready s.held) s.queue more service.key key (sym b)
@@ -223,7 +223,7 @@ held-at false s version service old new key sorted b waits_old new_is =
     ∙ other-at s.class key (is_ready s.held) lost s.queue after.queue s.awaiting after.awaiting (service_of s.held key) (service_of after.held key) stays
 
 pub held-wait : (s : State) (version : ℕ) (service : Service) (own : Key) (lost : Bool) (old new : BTreeSet Key) → IsReached s → WaitIn s old → own ≡ service.key
-    → lost ≡ loses service.key service.holding s.claims
+    → lost ≡ loses service.key service.holding (shown_terms service) s.claims
     → ((key : Key) → contains key_cmp new key ≡ (not lost && (not (same_key own key) && contains key_cmp old key)))
     → WaitIn (held_service s version service) new
 held-wait s version service own lost old new r waits_old own_is lost_is new_is key =

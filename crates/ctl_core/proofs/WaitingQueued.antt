@@ -18,7 +18,7 @@ use Rattle.object_history.specs.Observations.{Watched}
 use Rattle.object_history.proofs.Held.{ascending-held_after}
 use Rattle.object_cache.specs.Told.{passing}
 use Rattle.alloc_book.specs.Claims.{loses, has_claims}
-use Rattle.core_rules.specs.Core.{State, is_ready, is_free_with, all_free, waiting}
+use Rattle.core_rules.specs.Core.{State, is_ready, is_free_with, all_free, waiting, shown_terms}
 use Rattle.core_rules.specs.Keys.{own_key}
 use Rattle.core_rules.specs.Take.{no_key, listed_keys, listed_and_free, own_and_waiting, shows}
 use Rattle.core_laws.specs.Queue.{AreApart, NoneAmong}
@@ -57,9 +57,9 @@ behind-apart (k ∷ queue) more apart =
 
 -- ---- where a newer service is held
 pub held-behind : (s : State) (version : ℕ) (service : Service) → IsReached s → is_newer key_cmp s.held.services service.key version ≡ true
-    → GoBehind (own_and_waiting (is_ready s.held) (loses service.key service.holding s.claims) s service.key) s.queue
+    → GoBehind (own_and_waiting (is_ready s.held) (loses service.key service.holding (shown_terms service) s.claims) s service.key) s.queue
 held-behind s version service r newer =
-    let more = own_and_waiting (is_ready s.held) (loses service.key service.holding s.claims) s service.key in
+    let more = own_and_waiting (is_ready s.held) (loses service.key service.holding (shown_terms service) s.claims) s service.key in
     let shown = reached-cached s r in
     behind-apart s.queue more
     (subst (λ b. AreApart (cond b (s.queue ++ more) s.queue)) newer (took-order s shown.0 shown.1 (reached-orderly s r).order (shows version service)).once)

@@ -7,6 +7,8 @@ use Rattle.std.specs.Map.{keys_of}
 use Rattle.kube_model.specs.declared.key.Key.{Key}
 use Rattle.kube_model.specs.declared.put.Put.{Put}
 use Rattle.kube_model.specs.declared.record.Record.{Record}
+use Rattle.kube_model.specs.declared.reply.PutReply.{PutReply}
+use Rattle.kube_model.specs.declared.reply.PutReply.TheVariants.{Unknown}
 use Rattle.kube_model.specs.declared.service.Service.{Service}
 use Rattle.kube_model.specs.Keys.{key_cmp, same_key, has_key}
 use Rattle.kube_model.specs.Service.{with_holding}
@@ -19,10 +21,10 @@ use Rattle.object_history.specs.LookBack.{written_over}
 use Rattle.object_history.specs.Observations.{Written}
 use Rattle.object_history.proofs.Held.{amended_seen}
 use Rattle.object_cache.specs.Told.{passing}
-use Rattle.alloc_book.specs.Claims.{ClaimValue, settled, loses}
+use Rattle.alloc_book.specs.Claims.{ClaimValue, settled, doubted, loses}
 use Rattle.core_rules.specs.Core.{State, is_ready, service_of, waits, waiting}
 use Rattle.core_rules.specs.Keys.{is_free}
-use Rattle.core_rules.specs.Replied.{stored}
+use Rattle.core_rules.specs.Replied.{stored, in_doubt, put_terms, core_reply}
 use Rattle.core_rules.specs.Turn.{rest_of}
 use Rattle.core_laws.proofs.Orderly.{IsInOrder}
 use Rattle.core_laws.proofs.QueueOnce.{AreNew, no-true, waiting-new}
@@ -274,7 +276,15 @@ module _ (s : State) (reached : IsReached s) where
 
 -- what the state is then
 pub stored-is : (s : State) (put : Put) (version : ℕ) (cache : Cached) (claims : List ClaimValue) (queue more : List Key)
-    → cache ≡ cached_after (Written put.key version put.holding) s.held → claims ≡ settled put.key put.holding s.claims → queue ≡ s.queue ++ more
-    → more ≡ waiting (loses put.key put.holding s.claims) s.class (same_key put.key) s.queue s.awaiting s.held.services
+    → cache ≡ cached_after (Written put.key version put.holding) s.held → claims ≡ settled put.key put.holding (put_terms s.held put) s.claims → queue ≡ s.queue ++ more
+    → more ≡ waiting (loses put.key put.holding (put_terms s.held put) s.claims) s.class (same_key put.key) s.queue s.awaiting s.held.services
     → record s { held = cache; claims = claims; queue = queue; out = None } ≡ stored s put version
 stored-is s put version cache claims queue more cache_is claims_is queue_is more_is = rw (cache_is, claims_is, queue_is, more_is) refl
+
+pub in_doubt-is : (s : State) (put : Put) (claims : List ClaimValue) (queue : List Key)
+    → claims ≡ doubted put.key put.holding (put_terms s.held put) s.claims → queue ≡ s.queue ++ put.key ∷ []
+    → record s { claims = claims; queue = queue; out = None } ≡ in_doubt s put
+in_doubt-is s put claims queue claims_are queue_is = rw (claims_are, queue_is) refl
+
+pub reply-unknown : (s : State) (put : Put) (reply : PutReply) → s.out ≡ Some put → reply ≡ Unknown → in_doubt s put ≡ core_reply s reply
+reply-unknown s put reply out unknown = rw (out, unknown) refl

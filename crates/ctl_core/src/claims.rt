@@ -1,18 +1,70 @@
 //! What a change of services makes of the claims.
-ghost use Rattle.std.specs.Prelude.{◌≡◌};
-ghost use Rattle.alloc_book.specs.Claims.{loses};
+ghost use Rattle.std.specs.Prelude.{◌≡◌, IfOk};
+ghost use Rattle.alloc_book.specs.Claims.{loses, terms_under};
+ghost use Rattle.core_rules.specs.Core.{no_terms, shown_terms, terms_in};
+ghost use Rattle.core_rules.specs.Replied.{put_terms};
 ghost use Rattle.core_rules.specs.Take.{have_claims, listed_claims};
 
 use crate::keys::Services;
 use crate::listing::Listed;
-use alloc_book::Book;
-use kube_model::{Key, Record};
+use alloc_book::{Book, Claim};
+use kube_labels::Text;
+use kube_model::{Key, Put, Record, Service};
+use mlb_base::NoMemory;
+use object_cache::ObjectCache;
+use sharing_terms::{Backend, PortSet, Terms, terms_of};
+use std::alloc::Global;
 
-/// Whether the key has a claim with another record than this one.
-pub(crate) fn loses(book: &Book, key: &Key, holding: &Record) -> bool
-    ensures { result ≡ loses key.now holding.now book.now.claims }
+/// Whether the claim's key has another claim than this one.
+pub(crate) fn loses(book: &Book, claim: &Claim) -> bool
+    ensures { result ≡ loses claim.now.key claim.now.holding claim.now.terms book.now.claims }
 {
-    book.loses(key, holding)
+    book.loses(claim)
+}
+
+/// The record as it is claimed: under the terms of its mark, and where it is the mark of none under the adopted ones.
+fn adopting(alloc: Global, key: &Key, holding: &Record, adopted: Terms) -> Result<Claim, NoMemory>
+    ensures { IfOk result (λ c. c ≡ record { key = key.now; holding = holding.now; terms = terms_under holding.now adopted }) }
+{
+    let claim = Claim::adopting(alloc, key, holding, &adopted);
+    drop(adopted);
+    claim
+}
+
+/// The claim of a service that is shown: it adopts the terms that the service has now.
+pub(crate) fn shown_claim(alloc: Global, service: &Service) -> Result<Claim, NoMemory>
+    ensures { IfOk result (λ c. c ≡ record { key = service.now.key; holding = service.now.holding; terms = shown_terms service.now }) }
+{
+    let terms = terms_of(alloc, service)?;
+    adopting(alloc, &service.key, &service.holding, terms)
+}
+
+/// The claim of a put: it adopts the terms of the held service.
+pub(crate) fn claim_of(alloc: Global, cache: &ObjectCache, put: &Put) -> Result<Claim, NoMemory>
+    ensures { IfOk result (λ c. c ≡ record { key = put.now.key; holding = put.now.holding; terms = put_terms cache.now put.now }) }
+{
+    let terms = terms_in(alloc, cache, &put.key)?;
+    adopting(alloc, &put.key, &put.holding, terms)
+}
+
+/// The terms of the held service; one that isn't held has no sharing key and no port.
+fn terms_in(alloc: Global, cache: &ObjectCache, key: &Key) -> Result<Terms, NoMemory>
+    ensures { IfOk result (λ terms. terms ≡ terms_in cache.now key.now) }
+{
+    match cache.service(key) {
+        Some(service) => terms_of(alloc, service),
+        None => no_terms(alloc),
+    }
+}
+
+fn no_terms(alloc: Global) -> Result<Terms, NoMemory>
+    ensures { IfOk result (λ terms. terms ≡ no_terms) }
+{
+    Ok(Terms {
+        key: Text::new(alloc, "")?,
+        ports: PortSet::of(alloc, &[])?,
+        backend: Backend::Cluster,
+    })
 }
 
 /// Whether a service has a claim that isn't held, or wasn't listed.

@@ -44,14 +44,14 @@ impl CoreState {
         ensures ok { OnOk result (self.new ≡ stored self.old put version) }
         ensures err { OnErr result (self.new ≡ self.old) }
     {
-        let is_lost = loses(&self.book, &put.key, &put.holding);
-        let Ok(more) = self.waiting.others_where(self.alloc, is_lost, &put.key) else {
+        let Ok(claim) = reserved_claim(self.alloc, &self.cache, &mut self.book, &put) else {
             drop(put);
             return Err(NoMemory);
         };
-        let Ok(claim) = reserved_claim(self.alloc, &mut self.book, &put) else {
+        let is_lost = loses(&self.book, &claim);
+        let Ok(more) = self.waiting.others_where(self.alloc, is_lost, &put.key) else {
             drop(put);
-            drop(more);
+            drop(claim);
             return Err(NoMemory);
         };
         let services = self.cache.services();
@@ -112,7 +112,7 @@ impl CoreState {
         ensures ok { OnOk result (self.new ≡ in_doubt self.old put) }
         ensures err { OnErr result (self.new ≡ self.old) }
     {
-        let Ok(claim) = reserved_claim(self.alloc, &mut self.book, &put) else {
+        let Ok(claim) = reserved_claim(self.alloc, &self.cache, &mut self.book, &put) else {
             drop(put);
             return Err(NoMemory);
         };

@@ -2,21 +2,29 @@
 ghost use Rattle.std.specs.Prelude.{◌≡◌, ◌++◌, ◌∷◌, [], if◌then◌else◌, false, take, IfOk, OnOk, OnErr};
 ghost use Rattle.kube_model.specs.Keys.{has_key};
 ghost use Rattle.alloc_book.specs.Book.{HasRoom};
+ghost use Rattle.core_rules.specs.Replied.{put_terms};
 ghost use Rattle.core_laws.specs.Queue.{AreApart, NoneAmong};
 
+use crate::claims::claim_of;
 use crate::keys::Keys;
 use alloc_book::{Book, Claim};
 use kube_model::{Key, Put};
 use mlb_base::NoMemory;
+use object_cache::ObjectCache;
 use std::alloc::Global;
 
-/// A claim of the key on the put's record, and room for it.
-pub(crate) fn reserved_claim(alloc: Global, book: &mut Book, put: &Put) -> Result<Claim, NoMemory>
-    ensures claim { IfOk result (λ c. c ≡ record { key = put.now.key; holding = put.now.holding }) }
+/// The claim of the put, and room for it.
+pub(crate) fn reserved_claim(
+    alloc: Global,
+    cache: &ObjectCache,
+    book: &mut Book,
+    put: &Put,
+) -> Result<Claim, NoMemory>
+    ensures claim { IfOk result (λ c. c ≡ record { key = put.now.key; holding = put.now.holding; terms = put_terms cache.now put.now }) }
     ensures room { IfOk result (HasRoom book.new) }
     ensures claims { book.new.claims ≡ book.old.claims }
 {
-    let claim = Claim::of(alloc, &put.key, &put.holding)?;
+    let claim = claim_of(alloc, cache, put)?;
     let Ok(()) = book.reserve(&claim) else {
         drop(claim);
         return Err(NoMemory);

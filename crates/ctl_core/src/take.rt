@@ -16,7 +16,7 @@ ghost use Rattle.ctl_core.specs.Holding.{IsPrepared, held_service};
 ghost use Rattle.ctl_core.specs.Reached.{IsReached};
 ghost use Rattle.ctl_core.specs.Waking.{may_wake, ends_config};
 
-use crate::claims::{have_claims, keep_listed_claims, loses};
+use crate::claims::{have_claims, keep_listed_claims, loses, shown_claim};
 use crate::keys::{Keys, all_free, drop_key, keep_listed, listed_and_free, own_and_waiting};
 use crate::room::{append_new, truncate_unless};
 use crate::state::{CoreState, is_ready};
@@ -193,17 +193,24 @@ impl CoreState {
         requires { IsReached self.now }
         ensures { IfOk result (IsPrepared self.now service.now) }
     {
-        let is_lost = loses(&self.book, &service.key, &service.holding);
-        let more = own_and_waiting(
+        let claim = shown_claim(self.alloc, service)?;
+        let is_lost = loses(&self.book, &claim);
+        let Ok(more) = own_and_waiting(
             self.alloc,
             is_ready(&self.cache),
             is_lost,
             &service.key,
             &self.queue,
             &self.waiting,
-        )?;
-        let key = service.key.copy()?;
-        let claim = Claim::of(self.alloc, &service.key, &service.holding)?;
+        ) else {
+            drop(claim);
+            return Err(NoMemory);
+        };
+        let Ok(key) = service.key.copy() else {
+            drop(claim);
+            drop(more);
+            return Err(NoMemory);
+        };
         Ok(Prepared {
             key,
             claim,

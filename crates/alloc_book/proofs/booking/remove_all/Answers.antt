@@ -1,5 +1,4 @@
-use Rattle.std.proofs.Common.{◌≡◌, ℕ, not, filter, ap, sym, ◌∙◌}
-use Rattle.alloc_book.specs.Claims.{ClaimValue}
+use Rattle.std.proofs.Common.{sym, ◌∙◌}
 use Rattle.alloc_book.proofs.BookRemoval.{all-none, all-left, first-none, first-some}
 use Rattle.alloc_book.proofs.booking.remove_all.Goals as goal
 

@@ -1,6 +1,6 @@
-use Rattle.std.proofs.Common.{◌≡◌, true, if◌then◌else◌, List, [], ◌++◌, length, map, filter, take, drop}
+use Rattle.std.proofs.Common.{◌≡◌, if◌then◌else◌, [], ◌++◌, length, map, filter, take, drop}
 use Rattle.std.specs.List.{Contains}
-use Rattle.ip_ranges.specs.Values.{AddressValue, same_address}
+use Rattle.ip_ranges.specs.Values.{same_address}
 use Rattle.kube_model.specs.declared.port.Port.{Port}
 use Rattle.alloc_book.specs.declared.slot.Slot.{Slot}
 use Rattle.alloc_book.specs.declared.slot.Slot.TheVariants.{OfPort}

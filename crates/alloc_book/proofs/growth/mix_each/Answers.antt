@@ -1,12 +1,11 @@
 use Rattle.std.proofs.Common.{◌≡◌, ◌+◌, ℕ, List, true, false, length, take, drop, sym, ap, subst, ◌∙◌, arith}
 use Rattle.std.specs.List.{Contains}
 use Rattle.ip_ranges.specs.Values.{AddressValue}
-use Rattle.sharing_terms.specs.Spelled.{recorded_terms}
-use Rattle.alloc_book.specs.Alike.{are_alike, is_like_first}
+use Rattle.alloc_book.specs.Alike.{are_alike}
 use Rattle.alloc_book.specs.Claims.{ClaimValue}
 use Rattle.alloc_book.specs.declared.slot.Slot.TheVariants.{Any}
 use Rattle.alloc_book.specs.Holders.{AddressHoldersValue, CanBeMixed, in_slot, claims_at, is_known, is_mixed}
-use Rattle.alloc_book.specs.Index.{HasIt, AreUniform}
+use Rattle.alloc_book.specs.Index.{HasIt, AreUniform, is_like_first}
 use Rattle.alloc_book.proofs.MixLaws.{mixed-rest, mixed-uniform, mixed-next, unmixed-next, unmixed-all}
 use Rattle.alloc_book.proofs.UniformLaws.{like-first}
 use Rattle.alloc_book.proofs.growth.mix_each.Goals as goal
@@ -19,7 +18,7 @@ loop-address-preserved c =
     let i = c.loop-address.address-index in
     let address = c.address-item.result in
     let kept = c.loop-address.invariant.slots in
-    let P : AddressValue → Type 0 = λ a. (p : ℕ × ClaimValue) → HasIt items a p → are_alike (recorded_terms p.1.holding.mark) (recorded_terms c.args.claim.now.holding.mark) ≡ true in
+    let P : AddressValue → Type 0 = λ a. (p : ℕ × ClaimValue) → HasIt items a p → are_alike p.1.terms c.args.claim.now.terms ≡ true in
     elim c.if-not-is_like_first.branch [
       | then-not-is_like_first w ↦
           record {
@@ -43,7 +42,7 @@ loop-address-preserved c =
                 (mixed-rest c.loop-address.holders c.loop-address.holders addresses i address c.loop-address-test.true c.address-item.is c.loop-address.invariant.room (λ family. omega (arith)));
             alike = subst (λ (h : AddressHoldersValue). (a : AddressValue) → Contains (take (i + 1) addresses) a → is_mixed h a ≡ false → P a) (sym w.holders-is)
                 (unmixed-next c.loop-address.holders P addresses i address c.loop-address-test.true c.address-item.is
-                (λ unmixed. like-first c.loop-address.holders items c.numbers-numbers.result.now (recorded_terms c.args.claim.now.holding.mark) address
+                (λ unmixed. like-first c.loop-address.holders items c.numbers-numbers.result.now c.args.claim.now.terms address
                 c.is_like_first.ensures.ascending c.loop-address.invariant.uniform listed unmixed first)
                 c.loop-address.invariant.alike);
           }
@@ -51,5 +50,5 @@ loop-address-preserved c =
 
 pub returns-clause-alike : goal.returns-clause-alike
 returns-clause-alike c a there e p has =
-    unmixed-all c.loop-address.holders (λ a. (p : ℕ × ClaimValue) → HasIt c.args.claims.now.items a p → are_alike (recorded_terms p.1.holding.mark) (recorded_terms c.args.claim.now.holding.mark) ≡ true)
+    unmixed-all c.loop-address.holders (λ a. (p : ℕ × ClaimValue) → HasIt c.args.claims.now.items a p → are_alike p.1.terms c.args.claim.now.terms ≡ true)
     c.args.claim.now.holding.addresses c.addresses-address-items.result.now c.loop-address.address-index c.loop-address-test.false c.addresses-address-items.ensures c.loop-address.invariant.alike a there e p has

@@ -1,7 +1,6 @@
 use Rattle.std.proofs.Common.{◌≡◌, ℕ, true, false, length, take, drop}
 use Rattle.std.specs.List.{Contains}
 use Rattle.ip_ranges.specs.Values.{AddressValue}
-use Rattle.sharing_terms.specs.Spelled.{recorded_terms}
 use Rattle.alloc_book.specs.Alike.{are_alike}
 use Rattle.alloc_book.specs.Claims.{ClaimValue}
 use Rattle.alloc_book.specs.Holders.{CanBeMixed, in_slot, is_known, is_mixed}
@@ -16,5 +15,5 @@ invariant-loop-address l =
       uniform : AreUniform l.holders l.claims.items;
       room : CanBeMixed l.holders (length (drop l.address-index l.address-items)) (drop l.address-index l.address-items);
       alike : (a : AddressValue) → Contains (take l.address-index l.address-items) a → is_mixed l.holders a ≡ false → (p : ℕ × ClaimValue) → HasIt l.claims.items a p
-          → are_alike (recorded_terms p.1.holding.mark) (recorded_terms l.claim.holding.mark) ≡ true;
+          → are_alike p.1.terms l.claim.terms ≡ true;
     }

@@ -1,8 +1,5 @@
-use Rattle.std.proofs.Common.{◌≡◌, List, take, ap, sym, ◌∙◌}
-use Rattle.std.proofs.lemmas.List.{take_more}
-use Rattle.ip_ranges.specs.Values.{AddressValue}
+use Rattle.std.proofs.Common.{◌∙◌}
 use Rattle.alloc_book.specs.Holders.{claims_having}
-use Rattle.alloc_book.specs.Removal.{left_at}
 use Rattle.alloc_book.proofs.IndexRemoval.{left-next}
 use Rattle.alloc_book.proofs.removal.remove_each.Goals as goal
 

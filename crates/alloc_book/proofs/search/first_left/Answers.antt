@@ -1,4 +1,4 @@
-use Rattle.std.proofs.Common.{◌≡◌, ◌+◌, refl, sym, arith, take, subst, Option}
+use Rattle.std.proofs.Common.{◌+◌, refl, arith}
 use Rattle.std.specs.Map.{values_of}
 use Rattle.alloc_book.proofs.Candidates.{barred-more, barred-all}
 use Rattle.alloc_book.proofs.search.first_left.Goals as goal

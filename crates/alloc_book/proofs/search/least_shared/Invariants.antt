@@ -1,4 +1,4 @@
-use Rattle.std.proofs.Common.{◌≡◌, ◌≤◌, ◌<◌, ◌+◌, ◌-◌, ℕ, true, false}
+use Rattle.std.proofs.Common.{◌≤◌, ◌<◌, ◌+◌, ◌-◌, ℕ}
 use Rattle.alloc_book.proofs.Candidates.{NoneUsable}
 use Rattle.alloc_book.proofs.search.least_shared.Given as goal
 

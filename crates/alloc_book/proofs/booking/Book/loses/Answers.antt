@@ -1,4 +1,4 @@
-use Rattle.std.proofs.Common.{◌≡◌, ap, ◌∙◌, subst}
+use Rattle.std.proofs.Common.{◌≡◌, ap, subst}
 use Rattle.std.specs.Map.{values_of}
 use Rattle.alloc_book.specs.Book.{AreAssigned, BookValue}
 use Rattle.alloc_book.proofs.BookLaws.{answer-loses}
@@ -7,4 +7,4 @@ use Rattle.alloc_book.proofs.booking.Book.loses.Goals as goal
 pub returns-clause-meaning : goal.returns-clause-meaning
 returns-clause-meaning c =
     let is : values_of c.self.inside.index.items ≡ c.args.self.now.claims = ap (λ (b : BookValue). b.claims) c.self.view_is in
-    answer-loses c.args.self.now.claims c.args.key.now c.args.holding.now c.loses.result (subst AreAssigned is c.loses.ensures.assigned) (rw is at c.loses.ensures.value)
+    answer-loses c.args.self.now.claims c.args.claim.now.key c.args.claim.now.holding c.args.claim.now.terms c.loses.result (subst AreAssigned is c.loses.ensures.assigned) (rw is at c.loses.ensures.value)

@@ -12,8 +12,8 @@ pub returns-clause-claims : goal.returns-clause-claims
 returns-clause-claims c =
     let items = c.self.inside.index.items in
     let claim = c.args.claim in
-    let is : is_assigned claim.holding ≡ c.is_assigned.result = ap is_assigned (sym c.holding-2.ensures) ∙ sym c.is_assigned.ensures in
-    let before = ap (λ (b : BookValue). settled claim.key claim.holding b.claims) c.self.view_is in
+    let is : is_assigned claim.holding ≡ c.is_assigned.result = ap is_assigned (sym c.holding.ensures) ∙ sym c.is_assigned.ensures in
+    let before = ap (λ (b : BookValue). settled claim.key claim.holding claim.terms b.claims) c.self.view_is in
     elim c.if-is_assigned.branch [
       | then-is_assigned w ↦
           ap (λ (b : BookValue). b.claims) w.self-is
@@ -21,7 +21,7 @@ returns-clause-claims c =
           ∙ before
       | else-is_assigned w ↦
           ap (λ (b : BookValue). b.claims) w.self-is
-          ∙ settled-unassigned items w.remove_all.new.index.items claim.key claim.holding (is ∙ w.if-is_assigned.false)
-          (w.remove_all.ensures ∙ ap (λ (k : Key). filter (λ (p : ℕ × ClaimValue). not (same_key p.1.key k)) items) w.key-else-is_assigned.ensures)
+          ∙ settled-unassigned items w.remove_all.new.index.items claim.key claim.holding claim.terms (is ∙ w.if-is_assigned.false)
+          (w.remove_all.ensures ∙ ap (λ (k : Key). filter (λ (p : ℕ × ClaimValue). not (same_key p.1.key k)) items) w.key.ensures)
           ∙ before
     ]

@@ -1,5 +1,4 @@
-use Rattle.std.proofs.Common.{◌≡◌, true, ℕ, ◌<◌, List, length, sym, ap, subst, ◌∙◌}
-use Rattle.ip_ranges.specs.Values.{AddressValue}
+use Rattle.std.proofs.Common.{◌≡◌, true, ◌<◌, length, sym, ap, subst, ◌∙◌}
 use Rattle.kube_model.specs.declared.key.Key.{Key}
 use Rattle.kube_model.specs.Keys.{key_cmp}
 use Rattle.numbered_items.specs.Index.{room_under}

@@ -1,11 +1,5 @@
-use Rattle.std.proofs.Common.{◌≡◌, List, ℕ, Bool, not, refl, ap, ◌∙◌, IfSome, IfNone, subst}
-use Rattle.std.specs.Map.{values_of}
-use Rattle.ip_ranges.specs.Values.{AddressValue}
-use Rattle.mlb_base.specs.Items.{is_nil}
+use Rattle.std.proofs.Common.{ℕ, Bool, IfSome, IfNone, subst}
 use Rattle.number_sets.specs.Least.{IsLeastIn, NonePasses}
-use Rattle.alloc_book.specs.Holders.{claims_having}
-use Rattle.alloc_book.specs.Index.{is_held}
-use Rattle.alloc_book.specs.Search.{address_of}
 use Rattle.alloc_book.proofs.IndexReading.{unheld-is}
 use Rattle.alloc_book.proofs.index.ClaimIndex.first_unheld.Goals as goal
 

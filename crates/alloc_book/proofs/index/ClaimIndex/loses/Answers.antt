@@ -7,7 +7,8 @@ use Rattle.std.proofs.lemmas.Iterator.{YieldsList-from_slice, cases_from_any}
 use Rattle.std.proofs.lemmas.Iterator.Search.{any_from_yields_List}
 use Rattle.kube_model.specs.declared.key.Key.{Key}
 use Rattle.mlb_base.specs.Items.{is_nil}
-use Rattle.alloc_book.specs.Reading.{has_record}
+use Rattle.alloc_book.specs.Index.{numbers_of}
+use Rattle.alloc_book.specs.Reading.{is_claim_under}
 use Rattle.alloc_book.proofs.IndexReading.{under, asked-any, loses-is}
 use Rattle.alloc_book.proofs.index.ClaimIndex.loses.Goals as goal
 
@@ -19,7 +20,7 @@ returns-clause-value c =
     asked-any (IsStrictlySortedBy nat_cmp (keys_of items)) c.any.result numbers
     (cases_from_any _ _ c.any.result (λ _. IsStrictlySortedBy nat_cmp (keys_of items)) (λ _. IsStrictlySortedBy nat_cmp (keys_of items)) c.any.ensures.ran (YieldsList-from_slice numbers cc) (λ x q k. search (rules, tests)) (λ x q k. search (rules, tests)))
     in
-    let test : ℕ → Bool = λ n. not (has_record c.args.holding.now (under items n)) in
+    let test : ℕ → Bool = λ n. not (is_claim_under c.args.claim.now.holding c.args.claim.now.terms (under items n)) in
     let value : c.any.result ≡ list_any test numbers = any_from_yields_List test _ _ c.any.result c.any.ensures.ran (YieldsList-from_slice numbers cc) (λ x b q k. search (rules, tests)) in
     rw (← c.self.view_is)
-    (value ∙ loses-is items numbers sorted c.args.key.now (c.numbers.ensures ∙ ap (λ (f : Key → List ℕ). f c.args.key.now) c.self.invariant.keys) c.args.holding.now)
+    (value ∙ loses-is items numbers sorted c.args.claim.now.key (c.numbers.ensures ∙ ap (λ (f : Key → List ℕ). f c.key.result.now) c.self.invariant.keys ∙ ap (λ (key : Key). numbers_of key items) c.key.ensures) c.args.claim.now.holding c.args.claim.now.terms)

@@ -39,10 +39,3 @@ invariant_of-self-2 c =
     c.remove_claim.ensures.numbers c.remove_claim.ensures.shared c.remove_claim.ensures.mixed c.unmix_each.ensures.slots c.unmix_each.ensures.shared c.unmix_each.ensures.mixed in
     indexed-unshared c.remove.new.self.items c.remove-2.new.self c.unmix_each.new.holders c.unshare_each.new.holders left
     c.unshare_each.ensures.slots c.unshare_each.ensures.mixed c.unshare_each.ensures.shared
-
-pub invariant_of-self-in_default-terms : goal.invariant_of-self-in_default-terms
-invariant_of-self-in_default-terms c =
-    indexed-left c.args.number c.self.inside.claims.items c.remove.new.self.items c.in-Some.claim c.key.result.now c.self.inside.by_key c.remove-2.new.self
-    c.self.inside.holders c.remove_claim.new.holders c.unmix_each.new.holders
-    c.remove.ensures.items c.remove.ensures.ascending c.in-Some.ensures.item c.key.ensures c.self.invariant c.remove-2.ensures.numbers
-    c.remove_claim.ensures.numbers c.remove_claim.ensures.shared c.remove_claim.ensures.mixed c.unmix_each.ensures.slots c.unmix_each.ensures.shared c.unmix_each.ensures.mixed

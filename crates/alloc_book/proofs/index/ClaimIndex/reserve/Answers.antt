@@ -18,13 +18,6 @@ invariant_of-self-in_err-reserve_claim c =
     (λ key a known. ap (λ (f : List ℕ → AddressValue → Bool). f key a) c.reserve_claim.ensures.shared ∙ known)
     c.reserve_claim.ensures.mixed
 
-pub invariant_of-self-in_default : goal.invariant_of-self-in_default
-invariant_of-self-in_default c =
-    indexed-kept c.self.inside.claims.items c.reserve.new.self.items c.self.inside.by_key c.reserve-2.new.self c.self.inside.holders c.reserve_claim.new.holders c.self.invariant
-    c.reserve.ensures.items c.reserve-2.ensures.numbers c.reserve_claim.ensures.numbers
-    (λ key a known. ap (λ (f : List ℕ → AddressValue → Bool). f key a) c.reserve_claim.ensures.shared ∙ known)
-    c.reserve_claim.ensures.mixed
-
 pub invariant_of-self-in_err-share_each : goal.invariant_of-self-in_err-share_each
 invariant_of-self-in_err-share_each c =
     indexed-kept c.self.inside.claims.items c.reserve.new.self.items c.self.inside.by_key c.reserve-2.new.self c.self.inside.holders c.share_each.new.holders c.self.invariant
@@ -44,4 +37,4 @@ returns-clause-room c =
     room-claim c.reserve.new.self.room c.reserve-2.new.self c.reserve_claim.new.holders c.share_each.new.holders c.args.claim.now c.in_ok-copy.field-0
     c.in_ok-reserve.ensures.room c.in_ok-reserve-2.ensures.room (c.in_ok-copy.ensures ∙ ap (λ (k : Key). k) c.key.ensures)
     c.in_ok-reserve_claim.ensures.room c.in_ok-reserve_claim.ensures.mixed_room c.share_each.ensures.slots c.share_each.ensures.mixed
-    (known-claim c.share_each.new.holders c.args.claim.now c.in-Some.terms.now c.addresses.result.now c.in-Some.ensures c.in_ok-share_each.ensures.known c.addresses.ensures)
+    (known-claim c.share_each.new.holders c.args.claim.now c.terms.result.now c.addresses.result.now c.terms.ensures c.in_ok-share_each.ensures.known c.addresses.ensures)

@@ -2,12 +2,13 @@ use Rattle.std.proofs.Common.{◌≡◌, not, ◌&&◌, List, Some, sym, ap, sub
 use Rattle.std.specs.BTreeSet.{contains}
 use Rattle.kube_model.specs.declared.key.Key.{Key}
 use Rattle.kube_model.specs.Keys.{key_cmp, same_key}
-use Rattle.alloc_book.specs.Claims.{ClaimValue}
+use Rattle.alloc_book.specs.Claims.{ClaimValue, doubted}
 use Rattle.core_rules.specs.Core.{State}
+use Rattle.core_rules.specs.Replied.{put_terms}
 use Rattle.ctl_core.specs.Reached.{IsReached}
 use Rattle.ctl_core.specs.Waiting.{AreWaiting}
 use Rattle.ctl_core.proofs.Reaches.{reached-orderly}
-use Rattle.ctl_core.proofs.WaitingTurns.{waiting-in_doubt}
+use Rattle.ctl_core.proofs.WaitingTurns.{waiting-in_doubt, in_doubt-is}
 use Rattle.ctl_core.proofs.state.CoreState.in_doubt.Goals as goal
 
 pub push_new-requires : goal.push_new-requires
@@ -25,3 +26,13 @@ invariant_of-self-2 c =
     subst (λ (keys : List Key). AreWaiting i.class i.cache keys i.awaiting c.remove.new.self) (sym c.in-Ok-push_new.ensures.ok)
     (waiting-in_doubt i.class i.cache i.queue i.awaiting c.args.put.key i.waiting c.remove.new.self c.self.invariant
     (λ k. c.remove.ensures k ∙ ap (λ (x : Key). not (same_key x k) && contains key_cmp i.waiting k) own))
+
+pub returns-clause-ok : goal.returns-clause-ok
+returns-clause-ok c =
+    let i = c.self.inside in
+    let s : State = record { class = i.class; held = i.cache; claims = i.book.claims; queue = i.queue; awaiting = i.awaiting; out = i.out } in
+    let put = c.args.put in
+    let claims_are : c.doubt_prepared.new.self.claims ≡ doubted put.key put.holding (put_terms s.held put) s.claims = c.doubt_prepared.ensures
+    ∙ ap (λ (x : ClaimValue). doubted x.key x.holding x.terms c.reserved_claim.new.book.claims) c.in-Ok.ensures.claim
+    ∙ ap (doubted put.key put.holding (put_terms s.held put)) c.reserved_claim.ensures.claims in
+    rw (← c.self.view_is, c.take.ensures.after) (in_doubt-is s put c.doubt_prepared.new.self.claims c.push_new.new.keys claims_are c.in-Ok-push_new.ensures.ok)

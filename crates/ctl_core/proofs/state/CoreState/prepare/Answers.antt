@@ -1,4 +1,5 @@
 use Rattle.std.proofs.Common.{cond, [], ◌++◌, ap, ◌∙◌}
+use Rattle.alloc_book.specs.Claims.{ClaimValue, loses}
 use Rattle.core_rules.specs.Core.{State, is_ready}
 use Rattle.core_rules.specs.Keys.{own_key}
 use Rattle.core_rules.specs.Take.{own_and_waiting}
@@ -15,13 +16,14 @@ returns c =
     let reached : IsReached s = rw (← c.self.view_is) at c.requires in
     let service = c.args.service.now in
     let lost = c.loses-is_lost.result in
-    let prepared : IsPrepared s service (record { key = c.in_ok-key.key; claim = c.in_ok-claim.claim; is_lost = lost; more = c.in_ok-more.more }) = record {
-      key_is = c.in_ok-key.ensures;
+    let lost_is = c.loses-is_lost.ensures ∙ ap (λ (x : ClaimValue). loses x.key x.holding x.terms s.claims) c.in_ok-claim.ensures in
+    let prepared : IsPrepared s service (record { key = c.in-Ok-copy.key; claim = c.in_ok-claim.claim; is_lost = lost; more = c.in-Ok.more }) = record {
+      key_is = c.in-Ok-copy.ensures;
       claim_is = c.in_ok-claim.ensures;
-      lost_is = c.loses-is_lost.ensures;
-      more_is = c.in_ok-more.ensures.keys
+      lost_is = lost_is;
+      more_is = c.in-Ok.ensures.keys
           ∙ ap (λ ready. cond ready (own_key service.key s.queue ++ others_where lost service.key i.waiting.keys) []) c.is_ready.ensures
-          ∙ own-and-others s i.waiting reached c.self.invariant c.own_and_waiting.ensures.ordered lost service.key
-          ∙ ap (λ l. own_and_waiting (is_ready s.held) l s service.key) c.loses-is_lost.ensures;
+          ∙ own-and-others s i.waiting reached c.self.invariant c.in-Ok.ensures.ordered lost service.key
+          ∙ ap (λ l. own_and_waiting (is_ready s.held) l s service.key) lost_is;
     } in
     rw (← c.self.view_is) prepared

@@ -1,0 +1,25 @@
+use Rattle.std.proofs.Common.{◌≡◌, List, [], ◌∷◌, Option, None, refl, sym, ap, ◌∙◌}
+use Rattle.std.specs.Option.{option_to_list}
+use Rattle.ip_ranges.specs.declared.family.Family.{Family}
+use Rattle.kube_model.specs.declared.reason.Reason.TheVariants.{PoolExhausted}
+use Rattle.kube_model.specs.declared.record.Record.{Record}
+use Rattle.pool_config.specs.declared.compiled.CompiledPool.{CompiledPool}
+use Rattle.alloc_book.specs.Asking.{Asker, asking}
+use Rattle.alloc_book.specs.Choose.{new_or}
+use Rattle.alloc_book.specs.Chosen.{named}
+use Rattle.alloc_book.specs.Claims.{ClaimValue}
+use Rattle.alloc_book.specs.Search.{first_of, first_option}
+use Rattle.alloc_book.proofs.choosing.Choosing.from_asked.Goals as goal
+
+-- no pool gives nothing, whatever is wanted
+none-gives : (claims : List ClaimValue) (q : Asker) (options : List (List Family)) → first_of claims q [] options ≡ None
+none-gives claims q [] = refl
+none-gives claims q (families ∷ options) = none-gives claims q options
+
+pub returns-in-None : goal.returns-in-None
+returns-in-None c =
+    let claims = c.args.self.now.book.now.claims in
+    let q = asking c.args.self.now.service.now c.args.self.now.terms.now in
+    let found : Option CompiledPool → Option Record = λ pool. first_option claims q (option_to_list pool) in
+    let none : None ≡ named c.args.self.now.config.now.pools q.pool_asked = c.in-None.ensures ∙ ap (λ (pools : List CompiledPool). named pools q.pool_asked) c.pools.ensures in
+    sym (ap (new_or PoolExhausted) (ap found (sym none) ∙ none-gives claims q q.options))

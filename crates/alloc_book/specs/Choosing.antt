@@ -1,0 +1,16 @@
+-- For whom addresses are chosen, by whose claims, and what is offered.
+use Rattle.std.specs.Prelude.{List}
+use Rattle.alloc_book.specs.declared.choosing.Choosing.{Choosing}
+use Rattle.alloc_book.specs.Asking.{Asker, Offer, asking, offer_of}
+use Rattle.alloc_book.specs.Claims.{ClaimValue}
+
+abbrev pub claims_in : Choosing → List ClaimValue
+claims_in c = c.book.now.claims
+
+-- the pools of the configuration
+abbrev pub offer_for : Choosing → Offer
+offer_for c = offer_of c.config.now.pools c.service.now c.namespace.now
+
+-- the service, under these terms
+abbrev pub asker_in : Choosing → Asker
+asker_in c = asking c.service.now c.terms.now

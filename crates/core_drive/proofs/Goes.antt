@@ -13,13 +13,14 @@ use Rattle.core_rules.specs.Replied.{core_reply}
 use Rattle.core_rules.specs.Run.{Entry as CoreEntry, Took as TookByCore, Expired as ExpiredByCore, Turned as TurnedByCore, Heard as HeardByCore, IsRun, core_after}
 use Rattle.core_rules.proofs.Runs.{core_holds_what_was_observed, took-out, heard-out}
 use Rattle.core_laws.specs.Shared.{AllShowTerms}
+use Rattle.core_laws.specs.Shown.{HoldsOfShown}
 use Rattle.core_laws.proofs.Puts.{idle-queue}
 use Rattle.core_laws.proofs.QuietShown.{runs_are_quiet_as_shown}
 use Rattle.core_laws.proofs.Sound.{runs_are_sound}
 use Rattle.core_laws.proofs.Telling.{notes_are_right}
 use Rattle.core_drive.specs.Drive.{Driven, Entry, turned, turns, taking, lapsing, hearing, core_entry, behind}
 use Rattle.core_drive.specs.Laws.{BeginsFresh, EventsGoOn, LapsesGoOn, RepliesGoOn, DrivesAreSound, DrivesAreQuiet}
-use Rattle.core_drive.specs.Sound.{AreNotesRight, LeadsTo, ShowsTerms}
+use Rattle.core_drive.specs.Sound.{AreNotesRight, LeadsTo, ShowsTerms, ShowsFamilies, HasFamilies}
 
 -- ---- transcripts one behind the other
 behind-append : (xs ys : List Entry) (earlier : List CoreEntry) → behind (xs ++ ys) earlier ≡ behind ys (behind xs earlier)
@@ -36,6 +37,7 @@ record GoesOn (class : Option (List ℕ)) (run : List CoreEntry) (d : Driven) : 
   is : IsRun class (behind d.entries run)
   core : core_after class (behind d.entries run) ≡ d.core
   typed : AllShowTerms run → AllShowTerms (behind d.entries run)
+  families : HoldsOfShown HasFamilies run → HoldsOfShown HasFamilies (behind d.entries run)
   notes : AreNotesRight d.entries run
   idle : d.core.out ≡ None → d.core.queue ≡ []
 
@@ -48,7 +50,7 @@ module _ (class : Option (List ℕ)) where
   turn-entered run turn is none e = ((none, e), is)
 
   turns-go : (queue : List Key) (run : List CoreEntry) → IsRun class run → (core_after class run).out ≡ None → queue ≡ (core_after class run).queue → GoesOn class run (turns queue (core_after class run))
-  turns-go [] run is none e = record { is = is; core = refl; typed = λ t. t; notes = tt; idle = λ _. sym e }
+  turns-go [] run is none e = record { is = is; core = refl; typed = λ t. t; families = λ f. f; notes = tt; idle = λ _. sym e }
   turns-go (key ∷ keys) run is none e =
       by-turn (core_turn (core_after class run)) refl
       (λ out. turns-go keys (TurnedByCore (core_turn (core_after class run)) ∷ run) (turn-entered run (core_turn (core_after class run)) is none refl) out (ap rest_of e))
@@ -61,33 +63,34 @@ module _ (class : Option (List ℕ)) where
           let rest = more (ap put_in (sym t)) in
           let same : TurnedByCore (core_turn (core_after class run)) ∷ run ≡ TurnedByCore (NoPut k pending) ∷ run = ap (λ (x : Turn). TurnedByCore x ∷ run) (sym t) in
           let moved : GoesOn class (TurnedByCore (NoPut k pending) ∷ run) (turns keys (after_turn (core_after class run))) = subst (λ (r : List CoreEntry). GoesOn class r (turns keys (after_turn (core_after class run)))) same rest in
-          record { is = moved.is; core = moved.core; typed = λ all. moved.typed (tt, all); notes = (tt, moved.notes); idle = moved.idle }
+          record { is = moved.is; core = moved.core; typed = λ all. moved.typed (tt, all); families = λ all. moved.families (tt, all); notes = (tt, moved.notes); idle = moved.idle }
       by-turn (Wants put pending) t more =
           record {
             is = turn-entered run (Wants put pending) is none t;
             core = refl;
             typed = λ all. (tt, all);
+            families = λ all. (tt, all);
             notes = (tt, tt);
             idle = λ out. let some : Some put ≡ None = ap put_in t ∙ out in absurd (cc);
           }
 
-  taking-goes : (event : Event) (run : List CoreEntry) → IsRun class run → (core_after class run).out ≡ None → ShowsTerms event → GoesOn class run (taking (core_after class run) event)
-  taking-goes event run is none typed =
+  taking-goes : (event : Event) (run : List CoreEntry) → IsRun class run → (core_after class run).out ≡ None → ShowsTerms event → ShowsFamilies event → GoesOn class run (taking (core_after class run) event)
+  taking-goes event run is none typed families =
       let entered : IsRun class (TookByCore event ∷ run) = (none, is) in
       let rest = turns-go (core_take (core_after class run) event).queue (TookByCore event ∷ run) entered (took-out (core_after class run) event ∙ none) refl in
-      record { is = rest.is; core = rest.core; typed = λ all. rest.typed (typed, all); notes = (notes_are_right class event run is, rest.notes); idle = rest.idle }
+      record { is = rest.is; core = rest.core; typed = λ all. rest.typed (typed, all); families = λ all. rest.families (families, all); notes = (notes_are_right class event run is, rest.notes); idle = rest.idle }
 
   lapsing-goes : (group : Group) (run : List CoreEntry) → IsRun class run → (core_after class run).out ≡ None → GoesOn class run (lapsing (core_after class run) group)
   lapsing-goes group run is none =
       let entered : IsRun class (ExpiredByCore group ∷ run) = (none, is) in
       let rest = turns-go (core_expired (core_after class run) group).queue (ExpiredByCore group ∷ run) entered none refl in
-      record { is = rest.is; core = rest.core; typed = λ all. rest.typed (tt, all); notes = (tt, rest.notes); idle = rest.idle }
+      record { is = rest.is; core = rest.core; typed = λ all. rest.typed (tt, all); families = λ all. rest.families (tt, all); notes = (tt, rest.notes); idle = rest.idle }
 
   hearing-goes : (reply : PutReply) (run : List CoreEntry) → IsRun class run → is_some (core_after class run).out ≡ true → GoesOn class run (hearing (core_after class run) reply)
   hearing-goes reply run is some =
       let entered : IsRun class (HeardByCore reply ∷ run) = (some, is) in
       let rest = turns-go (core_reply (core_after class run) reply).queue (HeardByCore reply ∷ run) entered (heard-out (core_after class run).out reply (core_after class run) some) refl in
-      record { is = rest.is; core = rest.core; typed = λ all. rest.typed (tt, all); notes = (tt, rest.notes); idle = rest.idle }
+      record { is = rest.is; core = rest.core; typed = λ all. rest.typed (tt, all); families = λ all. rest.families (tt, all); notes = (tt, rest.notes); idle = rest.idle }
 
 -- ---- from what was told
 goes-by : (class : Option (List ℕ)) (d : Driven) (s : State) (told : List Entry) → LeadsTo class told s → GoesOn class (behind told []) d → LeadsTo class (told ++ d.entries) d.core
@@ -97,16 +100,17 @@ goes-by class d s told leads g =
       is = subst (IsRun class) join g.is;
       core = ap (core_after class) (sym join) ∙ g.core;
       typed = subst AllShowTerms join (g.typed leads.typed);
+      families = subst (HoldsOfShown HasFamilies) join (g.families leads.families);
       notes = notes-append told d.entries [] leads.notes g.notes;
       idle = g.idle;
     }
 
 pub begins_fresh : BeginsFresh
-begins_fresh class = record { is = tt; core = refl; typed = tt; notes = tt; idle = λ _. refl }
+begins_fresh class = record { is = tt; core = refl; typed = tt; families = tt; notes = tt; idle = λ _. refl }
 
 pub events_go_on : EventsGoOn
-events_go_on class told s event leads none typed =
-    let goes = taking-goes class event (behind told []) leads.is (ap (λ (x : State). x.out) leads.core ∙ none) typed in
+events_go_on class told s event leads none typed families =
+    let goes = taking-goes class event (behind told []) leads.is (ap (λ (x : State). x.out) leads.core ∙ none) typed families in
     goes-by class (taking s event) s told leads (subst (λ (x : State). GoesOn class (behind told []) (taking x event)) leads.core goes)
 
 pub lapses_go_on : LapsesGoOn

@@ -6,7 +6,8 @@ use Rattle.kube_model.specs.declared.reply.PutReply.{PutReply}
 use Rattle.core_rules.specs.Core.{State, fresh}
 use Rattle.core_laws.specs.QuietShown.{IsQuietAsShown}
 use Rattle.core_drive.specs.Drive.{Entry, behind, taking, lapsing, hearing}
-use Rattle.core_drive.specs.Sound.{IsSound, LeadsTo, ShowsTerms}
+use Rattle.core_drive.specs.Settled.{AllHaveTheirOwn}
+use Rattle.core_drive.specs.Sound.{IsSound, LeadsTo, ShowsTerms, ShowsFamilies}
 
 -- nothing was told before anything arrives
 abbrev pub BeginsFresh : Type 0
@@ -15,7 +16,7 @@ BeginsFresh = (class : Option (List ℕ)) → LeadsTo class [] (fresh class)
 -- an event goes on from what was told, where no put is out
 abbrev pub EventsGoOn : Type 0
 EventsGoOn =
-    (class : Option (List ℕ)) (told : List Entry) (s : State) (event : Event) → LeadsTo class told s → s.out ≡ None → ShowsTerms event
+    (class : Option (List ℕ)) (told : List Entry) (s : State) (event : Event) → LeadsTo class told s → s.out ≡ None → ShowsTerms event → ShowsFamilies event
     → LeadsTo class (told ++ (taking s event).entries) (taking s event).core
 
 -- and so does the end of one list's watch
@@ -36,3 +37,7 @@ DrivesAreSound = (class : Option (List ℕ)) (told : List Entry) (s : State) →
 
 abbrev pub DrivesAreQuiet : Type 0
 DrivesAreQuiet = (class : Option (List ℕ)) (told : List Entry) (s : State) → LeadsTo class told s → s.out ≡ None → IsQuietAsShown class (behind told [])
+
+-- and then each settled service has its own: an address where it can have one, and where it can't a reason
+abbrev pub DrivesAreSettled : Type 0
+DrivesAreSettled = (class : Option (List ℕ)) (told : List Entry) (s : State) → LeadsTo class told s → s.out ≡ None → AllHaveTheirOwn class (behind told [])

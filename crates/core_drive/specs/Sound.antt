@@ -1,13 +1,16 @@
 -- That a transcript is sound.
 use Rattle.std.specs.Prelude.{◌≡◌, ℕ, List, [], ◌∷◌, ⊤, None, Option}
 use Rattle.kube_model.specs.declared.event.Event.{Event}
+use Rattle.kube_model.specs.declared.key.Key.{Key}
+use Rattle.kube_model.specs.declared.service.Service.{Service}
+use Rattle.kube_model.specs.Families.{AreFamilies}
 use Rattle.sharing_terms.specs.Marked.{AreTerms}
 use Rattle.sharing_terms.specs.Terms.{terms_of}
 use Rattle.core_rules.specs.Core.{State}
 use Rattle.core_rules.specs.Take.{concern}
 use Rattle.core_rules.specs.Run.{Entry as CoreEntry, IsRun, core_after, observed}
 use Rattle.core_laws.specs.Shared.{AllShowTerms}
-use Rattle.core_laws.specs.Shown.{OfConcern}
+use Rattle.core_laws.specs.Shown.{OfConcern, HoldsOfShown}
 use Rattle.core_laws.specs.Sound.{IsSoundRun}
 use Rattle.core_laws.specs.Telling.{IsRightNote}
 use Rattle.core_drive.specs.Drive.{Entry, Took, Lapsed, Turned, Heard, core_entry, behind}
@@ -32,10 +35,19 @@ pub record IsSound (class : Option (List ℕ)) (transcript : List Entry) : Type 
 abbrev pub ShowsTerms : Event → Type 0
 ShowsTerms event = OfConcern (λ key service. AreTerms (terms_of service)) (concern event)
 
--- What was told is a run of the core that leads to this state, with right notes; a put is out, or nothing is queued.
+-- the service, of whatever key, wants an address of one family, or of two
+abbrev pub HasFamilies : Key → Service → Type 0
+HasFamilies key service = AreFamilies service.families
+
+-- so does the one that the event shows, if it shows one
+abbrev pub ShowsFamilies : Event → Type 0
+ShowsFamilies event = OfConcern HasFamilies (concern event)
+
+-- What was told is a run of the core that leads to this state, of services as there can be, with right notes; a put is out, or nothing is queued.
 pub record LeadsTo (class : Option (List ℕ)) (told : List Entry) (s : State) : Type 0 where
   pub is : IsRun class (behind told [])
   pub core : core_after class (behind told []) ≡ s
   pub typed : AllShowTerms (behind told [])
+  pub families : HoldsOfShown HasFamilies (behind told [])
   pub notes : AreNotesRight told []
   pub idle : s.out ≡ None → s.queue ≡ []

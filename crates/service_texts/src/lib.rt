@@ -1,4 +1,4 @@
-//! The terms of the services that lines show.
+//! The services that lines show: their terms, and their families.
 #![tactic(auto)]
 
 mod laws;

@@ -9,11 +9,12 @@ use Rattle.kube_model.specs.declared.key.Key.{Key}
 use Rattle.kube_model.specs.declared.record.Record.{Record}
 use Rattle.kube_model.specs.declared.service.Service.{Service}
 use Rattle.kube_model.specs.Keys.{key_cmp}
-use Rattle.kube_model.specs.Records.{same_record}
+use Rattle.kube_model.specs.Records.{is_assigned, same_record}
 use Rattle.versioned_map.specs.Entries.{version_at}
 use Rattle.alloc_book.specs.declared.choice.Choice.{Choice}
 use Rattle.status_store.specs.declared.change.Edit.{Edit}
-use Rattle.status_store.specs.Changes.{IsKept, is_change, DeletesNothing}
+use Rattle.status_store.specs.declared.change.Edit.TheVariants.{Set, Reset, Delete}
+use Rattle.status_store.specs.Changes.{IsKept, DeletesNothing, record_of}
 use Rattle.status_store.proofs.EditLaws.{edit-absent}
 use Rattle.status_store.proofs.ChangeLaws.{same-version}
 use Rattle.core_rules.specs.declared.turn.Turn.TheVariants.{Idle, NoPut, Wants}
@@ -21,8 +22,8 @@ use Rattle.core_rules.specs.Core.{State, service_of}
 use Rattle.core_rules.specs.Turn.{wanted_record, reason_in, chosen_at, turn_at, turn_of, core_turn}
 use Rattle.world_rules.specs.declared.step.Step.{Step}
 use Rattle.world_rules.specs.declared.step.Step.TheVariants.{Edit as Edits, Take, Turn as Turns, Crash, Restart, Expire}
-use Rattle.world_rules.specs.World.{WorldValue, IsEnabled, IsLimited, HasLane, lane_of, most_versions}
-use Rattle.ctl_world.specs.Steps.{is_enabled, is_used_up, has_turn, has_lane}
+use Rattle.world_rules.specs.World.{WorldValue, IsEnabled, IsLimited, HasLane, ResetsBare, lane_of, most_versions}
+use Rattle.ctl_world.specs.Steps.{is_enabled, is_used_up, may_edit, has_turn, has_lane}
 
 -- ---- tests
 
@@ -99,13 +100,20 @@ no-lanes groups.Endpoint e = refl
 
 -- ---- edits
 
-changes : (edit : Edit) (w : WorldValue) → IsKept w.store → is_change edit w.store ≡ true → ¬ (DeletesNothing edit w.store.objects)
-changes edit w kept e = λ nothing. true≢false (sym e ∙ (edit-absent edit w.store kept).1 nothing)
+edits-there : (edit : Edit) (w : WorldValue) → IsKept w.store → may_edit edit w.store ≡ true → ¬ (DeletesNothing edit w.store.objects) × ResetsBare edit
+edits-there (Set object) w kept e = (λ nothing. nothing, tt)
+edits-there (Reset object) w kept e = (λ nothing. nothing, not-true (is_assigned (record_of object)) e)
+edits-there (Delete kind key) w kept e = (λ nothing. true≢false (sym e ∙ (edit-absent (Delete kind key) w.store kept).1 nothing), tt)
+
+no-edits : (edit : Edit) (w : WorldValue) → IsKept w.store → may_edit edit w.store ≡ false → ¬ (¬ (DeletesNothing edit w.store.objects) × ResetsBare edit)
+no-edits (Set object) w kept e = absurd (true≢false e)
+no-edits (Reset object) w kept e = λ is. true≢false (sym (not-false (is_assigned (record_of object)) e) ∙ is.1)
+no-edits (Delete kind key) w kept e = λ is. is.0 ((edit-absent (Delete kind key) w.store kept).0 e)
 
 -- ---- steps
 
 pub enabled : (step : Step) (w : WorldValue) → IsKept w.store → is_enabled step w ≡ true → IsEnabled step w
-enabled (Edits edit) w kept e = changes edit w kept e
+enabled (Edits edit) w kept e = edits-there edit w kept e
 enabled (Take group) w kept e =
     let parts = both (is_some w.core) _ e in
     (is-there w.core parts.0, is-filled (lane_of group w) (not-true (is_nil (lane_of group w)) parts.1))
@@ -124,7 +132,7 @@ down-then : {X : Type 0} (o : Option X) (b : Bool) → is_some o && b ≡ false 
 down-then o b e is = not-both (is_some o) b e (up o is)
 
 pub disabled : (step : Step) (w : WorldValue) → IsKept w.store → is_enabled step w ≡ false → ¬ (IsEnabled step w)
-disabled (Edits edit) w kept e = λ is. is ((edit-absent edit w.store kept).0 e)
+disabled (Edits edit) w kept e = no-edits edit w kept e
 disabled (Take group) w kept e = λ is. is.1 (isn't-filled (lane_of group w) (not-false (is_nil (lane_of group w)) (down-then w.core _ e is.0)))
 disabled (Turns outcome) w kept e = λ is. is.0 (no-turns w.core e is.1)
 disabled (Crash applied) w kept e = λ is. is (isn't-there w.core e)

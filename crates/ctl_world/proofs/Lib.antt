@@ -1,3 +1,4 @@
+pub mod LeastClash
 pub mod Enabled
 pub mod Filled
 pub mod Refused

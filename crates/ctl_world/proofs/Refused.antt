@@ -1,6 +1,9 @@
 -- What a step that was made or refused says.
-use Rattle.std.proofs.Common.{◌≡◌, ◌↔◌, ◌⊎◌, inl, inr, ⊎_elim, Option, Some, None, Result, Ok, Err, refl, sym, ap, subst}
+use Rattle.std.proofs.Common.{◌≡◌, true, ◌↔◌, ◌⊎◌, inl, inr, ⊎_elim, Option, Some, None, Result, Ok, Err, refl, sym, ap, subst}
 use Rattle.std.specs.Prelude.{OnOk, IfErr, IsErrOf, IfSome}
+use Rattle.kube_model.specs.declared.key.Key.{Key}
+use Rattle.kube_model.specs.declared.record.Record.{Record}
+use Rattle.kube_model.specs.Records.{is_assigned}
 use Rattle.core_rules.specs.Core.{State}
 use Rattle.core_laws.specs.Quiet.{IsQuiet}
 use Rattle.core_laws.proofs.QuietRuns.{runs_are_quiet}
@@ -8,10 +11,12 @@ use Rattle.world_rules.specs.declared.step.Step.{Step}
 use Rattle.world_rules.specs.declared.step.Step.TheVariants.{Edit as Edits, Take, Turn as Turns, Crash, Restart, Expire}
 use Rattle.world_rules.specs.declared.step.StepFault.{StepFault}
 use Rattle.world_rules.specs.declared.step.StepFault.TheVariants as faults
-use Rattle.world_rules.specs.Good.{IsGood, IsFollowed}
-use Rattle.world_rules.specs.Laws.{StepsKeepGood}
-use Rattle.world_rules.specs.Safe.{StepsTerms}
-use Rattle.world_rules.specs.World.{WorldValue, world_step, IsEnabled, IsLimited}
+use Rattle.world_rules.specs.Good.{IsGood, IsOwn, IsFollowed}
+use Rattle.world_rules.specs.Safe.{IsRecorded, IsUnmarked, StepsTerms}
+use Rattle.world_rules.specs.World.{WorldValue, world_step, IsEnabled, IsLimited, IsUp}
+use Rattle.world_rules.proofs.Own.{steps_are_moves, steps_keep_own}
+use Rattle.world_rules.proofs.Unmarked.{unmarked_stay}
+use Rattle.world_rules.proofs.Worlds.{steps_keep_good}
 use Rattle.ctl_world.specs.Faults.{IsSameOrCrashed, IsAfterWant, IsTake, Leaves}
 use Rattle.ctl_world.specs.Steps.{HasNoneOut}
 
@@ -31,31 +36,52 @@ quiet_by w (Some s) up = subst IsQuiet up.leads (runs_are_quiet w.class up.run u
 pub good-quiet : (w : WorldValue) → IsGood w → IfSome w.core IsQuiet
 good-quiet w good = quiet_by w w.core good.up
 
-module _ (keeps : StepsKeepGood) (old new : WorldValue) (good : IsGood old) where
-  same-good : new ≡ old → IsGood new
-  same-good is = subst IsGood (sym is) good
+-- ---- what a step leaves
 
-  crashed-good : IsSameOrCrashed old new → IsGood new
-  crashed-good either =
-      ⊎_elim same-good (λ crashed. subst IsGood (sym crashed.1) (keeps old (Crash crashed.0) tt good)) either
+-- The world is as it was, or a step was made that there was.
+abbrev IsStepped : WorldValue → WorldValue → Type 0
+IsStepped old new = (new ≡ old) ⊎ ((step : Step) × StepsTerms step × IsEnabled step old × (new ≡ world_step step old))
 
-  want-good : (step : Step) → IsAfterWant step old new → IsGood new
-  want-good (Edits edit) is = same-good is
-  want-good (Take group) is = same-good is
-  want-good (Turns outcome) either = crashed-good either
-  want-good (Crash applied) either = crashed-good either
-  want-good Restart is = same-good is
-  want-good (Expire group) is = same-good is
+module _ (old new : WorldValue) where
+  crashed-step : IsUp old → IsSameOrCrashed old new → IsStepped old new
+  crashed-step up either = ⊎_elim (λ same. inl same) (λ crashed. inr (Crash crashed.0, tt, up, crashed.1)) either
 
-  left-good : (step : Step) (fault : StepFault) → Leaves fault step old new → IsGood new
-  left-good step faults.NotEnabled left = same-good left.1
-  left-good step faults.Limit left = same-good left.2
-  left-good step faults.NoMemory left = want-good step left.2
+  want-step : (step : Step) → IsEnabled step old → IsAfterWant step old new → IsStepped old new
+  want-step (Edits edit) there is = inl is
+  want-step (Take group) there is = inl is
+  want-step (Turns outcome) there either = crashed-step there.0 either
+  want-step (Crash applied) there either = crashed-step there either
+  want-step Restart there is = inl is
+  want-step (Expire group) there is = inl is
 
-  pub step-good : {T : Type 0} (r : Result T StepFault) (step : Step) → StepsTerms step → OnOk r (new ≡ world_step step old)
-      → IfErr r (λ fault. Leaves fault step old new) → IsGood new
-  step-good (Ok done) step typed ok err = subst IsGood (sym ok) (keeps old step typed good)
-  step-good (Err fault) step typed ok err = left-good step fault err
+  left-step : (step : Step) (fault : StepFault) → Leaves fault step old new → IsStepped old new
+  left-step step faults.NotEnabled left = inl left.1
+  left-step step faults.Limit left = inl left.2
+  left-step step faults.NoMemory left = want-step step left.0 left.2
+
+  pub stepped : {T : Type 0} (r : Result T StepFault) (step : Step) → StepsTerms step → OnOk r (IsEnabled step old × ¬ (IsLimited step old)) → OnOk r (new ≡ world_step step old)
+      → IfErr r (λ fault. Leaves fault step old new) → IsStepped old new
+  stepped (Ok done) step typed there ok err = inr (step, typed, there.0, ok)
+  stepped (Err fault) step typed there ok err = left-step step fault err
+
+module _ (old new : WorldValue) (good : IsGood old) (own : IsOwn old) where
+  made-kept : (step : Step) → StepsTerms step → IsEnabled step old → new ≡ world_step step old → IsGood new × IsOwn new
+  made-kept step typed there is =
+      let move = steps_are_moves old step there own in
+      (subst IsGood (sym is) (steps_keep_good old (world_step step old) move.0 move.1 good), subst IsOwn (sym is) (steps_keep_own old step typed good own))
+
+  pub stepped-kept : IsStepped old new → IsGood new × IsOwn new
+  stepped-kept either =
+      ⊎_elim (λ same. (subst IsGood (sym same) good, subst IsOwn (sym same) own)) (λ made. made-kept made.0 made.1 made.2 made.3) either
+
+  pub stepped-unmarked : IsStepped old new → (key : Key) (r : Record) → IsRecorded new.store key r → IsUnmarked r → is_assigned r ≡ true → IsRecorded old.store key r
+  stepped-unmarked either key r is unmarked has =
+      ⊎_elim
+      (λ same. subst (λ (w : WorldValue). IsRecorded w.store key r) same is)
+      (λ made.
+      let move = steps_are_moves old made.0 made.2 own in
+      unmarked_stay old (world_step made.0 old) move.0 move.1 good key r (subst (λ (w : WorldValue). IsRecorded w.store key r) made.3 is) unmarked has)
+      either
 
 -- ---- which refusal comes when
 

@@ -3,3 +3,4 @@ pub mod Listed
 pub mod Puts
 pub mod Faults
 pub mod Begun
+pub mod Clashes

@@ -3,16 +3,21 @@ use Rattle.std.specs.Prelude.{◌≡◌, Bool, true, false, ◌&&◌, ◌==◌, 
 use Rattle.mlb_base.specs.Items.{is_nil}
 use Rattle.kube_model.specs.declared.event.Group.{Group}
 use Rattle.kube_model.specs.declared.event.Group.TheVariants as groups
+use Rattle.kube_model.specs.Records.{is_assigned}
 use Rattle.status_store.specs.declared.change.Edit.{Edit}
-use Rattle.status_store.specs.Changes.{is_change}
+use Rattle.status_store.specs.declared.change.Edit.TheVariants.{Set, Reset, Delete}
+use Rattle.status_store.specs.Objects.{stored_at}
+use Rattle.status_store.specs.Changes.{StoreValue, record_of}
 use Rattle.core_rules.specs.Core.{State}
 use Rattle.world_rules.specs.declared.step.Step.{Step}
 use Rattle.world_rules.specs.declared.step.Step.TheVariants.{Edit as Edits, Take, Turn as Turns, Crash, Restart, Expire}
 use Rattle.world_rules.specs.World.{WorldValue, lane_of, most_versions}
 
--- whether the edit changes anything
-abbrev pub makes_change : Edit → WorldValue → Bool
-makes_change edit w = is_change edit w.store
+-- whether there is such an edit: an object that is set with its own record has no address in it, and one that is deleted is there
+abbrev pub may_edit : Edit → StoreValue → Bool
+may_edit (Set object) store = true
+may_edit (Reset object) store = not (is_assigned (record_of object))
+may_edit (Delete kind key) store = is_some (stored_at store.objects (kind, key))
 
 -- whether an event of the group is pending
 abbrev pub has_event : Group → WorldValue → Bool
@@ -31,7 +36,7 @@ has_lane groups.Endpoint = false
 
 -- whether there is such a step
 abbrev pub is_enabled : Step → WorldValue → Bool
-is_enabled (Edits edit) w = makes_change edit w
+is_enabled (Edits edit) w = may_edit edit w.store
 is_enabled (Take group) w = is_some w.core && has_event group w
 is_enabled (Turns outcome) w = has_turn w.core
 is_enabled (Crash applied) w = is_some w.core

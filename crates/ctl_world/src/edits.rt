@@ -2,11 +2,11 @@
 ghost use Rattle.std.specs.Prelude.{◌≡◌, ◌<◌, ◌-◌, ◌^◌, ◌++◌, true, Some, IfOk, OnOk, OnErr, option_to_list};
 ghost use Rattle.status_store.specs.Places.{service_at};
 ghost use Rattle.status_store.specs.Objects.{stored_at};
-ghost use Rattle.status_store.specs.Changes.{kept_record, record_of, set_as, is_change, edited, edited_place};
+ghost use Rattle.status_store.specs.Changes.{kept_record, record_of, set_as, edited, edited_place};
 ghost use Rattle.kube_model.specs.Kinds.{group_of};
 ghost use Rattle.kube_model.specs.Service.{with_holding};
 ghost use Rattle.world_rules.specs.World.{shown_edit, while_up, after_edit};
-ghost use Rattle.ctl_world.specs.Steps.{makes_change};
+ghost use Rattle.ctl_world.specs.Steps.{may_edit};
 
 use crate::lanes::push_reserved;
 use crate::state::WorldState;
@@ -21,7 +21,7 @@ impl WorldState {
     /// The change is made, and a controller that is up is going to be shown it. After want of memory nothing is changed.
     pub(crate) fn edit(&mut self, edit: Edit) -> Result<(), NoMemory>
         requires room { self.old.store.counter < 2 ^ 64 - 1 }
-        requires change { makes_change edit self.old ≡ true }
+        requires there { may_edit edit self.old.store ≡ true }
         ensures ok { OnOk result (self.new ≡ after_edit edit self.old) }
         ensures err { OnErr result (self.new ≡ self.old) }
     {
@@ -53,7 +53,7 @@ impl WorldState {
     /// What a controller that is up is shown of the edit.
     fn shown(&self, edit: &Edit) -> Result<Option<Event>, NoMemory>
         requires room { self.now.store.counter < 2 ^ 64 - 1 }
-        requires change { makes_change edit.now self.now ≡ true }
+        requires there { may_edit edit.now self.now.store ≡ true }
         ensures { IfOk result (λ event. option_to_list event ≡ while_up self.now.core (shown_edit edit.now self.now.store)) }
     {
         match &self.core {
@@ -67,7 +67,7 @@ fn group_of(edit: &Edit) -> Group
     ensures { result ≡ group_of (edited_place edit.now).0 }
 {
     match edit {
-        Edit::Set { object } => object.kind().group(),
+        Edit::Set { object } | Edit::Reset { object } => object.kind().group(),
         Edit::Delete { kind, .. } => kind.group(),
     }
 }
@@ -75,13 +75,17 @@ fn group_of(edit: &Edit) -> Group
 /// The object as it is stored then, or that it was deleted.
 fn shown_edit(alloc: Global, store: &Store, edit: &Edit) -> Result<Event, NoMemory>
     requires room { store.now.counter < 2 ^ 64 - 1 }
-    requires change { is_change edit.now store.now ≡ true }
+    requires there { may_edit edit.now store.now ≡ true }
     ensures { IfOk result (λ event. option_to_list (Some event) ≡ shown_edit edit.now store.now) }
 {
     match edit {
         Edit::Set { object } => Ok(Event::Changed {
             version: store.counter() + 1,
             object: as_set(alloc, store, object)?,
+        }),
+        Edit::Reset { object } => Ok(Event::Changed {
+            version: store.counter() + 1,
+            object: object.copy()?,
         }),
         Edit::Delete { kind, key } => Ok(Event::Deleted {
             kind: *kind,

@@ -2,6 +2,7 @@
 //! made one step at a time, and no two services of its store are ever recorded with one address, unless they share it.
 #![tactic(auto)]
 
+mod clashes;
 mod edits;
 mod lanes;
 mod puts;
@@ -11,6 +12,7 @@ mod takes;
 mod terms;
 mod world;
 
+pub use starts::StartFault;
 pub use status_store::{Edit, Outcome, Store};
 pub use terms::has_terms;
 pub use world::World;

@@ -153,6 +153,7 @@ fn arrives(outcome: Outcome) -> bool
     match outcome {
         Outcome::Delivered => true,
         Outcome::Lost { applied } => applied,
+        Outcome::Refused => false,
     }
 }
 

@@ -1,20 +1,46 @@
 //! The controller is started.
-ghost use Rattle.std.specs.Prelude.{◌≡◌, None, OnOk, OnErr, IfOk};
+ghost use Rattle.std.specs.Prelude.{◌≡◌, None, OnOk, OnErr, IfOk, IsErrOf};
+ghost use Rattle.kube_model.specs.declared.key.Key.{Key as KeyValue};
 ghost use Rattle.core_rules.specs.Core.{fresh};
 ghost use Rattle.kube_model.specs.declared.event.Group.TheVariants as groups;
-ghost use Rattle.world_rules.specs.World.{started, restarted, listing, store_of};
+ghost use Rattle.world_rules.specs.Clash.{IsLeastClash};
+ghost use Rattle.world_rules.specs.Good.{IsGoodStore};
+ghost use Rattle.world_rules.specs.World.{started, restarted, listing, records_store, store_of};
 ghost use Rattle.status_store.specs.Changes.{empty_store};
 
+use crate::clashes::check;
 use crate::lanes::listing;
 use crate::state::WorldState;
 use ctl_core::Core;
 use kube_labels::Text;
-use kube_model::{Event, Group, ObjectList};
+use kube_model::{Event, Group, Key, ObjectList};
 use mlb_base::{NoMemory, TryCopy};
 use status_store::{Edit, Store};
 use std::alloc::Global;
 use std::collections::VecDeque;
 use std::mem;
+use thiserror::Error;
+
+/// Why a world isn't begun.
+#[derive(Debug, Drop, Error)]
+pub enum StartFault {
+    /// These two services are recorded with one address and with marked records, and the terms of their marks may not share it.
+    #[error("two services have an address that they may not share")]
+    Unsafe { first: Key, second: Key },
+    #[error("out of memory")]
+    NoMemory,
+}
+
+impl From<NoMemory> for StartFault {
+    ghost use Rattle.std.specs.Prelude.{◌≡◌};
+    ghost use Rattle.ctl_world.specs.declared.starts.StartFault.TheVariants.{NoMemory as Memory};
+
+    ghost from_gives = { λ _ e. e ≡ Memory };
+
+    fn from(_refused: NoMemory) -> StartFault {
+        StartFault::NoMemory
+    }
+}
 
 impl WorldState {
     /// A controller that was just started over a store.
@@ -89,4 +115,35 @@ pub(crate) fn store_of(alloc: Global, objects: ObjectList) -> Result<Store, NoMe
         };
     }
     Ok(store)
+}
+
+/// The store of these objects, each put into it so after the other.
+fn records_store(alloc: Global, objects: ObjectList) -> Result<Store, NoMemory>
+    ensures { IfOk result (λ store. store ≡ records_store objects empty_store) }
+{
+    let mut store = Store::new(alloc);
+    for object in objects.into_vec() {
+        let Ok(_set) = store.edit(Edit::Reset { object }) else {
+            drop(store);
+            return Err(NoMemory);
+        };
+    }
+    Ok(store)
+}
+
+/// The same store, where no two of its services clash.
+pub(crate) fn safe_store(alloc: Global, objects: ObjectList) -> Result<Store, StartFault>
+    ensures store { IfOk result (λ store. store ≡ records_store objects empty_store) }
+    ensures good { OnOk result (IsGoodStore (records_store objects empty_store)) }
+    ensures refused { (first second : KeyValue) → IsErrOf result (StartFault.Unsafe first second)
+        → IsLeastClash (records_store objects empty_store) first second }
+{
+    let store = records_store(alloc, objects)?;
+    match check(alloc, store.list().as_slice()) {
+        Ok(()) => Ok(store),
+        Err(fault) => {
+            drop(store);
+            Err(fault)
+        }
+    }
 }

@@ -1,10 +1,12 @@
 //! What a world is made of, and which steps there are in it.
 ghost use Rattle.std.specs.Prelude.{◌≡◌, ◌<◌, ◌-◌, ◌^◌, false, IsTrue};
-ghost use Rattle.ctl_world.specs.Steps.{is_enabled, is_used_up, makes_change, has_event, has_lane, has_turn, takes_version};
+ghost use Rattle.kube_model.specs.Records.{is_assigned};
+ghost use Rattle.status_store.specs.Changes.{record_of};
+ghost use Rattle.ctl_world.specs.Steps.{is_enabled, is_used_up, may_edit, has_event, has_lane, has_turn, takes_version};
 
 use ctl_core::Core;
 use kube_labels::Text;
-use kube_model::{Event, Group};
+use kube_model::{Event, Group, Object};
 use status_store::{Edit, Store};
 use std::alloc::Global;
 use std::collections::VecDeque;
@@ -42,7 +44,7 @@ impl WorldState {
         ensures { result ≡ is_enabled step.now self.now }
     {
         match step {
-            Step::Edit { edit } => self.makes_change(edit),
+            Step::Edit { edit } => self.may_edit(edit),
             Step::Take { group } => self.core.is_some() && self.has_event(*group),
             Step::Turn { .. } => self.has_turn(),
             Step::Crash { .. } => self.core.is_some(),
@@ -51,11 +53,12 @@ impl WorldState {
         }
     }
 
-    fn makes_change(&self, edit: &Edit) -> bool
-        ensures { result ≡ makes_change edit.now self.now }
+    fn may_edit(&self, edit: &Edit) -> bool
+        ensures { result ≡ may_edit edit.now self.now.store }
     {
         match edit {
             Edit::Set { .. } => true,
+            Edit::Reset { object } => !is_assigned(object),
             Edit::Delete { kind, key } => self.store.get(*kind, key).is_some(),
         }
     }
@@ -85,6 +88,16 @@ impl WorldState {
         ensures room { result ≡ false → IsTrue (takes_version step.now) → self.now.store.counter < 2 ^ 64 - 1 }
     {
         takes_version(step) && self.store.counter() == u64::MAX
+    }
+}
+
+/// Whether it is a service whose record has an address.
+fn is_assigned(object: &Object) -> bool
+    ensures { result ≡ is_assigned (record_of object.now) }
+{
+    match object {
+        Object::Service(service) => service.holding.is_assigned(),
+        _ => false,
     }
 }
 

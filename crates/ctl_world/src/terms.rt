@@ -45,7 +45,7 @@ fn sets_terms(edit: &Edit)
     ensures { SetsTerms edit.now }
 {
     match edit {
-        Edit::Set { object } => has_terms(object),
+        Edit::Set { object } | Edit::Reset { object } => has_terms(object),
         Edit::Delete { .. } => {}
     }
 }

@@ -2,15 +2,20 @@
 ghost use Rattle.std.specs.Prelude.{◌≡◌, ◌↔◌, ◌⊎◌, ◌<◌, ◌-◌, ◌^◌, true, IfOk, IfErr, IfSome, OnOk, IsErrOf, IsTrue};
 ghost use Rattle.std.specs.Option.{option_copied};
 ghost use Rattle.core_laws.specs.Quiet.{IsQuiet};
-ghost use Rattle.world_rules.specs.Good.{IsGood};
-ghost use Rattle.world_rules.specs.Invariant.{IsInOrder};
-ghost use Rattle.world_rules.specs.Safe.{IsSafe};
-ghost use Rattle.world_rules.specs.World.{new_world, world_step, IsEnabled, IsLimited};
-ghost use Rattle.ctl_world.specs.Begun.{AreApart, IsFilled};
+ghost use Rattle.kube_model.specs.declared.key.Key.{Key as KeyValue};
+ghost use Rattle.kube_model.specs.declared.record.Record.{Record as RecordValue};
+ghost use Rattle.kube_model.specs.Records.{is_assigned};
+ghost use Rattle.status_store.specs.Changes.{IsKept, empty_store};
+ghost use Rattle.world_rules.specs.Clash.{Clash, IsLeastClash};
+ghost use Rattle.world_rules.specs.Good.{IsGood, IsOwn};
+ghost use Rattle.world_rules.specs.Invariant.{ConfigEndsOnce, IsInOrder};
+ghost use Rattle.world_rules.specs.Safe.{IsRecorded, IsSafe, IsUnmarked};
+ghost use Rattle.world_rules.specs.World.{new_world, recorded_world, records_store, world_step, IsEnabled, IsLimited};
+ghost use Rattle.ctl_world.specs.Begun.{AreApart, IsFilled, IsFilledSo};
 ghost use Rattle.ctl_world.specs.Faults.{IsAfterWant, IsTake, Leaves};
 ghost use Rattle.ctl_world.specs.Steps.{HasNoneOut, is_enabled, takes_version};
 
-use crate::starts::store_of;
+use crate::starts::{StartFault, safe_store, store_of};
 use crate::state::WorldState;
 use crate::terms::{have_terms, steps_terms};
 use ctl_core::Core;
@@ -23,8 +28,8 @@ use std::marker::Model;
 use world_rules::{Step, StepFault};
 
 /// A cluster's objects, a controller that is shown them and writes records to them, and what of them is still to be shown. The
-/// controller may stop and be started again. At no moment are two services recorded with one address, unless they share it by
-/// their recorded terms.
+/// controller may stop and be started again. At no moment are two services recorded with one address and with marked records, unless
+/// the terms of their marks may share it.
 #[derive(Drop)]
 pub struct World {
     state: WorldState,
@@ -32,13 +37,13 @@ pub struct World {
 
 impl Model for World {
     ghost use Rattle.world_rules.specs.World.{WorldValue};
-    ghost use Rattle.world_rules.specs.Good.{IsGood};
+    ghost use Rattle.world_rules.specs.Good.{IsGood, IsOwn};
 
     ghost Value = { WorldValue };
 
     ghost view = { λ w. w.state };
 
-    ghost invariant = { λ w. IsGood w.state };
+    ghost invariant = { λ w. IsGood w.state × IsOwn w.state };
 }
 
 impl World {
@@ -58,11 +63,41 @@ impl World {
         Ok(World { state })
     }
 
-    /// Makes a step. `NotEnabled` is answered exactly where there is no such step: an object is deleted that isn't there, nothing is
-    /// pending in the lane or queued, or the controller is down where it is to do something, or up where it is to be started.
-    /// `Limit` is answered where there is, and it would have one service more held than may be, or would take a version after the
-    /// last. After a refusal the world is unchanged; but where memory was wanted for a turn or a crash, the controller may have
-    /// stopped.
+    /// A new world, as `new` makes it, but the services have the records that they are handed in with. `Unsafe` is answered exactly where two
+    /// of them have an address in common and marked records, and the terms of their marks may not share it: it names the least such
+    /// pair, by the first key and then by the second. Nothing is asked of records that are the mark of no terms.
+    pub fn with_records(
+        alloc: Global,
+        objects: ObjectList,
+        class: Option<Text>,
+    ) -> Result<World, StartFault>
+        // Where no two objects have one kind and key, each is stored as it is handed in, at the version of its place in the list, from 1.
+        ensures stored { IfOk result (λ w. AreApart objects → IsFilledSo objects w.store) }
+        ensures accepted { OnOk result ((first second : KeyValue) → ¬ (Clash (records_store objects empty_store) first second)) }
+        ensures unsafe_pair { (first second : KeyValue) → IsErrOf result (StartFault.Unsafe first second)
+            → IsLeastClash (records_store objects empty_store) first second }
+        ensures safe { IfOk result (λ w. IsSafe w.store) }
+
+        // The same as one function.
+        ensures world { IfOk result (λ w. w ≡ recorded_world class objects) }
+    {
+        have_terms(objects.as_slice());
+        let store = match safe_store(alloc, objects) {
+            Ok(store) => store,
+            Err(fault) => {
+                drop(class);
+                return Err(fault);
+            }
+        };
+        let state = WorldState::started(alloc, store, class)?;
+        Ok(World { state })
+    }
+
+    /// Makes a step. `NotEnabled` is answered exactly where there is no such step: an object is deleted that isn't there, one that is set
+    /// with its own record has an address in it, nothing is pending in the lane or queued, or the controller is down where it is to do
+    /// something, or up where it is to be started. `Limit` is answered where there is, and it would have one service more held than may
+    /// be, or would take a version after the last. After a refusal the world is unchanged; but where memory was wanted for a turn or a
+    /// crash, the controller may have stopped.
     pub fn step(&mut self, step: Step) -> Result<(), StepFault>
         ensures not_enabled { IsErrOf result StepFault.NotEnabled ↔ ¬ (IsEnabled step self.old) }
         ensures limit { IsErrOf result StepFault.Limit → IsEnabled step self.old × IsLimited step self.old }
@@ -72,6 +107,10 @@ impl World {
         ensures no_memory { IsErrOf result StepFault.NoMemory → IsAfterWant step self.old self.new }
         ensures ok { OnOk result (self.new ≡ world_step step self.old) }
         ensures safe { IsSafe self.new.store }
+
+        // No step gives a service an address under a record that is the mark of no terms.
+        ensures unmarked { (key : KeyValue) (r : RecordValue) → IsRecorded self.new.store key r → IsUnmarked r → is_assigned r ≡ true
+            → IsRecorded self.old.store key r }
     {
         steps_terms(&step);
         self.state.step(step)
@@ -81,6 +120,9 @@ impl World {
     pub fn store(&self) -> &Store
         ensures store { result.now ≡ self.now.store }
         ensures safe { IsSafe self.now.store }
+
+        // The objects stand in their order, each once, at versions from 1 to that of the last change.
+        ensures kept { IsKept self.now.store }
     {
         &self.state.store
     }
@@ -92,6 +134,7 @@ impl World {
 
         // What is stored, held, claimed and still to be shown fits together, row by row.
         ensures order { IfSome self.now.core (IsInOrder self.now) }
+        ensures config_ends { ConfigEndsOnce self.now }
     {
         self.state.core.as_ref()
     }

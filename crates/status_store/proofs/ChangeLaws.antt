@@ -15,7 +15,7 @@ use Rattle.status_store.specs.declared.change.Outcome.TheVariants.{Delivered}
 use Rattle.status_store.specs.declared.stored.Stored.{Stored}
 use Rattle.status_store.specs.Places.{Place, place_of, service_at}
 use Rattle.status_store.specs.Objects.{stored_at, with_stored, without_stored, IsAt, IsGapFor}
-use Rattle.status_store.specs.Changes.{StoreValue, IsKept, record_of, with_record, kept_record, set_as, edited, recorded, is_at_version, with_put, after_put, delivered_reply, reply_to}
+use Rattle.status_store.specs.Changes.{StoreValue, IsKept, record_of, with_record, kept_record, set_as, reset_as, edited, recorded, is_at_version, with_put, after_put, delivered_reply, reply_to}
 use Rattle.status_store.proofs.ListLaws.{ascending-with_stored, ascending-without_stored, counted-less, counted-with_stored, counted-without_stored}
 use Rattle.status_store.proofs.Searching.{with_stored-at, without_stored-at, stored_at-at, with_stored-gap, stored_at-gap, without_stored-gap}
 
@@ -85,6 +85,13 @@ set-gap s object at gap =
 
 abbrev pub stored_as : List Stored → ℕ → StoreValue
 stored_as objects counter = record { objects = objects; counter = counter }
+
+-- what is stored where an object is set with its own record
+pub reset-at : (s : StoreValue) (object : Object) (at : ℕ) → IsKept s → IsAt s.objects (place_of object) at → with_stored (reset_as s object) s.objects ≡ set s.objects at (reset_as s object)
+reset-at s object at kept is_at = with_stored-at s.objects (place_of object) at (reset_as s object) kept.ascending is_at refl
+
+pub reset-gap : (s : StoreValue) (object : Object) (at : ℕ) → IsGapFor s.objects (place_of object) at → with_stored (reset_as s object) s.objects ≡ insert s.objects at (reset_as s object)
+reset-gap s object at gap = with_stored-gap s.objects (place_of object) at (reset_as s object) gap refl
 
 -- something stands there
 pub one-at : (objects : List Stored) (at : ℕ) → at < length objects → Stored

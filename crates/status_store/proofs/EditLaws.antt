@@ -4,11 +4,11 @@ use Rattle.std.proofs.lemmas.Bool.{true≢false}
 use Rattle.kube_model.specs.declared.object.Object.{Object}
 use Rattle.kube_model.specs.declared.record.Record.{Record}
 use Rattle.status_store.specs.declared.change.Edit.{Edit}
-use Rattle.status_store.specs.declared.change.Edit.TheVariants.{Set, Delete}
+use Rattle.status_store.specs.declared.change.Edit.TheVariants.{Set, Reset, Delete}
 use Rattle.status_store.specs.declared.stored.Stored.{Stored}
 use Rattle.status_store.specs.Places.{Place, place_of}
 use Rattle.status_store.specs.Objects.{IsAbsent, SameElsewhere, IsAscending, is_of, stored_at, with_stored, without_stored}
-use Rattle.status_store.specs.Changes.{StoreValue, IsKept, IsKeptRecord, SetsObject, OnSet, OnDelete, DeletesNothing, edited_place, with_record, kept_record, set_as, is_change, edited}
+use Rattle.status_store.specs.Changes.{StoreValue, IsKept, IsKeptRecord, SetsObject, OnSet, ResetsObject, OnReset, OnDelete, DeletesNothing, edited_place, with_record, kept_record, set_as, reset_as, is_change, edited}
 use Rattle.status_store.proofs.ChangeLaws.{place_of-with_record, stored_as}
 use Rattle.status_store.proofs.StoredLaws.{stored-found, absent-found, found-absent, stored-with_stored, elsewhere-with_stored, absent-without_stored, elsewhere-without_stored}
 
@@ -28,6 +28,7 @@ left-out (first ∷ more) place e = left_by (is_of place first) place first more
 
 pub edit-absent : (edit : Edit) (s : StoreValue) → IsKept s → (is_change edit s ≡ false) ↔ DeletesNothing edit s.objects
 edit-absent (Set object) s kept = (λ e. true≢false e, λ none. absurd none)
+edit-absent (Reset object) s kept = (λ e. true≢false e, λ none. absurd none)
 edit-absent (Delete kind key) s kept = (
   λ e. found-absent s.objects (kind, key) kept.ascending (is_none_by (stored_at s.objects (kind, key)) e),
   λ absent. ap is_some (absent-found s.objects (kind, key) kept.ascending absent),
@@ -35,6 +36,7 @@ edit-absent (Delete kind key) s kept = (
 
 pub edit-unchanged : (edit : Edit) (s : StoreValue) → is_change edit s ≡ false → edited edit s ≡ s
 edit-unchanged (Set object) s e = absurd (true≢false e)
+edit-unchanged (Reset object) s e = absurd (true≢false e)
 edit-unchanged (Delete kind key) s e =
     ap (λ (b : Bool). stored_as (without_stored (kind, key) s.objects) (cond b (s.counter + 1) s.counter)) e
     ∙ ap (λ (l : List Stored). stored_as l s.counter) (left-out s.objects (kind, key) (is_none_by (stored_at s.objects (kind, key)) e))
@@ -59,18 +61,27 @@ set-is object s kept =
 
 pub edit-set : (edit : Edit) (s : StoreValue) → IsKept s → OnSet edit (λ object. SetsObject object s (edited edit s))
 edit-set (Set object) s kept = set-is object s kept
+edit-set (Reset object) s kept = tt
 edit-set (Delete kind key) s kept = tt
+
+pub edit-reset : (edit : Edit) (s : StoreValue) → IsKept s → OnReset edit (λ object. ResetsObject object s (edited edit s))
+edit-reset (Set object) s kept = tt
+edit-reset (Reset object) s kept = let stored = stored-with_stored s.objects (reset_as s object) in (stored.0, refl)
+edit-reset (Delete kind key) s kept = tt
 
 pub edit-deleted : (edit : Edit) (s : StoreValue) → IsKept s → OnDelete edit (IsAbsent (edited edit s).objects)
 edit-deleted (Set object) s kept = tt
+edit-deleted (Reset object) s kept = tt
 edit-deleted (Delete kind key) s kept = absent-without_stored s.objects (kind, key) kept.ascending
 
 pub edit-others : (edit : Edit) (s : StoreValue) → IsKept s → SameElsewhere (edited_place edit) s.objects (edited edit s).objects
 edit-others (Set object) s kept =
     subst (λ (place : Place). SameElsewhere place s.objects (with_stored (set_as s object) s.objects))
     (place_of-with_record (kept_record (stored_at s.objects (place_of object))) object) (elsewhere-with_stored s.objects (set_as s object) kept.ascending)
+edit-others (Reset object) s kept = elsewhere-with_stored s.objects (reset_as s object) kept.ascending
 edit-others (Delete kind key) s kept = elsewhere-without_stored s.objects (kind, key) kept.ascending
 
 pub edit-counter : (edit : Edit) (s : StoreValue) → (edited edit s).counter ≡ cond (is_change edit s) (s.counter + 1) s.counter
 edit-counter (Set object) s = refl
+edit-counter (Reset object) s = refl
 edit-counter (Delete kind key) s = refl

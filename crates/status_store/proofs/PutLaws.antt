@@ -1,14 +1,14 @@
 -- What a put changes and what it leaves, and when each reply comes, from what it makes of the store.
-use Rattle.std.proofs.Common.{◌≡◌, ◌≢◌, ◌↔◌, ℕ, ◌+◌, Bool, true, false, cond, eqb, List, Option, Some, None, IsTrue, refl, sym, ap, subst, ◌∙◌}
+use Rattle.std.proofs.Common.{◌≡◌, ◌≢◌, ◌↔◌, ℕ, ◌+◌, Bool, true, false, cond, eqb, List, Option, Some, None, IsTrue, refl, sym, ap, subst, ◌∙◌, inl, inr, ⊎_elim}
 use Rattle.std.proofs.lemmas.Bool.{true≢false, and_parts, and_from}
 use Rattle.kube_model.specs.declared.put.Put.{Put}
 use Rattle.kube_model.specs.declared.reply.PutReply.TheVariants as replies
 use Rattle.status_store.specs.declared.change.Outcome.{Outcome}
-use Rattle.status_store.specs.declared.change.Outcome.TheVariants.{Delivered, Lost}
+use Rattle.status_store.specs.declared.change.Outcome.TheVariants.{Delivered, Lost, Refused}
 use Rattle.status_store.specs.declared.stored.Stored.{Stored}
 use Rattle.status_store.specs.Places.{Place, place_of, service_at}
 use Rattle.status_store.specs.Objects.{IsStored, IsAbsent, SameElsewhere, stored_at, with_stored}
-use Rattle.status_store.specs.Changes.{StoreValue, IsKept, IsLost, arrives, IsCurrent, IsOutdated, IsMade, RecordsPut, recorded, is_at_version, is_made, with_put, after_put, delivered_reply, reply_to}
+use Rattle.status_store.specs.Changes.{StoreValue, IsKept, IsLost, arrives, IsCurrent, IsOutdated, IsStale, IsMade, RecordsPut, recorded, is_at_version, is_made, with_put, after_put, delivered_reply, reply_to}
 use Rattle.status_store.proofs.ChangeLaws.{same-version, version-same, other-version, version-other, place_of-with_record, stored_as}
 use Rattle.status_store.proofs.StoredLaws.{stored-found, found-stored, absent-found, found-absent, stored-with_stored, elsewhere-with_stored, elsewhere-itself}
 
@@ -90,6 +90,7 @@ module _ (s : StoreValue) (put : Put) (kept : IsKept s) where
   pub reply-unknown : (outcome : Outcome) → (reply_to put outcome s ≡ replies.Unknown) ↔ IsLost outcome
   reply-unknown Delivered = (λ e. known_by (stored_at s.objects (service_at put.key)) e, λ none. absurd none)
   reply-unknown (Lost applied) = (λ e. tt, λ lost. refl)
+  reply-unknown Refused = (λ e. absurd (cc), λ none. absurd none)
 
   missing_on : (b : Bool) → cond b (replies.Ok (s.counter + 1)) replies.Stale ≢ replies.Missing
   missing_on true e = cc
@@ -105,6 +106,7 @@ module _ (s : StoreValue) (put : Put) (kept : IsKept s) where
     λ both. ap (delivered_reply s.counter put) (absent-found s.objects (service_at put.key) kept.ascending both.1),
   )
   reply-missing (Lost applied) = (λ e. absurd (cc), λ both. absurd (cc))
+  reply-missing Refused = (λ e. absurd (cc), λ both. absurd (cc))
 
   stale_on : (b : Bool) → cond b (replies.Ok (s.counter + 1)) replies.Stale ≡ replies.Stale → b ≡ false
   stale_on true e = absurd (cc)
@@ -115,15 +117,16 @@ module _ (s : StoreValue) (put : Put) (kept : IsKept s) where
   stale_by (Some held) is e =
       (held, found-stored s.objects (service_at put.key) held (sym is), other-version held.version put.version (stale_on (eqb held.version put.version) e))
 
-  pub reply-stale : (outcome : Outcome) → (reply_to put outcome s ≡ replies.Stale) ↔ ((outcome ≡ Delivered) × IsOutdated s.objects put)
+  pub reply-stale : (outcome : Outcome) → (reply_to put outcome s ≡ replies.Stale) ↔ IsStale put outcome s.objects
   reply-stale Delivered = (
-    λ e. (refl, stale_by (stored_at s.objects (service_at put.key)) refl e),
-    λ both.
+    λ e. inr (refl, stale_by (stored_at s.objects (service_at put.key)) refl e),
+    λ either. ⊎_elim (λ no. absurd (cc)) (λ both.
         let found = stored-found s.objects (service_at put.key) both.1.0 kept.ascending both.1.1 in
         ap (delivered_reply s.counter put) found
-        ∙ ap (λ (b : Bool). cond b (replies.Ok (s.counter + 1)) replies.Stale) (version-other both.1.0.version put.version both.1.2),
+        ∙ ap (λ (b : Bool). cond b (replies.Ok (s.counter + 1)) replies.Stale) (version-other both.1.0.version put.version both.1.2)) either,
   )
-  reply-stale (Lost applied) = (λ e. absurd (cc), λ both. absurd (cc))
+  reply-stale (Lost applied) = (λ e. absurd (cc), λ either. ⊎_elim (λ no. absurd (cc)) (λ both. let no = both.0 in absurd (cc)) either)
+  reply-stale Refused = (λ e. inl refl, λ either. refl)
 
   ok_on : (b : Bool) (version : ℕ) → cond b (replies.Ok (s.counter + 1)) replies.Stale ≡ replies.Ok version → (b ≡ true) × (version ≡ s.counter + 1)
   ok_on true version e = (refl, cc)
@@ -148,12 +151,13 @@ module _ (s : StoreValue) (put : Put) (kept : IsKept s) where
         ∙ ap (λ (n : ℕ). replies.Ok n) (sym all.2),
   )
   reply-ok (Lost applied) version = (λ e. absurd (cc), λ all. absurd (cc))
+  reply-ok Refused version = (λ e. absurd (cc), λ all. absurd (cc))
 
 -- all that the clauses of a put say
 pub record PutFacts (s : StoreValue) (put : Put) (outcome : Outcome) : Type 0 where
   pub unknown : (reply_to put outcome s ≡ replies.Unknown) ↔ IsLost outcome
   pub missing : (reply_to put outcome s ≡ replies.Missing) ↔ ((outcome ≡ Delivered) × IsAbsent s.objects (service_at put.key))
-  pub stale : (reply_to put outcome s ≡ replies.Stale) ↔ ((outcome ≡ Delivered) × IsOutdated s.objects put)
+  pub stale : (reply_to put outcome s ≡ replies.Stale) ↔ IsStale put outcome s.objects
   pub stored : (version : ℕ) → (reply_to put outcome s ≡ replies.Ok version) ↔ ((outcome ≡ Delivered) × IsCurrent s.objects put × (version ≡ s.counter + 1))
   pub recorded : IsMade put outcome s.objects → RecordsPut put s (after_put put outcome s)
   pub counter : IsMade put outcome s.objects → (after_put put outcome s).counter ≡ s.counter + 1
@@ -179,7 +183,17 @@ put-facts s put (Lost true) kept = facts-kept s put (Lost true) (kept refl)
 put-facts s put (Lost false) kept = record {
   unknown = (λ e. tt, λ lost. refl);
   missing = (λ e. absurd (cc), λ both. absurd (cc));
-  stale = (λ e. absurd (cc), λ both. absurd (cc));
+  stale = (λ e. absurd (cc), λ either. ⊎_elim (λ no. absurd (cc)) (λ both. let no = both.0 in absurd (cc)) either);
+  stored = λ version. (λ e. absurd (cc), λ all. absurd (cc));
+  recorded = λ made. absurd (true≢false (sym made.0));
+  counter = λ made. absurd (true≢false (sym made.0));
+  others = elsewhere-itself (service_at put.key) s.objects;
+  unchanged = λ none. refl;
+}
+put-facts s put Refused kept = record {
+  unknown = (λ e. absurd (cc), λ none. absurd none);
+  missing = (λ e. absurd (cc), λ both. absurd (cc));
+  stale = (λ e. inl refl, λ either. refl);
   stored = λ version. (λ e. absurd (cc), λ all. absurd (cc));
   recorded = λ made. absurd (true≢false (sym made.0));
   counter = λ made. absurd (true≢false (sym made.0));

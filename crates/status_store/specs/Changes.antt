@@ -1,5 +1,5 @@
 -- What edits and puts make of what is stored, and what they are answered.
-use Rattle.std.specs.Prelude.{◌≡◌, ◌≢◌, ◌+◌, ◌==◌, ◌&&◌, ℕ, Bool, true, false, List, [], Option, Some, None, is_some, IsTrue, ⊤, if◌then◌else◌}
+use Rattle.std.specs.Prelude.{◌≡◌, ◌⊎◌, ◌≢◌, ◌+◌, ◌==◌, ◌&&◌, ℕ, Bool, true, false, List, [], Option, Some, None, is_some, IsTrue, ⊤, if◌then◌else◌}
 use Rattle.kube_model.specs.declared.object.Object.{Object}
 use Rattle.kube_model.specs.declared.object.Object.TheVariants as objects
 use Rattle.kube_model.specs.declared.put.Put.{Put}
@@ -9,9 +9,9 @@ use Rattle.kube_model.specs.declared.reply.PutReply.TheVariants as replies
 use Rattle.kube_model.specs.Records.{empty_record}
 use Rattle.kube_model.specs.Service.{with_holding}
 use Rattle.status_store.specs.declared.change.Edit.{Edit}
-use Rattle.status_store.specs.declared.change.Edit.TheVariants.{Set, Delete}
+use Rattle.status_store.specs.declared.change.Edit.TheVariants.{Set, Reset, Delete}
 use Rattle.status_store.specs.declared.change.Outcome.{Outcome}
-use Rattle.status_store.specs.declared.change.Outcome.TheVariants.{Delivered, Lost}
+use Rattle.status_store.specs.declared.change.Outcome.TheVariants.{Delivered, Lost, Refused}
 use Rattle.status_store.specs.declared.stored.Stored.{Stored}
 use Rattle.status_store.specs.Places.{Place, place_of, service_at}
 use Rattle.status_store.specs.Objects.{IsStored, IsAbsent, IsAscending, AreCounted, stored_at, with_stored, without_stored}
@@ -58,21 +58,35 @@ pub record SetsObject (object : Object) (old new : StoreValue) : Type 0 where
 -- where an edit sets an object, this holds of it
 abbrev pub OnSet : Edit → (Object → Type 0) → Type 0
 OnSet (Set object) P = P object
+OnSet (Reset object) P = ⊤
 OnSet (Delete kind key) P = ⊤
+
+-- an object is set with its own record: it is stored at the next version just as it was handed in
+abbrev pub ResetsObject : Object → StoreValue → StoreValue → Type 0
+ResetsObject object old new = IsStored new.objects (place_of object) (record { version = old.counter + 1; object = object })
+
+-- where an edit does so, this holds of the object
+abbrev pub OnReset : Edit → (Object → Type 0) → Type 0
+OnReset (Set object) P = ⊤
+OnReset (Reset object) P = P object
+OnReset (Delete kind key) P = ⊤
 
 -- where an edit deletes what is stored at a place, this holds of the place
 abbrev pub OnDelete : Edit → (Place → Type 0) → Type 0
 OnDelete (Set object) P = ⊤
+OnDelete (Reset object) P = ⊤
 OnDelete (Delete kind key) P = P (kind, key)
 
 -- the edit deletes, and nothing is stored there
 abbrev pub DeletesNothing : Edit → List Stored → Type 0
 DeletesNothing (Set object) objects = ⊥
+DeletesNothing (Reset object) objects = ⊥
 DeletesNothing (Delete kind key) objects = IsAbsent objects (kind, key)
 
 -- the place that is edited
 abbrev pub edited_place : Edit → Place
 edited_place (Set object) = place_of object
+edited_place (Reset object) = place_of object
 edited_place (Delete kind key) = (kind, key)
 
 -- the record that stays
@@ -84,14 +98,20 @@ kept_record (Some held) = record_of held.object
 abbrev pub set_as : StoreValue → Object → Stored
 set_as s object = record { version = s.counter + 1; object = with_record (kept_record (stored_at s.objects (place_of object))) object }
 
+-- and of one that is set with its own record
+abbrev pub reset_as : StoreValue → Object → Stored
+reset_as s object = record { version = s.counter + 1; object = object }
+
 -- whether the edit changes anything
 abbrev pub is_change : Edit → StoreValue → Bool
 is_change (Set object) s = true
+is_change (Reset object) s = true
 is_change (Delete kind key) s = is_some (stored_at s.objects (kind, key))
 
 -- what is stored after an edit
 abbrev pub edited : Edit → StoreValue → StoreValue
 edited (Set object) s = record { objects = with_stored (set_as s object) s.objects; counter = s.counter + 1 }
+edited (Reset object) s = record { objects = with_stored (reset_as s object) s.objects; counter = s.counter + 1 }
 edited (Delete kind key) s = record {
   objects = without_stored (kind, key) s.objects;
   counter = if is_some (stored_at s.objects (kind, key)) then s.counter + 1 else s.counter;
@@ -103,11 +123,13 @@ edited (Delete kind key) s = record {
 abbrev pub IsLost : Outcome → Type 0
 IsLost Delivered = ⊥
 IsLost (Lost applied) = ⊤
+IsLost Refused = ⊥
 
 -- whether the put reaches the store
 abbrev pub arrives : Outcome → Bool
 arrives Delivered = true
 arrives (Lost applied) = applied
+arrives Refused = false
 
 -- the service is stored at the put's version
 abbrev pub IsCurrent : List Stored → Put → Type 0
@@ -116,6 +138,10 @@ IsCurrent objects put = (held : Stored) × IsStored objects (service_at put.key)
 -- the service is stored at another version
 abbrev pub IsOutdated : List Stored → Put → Type 0
 IsOutdated objects put = (held : Stored) × IsStored objects (service_at put.key) held × (held.version ≢ put.version)
+
+-- the put is stale: it was refused, or the service is stored at another version
+abbrev pub IsStale : Put → Outcome → List Stored → Type 0
+IsStale put outcome objects = (outcome ≡ Refused) ⊎ ((outcome ≡ Delivered) × IsOutdated objects put)
 
 -- the put changes what is stored: it arrives, and the service is stored at its version
 abbrev pub IsMade : Put → Outcome → List Stored → Type 0
@@ -161,3 +187,4 @@ delivered_reply counter put (Some held) = if held.version == put.version then re
 abbrev pub reply_to : Put → Outcome → StoreValue → PutReply
 reply_to put Delivered s = delivered_reply s.counter put (stored_at s.objects (service_at put.key))
 reply_to put (Lost applied) s = replies.Unknown
+reply_to put Refused s = replies.Stale

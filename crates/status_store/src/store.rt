@@ -4,7 +4,7 @@ ghost use Rattle.std.specs.List.{slice_index_or};
 ghost use Rattle.std.specs.Option.{option_copied};
 ghost use Rattle.status_store.specs.Places.{place_of, service_at};
 ghost use Rattle.status_store.specs.Objects.{IsStored, IsAbsent, SameElsewhere, IsAscending, AreCounted, IsAt, IsGapFor, stored_at};
-ghost use Rattle.status_store.specs.Changes.{IsKept, empty_store, SetsObject, OnSet, OnDelete, DeletesNothing, edited_place, is_change, edited, IsLost, arrives, IsCurrent, IsOutdated, IsMade, RecordsPut, after_put, reply_to};
+ghost use Rattle.status_store.specs.Changes.{IsKept, empty_store, SetsObject, OnSet, ResetsObject, OnReset, OnDelete, DeletesNothing, edited_place, is_change, edited, IsLost, arrives, IsCurrent, IsStale, IsMade, RecordsPut, after_put, reply_to};
 
 use crate::change::{Edit, Outcome};
 use crate::place::key_parts;
@@ -79,7 +79,7 @@ impl Store {
     }
 
     /// Makes the change, which takes the next version. A service keeps the record that is stored, whatever the one that is
-    /// handed in says; a new one has an empty record. False, and nothing is changed, exactly where an object is deleted
+    /// handed in says, and a new one has an empty record, unless it is reset. False, and nothing is changed, exactly where an object is deleted
     /// that isn't there. After want of memory the store is unchanged.
     pub fn edit(&mut self, edit: Edit) -> Result<bool, NoMemory>
         requires { self.old.counter < 2 ^ 64 - 1 }
@@ -88,6 +88,7 @@ impl Store {
         ensures unchanged { IfOk result (λ done. done ≡ false → self.new ≡ self.old) }
 
         ensures set { OnOk result (OnSet edit (λ object. SetsObject object self.old self.new)) }
+        ensures reset { OnOk result (OnReset edit (λ object. ResetsObject object self.old self.new)) }
         ensures deleted { OnOk result (OnDelete edit (IsAbsent self.new.objects)) }
         ensures others { OnOk result (SameElsewhere (edited_place edit) self.old.objects self.new.objects) }
         ensures counter { IfOk result (λ done.
@@ -112,6 +113,10 @@ impl Store {
         match edit {
             Edit::Set { object } => {
                 self.set(object)?;
+                Ok(true)
+            }
+            Edit::Reset { object } => {
+                self.reset(object)?;
                 Ok(true)
             }
             Edit::Delete { kind, key } => Ok(self.delete(kind, &key)),
@@ -173,6 +178,57 @@ impl Store {
         Ok(())
     }
 
+    fn reset(&mut self, object: Object) -> Result<(), NoMemory>
+        requires { self.old.counter < 2 ^ 64 - 1 }
+        ensures kept { IsKept self.old }
+        ensures store { OnOk result (self.new ≡ edited (Edit.Reset object) self.old) }
+        ensures err { OnErr result (self.new ≡ self.old) }
+    {
+        let (namespace, name) = key_parts(&object);
+        match self.place(object.kind(), namespace, name) {
+            Ok(at) => self.replace_whole(at, object),
+            Err(at) => self.insert_whole(at, object),
+        }
+    }
+
+    /// The object takes the place of what stands here, with its own record.
+    fn replace_whole(&mut self, at: usize, object: Object) -> Result<(), NoMemory>
+        requires room { self.old.counter < 2 ^ 64 - 1 }
+        requires found { IsAt self.old.objects (place_of object) at }
+        ensures kept { IsKept self.old }
+        ensures store { OnOk result (self.new ≡ edited (Edit.Reset object) self.old) }
+        ensures err { OnErr result (self.new ≡ self.old) }
+    {
+        let version = self.counter + 1;
+        write_at(
+            &mut self.objects,
+            self.alloc,
+            at,
+            Stored { version, object },
+        );
+        self.counter = version;
+        Ok(())
+    }
+
+    /// The object is new, and is to stand here, with its own record.
+    fn insert_whole(&mut self, at: usize, object: Object) -> Result<(), NoMemory>
+        requires room { self.old.counter < 2 ^ 64 - 1 }
+        requires absent { IsGapFor self.old.objects (place_of object) at }
+        ensures kept { IsKept self.old }
+        ensures store { OnOk result (self.new ≡ edited (Edit.Reset object) self.old) }
+        ensures err { OnErr result (self.new ≡ self.old) }
+    {
+        let version = self.counter + 1;
+        insert_at(
+            &mut self.objects,
+            self.alloc,
+            at,
+            Stored { version, object },
+        )?;
+        self.counter = version;
+        Ok(())
+    }
+
     fn delete(&mut self, kind: Kind, key: &Key) -> bool
         requires { self.old.counter < 2 ^ 64 - 1 }
         ensures kept { IsKept self.old }
@@ -190,7 +246,7 @@ impl Store {
     /// Writes a record to a service's status, as an update that names the version that it was read at: it is made exactly
     /// where the service is stored at that version, and takes the next version (in Kubernetes the reply is NotFound where
     /// there is no such service, and Conflict where it has another version). A put that is lost is answered `Unknown`,
-    /// whether it was applied or not. After want of memory the store is unchanged.
+    /// whether it was applied or not, and one that is refused `Stale`. After want of memory the store is unchanged.
     pub fn put(&mut self, put: &Put, outcome: Outcome) -> Result<PutReply, NoMemory>
         requires { self.old.counter < 2 ^ 64 - 1 }
 
@@ -198,7 +254,7 @@ impl Store {
         ensures missing { IfOk result (λ reply. (reply ≡ PutReply.Missing)
             ↔ ((outcome ≡ Outcome.Delivered) × IsAbsent self.old.objects (service_at put.now.key))) }
         ensures stale { IfOk result (λ reply. (reply ≡ PutReply.Stale)
-            ↔ ((outcome ≡ Outcome.Delivered) × IsOutdated self.old.objects put.now)) }
+            ↔ IsStale put.now outcome self.old.objects) }
         ensures stored { IfOk result (λ reply. (version : ℕ) → (reply ≡ PutReply.Ok version)
             ↔ ((outcome ≡ Outcome.Delivered) × IsCurrent self.old.objects put.now × (version ≡ self.old.counter + 1))) }
 
@@ -235,6 +291,7 @@ impl Store {
                 }
                 Ok(PutReply::Unknown)
             }
+            Outcome::Refused => Ok(PutReply::Stale),
         }
     }
 

@@ -15,6 +15,8 @@ use std::test::Fail;
 enum Step {
     /// The object of the event is set, whatever its version.
     Set(&'static str),
+    /// It is set with its own record.
+    Reset(&'static str),
     Delete(Kind, &'static str, &'static str),
     /// The service of this name in the namespace `d` is to have a record of the pool `p`.
     Put(&'static str, u64, Outcome),
@@ -29,6 +31,9 @@ const A_RECORDED: &str =
 const B_RECORDED: &str =
     r#"{"type":"ADDED","object":{"kind":"Service","metadata":{"namespace":"d","name":"b","resourceVersion":"70","annotations":{"metallb.io/ip-allocated-from-pool":"q"}},"spec":{"type":"LoadBalancer"}}}"#;
 
+const B: &str =
+    r#"{"type":"ADDED","object":{"kind":"Service","metadata":{"namespace":"d","name":"b","resourceVersion":"70"},"spec":{"type":"ClusterIP"}}}"#;
+
 const NODE: &str =
     r#"{"type":"ADDED","object":{"kind":"Node","metadata":{"name":"a","resourceVersion":"70"}}}"#;
 
@@ -37,7 +42,7 @@ const LOST: Outcome = Outcome::Lost { applied: false };
 const LOST_LATER: Outcome = Outcome::Lost { applied: true };
 
 /// Each step, its answer, and what is stored then: names, versions and the pools of records.
-const ROWS: [(Step, &str, &str); 16] = [
+const ROWS: [(Step, &str, &str); 22] = [
     (Step::Put("a", 0, Outcome::Delivered), "missing", ""),
     (Step::Set(NODE), "true", "node a 1;"),
     // the record that is handed in with a new service is dropped
@@ -89,6 +94,22 @@ const ROWS: [(Step, &str, &str); 16] = [
     // a service that is created again has an empty record
     (Step::Set(A_RECORDED), "true", "d/a 9 ;d/b 5 p;node a 7;"),
     (Step::Delete(Kind::Node, "", "a"), "true", "d/a 9 ;d/b 5 p;"),
+    // a put that is refused changes nothing, whatever its version
+    (
+        Step::Put("b", 5, Outcome::Refused),
+        "stale",
+        "d/a 9 ;d/b 5 p;",
+    ),
+    (
+        Step::Put("c", 5, Outcome::Refused),
+        "stale",
+        "d/a 9 ;d/b 5 p;",
+    ),
+    // an object that is set with its own record has that one
+    (Step::Reset(B), "true", "d/a 9 ;d/b 11 ;"),
+    (Step::Reset(A_RECORDED), "true", "d/a 12 q;d/b 11 ;"),
+    (Step::Delete(Kind::Service, "d", "b"), "true", "d/a 12 q;"),
+    (Step::Reset(B_RECORDED), "true", "d/a 12 q;d/b 14 q;"),
 ];
 
 fn key(alloc: Global, namespace: &str, name: &str) -> Result<Key, NoMemory> {
@@ -141,13 +162,27 @@ fn written(store: &mut Store, put: &Put, outcome: Outcome) -> Result<&'static st
     })
 }
 
-fn set(alloc: Global, store: &mut Store, line: &str) -> Result<&'static str, Fail> {
-    match read_event(alloc, line.as_bytes())? {
-        Event::Changed { object, .. } => Ok(edited(store, Edit::Set { object })?),
+fn object_of(event: Event) -> Option<Object> {
+    match event {
+        Event::Changed { object, .. } => Some(object),
         other => {
             drop(other);
-            Ok("no object")
+            None
         }
+    }
+}
+
+fn set(alloc: Global, store: &mut Store, line: &str) -> Result<&'static str, Fail> {
+    match object_of(read_event(alloc, line.as_bytes())?) {
+        Some(object) => Ok(edited(store, Edit::Set { object })?),
+        None => Ok("no object"),
+    }
+}
+
+fn reset(alloc: Global, store: &mut Store, line: &str) -> Result<&'static str, Fail> {
+    match object_of(read_event(alloc, line.as_bytes())?) {
+        Some(object) => Ok(edited(store, Edit::Reset { object })?),
+        None => Ok("no object"),
     }
 }
 
@@ -165,6 +200,7 @@ fn put_at(
 fn answer(alloc: Global, store: &mut Store, step: Step) -> Result<&'static str, Fail> {
     match step {
         Step::Set(line) => set(alloc, store, line),
+        Step::Reset(line) => reset(alloc, store, line),
         Step::Delete(kind, namespace, name) => {
             let key = key(alloc, namespace, name)?;
             Ok(edited(store, Edit::Delete { kind, key })?)
@@ -227,6 +263,6 @@ fn a_store_keeps_what_is_set_and_put(rt: HostRuntime) -> Result<(), Fail> {
     let counter = store.counter();
     drop(store);
     checked?;
-    assert_eq!(rt; counter, 10);
+    assert_eq!(rt; counter, 14);
     Ok(())
 }

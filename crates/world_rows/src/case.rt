@@ -1,10 +1,11 @@
 //! One case of the table.
 
 use crate::crashes::crash_lines;
-use crate::steps::{make, world_of};
+use crate::steps::{make, recorded_world, world_of};
 use crate::stored::{held_text, store_text};
-use ctl_world::World;
+use ctl_world::{StartFault, World};
 use kube_labels::Text;
+use kube_model::Key;
 use mlb_base::NoMemory;
 use std::alloc::Global;
 
@@ -22,6 +23,9 @@ fn step_name(line: &str) -> &str {
     if line.as_bytes().starts_with(b"{") {
         return "edit";
     }
+    if line.as_bytes().starts_with(b"reset ") {
+        return "reset";
+    }
     line
 }
 
@@ -29,6 +33,22 @@ fn step_text(alloc: Global, world: &mut World, line: &str) -> Result<String, NoM
     match make(alloc, world, line)? {
         None => Ok(String::new(alloc)),
         Some(fault) => Ok(format!(in alloc; "{}: {fault}\n", step_name(line))?),
+    }
+}
+
+fn unsafe_text(alloc: Global, first: &Key, second: &Key) -> Result<String, NoMemory> {
+    Ok(format!(in alloc; "unsafe: {} {}\n", first.name, second.name)?)
+}
+
+fn fault_text(alloc: Global, fault: StartFault) -> Result<String, NoMemory> {
+    match fault {
+        StartFault::NoMemory => Err(NoMemory),
+        StartFault::Unsafe { first, second } => {
+            let text = unsafe_text(alloc, &first, &second);
+            drop(first);
+            drop(second);
+            text
+        }
     }
 }
 
@@ -46,6 +66,16 @@ impl Case {
         let world = world_of(self.alloc, &self.objects)?;
         drop(self.world.replace(world));
         Ok(String::new(self.alloc))
+    }
+
+    fn begin_recorded(&mut self) -> Result<String, NoMemory> {
+        match recorded_world(self.alloc, &self.objects) {
+            Ok(world) => {
+                drop(self.world.replace(world));
+                Ok(String::new(self.alloc))
+            }
+            Err(fault) => fault_text(self.alloc, fault),
+        }
     }
 
     fn happen(&mut self, line: &str) -> Result<String, NoMemory> {
@@ -88,6 +118,7 @@ impl Case {
         }
         match line {
             "begin" => self.begin(),
+            "begin with records" => self.begin_recorded(),
             "show" => self.show(),
             "crashes" => crash_lines(self.alloc, &self.objects, &self.history),
             _ if self.world.is_none() => self.add(line),

@@ -1,13 +1,16 @@
 //! Makes the steps of worlds, and writes what they leave. A line that begins with `#` is written as it stands, and begins a world
-//! anew. The event lines that follow are the objects that it begins with, up to the line `begin`. From there an event line is an
-//! edit, and the words of a step are that step, as `take config`, `turn lost applied` or `crash`; `show` writes what is stored, `held
-//! NAME` what the controller holds of a service of the namespace `default`, and `crashes` makes the steps up to each place anew,
-//! stops the controller there, once with its put applied and once without, and writes what is stored once it has been started
-//! again and has nothing left to do. No class is configured.
+//! anew. The event lines that follow are the objects that it begins with, up to the line `begin`, or `begin with records` where the
+//! services have the records that the lines show. From there an event line is an edit, one behind the word `reset` sets its object with
+//! its own record, and the words of a step are that step, as `take config`, `turn lost applied` or `crash`; `show` writes what is stored,
+//! `held NAME` what the controller holds of a service of the namespace `default`, and `crashes` makes the steps up to each place anew,
+//! stops the controller there, once with its put applied and once without, starts it again, has it go on until it has nothing left to
+//! do, and writes what is stored then, with the word `waits` where a service has no address while one of a pool is free. No class is
+//! configured.
 #![tactic(auto)]
 
 mod case;
 mod crashes;
+mod judged;
 mod steps;
 mod stored;
 

@@ -1,6 +1,6 @@
 //! The steps that the lines say.
 
-use ctl_world::{Edit, Outcome, Step, StepFault, World};
+use ctl_world::{Edit, Outcome, StartFault, Step, StepFault, World};
 use kube_events::read_event;
 use kube_labels::Text;
 use kube_model::{Event, EventFault, Group, Object};
@@ -33,8 +33,16 @@ fn edit_of(event: Event) -> Option<Edit> {
     }
 }
 
+fn reset_of(event: Event) -> Option<Edit> {
+    object_of(event).map(|object| Edit::Reset { object })
+}
+
+/// The edit that the line shows: an event line behind `reset ` sets its object with its own record.
 fn edit_step(alloc: Global, line: &str) -> Result<Option<Step>, NoMemory> {
-    let edit = event_of(alloc, line)?.and_then(edit_of);
+    let edit = match line.strip_prefix("reset ") {
+        None => event_of(alloc, line)?.and_then(edit_of),
+        Some(rest) => event_of(alloc, rest)?.and_then(reset_of),
+    };
     Ok(edit.map(|edit| Step::Edit { edit }))
 }
 
@@ -52,6 +60,7 @@ fn outcome_of(word: &str) -> Option<Outcome> {
         "turn" => Some(Outcome::Delivered),
         "turn lost" => Some(Outcome::Lost { applied: false }),
         "turn lost applied" => Some(Outcome::Lost { applied: true }),
+        "turn refused" => Some(Outcome::Refused),
         _ => None,
     }
 }
@@ -115,16 +124,25 @@ fn read_objects(
     Ok(())
 }
 
-/// A new world of the objects that these lines show.
-pub fn world_of(alloc: Global, lines: &[Text]) -> Result<World, NoMemory> {
+fn objects_of(alloc: Global, lines: &[Text]) -> Result<Sequence<Object>, NoMemory> {
     let mut objects = Sequence::new(alloc);
     match read_objects(alloc, lines, &mut objects) {
-        Ok(()) => World::new(alloc, objects, None),
+        Ok(()) => Ok(objects),
         Err(NoMemory) => {
             drop(objects);
             Err(NoMemory)
         }
     }
+}
+
+/// A new world of the objects that these lines show.
+pub fn world_of(alloc: Global, lines: &[Text]) -> Result<World, NoMemory> {
+    World::new(alloc, objects_of(alloc, lines)?, None)
+}
+
+/// One whose services have the records that the lines show.
+pub fn recorded_world(alloc: Global, lines: &[Text]) -> Result<World, StartFault> {
+    World::with_records(alloc, objects_of(alloc, lines)?, None)
 }
 
 /// Makes the step that the line says; one that isn't made is answered with its fault.

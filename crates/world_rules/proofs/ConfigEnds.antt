@@ -9,7 +9,7 @@ use Rattle.kube_model.specs.declared.object.Object.TheVariants as objects
 use Rattle.object_history.specs.Cache.{ended_after_event}
 use Rattle.object_history.specs.Observations.{same_group}
 use Rattle.status_store.specs.declared.change.Edit.{Edit}
-use Rattle.status_store.specs.declared.change.Edit.TheVariants.{Set, Delete}
+use Rattle.status_store.specs.declared.change.Edit.TheVariants.{Set, Reset, Delete}
 use Rattle.status_store.specs.declared.stored.Stored.{Stored}
 use Rattle.status_store.specs.Objects.{stored_at}
 use Rattle.status_store.specs.Changes.{StoreValue}
@@ -35,6 +35,7 @@ none-lane false events none = tt
 
 none-edit : (edit : Edit) (store : StoreValue) → NoneEnds (shown_edit edit store)
 none-edit (Set object) store = (λ no. absurd (cc no), tt)
+none-edit (Reset object) store = (λ no. absurd (cc no), tt)
 none-edit (Delete kind key) store = none-gone (is_some (stored_at store.objects (kind, key)))
   where
     none-gone : (b : Bool) → NoneEnds (cond b (Deleted kind key ∷ []) [])

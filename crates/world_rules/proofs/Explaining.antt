@@ -24,13 +24,14 @@ use Rattle.core_rules.specs.Run.{Entry, Took, Expired, Turned, Heard, core_after
 use Rattle.core_rules.proofs.Runs.{core_holds_what_was_observed, took-out, heard-out}
 use Rattle.core_laws.proofs.Expired.{expired_is_both}
 use Rattle.core_laws.proofs.Puts.{idle-queue}
-use Rattle.world_rules.specs.declared.step.Step.{Step}
-use Rattle.world_rules.specs.declared.step.Step.TheVariants.{Edit as Edits, Take, Turn as Turns, Crash, Restart, Expire}
-use Rattle.world_rules.specs.Explaining.{Act, Shown, Lapsed, Decided, Answered, shown_of, acts_of_event, acts_of_turn, acts_of_entry, acts_of, answered, puts_of_entry, puts_of, entries_taken, entries_put, entries_turned, entries_of_step, run_along, IsRunning, IsExplained, RunsAreSafeInWorlds}
+use Rattle.core_laws.specs.Shared.{AllShowTerms}
+use Rattle.world_rules.specs.Moves.{Move, Sets, Deletes, Tells, Takes, Turns, Stops, Starts, ConfigLapses, ServicesLapse, entries_taken, entries_put, entries_turned, entries_of, run_along, after_move, after_moves, begun}
+use Rattle.world_rules.specs.Explaining.{Act, Shown, Lapsed, Decided, Answered, shown_of, acts_of_event, acts_of_turn, acts_of_entry, acts_of, answered, puts_of_entry, puts_of, IsRunning, IsExplained, RunsAreSafeInWorlds}
 use Rattle.world_rules.specs.Good.{IsGood}
-use Rattle.world_rules.proofs.Worlds.{starts_are_good, steps_keep_good, good-steps}
+use Rattle.world_rules.proofs.Worlds.{starts_are_good, good-moves, safe-along}
+use Rattle.world_rules.proofs.Turns.{good-turn}
 use Rattle.world_rules.specs.Safe.{IsSafe}
-use Rattle.world_rules.specs.World.{WorldValue, lane_of, told, turned, after_turning, started, world_step, after_steps}
+use Rattle.world_rules.specs.World.{WorldValue, told, turned, after_turning}
 
 -- ---- the same run, without what is passed over
 abbrev normal_shown : Group → Event → List Entry
@@ -244,17 +245,6 @@ module _ (class : Option (List ℕ)) where
   taken-through [] run is none = (is, refl, none)
   taken-through (event ∷ more) run is none = ((none, is), refl, took-out (core_after class run) event ∙ none)
 
-  take-through : (group : Group) (w : WorldValue) (run : List Entry) → GoesThrough w run → GoesThrough (world_step (Take group) w) (entries_taken w.core (lane_of group w) ++ run)
-  take-through groups.Config w run g =
-      let t = taken-through w.config_lane run g.is g.none in
-      record { class_is = g.class_is; is = rw g.core t.0; core = rw g.core t.1; none = rw g.core t.2 }
-  take-through groups.Service w run g =
-      let t = taken-through w.service_lane run g.is g.none in
-      record { class_is = g.class_is; is = rw g.core t.0; core = rw g.core t.1; none = rw g.core t.2 }
-  take-through groups.Endpoint w run g =
-      let t = taken-through [] run g.is g.none in
-      record { class_is = g.class_is; is = rw g.core t.0; core = rw g.core refl; none = rw g.core t.2 }
-
   put-through : (p : Option Put) (outcome : Outcome) (w : WorldValue) (run : List Entry) → p ≡ put_in (core_turn (core_after class run)) → GoesThrough w run
       → GoesThrough (turned (after_turn (core_after class run)) p outcome w) ((entries_put p outcome w.store ++ Turned (core_turn (core_after class run)) ∷ []) ++ run)
   put-through None outcome w run e g = record { class_is = g.class_is; is = ((g.none, refl), g.is); core = refl; none = sym e }
@@ -268,23 +258,28 @@ module _ (class : Option (List ℕ)) where
         none = heard-out (after_turn s).out (reply_to put outcome w.store) (after_turn s) out;
       }
 
-  turn-through : (outcome : Outcome) (w : WorldValue) (run : List Entry) → GoesThrough w run → GoesThrough (world_step (Turns outcome) w) (entries_turned w.core outcome w.store ++ run)
-  turn-through outcome w run g =
+  move-through : (move : Move) (w : WorldValue) (run : List Entry) → IsRunning move → GoesThrough w run → GoesThrough (after_move move w) (entries_of move w ++ run)
+  move-through (Sets object holding) w run r g = record { class_is = g.class_is; is = g.is; core = g.core; none = g.none }
+  move-through (Deletes kind key) w run r g = record { class_is = g.class_is; is = g.is; core = g.core; none = g.none }
+  move-through (Tells event) w run r g =
+      let t = taken-through (event ∷ []) run g.is g.none in
+      record { class_is = g.class_is; is = rw g.core t.0; core = rw g.core t.1; none = rw g.core t.2 }
+  move-through Takes w run r g =
+      let t = taken-through w.service_lane run g.is g.none in
+      record { class_is = g.class_is; is = rw g.core t.0; core = rw g.core t.1; none = rw g.core t.2 }
+  move-through (Turns outcome) w run r g =
       subst (λ (c : Option State). GoesThrough (after_turning c outcome w) (entries_turned c outcome w.store ++ run)) (sym g.core)
       (put-through (put_in (core_turn (core_after class run))) outcome w run refl g)
-
-  step-through : (step : Step) (w : WorldValue) (run : List Entry) → IsRunning step → GoesThrough w run → GoesThrough (world_step step w) (entries_of_step step w ++ run)
-  step-through (Edits edit) w run r g = record { class_is = g.class_is; is = g.is; core = g.core; none = g.none }
-  step-through (Take group) w run r g = take-through group w run g
-  step-through (Turns outcome) w run r g = turn-through outcome w run g
-  step-through (Crash applied) w run r g = absurd r
-  step-through Restart w run r g = absurd r
-  step-through (Expire group) w run r g =
+  move-through (Stops applied) w run r g = absurd r
+  move-through (Starts list) w run r g = absurd r
+  move-through ConfigLapses w run r g =
+      record { class_is = g.class_is; is = rw g.core (g.none, g.is); core = rw g.core refl; none = rw g.core g.none }
+  move-through (ServicesLapse list) w run r g =
       record { class_is = g.class_is; is = rw g.core (g.none, g.is); core = rw g.core refl; none = rw g.core g.none }
 
-  steps-through : (steps : List Step) (w : WorldValue) (run : List Entry) → AllByRecursion IsRunning steps → GoesThrough w run → GoesThrough (after_steps steps w) (run_along steps w run)
-  steps-through [] w run all g = g
-  steps-through (step ∷ steps) w run all g = steps-through steps (world_step step w) (entries_of_step step w ++ run) all.1 (step-through step w run all.0 g)
+  moves-through : (moves : List Move) (w : WorldValue) (run : List Entry) → AllByRecursion IsRunning moves → GoesThrough w run → GoesThrough (after_moves moves w) (run_along moves w run)
+  moves-through [] w run all g = g
+  moves-through (move ∷ moves) w run all g = moves-through moves (after_move move w) (entries_of move w ++ run) all.1 (move-through move w run all.0 g)
 
   -- ---- a world that explains a run
   answered-run : (run : List Entry) → IsRun class run → IsRun class (answered run)
@@ -327,7 +322,7 @@ module _ (class : Option (List ℕ)) where
         core = λ out. (let no : Some put ≡ None = sym wants ∙ out in absurd (cc no));
         about = λ other out. record { state = s; up = core; wants = turns other out; then = refl };
         safe = good.stored.safe;
-        last = λ other out outcome. subst IsSafe (turned-store w.core s other outcome w core (turns other out)) (steps_keep_good w (Turns outcome) tt good).stored.safe;
+        last = λ other out outcome. subst IsSafe (turned-store w.core s other outcome w core (turns other out)) (good-turn outcome w good).stored.safe;
       }
 
   explains : (w : WorldValue) (along run : List Entry) → IsRun class run → w.core ≡ Some (core_after class (answered run)) → puts_of along ≡ puts_of (answered run) → IsGood w
@@ -340,16 +335,102 @@ module _ (class : Option (List ℕ)) where
   explains w along (Turned (Wants put pending) ∷ earlier) is core puts good = about-put w along earlier put core puts good (Wants put pending) is.0.1 refl refl
   explains w along (Heard reply ∷ earlier) is core puts good = calm w along (Heard reply ∷ earlier) core puts refl good.stored.safe refl
 
+-- ---- what was shown had terms, and has them without what is passed over
+terms-event : (event : Event) (more : List Entry) → AllShowTerms (Took event ∷ more) → AllShowTerms (normal_event event ++ more)
+terms-event (Changed version (objects.Service service)) more all = all
+terms-event (Changed version (objects.Pool pool)) more all = all
+terms-event (Changed version (objects.L2 adv)) more all = all
+terms-event (Changed version (objects.Bgp adv)) more all = all
+terms-event (Changed version (objects.Peer peer)) more all = all
+terms-event (Changed version (objects.Community community)) more all = all
+terms-event (Changed version (objects.Namespace namespace)) more all = all
+terms-event (Changed version (objects.Node node)) more all = all
+terms-event (Changed version (objects.Slice slice)) more all = all.1
+terms-event (Deleted kinds.Service key) more all = all
+terms-event (Deleted kinds.Pool key) more all = all
+terms-event (Deleted kinds.L2 key) more all = all
+terms-event (Deleted kinds.Bgp key) more all = all
+terms-event (Deleted kinds.Peer key) more all = all
+terms-event (Deleted kinds.Community key) more all = all
+terms-event (Deleted kinds.Namespace key) more all = all
+terms-event (Deleted kinds.Node key) more all = all
+terms-event (Deleted kinds.Slice key) more all = all.1
+terms-event (ListEnd groups.Config) more all = all
+terms-event (ListEnd groups.Service) more all = all
+terms-event (ListEnd groups.Endpoint) more all = all.1
+terms-event WatchesExpired more all = (tt, (tt, all.1))
+terms-event (Members names) more all = all.1
+terms-event (Frame interface bytes) more all = all.1
+terms-event Ignored more all = all.1
+
+event-terms : (event : Event) (more : List Entry) → AllShowTerms (normal_event event ++ more) → AllShowTerms (Took event ∷ more)
+event-terms (Changed version (objects.Service service)) more all = all
+event-terms (Changed version (objects.Pool pool)) more all = all
+event-terms (Changed version (objects.L2 adv)) more all = all
+event-terms (Changed version (objects.Bgp adv)) more all = all
+event-terms (Changed version (objects.Peer peer)) more all = all
+event-terms (Changed version (objects.Community community)) more all = all
+event-terms (Changed version (objects.Namespace namespace)) more all = all
+event-terms (Changed version (objects.Node node)) more all = all
+event-terms (Changed version (objects.Slice slice)) more all = (tt, all)
+event-terms (Deleted kinds.Service key) more all = all
+event-terms (Deleted kinds.Pool key) more all = all
+event-terms (Deleted kinds.L2 key) more all = all
+event-terms (Deleted kinds.Bgp key) more all = all
+event-terms (Deleted kinds.Peer key) more all = all
+event-terms (Deleted kinds.Community key) more all = all
+event-terms (Deleted kinds.Namespace key) more all = all
+event-terms (Deleted kinds.Node key) more all = all
+event-terms (Deleted kinds.Slice key) more all = (tt, all)
+event-terms (ListEnd groups.Config) more all = all
+event-terms (ListEnd groups.Service) more all = all
+event-terms (ListEnd groups.Endpoint) more all = (tt, all)
+event-terms WatchesExpired more all = (tt, all.1.1)
+event-terms (Members names) more all = (tt, all)
+event-terms (Frame interface bytes) more all = (tt, all)
+event-terms Ignored more all = (tt, all)
+
+terms-normal : (run : List Entry) → AllShowTerms run → AllShowTerms (normal run)
+terms-normal [] all = tt
+terms-normal (Took event ∷ earlier) all = terms-event event (normal earlier) (all.0, terms-normal earlier all.1)
+terms-normal (Expired group ∷ earlier) all = (tt, terms-normal earlier all.1)
+terms-normal (Turned Idle ∷ earlier) all = terms-normal earlier all.1
+terms-normal (Turned (NoPut key pending) ∷ earlier) all = (tt, terms-normal earlier all.1)
+terms-normal (Turned (Wants put pending) ∷ earlier) all = (tt, terms-normal earlier all.1)
+terms-normal (Heard reply ∷ earlier) all = (tt, terms-normal earlier all.1)
+
+normal-terms : (run : List Entry) → AllShowTerms (normal run) → AllShowTerms run
+normal-terms [] all = tt
+normal-terms (Took event ∷ earlier) all =
+    let here = event-terms event (normal earlier) all in
+    (here.0, normal-terms earlier here.1)
+normal-terms (Expired group ∷ earlier) all = (tt, normal-terms earlier all.1)
+normal-terms (Turned Idle ∷ earlier) all = (tt, normal-terms earlier all)
+normal-terms (Turned (NoPut key pending) ∷ earlier) all = (tt, normal-terms earlier all.1)
+normal-terms (Turned (Wants put pending) ∷ earlier) all = (tt, normal-terms earlier all.1)
+normal-terms (Heard reply ∷ earlier) all = (tt, normal-terms earlier all.1)
+
+terms-answered : (run : List Entry) → AllShowTerms run → AllShowTerms (answered run)
+terms-answered [] all = all
+terms-answered (Took event ∷ earlier) all = all
+terms-answered (Expired group ∷ earlier) all = all
+terms-answered (Turned Idle ∷ earlier) all = all
+terms-answered (Turned (NoPut key pending) ∷ earlier) all = all
+terms-answered (Turned (Wants put pending) ∷ earlier) all = all.1
+terms-answered (Heard reply ∷ earlier) all = all
+
 pub runs_are_safe_in_worlds : RunsAreSafeInWorlds
-runs_are_safe_in_worlds class run is store steps ex =
-    let w0 = started class store in
-    let along = run_along steps w0 [] in
-    let good : IsGood (after_steps steps w0) = good-steps steps w0 ex.typed (starts_are_good class store ex.good) in
-    let led : GoesThrough class (after_steps steps w0) along = steps-through class steps w0 [] ex.running (record { class_is = refl; is = tt; core = refl; none = refl }) in
+runs_are_safe_in_worlds class run is typed store list moves ex =
+    let w0 = begun class store list in
+    let along = run_along moves w0 [] in
+    let led : GoesThrough class (after_moves moves w0) along = moves-through class moves w0 [] ex.running (record { class_is = refl; is = tt; core = refl; none = refl }) in
     let mine = normal-leads class along led.is in
     let theirs = normal-leads class (answered run) (answered-run class run is) in
     let acts : map act_of (normal along) ≡ map act_of (normal (answered run)) = acts-normal along ∙ ex.same ∙ sym (acts-normal (answered run)) in
     let same : normal along ≡ normal (answered run) = same-runs class (normal along) (normal (answered run)) mine.0 theirs.0 acts in
+    let shown : AllShowTerms along = normal-terms along (subst AllShowTerms (sym same) (terms-normal (answered run) (terms-answered run typed))) in
+    let begins : IsGood w0 = starts_are_good class store list ex.good ex.listed in
+    let good : IsGood (after_moves moves w0) = good-moves moves w0 [] ex.may shown begins in
     let cores : core_after class along ≡ core_after class (answered run) = sym mine.1 ∙ ap (core_after class) same ∙ theirs.1 in
     let puts : puts_of along ≡ puts_of (answered run) = sym (puts-normal along) ∙ ap puts_of same ∙ puts-normal (answered run) in
-    explains class (after_steps steps w0) along run is (led.core ∙ ap Some cores) puts good
+    (explains class (after_moves moves w0) along run is (led.core ∙ ap Some cores) puts good, safe-along moves w0 [] ex.may shown begins)

@@ -1,5 +1,5 @@
 -- What is pending: what it is for each service, and whose list it is of.
-use Rattle.std.proofs.Common.{◌≡◌, ℕ, ◌≤◌, Bool, true, false, cond, List, [], ◌∷◌, ◌++◌, map, filter, Option, Some, None, option_map, is_eq, Less, refl, sym, ap, subst, ◌∙◌, append-nil, append_assoc, arith}
+use Rattle.std.proofs.Common.{◌≡◌, ℕ, ◌≤◌, Bool, true, false, cond, List, [], ◌∷◌, ◌++◌, map, filter, Option, Some, None, option_map, is_eq, Less, ◌⊎◌, inl, inr, refl, sym, ap, subst, ◌∙◌, append-nil, append_assoc, arith}
 use Rattle.std.specs.List.{AllByRecursion}
 use Rattle.std.specs.List.Sorted.{IsStrictlySortedBy}
 use Rattle.kube_model.specs.declared.event.Event.{Event}
@@ -22,6 +22,7 @@ use Rattle.status_store.specs.Objects.{IsAscending, AreCounted, places_of, is_of
 use Rattle.status_store.specs.Changes.{StoreValue}
 use Rattle.world_rules.specs.Sight.{Shown, News, Shows, End, IsBehind, IsTracked, version_at}
 use Rattle.world_rules.specs.Safe.{HasTerms}
+use Rattle.world_rules.specs.Moves.{InAnyOrder, IsListOf}
 use Rattle.world_rules.specs.World.{as_shown, is_of_group, listing, to_lane}
 use Rattle.world_rules.specs.Good.{stored_as, stored_of, news_of, news_in, IsOfGroup, ShowsTerms}
 use Rattle.world_rules.proofs.Tracking.{listed_news}
@@ -165,3 +166,71 @@ of-lane lane group events all = to_by (same_group group lane) lane group events 
 
 pub all-lane : (P : Event → Type 0) (lane group : Group) (events : List Event) → AllByRecursion P events → AllByRecursion P (to_lane lane group events)
 all-lane P lane group events all = all-either (same_group group lane) P events [] all tt
+
+-- ---- lists in any order
+all-beside : {X : Type 0} (P : X → Type 0) (xs ys : List X) (x : X) → P x → AllByRecursion P (xs ++ ys) → AllByRecursion P (xs ++ x ∷ ys)
+all-beside P [] ys x px all = (px, all)
+all-beside P (z ∷ xs) ys x px all = (all.0, all-beside P xs ys x px all.1)
+
+pub all-any : (P : Event → Type 0) (events lane : List Event) → InAnyOrder events lane → AllByRecursion P events → AllByRecursion P lane
+all-any P [] lane is all = subst (AllByRecursion P) (sym is) tt
+all-any P (event ∷ more) lane is all =
+    subst (AllByRecursion P) (sym is.2) (all-beside P is.0 is.1 event all.0 (all-any P more (is.0 ++ is.1) is.3 all.1))
+
+-- at most one piece of news
+abbrev AtMostOne : List News → Type 0
+AtMostOne ns = (ns ≡ []) ⊎ ((n : News) × (ns ≡ n ∷ []))
+
+none-after : (n : News) (ns more : List News) → AtMostOne ((n ∷ ns) ++ more) → (ns ≡ []) × (more ≡ [])
+none-after n [] more (inl none) = absurd (cc)
+none-after n [] more (inr one) = (refl, (let e : n ∷ more ≡ one.0 ∷ [] = one.1 in cc))
+none-after n (m ∷ ns) more (inl none) = absurd (cc)
+none-after n (m ∷ ns) more (inr one) = let e : n ∷ m ∷ (ns ++ more) ≡ one.0 ∷ [] = one.1 in absurd (cc)
+
+-- one piece of news stands anywhere among none
+among : (here more xs ys : List News) → AtMostOne (here ++ more) → xs ++ ys ≡ more → xs ++ (here ++ ys) ≡ here ++ more
+among [] more xs ys one is = is
+among (n ∷ ns) more [] ys one is = ap (λ (z : List News). n ∷ (ns ++ z)) is
+among (n ∷ ns) more (x ∷ xs) ys one is =
+    let none : x ∷ (xs ++ ys) ≡ [] = is ∙ (none-after n ns more one).1 in
+    absurd (cc)
+
+later-one : (here more : List News) → AtMostOne (here ++ more) → AtMostOne more
+later-one [] more one = one
+later-one (n ∷ ns) more one = inl (none-after n ns more one).1
+
+news-any : (key : Key) (events lane : List Event) → InAnyOrder events lane → AtMostOne (news_in key events) → news_in key lane ≡ news_in key events
+news-any key [] lane is one = ap (news_in key) is
+news-any key (event ∷ more) lane is one =
+    ap (news_in key) is.2
+    ∙ news_in-append key is.0 (event ∷ is.1)
+    ∙ among (news_of key event) (news_in key more) (news_in key is.0) (news_in key is.1) one
+    (sym (news_in-append key is.0 is.1) ∙ news-any key more (is.0 ++ is.1) is.3 (later-one (news_of key event) (news_in key more) one))
+
+one-at-most : (found : Option Stored) → AtMostOne (one_news found)
+one-at-most None = inl refl
+one-at-most (Some held) = inr (Shows (stored_as held), refl)
+
+-- a list of the services shows each as it is stored, and ends
+pub news-list : (store : StoreValue) (list : List Event) (key : Key) → IsAscending store.objects → IsListOf store list → news_in key list ≡ listed_news (stored_of store key)
+news-list store list key s listed =
+    ap (news_in key) listed.1
+    ∙ news_in-push key listed.0 (ListEnd groups.Service)
+    ∙ ap (λ (ns : List News). ns ++ End ∷ [])
+    (news-any key (shows_each store.objects) listed.0 listed.2 (subst AtMostOne (sym (news-shown store.objects key s)) (one-at-most (stored_at store.objects (service_at key))))
+    ∙ news-shown store.objects key s)
+    ∙ ended_list (stored_at store.objects (service_at key))
+
+pub of-list : (store : StoreValue) (list : List Event) → IsListOf store list → AllByRecursion (IsOfGroup groups.Service) list
+of-list store list listed =
+    subst (AllByRecursion (IsOfGroup groups.Service)) (sym listed.1)
+    (all-append (IsOfGroup groups.Service) listed.0 (ListEnd groups.Service ∷ [])
+    (all-any (IsOfGroup groups.Service) (shows_each store.objects) listed.0 listed.2 (of-each groups.Service store.objects)) (refl, tt))
+
+-- the store's order is one
+same-order : (events : List Event) → InAnyOrder events events
+same-order [] = refl
+same-order (event ∷ more) = ([], more, refl, same-order more)
+
+pub listing-list : (store : StoreValue) → IsListOf store (listing groups.Service store)
+listing-list store = (shows_each store.objects, refl, same-order (shows_each store.objects))

@@ -4,9 +4,14 @@ pub mod Lanes
 pub mod ConfigEnds
 pub mod Storing
 pub mod Edits
+pub mod ClaimRecords
 pub mod Takes
 pub mod Turns
+pub mod Clash
+pub mod Unmarked
 pub mod Worlds
 pub mod Rows
 pub mod Places
+pub mod Own
 pub mod Explaining
+pub mod Themselves

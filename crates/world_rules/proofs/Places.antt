@@ -12,7 +12,7 @@ use Rattle.kube_model.specs.declared.object.Object.TheVariants as objects
 use Rattle.kube_model.specs.declared.record.Record.{Record}
 use Rattle.kube_model.specs.declared.service.Service.{Service}
 use Rattle.kube_model.specs.Keys.{key_cmp, same_key}
-use Rattle.kube_model.specs.Records.{empty_record, is_assigned}
+use Rattle.kube_model.specs.Records.{is_assigned}
 use Rattle.kube_model.proofs.KeyLaws.{same_key-is, same_key-itself, same_key-by}
 use Rattle.versioned_map.specs.declared.map.Versioned.{Versioned}
 use Rattle.versioned_map.specs.Entries.{held_at}
@@ -20,21 +20,24 @@ use Rattle.status_store.specs.declared.stored.Stored.{Stored}
 use Rattle.status_store.specs.Places.{service_at}
 use Rattle.status_store.specs.Objects.{IsStored, stored_at}
 use Rattle.status_store.proofs.StoredLaws.{found-stored, stored-found}
-use Rattle.alloc_book.specs.Claims.{claims_of}
-use Rattle.core_rules.specs.Core.{State}
+use Rattle.alloc_book.specs.Claims.{records_of, ClaimValue, claims_of}
+use Rattle.core_rules.specs.Core.{State, service_of}
 use Rattle.core_laws.specs.Queue.{IsOrderlyQueue}
 use Rattle.core_laws.specs.Quiet.{IsQuiet}
 use Rattle.core_laws.proofs.Queued.{queues_are_orderly}
 use Rattle.core_laws.proofs.QuietRuns.{runs_are_quiet}
 use Rattle.world_rules.specs.Sight.{Shown, News, Shows, Gone, End, version_at, IsBare, has_gone, IsJust, IsCarried, Follows, IsClaimed, WillBeClaimed, EndsOnce, IsTracked}
 use Rattle.world_rules.specs.Good.{ends_config, NoneEnds, OneEnds, ConfigEnds, stored_as, stored_of, held_as, held_of, news_of, news_in, IsFollowed, IsGoodStore}
-use Rattle.world_rules.specs.Invariant.{IsHeld, IsPending, shows_service, deletes_service, ends_services, IsNewer, IsBareIn, IsLive, AreCounted, StoredAreClaimed, WillBeShown, StoredAreListed, HeldAreCurrent, LiveAreStored, DeletedAreBare, HeldAreClaimed, IsCalm, AreInOrder, WillBeShownAt, UnheldAreShown, EndsOnceIn, WillBeListed, UnlistedAreShown, IsInOrder}
-use Rattle.world_rules.specs.Laws.{WorldsAreInOrder}
+use Rattle.world_rules.specs.Invariant.{IsHeld, IsPending, shows_service, deletes_service, ends_services, IsNewer, IsBareIn, IsAsShown, IsLive, AreCounted, StoredAreClaimed, WillBeShown, StoredAreListed, HeldAreCurrent, LiveAreStored, DeletedAreBare, HeldAreClaimed, IsCalm, AreInOrder, WillBeShownAt, UnheldAreShown, EndsOnceIn, WillBeListed, UnlistedAreShown, IsInOrder}
+use Rattle.world_rules.specs.Laws.{WorldsAreInOrder, OwnEndsOnce}
 use Rattle.world_rules.specs.Safe.{IsRecorded}
 use Rattle.world_rules.specs.World.{WorldValue}
 use Rattle.world_rules.proofs.Lanes.{news_in-append}
 use Rattle.world_rules.proofs.Sights.{Follows-old}
 use Rattle.world_rules.proofs.Rows.{has_end, held-up_to, pending-up_to, gone-bare, pending-behind, given-above, old-shows, current-stays, live-carried, IsListed, claimed-or-listed, IsComing, IsHeldAt, held-or-coming, IsBeforeEnd, unlisted-shown}
+use Rattle.world_rules.proofs.ClaimRecords.{records-there}
+use Rattle.core_laws.specs.Claimed.{IsClaimedAs}
+use Rattle.core_laws.proofs.Claimed.{services_are_claimed}
 
 -- ---- what an event is for a service
 -- It shows the service.
@@ -361,15 +364,15 @@ module _ (w : WorldValue) (s : State) (stored : IsGoodStore w.store) (up : IsFol
           let same : stored_as held ≡ x = cc in
           (held, found-stored w.store.objects (service_at key) held f, ap (λ (y : Shown). y.holding) same)
 
-  tracked-at : (key : Key) (x : Shown) → stored_of w.store key ≡ Some x → IsTracked w.store.counter s.held.services_ended (Some x) (held_of s key) (claims_of key s.claims) (news_in key w.service_lane)
+  tracked-at : (key : Key) (x : Shown) → stored_of w.store key ≡ Some x → IsTracked w.store.counter s.held.services_ended (Some x) (held_of s key) (records_of key s.claims) (news_in key w.service_lane)
   tracked-at key x e = rw e at (up.tracked key)
 
   stored_claimed : StoredAreClaimed w s
   stored_claimed ended key r rec has =
       let x = recorded-at key r rec in
       let t = tracked-at key x.0 x.1 in
-      let claimed : IsClaimed (Some x.0) (claims_of key s.claims) = match-true _ _ s.held.services_ended ended t.claimed in
-      subst (λ (q : Record). Contains (claims_of key s.claims) q) x.2 (claimed (ap is_assigned x.2 ∙ has))
+      let claimed : IsClaimed (Some x.0) (records_of key s.claims) = match-true _ _ s.held.services_ended ended t.claimed in
+      subst (λ (q : Record). Contains (records_of key s.claims) q) x.2 (claimed (ap is_assigned x.2 ∙ has))
 
   listed-there : (key : Key) (r : Record) → IsListed (held_of s key) (news_in key w.service_lane) r → WillBeShown w s key r
   listed-there key r l =
@@ -390,15 +393,15 @@ module _ (w : WorldValue) (s : State) (stored : IsGoodStore w.store) (up : IsFol
   stored_listed unended key r rec has =
       let x = recorded-at key r rec in
       let t = tracked-at key x.0 x.1 in
-      let will : WillBeClaimed (Some x.0) (held_of s key) (claims_of key s.claims) (news_in key w.service_lane) = match-false _ _ s.held.services_ended unended t.claimed in
+      let will : WillBeClaimed (Some x.0) (held_of s key) (records_of key s.claims) (news_in key w.service_lane) = match-false _ _ s.held.services_ended unended t.claimed in
       let ends : EndsOnce false (news_in key w.service_lane) = subst (λ b. EndsOnce b (news_in key w.service_lane)) unended t.ends in
       ⊎_elim
-      (λ there. inl (subst (λ (q : Record). Contains (claims_of key s.claims) q) x.2 there))
+      (λ there. inl (subst (λ (q : Record). Contains (records_of key s.claims) q) x.2 there))
       (λ l. inr (listed-there key r (subst (λ (q : Record). IsListed (held_of s key) (news_in key w.service_lane) q) x.2 l)))
-      (claimed-or-listed (news_in key w.service_lane) x.0 (held_of s key) (claims_of key s.claims) (ap is_assigned x.2 ∙ has) ends t.follows will)
+      (claimed-or-listed (news_in key w.service_lane) x.0 (held_of s key) (records_of key s.claims) (ap is_assigned x.2 ∙ has) ends t.follows will)
 
   both-at : (key : Key) (st : Stored) (held : Versioned Service) → IsStored w.store.objects (service_at key) st → IsHeld s key held
-      → IsTracked w.store.counter s.held.services_ended (Some (stored_as st)) (Some (held_as held)) (claims_of key s.claims) (news_in key w.service_lane)
+      → IsTracked w.store.counter s.held.services_ended (Some (stored_as st)) (Some (held_as held)) (records_of key s.claims) (news_in key w.service_lane)
   both-at key st held there is = rw (held-at key held is) at (tracked-at key (stored_as st) (stored-at key st there))
 
   current : HeldAreCurrent w s
@@ -431,14 +434,14 @@ module _ (w : WorldValue) (s : State) (stored : IsGoodStore w.store) (up : IsFol
       live-carried (news_in service.key before) (news_in service.key behind) 0 w.store.counter (stored_of w.store service.key) (held_of s service.key) (as_news version service) follows given
       (⊎_elim (λ newer. inl (newer-at service.key version newer above)) (λ gone. inr (gone-there service.key before gone)) live)
 
-  just-recorded : (b : Bool) (key : Key) (r : Record) (o : Option Shown) → stored_of w.store key ≡ o → b ≡ false → MatchBool b (IsBare o) (IsJust o r) → IsRecorded w.store key r
+  just-recorded : (b : Bool) (key : Key) (r : Record) (o : Option Shown) → stored_of w.store key ≡ o → b ≡ false → MatchBool b (IsBare o) (IsJust o r) → IsAsShown w.store key r
   just-recorded true key r o e f c = absurd (cc)
   just-recorded false key r None e f c = absurd c
-  just-recorded false key r (Some x) e f c = subst (λ (q : Record). IsRecorded w.store key q) (sym c) (record-stored key x e)
+  just-recorded false key r (Some x) e f c = (x.holding, record-stored key x e, c)
 
-  bare-is : (key : Key) (q : Record) (o : Option Shown) → (x : Shown) × (stored_of w.store key ≡ Some x) × (x.holding ≡ q) → stored_of w.store key ≡ o → IsBare o → q ≡ empty_record
+  bare-is : (key : Key) (q : Record) (o : Option Shown) → (x : Shown) × (stored_of w.store key ≡ Some x) × (x.holding ≡ q) → stored_of w.store key ≡ o → IsBare o → is_assigned q ≡ false
   bare-is key q None x f bare = let none : Some x.0 ≡ None = sym x.1 ∙ f in absurd (cc none)
-  bare-is key q (Some y) x f bare = let some : Some x.0 ≡ Some y = sym x.1 ∙ f in let same : x.0 ≡ y = cc in sym x.2 ∙ ap (λ (z : Shown). z.holding) same ∙ bare
+  bare-is key q (Some y) x f bare = let some : Some x.0 ≡ Some y = sym x.1 ∙ f in let same : x.0 ≡ y = cc in ap is_assigned (sym x.2) ∙ ap (λ (z : Shown). is_assigned z.holding) same ∙ bare
 
   bare-recorded : (b : Bool) (key : Key) (r : Record) (o : Option Shown) → stored_of w.store key ≡ o → b ≡ true → MatchBool b (IsBare o) (IsJust o r) → IsBareIn w.store key
   bare-recorded b key r o e f c = λ q rec. bare-is key q o (recorded-at key q rec) e (match-true _ _ b f c)
@@ -462,17 +465,20 @@ module _ (w : WorldValue) (s : State) (stored : IsGoodStore w.store) (up : IsFol
       let bare = gone-bare (news_in key w.service_lane) (Some (stored_as st)) (held_of s key) gone t.follows in
       (at-newer key st.version bare.1, bare.0)
 
-  held-claimed : (key : Key) (held : Versioned Service) → IsHeld s key held → is_assigned held.object.holding ≡ true → Contains (claims_of key s.claims) held.object.holding
-  held-claimed key held is has = let kept = rw (held-at key held is) at (up.tracked key).kept in kept has
+  held-claimed : (key : Key) (held : Versioned Service) → IsHeld s key held → is_assigned held.object.holding ≡ true → IsClaimedAs s.claims key held.object
+  held-claimed key held is has =
+      subst (λ (t : State). IsClaimedAs t.claims key held.object) up.leads
+      (services_are_claimed w.class up.run up.is key held.object
+      (ap (λ (t : State). service_of t.held key) up.leads ∙ ap (option_map (λ (h : Versioned Service). h.object)) is) has)
 
-  claims-held : (key : Key) (r : Record) → Contains (claims_of key s.claims) r → (held : Versioned Service) × IsHeld s key held
-  claims-held key r there = by_held (held_at key_cmp s.held.services key) refl
+  claims-held : (key : Key) (c : ClaimValue) → Contains (claims_of key s.claims) c → (held : Versioned Service) × IsHeld s key held
+  claims-held key c there = by_held (held_at key_cmp s.held.services key) refl
     where
       by_held : (o : Option (Versioned Service)) → held_at key_cmp s.held.services key ≡ o → (held : Versioned Service) × (held_at key_cmp s.held.services key ≡ Some held)
       by_held None e =
           let none : held_of s key ≡ None = ap (option_map held_as) e in
-          let kept : claims_of key s.claims ≡ [] = rw none at (up.tracked key).kept in
-          absurd (contains-none r (subst (λ (rs : List Record). Contains rs r) kept there))
+          let kept : records_of key s.claims ≡ [] = rw none at (up.tracked key).kept in
+          absurd (contains-none c.holding (subst (λ (rs : List Record). Contains rs c.holding) kept (records-there (claims_of key s.claims) c there)))
       by_held (Some held) e = (held, e)
 
   held_claimed : HeldAreClaimed s
@@ -613,7 +619,6 @@ module _ (w : WorldValue) (s : State) (stored : IsGoodStore w.store) (up : IsFol
         ordered = ordered;
         unheld = unheld;
         ends = ends;
-        config_ends = config-ends s.held.config_ended w.config_lane up.config_ends;
         unlisted = unlisted;
       }
 
@@ -624,3 +629,11 @@ up-in-order w (Some s) stored up = in-order w s stored up
 -- a good world is in order, row by row
 pub worlds_are_in_order : WorldsAreInOrder
 worlds_are_in_order w good = up-in-order w w.core good.stored good.up
+
+-- in a world that makes steps the list of the configuration ends once
+ends_by : (c : Option State) (lane : List Event) → IfSome c (λ s. ConfigEnds s.held.config_ended lane) → IfSome c (λ s. EndsOnceIn ends_config s.held.config_ended lane)
+ends_by None lane once = tt
+ends_by (Some s) lane once = config-ends s.held.config_ended lane once
+
+pub own_ends_once : OwnEndsOnce
+own_ends_once w own = ends_by w.core w.config_lane own.config_ends

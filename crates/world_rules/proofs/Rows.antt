@@ -196,7 +196,7 @@ listed-later h z more r l =
     }
 
 bare-unassigned : (x : Shown) → IsBare (Some x) → is_assigned x.holding ≡ true → ⊥
-bare-unassigned x bare has = true≢false (sym has ∙ ap is_assigned bare)
+bare-unassigned x bare has = true≢false (sym has ∙ bare)
 
 -- until the list has ended: a stored address is claimed, or listed
 pub claimed-or-listed : (news : List News) (x : Shown) (h : Option Shown) (claims : List Record) → is_assigned x.holding ≡ true → EndsOnce false news → Follows (Some x) h news → WillBeClaimed (Some x) h claims news

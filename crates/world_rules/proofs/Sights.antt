@@ -1,8 +1,9 @@
 -- What is pending of a service leads from what is held to what is stored: how each change keeps that.
-use Rattle.std.proofs.Common.{◌≡◌, ℕ, ◌+◌, ◌≤◌, ◌<◌, Bool, true, false, cond, leb, eqb, List, [], ◌∷◌, ◌++◌, Option, Some, None, refl, arith, MatchBool}
+use Rattle.std.proofs.Common.{◌≡◌, ℕ, ◌+◌, ◌≤◌, ◌<◌, Bool, true, false, cond, leb, eqb, List, [], ◌∷◌, ◌++◌, Option, Some, None, refl, sym, ap, ◌∙◌, arith, MatchBool}
+use Rattle.std.proofs.lemmas.Bool.{true≢false}
 use Rattle.std.proofs.lemmas.Bool.Decides.{nat_tests}
 use Rattle.kube_model.specs.declared.record.Record.{Record}
-use Rattle.kube_model.specs.Records.{empty_record}
+use Rattle.kube_model.specs.Records.{is_assigned}
 use Rattle.world_rules.specs.Sight.{Shown, News, Shows, Gone, End, version_at, IsBare, Agrees, after_shows, after_end, is_unlisted, Follows, has_gone, IsJust, AreGiven, AreOld}
 
 pub leb-newer : (a b : ℕ) → b < a → leb a b ≡ false
@@ -36,34 +37,42 @@ has_gone-last (Shows y ∷ more) = has_gone-last more
 has_gone-last (Gone ∷ more) = refl
 has_gone-last (End ∷ more) = has_gone-last more
 
-carried-same : (b : Bool) (x y : Shown) (r : Record) → y.holding ≡ x.holding → MatchBool b (IsBare (Some x)) (IsJust (Some x) r) → MatchBool b (IsBare (Some y)) (IsJust (Some y) r)
-carried-same true x y r e c = rw e c
-carried-same false x y r e c = rw e c
+-- a record whose address is another one's has none where that one has none
+bare_by : (b : Bool) (y x : Record) → is_assigned y ≡ b → (is_assigned y ≡ true → y ≡ x) → is_assigned x ≡ false → is_assigned y ≡ false
+bare_by true y x e keeps bare = absurd (true≢false (sym (ap is_assigned (sym (keeps e)) ∙ e) ∙ bare))
+bare_by false y x e keeps bare = e
 
-carried-create : (b : Bool) (y : Shown) (r : Record) → y.holding ≡ empty_record → MatchBool b (IsBare None) (IsJust None r) → MatchBool b (IsBare (Some y)) (IsJust (Some y) r)
+pub stays-bare : (y x : Record) → (is_assigned y ≡ true → y ≡ x) → is_assigned x ≡ false → is_assigned y ≡ false
+stays-bare y x keeps bare = bare_by (is_assigned y) y x refl keeps bare
+
+carried-same : (b : Bool) (x y : Shown) (r : Record) → (is_assigned y.holding ≡ true → y.holding ≡ x.holding) → MatchBool b (IsBare (Some x)) (IsJust (Some x) r) → MatchBool b (IsBare (Some y)) (IsJust (Some y) r)
+carried-same true x y r keeps c = stays-bare y.holding x.holding keeps c
+carried-same false x y r keeps c = λ has. c (ap is_assigned (sym (keeps has)) ∙ has) ∙ sym (keeps has)
+
+carried-create : (b : Bool) (y : Shown) (r : Record) → is_assigned y.holding ≡ false → MatchBool b (IsBare None) (IsJust None r) → MatchBool b (IsBare (Some y)) (IsJust (Some y) r)
 carried-create true y r bare c = bare
 carried-create false y r bare c = absurd c
 
 agrees-bare : (s : Option Shown) (r : Record) → IsBare s → Agrees s r
 agrees-bare None r bare = tt
-agrees-bare (Some x) r bare = λ has. absurd (cc)
+agrees-bare (Some x) r bare = λ has. absurd (true≢false (sym has ∙ bare))
 
 agrees-just : (s : Option Shown) (r : Record) → IsJust s r → Agrees s r
 agrees-just None r is = absurd is
-agrees-just (Some x) r is = λ _. is
+agrees-just (Some x) r is = is
 
 pub agrees-carried : (b : Bool) (s : Option Shown) (r : Record) → MatchBool b (IsBare s) (IsJust s r) → Agrees s r
 agrees-carried true s r c = agrees-bare s r c
 agrees-carried false s r c = agrees-just s r c
 
--- a stored service is changed, and keeps its record
-pub Follows-set : (n : ℕ) (x : Shown) (news : List News) (h : Option Shown) → x.version ≤ n → Follows (Some x) h news → Follows (Some (at_next n x.holding)) h (news ++ Shows (at_next n x.holding) ∷ [])
-Follows-set n x [] h le f =
+-- a stored service is changed: where it has an address then, it keeps its record
+pub Follows-set : (n : ℕ) (x : Shown) (r : Record) (news : List News) (h : Option Shown) → x.version ≤ n → (is_assigned r ≡ true → r ≡ x.holding) → Follows (Some x) h news → Follows (Some (at_next n r)) h (news ++ Shows (at_next n r) ∷ [])
+Follows-set n x r [] h le keeps f =
     let lt : version_at h < n + 1 = rw f (omega arith) in
-    (omega arith, λ _. refl, after_shows-newer h _ lt)
-Follows-set n x (Shows y ∷ more) h le f = (omega (arith, f.0), λ newer. rw (has_gone-more (at_next n x.holding) more) (carried-same (has_gone more) x (at_next n x.holding) y.holding refl (f.1 newer)), Follows-set n x more _ le f.2)
-Follows-set n x (Gone ∷ more) h le f = (f.0, omega (arith, f.1), Follows-set n x more _ le f.2)
-Follows-set n x (End ∷ more) h le f = (f.0, Follows-set n x more _ le f.1)
+    (omega arith, λ _ has. refl, after_shows-newer h _ lt)
+Follows-set n x r (Shows y ∷ more) h le keeps f = (omega (arith, f.0), λ newer. rw (has_gone-more (at_next n r) more) (carried-same (has_gone more) x (at_next n r) y.holding keeps (f.1 newer)), Follows-set n x r more _ le keeps f.2)
+Follows-set n x r (Gone ∷ more) h le keeps f = (stays-bare r x.holding keeps f.0, omega (arith, f.1), Follows-set n x r more _ le keeps f.2)
+Follows-set n x r (End ∷ more) h le keeps f = (λ unlisted. stays-bare r x.holding keeps (f.0 unlisted), Follows-set n x r more _ le keeps f.1)
 
 pick-given : (b : Bool) (h k : Option Shown) (n : ℕ) → version_at h ≤ n → version_at k ≤ n → version_at (cond b h k) ≤ n
 pick-given true h k n a b = a
@@ -77,10 +86,10 @@ pub after_end-given : (n : ℕ) (h : Option Shown) → version_at h ≤ n → ve
 after_end-given n h a = pick-given (is_unlisted h) None h n (omega arith) a
 
 -- a service is made where none was stored
-pub Follows-create : (n low : ℕ) (r : Record) (news : List News) (h : Option Shown) → r ≡ empty_record → version_at h ≤ n → AreGiven low n news → Follows None h news → Follows (Some (at_next n r)) h (news ++ Shows (at_next n r) ∷ [])
+pub Follows-create : (n low : ℕ) (r : Record) (news : List News) (h : Option Shown) → is_assigned r ≡ false → version_at h ≤ n → AreGiven low n news → Follows None h news → Follows (Some (at_next n r)) h (news ++ Shows (at_next n r) ∷ [])
 Follows-create n low r [] h bare le given f =
     let lt : version_at h < n + 1 = omega arith in
-    (omega arith, λ _. refl, after_shows-newer h _ lt)
+    (omega arith, λ _ has. refl, after_shows-newer h _ lt)
 Follows-create n low r (Shows y ∷ more) h bare le given f =
     (omega (arith, given.1), λ newer. rw (has_gone-more (at_next n r) more) (carried-create (has_gone more) (at_next n r) y.holding bare (f.1 newer)), Follows-create n y.version r more _ bare (after_shows-given n h y le given.1) given.2 f.2)
 Follows-create n low r (Gone ∷ more) h bare le given f = (bare, omega arith, Follows-create n low r more None bare (omega arith) given f.2)
@@ -119,7 +128,7 @@ Follows-accepted v z (End ∷ more) lt pos old =
 
 -- a put is accepted, and the reply is lost
 pub Follows-lost : (y z : Shown) (news : List News) → y.version < z.version → 0 < y.version → AreOld y.version news → Follows (Some z) (Some y) (news ++ Shows z ∷ [])
-Follows-lost y z [] lt pos old = (omega arith, λ _. refl, after_shows-newer (Some y) z lt)
+Follows-lost y z [] lt pos old = (omega arith, λ _ has. refl, after_shows-newer (Some y) z lt)
 Follows-lost y z (Shows x ∷ more) lt pos old =
     let kept : after_shows (Some y) x ≡ Some y = after_shows-older (Some y) x old.0 in
     (omega (arith, old.0), λ later. absurd (omega (arith, old.0)), rw kept (Follows-lost y z more lt pos old.1))
@@ -133,7 +142,7 @@ pub Follows-listed : (x : Shown) (h : Option Shown) → version_at h < x.version
 Follows-listed x h lt =
     let kept : after_shows h x ≡ Some x = after_shows-newer h x lt in
     let apart : eqb x.version 0 ≡ false = eqb-apart x.version (omega arith) in
-    (omega arith, λ _. refl, rw (kept, apart) (λ unlisted. absurd (cc), refl))
+    (omega arith, λ _ has. refl, rw (kept, apart) (λ unlisted. absurd (cc), refl))
 
 -- the key isn't in the store's list, and what is held of it has no version any more
 pub Follows-unlisted : (h : Option Shown) → version_at h ≡ 0 → Follows None h (End ∷ [])

@@ -7,7 +7,6 @@ use Rattle.std.specs.Map.{keys_of}
 use Rattle.std.specs.Option.{option_map_or}
 use Rattle.kube_model.specs.declared.event.Event.{Event}
 use Rattle.kube_model.specs.declared.event.Event.TheVariants.{Changed, Deleted, ListEnd, Expired, Members, Frame, Ignored}
-use Rattle.kube_model.specs.declared.event.Group.{Group}
 use Rattle.kube_model.specs.declared.event.Group.TheVariants as groups
 use Rattle.kube_model.specs.declared.key.Key.{Key}
 use Rattle.kube_model.specs.declared.object.Kind.TheVariants as kinds
@@ -16,27 +15,26 @@ use Rattle.kube_model.specs.declared.record.Record.{Record}
 use Rattle.kube_model.specs.declared.service.Service.{Service}
 use Rattle.kube_model.specs.Keys.{key_cmp, same_key}
 use Rattle.kube_model.proofs.KeyLaws.{key_cmp-total, same_key-is, is_eq-key_cmp}
-use Rattle.sharing_terms.specs.Marked.{AreTerms}
-use Rattle.sharing_terms.specs.Terms.{terms_of}
 use Rattle.versioned_map.specs.declared.map.Versioned.{Versioned}
 use Rattle.versioned_map.specs.Entries.{held_at, version_at as version_held, listed}
 use Rattle.versioned_map.proofs.HeldLaws.{held_at-shown, held_at-removed, held_at-listed}
-use Rattle.alloc_book.specs.Claims.{ClaimValue, claims_of, claimed_by, settled}
-use Rattle.alloc_book.proofs.ClaimLaws.{claims_of-settled, claims_of-others}
-use Rattle.core_rules.specs.Core.{State}
-use Rattle.core_rules.specs.Take.{concern, core_by, core_take, is_unlisted as was_unlisted}
+use Rattle.alloc_book.specs.Claims.{ClaimValue, records_in, records_of, claimed_by, settled, claims_of}
+use Rattle.world_rules.proofs.ClaimRecords.{records-either, records_of-settled, records_of-others}
+use Rattle.core_rules.specs.Core.{State, shown_terms}
+use Rattle.core_rules.specs.Take.{core_by, core_take, is_unlisted as was_unlisted}
 use Rattle.core_rules.specs.Run.{Took, observed}
 use Rattle.core_rules.proofs.Claims.{claims_of-kept}
 use Rattle.core_rules.proofs.Concerns.{by_concern, config-services, config-services_ended}
 use Rattle.core_rules.proofs.Runs.{took-out, core_holds_what_was_observed}
-use Rattle.core_laws.specs.Shown.{OfConcern}
+use Rattle.core_laws.specs.Shared.{AllShowTerms}
 use Rattle.core_laws.proofs.Orderly.{sorted-services}
 use Rattle.world_rules.specs.Sight.{Shown, News, Shows, Gone, End, version_at, is_unlisted, EndsOnce, IsKept, IsTracked}
 use Rattle.world_rules.specs.World.{WorldValue, told, untold, after_take}
-use Rattle.world_rules.proofs.ConfigEnds.{ends-taken, config-ended, config-unended}
-use Rattle.world_rules.specs.Good.{ConfigEnds, held_as, stored_of, held_of, news_in, news_of, IsTrackedIn, IsOfGroup, ShowsTerms, IsFollowed, IsGood}
+use Rattle.world_rules.specs.Moves.{Tells, entries_taken, after_move}
+use Rattle.world_rules.specs.Good.{held_as, stored_of, held_of, news_in, news_of, IsTrackedIn, IsOfGroup, IsFollowed, IsGood}
 use Rattle.world_rules.proofs.Tracking.{tracked-newer, tracked-older, tracked-gone, tracked-end}
 use Rattle.world_rules.proofs.Lanes.{tracked-as, here-same}
+use Rattle.sharing_terms.specs.declared.terms.Terms.{Terms}
 
 -- ---- one service, by what the event is about
 held-version : (o : Option (Versioned Service)) → option_map_or (λ (v : Versioned Service). v.version) o 0 ≡ version_at (option_map held_as o)
@@ -91,10 +89,10 @@ unlisted_by : (o : Option (Versioned Service)) (claims : List Record) → (o ≡
 unlisted_by None claims none = sym (none refl)
 unlisted_by (Some v) claims none = ap (λ (b : Bool). cond b [] claims) (unlisted_at (eqb v.version 0) v refl)
 
-claimed_by_new : (old : Bool) (key k : Key) (holding : Record) (claims : List ClaimValue)
-    → claims_of key (cond (not old) (settled k holding claims) claims) ≡ cond old (claims_of key claims) (cond (same_key k key) (claimed_by holding) (claims_of key claims))
-claimed_by_new true key k holding claims = refl
-claimed_by_new false key k holding claims = claims_of-settled claims k key holding
+claimed_by_new : (old : Bool) (key k : Key) (holding : Record) (terms : Terms) (claims : List ClaimValue)
+    → records_of key (cond (not old) (settled k holding terms claims) claims) ≡ cond old (records_of key claims) (cond (same_key k key) (claimed_by holding) (records_of key claims))
+claimed_by_new true key k holding terms claims = refl
+claimed_by_new false key k holding terms claims = records_of-settled claims k key holding terms
 
 -- ---- each service of the core
 module _ (w : WorldValue) (s : State) (sorted : IsStrictlySortedBy key_cmp (keys_of s.held.services)) (lane : List Event) (key : Key) where
@@ -102,10 +100,10 @@ module _ (w : WorldValue) (s : State) (sorted : IsStrictlySortedBy key_cmp (keys
   here = held_at key_cmp s.held.services key
 
   abbrev WasTracked : Event → Type 0
-  WasTracked event = IsTracked w.store.counter s.held.services_ended (stored_of w.store key) (held_of s key) (claims_of key s.claims) (news_of key event ++ news_in key lane)
+  WasTracked event = IsTracked w.store.counter s.held.services_ended (stored_of w.store key) (held_of s key) (records_of key s.claims) (news_of key event ++ news_in key lane)
 
   abbrev NowTracked : State → Type 0
-  NowTracked t = IsTracked w.store.counter t.held.services_ended (stored_of w.store key) (held_of t key) (claims_of key t.claims) (news_in key lane)
+  NowTracked t = IsTracked w.store.counter t.held.services_ended (stored_of w.store key) (held_of t key) (records_of key t.claims) (news_in key lane)
 
   service-shown : (version : ℕ) (service : Service) → WasTracked (Changed version (objects.Service service)) → NowTracked (core_take s (Changed version (objects.Service service)))
   service-shown version service t =
@@ -115,19 +113,19 @@ module _ (w : WorldValue) (s : State) (sorted : IsStrictlySortedBy key_cmp (keys
       (ap (option_map held_as)
       (held_at-shown key_cmp-total s.held.services service.key key version service
       ∙ ap (λ (b : Bool). cond old here (cond b (Some new) here)) (here-same key service.key)))
-      (claimed_by_new old key service.key service.holding s.claims) refl
-      (shown_by old (same_key service.key key) w.store.counter s.held.services_ended (stored_of w.store key) here version service (claims_of key s.claims) (news_in key lane)
+      (claimed_by_new old key service.key service.holding (shown_terms service) s.claims) refl
+      (shown_by old (same_key service.key key) w.store.counter s.held.services_ended (stored_of w.store key) here version service (records_of key s.claims) (news_in key lane)
       (λ same. ap (leb version) (sym (held-version here)) ∙ ap (λ (k : Key). leb version (version_held key_cmp s.held.services k)) (sym (same_key-is service.key key same))) t)
 
   service-deleted : (gone : Key) → WasTracked (Deleted kinds.Service gone) → NowTracked (core_take s (Deleted kinds.Service gone))
   service-deleted gone t =
       tracked-as _ _ _ _ refl
       (ap (option_map held_as) (held_at-removed key_cmp-total s.held.services gone key sorted ∙ ap (λ (b : Bool). cond b None here) (is_eq-key_cmp gone key)))
-      (claims_of-others s.claims gone key) refl
-      (gone_by (same_key gone key) w.store.counter s.held.services_ended (stored_of w.store key) here (claims_of key s.claims) (news_in key lane) t)
+      (records_of-others s.claims gone key) refl
+      (gone_by (same_key gone key) w.store.counter s.held.services_ended (stored_of w.store key) here (records_of key s.claims) (news_in key lane) t)
 
-  none-claimed : (o : Option (Versioned Service)) → here ≡ o → WasTracked (ListEnd groups.Service) → o ≡ None → claims_of key s.claims ≡ []
-  none-claimed o e t none = subst (λ (x : Option (Versioned Service)). IsKept (option_map held_as x) (claims_of key s.claims)) (e ∙ none) t.kept
+  none-claimed : (o : Option (Versioned Service)) → here ≡ o → WasTracked (ListEnd groups.Service) → o ≡ None → records_of key s.claims ≡ []
+  none-claimed o e t none = subst (λ (x : Option (Versioned Service)). IsKept (option_map held_as x) (records_of key s.claims)) (e ∙ none) t.kept
 
   services-ended : WasTracked (ListEnd groups.Service) → NowTracked (core_take s (ListEnd groups.Service))
   services-ended t =
@@ -135,11 +133,12 @@ module _ (w : WorldValue) (s : State) (sorted : IsStrictlySortedBy key_cmp (keys
       let unended = not-ended s.held.services_ended (news_in key lane) t.ends in
       tracked-as _ _ _ _ refl
       (ap (option_map held_as) left)
-      (claims_of-kept (was_unlisted (listed s.held.services)) s.claims key
-      ∙ ap (λ (o : Option (Versioned Service)). cond (eqb (option_map_or (λ (x : Versioned Service). x.version) o 0) 0) [] (claims_of key s.claims)) left
-      ∙ unlisted_by here (claims_of key s.claims) (none-claimed here refl t)) refl
-      (end_by w.store.counter (stored_of w.store key) here (claims_of key s.claims) (news_in key lane)
-      (subst (λ (b : Bool). IsTracked w.store.counter b (stored_of w.store key) (held_of s key) (claims_of key s.claims) (End ∷ news_in key lane)) unended t))
+      (ap records_in (claims_of-kept (was_unlisted (listed s.held.services)) s.claims key)
+      ∙ records-either (was_unlisted (listed s.held.services) key) [] (claims_of key s.claims)
+      ∙ ap (λ (o : Option (Versioned Service)). cond (eqb (option_map_or (λ (x : Versioned Service). x.version) o 0) 0) [] (records_of key s.claims)) left
+      ∙ unlisted_by here (records_of key s.claims) (none-claimed here refl t)) refl
+      (end_by w.store.counter (stored_of w.store key) here (records_of key s.claims) (news_in key lane)
+      (subst (λ (b : Bool). IsTracked w.store.counter b (stored_of w.store key) (held_of s key) (records_of key s.claims) (End ∷ news_in key lane)) unended t))
 
   -- an event of the list of services
   service-event : (event : Event) → IsOfGroup groups.Service event → WasTracked event → NowTracked (core_take s event)
@@ -185,102 +184,69 @@ config-event s = by_concern (λ event c. IsOfGroup groups.Config event → HasSa
     (λ event of. (refl, refl, refl))
 
 pub same-tracked : (counter : ℕ) (st : Option Shown) (news : List News) (s t : State) (key : Key) → HasSameServices t s
-    → IsTracked counter s.held.services_ended st (held_of s key) (claims_of key s.claims) news
-    → IsTracked counter t.held.services_ended st (held_of t key) (claims_of key t.claims) news
+    → IsTracked counter s.held.services_ended st (held_of s key) (records_of key s.claims) news
+    → IsTracked counter t.held.services_ended st (held_of t key) (records_of key t.claims) news
 same-tracked counter st news s t key same k =
-    subst (λ (b : Bool). IsTracked counter b st (held_of t key) (claims_of key t.claims) news) (sym same.1)
-    (tracked-as _ _ _ _ refl (ap (λ (es : List (Key × Versioned Service)). option_map held_as (held_at key_cmp es key)) same.0) (ap (claims_of key) same.2) refl k)
-
-abbrev Typed : Key → Service → Type 0
-Typed key service = AreTerms (terms_of service)
-
-shown-typed : (event : Event) → ShowsTerms event → OfConcern Typed (concern event)
-shown-typed = by_concern (λ event c. ShowsTerms event → OfConcern Typed c) (λ version service t. t) (λ key t. tt) (λ t. tt) (λ event c t. tt) (λ t. tt) (λ event t. tt)
-
--- no event of the configuration shows a service
-config-typed : (event : Event) → IsOfGroup groups.Config event → OfConcern Typed (concern event)
-config-typed = by_concern (λ event c. IsOfGroup groups.Config event → OfConcern Typed c) (λ version service of. absurd (cc)) (λ key of. tt) (λ of. tt) (λ event c of. tt) (λ of. tt) (λ event of. tt)
+    subst (λ (b : Bool). IsTracked counter b st (held_of t key) (records_of key t.claims) news) (sym same.1)
+    (tracked-as _ _ _ _ refl (ap (λ (es : List (Key × Versioned Service)). option_map held_as (held_at key_cmp es key)) same.0) (ap (records_of key) same.2) refl k)
 
 pub services-sorted : (w : WorldValue) (s : State) → IsFollowed w s → IsStrictlySortedBy key_cmp (keys_of s.held.services)
 services-sorted w s up =
     sorted-services s (observed up.run) (ap (λ (t : State). t.held) (sym up.leads) ∙ (core_holds_what_was_observed w.class up.run up.is).0)
 
-service-up : (w : WorldValue) (s : State) (event : Event) (lane : List Event) → w.service_lane ≡ event ∷ lane → IsFollowed w s
+service-up : (w : WorldValue) (s : State) (event : Event) (lane : List Event) → w.service_lane ≡ event ∷ lane → AllShowTerms (Took event ∷ []) → IsFollowed w s
     → (let v : WorldValue = record w { service_lane = lane; core = Some (core_take s event) } in IsFollowed v (core_take s event))
-service-up w s event lane is up =
+service-up w s event lane is typed up =
     let of : AllByRecursion (IsOfGroup groups.Service) (event ∷ lane) = subst (AllByRecursion (IsOfGroup groups.Service)) is up.services in
-    let shown : AllByRecursion ShowsTerms (event ∷ lane) = subst (AllByRecursion ShowsTerms) is up.pending_typed in
     record {
       run = Took event ∷ up.run;
       is = (ap (λ (t : State). t.out) up.leads ∙ up.none_out, up.is);
       leads = ap (λ (t : State). core_take t event) up.leads;
-      typed = (shown-typed event shown.0, up.typed);
+      typed = (typed.0, up.typed);
       none_out = took-out s event ∙ up.none_out;
-      config = up.config;
       services = of.1;
-      pending_typed = shown.1;
-      config_ends = subst (λ (b : Bool). ConfigEnds b w.config_lane) (sym (config-unended s event of.0)) up.config_ends;
       tracked = λ key. service-event w s (services-sorted w s up) lane key event of.0
-          (subst (λ (events : List Event). IsTracked w.store.counter s.held.services_ended (stored_of w.store key) (held_of s key) (claims_of key s.claims) (news_in key events)) is (up.tracked key));
+          (subst (λ (events : List Event). IsTracked w.store.counter s.held.services_ended (stored_of w.store key) (held_of s key) (records_of key s.claims) (news_in key events)) is (up.tracked key));
     }
 
-config-up : (w : WorldValue) (s : State) (event : Event) (lane : List Event) → w.config_lane ≡ event ∷ lane → IsFollowed w s
-    → (let v : WorldValue = record w { config_lane = lane; core = Some (core_take s event) } in IsFollowed v (core_take s event))
-config-up w s event lane is up =
-    let of : AllByRecursion (IsOfGroup groups.Config) (event ∷ lane) = subst (AllByRecursion (IsOfGroup groups.Config)) is up.config in
-    record {
-      run = Took event ∷ up.run;
-      is = (ap (λ (t : State). t.out) up.leads ∙ up.none_out, up.is);
-      leads = ap (λ (t : State). core_take t event) up.leads;
-      typed = (config-typed event of.0, up.typed);
-      none_out = took-out s event ∙ up.none_out;
-      config = of.1;
-      services = up.services;
-      pending_typed = up.pending_typed;
-      config_ends = subst (λ (b : Bool). ConfigEnds b lane) (sym (config-ended s event of.0))
-          (ends-taken s.held.config_ended event lane of.0 (subst (ConfigEnds s.held.config_ended) is up.config_ends));
-      tracked = λ key. same-tracked w.store.counter (stored_of w.store key) (news_in key w.service_lane) s (core_take s event) key (config-event s event of.0) (up.tracked key);
-    }
-
-service_by : (w : WorldValue) (c : Option State) (lane : List Event) → w.service_lane ≡ lane → IfSome c (IsFollowed w)
+service_by : (w : WorldValue) (c : Option State) (lane : List Event) → w.service_lane ≡ lane → AllShowTerms (entries_taken c lane) → IfSome c (IsFollowed w)
     → (let v : WorldValue = record w { service_lane = untold c lane; core = told c lane } in IfSome (told c lane) (IsFollowed v))
-service_by w None lane is up = tt
-service_by w (Some s) [] is up =
+service_by w None lane is typed up = tt
+service_by w (Some s) [] is typed up =
     let none : WorldValue = record w { service_lane = []; core = Some s } in
     let same : (key : Key) → IsTrackedIn none s key = λ key.
-    subst (λ (events : List Event). IsTracked w.store.counter s.held.services_ended (stored_of w.store key) (held_of s key) (claims_of key s.claims) (news_in key events)) is (up.tracked key) in
+    subst (λ (events : List Event). IsTracked w.store.counter s.held.services_ended (stored_of w.store key) (held_of s key) (records_of key s.claims) (news_in key events)) is (up.tracked key) in
     record {
       run = up.run;
       is = up.is;
       leads = up.leads;
       typed = up.typed;
       none_out = up.none_out;
-      config = up.config;
       services = tt;
-      pending_typed = tt;
-      config_ends = up.config_ends;
       tracked = same;
     }
-service_by w (Some s) (event ∷ lane) is up = service-up w s event lane is up
+service_by w (Some s) (event ∷ lane) is typed up = service-up w s event lane is typed up
 
-config_by : (w : WorldValue) (c : Option State) (lane : List Event) → w.config_lane ≡ lane → IfSome c (IsFollowed w)
-    → (let v : WorldValue = record w { config_lane = untold c lane; core = told c lane } in IfSome (told c lane) (IsFollowed v))
-config_by w None lane is up = tt
-config_by w (Some s) [] is up = record {
-  run = up.run;
-  is = up.is;
-  leads = up.leads;
-  typed = up.typed;
-  none_out = up.none_out;
-  config = tt;
+pub good-take : (w : WorldValue) → AllShowTerms (entries_taken w.core w.service_lane) → IsGood w → IsGood (after_take groups.Service w)
+good-take w typed good = record { stored = good.stored; up = service_by w w.core w.service_lane refl typed good.up }
+
+config-up : (w : WorldValue) (s : State) (event : Event) → IsOfGroup groups.Config event → AllShowTerms (Took event ∷ []) → IsFollowed w s
+    → (let v : WorldValue = record w { core = Some (core_take s event) } in IsFollowed v (core_take s event))
+config-up w s event of typed up = record {
+  run = Took event ∷ up.run;
+  is = (ap (λ (t : State). t.out) up.leads ∙ up.none_out, up.is);
+  leads = ap (λ (t : State). core_take t event) up.leads;
+  typed = (typed.0, up.typed);
+  none_out = took-out s event ∙ up.none_out;
   services = up.services;
-  pending_typed = up.pending_typed;
-  config_ends = subst (ConfigEnds s.held.config_ended) is up.config_ends;
-  tracked = up.tracked;
+  tracked = λ key. same-tracked w.store.counter (stored_of w.store key) (news_in key w.service_lane) s (core_take s event) key (config-event s event of) (up.tracked key);
 }
-config_by w (Some s) (event ∷ lane) is up = config-up w s event lane is up
 
-pub good-take : (group : Group) (w : WorldValue) → IsGood w → IsGood (after_take group w)
-good-take groups.Config w good = record { stored = good.stored; up = config_by w w.core w.config_lane refl good.up }
-good-take groups.Service w good = record { stored = good.stored; up = service_by w w.core w.service_lane refl good.up }
-good-take groups.Endpoint w good = good
+config_by : (w : WorldValue) (c : Option State) (event : Event) → IsOfGroup groups.Config event → AllShowTerms (entries_taken c (event ∷ [])) → IfSome c (IsFollowed w)
+    → (let v : WorldValue = record w { core = option_map (λ s. core_take s event) c } in IfSome (option_map (λ s. core_take s event) c) (IsFollowed v))
+config_by w None event of typed up = tt
+config_by w (Some s) event of typed up = config-up w s event of typed up
+
+-- whatever of the configuration is shown
+pub good-tell : (event : Event) (w : WorldValue) → IsOfGroup groups.Config event → AllShowTerms (entries_taken w.core (event ∷ [])) → IsGood w → IsGood (after_move (Tells event) w)
+good-tell event w of typed good = record { stored = good.stored; up = config_by w w.core event of typed good.up }

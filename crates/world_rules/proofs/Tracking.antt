@@ -1,9 +1,10 @@
 -- How each step keeps what holds of one service.
-use Rattle.std.proofs.Common.{◌≡◌, ℕ, ◌+◌, ◌≤◌, ◌<◌, Bool, true, false, cond, eqb, List, [], ◌∷◌, ◌++◌, Option, Some, None, refl, arith, MatchBool}
+use Rattle.std.proofs.Common.{◌≡◌, ℕ, ◌+◌, ◌≤◌, ◌<◌, Bool, true, false, cond, eqb, List, [], ◌∷◌, ◌++◌, Option, Some, None, refl, sym, ap, subst, ◌∙◌, arith, MatchBool}
+use Rattle.std.proofs.lemmas.Bool.{true≢false}
 use Rattle.std.specs.List.{Contains}
 use Rattle.mlb_base.proofs.Among.{contains-first}
 use Rattle.kube_model.specs.declared.record.Record.{Record}
-use Rattle.kube_model.specs.Records.{empty_record, is_assigned}
+use Rattle.kube_model.specs.Records.{is_assigned}
 use Rattle.alloc_book.specs.Claims.{claimed_by}
 use Rattle.world_rules.specs.Sight.{Shown, News, Shows, Gone, End, version_at, IsBare, Agrees, IsBehind, after_end, is_unlisted, has_gone, IsKept, IsClaimed, WillBeClaimed, AreGiven, EndsOnce, IsTracked}
 use Rattle.world_rules.proofs.Sights.{leb-newer, leb-older, after_shows-newer, after_shows-older, after_end-given, at_next, Follows-set, Follows-create, Follows-delete, Follows-old, Follows-accepted, Follows-lost, Follows-listed, Follows-unlisted, agrees-carried}
@@ -55,11 +56,11 @@ EndsOnce-gone false (End ∷ more) e = EndsOnce-gone true more e
 -- a stored service without an address is claimed by nothing
 IsClaimed-bare : (s : Option Shown) (claims : List Record) → IsBare s → IsClaimed s claims
 IsClaimed-bare None claims bare = tt
-IsClaimed-bare (Some x) claims bare = λ has. absurd (cc)
+IsClaimed-bare (Some x) claims bare = λ has. absurd (true≢false (sym has ∙ bare))
 
--- what lasts from one record to the same one
-IsClaimed-same : (x y : Shown) (claims : List Record) → y.holding ≡ x.holding → IsClaimed (Some x) claims → IsClaimed (Some y) claims
-IsClaimed-same x y claims e c = rw e c
+-- what lasts from one record to another, which has an address only where it is the same
+IsClaimed-same : (x y : Shown) (claims : List Record) → (is_assigned y.holding ≡ true → y.holding ≡ x.holding) → IsClaimed (Some x) claims → IsClaimed (Some y) claims
+IsClaimed-same x y claims keeps c = λ has. subst (Contains claims) (sym (keeps has)) (c (ap is_assigned (sym (keeps has)) ∙ has))
 
 WillBeClaimed-bare : (s : Option Shown) (news : List News) (h : Option Shown) (claims : List Record) → IsBare s → WillBeClaimed s h claims news
 WillBeClaimed-bare s [] h claims bare = IsClaimed-bare s claims bare
@@ -68,7 +69,7 @@ WillBeClaimed-bare s (Gone ∷ more) h claims bare = WillBeClaimed-bare s more _
 WillBeClaimed-bare s (End ∷ more) h claims bare = IsClaimed-bare s claims bare
 
 -- an event after the end of the list changes nothing here
-WillBeClaimed-more : (x y : Shown) (last : List News) (news : List News) (h : Option Shown) (claims : List Record) → y.holding ≡ x.holding → EndsOnce false news → WillBeClaimed (Some x) h claims news → WillBeClaimed (Some y) h claims (news ++ last)
+WillBeClaimed-more : (x y : Shown) (last : List News) (news : List News) (h : Option Shown) (claims : List Record) → (is_assigned y.holding ≡ true → y.holding ≡ x.holding) → EndsOnce false news → WillBeClaimed (Some x) h claims news → WillBeClaimed (Some y) h claims (news ++ last)
 WillBeClaimed-more x y last [] h claims e ends w = absurd ends
 WillBeClaimed-more x y last (Shows z ∷ more) h claims e ends w = WillBeClaimed-more x y last more _ _ e ends w
 WillBeClaimed-more x y last (Gone ∷ more) h claims e ends w = WillBeClaimed-more x y last more _ _ e ends w
@@ -87,7 +88,7 @@ IsClaimed-more : (s : Option Shown) (claims more : List Record) → Grows claims
 IsClaimed-more None claims more grows c = tt
 IsClaimed-more (Some x) claims more grows c = λ has. grows x.holding (c has)
 
-claimed-set : (ended : Bool) (x y : Shown) (h : Option Shown) (claims : List Record) (news last : List News) → y.holding ≡ x.holding → EndsOnce ended news → MatchBool ended (IsClaimed (Some x) claims) (WillBeClaimed (Some x) h claims news) → MatchBool ended (IsClaimed (Some y) claims) (WillBeClaimed (Some y) h claims (news ++ last))
+claimed-set : (ended : Bool) (x y : Shown) (h : Option Shown) (claims : List Record) (news last : List News) → (is_assigned y.holding ≡ true → y.holding ≡ x.holding) → EndsOnce ended news → MatchBool ended (IsClaimed (Some x) claims) (WillBeClaimed (Some x) h claims news) → MatchBool ended (IsClaimed (Some y) claims) (WillBeClaimed (Some y) h claims (news ++ last))
 claimed-set true x y h claims news last e ends c = IsClaimed-same x y claims e c
 claimed-set false x y h claims news last e ends c = WillBeClaimed-more x y last news h claims e ends c
 
@@ -120,22 +121,22 @@ tracked-other n ended s h claims news t =
       claimed = t.claimed;
     }
 
--- the service is changed, and keeps its record
-pub tracked-set : (n : ℕ) (ended : Bool) (x : Shown) (h : Option Shown) (claims : List Record) (news : List News) → IsTracked n ended (Some x) h claims news → IsTracked (n + 1) ended (Some (at_next n x.holding)) h claims (news ++ Shows (at_next n x.holding) ∷ [])
-tracked-set n ended x h claims news t =
+-- the service is changed: where it has an address then, it keeps its record
+pub tracked-set : (n : ℕ) (ended : Bool) (x : Shown) (r : Record) (h : Option Shown) (claims : List Record) (news : List News) → (is_assigned r ≡ true → r ≡ x.holding) → IsTracked n ended (Some x) h claims news → IsTracked (n + 1) ended (Some (at_next n r)) h claims (news ++ Shows (at_next n r) ∷ [])
+tracked-set n ended x r h claims news keeps t =
     record {
       stored_given = omega arith;
       stored_later = omega arith;
       held_given = omega (arith, t.held_given);
-      news_given = AreGiven-more 0 n x.holding news (omega arith) t.news_given;
+      news_given = AreGiven-more 0 n r news (omega arith) t.news_given;
       kept = t.kept;
       ends = EndsOnce-more ended _ news t.ends;
-      follows = Follows-set n x news h t.stored_given t.follows;
-      claimed = claimed-set ended x (at_next n x.holding) h claims news (Shows (at_next n x.holding) ∷ []) refl t.ends t.claimed;
+      follows = Follows-set n x r news h t.stored_given keeps t.follows;
+      claimed = claimed-set ended x (at_next n r) h claims news (Shows (at_next n r) ∷ []) keeps t.ends t.claimed;
     }
 
 -- the service is made
-pub tracked-create : (n : ℕ) (ended : Bool) (r : Record) (h : Option Shown) (claims : List Record) (news : List News) → r ≡ empty_record → IsTracked n ended None h claims news → IsTracked (n + 1) ended (Some (at_next n r)) h claims (news ++ Shows (at_next n r) ∷ [])
+pub tracked-create : (n : ℕ) (ended : Bool) (r : Record) (h : Option Shown) (claims : List Record) (news : List News) → is_assigned r ≡ false → IsTracked n ended None h claims news → IsTracked (n + 1) ended (Some (at_next n r)) h claims (news ++ Shows (at_next n r) ∷ [])
 tracked-create n ended r h claims news bare t =
     record {
       stored_given = omega arith;

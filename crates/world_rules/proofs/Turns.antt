@@ -22,15 +22,14 @@ use Rattle.kube_model.specs.Kinds.{group_of}
 use Rattle.kube_model.specs.Records.{is_assigned, same_record}
 use Rattle.kube_model.specs.Service.{with_holding}
 use Rattle.kube_model.proofs.KeyLaws.{key_cmp-total, same_key-is, same_key-itself, is_eq-key_cmp}
-use Rattle.kube_model.proofs.RecordLaws.{same_record-is}
 use Rattle.versioned_map.specs.declared.map.Versioned.{Versioned}
 use Rattle.versioned_map.specs.Entries.{held_at, version_at as version_held, amended_at}
 use Rattle.versioned_map.proofs.HeldLaws.{held_at-amended}
-use Rattle.pool_choice.proofs.SortLaws.{all-at}
-use Rattle.alloc_book.specs.Claims.{claims_of, claimed_by, added}
-use Rattle.alloc_book.proofs.ClaimLaws.{claims_of-settled, claims_of-doubted}
+use Rattle.alloc_book.specs.Claims.{ClaimValue, is_under, claims_of, records_in, records_of, claim_of, claimed_by, doubted, added}
+use Rattle.alloc_book.proofs.ClaimLaws.{claims_of-doubted}
+use Rattle.world_rules.proofs.ClaimRecords.{under-is, records-either, records-there, records-from, records_of-settled}
 use Rattle.status_store.specs.declared.change.Outcome.{Outcome}
-use Rattle.status_store.specs.declared.change.Outcome.TheVariants.{Delivered, Lost}
+use Rattle.status_store.specs.declared.change.Outcome.TheVariants.{Delivered, Lost, Refused}
 use Rattle.status_store.specs.declared.stored.Stored.{Stored}
 use Rattle.status_store.specs.Places.{Place, place_of, service_at}
 use Rattle.status_store.specs.Objects.{stored_at}
@@ -41,7 +40,7 @@ use Rattle.core_rules.specs.declared.turn.Turn.{Turn}
 use Rattle.core_rules.specs.declared.turn.Turn.TheVariants.{Idle, NoPut, Wants}
 use Rattle.core_rules.specs.Core.{State, is_ready}
 use Rattle.core_rules.specs.Turn.{turn_at, turn_of, core_turn, after_turn, put_in, chosen_at, wanted_record, reason_in}
-use Rattle.core_rules.specs.Replied.{replied, replied_to, core_reply}
+use Rattle.core_rules.specs.Replied.{replied, replied_to, core_reply, put_terms}
 use Rattle.core_rules.specs.Run.{Turned, Heard, core_after, IsRun}
 use Rattle.core_rules.proofs.Claims.{claims_are_shown}
 use Rattle.core_rules.proofs.Runs.{heard-out}
@@ -49,13 +48,19 @@ use Rattle.core_laws.specs.Shared.{may_have}
 use Rattle.core_laws.proofs.Queued.{queues_are_orderly}
 use Rattle.core_laws.proofs.Shared.{put-shared, alone, none-out}
 use Rattle.world_rules.specs.Sight.{Shown, News, Shows, IsClaimed, WillBeClaimed, IsTracked}
-use Rattle.world_rules.specs.Safe.{HasTerms}
 use Rattle.world_rules.specs.World.{WorldValue, as_shown, shown_stored, shown_put, put_by, turned, after_turning, next_put, reached, after_crash}
-use Rattle.world_rules.specs.Good.{stored_as, stored_of, held_as, held_of, news_in, news_of, news_shown, IsTrackedIn, IsOfGroup, ConfigEnds, ShowsTerms, IsFollowed, IsGoodStore, IsGood}
+use Rattle.world_rules.specs.Good.{stored_as, stored_of, held_as, held_of, news_in, news_of, news_shown, IsTrackedIn, IsOfGroup, IsFollowed, IsGoodStore, IsGood}
 use Rattle.world_rules.proofs.Sights.{at_next}
 use Rattle.world_rules.proofs.Tracking.{Grows, tracked-other, tracked-accepted, tracked-lost, tracked-doubted}
 use Rattle.world_rules.proofs.Lanes.{all-append, all-either, news_in-push, tracked-as}
-use Rattle.world_rules.proofs.Storing.{record_at, StandsBeside, service-at, given-record, stored_at-recorded, good-put}
+use Rattle.world_rules.proofs.Storing.{assigned_by, record_at, StandsBeside, service-at, given-record, stored_at-recorded, good-put}
+use Rattle.sharing_terms.specs.declared.terms.Terms.{Terms}
+use Rattle.sharing_terms.specs.Marked.{IsMarkOf}
+use Rattle.sharing_terms.specs.Sharing.{MayShare}
+use Rattle.sharing_terms.proofs.ReadBack.{recorded-exact}
+use Rattle.alloc_book.proofs.BookLaws.{claim_of-stands}
+use Rattle.alloc_book.proofs.UsableLaws.{claim-of}
+use Rattle.core_rules.proofs.ByMark.{claims_are_by_mark}
 
 -- ---- a turn that wants a put
 turn-wants : (turn : Turn) (put : Put) → put_in turn ≡ Some put → (pending : Option Reason) × (turn ≡ Wants put pending)
@@ -105,42 +110,47 @@ ready_by true queue idle some = refl
 ready_by false queue idle some = absurd (some (idle refl))
 
 -- ---- claims
-added_by : (b : Bool) (r : Record) (claims : List Record) → Grows claims (cond b claims (claims ++ claimed_by r))
-added_by true r claims q there = there
-added_by false r claims q there = Contains-append_left claims (claimed_by r) q there
+added_by : (b : Bool) (claims more : List ClaimValue) → Grows (records_in claims) (records_in (cond b claims (claims ++ more)))
+added_by true claims more q there = there
+added_by false claims more q there =
+    let found = records-from claims q there in
+    subst (Contains (records_in (claims ++ more))) found.2 (records-there (claims ++ more) found.0 (Contains-append_left claims more found.0 found.1))
 
-added-grows : (r : Record) (claims : List Record) → Grows claims (added r claims)
-added-grows r claims = added_by (list_any (λ (q : Record). same_record q r) claims) r claims
+added-grows : (key : Key) (r : Record) (terms : Terms) (claims : List ClaimValue) → Grows (records_in claims) (records_in (added key r terms claims))
+added-grows key r terms claims = added_by (list_any (is_under r terms) claims) claims (claim_of key r terms)
 
-claimed_own : (b : Bool) (r : Record) → b ≡ true → Contains (cond b (r ∷ []) []) r
-claimed_own true r e = contains-first r []
-claimed_own false r e = absurd (true≢false (sym e))
+own_by : (b : Bool) (key : Key) (r : Record) (terms : Terms) (claims : List ClaimValue) → list_any (is_under r terms) claims ≡ b → is_assigned r ≡ true
+    → Contains (records_in (cond b claims (claims ++ claim_of key r terms))) r
+own_by true key r terms claims e has =
+    let found = any-found (is_under r terms) claims e in
+    subst (Contains (records_in claims)) (under-is found.0 r terms found.2).0 (records-there claims found.0 found.1)
+own_by false key r terms claims e has =
+    let claim : ClaimValue = record { key = key; holding = r; terms = terms } in
+    records-there (claims ++ claim_of key r terms) claim (Contains-append_right claims (claim_of key r terms) claim (claim_of-stands key r terms has))
 
-own_by : (b : Bool) (r : Record) (claims : List Record) → list_any (λ (q : Record). same_record q r) claims ≡ b → is_assigned r ≡ true → Contains (cond b claims (claims ++ claimed_by r)) r
-own_by true r claims e has =
-    let found = any-found (λ (q : Record). same_record q r) claims e in
-    subst (Contains claims) (same_record-is found.0 r found.2) found.1
-own_by false r claims e has = Contains-append_right claims (claimed_by r) r (claimed_own (is_assigned r) r has)
+added-own : (key : Key) (r : Record) (terms : Terms) (claims : List ClaimValue) → is_assigned r ≡ true → Contains (records_in (added key r terms claims)) r
+added-own key r terms claims has = own_by (list_any (is_under r terms) claims) key r terms claims refl has
 
-added-own : (r : Record) (claims : List Record) → is_assigned r ≡ true → Contains (added r claims) r
-added-own r claims has = own_by (list_any (λ (q : Record). same_record q r) claims) r claims refl has
+-- the records of a key after a doubt
+records-doubted : (claims : List ClaimValue) (key q : Key) (r : Record) (terms : Terms) → records_of q (doubted key r terms claims) ≡ cond (same_key key q) (records_in (added key r terms (claims_of q claims))) (records_of q claims)
+records-doubted claims key q r terms = ap records_in (claims_of-doubted claims key q r terms) ∙ records-either (same_key key q) (added key r terms (claims_of q claims)) (claims_of q claims)
 
-assigned_by : (addresses : List AddressValue) (a : AddressValue) → Contains addresses a → not (is_nil addresses) ≡ true
-assigned_by [] a there = absurd (contains-none a there)
-assigned_by (x ∷ xs) a there = refl
+some-address : (addresses : List AddressValue) → not (is_nil addresses) ≡ true → (a : AddressValue) × Contains addresses a
+some-address [] e = absurd (true≢false (sym e))
+some-address (a ∷ addresses) e = (a, contains-first a addresses)
 
 claimed_at : (found : Option Stored) (claims : List Record) (a : AddressValue) → IsClaimed (option_map stored_as found) claims → Contains (kept_record found).addresses a → Contains claims (kept_record found)
 claimed_at None claims a claimed there = absurd (contains-none a there)
 claimed_at (Some held) claims a claimed there = claimed (assigned_by (record_of held.object).addresses a there)
 
 -- ---- one service, by whether the put is of it
-doubted_by : (z : Bool) (n : ℕ) (st : Option Shown) (o : Option (Versioned Service)) (h : Versioned Service) (r : Record) (claims : List Record) (news : List News)
-    → (z ≡ true → o ≡ Some h) → IsTracked n true st (option_map held_as o) claims news → IsTracked n true st (option_map held_as o) (cond z (added r claims) claims) news
-doubted_by true n st o h r claims news is t =
-    subst (λ (x : Option (Versioned Service)). IsTracked n true st (option_map held_as x) (added r claims) news) (sym (is refl))
-    (tracked-doubted n st (held_as h) claims (added r claims) news (added-grows r claims)
+doubted_by : (z : Bool) (n : ℕ) (st : Option Shown) (o : Option (Versioned Service)) (h : Versioned Service) (claims more : List Record) (news : List News) → Grows claims more
+    → (z ≡ true → o ≡ Some h) → IsTracked n true st (option_map held_as o) claims news → IsTracked n true st (option_map held_as o) (cond z more claims) news
+doubted_by true n st o h claims more news grows is t =
+    subst (λ (x : Option (Versioned Service)). IsTracked n true st (option_map held_as x) more news) (sym (is refl))
+    (tracked-doubted n st (held_as h) claims more news grows
     (subst (λ (x : Option (Versioned Service)). IsTracked n true st (option_map held_as x) claims news) (is refl) t))
-doubted_by false n st o h r claims news is t = t
+doubted_by false n st o h claims more news grows is t = t
 
 -- both are there, at one version
 abbrev AtOneVersion : Option Stored → Option (Versioned Service) → Stored → Versioned Service → Type 0
@@ -163,17 +173,17 @@ accepted_by true n o p g h r claims news is same own t =
 accepted_by false n o p g h r claims news is same own t =
     subst (IsTracked (n + 1) true (option_map stored_as o) (option_map held_as p) claims) (sym (append-nil news)) (tracked-other n true (option_map stored_as o) (option_map held_as p) claims news t)
 
-lost_by : (z : Bool) (n : ℕ) (o : Option Stored) (p : Option (Versioned Service)) (g : Stored) (h : Versioned Service) (r : Record) (claims : List Record) (news : List News)
-    → (z ≡ true → AtOneVersion o p g h) → h.version ≡ g.version → record_of (with_record r g.object) ≡ r
+lost_by : (z : Bool) (n : ℕ) (o : Option Stored) (p : Option (Versioned Service)) (g : Stored) (h : Versioned Service) (r : Record) (claims more : List Record) (news : List News)
+    → Grows claims more → (is_assigned r ≡ true → Contains more r) → (z ≡ true → AtOneVersion o p g h) → h.version ≡ g.version → record_of (with_record r g.object) ≡ r
     → IsTracked n true (option_map stored_as o) (option_map held_as p) claims news
     → IsTracked (n + 1) true (option_map stored_as (cond z (Some (recorded (n + 1) r g)) o)) (option_map held_as p)
-    (cond z (added r claims) claims) (news ++ cond z (Shows (at_next n r) ∷ []) [])
-lost_by true n o p g h r claims news is same own t =
+    (cond z more claims) (news ++ cond z (Shows (at_next n r) ∷ []) [])
+lost_by true n o p g h r claims more news grows has is same own t =
     let there = is refl in
-    subst (λ (x : Option (Versioned Service)). IsTracked (n + 1) true (Some (stored_as (recorded (n + 1) r g))) (option_map held_as x) (added r claims) (news ++ Shows (at_next n r) ∷ [])) (sym there.1)
-    (subst (λ (q : Record). IsTracked (n + 1) true (Some (at_next n q)) (Some (held_as h)) (added r claims) (news ++ Shows (at_next n r) ∷ [])) (sym own)
-    (tracked-lost n (stored_as g) (held_as h) r claims (added r claims) news same (added-grows r claims) (added-own r claims) (both-there n o p g h claims news there t)))
-lost_by false n o p g h r claims news is same own t =
+    subst (λ (x : Option (Versioned Service)). IsTracked (n + 1) true (Some (stored_as (recorded (n + 1) r g))) (option_map held_as x) more (news ++ Shows (at_next n r) ∷ [])) (sym there.1)
+    (subst (λ (q : Record). IsTracked (n + 1) true (Some (at_next n q)) (Some (held_as h)) more (news ++ Shows (at_next n r) ∷ [])) (sym own)
+    (tracked-lost n (stored_as g) (held_as h) r claims more news same grows has (both-there n o p g h claims news there t)))
+lost_by false n o p g h r claims more news grows has is same own t =
     subst (IsTracked (n + 1) true (option_map stored_as o) (option_map held_as p) claims) (sym (append-nil news)) (tracked-other n true (option_map stored_as o) (option_map held_as p) claims news t)
 
 -- ---- what a put that was made shows
@@ -213,22 +223,11 @@ stored_of_group : (found : Option Stored) (place : Place) → group_of place.0 �
 stored_of_group None place e at = tt
 stored_of_group (Some held) place e at = (ap (λ (p : Place). group_of p.0) (at held refl) ∙ e, tt)
 
-stored_typed : (found : Option Stored) → ((held : Stored) → found ≡ Some held → HasTerms held.object) → AllByRecursion ShowsTerms (shown_stored found)
-stored_typed None at = tt
-stored_typed (Some held) at = (at held refl, tt)
-
 put-of : (put : Put) (outcome : Outcome) (store : StoreValue) → AllByRecursion (IsOfGroup groups.Service) (shown_put put outcome store)
 put-of put outcome store =
     let objects = (after_put put outcome store).objects in
     all-either (is_made put outcome store.objects) (IsOfGroup groups.Service) (shown_stored (stored_at objects (service_at put.key))) []
     (stored_of_group (stored_at objects (service_at put.key)) (service_at put.key) refl (λ held e. (found-stored objects (service_at put.key) held e).1)) tt
-
-put-typed : (put : Put) (outcome : Outcome) (store : StoreValue) → IsGoodStore (after_put put outcome store) → AllByRecursion ShowsTerms (shown_put put outcome store)
-put-typed put outcome store good =
-    let objects = (after_put put outcome store).objects in
-    all-either (is_made put outcome store.objects) ShowsTerms (shown_stored (stored_at objects (service_at put.key))) []
-    (stored_typed (stored_at objects (service_at put.key))
-    (λ held e. all-at (λ (x : Stored). HasTerms x.object) objects held good.typed (found-stored objects (service_at put.key) held e).0)) tt
 
 -- ---- one service of the core that has heard the reply
 module _ (w : WorldValue) (s : State) (put : Put) (h : Versioned Service) (held : held_at key_cmp s.held.services put.key ≡ Some h) (at : h.version ≡ put.version)
@@ -245,13 +244,20 @@ module _ (w : WorldValue) (s : State) (put : Put) (h : Versioned Service) (held 
     Result b found reply =
         let t = replied (after_turn s) put reply in
         IsTracked (cond b (w.store.counter + 1) w.store.counter) t.held.services_ended (option_map stored_as (stored_at (objects_with w.store put b found) (service_at key)))
-        (held_of t key) (claims_of key t.claims) (news_in key (w.service_lane ++ put_shown w.store put b found))
+        (held_of t key) (records_of key t.claims) (news_in key (w.service_lane ++ put_shown w.store put b found))
 
-    ended-up : IsTracked w.store.counter true (stored_of w.store key) (held_of s key) (claims_of key s.claims) (news_in key w.service_lane)
-    ended-up = subst (λ (b : Bool). IsTracked w.store.counter b (stored_of w.store key) (held_of s key) (claims_of key s.claims) (news_in key w.service_lane)) ended up
+    ended-up : IsTracked w.store.counter true (stored_of w.store key) (held_of s key) (records_of key s.claims) (news_in key w.service_lane)
+    ended-up = subst (λ (b : Bool). IsTracked w.store.counter b (stored_of w.store key) (held_of s key) (records_of key s.claims) (news_in key w.service_lane)) ended up
 
     none-more : news_in key (w.service_lane ++ []) ≡ news_in key w.service_lane
     none-more = ap (news_in key) (append-nil w.service_lane)
+
+    -- the records of the key, and that of the put
+    abbrev more-records : List Record
+    more-records = records_in (added put.key put.holding (put_terms s.held put) (claims_of key s.claims))
+
+    more-grows : Grows (records_of key s.claims) more-records
+    more-grows = added-grows put.key put.holding (put_terms s.held put) (claims_of key s.claims)
 
     stale-result : (found : Option Stored) → Result false found replies.Stale
     stale-result found = tracked-as _ _ _ _ refl refl refl none-more up
@@ -264,9 +270,9 @@ module _ (w : WorldValue) (s : State) (put : Put) (h : Versioned Service) (held 
 
     doubt-result : (found : Option Stored) → Result false found replies.Unknown
     doubt-result found =
-        subst (λ (b : Bool). IsTracked w.store.counter b (stored_of w.store key) (held_of s key) (claims_of key (replied (after_turn s) put replies.Unknown).claims) (news_in key (w.service_lane ++ []))) (sym ended)
-        (tracked-as _ _ _ _ refl refl (claims_of-doubted s.claims put.key key put.holding) none-more
-        (doubted_by (same_key put.key key) w.store.counter (stored_of w.store key) held_here h put.holding (claims_of key s.claims) (news_in key w.service_lane) same-held ended-up))
+        subst (λ (b : Bool). IsTracked w.store.counter b (stored_of w.store key) (held_of s key) (records_of key (replied (after_turn s) put replies.Unknown).claims) (news_in key (w.service_lane ++ []))) (sym ended)
+        (tracked-as _ _ _ _ refl refl (records-doubted s.claims put.key key put.holding (put_terms s.held put)) none-more
+        (doubted_by (same_key put.key key) w.store.counter (stored_of w.store key) held_here h (records_of key s.claims) more-records (news_in key w.service_lane) more-grows same-held ended-up))
 
     module _ (g : Stored) (found : stored_at w.store.objects (service_at put.key) ≡ Some g) (current : g.version ≡ put.version) where
       both-here : same_key put.key key ≡ true → AtOneVersion here held_here g h
@@ -289,16 +295,17 @@ module _ (w : WorldValue) (s : State) (put : Put) (h : Versioned Service) (held 
       accepted-result : Result true (Some g) (replies.Ok (w.store.counter + 1))
       accepted-result =
           let t = replied (after_turn s) put (replies.Ok (w.store.counter + 1)) in
-          subst (λ (b : Bool). IsTracked (w.store.counter + 1) b (option_map stored_as (stored_at (objects_with w.store put true (Some g)) (service_at key))) (held_of t key) (claims_of key t.claims) (news_in key (w.service_lane ++ put_shown w.store put true (Some g)))) (sym ended)
-          (tracked-as _ _ _ _ stored-now held-now (claims_of-settled s.claims put.key key put.holding) (made-lane w.store put g key w.service_lane found)
-          (accepted_by (same_key put.key key) w.store.counter here held_here g h put.holding (claims_of key s.claims) (news_in key w.service_lane) both-here (at ∙ sym current) own-record ended-up))
+          subst (λ (b : Bool). IsTracked (w.store.counter + 1) b (option_map stored_as (stored_at (objects_with w.store put true (Some g)) (service_at key))) (held_of t key) (records_of key t.claims) (news_in key (w.service_lane ++ put_shown w.store put true (Some g)))) (sym ended)
+          (tracked-as _ _ _ _ stored-now held-now (records_of-settled s.claims put.key key put.holding (put_terms s.held put)) (made-lane w.store put g key w.service_lane found)
+          (accepted_by (same_key put.key key) w.store.counter here held_here g h put.holding (records_of key s.claims) (news_in key w.service_lane) both-here (at ∙ sym current) own-record ended-up))
 
       lost-result : Result true (Some g) replies.Unknown
       lost-result =
           let t = replied (after_turn s) put replies.Unknown in
-          subst (λ (b : Bool). IsTracked (w.store.counter + 1) b (option_map stored_as (stored_at (objects_with w.store put true (Some g)) (service_at key))) (held_of t key) (claims_of key t.claims) (news_in key (w.service_lane ++ put_shown w.store put true (Some g)))) (sym ended)
-          (tracked-as _ _ _ _ stored-now refl (claims_of-doubted s.claims put.key key put.holding) (made-lane w.store put g key w.service_lane found)
-          (lost_by (same_key put.key key) w.store.counter here held_here g h put.holding (claims_of key s.claims) (news_in key w.service_lane) both-here (at ∙ sym current) own-record ended-up))
+          subst (λ (b : Bool). IsTracked (w.store.counter + 1) b (option_map stored_as (stored_at (objects_with w.store put true (Some g)) (service_at key))) (held_of t key) (records_of key t.claims) (news_in key (w.service_lane ++ put_shown w.store put true (Some g)))) (sym ended)
+          (tracked-as _ _ _ _ stored-now refl (records-doubted s.claims put.key key put.holding (put_terms s.held put)) (made-lane w.store put g key w.service_lane found)
+          (lost_by (same_key put.key key) w.store.counter here held_here g h put.holding (records_of key s.claims) more-records (news_in key w.service_lane)
+          more-grows (added-own put.key put.holding (put_terms s.held put) (claims_of key s.claims)) both-here (at ∙ sym current) own-record ended-up))
 
     delivered_on : (b : Bool) (g : Stored) → stored_at w.store.objects (service_at put.key) ≡ Some g → eqb g.version put.version ≡ b
         → Result b (Some g) (cond b (replies.Ok (w.store.counter + 1)) replies.Stale)
@@ -316,9 +323,14 @@ module _ (w : WorldValue) (s : State) (put : Put) (h : Versioned Service) (held 
 
     put-tracked : (outcome : Outcome) → Result (is_made put outcome w.store.objects) (stored_at w.store.objects (service_at put.key)) (reply_to put outcome w.store)
     put-tracked Delivered = delivered_by (stored_at w.store.objects (service_at put.key)) refl
+    put-tracked Refused = stale-result (stored_at w.store.objects (service_at put.key))
     put-tracked (Lost applied) =
         let there = stored_at w.store.objects (service_at put.key) in
         lost_on (applied && is_at_version put.version there) there refl (λ e. (and_parts applied (is_at_version put.version there) e).1)
+
+-- a text is the mark of one value of terms
+mark-once : (text : List ℕ) (t u : Terms) → IsMarkOf t text → IsMarkOf u text → t ≡ u
+mark-once text t u is also = let same : Some t ≡ Some u = sym ((recorded-exact text t).1 is) ∙ (recorded-exact text u).1 also in cc
 
 -- ---- the core that wants the put
 module _ (w : WorldValue) (s : State) (put : Put) (wanted : put_in (core_turn s) ≡ Some put) (up : IsFollowed w s) where
@@ -335,31 +347,39 @@ module _ (w : WorldValue) (s : State) (put : Put) (wanted : put_in (core_turn s)
 
   -- whoever else has an address of the put has it by a claim, and shares it
   beside : StandsBeside (record_at w.store) put.key put.holding
-  beside other apart a in_put in_other =
+  beside other apart a in_put in_other t u marked marked' =
       let q = record_at w.store other in
-      let t = up.tracked other in
-      let claimed : IsClaimed (stored_of w.store other) (claims_of other s.claims) =
-      subst (λ (b : Bool). MatchBool b (IsClaimed (stored_of w.store other) (claims_of other s.claims)) (WillBeClaimed (stored_of w.store other) (held_of s other) (claims_of other s.claims) (news_in other w.service_lane))) ended-services t.claimed in
-      let has : Contains (claims_of other s.claims) q = claimed_at (stored_at w.store.objects (service_at other)) (claims_of other s.claims) a claimed in_other in
+      let of_other = up.tracked other in
+      let claimed : IsClaimed (stored_of w.store other) (records_of other s.claims) =
+      subst (λ (b : Bool). MatchBool b (IsClaimed (stored_of w.store other) (records_of other s.claims)) (WillBeClaimed (stored_of w.store other) (held_of s other) (records_of other s.claims) (news_in other w.service_lane))) ended-services of_other.claimed in
+      let has : Contains (records_of other s.claims) q = claimed_at (stored_at w.store.objects (service_at other)) (records_of other s.claims) a claimed in_other in
+      let found = records-from (claims_of other s.claims) q has in
       let shown : claims_of other s.claims ≡ may_have other up.run =
       ap (λ (x : State). claims_of other x.claims) (sym up.leads) ∙ claims_are_shown w.class up.run up.is other
       ∙ sym (alone other up.run (none-out w.class up.run up.is out-none)) in
       let turn = turn-wants (core_turn s) put wanted in
       let run : IsRun w.class (Turned (Wants put turn.0) ∷ up.run) = ((out-none, sym turn.1 ∙ ap core_turn (sym up.leads)), up.is) in
-      put-shared w.class put turn.0 up.run run up.typed other apart q (subst (λ (rs : List Record). Contains rs q) shown has) a in_put in_other
+      let shares = put-shared w.class put turn.0 up.run run up.typed a in_put in
+      let stands : Contains (core_after w.class up.run).claims found.0 = subst (λ (x : State). Contains x.claims found.0) (sym up.leads) (claim-of s.claims other found.0 found.1).0 in
+      let theirs : found.0.terms ≡ u = claims_are_by_mark w.class up.run found.0 stands u (subst (λ (r : Record). IsMarkOf u r.mark) (sym found.2) marked') in
+      subst (λ (x : Terms). MayShare x u) (mark-once put.holding.mark shares.0 t shares.1 marked)
+      (subst (MayShare shares.0) theirs
+      (shares.2 other apart found.0 (subst (λ (cs : List ClaimValue). Contains cs found.0) shown found.1) (subst (λ (r : Record). Contains r.addresses a) (sym found.2) in_other)))
+
+  -- a put with an address is marked
+  pub put-marked : is_assigned put.holding ≡ true → (t : Terms) × IsMarkOf t put.holding.mark
+  put-marked has =
+      let some = some-address put.holding.addresses has in
+      let turn = turn-wants (core_turn s) put wanted in
+      let run : IsRun w.class (Turned (Wants put turn.0) ∷ up.run) = ((out-none, sym turn.1 ∙ ap core_turn (sym up.leads)), up.is) in
+      let shares = put-shared w.class put turn.0 up.run run up.typed some.0 some.1 in
+      (shares.0, shares.1)
 
   put-stored : (outcome : Outcome) → IsGoodStore w.store → IsGoodStore (after_put put outcome w.store)
   put-stored outcome good = good-put put outcome w.store good beside
 
   heard : (reply : PutReply) → core_reply (after_turn s) reply ≡ replied (after_turn s) put reply
   heard reply = ap (λ (o : Option Put). replied_to o (after_turn s) reply) wanted
-
-  -- a reply leaves the lists as they were
-  replied-ends : (reply : PutReply) → ConfigEnds (replied (after_turn s) put reply).held.config_ended w.config_lane
-  replied-ends (replies.Ok version) = up.config_ends
-  replied-ends replies.Stale = up.config_ends
-  replied-ends replies.Missing = up.config_ends
-  replied-ends replies.Unknown = up.config_ends
 
   put-followed : (outcome : Outcome) → IsGoodStore (after_put put outcome w.store)
       → (let v = put_by (after_turn s) put outcome w in IsFollowed v (replied (after_turn s) put (reply_to put outcome w.store)))
@@ -372,10 +392,7 @@ module _ (w : WorldValue) (s : State) (put : Put) (wanted : put_in (core_turn s)
         leads = ap (λ (t : State). core_reply (after_turn t) reply) up.leads ∙ heard reply;
         typed = (tt, (tt, up.typed));
         none_out = heard-out (Some put) reply (after_turn s) refl;
-        config = up.config;
         services = all-append (IsOfGroup groups.Service) w.service_lane (shown_put put outcome w.store) up.services (put-of put outcome w.store);
-        pending_typed = all-append ShowsTerms w.service_lane (shown_put put outcome w.store) up.pending_typed (put-typed put outcome w.store good);
-        config_ends = replied-ends (reply_to put outcome w.store);
         tracked = λ key. put-tracked w s put h.0 h.1 h.2 ended-services key (up.tracked key) outcome;
       }
 
@@ -397,10 +414,7 @@ silent-good w s none up good = record {
     leads = ap after_turn up.leads;
     typed = (tt, up.typed);
     none_out = none;
-    config = up.config;
     services = up.services;
-    pending_typed = up.pending_typed;
-    config_ends = up.config_ends;
     tracked = up.tracked;
   };
 }

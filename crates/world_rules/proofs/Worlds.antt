@@ -1,7 +1,6 @@
 -- Every world is good, and so safe.
-use Rattle.std.proofs.Common.{◌≡◌, ℕ, ◌≤◌, List, [], ◌∷◌, Option, Some, None, option_map, IfSome, refl, ap, ◌∙◌}
-use Rattle.std.specs.List.{AllByRecursion}
-use Rattle.kube_model.specs.declared.event.Group.{Group}
+use Rattle.std.proofs.Common.{◌≡◌, ℕ, ◌≤◌, ◌++◌, List, [], ◌∷◌, Option, Some, None, option_map, IfSome, refl, sym, ap, subst, ◌∙◌}
+use Rattle.kube_model.specs.declared.event.Event.{Event}
 use Rattle.kube_model.specs.declared.event.Group.TheVariants as groups
 use Rattle.kube_model.specs.declared.key.Key.{Key}
 use Rattle.kube_model.specs.declared.service.Service.{Service}
@@ -9,117 +8,148 @@ use Rattle.kube_model.specs.Keys.{key_cmp}
 use Rattle.versioned_map.specs.declared.map.Versioned.{Versioned}
 use Rattle.versioned_map.specs.Entries.{held_at, at_version}
 use Rattle.versioned_map.proofs.HeldLaws.{held_at-expired}
-use Rattle.object_history.specs.Observations.{same_group}
-use Rattle.alloc_book.specs.Claims.{claims_of}
+use Rattle.alloc_book.specs.Claims.{records_of}
 use Rattle.status_store.specs.Places.{service_at}
-use Rattle.status_store.specs.Changes.{StoreValue, empty_store}
+use Rattle.status_store.specs.Changes.{StoreValue}
 use Rattle.core_rules.specs.Core.{State, fresh}
 use Rattle.core_rules.specs.Take.{core_expired}
-use Rattle.core_rules.specs.Run.{Expired}
-use Rattle.world_rules.specs.declared.step.Step.{Step}
-use Rattle.world_rules.specs.declared.step.Step.TheVariants.{Edit as Edits, Take, Turn as Turns, Crash, Restart, Expire}
+use Rattle.core_rules.specs.Run.{Entry, Expired}
+use Rattle.core_laws.specs.Shared.{AllShowTerms}
 use Rattle.world_rules.specs.Sight.{version_at, IsBehind}
-use Rattle.world_rules.specs.Safe.{StepsTerms, WorldsAreSafe}
-use Rattle.world_rules.specs.World.{WorldValue, listing, restarted, lapsed, listed_anew, after_expiry, world_step, store_of, started, new_world, after_steps}
-use Rattle.world_rules.proofs.ConfigEnds.{ends-listing, ends-expired}
-use Rattle.world_rules.specs.Good.{held_as, stored_of, held_of, news_in, IsTrackedIn, IsOfGroup, ShowsTerms, IsFollowed, IsGoodStore, IsGood}
-use Rattle.world_rules.specs.Laws.{StartsAreGood, StepsKeepGood}
+use Rattle.world_rules.specs.Moves.{Move, Sets, Deletes, Tells, Takes, Turns, Stops, Starts, ConfigLapses, ServicesLapse, IsMove, IsListOf, AreMoves, entries_of, run_along, after_move, after_moves, after_start, relisted, but_config, begun}
+use Rattle.world_rules.specs.World.{WorldValue, lapsed}
+use Rattle.world_rules.specs.Good.{held_as, stored_of, held_of, news_in, IsTrackedIn, IsFollowed, IsGoodStore, IsGood}
+use Rattle.world_rules.specs.Laws.{AreSafeAlong, StartsAreGood, StepsKeepGood, WorldsAreSafe}
 use Rattle.world_rules.proofs.Tracking.{tracked-fresh, tracked-expired, unversion}
-use Rattle.world_rules.proofs.Lanes.{all-either, tracked-as, counted-at, news-listing, of-listing, typed-listing}
-use Rattle.world_rules.proofs.Storing.{good-store_of}
-use Rattle.world_rules.proofs.Edits.{good-edit}
-use Rattle.world_rules.proofs.Takes.{same-tracked, good-take}
+use Rattle.world_rules.proofs.Lanes.{tracked-as, counted-at, news-list, of-list}
+use Rattle.world_rules.proofs.Edits.{good-set, good-deleted}
+use Rattle.world_rules.proofs.Takes.{same-tracked, good-take, good-tell}
 use Rattle.world_rules.proofs.Turns.{good-turn, good-crash}
 
 -- ---- a controller that was just started
-started-followed : (class : Option (List ℕ)) (store : StoreValue) → IsGoodStore store → IsFollowed (started class store) (fresh class)
-started-followed class store good = record {
+started-followed : (w : WorldValue) (list : List Event) → IsGoodStore w.store → IsListOf w.store list
+    → (let v : WorldValue = record w { service_lane = list; core = Some (fresh w.class) } in IsFollowed v (fresh w.class))
+started-followed w list good listed = record {
   run = [];
   is = tt;
   leads = refl;
   typed = tt;
   none_out = refl;
-  config = of-listing groups.Config store;
-  services = of-listing groups.Service store;
-  pending_typed = typed-listing groups.Service store good.typed;
-  config_ends = ends-listing store;
-  tracked = λ key. fresh-tracked key (counted-at store.counter store.objects (service_at key) good.kept.counted);
+  services = of-list w.store list listed;
+  tracked = λ key. fresh-tracked key (counted-at w.store.counter w.store.objects (service_at key) good.kept.counted);
 }
   where
-    fresh-tracked : (key : Key) → (version_at (stored_of store key) ≤ store.counter) × IsBehind (stored_of store key) 0 → IsTrackedIn (started class store) (fresh class) key
-    fresh-tracked key given = tracked-as _ _ _ _ refl refl refl (news-listing store key good.kept.ascending) (tracked-fresh store.counter (stored_of store key) given.0 given.1)
+    fresh-tracked : (key : Key) → (version_at (stored_of w.store key) ≤ w.store.counter) × IsBehind (stored_of w.store key) 0
+        → (let v : WorldValue = record w { service_lane = list; core = Some (fresh w.class) } in IsTrackedIn v (fresh w.class) key)
+    fresh-tracked key given = tracked-as _ _ _ _ refl refl refl (news-list w.store list key good.kept.ascending listed) (tracked-fresh w.store.counter (stored_of w.store key) given.0 given.1)
+
+-- a world without a controller
+abbrev down : Option (List ℕ) → StoreValue → WorldValue
+down class store = record { class = class; store = store; config_lane = []; service_lane = []; core = None }
 
 pub starts_are_good : StartsAreGood
-starts_are_good class store good = record { stored = good; up = started-followed class store good }
+starts_are_good class store list good listed = record { stored = good; up = started-followed (down class store) list good listed }
 
-restart_by : (c : Option State) (w : WorldValue) → IsGood w → IsGood (restarted c w)
-restart_by None w good = starts_are_good w.class w.store good.stored
-restart_by (Some s) w good = good
+start_by : (c : Option State) (list : List Event) (w : WorldValue) → IsListOf w.store list → IsGood w → IsGood (after_start c list w)
+start_by None list w listed good = record { stored = good.stored; up = started-followed w list good.stored listed }
+start_by (Some s) list w listed good = good
 
 -- ---- a watch that expires
 unversioned : (o : Option (Versioned Service)) → option_map held_as (option_map (at_version 0) o) ≡ unversion (option_map held_as o)
 unversioned None = refl
 unversioned (Some v) = refl
 
--- the world after the watch of the list has expired, but for its core
-abbrev expired_world : Group → WorldValue → State → WorldValue
-expired_world group w s = record w {
-  config_lane = listed_anew groups.Config group w.store (Some s) w.config_lane;
-  service_lane = listed_anew groups.Service group w.store (Some s) w.service_lane;
-  core = Some (core_expired s group);
-}
-
-expired-tracked : (group : Group) (w : WorldValue) (s : State) (key : Key) → IsGoodStore w.store → IsTrackedIn w s key → IsTrackedIn (expired_world group w s) (core_expired s group) key
-expired-tracked groups.Config w s key good t = same-tracked w.store.counter (stored_of w.store key) (news_in key w.service_lane) s (core_expired s groups.Config) key (refl, refl, refl) t
-expired-tracked groups.Endpoint w s key good t = same-tracked w.store.counter (stored_of w.store key) (news_in key w.service_lane) s (core_expired s groups.Endpoint) key (refl, refl, refl) t
-expired-tracked groups.Service w s key good t =
-    tracked-as _ _ _ _ refl
-    (ap (option_map held_as) (held_at-expired key_cmp s.held.services key) ∙ unversioned (held_at key_cmp s.held.services key))
-    refl (news-listing w.store key good.kept.ascending)
-    (tracked-expired w.store.counter s.held.services_ended (stored_of w.store key) (held_of s key) (claims_of key s.claims) (news_in key w.service_lane) t)
-
-expired-followed : (group : Group) (w : WorldValue) (s : State) → IsGoodStore w.store → IsFollowed w s → IsFollowed (expired_world group w s) (core_expired s group)
-expired-followed group w s good up = record {
-  run = Expired group ∷ up.run;
+services-lapsed : (w : WorldValue) (s : State) (list : List Event) → IsGoodStore w.store → IsListOf w.store list → IsFollowed w s
+    → (let v : WorldValue = record w { service_lane = list; core = Some (core_expired s groups.Service) } in IsFollowed v (core_expired s groups.Service))
+services-lapsed w s list good listed up = record {
+  run = Expired groups.Service ∷ up.run;
   is = (ap (λ (t : State). t.out) up.leads ∙ up.none_out, up.is);
-  leads = ap (λ (t : State). core_expired t group) up.leads;
+  leads = ap (λ (t : State). core_expired t groups.Service) up.leads;
   typed = (tt, up.typed);
   none_out = up.none_out;
-  config = all-either (same_group group groups.Config) (IsOfGroup groups.Config) (listing groups.Config w.store) w.config_lane (of-listing groups.Config w.store) up.config;
-  services = all-either (same_group group groups.Service) (IsOfGroup groups.Service) (listing groups.Service w.store) w.service_lane (of-listing groups.Service w.store) up.services;
-  pending_typed = all-either (same_group group groups.Service) ShowsTerms (listing groups.Service w.store) w.service_lane (typed-listing groups.Service w.store good.typed) up.pending_typed;
-  config_ends = ends-expired (same_group group groups.Config) s.held.config_ended w.store w.config_lane up.config_ends;
-  tracked = λ key. expired-tracked group w s key good (up.tracked key);
+  services = of-list w.store list listed;
+  tracked = λ key.
+      tracked-as _ _ _ _ refl
+      (ap (option_map held_as) (held_at-expired key_cmp s.held.services key) ∙ unversioned (held_at key_cmp s.held.services key))
+      refl (news-list w.store list key good.kept.ascending listed)
+      (tracked-expired w.store.counter s.held.services_ended (stored_of w.store key) (held_of s key) (records_of key s.claims) (news_in key w.service_lane) (up.tracked key));
 }
 
-expired_by : (c : Option State) (group : Group) (w : WorldValue) → IsGoodStore w.store → IfSome c (IsFollowed w)
-    → (let v : WorldValue = record w {
-      config_lane = listed_anew groups.Config group w.store c w.config_lane;
-      service_lane = listed_anew groups.Service group w.store c w.service_lane;
-      core = lapsed group c;
-    } in IfSome (lapsed group c) (IsFollowed v))
-expired_by None group w good up = tt
-expired_by (Some s) group w good up = expired-followed group w s good up
+services_by : (c : Option State) (list : List Event) (w : WorldValue) → IsGoodStore w.store → IsListOf w.store list → IfSome c (IsFollowed w)
+    → (let v : WorldValue = record w { service_lane = relisted c list w.service_lane; core = lapsed groups.Service c } in IfSome (lapsed groups.Service c) (IsFollowed v))
+services_by None list w good listed up = tt
+services_by (Some s) list w good listed up = services-lapsed w s list good listed up
 
-good-expire : (group : Group) (w : WorldValue) → IsGood w → IsGood (after_expiry group w)
-good-expire group w good = record { stored = good.stored; up = expired_by w.core group w good.stored good.up }
+config_by : (c : Option State) (w : WorldValue) → IfSome c (IsFollowed w)
+    → (let v : WorldValue = record w { core = lapsed groups.Config c } in IfSome (lapsed groups.Config c) (IsFollowed v))
+config_by None w up = tt
+config_by (Some s) w up = record {
+  run = Expired groups.Config ∷ up.run;
+  is = (ap (λ (t : State). t.out) up.leads ∙ up.none_out, up.is);
+  leads = ap (λ (t : State). core_expired t groups.Config) up.leads;
+  typed = (tt, up.typed);
+  none_out = up.none_out;
+  services = up.services;
+  tracked = λ key. same-tracked w.store.counter (stored_of w.store key) (news_in key w.service_lane) s (core_expired s groups.Config) key (refl, refl, refl) (up.tracked key);
+}
 
--- ---- each step, and all of them
-good-step : (step : Step) (w : WorldValue) → StepsTerms step → IsGood w → IsGood (world_step step w)
-good-step (Edits edit) w t good = good-edit edit w t good
-good-step (Take group) w t good = good-take group w good
-good-step (Turns outcome) w t good = good-turn outcome w good
-good-step (Crash applied) w t good = good-crash applied w good
-good-step Restart w t good = restart_by w.core w good
-good-step (Expire group) w t good = good-expire group w good
+-- ---- each move, and all of them
+pub good-move : (move : Move) (w : WorldValue) → IsMove move w → AllShowTerms (entries_of move w) → IsGood w → IsGood (after_move move w)
+good-move (Sets object holding) w may typed good = good-set object holding w may good
+good-move (Deletes kind key) w may typed good = good-deleted kind key w good
+good-move (Tells event) w may typed good = good-tell event w may typed good
+good-move Takes w may typed good = good-take w typed good
+good-move (Turns outcome) w may typed good = good-turn outcome w good
+good-move (Stops applied) w may typed good = good-crash applied w good
+good-move (Starts list) w may typed good = start_by w.core list w may good
+good-move ConfigLapses w may typed good = record { stored = good.stored; up = config_by w.core w good.up }
+good-move (ServicesLapse list) w may typed good = record { stored = good.stored; up = services_by w.core list w good.stored may good.up }
+
+-- nothing of it is about the lane of the configuration
+followed-else : (w : WorldValue) (lane : List Event) (c : Option State) → IfSome c (IsFollowed w) → (let v : WorldValue = record w { config_lane = lane } in IfSome c (IsFollowed v))
+followed-else w lane None up = tt
+followed-else w lane (Some s) up = record {
+  run = up.run;
+  is = up.is;
+  leads = up.leads;
+  typed = up.typed;
+  none_out = up.none_out;
+  services = up.services;
+  tracked = up.tracked;
+}
+
+pub good-else : (w : WorldValue) (lane : List Event) → IsGood w → (let v : WorldValue = record w { config_lane = lane } in IsGood v)
+good-else w lane good = record { stored = good.stored; up = followed-else w lane w.core good.up }
 
 pub steps_keep_good : StepsKeepGood
-steps_keep_good w step t good = good-step step w t good
+steps_keep_good old new move step good =
+    good-else (but_config new) new.config_lane
+    (subst IsGood (sym step.leads) (good-else (after_move move old) [] (good-move move old step.may step.typed good)))
 
-pub good-steps : (steps : List Step) (w : WorldValue) → AllByRecursion StepsTerms steps → IsGood w → IsGood (after_steps steps w)
-good-steps [] w all good = good
-good-steps (step ∷ steps) w all good = good-steps steps (world_step step w) all.1 (good-step step w all.0 good)
+-- what a longer run was shown
+terms-first : (now earlier : List Entry) → AllShowTerms (now ++ earlier) → AllShowTerms now
+terms-first [] earlier all = tt
+terms-first (entry ∷ now) earlier all = (all.0, terms-first now earlier all.1)
+
+terms-earlier : (now earlier : List Entry) → AllShowTerms (now ++ earlier) → AllShowTerms earlier
+terms-earlier [] earlier all = all
+terms-earlier (entry ∷ now) earlier all = terms-earlier now earlier all.1
+
+terms-before : (moves : List Move) (w : WorldValue) (earlier : List Entry) → AllShowTerms (run_along moves w earlier) → AllShowTerms earlier
+terms-before [] w earlier all = all
+terms-before (move ∷ moves) w earlier all = terms-earlier (entries_of move w) earlier (terms-before moves (after_move move w) (entries_of move w ++ earlier) all)
+
+pub good-moves : (moves : List Move) (w : WorldValue) (earlier : List Entry) → AreMoves moves w → AllShowTerms (run_along moves w earlier) → IsGood w → IsGood (after_moves moves w)
+good-moves [] w earlier may typed good = good
+good-moves (move ∷ moves) w earlier may typed good =
+    let here = terms-first (entries_of move w) earlier (terms-before moves (after_move move w) (entries_of move w ++ earlier) typed) in
+    good-moves moves (after_move move w) (entries_of move w ++ earlier) may.1 typed (good-move move w may.0 here good)
+
+pub safe-along : (moves : List Move) (w : WorldValue) (earlier : List Entry) → AreMoves moves w → AllShowTerms (run_along moves w earlier) → IsGood w → AreSafeAlong moves w
+safe-along [] w earlier may typed good = good.stored.safe
+safe-along (move ∷ moves) w earlier may typed good =
+    let here = terms-first (entries_of move w) earlier (terms-before moves (after_move move w) (entries_of move w ++ earlier) typed) in
+    (good.stored.safe, safe-along moves (after_move move w) (entries_of move w ++ earlier) may.1 typed (good-move move w may.0 here good))
 
 pub worlds_are_safe : WorldsAreSafe
-worlds_are_safe class held steps all steps_all =
-    (good-steps steps (new_world class held) steps_all (starts_are_good class (store_of held empty_store) (good-store_of held all))).stored.safe
+worlds_are_safe class store list moves good listed may typed = safe-along moves (begun class store list) [] may typed (starts_are_good class store list good listed)

@@ -9,17 +9,18 @@ use Rattle.kube_model.specs.declared.put.Put.{Put}
 use Rattle.kube_model.specs.declared.reply.PutReply.{PutReply}
 use Rattle.kube_model.specs.Kinds.{kind_of, group_of}
 use Rattle.status_store.specs.declared.change.Outcome.{Outcome}
-use Rattle.status_store.specs.Changes.{StoreValue, after_put, reply_to}
+use Rattle.status_store.specs.Changes.{StoreValue, after_put}
 use Rattle.core_rules.specs.declared.turn.Turn.{Turn}
 use Rattle.core_rules.specs.declared.turn.Turn.TheVariants.{Idle, NoPut, Wants}
 use Rattle.core_rules.specs.Core.{State}
 use Rattle.core_rules.specs.Turn.{core_turn, after_turn, put_in}
+use Rattle.core_laws.specs.Shared.{AllShowTerms}
 use Rattle.core_rules.specs.Run.{Entry, Took, Expired, Turned, Heard, core_after, put_out, IsRun}
-use Rattle.world_rules.specs.declared.step.Step.{Step}
-use Rattle.world_rules.specs.declared.step.Step.TheVariants.{Edit as Edits, Take, Turn as Turns, Crash, Restart, Expire}
 use Rattle.world_rules.specs.Good.{IsGoodStore}
-use Rattle.world_rules.specs.Safe.{IsSafe, StepsTerms}
-use Rattle.world_rules.specs.World.{WorldValue, lane_of, started, world_step, after_steps, IsEnabled}
+use Rattle.world_rules.specs.Moves.{Move, Sets, Deletes, Tells, Takes, Turns, Stops, Starts, ConfigLapses, ServicesLapse, IsListOf, AreMoves, after_moves, run_along, begun}
+use Rattle.world_rules.specs.Safe.{IsSafe}
+use Rattle.world_rules.specs.Laws.{AreSafeAlong}
+use Rattle.world_rules.specs.World.{WorldValue}
 
 -- ---- what happens to a core, apart from what it decides
 
@@ -89,67 +90,29 @@ abbrev pub puts_of : List Entry → List Put
 puts_of [] = []
 puts_of (entry ∷ earlier) = puts_of_entry entry ++ puts_of earlier
 
--- ---- what the core of a world goes through
-
--- it takes the first event of a lane
-abbrev pub entries_taken : Option State → List Event → List Entry
-entries_taken None lane = []
-entries_taken (Some s) [] = []
-entries_taken (Some s) (event ∷ more) = Took event ∷ []
-
--- its put, if it wants one, is answered
-abbrev pub entries_put : Option Put → Outcome → StoreValue → List Entry
-entries_put None outcome store = []
-entries_put (Some put) outcome store = Heard (reply_to put outcome store) ∷ []
-
--- it makes a turn
-abbrev pub entries_turned : Option State → Outcome → StoreValue → List Entry
-entries_turned None outcome store = []
-entries_turned (Some s) outcome store = entries_put (put_in (core_turn s)) outcome store ++ Turned (core_turn s) ∷ []
-
--- the watch of a list expires
-abbrev pub entries_lapsed : Option State → Group → List Entry
-entries_lapsed None group = []
-entries_lapsed (Some s) group = Expired group ∷ []
-
--- what a step is to the core, the newest first
-abbrev pub entries_of_step : Step → WorldValue → List Entry
-entries_of_step (Edits edit) w = []
-entries_of_step (Take group) w = entries_taken w.core (lane_of group w)
-entries_of_step (Turns outcome) w = entries_turned w.core outcome w.store
-entries_of_step (Crash applied) w = []
-entries_of_step Restart w = []
-entries_of_step (Expire group) w = entries_lapsed w.core group
-
--- the run of the core along steps in which it neither stops nor is started, behind an earlier one
-abbrev pub run_along : List Step → WorldValue → List Entry → List Entry
-run_along [] w earlier = earlier
-run_along (step ∷ steps) w earlier = run_along steps (world_step step w) (entries_of_step step w ++ earlier)
-
 -- ---- explaining
 
 -- the controller neither stops nor is started
-abbrev pub IsRunning : Step → Type 0
-IsRunning (Edits edit) = ⊤
-IsRunning (Take group) = ⊤
+abbrev pub IsRunning : Move → Type 0
+IsRunning (Sets object holding) = ⊤
+IsRunning (Deletes kind key) = ⊤
+IsRunning (Tells event) = ⊤
+IsRunning Takes = ⊤
 IsRunning (Turns outcome) = ⊤
-IsRunning (Crash applied) = ⊥
-IsRunning Restart = ⊥
-IsRunning (Expire group) = ⊤
+IsRunning (Stops applied) = ⊥
+IsRunning (Starts list) = ⊥
+IsRunning ConfigLapses = ⊤
+IsRunning (ServicesLapse list) = ⊤
 
--- there is each of the steps
-abbrev pub AreEnabled : List Step → WorldValue → Type 0
-AreEnabled [] w = ⊤
-AreEnabled (step ∷ steps) w = IsEnabled step w × AreEnabled steps (world_step step w)
-
--- A world explains a run of a core: a controller was started over a store that is safe, edits stood anywhere, and what was shown and
--- answered, and how often a turn was made, is what the run has, but for a last put that has no reply.
-pub record Explains (class : Option (List ℕ)) (store : StoreValue) (steps : List Step) (run : List Entry) : Type 0 where
+-- A world explains a run of a core: a controller was started over a store that is safe, and was going to be shown a list of its services;
+-- moves were made; and what was shown and answered, and how often a turn was made, is what the run has, but for a last put that has no
+-- reply.
+pub record Explains (class : Option (List ℕ)) (store : StoreValue) (list : List Event) (moves : List Move) (run : List Entry) : Type 0 where
   pub good : IsGoodStore store
-  pub running : AllByRecursion IsRunning steps
-  pub typed : AllByRecursion StepsTerms steps
-  pub enabled : AreEnabled steps (started class store)
-  pub same : acts_of (run_along steps (started class store) []) ≡ acts_of (answered run)
+  pub listed : IsListOf store list
+  pub running : AllByRecursion IsRunning moves
+  pub may : AreMoves moves (begun class store list)
+  pub same : acts_of (run_along moves (begun class store list) []) ≡ acts_of (answered run)
 
 -- The core is about to want the put, and then it is the run's.
 pub record IsAboutToPut (class : Option (List ℕ)) (core : Option State) (put : Put) (run : List Entry) : Type 0 where
@@ -167,11 +130,19 @@ pub record IsExplained (class : Option (List ℕ)) (w : WorldValue) (along run :
   pub safe : IsSafe w.store
   pub last : (put : Put) → put_out run ≡ Some put → (outcome : Outcome) → IsSafe (after_put put outcome w.store)
 
--- so it is for every world that explains the run
+-- so it is for every world that explains the run, and its store is safe before and behind each move
 abbrev pub IsSafeInWorlds : Option (List ℕ) → List Entry → Type 0
-IsSafeInWorlds class run = (store : StoreValue) (steps : List Step) → Explains class store steps run
-    → IsExplained class (after_steps steps (started class store)) (run_along steps (started class store) []) run
+IsSafeInWorlds class run = (store : StoreValue) (list : List Event) (moves : List Move) → Explains class store list moves run
+    → IsExplained class (after_moves moves (begun class store list)) (run_along moves (begun class store list) []) run
+    × AreSafeAlong moves (begun class store list)
 
--- and so for every run of a core
+-- and so for every run of a core that was shown terms that there can be
 abbrev pub RunsAreSafeInWorlds : Type 0
-RunsAreSafeInWorlds = (class : Option (List ℕ)) (run : List Entry) → IsRun class run → IsSafeInWorlds class run
+RunsAreSafeInWorlds = (class : Option (List ℕ)) (run : List Entry) → IsRun class run → AllShowTerms run → IsSafeInWorlds class run
+
+-- Whatever moves are made while it runs, a world explains the run of its own controller: so there are such worlds.
+abbrev pub WorldsExplainThemselves : Type 0
+WorldsExplainThemselves =
+    (class : Option (List ℕ)) (store : StoreValue) (list : List Event) (moves : List Move) → IsGoodStore store → IsListOf store list
+    → AllByRecursion IsRunning moves → AreMoves moves (begun class store list)
+    → Explains class store list moves (run_along moves (begun class store list) [])

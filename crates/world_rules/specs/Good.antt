@@ -20,7 +20,7 @@ use Rattle.status_store.specs.declared.stored.Stored.{Stored}
 use Rattle.status_store.specs.Places.{service_at}
 use Rattle.status_store.specs.Objects.{stored_at}
 use Rattle.status_store.specs.Changes.{StoreValue, IsKept as IsKeptStore, record_of}
-use Rattle.alloc_book.specs.Claims.{claims_of}
+use Rattle.alloc_book.specs.Claims.{records_of}
 use Rattle.core_rules.specs.Core.{State}
 use Rattle.core_rules.specs.Run.{Entry, core_after, IsRun}
 use Rattle.core_laws.specs.Shared.{AllShowTerms}
@@ -95,7 +95,7 @@ news_in key (event ∷ more) = news_of key event ++ news_in key more
 -- the service is followed
 abbrev pub IsTrackedIn : WorldValue → State → Key → Type 0
 IsTrackedIn w s key =
-    IsTracked w.store.counter s.held.services_ended (stored_of w.store key) (held_of s key) (claims_of key s.claims) (news_in key w.service_lane)
+    IsTracked w.store.counter s.held.services_ended (stored_of w.store key) (held_of s key) (records_of key s.claims) (news_in key w.service_lane)
 
 -- ---- what is pending
 
@@ -139,27 +139,31 @@ ShowsTerms Ignored = ⊤
 
 -- ---- what is kept
 
--- What holds while the controller is up: some run leads to its core, which has no put out; each lane has its own events alone, and the end
--- of its list once until it is taken; and each service is followed.
+-- What holds while the controller is up: some run leads to its core, which has no put out and was shown terms that there can be; its lane
+-- has events of the services alone; and each service is followed. Nothing is asked of what it is shown of the configuration.
 pub record IsFollowed (w : WorldValue) (s : State) : Type 0 where
   pub run : List Entry
   pub is : IsRun w.class run
   pub leads : core_after w.class run ≡ s
   pub typed : AllShowTerms run
   pub none_out : s.out ≡ None
-  pub config : AllByRecursion (IsOfGroup groups.Config) w.config_lane
   pub services : AllByRecursion (IsOfGroup groups.Service) w.service_lane
-  pub pending_typed : AllByRecursion ShowsTerms w.service_lane
-  pub config_ends : ConfigEnds s.held.config_ended w.config_lane
   pub tracked : (key : Key) → IsTrackedIn w s key
 
--- The store is safe, in its order and with its versions, and what is stored has terms.
+-- The store is safe, in its order and with its versions.
 pub record IsGoodStore (store : StoreValue) : Type 0 where
   pub safe : IsSafe store
   pub kept : IsKeptStore store
-  pub typed : AllByRecursion (λ held. HasTerms held.object) store.objects
 
 -- What holds of every world.
 pub record IsGood (w : WorldValue) : Type 0 where
   pub stored : IsGoodStore w.store
   pub up : IfSome w.core (IsFollowed w)
+
+-- What holds besides of a world that makes steps: what is stored and pending has terms, and the lane of the configuration has events of
+-- its own alone, and the end of its list once until it is taken.
+pub record IsOwn (w : WorldValue) : Type 0 where
+  pub stored_typed : AllByRecursion (λ held. HasTerms held.object) w.store.objects
+  pub pending_typed : AllByRecursion ShowsTerms w.service_lane
+  pub config : AllByRecursion (IsOfGroup groups.Config) w.config_lane
+  pub config_ends : IfSome w.core (λ s. ConfigEnds s.held.config_ended w.config_lane)

@@ -1,5 +1,5 @@
 -- What holds at each moment of a world whose controller is up, row by row: what is known of the store, and what is still to be shown.
-use Rattle.std.specs.Prelude.{◌≡◌, ◌⊎◌, ℕ, ◌<◌, ◌≤◌, Bool, true, false, List, [], ◌∷◌, ◌++◌, Some}
+use Rattle.std.specs.Prelude.{◌≡◌, ◌⊎◌, ℕ, ◌<◌, ◌≤◌, Bool, true, false, List, [], ◌∷◌, ◌++◌, Some, IfSome}
 use Rattle.std.specs.List.{Contains}
 use Rattle.kube_model.specs.declared.event.Event.{Event}
 use Rattle.kube_model.specs.declared.event.Event.TheVariants.{Changed, Deleted, ListEnd}
@@ -10,15 +10,16 @@ use Rattle.kube_model.specs.declared.object.Object.TheVariants as objects
 use Rattle.kube_model.specs.declared.record.Record.{Record}
 use Rattle.kube_model.specs.declared.service.Service.{Service}
 use Rattle.kube_model.specs.Keys.{key_cmp}
-use Rattle.kube_model.specs.Records.{empty_record, is_assigned}
+use Rattle.kube_model.specs.Records.{is_assigned}
 use Rattle.versioned_map.specs.declared.map.Versioned.{Versioned}
 use Rattle.versioned_map.specs.Entries.{held_at}
 use Rattle.status_store.specs.declared.stored.Stored.{Stored}
 use Rattle.status_store.specs.Places.{service_at}
 use Rattle.status_store.specs.Objects.{IsStored}
 use Rattle.status_store.specs.Changes.{StoreValue, IsKept, record_of}
-use Rattle.alloc_book.specs.Claims.{claims_of}
+use Rattle.alloc_book.specs.Claims.{ClaimValue, claims_of, records_of}
 use Rattle.core_rules.specs.Core.{State, is_ready}
+use Rattle.core_laws.specs.Claimed.{IsClaimedAs}
 use Rattle.core_laws.specs.Quiet.{IsQuiet}
 use Rattle.world_rules.specs.Good.{ends_config}
 use Rattle.world_rules.specs.Safe.{IsSafe, IsRecorded}
@@ -50,9 +51,13 @@ ends_services = ListEnd groups.Service
 abbrev pub IsNewer : State → Key → ℕ → Type 0
 IsNewer s key version = (held : Versioned Service) → IsHeld s key held → held.version < version
 
--- the service isn't stored, or with an empty record
+-- the service isn't stored, or without an address
 abbrev pub IsBareIn : StoreValue → Key → Type 0
-IsBareIn store key = (r : Record) → IsRecorded store key r → r ≡ empty_record
+IsBareIn store key = (r : Record) → IsRecorded store key r → is_assigned r ≡ false
+
+-- the service is stored; and where it is with an address, it is with this record
+abbrev pub IsAsShown : StoreValue → Key → Record → Type 0
+IsAsShown store key r = (q : Record) × IsRecorded store key q × (is_assigned q ≡ true → r ≡ q)
 
 -- A pending event that shows a service is live where it is going to be held: it is newer than what is held, or a deletion of the service
 -- is pending before it.
@@ -70,7 +75,7 @@ pub record AreCounted (w : WorldValue) (s : State) : Type 0 where
 -- once the list of services has ended: each stored record with an address is claimed for its service
 abbrev pub StoredAreClaimed : WorldValue → State → Type 0
 StoredAreClaimed w s =
-    s.held.services_ended ≡ true → (key : Key) (r : Record) → IsRecorded w.store key r → is_assigned r ≡ true → Contains (claims_of key s.claims) r
+    s.held.services_ended ≡ true → (key : Key) (r : Record) → IsRecorded w.store key r → is_assigned r ≡ true → Contains (records_of key s.claims) r
 
 -- The record is going to be shown before the list of services ends, by an event newer than what is held.
 pub record WillBeShown (w : WorldValue) (s : State) (key : Key) (r : Record) : Type 0 where
@@ -88,7 +93,7 @@ pub record WillBeShown (w : WorldValue) (s : State) (key : Key) (r : Record) : T
 abbrev pub StoredAreListed : WorldValue → State → Type 0
 StoredAreListed w s =
     s.held.services_ended ≡ false → (key : Key) (r : Record) → IsRecorded w.store key r → is_assigned r ≡ true
-    → Contains (claims_of key s.claims) r ⊎ WillBeShown w s key r
+    → Contains (records_of key s.claims) r ⊎ WillBeShown w s key r
 
 -- What is held is what is stored, and neither a newer event nor a deletion is pending.
 pub record IsCurrent (w : WorldValue) (s : State) (key : Key) (held : Versioned Service) (r : Record) : Type 0 where
@@ -102,24 +107,25 @@ HeldAreCurrent w s =
     (key : Key) (stored : Stored) (held : Versioned Service) → IsStored w.store.objects (service_at key) stored → IsHeld s key held
     → held.version ≡ stored.version → IsCurrent w s key held (record_of stored.object)
 
--- A live event shows the stored record; or a deletion of the service stands behind it, and the service isn't stored, or with an empty
--- record.
+-- A live event shows the stored record, where that has an address; or a deletion of the service stands behind it, and the service isn't
+-- stored, or without an address.
 pub record LiveAreStored (w : WorldValue) (s : State) : Type 0 where
   pub last : (before behind : List Event) (version : ℕ) (service : Service) → IsPending w before (shows_service version service) behind
-      → IsLive s before version service.key → ¬ (Contains behind (deletes_service service.key)) → IsRecorded w.store service.key service.holding
+      → IsLive s before version service.key → ¬ (Contains behind (deletes_service service.key)) → IsAsShown w.store service.key service.holding
   pub gone : (before behind : List Event) (version : ℕ) (service : Service) → IsPending w before (shows_service version service) behind
       → IsLive s before version service.key → Contains behind (deletes_service service.key) → IsBareIn w.store service.key
 
--- where a deletion is pending, the service isn't stored, or at a later version than is held and with an empty record
+-- where a deletion is pending, the service isn't stored, or at a later version than is held and without an address
 abbrev pub DeletedAreBare : WorldValue → State → Type 0
 DeletedAreBare w s =
     (before behind : List Event) (key : Key) → IsPending w before (deletes_service key) behind
-    → (stored : Stored) → IsStored w.store.objects (service_at key) stored → IsNewer s key stored.version × (record_of stored.object ≡ empty_record)
+    → (stored : Stored) → IsStored w.store.objects (service_at key) stored → IsNewer s key stored.version × (is_assigned (record_of stored.object) ≡ false)
 
--- Each held record with an address is claimed for its service, and only held services have claims.
+-- Each held record with an address is claimed for its service, where it is the mark of no terms under those of the held service; and only
+-- held services have claims.
 pub record HeldAreClaimed (s : State) : Type 0 where
-  pub held : (key : Key) (held : Versioned Service) → IsHeld s key held → is_assigned held.object.holding ≡ true → Contains (claims_of key s.claims) held.object.holding
-  pub claims : (key : Key) (r : Record) → Contains (claims_of key s.claims) r → (held : Versioned Service) × IsHeld s key held
+  pub held : (key : Key) (held : Versioned Service) → IsHeld s key held → is_assigned held.object.holding ≡ true → IsClaimedAs s.claims key held.object
+  pub claims : (key : Key) (c : ClaimValue) → Contains (claims_of key s.claims) c → (held : Versioned Service) × IsHeld s key held
 
 -- Nothing is left waiting that could be served; and while the core isn't ready, nothing is queued.
 pub record IsCalm (s : State) : Type 0 where
@@ -157,6 +163,10 @@ pub record EndsOnceIn (end : Event) (ended : Bool) (lane : List Event) : Type 0 
   pub none : ended ≡ true → ¬ (Contains lane end)
   pub once : (before behind : List Event) → lane ≡ before ++ end ∷ behind → ¬ (Contains behind end)
 
+-- the end of the list of the configuration is so, while the controller is up
+abbrev pub ConfigEndsOnce : WorldValue → Type 0
+ConfigEndsOnce w = IfSome w.core (λ s. EndsOnceIn ends_config s.held.config_ended w.config_lane)
+
 -- The service is going to be shown before the list of services ends.
 pub record WillBeListed (w : WorldValue) (key : Key) : Type 0 where
   pub before : List Event
@@ -168,14 +178,14 @@ pub record WillBeListed (w : WorldValue) (key : Key) : Type 0 where
   pub before_end : Contains behind ends_services
 
 -- A service that wasn't listed since its watch expired, until the list of services has ended: it isn't stored; or it is going to be shown
--- before the list ends; or it is stored with an empty record, and is going to be shown so.
+-- before the list ends; or it is stored without an address, and is going to be shown so.
 abbrev pub UnlistedAreShown : WorldValue → State → Type 0
 UnlistedAreShown w s =
     s.held.services_ended ≡ false → (key : Key) (held : Versioned Service) → IsHeld s key held → held.version ≡ 0
     → (stored : Stored) → IsStored w.store.objects (service_at key) stored
-    → WillBeListed w key ⊎ ((record_of stored.object ≡ empty_record) × WillBeShownAt w key stored.version)
+    → WillBeListed w key ⊎ ((is_assigned (record_of stored.object) ≡ false) × WillBeShownAt w key stored.version)
 
--- All rows.
+-- All rows but that of the list of the configuration.
 pub record IsInOrder (w : WorldValue) (s : State) : Type 0 where
   pub safe : IsSafe w.store
   pub counted : AreCounted w s
@@ -189,5 +199,4 @@ pub record IsInOrder (w : WorldValue) (s : State) : Type 0 where
   pub ordered : AreInOrder w s
   pub unheld : UnheldAreShown w s
   pub ends : EndsOnceIn ends_services s.held.services_ended w.service_lane
-  pub config_ends : EndsOnceIn ends_config s.held.config_ended w.config_lane
   pub unlisted : UnlistedAreShown w s

@@ -2,6 +2,8 @@ pub mod Sight
 pub mod World
 pub mod Safe
 pub mod Good
+pub mod Clash
 pub mod Laws
+pub mod Moves
 pub mod Invariant
 pub mod Explaining

@@ -2,7 +2,7 @@
 use Rattle.std.specs.Prelude.{◌≡◌, ℕ, ◌≤◌, ◌<◌, Bool, true, false, ◌==◌, nat_le, if◌then◌else◌, List, [], ◌∷◌, Option, Some, None, MatchBool, ⊤}
 use Rattle.std.specs.List.{Contains}
 use Rattle.kube_model.specs.declared.record.Record.{Record}
-use Rattle.kube_model.specs.Records.{empty_record, is_assigned}
+use Rattle.kube_model.specs.Records.{is_assigned}
 use Rattle.alloc_book.specs.Claims.{claimed_by}
 
 -- a version, and the record that was shown at it
@@ -20,10 +20,10 @@ abbrev pub version_at : Option Shown → ℕ
 version_at None = 0
 version_at (Some x) = x.version
 
--- it isn't stored, or with an empty record
+-- it isn't stored, or without an address
 abbrev pub IsBare : Option Shown → Type 0
 IsBare None = ⊤
-IsBare (Some x) = x.holding ≡ empty_record
+IsBare (Some x) = is_assigned x.holding ≡ false
 
 -- where it is stored with an address, it is with this record
 abbrev pub Agrees : Option Shown → Record → Type 0
@@ -60,12 +60,12 @@ has_gone (Shows x ∷ more) = has_gone more
 has_gone (Gone ∷ more) = true
 has_gone (End ∷ more) = has_gone more
 
--- it is stored with just this record
+-- it is stored; and where it is with an address, it is with this record
 abbrev pub IsJust : Option Shown → Record → Type 0
 IsJust None r = ⊥
-IsJust (Some x) r = r ≡ x.holding
+IsJust (Some x) r = is_assigned x.holding ≡ true → r ≡ x.holding
 
--- what is shown is the stored record; or a deletion follows, and nothing is stored, or an empty record
+-- what is shown is the stored record, where that has an address; or a deletion follows, and nothing is stored, or without an address
 abbrev pub IsCarried : Option Shown → Record → List News → Type 0
 IsCarried s r more = MatchBool (has_gone more) (IsBare s) (IsJust s r)
 

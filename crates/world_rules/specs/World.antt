@@ -1,5 +1,5 @@
 -- The world of a controller: a store that others edit, what of it is still to be shown, and a core that may stop.
-use Rattle.std.specs.Prelude.{◌≡◌, ◌≢◌, ℕ, Bool, true, if◌then◌else◌, List, [], ◌∷◌, ◌++◌, map, filter, Option, Some, None, is_some, IfSome, IsTrue}
+use Rattle.std.specs.Prelude.{◌≡◌, ◌≢◌, ◌+◌, ℕ, Bool, true, false, if◌then◌else◌, List, [], ◌∷◌, ◌++◌, map, filter, Option, Some, None, is_some, IfSome, IsTrue, ⊤}
 use Rattle.kube_model.specs.declared.event.Event.{Event}
 use Rattle.kube_model.specs.declared.event.Event.TheVariants.{Changed, Deleted, ListEnd}
 use Rattle.kube_model.specs.declared.event.Group.{Group}
@@ -7,15 +7,16 @@ use Rattle.kube_model.specs.declared.event.Group.TheVariants as groups
 use Rattle.kube_model.specs.declared.object.Object.{Object}
 use Rattle.kube_model.specs.declared.put.Put.{Put}
 use Rattle.kube_model.specs.Kinds.{kind_of, group_of}
+use Rattle.kube_model.specs.Records.{is_assigned}
 use Rattle.object_history.specs.Observations.{same_group}
 use Rattle.status_store.specs.declared.change.Edit.{Edit}
-use Rattle.status_store.specs.declared.change.Edit.TheVariants.{Set, Delete}
+use Rattle.status_store.specs.declared.change.Edit.TheVariants.{Set, Reset, Delete}
 use Rattle.status_store.specs.declared.change.Outcome.{Outcome}
 use Rattle.status_store.specs.declared.change.Outcome.TheVariants.{Lost}
 use Rattle.status_store.specs.declared.stored.Stored.{Stored}
 use Rattle.status_store.specs.Places.{service_at}
-use Rattle.status_store.specs.Objects.{stored_at}
-use Rattle.status_store.specs.Changes.{StoreValue, DeletesNothing, edited_place, set_as, edited, is_made, after_put, reply_to, empty_store}
+use Rattle.status_store.specs.Objects.{stored_at, with_stored}
+use Rattle.status_store.specs.Changes.{StoreValue, DeletesNothing, edited_place, record_of, set_as, reset_as, edited, is_made, after_put, reply_to, empty_store}
 use Rattle.core_rules.specs.declared.turn.Turn.TheVariants.{Idle}
 use Rattle.core_rules.specs.Core.{State, fresh}
 use Rattle.core_rules.specs.Take.{core_take, core_expired, limits}
@@ -54,6 +55,7 @@ listing group store = map as_shown (filter (is_of_group group) store.objects) ++
 -- what an edit has shown: the object as it is stored then, or that it was deleted
 abbrev pub shown_edit : Edit → StoreValue → List Event
 shown_edit (Set object) store = as_shown (set_as store object) ∷ []
+shown_edit (Reset object) store = as_shown (reset_as store object) ∷ []
 shown_edit (Delete kind key) store = if is_some (stored_at store.objects (kind, key)) then Deleted kind key ∷ [] else []
 
 -- what was stored, if it was
@@ -189,10 +191,16 @@ IsUp w = w.core ≢ None
 abbrev pub HasLane : Group → Type 0
 HasLane group = group ≢ groups.Endpoint
 
--- What is deleted is there, an event is pending in the lane, and something is queued; the controller is down to be started, and up
+-- an object that is set with its own record has no address in it
+abbrev pub ResetsBare : Edit → Type 0
+ResetsBare (Set object) = ⊤
+ResetsBare (Reset object) = is_assigned (record_of object) ≡ false
+ResetsBare (Delete kind key) = ⊤
+
+-- What is deleted is there, no edit gives an address, an event is pending in the lane, and something is queued; the controller is down to be started, and up
 -- for whatever else it does.
 abbrev pub IsEnabled : Step → WorldValue → Type 0
-IsEnabled (Edits edit) w = ¬ (DeletesNothing edit w.store.objects)
+IsEnabled (Edits edit) w = ¬ (DeletesNothing edit w.store.objects) × ResetsBare edit
 IsEnabled (Take group) w = IsUp w × (lane_of group w ≢ [])
 IsEnabled (Turns outcome) w = IsUp w × IfSome w.core (λ s. core_turn s ≢ Idle)
 IsEnabled (Crash applied) w = IsUp w
@@ -229,6 +237,18 @@ abbrev pub store_of : List Object → StoreValue → StoreValue
 store_of [] store = store
 store_of (object ∷ more) store = store_of more (edited (Set object) store)
 
+-- the object is stored at the next version as it is handed in, a service with its record
+abbrev pub with_object : Object → StoreValue → StoreValue
+with_object object store = record {
+  objects = with_stored (record { version = store.counter + 1; object = object }) store.objects;
+  counter = store.counter + 1;
+}
+
+-- the store of these objects, each put into it so after the other
+abbrev pub records_store : List Object → StoreValue → StoreValue
+records_store [] store = store
+records_store (object ∷ more) store = records_store more (with_object object store)
+
 -- a controller that was just started over a store
 abbrev pub started : Option (List ℕ) → StoreValue → WorldValue
 started class store = record {
@@ -242,6 +262,10 @@ started class store = record {
 -- a new world
 abbrev pub new_world : Option (List ℕ) → List Object → WorldValue
 new_world class objects = started class (store_of objects empty_store)
+
+-- a new world whose services have the records that are handed in
+abbrev pub recorded_world : Option (List ℕ) → List Object → WorldValue
+recorded_world class objects = started class (records_store objects empty_store)
 
 -- the world after these steps, the first of which stands first
 abbrev pub after_steps : List Step → WorldValue → WorldValue

@@ -1,14 +1,27 @@
 //! What holds of every world.
-ghost use Rattle.world_rules.specs.Explaining.{RunsAreSafeInWorlds};
-ghost use Rattle.world_rules.specs.Laws.{StartsAreGood, StepsKeepGood, WorldsAreInOrder};
-ghost use Rattle.world_rules.specs.Safe.{WorldsAreSafe};
+ghost use Rattle.world_rules.specs.Clash.{SafeWithoutClash};
+ghost use Rattle.world_rules.specs.Explaining.{RunsAreSafeInWorlds, WorldsExplainThemselves};
+ghost use Rattle.world_rules.specs.Laws.{NewStoresAreGood, OwnEndsOnce, RecordsAreGood, StartsAreGood, StartsAreOwn, StepsAreMoves, StepsKeepGood, StepsKeepOwn, StoresHaveTerms, UnmarkedStay, WorldsAreInOrder, WorldsAreSafe};
 
 /// Whatever is edited, shown, put, lost and answered, and whenever the controller stops, is started again, or a watch expires: at no
-/// moment are two services recorded with one address, unless they share it by their recorded terms.
+/// moment are two services recorded with one address and with marked records, unless the terms of their marks may share it. So it is too
+/// where the services began with records of their own, of which nothing is asked but this. Only such records are unmarked.
 pub fn worlds_are_safe()
     ensures safe { WorldsAreSafe }
     ensures starts { StartsAreGood }
+    ensures news { NewStoresAreGood }
+    ensures records { RecordsAreGood }
     ensures steps { StepsKeepGood }
+    ensures unmarked { UnmarkedStay }
+{}
+
+/// Each step of a world is one of those: a move, of which there are more. What holds of its lane of the configuration besides is kept.
+pub fn steps_are_moves()
+    ensures starts { StartsAreOwn }
+    ensures terms { StoresHaveTerms }
+    ensures moves { StepsAreMoves }
+    ensures own { StepsKeepOwn }
+    ensures ends { OwnEndsOnce }
 {}
 
 /// While the controller is up, what is stored, held, claimed and still to be shown fits together, row by row.
@@ -20,4 +33,14 @@ pub fn worlds_are_in_order()
 /// recorded with one address share it, also where a last put, which has no reply yet, reaches the store.
 pub fn runs_are_safe_in_worlds()
     ensures { RunsAreSafeInWorlds }
+{}
+
+/// A world explains the run of its own controller, whatever moves were made while it ran.
+pub fn worlds_explain_themselves()
+    ensures { WorldsExplainThemselves }
+{}
+
+/// A store is safe exactly where no two services are recorded with one address and with marks whose terms may not share it.
+pub fn safe_without_clash()
+    ensures { SafeWithoutClash }
 {}

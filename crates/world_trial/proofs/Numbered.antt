@@ -15,11 +15,11 @@ use Rattle.kube_model.specs.declared.record.Record.{Record}
 use Rattle.core_rules.specs.Core.{State}
 use Rattle.core_rules.specs.Turn.{core_turn, after_turn, put_in}
 use Rattle.status_store.specs.declared.change.Edit.{Edit}
-use Rattle.status_store.specs.declared.change.Edit.TheVariants.{Set, Delete}
+use Rattle.status_store.specs.declared.change.Edit.TheVariants.{Set, Reset, Delete}
 use Rattle.status_store.specs.declared.change.Outcome.{Outcome}
 use Rattle.status_store.specs.declared.change.Outcome.TheVariants.{Lost}
 use Rattle.status_store.specs.declared.stored.Stored.{Stored}
-use Rattle.status_store.specs.Changes.{StoreValue, OnSet, with_record, kept_record, set_as, edited, recorded, with_put, is_made, after_put}
+use Rattle.status_store.specs.Changes.{StoreValue, with_record, kept_record, set_as, reset_as, edited, recorded, with_put, is_made, after_put}
 use Rattle.status_store.specs.Objects.{is_of, stored_at, with_stored, without_stored}
 use Rattle.status_store.specs.Places.{Place, place_of, place_cmp, service_at}
 use Rattle.world_rules.specs.declared.step.Step.{Step}
@@ -30,7 +30,7 @@ use Rattle.world_trial.specs.Draws.{draws}
 use Rattle.world_trial.specs.Lines.{line_in, lines_in, keys_in, IsNumbered}
 use Rattle.world_trial.specs.Run.{is_made as is_made_in, after, step_in, after_draw, after_draws, trial_world}
 use Rattle.world_trial.specs.Services.{service_of}
-use Rattle.world_trial.proofs.Sets.{Sets, step-sets}
+use Rattle.world_trial.proofs.Sets.{EditSets, Sets, step-sets}
 
 -- a service is one of the 48
 abbrev IsOurs : Object → Type 0
@@ -91,8 +91,9 @@ ours-put put outcome store all =
     (λ _. ours-with_put (stored_at store.objects (service_at put.key)) _ put store.objects (ours-at store.objects (service_at put.key) all) all)
     (λ _. all)
 
-ours-edited : (edit : Edit) (store : StoreValue) → OnSet edit IsOurs → AreOurs store.objects → AreOurs (edited edit store).objects
-ours-edited (Set object) store sets all = ours-with store.objects (set_as store object) (ours-record (kept_record (stored_at store.objects (place_of object))) object sets) all
+ours-edited : (edit : Edit) (store : StoreValue) → EditSets IsOurs edit → AreOurs store.objects → AreOurs (edited edit store).objects
+ours-edited (Set object) store sets all = ours-with store.objects (set_as store object) (ours-record (kept_record (stored_at store.objects (place_of object))) object sets.0) all
+ours-edited (Reset object) store sets all = ours-with store.objects (reset_as store object) sets.1 all
 ours-edited (Delete kind key) store sets all = ours-without store.objects (kind, key) all
 
 -- ---- worlds

@@ -1,4 +1,4 @@
--- Every world of a trial is good, and so safe.
+-- Every world of a trial is one that `World` makes, and so safe.
 use Rattle.std.proofs.Common.{◌≡◌, true, ◌<◌, ◌+◌, ◌%◌, ℕ, nat_lt, List, [], ◌∷◌, Option, Some, None, is_some, codes, refl, arith}
 use Rattle.std.proofs.lemmas.Bool.{cond_both}
 use Rattle.std.proofs.lemmas.Str.{IsUtf8-from_is_utf8, IsUtf8-nil}
@@ -9,21 +9,23 @@ use Rattle.kube_labels.specs.Pairs.{IsAscending}
 use Rattle.kube_model.specs.declared.object.Object.TheVariants as objects
 use Rattle.sharing_terms.specs.Marked.{AreTexts}
 use Rattle.status_store.specs.declared.change.Edit.{Edit}
-use Rattle.status_store.specs.declared.change.Edit.TheVariants.{Set, Delete}
-use Rattle.status_store.specs.Changes.{OnSet, empty_store}
+use Rattle.status_store.specs.declared.change.Edit.TheVariants.{Set, Reset, Delete}
+use Rattle.status_store.specs.Changes.{empty_store}
 use Rattle.ctl_world.proofs.TermLaws.{terms-are}
 use Rattle.world_rules.specs.declared.step.Step.{Step}
 use Rattle.world_rules.specs.declared.step.Step.TheVariants.{Edit as Edits, Take, Turn, Crash, Restart, Expire}
-use Rattle.world_rules.specs.Good.{IsGood}
+use Rattle.world_rules.specs.Good.{IsGood, IsOwn}
 use Rattle.world_rules.specs.Safe.{HasTerms, SetsTerms, StepsTerms}
 use Rattle.world_rules.specs.World.{WorldValue, world_step, store_of}
 use Rattle.world_rules.proofs.Storing.{good-store_of}
-use Rattle.world_rules.proofs.Worlds.{starts_are_good, steps_keep_good}
+use Rattle.world_rules.proofs.Own.{starts_are_own, steps_are_moves, steps_keep_own, stores_have_terms}
+use Rattle.world_rules.proofs.Worlds.{steps_keep_good}
 use Rattle.world_trial.specs.Begun.{first_pools, first_world}
 use Rattle.world_trial.specs.Draws.{draws}
 use Rattle.world_trial.specs.Run.{is_made, after, step_in, after_draw, after_draws, trial_world}
 use Rattle.world_trial.specs.Services.{share_key_of, selector_of, numbered, service_of}
-use Rattle.world_trial.proofs.Sets.{Sets, step-sets}
+use Rattle.world_trial.proofs.Making.{made-is}
+use Rattle.world_trial.proofs.Sets.{EditSets, Sets, step-sets}
 
 -- ---- services
 
@@ -65,8 +67,9 @@ service-terms y z =
 
 -- ---- steps
 
-edit-typed : (edit : Edit) → OnSet edit HasTerms → SetsTerms edit
-edit-typed (Set object) t = t
+edit-typed : (edit : Edit) → EditSets HasTerms edit → SetsTerms edit
+edit-typed (Set object) t = t.0
+edit-typed (Reset object) t = t.1
 edit-typed (Delete kind key) t = tt
 
 typed : (step : Step) → Sets HasTerms step → StepsTerms step
@@ -79,22 +82,30 @@ typed (Expire group) t = tt
 
 -- ---- worlds
 
-good-after : (step : Option Step) (w : WorldValue) → IfSome step (Sets HasTerms) → IsGood w → IsGood (after step w)
-good-after None w sets good = good
-good-after (Some step) w sets good =
-    cond_both (is_made step w) (world_step step w) w IsGood (λ _. steps_keep_good w step (typed step sets) good) (λ _. good)
+abbrev IsMade : WorldValue → Type 0
+IsMade w = IsGood w × IsOwn w
 
-good-draw : (x : ℕ) (w : WorldValue) → IsGood w → IsGood (after_draw x w)
+step-made : (step : Step) (w : WorldValue) → StepsTerms step → is_made step w ≡ true → IsMade w → IsMade (world_step step w)
+step-made step w typed made both =
+    let move = steps_are_moves w step ((made-is step w both.0.stored.kept).0 made).0 both.1 in
+    (steps_keep_good w (world_step step w) move.0 move.1 both.0, steps_keep_own w step typed both.0 both.1)
+
+made-after : (step : Option Step) (w : WorldValue) → IfSome step (Sets HasTerms) → IsMade w → IsMade (after step w)
+made-after None w sets both = both
+made-after (Some step) w sets both =
+    cond_both (is_made step w) (world_step step w) w IsMade (λ made. step-made step w (typed step sets) made both) (λ _. both)
+
+made-draw : (x : ℕ) (w : WorldValue) → IsMade w → IsMade (after_draw x w)
 unfolding after_draw
-good-draw x w good = good-after (step_in x w) w (step-sets HasTerms (λ y z few. service-terms y z) x (is_some w.core)) good
+made-draw x w both = made-after (step_in x w) w (step-sets HasTerms (λ y z few. service-terms y z) x (is_some w.core)) both
 
-good-draws : (xs : List ℕ) (w : WorldValue) → IsGood w → IsGood (after_draws xs w)
-good-draws [] w good = good
-good-draws (x ∷ xs) w good = good-draws xs (after_draw x w) (good-draw x w good)
+made-draws : (xs : List ℕ) (w : WorldValue) → IsMade w → IsMade (after_draws xs w)
+made-draws [] w both = both
+made-draws (x ∷ xs) w both = made-draws xs (after_draw x w) (made-draw x w both)
 
-good-first : IsGood first_world
+made-first : IsMade first_world
 unfolding first_world
-good-first = starts_are_good None (store_of first_pools empty_store) (good-store_of first_pools (tt, (tt, tt)))
+made-first = starts_are_own None (store_of first_pools empty_store) (good-store_of first_pools) (stores_have_terms first_pools (tt, (tt, tt))).0
 
 pub good-trial : (seed n : ℕ) → IsGood (trial_world seed n)
-good-trial seed n = good-draws (draws seed n) first_world good-first
+good-trial seed n = (made-draws (draws seed n) first_world made-first).0

@@ -4,15 +4,20 @@ use Rattle.std.proofs.lemmas.Bool.{cond_both}
 use Rattle.std.specs.Prelude.{IfSome, ⊤}
 use Rattle.kube_model.specs.declared.object.Object.{Object}
 use Rattle.kube_model.specs.declared.object.Object.TheVariants as objects
-use Rattle.status_store.specs.Changes.{OnSet}
+use Rattle.status_store.specs.declared.change.Edit.{Edit}
+use Rattle.status_store.specs.Changes.{OnSet, OnReset}
 use Rattle.world_rules.specs.declared.step.Step.{Step}
 use Rattle.world_rules.specs.declared.step.Step.TheVariants.{Edit as Edits, Take, Turn, Crash, Restart, Expire}
 use Rattle.world_trial.specs.Drawn.{edit_of, crash_of, step_up, step_down, step_by, step_of}
 use Rattle.world_trial.specs.Services.{service_of}
 
--- where the step sets an object, this holds of it
+-- where an edit sets an object, this holds of it
+abbrev pub EditSets : (Object → Type 0) → Edit → Type 0
+EditSets P edit = OnSet edit P × OnReset edit P
+
+-- and so it is of a step
 abbrev pub Sets : (Object → Type 0) → Step → Type 0
-Sets P (Edits edit) = OnSet edit P
+Sets P (Edits edit) = EditSets P edit
 Sets P (Take group) = ⊤
 Sets P (Turn outcome) = ⊤
 Sets P (Crash applied) = ⊤
@@ -23,8 +28,8 @@ module _ (P : Object → Type 0) (services : (y z : ℕ) → y < 48 → P (objec
   abbrev May : Option Step → Type 0
   May step = IfSome step (Sets P)
 
-  edit-sets : (k y z : ℕ) → y < 48 → OnSet (edit_of k y z) P
-  edit-sets k y z few = cond_both (nat_lt k 3) _ _ (λ edit. OnSet edit P) (λ _. services y z few) (λ _. tt)
+  edit-sets : (k y z : ℕ) → y < 48 → EditSets P (edit_of k y z)
+  edit-sets k y z few = cond_both (nat_lt k 3) _ _ (EditSets P) (λ _. (services y z few, tt)) (λ _. (tt, tt))
 
   crash-sets : (z : ℕ) → May (crash_of z)
   crash-sets z = cond_both (z == 0) _ _ May (λ _. tt) (λ _. cond_both (z == 1) _ _ May (λ _. tt) (λ _. tt))

@@ -1,7 +1,7 @@
 use Rattle.std.proofs.Common.{◌≡◌, Bool, false}
 use Rattle.status_store.specs.Objects.{IsAbsent, SameElsewhere}
-use Rattle.status_store.specs.Changes.{StoreValue, SetsObject, OnSet, OnDelete, edited_place}
-use Rattle.status_store.proofs.EditLaws.{edit-absent, edit-unchanged, edit-set, edit-deleted, edit-others}
+use Rattle.status_store.specs.Changes.{StoreValue, SetsObject, OnSet, ResetsObject, OnReset, OnDelete, edited_place}
+use Rattle.status_store.proofs.EditLaws.{edit-absent, edit-unchanged, edit-set, edit-reset, edit-deleted, edit-others}
 use Rattle.status_store.proofs.Results.{if_ok-same, on_ok-same, if_ok-both}
 use Rattle.status_store.proofs.store.Store.edit.Goals as goal
 
@@ -18,6 +18,11 @@ pub returns-clause-set : goal.returns-clause-set
 returns-clause-set c =
     on_ok-same _ _ _ (λ (new : StoreValue). OnSet c.args.edit (λ object. SetsObject object c.args.self.now new)) c.edit_exactly.ensures.store
     (edit-set c.args.edit c.args.self.now c.edit_exactly.ensures.kept)
+
+pub returns-clause-reset : goal.returns-clause-reset
+returns-clause-reset c =
+    on_ok-same _ _ _ (λ (new : StoreValue). OnReset c.args.edit (λ object. ResetsObject object c.args.self.now new)) c.edit_exactly.ensures.store
+    (edit-reset c.args.edit c.args.self.now c.edit_exactly.ensures.kept)
 
 pub returns-clause-deleted : goal.returns-clause-deleted
 returns-clause-deleted c =

@@ -1,0 +1,167 @@
+-- What may happen in a cluster. It is wider than what `World` does in all that an API server and its watches are free in: records that are
+-- emptied, lists in any order, and whatever is shown of the configuration.
+use Rattle.std.specs.Prelude.{◌≡◌, ◌+◌, ℕ, Bool, true, List, [], ◌∷◌, ◌++◌, map, filter, Option, Some, None, ⊤}
+use Rattle.std.specs.Option.{option_map}
+use Rattle.kube_model.specs.declared.event.Event.{Event}
+use Rattle.kube_model.specs.declared.event.Event.TheVariants.{ListEnd}
+use Rattle.kube_model.specs.declared.event.Group.{Group}
+use Rattle.kube_model.specs.declared.event.Group.TheVariants as groups
+use Rattle.kube_model.specs.declared.key.Key.{Key}
+use Rattle.kube_model.specs.declared.object.Kind.{Kind}
+use Rattle.kube_model.specs.declared.object.Object.{Object}
+use Rattle.kube_model.specs.declared.put.Put.{Put}
+use Rattle.kube_model.specs.declared.record.Record.{Record}
+use Rattle.kube_model.specs.Kinds.{kind_of, group_of}
+use Rattle.kube_model.specs.Records.{is_assigned}
+use Rattle.status_store.specs.declared.change.Edit.TheVariants.{Delete}
+use Rattle.status_store.specs.declared.change.Outcome.{Outcome}
+use Rattle.status_store.specs.declared.stored.Stored.{Stored}
+use Rattle.status_store.specs.Places.{place_of}
+use Rattle.status_store.specs.Objects.{stored_at, with_stored}
+use Rattle.status_store.specs.Changes.{StoreValue, kept_record, with_record, reply_to}
+use Rattle.core_rules.specs.Core.{State, fresh}
+use Rattle.core_rules.specs.Take.{core_take}
+use Rattle.core_rules.specs.Turn.{core_turn, put_in}
+use Rattle.core_rules.specs.Run.{Entry, Took, Expired, Turned, Heard}
+use Rattle.core_laws.specs.Shared.{AllShowTerms}
+use Rattle.world_rules.specs.Good.{IsOfGroup}
+use Rattle.world_rules.specs.World.{WorldValue, as_shown, is_of_group, while_up, to_lane, after_edit, after_take, after_turning, after_crash, lapsed}
+
+pub data Move : Type 0 where
+  Sets : (object : Object) (holding : Record) → Move  -- somebody sets an object; a service is stored with this record
+  Deletes : (kind : Kind) (key : Key) → Move  -- somebody deletes an object
+  Tells : (event : Event) → Move  -- the controller is shown something of the configuration
+  Takes : Move  -- it takes the next event of the services
+  Turns : (outcome : Outcome) → Move  -- it makes a turn; where it wants a put, the put goes so, and its reply is heard
+  Stops : (applied : Bool) → Move  -- it stops; the put that its next turn would want has reached the store, if it is applied
+  Starts : (list : List Event) → Move  -- it is started anew, and is going to be shown this list of the services
+  ConfigLapses : Move  -- the watch of the configuration expires
+  ServicesLapse : (list : List Event) → Move  -- that of the services does, and this list is going to be shown
+
+-- ---- which moves there are
+
+-- these events, in any order
+abbrev pub InAnyOrder : List Event → List Event → Type 0
+InAnyOrder [] lane = lane ≡ []
+InAnyOrder (event ∷ more) lane =
+    (before : List Event) × (behind : List Event) × (lane ≡ before ++ event ∷ behind) × InAnyOrder more (before ++ behind)
+
+-- a list of the services: one event for each that is stored, in any order, and the end behind them
+abbrev pub IsListOf : StoreValue → List Event → Type 0
+IsListOf store list =
+    (shown : List Event) × (list ≡ shown ++ ListEnd groups.Service ∷ []) × InAnyOrder (map as_shown (filter (is_of_group groups.Service) store.objects)) shown
+
+-- Where it has an address, the record of a service that is set is the one that is stored. Of the configuration the controller may be
+-- shown whatever is of it, pending or not, in any order and as often as may be.
+abbrev pub IsMove : Move → WorldValue → Type 0
+IsMove (Sets object holding) w = is_assigned holding ≡ true → holding ≡ kept_record (stored_at w.store.objects (place_of object))
+IsMove (Deletes kind key) w = ⊤
+IsMove (Tells event) w = IsOfGroup groups.Config event
+IsMove Takes w = ⊤
+IsMove (Turns outcome) w = ⊤
+IsMove (Stops applied) w = ⊤
+IsMove (Starts list) w = IsListOf w.store list
+IsMove ConfigLapses w = ⊤
+IsMove (ServicesLapse list) w = IsListOf w.store list
+
+-- ---- what each makes of a world
+
+-- what is stored of an object that is set with this record
+abbrev pub stored_with : StoreValue → Object → Record → Stored
+stored_with store object holding = record { version = store.counter + 1; object = with_record holding object }
+
+-- it is stored, and a controller that is up is going to be shown it
+abbrev pub after_set : Object → Record → WorldValue → WorldValue
+after_set object holding w =
+    let new : Stored = stored_with w.store object holding in
+    record w {
+      store = record { objects = with_stored new w.store.objects; counter = w.store.counter + 1 };
+      service_lane = w.service_lane ++ to_lane groups.Service (group_of (kind_of object)) (while_up w.core (as_shown new ∷ []));
+    }
+
+-- where the controller is down, it is started, and is going to be shown the list
+abbrev pub after_start : Option State → List Event → WorldValue → WorldValue
+after_start (Some s) list w = w
+after_start None list w = record w { service_lane = list; core = Some (fresh w.class) }
+
+-- the list takes the place of what was pending, where a controller is up
+abbrev pub relisted : Option State → List Event → List Event → List Event
+relisted None list pending = pending
+relisted (Some s) list pending = list
+
+abbrev pub after_move : Move → WorldValue → WorldValue
+after_move (Sets object holding) w = after_set object holding w
+after_move (Deletes kind key) w = after_edit (Delete kind key) w
+after_move (Tells event) w = record w { core = option_map (λ s. core_take s event) w.core }
+after_move Takes w = after_take groups.Service w
+after_move (Turns outcome) w = after_turning w.core outcome w
+after_move (Stops applied) w = after_crash applied w
+after_move (Starts list) w = after_start w.core list w
+after_move ConfigLapses w = record w { core = lapsed groups.Config w.core }
+after_move (ServicesLapse list) w = record w { service_lane = relisted w.core list w.service_lane; core = lapsed groups.Service w.core }
+
+-- ---- what each is to the core, the newest first
+
+-- it takes the first of these events
+abbrev pub entries_taken : Option State → List Event → List Entry
+entries_taken None events = []
+entries_taken (Some s) [] = []
+entries_taken (Some s) (event ∷ more) = Took event ∷ []
+
+-- its put, if it wants one, is answered
+abbrev pub entries_put : Option Put → Outcome → StoreValue → List Entry
+entries_put None outcome store = []
+entries_put (Some put) outcome store = Heard (reply_to put outcome store) ∷ []
+
+-- it makes a turn
+abbrev pub entries_turned : Option State → Outcome → StoreValue → List Entry
+entries_turned None outcome store = []
+entries_turned (Some s) outcome store = entries_put (put_in (core_turn s)) outcome store ++ Turned (core_turn s) ∷ []
+
+-- the watch of a list expires
+abbrev pub entries_lapsed : Option State → Group → List Entry
+entries_lapsed None group = []
+entries_lapsed (Some s) group = Expired group ∷ []
+
+abbrev pub entries_of : Move → WorldValue → List Entry
+entries_of (Sets object holding) w = []
+entries_of (Deletes kind key) w = []
+entries_of (Tells event) w = entries_taken w.core (event ∷ [])
+entries_of Takes w = entries_taken w.core w.service_lane
+entries_of (Turns outcome) w = entries_turned w.core outcome w.store
+entries_of (Stops applied) w = []
+entries_of (Starts list) w = []
+entries_of ConfigLapses w = entries_lapsed w.core groups.Config
+entries_of (ServicesLapse list) w = entries_lapsed w.core groups.Service
+
+-- ---- the relation, and lists of moves
+
+-- a world without what is pending of the configuration
+abbrev pub but_config : WorldValue → WorldValue
+but_config w = record w { config_lane = [] }
+
+-- One step from a world to the next: what the move makes of it, where services are shown terms that there can be. Nothing is said of what
+-- is pending of the configuration.
+pub record IsStep (old : WorldValue) (move : Move) (new : WorldValue) : Type 0 where
+  pub may : IsMove move old
+  pub typed : AllShowTerms (entries_of move old)
+  pub leads : but_config new ≡ but_config (after_move move old)
+
+-- each of the moves is one
+abbrev pub AreMoves : List Move → WorldValue → Type 0
+AreMoves [] w = ⊤
+AreMoves (move ∷ moves) w = IsMove move w × AreMoves moves (after_move move w)
+
+-- the world after these moves, the first of which stands first
+abbrev pub after_moves : List Move → WorldValue → WorldValue
+after_moves [] w = w
+after_moves (move ∷ moves) w = after_moves moves (after_move move w)
+
+-- all that the core was shown and did, behind an earlier run
+abbrev pub run_along : List Move → WorldValue → List Entry → List Entry
+run_along [] w earlier = earlier
+run_along (move ∷ moves) w earlier = run_along moves (after_move move w) (entries_of move w ++ earlier)
+
+-- a controller that was just started over a store, and is going to be shown this list of its services
+abbrev pub begun : Option (List ℕ) → StoreValue → List Event → WorldValue
+begun class store list = record { class = class; store = store; config_lane = []; service_lane = list; core = Some (fresh class) }

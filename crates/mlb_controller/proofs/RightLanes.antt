@@ -2,7 +2,7 @@
 use Rattle.std.proofs.Common.{◌≡◌, ℕ, List, [], ◌∷◌, ◌++◌, Option, None, Ok, refl, sym, subst, append_assoc}
 use Rattle.std.proofs.lemmas.List.{append-nil}
 use Rattle.std.specs.List.{AllByRecursion}
-use Rattle.core_drive.proofs.Goes.{begins_fresh, lapses_go_on, drives_are_sound, drives_are_quiet}
+use Rattle.core_drive.proofs.Goes.{begins_fresh, lapses_go_on, drives_are_sound}
 use Rattle.core_drive.specs.Drive.{Entry, lapsing}
 use Rattle.core_drive.specs.Sound.{LeadsTo}
 use Rattle.core_rules.specs.Core.{State, fresh}
@@ -22,7 +22,7 @@ use Rattle.lane_run.specs.Watched.{Begins, StopsAs}
 use Rattle.lane_run.specs.declared.lane_end.LaneEnd.TheVariants.{Done}
 use Rattle.mlb_controller.specs.LaneClauses.{TellsSound, LeavesServed}
 use Rattle.mlb_controller.specs.Lanes.{belongs_to, lane_arrival, lane_group, lane_rules}
-use Rattle.mlb_controller.proofs.Rightful.{GoesOn, by_driven, arrival_goes, where_goes, safe_led}
+use Rattle.mlb_controller.proofs.Rightful.{GoesOn, by_driven, arrival_goes, where_goes, safe_led, led_quiet}
 use Rattle.mlb_controller.proofs.Turning.{none_from}
 use Rattle.mlb_edge.specs.declared.lines.Line.{Line}
 
@@ -83,4 +83,4 @@ module _ (class : Option (List ℕ)) where
       let begin : AreBeginnings belongs_to first second whole.items =
       record { firsts = all_begins First first (items_of First whole.items) whole.firsts; seconds = all_begins Second second (items_of Second whole.items) whole.seconds } in
       let led = lanes_lead first second whole.items whole.heard whole.state whole.told begin whole.taken in
-      record { whole = whole; quiet = drives_are_quiet class (entries_of whole.told) whole.state led (none_from whole.state.out whole.quiet) }
+      record { whole = whole; quiet = led_quiet class (entries_of whole.told) whole.state led (none_from whole.state.out whole.quiet) }

@@ -11,9 +11,11 @@ use Rattle.kube_lines.specs.ReplyLines.{reply_of}
 use Rattle.core_rules.specs.Core.{State, fresh}
 use Rattle.core_rules.specs.Take.{limits}
 use Rattle.core_rules.specs.Run.{Entry as CoreEntry, IsRun}
+use Rattle.core_laws.specs.Shared.{AllShowTerms}
 use Rattle.core_drive.specs.Drive.{Driven, Entry, taking, hearing, core_entry, behind}
 use Rattle.core_drive.specs.Sound.{IsSound, LeadsTo}
 use Rattle.core_drive.proofs.Goes.{begins_fresh, events_go_on, replies_go_on, drives_are_sound, drives_are_quiet}
+use Rattle.core_drive.proofs.Settled.{drives_are_settled}
 use Rattle.world_rules.proofs.Explaining.{runs_are_safe_in_worlds}
 use Rattle.line_run.specs.Machine.{Step, Goes, Stops}
 use Rattle.line_run.specs.Run.{run_from, status_at}
@@ -21,7 +23,7 @@ use Rattle.line_run.proofs.Kept.{Kept, StopsIn, run-keeps}
 use Rattle.line_run.specs.RunOutput.{WritesOnly, StopsAs}
 use Rattle.mlb_edge.specs.declared.lines.Line.{Line}
 use Rattle.mlb_edge.specs.InputLines.{Ending, Whole, LongLine, LongInput, input_of}
-use Rattle.service_texts.proofs.EventTerms.{events_show_terms}
+use Rattle.service_texts.proofs.EventTerms.{events_show_terms, events_show_families}
 use Rattle.mlb_controller.specs.Causes.{line_causes}
 use Rattle.mlb_controller.specs.Stream.{goes_by, arrival, event_step, reply_step, step_where, controller_rules, end_of}
 use Rattle.mlb_controller.specs.Sound.{WritesSound, RunsSound, IsSafeThroughout, RunsSafe, LeavesNothing, EndsQuiet}
@@ -40,7 +42,7 @@ module _ (class : Option (List ℕ)) where
   within_goes : (b : Bool) (s : State) (bytes : List ℕ) (event : Event) → s.out ≡ None → event_of_line bytes ≡ Ok event → GoesOn s (cond b (Stops (Limit whats.Services 65537)) (goes_by (taking s event)))
   within_goes true s bytes event none reads next entries told e leads = absurd (cc)
   within_goes false s bytes event none reads next entries told e leads =
-      by_driven (taking s event) next entries told e (events_go_on class told s event leads none (events_show_terms bytes event reads))
+      by_driven (taking s event) next entries told e (events_go_on class told s event leads none (events_show_terms bytes event reads) (events_show_families bytes event reads))
 
   pub arrival_goes : (s : State) (bytes : List ℕ) (event : Event) → s.out ≡ None → event_of_line bytes ≡ Ok event → GoesOn s (arrival s event)
   arrival_goes s bytes event none reads = within_goes (limits s event) s bytes event none reads
@@ -77,9 +79,18 @@ module _ (class : Option (List ℕ)) where
   beginning_run [] later earlier is = begun_run later earlier is
   beginning_run (entry ∷ first) later earlier is = beginning_run first later (core_entry entry ∷ earlier) is
 
+  -- and what it was shown has terms
+  begun_terms : (later : List Entry) (earlier : List CoreEntry) → AllShowTerms (behind later earlier) → AllShowTerms earlier
+  begun_terms [] earlier all = all
+  begun_terms (entry ∷ later) earlier all = (begun_terms later (core_entry entry ∷ earlier) all).1
+
+  beginning_terms : (first later : List Entry) (earlier : List CoreEntry) → AllShowTerms (behind (first ++ later) earlier) → AllShowTerms (behind first earlier)
+  beginning_terms [] later earlier all = begun_terms later earlier all
+  beginning_terms (entry ∷ first) later earlier all = beginning_terms first later (core_entry entry ∷ earlier) all
+
   -- what leads to a core is safe in every world
   pub safe_led : (told : List Entry) (s : State) → LeadsTo class told s → IsSafeThroughout class told
-  safe_led told s leads first later e = runs_are_safe_in_worlds class (behind first []) (beginning_run first later [] (rw e at leads.is))
+  safe_led told s leads first later e = runs_are_safe_in_worlds class (behind first []) (beginning_run first later [] (rw e at leads.is)) (beginning_terms first later [] (rw e at leads.typed))
 
   -- and so is the stream
   safe_in : (lines : List Line) (ending : Ending) → IsSafeThroughout class (run_from controller_rules lines ending (fresh class)).entries
@@ -100,11 +111,14 @@ module _ (class : Option (List ℕ)) where
   done_in s (inr stopped) = absurd ((line_causes s stopped.0 Done stopped.1).0)
 
   -- and nothing is left waiting
+  pub led_quiet : (told : List Entry) (s : State) → LeadsTo class told s → s.out ≡ None → LeavesNothing class told
+  led_quiet told s leads none = record { quiet = drives_are_quiet class told s leads none; settled = drives_are_settled class told s leads none }
+
   quiet_in : (lines : List Line) (ending : Ending) → (run_from controller_rules lines ending (fresh class)).stop ≡ Done → LeavesNothing class (run_from controller_rules lines ending (fresh class)).entries
   quiet_in lines ending done =
       let led = leads_in lines ending in
       let stops : StopsIn controller_rules led.state Done = rw done at led.stops in
-      drives_are_quiet class (run_from controller_rules lines ending (fresh class)).entries led.state led.kept (done_in led.state stops)
+      led_quiet (run_from controller_rules lines ending (fresh class)).entries led.state led.kept (done_in led.state stops)
 
   pub sound_where_told : (left : Option (List ℕ)) → RunsSound class left
   sound_where_told None = tt

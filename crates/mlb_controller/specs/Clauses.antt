@@ -70,11 +70,11 @@ WritesSound words written out out' = AskRun (texts_of words) → sound.WritesSou
 abbrev pub RunsSound : {Z : Type 0} → List (String Z) → Option (List ℕ) → Type 0
 RunsSound words left = sound.RunsSound (class_of (texts_of words)) left
 
--- in every world that explains a beginning of the transcript, services recorded with one address share it
+-- in every world that explains a beginning of the transcript, services recorded with one address share it by their marks
 abbrev pub RunsSafe : {Z : Type 0} → List (String Z) → Option (List ℕ) → Type 0
 RunsSafe words left = sound.RunsSafe (class_of (texts_of words)) left
 
--- where the run is done, nothing is left waiting that could be served
+-- where the run is done, nothing is left waiting that could be served, and each settled service has its own
 abbrev pub EndsQuiet : {Z K : Type 0} → List (String Z) → Status → Option (List ℕ) → (K → Option (List ℕ)) → K → K → Type 0
 EndsQuiet words status left written out out' = AskRun (texts_of words) → status ≡ Done → sound.EndsQuiet (class_of (texts_of words)) left (written out) (written out')
 

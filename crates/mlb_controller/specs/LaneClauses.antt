@@ -61,7 +61,7 @@ pub record TellsSound (first second replies before after class : Option (List �
 abbrev pub LanesSound : (List ℕ → Option (List ℕ)) → (replies before after : Option (List ℕ)) → Option (List ℕ) → LaneNames → Type 0
 LanesSound bytes replies before after class files = TellsSound (bytes files.first) (bytes files.second) replies before after class
 
--- All that both files carry was taken, and nothing is left waiting that could be served.
+-- All that both files carry was taken, nothing is left waiting that could be served, and each settled service has its own.
 pub record LeavesServed (first second left left' before after class : Option (List ℕ)) : Type 0 where
   pub whole : lanes.TakesWhole belongs_to lane_rules (fresh class) first second left left' before after
   pub quiet : LeavesNothing class (entries_of whole.told)

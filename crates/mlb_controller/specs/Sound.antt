@@ -4,6 +4,7 @@ use Rattle.kube_model.specs.declared.status.Status.TheVariants.{Done}
 use Rattle.core_rules.specs.Core.{fresh}
 use Rattle.core_laws.specs.QuietShown.{IsQuietAsShown}
 use Rattle.core_drive.specs.Drive.{Entry, behind}
+use Rattle.core_drive.specs.Settled.{AllHaveTheirOwn}
 use Rattle.core_drive.specs.Sound.{IsSound}
 use Rattle.world_rules.specs.Explaining.{IsSafeInWorlds}
 use Rattle.mlb_edge.specs.declared.lines.Line.{Line}
@@ -13,8 +14,8 @@ use Rattle.line_run.specs.Text.{GrowsUpTo}
 use Rattle.line_run.specs.RunOutput.{text_by, StopsOn}
 use Rattle.mlb_controller.specs.Stream.{controller_rules}
 
--- In every world that explains a beginning of the transcript the core is the transcript's, and services recorded with one address share it,
--- also where a last put that has no reply yet reaches the store.
+-- In every world that explains a beginning of the transcript the core is the transcript's, and services recorded with one address share it by
+-- their marks, before and behind each move of the world, and also where a last put that has no reply yet reaches the store.
 abbrev pub IsSafeThroughout : Option (List ℕ) → List Entry → Type 0
 IsSafeThroughout class transcript = (earlier later : List Entry) → transcript ≡ earlier ++ later → IsSafeInWorlds class (behind earlier [])
 
@@ -36,9 +37,11 @@ abbrev pub RunsSafe : (class left : Option (List ℕ)) → Type 0
 RunsSafe class None = ⊤
 RunsSafe class (Some bytes) = IsSafeThroughout class (run_of controller_rules (fresh class) bytes).entries
 
--- nothing is left waiting that could be served, by what the transcript shows
-abbrev pub LeavesNothing : Option (List ℕ) → List Entry → Type 0
-LeavesNothing class transcript = IsQuietAsShown class (behind transcript [])
+-- Nothing is left waiting that could be served, by what the transcript shows; and each settled service has its own: what serves it, a reason
+-- that holds now, or, where it isn't of type LoadBalancer, no record.
+pub record LeavesNothing (class : Option (List ℕ)) (transcript : List Entry) : Type 0 where
+  pub quiet : IsQuietAsShown class (behind transcript [])
+  pub settled : AllHaveTheirOwn class (behind transcript [])
 
 -- Where the source doesn't tell its bytes: so it is with some lines whose run is done, and just its text was written.
 pub record SomeLeaveNothing (class before after : Option (List ℕ)) : Type 0 where

@@ -72,17 +72,18 @@ pub fn run_controller<
     // Over any input at all a beginning of the text of some lines' run was written, and that run is
     // sound: each put, each reason and each note is right by the transcript before it, no key is
     // chosen for too early, and at each moment two services that have or may have one address share
-    // it by their recorded terms, or the cluster showed it so. So is the run of the input, where the
+    // it by the terms of their claims, or the cluster showed it so. So is the run of the input, where the
     // source tells its bytes.
     ensures only { WritesSound words.now K.written out.old out.new }
     ensures sound { RunsSound words.now (S.left input.old) }
 
-    // Whatever store there is, whoever else edits it, and however late its changes are shown: where
-    // that explains what was read so far, services recorded with one address share it by their
-    // recorded terms, also where a last put that has no reply yet reached the store.
+    // Whatever store there is, whoever else edits it, in whatever order it is listed and however late its changes are shown: where
+    // that explains what was read so far, services recorded with one address share it by the terms of their marks, where both have
+    // one, at each moment, and also where a last put that has no reply yet reached the store.
     ensures safe { RunsSafe words.now (S.left input.old) }
 
-    // Where the run is done, no service is left waiting that could be served.
+    // Where the run is done, no service is left waiting that could be served. Each that is settled has what serves it, or a reason that
+    // holds now; or none, where it isn't of type LoadBalancer.
     ensures quiet { EndsQuiet words.now result (S.left input.old) K.written out.old out.new }
 
     // But for a fault or want of memory the status is that of the lines; and where all can be
@@ -105,15 +106,15 @@ pub fn run_controller<
         (K.written out.old) (K.written out.new) (K.faults out.old) (K.faults out.new) result) }
     ensures lane_can_end { OverLanes words.now (LaneCanEnd result) }
 
-    // Where it is done all that both carry was taken, with all lines of the input as replies to its puts, just its text was written, and no
-    // service is left waiting that could be served.
+    // Where it is done all that both carry was taken, with all lines of the input as replies to its puts, just its text was written, no
+    // service is left waiting that could be served, and each that is settled has its own, as in one stream.
     ensures lanes_done { OverLanes words.now (LanesDone (F.bytes files.old) result
         (S.left input.old) (S.left input.new) (K.written out.old) (K.written out.new)) }
     ensures lanes_quiet { OverLanes words.now (LanesQuiet (F.bytes files.old) result
         (S.left input.old) (S.left input.new) (K.written out.old) (K.written out.new)) }
 
     // However it ends, and in whatever order the events of both came, a beginning of the text of what was taken was written. That is sound, as
-    // a run over one stream is, and in every world that explains it services recorded with one address share it by their recorded terms.
+    // a run over one stream is, and in every world that explains it services recorded with one address share it by the terms of their marks.
     ensures lanes_sound { OverLanes words.now (LanesSound (F.bytes files.old) (S.left input.old) (K.written out.old) (K.written out.new)) }
 
     // Where all can be taken in whatever order it comes, with a reply to each put and no line behind the last, and no count of faults rises,

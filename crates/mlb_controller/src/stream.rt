@@ -54,17 +54,18 @@ pub fn stream_controller<S: PacedSource<K>, K: Sink>(
     // Over any input at all a beginning of the text of some lines' run was written, and that run is
     // sound: each put, each reason and each note is right by the transcript before it, no key is
     // chosen for too early, and at each moment two services that have or may have one address share
-    // it by their recorded terms, or the cluster showed it so. So is the run of the input, where the
+    // it by the terms of their claims, or the cluster showed it so. So is the run of the input, where the
     // source tells its bytes.
     ensures only { WritesSound words.now K.written out.old out.new }
     ensures sound { RunsSound words.now (S.left input.old) }
 
-    // Whatever store there is, whoever else edits it, and however late its changes are shown: where
-    // that explains what was read so far, services recorded with one address share it by their
-    // recorded terms, also where a last put that has no reply yet reached the store.
+    // Whatever store there is, whoever else edits it, in whatever order it is listed and however late its changes are shown: where
+    // that explains what was read so far, services recorded with one address share it by the terms of their marks, where both have
+    // one, at each moment, and also where a last put that has no reply yet reached the store.
     ensures safe { RunsSafe words.now (S.left input.old) }
 
-    // Where the run is done, no service is left waiting that could be served.
+    // Where the run is done, no service is left waiting that could be served. Each that is settled has what serves it, or a reason that
+    // holds now; or none, where it isn't of type LoadBalancer.
     ensures quiet { EndsQuiet words.now result (S.left input.old) K.written out.old out.new }
 
     // But for a fault or want of memory the status is that of the lines; and where all can be

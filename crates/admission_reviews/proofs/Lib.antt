@@ -1,0 +1,2 @@
+pub mod ResponseTexts
+pub mod Found

@@ -1,0 +1,6 @@
+pub mod Causes
+pub mod Clauses
+pub mod Judged
+pub mod Stream
+pub mod Told
+pub mod Words

@@ -1,0 +1,11 @@
+pub mod Families
+pub mod FieldReads
+pub mod KindLaws
+pub mod LineLaws
+pub mod ObjectLaws
+pub mod Parts
+pub mod Places
+pub mod RowReads
+pub mod Texts
+pub mod TypeReads
+pub mod Types

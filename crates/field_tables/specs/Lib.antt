@@ -1,0 +1,10 @@
+pub mod Standing
+pub mod FieldTypes
+pub mod Told
+pub mod Tables
+pub mod Objects
+pub mod Events
+pub mod FieldLaws
+pub mod Laws
+pub mod Lines
+pub mod RowLaws

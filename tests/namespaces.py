@@ -76,7 +76,7 @@ class Host:
         return process
 
     def run(self, *words):
-        return subprocess.run(["ip", "netns", "exec", self.name, *words], capture_output=True, timeout=20)
+        return subprocess.run(["ip", "netns", "exec", self.name, *words], capture_output=True, timeout=300)
 
     def kill(self):
         """What happens to a host whose power goes: the link is down, and nothing ends in order."""

@@ -5,6 +5,7 @@ import json
 import urllib.parse
 
 LONGEST = 2 ** 24
+ANSWER_WAIT, SILENCE = 120.0, 300.0  # seconds for an answer's head, and for its body; and in which something of a watch must come, if only a bookmark
 
 
 class NotSent(Exception):
@@ -33,7 +34,8 @@ class Api:
         sent = b"" if body is None else json.dumps(body).encode()
         async with self.exchange(method, path, sent, kind) as (status, pieces):
             with whole():
-                text = b"".join([piece async for piece in pieces])
+                async with asyncio.timeout(ANSWER_WAIT):
+                    text = b"".join([piece async for piece in pieces])
                 return status, json.loads(text or b"{}")
 
     async def lines(self, path):
@@ -57,13 +59,14 @@ class Api:
             raise NotSent(str(fault)) from fault
         try:
             with whole():
-                writer.write(self.head(method, path, body, kind) + body)
-                await writer.drain()
-                status = int((await reader.readline()).split()[1])
-                headers = {}
-                while line := (await reader.readline()).strip():
-                    name, _, value = line.decode().partition(":")
-                    headers[name.lower()] = value.strip()
+                async with asyncio.timeout(ANSWER_WAIT):
+                    writer.write(self.head(method, path, body, kind) + body)
+                    await writer.drain()
+                    status = int((await reader.readline()).split()[1])
+                    headers = {}
+                    while line := (await reader.readline()).strip():
+                        name, _, value = line.decode().partition(":")
+                        headers[name.lower()] = value.strip()
             yield status, pieces_of(reader, headers)
         finally:
             writer.close()
@@ -80,12 +83,13 @@ def whole():
     try:
         yield
     except (OSError, EOFError, ValueError, IndexError) as fault:
-        raise Broken("the connection ended without a whole answer") from fault
+        raise Broken("the connection ended, or nothing more came of it, without a whole answer") from fault
 
 
 async def next_of(pieces):
     with whole():
-        return await anext(pieces, b"")
+        async with asyncio.timeout(SILENCE):
+            return await anext(pieces, b"")
 
 
 async def pieces_of(reader, headers):

@@ -1,6 +1,5 @@
 """What all parts use: a word to the operator, a reason to stop, and tasks that end together."""
 import asyncio
-import contextlib
 import sys
 
 
@@ -16,11 +15,16 @@ def tell(text):
     print(text, file=sys.stderr, flush=True)
 
 
-@contextlib.asynccontextmanager
-async def together():
-    """A group of tasks. Where one fails the others are cancelled, and its failure is raised as it is."""
+async def together(*parts):
+    """Runs the parts until all have ended or one fails, whose failure is raised as it is. The others are cancelled then. Where this is cancelled while
+    a part fails, it ends as cancelled: of a TaskGroup (Python 3.11) only the failure is heard then, and what is to end goes on."""
+    tasks = [asyncio.ensure_future(part) for part in parts]
     try:
-        async with asyncio.TaskGroup() as group:
-            yield group
-    except BaseExceptionGroup as failures:
-        raise failures.exceptions[0] from failures
+        await asyncio.wait(tasks, return_when=asyncio.FIRST_EXCEPTION)
+        failed = [task for task in tasks if task.done() and not task.cancelled() and task.exception()]
+    finally:
+        for task in tasks:
+            task.cancel()
+        await asyncio.gather(*tasks, return_exceptions=True)
+    if failed:
+        raise failed[0].exception()

@@ -3,24 +3,23 @@ import asyncio
 import contextlib
 
 from api import Api, Broken, NotSent
-from common import Stop, tell, together
+from common import tell, together
 from programs import Ended, forever, started
 from watches import SERVICE_PATHS, Watches, config_paths
 
 PATCH = "application/merge-patch+json"
 PAUSE = 1.0  # seconds before a put that wasn't sent is answered
+REFUSED = (403, 422)  # a put that is answered so isn't stored, and wouldn't be if it were made again
 
 
 def reply_to(status, answer):
     """The reply to a put that was answered. None: nobody knows whether it was stored."""
     if status == 200:
         return {"reply": "ok", "version": int(answer["metadata"]["resourceVersion"])}
-    if status == 409:
+    if status == 409 or status in REFUSED:
         return {"reply": "stale"}
     if status == 404:
         return {"reply": "missing"}
-    if status in (403, 422):
-        raise Stop(1, f"a put is refused for good: {status} {answer.get('message', '')}")
     return None
 
 
@@ -49,6 +48,8 @@ class Puts:
             status, answer = await self.api.request("PATCH", path, patch_of(put), PATCH)
             reply = reply_to(status, answer)
             problem = f"{status} {answer.get('message', '')}"
+            if status in REFUSED:
+                tell(f"{path}: refused for good, so {put['namespace']}/{put['name']} waits until it is changed: {problem}")
         except NotSent as fault:
             problem, pause = fault, min(self.wait, PAUSE)
         except Broken as fault:
@@ -84,13 +85,13 @@ async def run_once(options, api, puts):
     async with started(command, ["config", "service"], options) as program:
         lanes = program.lanes
         paths = {"config": config_paths(options.namespace), "service": SERVICE_PATHS}
+
+        async def give():
+            await program.open()
+            await together(*(Watches(api, lane, paths[name], puts.until_quiet).keep() for name, lane in lanes.items()))
+
         with contextlib.suppress(Ended, ConnectionError):
-            async with together() as group:
-                group.create_task(program.until_ended())
-                group.create_task(hear(program, puts))
-                await program.open()
-                for name, lane in lanes.items():
-                    group.create_task(Watches(api, lane, paths[name], puts.until_quiet).keep())
+            await together(program.until_ended(), hear(program, puts), give())
         return any(lane.taken for lane in lanes.values())
 
 

@@ -73,31 +73,38 @@ class Interface:
 
 
 class Link:
-    """A datagram socket in an interface's place: frames come by FOLDER/NODE-NAME, and go to FOLDER/hub."""
+    """Datagram sockets in an interface's place: frames come by FOLDER/NODE-NAME, and go from FOLDER/NODE-NAME.out to FOLDER/hub. None is lost."""
 
     def __init__(self, name, hardware, folder, node):
         self.name, self.hardware = name, hardware
         self.path, self.hub = os.path.join(folder, f"{node}-{name}"), os.path.join(folder, "hub")
-        with contextlib.suppress(FileNotFoundError):
-            os.unlink(self.path)
-        self.frames = socket.socket(socket.AF_UNIX, socket.SOCK_DGRAM)
-        self.frames.bind(self.path)
+        self.frames, self.out = self.bound(self.path), self.bound(self.path + ".out")
         self.frames.setblocking(False)
+
+    @staticmethod
+    def bound(path):
+        with contextlib.suppress(FileNotFoundError):
+            os.unlink(path)
+        made = socket.socket(socket.AF_UNIX, socket.SOCK_DGRAM)
+        made.bind(path)
+        return made
 
     async def received(self):
         return await asyncio.get_running_loop().sock_recv(self.frames, 65536)
 
     def send(self, frame):
+        """Waits while the hub has too many frames that it hasn't read."""
         with contextlib.suppress(OSError):
-            self.frames.sendto(frame, self.hub)
+            self.out.sendto(frame, self.hub)
 
     def join(self, addresses):
         """All frames come."""
 
     def close(self):
-        self.frames.close()
-        with contextlib.suppress(FileNotFoundError):
-            os.unlink(self.path)
+        for made, path in ((self.frames, self.path), (self.out, self.path + ".out")):
+            made.close()
+            with contextlib.suppress(FileNotFoundError):
+                os.unlink(path)
 
 
 def links_of(options):

@@ -89,6 +89,7 @@ async def started(command, names, options):
         # In a session of its own it isn't ended by the terminal, but by the bridge, which is.
         process = await asyncio.create_subprocess_exec(*command, *words, **pipes, start_new_session=True)
         tell(f"program started: {process.pid}")
+        options.trace("started", f"{process.pid}\n".encode())
         program = Program(process, lanes, options)
         try:
             yield program

@@ -57,10 +57,7 @@ class Session:
             for octets in self.table.messages():
                 writer.write(octets)
             self.writer = writer
-            async with together() as group:
-                group.create_task(self.receive(reader, hold))
-                if hold:
-                    group.create_task(self.repeat(writer, hold / 3))
+            await together(self.receive(reader, hold), *([self.repeat(writer, hold / 3)] if hold else []))
         except SessionEnded as ended:
             notice = ended.notice
             raise

@@ -12,7 +12,7 @@ from peers import Peers
 from programs import Ended, forever, started
 from watches import SERVICE_PATHS, SPEAKER_PATHS, Watches, config_paths
 
-LEAVE_WAIT = 2.0  # seconds for the own Lease's deletion
+LEAVE_WAIT = 10.0  # seconds for the own Lease's deletion
 
 
 async def hear(program, neighbors, peers):
@@ -75,15 +75,13 @@ async def run_once(options, api, members, links):
     async with started(command_of(options, links), ["watch", "frame"], options) as program:
         watch, frame = program.lanes["watch"], program.lanes["frame"]
         watches = Watches(api, watch, config_paths(options.namespace) | SERVICE_PATHS | SPEAKER_PATHS, note=peers.note)
+
+        async def give():
+            await program.open()
+            await together(watches.keep(), pass_members(members, watches, watch), *(pass_frames(link, frame) for link in links.values()))
+
         with contextlib.suppress(Ended, ConnectionError), contextlib.closing(neighbors), contextlib.closing(peers):
-            async with together() as group:
-                group.create_task(program.until_ended())
-                group.create_task(hear(program, neighbors, peers))
-                await program.open()
-                group.create_task(watches.keep())
-                group.create_task(pass_members(members, watches, watch))
-                for link in links.values():
-                    group.create_task(pass_frames(link, frame))
+            await together(program.until_ended(), hear(program, neighbors, peers), give())
         return bool(watch.taken)
 
 

@@ -40,6 +40,16 @@ def ends_list(event):
     return event["type"] == "BOOKMARK" and annotations.get("k8s.io/initial-events-end") == "true"
 
 
+def hold(held, event, line):
+    """Takes a line of a list that hasn't ended into those that are held back: the last one of each object that is there."""
+    metadata = event["object"]["metadata"]
+    key = metadata.get("namespace"), metadata.get("name")
+    if event["type"] == "DELETED":
+        held.pop(key, None)
+    elif event["type"] != "BOOKMARK":
+        held[key] = line
+
+
 class Watches:
     """`until_quiet` waits until no request of a put is out. `note` is told of each line's number and event ahead of its being given."""
 
@@ -60,10 +70,7 @@ class Watches:
                 await self.until_quiet()
 
     async def follow_all(self):
-        async with together() as group:
-            group.create_task(self.tell_awaited())
-            for kind, path in self.paths.items():
-                group.create_task(self.follow(kind, path))
+        await together(self.tell_awaited(), *(self.follow(kind, path) for kind, path in self.paths.items()))
 
     async def tell_awaited(self):
         """Tells which first lists haven't ended, as long as there are such."""
@@ -74,9 +81,9 @@ class Watches:
 
     async def follow(self, kind, path):
         """Gives the lines of one watch, over as many connections as it takes."""
-        begun, version, told = False, None, None
+        version, told = None, None
         while True:
-            pause = PAUSE
+            pause, held = PAUSE, {}
             try:
                 query = NEXT.format(version) if self.lists[kind].is_set() else FIRST
                 async with contextlib.aclosing(self.api.lines(f"{path}?{query}")) as lines:
@@ -84,8 +91,8 @@ class Watches:
                         event = json.loads(line)
                         if event["type"] == "ERROR":
                             raise Expired()
-                        begun, told = True, None
-                        await self.pass_on(kind, event, line)
+                        told = None
+                        await self.pass_on(kind, event, line, held)
                         version = event["object"]["metadata"]["resourceVersion"]
             except (NotSent, Broken):
                 pass
@@ -96,21 +103,33 @@ class Watches:
                 if told != fault.status:
                     tell(f"no watch of {path}: {fault}")
                 told = fault.status
-            if begun and not self.lists[kind].is_set():
-                raise Expired()
             await asyncio.sleep(pause)
 
-    async def pass_on(self, kind, event, line):
-        """Gives one line. The end of the list of pools is held back until the first lists of the other configuration kinds have ended."""
-        ends = ends_list(event)
-        if ends and kind == "IPAddressPool":
+    async def pass_on(self, kind, event, line, held):
+        """Gives one line, or holds it back with the others of a list that hasn't ended: the server may show changes in it, and each object is to be given
+        once. So nothing was given of a list that breaks."""
+        if self.lists[kind].is_set():
+            await self.give(event, line)
+        elif not ends_list(event):
+            hold(held, event, line)
+        else:
+            for last in held.values():
+                await self.give(json.loads(last), last)
+            held.clear()
+            await self.end_list(kind, event, line)
+
+    async def end_list(self, kind, event, line):
+        """Gives the end of a list. That of the pools is held back until the first lists of the other configuration kinds have ended."""
+        if kind == "IPAddressPool":
             for other, ended in self.lists.items():
                 if other not in HOLD_NOTHING_BACK:
                     await ended.wait()
+        await self.give(event, line)
+        self.lists[kind].set()
+
+    async def give(self, event, line):
         self.note(self.lane.given + 1, event)
         await self.lane.give(line)
-        if ends:
-            self.lists[kind].set()
 
     async def until_listed(self):
         """Waits until all first lists have been given."""

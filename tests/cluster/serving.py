@@ -14,15 +14,17 @@ from store import Refused
 
 PATH = re.compile(r"/(?:api|apis/(?P<group>[^/]+))/(?P<version>[^/]+)(?:/namespaces/(?P<namespace>[^/]+)(?=/[^/]))?"
                   r"/(?P<plural>[^/]+)(?:/(?P<name>[^/]+))?(?:/(?P<sub>status))?$")
-BOOKMARK_SECONDS, LATE_SECONDS = 1, 0.03
+BOOKMARK_SECONDS, LOOK_SECONDS, LATE_SECONDS = 10, 1, 0.03  # until a bookmark is sent unasked, until a client that went is noticed, of a late event
 END = {"k8s.io/initial-events-end": "true"}
+BEHIND = 2, 10, 50  # changes that a list doesn't have at first
 
 
 class Faults:
-    """What goes wrong, each a share of the times that it could: replies to changes of a status that are lost, and watches that break, expire or are late."""
+    """What goes wrong, each a share of the times that it could: replies to changes of a status that are lost, watches that break, expire or are late, and
+    lists that show the last changes as such before their ends."""
 
-    def __init__(self, seed=0, puts=0.0, events=0.0):
-        self.random, self.puts, self.events, self.lock = random.Random(seed), puts, events, threading.Lock()
+    def __init__(self, seed=0, puts=0.0, events=0.0, lists=0.0):
+        self.random, self.puts, self.events, self.lists, self.lock = random.Random(seed), puts, events, lists, threading.Lock()
 
     def draw(self, share, *kinds):
         with self.lock:
@@ -33,6 +35,9 @@ class Faults:
 
     def of_event(self, _watch):
         return self.draw(self.events, "breaks", "expires", "is late")
+
+    def of_list(self, _kind):
+        return self.draw(self.lists, *BEHIND) or 0
 
 
 class Watch:
@@ -83,6 +88,7 @@ class Server(ThreadingHTTPServer):
         super().__init__((host, port), Handler)
         self.store, self.faults, self.log, self.stopping = store, faults or Faults(), log, False
         self.watches, self.on_watch = [], []  # told of each watch as it begins, the store locked
+        self.calls = 0
 
     @property
     def url(self):
@@ -92,11 +98,16 @@ class Server(ThreadingHTTPServer):
         threading.Thread(target=self.serve_forever, args=(0.05,), daemon=True).start()
         return self
 
-    def stop(self):
-        self.stopping = True
+    def call(self):
+        """Has each watch that wants bookmarks send one now."""
         with self.store.lock:
+            self.calls += 1
             for news in self.store.news.values():
                 news.notify_all()
+
+    def stop(self):
+        self.stopping = True
+        self.call()
         self.shutdown()
         self.server_close()
 
@@ -271,10 +282,12 @@ class Stream:
         self.server, self.store = handler.server, handler.server.store
 
     def run(self, version, marked, until):
-        """Goes on from the version, or begins with what there is. True where it ends as it should, False where it breaks."""
+        """Goes on from the version, or begins with what there is. True where it ends as it should, False where it breaks. A list whose end is marked may
+        begin with what there was a few changes ago, as that of a server whose cache is behind; these changes come then before its end."""
         store = self.store
         with store.lock:
-            items, listed = store.list(self.kind)
+            items, begun = store.list(self.kind, self.server.faults.of_list(self.kind) if marked else 0)
+            listed, missing = store.version, store.since(begun)
             self.watch = Watch(self.handler.headers.get("User-Agent", ""), self.kind, listed if version is None else None)
             self.watch.sent = listed if version is None else version
             self.server.watches.append(self.watch)
@@ -286,7 +299,7 @@ class Stream:
                 return self.expire(f"too old resource version: {version} ({store.oldest()})")
             if version is None:
                 version = listed
-                if not all(self.give("ADDED", item) for item in items if self.selection.has(item)):
+                if not all(self.give("ADDED", item) for item in items if self.selection.has(item)) or not self.give_changes(missing):
                     return False
                 self.watch.ended = True
                 if marked and self.bookmarks:
@@ -297,30 +310,33 @@ class Stream:
                 self.server.watches.remove(self.watch)
 
     def follow(self, version, until):
-        store, quiet = self.store, time.monotonic() + BOOKMARK_SECONDS
+        store, answered = self.store, self.server.calls
+        quiet, look = time.monotonic() + BOOKMARK_SECONDS, time.monotonic() + LOOK_SECONDS
         while not self.server.stopping and time.monotonic() < until:
             with store.lock:
-                if store.latest[self.kind] <= version:
-                    store.news[self.kind].wait(max(0, min(quiet, until) - time.monotonic()))
+                if store.latest[self.kind] <= version and answered == self.server.calls:
+                    store.news[self.kind].wait(max(0, min(quiet, look, until) - time.monotonic()))
                 changes, old = store.since(version), version < store.oldest()
-                version = store.version
+                version, is_called, answered = store.version, answered != self.server.calls, self.server.calls
                 if not old:
                     self.watch.sent = version
             if old:
                 return self.expire("too old resource version")
-            for change in changes:
-                if change.kind != self.kind:
-                    continue
-                event = self.event_of(change)
-                if event and not self.give(*event):
-                    return False
-            if time.monotonic() > quiet:
+            if not self.give_changes(changes):
+                return False
+            if time.monotonic() > look:
                 if self.gone():
                     return False
-                if self.bookmarks:
-                    self.bookmark(version, {})
+                look = time.monotonic() + LOOK_SECONDS
+            if self.bookmarks and (is_called or time.monotonic() > quiet):
+                self.bookmark(version, {})
                 quiet = time.monotonic() + BOOKMARK_SECONDS
         return True
+
+    def give_changes(self, changes):
+        """Writes those of the changes that are to be shown. False where the watch breaks or expires ahead of one."""
+        events = (self.event_of(change) for change in changes if change.kind == self.kind)
+        return all(self.give(*event) for event in events if event)
 
     def event_of(self, change):
         """The change as one of the objects selected: one that isn't selected any more is told as deleted."""

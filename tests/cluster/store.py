@@ -71,11 +71,14 @@ class Store:
                 raise Refused(404, f'{kind.plural} "{key[1]}" not found')
             return found
 
-    def list(self, kind, namespace=None):
-        """The objects in the order of a list, and the version at which they are so."""
+    def list(self, kind, behind=0):
+        """The objects in the order of a list as they were so many changes ago, and the version at which they were so."""
         with self.lock:
-            keys = sorted((key for key in self.objects[kind] if namespace in (None, key[0])), key=list_order)
-            return [self.objects[kind][key] for key in keys], self.version
+            objects, version = dict(self.objects[kind]), max(0, self.version - behind)
+            for change in reversed(self.since(version)):
+                if change.kind == kind:
+                    objects[change.key] = change.old
+            return [objects[key] for key in sorted(objects, key=list_order) if objects[key]], version
 
     def oldest(self):
         """The least version at which a watch can go on."""
@@ -84,6 +87,11 @@ class Store:
     def since(self, version):
         """The changes after the version."""
         return self.changes[version:]  # each change takes one version
+
+    def latest_versions(self):
+        """The version of the last change of each kind but Leases, which change all the time."""
+        with self.lock:
+            return {kind: version for kind, version in self.latest.items() if kind.name != "Lease"}
 
     # What changes it
 

@@ -129,6 +129,8 @@ class Judge:
         if watch.listed is None:
             shown.watches.append(watch)
             return
+        if kind != "Service" and all(self.shown[one].watches for one in LANE):
+            self.moments = self.reached()  # what was shown before this list may have put other pools in force
         shown.watches, place = [watch], shown.at(watch.listed)
         if kind == "Service":
             self.forget()

@@ -12,6 +12,7 @@ from route_readers import table_after
 HOSTS = bytes.fromhex("0200ff")  # the beginning of the hardware addresses of the neighbors that ask
 HOST_V4, HOST_V6 = socket.inet_aton("192.0.2.250"), socket.inet_pton(socket.AF_INET6, "2001:db8::99")
 ALL_NODES = socket.inet_pton(socket.AF_INET6, "ff02::1")
+SEND_SECONDS = 10
 
 
 def checksum(source, target, message):
@@ -59,12 +60,14 @@ def unasked(address, hardware):
 
 
 class Links:
-    """The datagram sockets of a folder: each frame that is sent comes to `hub`, and is given with the link (NODE-INTERFACE) that sent it."""
+    """The datagram sockets of a folder: each frame that is sent comes to `hub`, and is given with the link (NODE-INTERFACE) that sent it. None is lost."""
 
     def __init__(self, folder):
         self.folder, self.asked, self.answers, self.told, self.lock = folder, 0, {}, {}, threading.Lock()
-        self.hub = socket.socket(socket.AF_UNIX, socket.SOCK_DGRAM)
-        self.hub.bind(os.path.join(folder, "hub"))
+        self.hub, self.own = (socket.socket(socket.AF_UNIX, socket.SOCK_DGRAM) for _ in range(2))
+        self.path, self.flushed = os.path.join(folder, "hub"), threading.Event()
+        self.hub.bind(self.path)
+        self.own.setsockopt(socket.SOL_SOCKET, socket.SO_SNDTIMEO, struct.pack("ll", SEND_SECONDS, 0))
         threading.Thread(target=self.listen, daemon=True).start()
 
     def listen(self):
@@ -73,11 +76,21 @@ class Links:
                 frame, sender = self.hub.recvfrom(65536)
             except OSError:
                 return
+            if not sender:
+                self.flushed.set()
+                continue
+            link = os.path.basename(sender).removesuffix(".out")
             with self.lock:
                 if frame[:3] == HOSTS:
-                    self.answers.setdefault(frame[:6], []).append((os.path.basename(sender), frame))
+                    self.answers.setdefault(frame[:6], []).append((link, frame))
                 else:
-                    self.told.setdefault(os.path.basename(sender), set()).add(frame)
+                    self.told.setdefault(link, set()).add(frame)
+
+    def flush(self):
+        """Waits until all frames that were sent so far were read."""
+        self.flushed.clear()
+        self.own.sendto(b"", self.path)
+        self.flushed.wait(SEND_SECONDS)
 
     def forget(self, node):
         """What the node told unasked so far."""
@@ -91,11 +104,11 @@ class Links:
         return HOSTS + struct.pack(">I", self.asked)[1:]
 
     def ask(self, frame):
-        """Gives the frame to each link that there is."""
+        """Gives the frame to each link that there is, and waits while one has too many that weren't read."""
         for link in os.listdir(self.folder):
-            if link != "hub":
+            if link != "hub" and not link.endswith(".out"):
                 try:
-                    self.hub.sendto(frame, socket.MSG_DONTWAIT, os.path.join(self.folder, link))
+                    self.own.sendto(frame, os.path.join(self.folder, link))
                 except OSError:
                     pass
 
@@ -105,6 +118,7 @@ class Links:
 
     def close(self):
         self.hub.close()
+        self.own.close()
 
 
 def message(kind, body):

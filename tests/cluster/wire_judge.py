@@ -6,14 +6,16 @@ from rules import Sight, compiled, name_of, printed, selects_node
 from wire import answer, question, unasked
 
 CONFIG = ("IPAddressPool", "L2Advertisement", "BGPAdvertisement", "BGPPeer", "Community")
-ANSWER_SECONDS, PATIENCE = 0.1, 10.0  # for answers that shouldn't come, once those came that should; and for those
+LAST_ASKED = (4, 0xC6120001)  # an address that no pool has
+PATIENCE, ASKED_AGAIN = 30.0, 1.0  # seconds in which all speakers must take note of the last question, and until it is asked once more
 
 
 class WireJudge:
-    """`nodes` is told by the world: of each node whose speaker runs its next hop and the hardware address of each interface."""
+    """`nodes` is told by the world: of each node whose speaker runs its next hop and the hardware address of each interface; and `followed` how far
+    each speaker has come (followed.py)."""
 
-    def __init__(self, store, links, routers, nodes):
-        self.store, self.links, self.routers, self.nodes = store, links, routers, nodes
+    def __init__(self, store, links, routers, nodes, followed):
+        self.store, self.links, self.routers, self.nodes, self.followed = store, links, routers, nodes, followed
         self.asked = 0
 
     def sight(self):
@@ -24,28 +26,46 @@ class WireJudge:
         return Sight(compiled(by_name), services, slices, by_name["Node"], sorted(self.nodes()))
 
     def left(self):
-        """What isn't as it must be, a line each."""
-        sight = self.sight()
-        addresses = sorted(sight.addresses() | {(4, 0xC0000201), (6, 0x20010DB8 << 96)})
-        return self.wrong_answers(sight, addresses) + self.untold(sight, addresses) + self.wrong_routes(sight)
+        """What isn't as it must be behind `ask`, a line each."""
+        return self.wrong_answers() + self.untold() + self.wrong_routes()
 
-    def wrong_answers(self, sight, addresses):
-        """A new neighbor asks each node for each address, and so knows the answers to its own questions however late they come."""
-        host, began = self.links.neighbor(), time.monotonic()
+    def ask(self):
+        """A new neighbor asks each node for each address, and last for one that nobody has: who took note of that has answered the others. The nodes
+        whose speakers don't take note."""
+        self.seen, self.host = self.sight(), self.links.neighbor()
+        self.addresses = sorted(self.seen.addresses() | {(4, 0xC0000201), (6, 0x20010DB8 << 96)})
+        for address in self.addresses:
+            self.links.ask(question(address, self.host))
+        self.asked += len(self.addresses)
+        return self.deaf_to(question(LAST_ASKED, self.host))
+
+    def wrong_answers(self):
+        sight, addresses, host = self.seen, self.addresses, self.host
         wanted = {(f"{node}-{interface}", answer(address, hardware, host)): address
                   for address in addresses for node, (_, interfaces) in self.nodes().items() for interface, hardware in interfaces.items()
                   if sight.listens(address, node, interface)}
-        for address in addresses:
-            self.links.ask(question(address, host))
-        self.asked += len(addresses)
-        while len(self.links.answered(host)) < len(wanted) and time.monotonic() < began + PATIENCE:
-            time.sleep(0.005)
-        time.sleep(ANSWER_SECONDS + time.monotonic() - began)
+        self.links.flush()
         got = self.links.answered(host)
         lines = [f"ANSWERED {link}: {self.text_of(frame, addresses)} is announced by {self.announcer(sight, frame, addresses)}: {frame.hex()}"
                  for link, frame in got if (link, frame) not in wanted]
         lines += [f"SILENT {link} for {printed(address)}" for (link, frame), address in wanted.items() if (link, frame) not in got]
         return lines + [f"TWICE {link}: {frame.hex()}" for link, frame in set(got) if got.count((link, frame)) > 1]
+
+    def deaf_to(self, last):
+        """Asks the last question, and waits until each speaker took note of it by each interface. The nodes whose speakers don't."""
+        followed, until = self.followed(), time.monotonic() + PATIENCE
+        for one in followed.values():
+            one.ask(last)
+        while time.monotonic() < until:
+            self.links.ask(last)
+            again = time.monotonic() + ASKED_AGAIN
+            for node, one in followed.items():
+                with one.news:
+                    one.news.wait_for(lambda: set(self.nodes()[node][1]) <= one.asked, max(0, again - time.monotonic()))
+            deaf = [node for node, one in followed.items() if not set(self.nodes()[node][1]) <= one.asked]
+            if not deaf:
+                break
+        return deaf
 
     @staticmethod
     def address_in(frame, addresses):
@@ -60,11 +80,11 @@ class WireJudge:
         found = self.address_in(frame, addresses)
         return (found and sight.announcer(found)) or "none"
 
-    def untold(self, sight, addresses):
+    def untold(self):
         """Addresses whose announcer has told nobody since it began."""
         lines, nodes = [], self.nodes()
-        for address in addresses:
-            node = sight.announcer(address)
+        for address in self.addresses:
+            node = self.seen.announcer(address)
             if node:
                 with self.links.lock:
                     told = any(unasked(address, hardware) in self.links.told.get(f"{node}-{interface}", ()) for interface, hardware in nodes[node][1].items())
@@ -72,8 +92,8 @@ class WireJudge:
                     lines.append(f"UNTOLD {printed(address)} by {node}")
         return lines
 
-    def wrong_routes(self, sight):
-        lines = []
+    def wrong_routes(self):
+        lines, sight = [], self.seen
         for peer in sight.config.peers:
             for node, (hop, _) in self.nodes().items():
                 tables = self.routers[name_of(peer)].tables(hop)

@@ -3,6 +3,7 @@ import contextlib
 import os
 import pathlib
 import random
+import re
 import signal
 import subprocess
 import sys
@@ -10,6 +11,8 @@ import tempfile
 import threading
 import time
 
+from followed import Followed
+from kinds import BY_NAME
 from serving import Faults, Server
 from store import Store
 from store_judge import Judge
@@ -19,22 +22,50 @@ from wire_judge import WireJudge
 
 TOP = pathlib.Path(__file__).resolve().parents[2]
 BRIDGE = TOP / "examples/bridge"
-PATIENCE = 60.0  # seconds in which all must be still
+PATIENCE = 300.0  # seconds in which all must be still; else there is no verdict
+TURNS, STAYS = 20, 3.0  # what is left is a difference once all programs took note so many times, and in so many seconds, that nothing changes any more
+SHORTEST_PAUSE, LONGEST_PAUSE = 0.02, 0.2  # seconds between two looks
+FIRST_PAUSE = 0.5  # seconds until the watches are called again for bookmarks where nothing came of it
+LONGEST_ROUND = 60.0  # seconds in which users edit
+NOT_STILL = "NOT STILL"
+NO_VERDICT = "WAITS"  # begins a line that tells why it can't be judged yet
+
+CONFIG_KINDS = ("IPAddressPool", "L2Advertisement", "BGPAdvertisement", "Community", "BGPPeer", "Namespace")
+LANES = {"controller": {"config": CONFIG_KINDS, "service": ("Service",)},
+         "speaker": {"watch": (*CONFIG_KINDS, "Node", "Service", "EndpointSlice")}}
 
 
 def program_of(name):
     return str(TOP / "crates" / name / "out" / name)
 
 
-class Bridge:
-    """A bridge, and which process is its program now. `program` is None from the end of one until the next has begun."""
+def text_of(lines):
+    """The lines without the frames in them, which tell of another neighbor each time."""
+    return [re.sub("[0-9a-f]{40,}", "", line) for line in lines or ()]
 
-    def __init__(self, words, started=lambda: None):
-        self.started = started
+
+class Bridge:
+    """A bridge, and which process is its program now. `program` is None from the end of one until the next has begun; `kinds` are those that its lanes
+    carry, by the lanes' names. Its trace is followed, and kept in a file where that is asked for."""
+
+    def __init__(self, words, kinds, started=lambda: None, kept=None):
+        self.kinds, self.started, self.followed = kinds, started, Followed()
+        trace, traced = os.pipe()
+        words = [*words, "--trace", f"/dev/fd/{traced}"]
         self.process = subprocess.Popen([sys.executable, str(BRIDGE), *words], stdin=subprocess.DEVNULL, stdout=subprocess.DEVNULL,
-                                        stderr=subprocess.PIPE, text=True)
+                                        stderr=subprocess.PIPE, text=True, pass_fds=[traced])
+        os.close(traced)
         self.program, self.runs, self.told, self.changed = None, 0, [], threading.Condition()
+        copy = open(kept, "ab") if kept else None
+        threading.Thread(target=self.followed.listen, args=(open(trace, "rb"), copy), daemon=True).start()
         threading.Thread(target=self.listen, daemon=True).start()
+
+    def turns(self, latest):
+        """How many times the program took note, of each kind, that nothing comes behind the versions."""
+        with self.changed:
+            if self.program is None or self.program != self.followed.pid:
+                return 0
+        return min(self.followed.turns(lane, kind, latest[BY_NAME[kind]]) for lane, kinds in self.kinds.items() for kind in kinds)
 
     def listen(self):
         for line in self.process.stderr:
@@ -71,13 +102,17 @@ class Bridge:
     def stop(self):
         self.process.send_signal(signal.SIGTERM)
         try:
-            self.process.wait(10)
+            self.process.wait(30)
         except subprocess.TimeoutExpired:
             self.end()
 
     def end(self):
         """kill -9 of the bridge and of what it started."""
-        started = [int(pid) for path in pathlib.Path(f"/proc/{self.process.pid}/task").glob("*/children") for pid in path.read_text().split()]
+        started = []
+        for path in pathlib.Path(f"/proc/{self.process.pid}/task").glob("*/children"):
+            # (a thread may end meanwhile)
+            with contextlib.suppress(OSError):
+                started += map(int, path.read_text().split())
         self.process.kill()
         self.process.wait()
         for pid in started:
@@ -88,8 +123,8 @@ class Bridge:
 class Plague(Faults):
     """Faults of requests and watches, and stops of the controller at the worst moments of its puts."""
 
-    def __init__(self, seed, puts, events, stops):
-        super().__init__(seed, puts, events)
+    def __init__(self, seed, puts, events, lists, stops):
+        super().__init__(seed, puts, events, lists)
         self.stops, self.stop = stops, lambda: None
 
     def of_put(self, agent, key):
@@ -99,34 +134,35 @@ class Plague(Faults):
         return super().of_put(agent, key)
 
     def calm(self):
-        self.puts = self.events = self.stops = 0.0
+        self.puts = self.events = self.lists = self.stops = 0.0
 
 
 class World:
-    """A cluster with a controller. `round` lets users edit and things go wrong for a while, and judges what is left once all is still."""
+    """A cluster with a controller. `round` lets users edit and things go wrong for a while, and judges what is left once all is still. A round has as many
+    edits as would come in so many seconds if they took no time; on a slow machine it takes longer."""
     SECONDS = 0.5, 2
 
     def __init__(self, seed, controller=None, trace=None):
         self.seed, self.random, self.patience, self.trace = seed, random.Random(seed), PATIENCE, trace
         self.store = Store(history=200)
-        self.faults = Plague(seed, 0.0, 0.0, 0.0)
+        self.faults = Plague(seed, 0.0, 0.0, 0.0, 0.0)
         self.server = Server(self.store, faults=self.faults).start()
         self.judge = Judge(self.server)
         self.users = Users(self.store, self.random)
         self.kills = self.speaker_kills = self.rounds = 0
         self.begin()
         self.users.begin()
-        words = ["--program", controller or program_of("mlb_controller"), "--unknown-wait", "0.05", *self.traced("controller")]
-        self.bridge = Bridge(["controller", "--server", self.server.url, *words])
+        words = ["--program", controller or program_of("mlb_controller"), "--unknown-wait", "0.05"]
+        self.bridge = Bridge(["controller", "--server", self.server.url, *words], LANES["controller"], kept=self.kept("controller"))
         self.bridge.until_started()
         self.faults.stop = self.stop_controller
 
     def begin(self):
         """What a cluster has besides."""
 
-    def traced(self, name):
-        """The words by which a bridge keeps the lines that it gives and hears, where that is asked for."""
-        return ["--trace", os.path.join(self.trace, f"{self.seed}-{name}")] if self.trace else []
+    def kept(self, name):
+        """The file that keeps the lines which a bridge gives and hears, where that is asked for."""
+        return os.path.join(self.trace, f"{self.seed}-{name}") if self.trace else None
 
     def stop_controller(self):
         self.kills += self.bridge.kill()
@@ -140,10 +176,11 @@ class World:
 
     def round(self):
         """One round; the lines of what is wrong."""
-        self.faults.puts, self.faults.events, self.faults.stops = 0.2, 0.03, 0.15
-        until = time.monotonic() + self.random.uniform(*self.SECONDS)
-        pace = self.random.choice([0.01, 0.03, 0.1])
-        while time.monotonic() < until and not self.judge.faults:
+        self.faults.puts, self.faults.events, self.faults.lists, self.faults.stops = 0.2, 0.03, 0.5, 0.15
+        until, pace = time.monotonic() + LONGEST_ROUND, self.random.choice([0.01, 0.03, 0.1])
+        for _ in range(round(self.random.uniform(*self.SECONDS) / pace)):
+            if time.monotonic() > until or self.judge.faults:
+                break
             self.users.edit()
             if self.random.random() < pace * 3:
                 self.harm()
@@ -154,22 +191,49 @@ class World:
         self.rounds += 1
         return self.still()
 
-    def left(self):
+    def bridges(self):
+        return [self.bridge]
+
+    def left(self, come):
+        """What is left to be done. `come`: whether all programs were shown all that there is."""
         return self.judge.left()
 
     def still(self):
-        """Waits until nothing is left to be done; what is wrong, or left after a while."""
-        until, left = time.monotonic() + self.patience, []
-        while time.monotonic() < until and not self.judge.faults:
-            left = self.left()
-            if not left:
-                return []
-            time.sleep(0.02)
-        return self.judge.faults or [*left, *self.bridge.told]
+        """Waits until nothing is left to be done; what is wrong. What is left counts as wrong only where it stays while the programs take note, over and
+        over, that nothing comes any more: how fast they are doesn't matter."""
+        begun, since, left, looked = time.monotonic(), (0.0, 0), None, 0
+        called, call_at, pause = None, 0.0, FIRST_PAUSE
+        while not self.judge.faults:
+            now, latest = time.monotonic(), self.store.latest_versions()
+            turns = min(bridge.turns(latest) for bridge in self.bridges())
+            if called != (turns, latest) or now > call_at:  # a program that is slow is called ever less often, so that it catches up
+                pause = 2 * pause if called == (turns, latest) else FIRST_PAUSE
+                called, call_at = (turns, latest), now + pause
+                self.server.call()
+            if not turns or turns != looked:
+                before, left = left, self.left(turns > 0)
+                if not left:
+                    return []
+                if turns <= looked or left[0].startswith(NO_VERDICT) or text_of(left) != text_of(before):
+                    since = now, turns
+                looked = turns
+                if now > since[0] + STAYS and turns >= since[1] + TURNS:
+                    return [*left, *self.bridge.told]
+            if now > begun + self.patience:
+                return [f"{NOT_STILL} after {self.patience} s, and so without a verdict", *left, *self.bridge.told]
+            time.sleep(min(LONGEST_PAUSE, SHORTEST_PAUSE + (now - begun) / 20))
+        return self.judge.faults
 
     def stop(self):
         self.bridge.stop()
         self.server.stop()
+
+
+def lease_seconds():
+    """How long a Lease lasts: three seconds, and on a slow machine up to thirty, so that no node counts as gone for being slow."""
+    begun = time.monotonic()
+    subprocess.run([sys.executable, "-c", "import asyncio"], check=True)
+    return max(3, min(30, round(15 * (time.monotonic() - begun))))
 
 
 class SpeakerWorld(World):
@@ -186,8 +250,8 @@ class SpeakerWorld(World):
         self.links = Links(self.folder.name)
         self.routers = {name: Router(lambda name=name: self.users.peer_number(name)) for name in ("q0", "q1")}
         self.users.router_ports = {name: router.port for name, router in self.routers.items()}
-        self.speakers = {}
-        self.wire = WireJudge(self.store, self.links, self.routers, self.running)
+        self.speakers, self.lease = {}, lease_seconds()
+        self.wire = WireJudge(self.store, self.links, self.routers, self.running, lambda: {node: bridge.followed for node, bridge in self.speakers.items()})
         self.users.begin_speakers()
         for node in NODES:
             self.start_speaker(node)
@@ -201,10 +265,11 @@ class SpeakerWorld(World):
         return {node: (f"10.0.0.{node[1:]}", self.hardware(node)) for node in self.speakers}
 
     def start_speaker(self, node):
-        words = ["--node-name", node, "--next-hop", f"10.0.0.{node[1:]}", "--lease-seconds", "3", "--bgp-retry", "0.2", *self.traced(node)]
+        words = ["--node-name", node, "--next-hop", f"10.0.0.{node[1:]}", "--lease-seconds", str(self.lease), "--bgp-retry", "0.2"]
         for name, hardware in self.hardware(node).items():
             words += ["--interface", f"{name}={hardware.hex(':')}", "--link", f"{name}={self.folder.name}"]
-        self.speakers[node] = Bridge(["speaker", "--server", self.server.url, "--program", self.speaker, *words], lambda: self.links.forget(node))
+        words = ["speaker", "--server", self.server.url, "--program", self.speaker, *words]
+        self.speakers[node] = Bridge(words, LANES["speaker"], lambda: self.links.forget(node), self.kept(node))
 
     def harm(self):
         if self.random.random() < 0.4:
@@ -224,8 +289,21 @@ class SpeakerWorld(World):
             if node not in self.speakers and (self.random.random() < 0.5 or len(self.speakers) == 0):
                 self.start_speaker(node)
 
-    def left(self):
-        return super().left() or self.wire.left()
+    def bridges(self):
+        return [self.bridge, *self.speakers.values()]
+
+    def left(self, come):
+        """The wire is looked at once all speakers were shown all that there is, the members too."""
+        lines = super().left(come)
+        if lines or not come:
+            return lines or [f"{NO_VERDICT} until all was shown"]
+        deaf = self.apart() or [f"{NO_VERDICT} for {node}, which takes note of no questions" for node in self.wire.ask()]
+        return deaf or self.apart() or self.wire.left()
+
+    def apart(self):
+        """The speakers that know of other members than there are."""
+        members = {node: bridge.followed.members() for node, bridge in self.speakers.items()}
+        return [f"{NO_VERDICT} for the members: to {node} they are {names}" for node, names in members.items() if names != sorted(members)]
 
     def stop(self):
         for bridge in self.speakers.values():

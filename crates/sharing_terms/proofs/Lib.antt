@@ -4,3 +4,4 @@ pub mod PortSets
 pub mod ReadBack
 pub mod ReadingLaws
 pub mod SharingLaws
+pub mod Walks

@@ -1,2 +1,3 @@
 pub mod IndexLaws
 pub mod NumberedLaws
+pub mod TermNumberLaws

@@ -1,5 +1,5 @@
 -- The numbers of items, listed under each term that the items have.
-use Rattle.std.specs.Prelude.{ℕ, ◌-◌, List, [], Option, Some, None, map}
+use Rattle.std.specs.Prelude.{ℕ, ◌-◌, List, [], Option, Some, None}
 use Rattle.std.specs.Map.{lookup}
 use Rattle.std.specs.BTreeMap.{is_at}
 use Rattle.std.specs.Vec.{vec_len, vec_capacity}
@@ -36,7 +36,3 @@ room_under cmp index term = room_in (lookup (is_at (cmp term)) index)
 -- the list that a vector is
 abbrev pub list_of : {A : Type 0} → Vec ℕ A → TermList
 list_of list = record { numbers = list.items; room = vec_capacity list - vec_len list }
-
--- the index that these vectors are
-abbrev pub index_of : {T A : Type 0} → List (T × Vec ℕ A) → IndexValue T
-index_of lists = map (λ e. (e.0, list_of e.1)) lists

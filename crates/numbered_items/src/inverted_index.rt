@@ -3,6 +3,7 @@ ghost use Rattle.std.specs.Prelude.{◌≡◌, ◌==◌, ◌<◌, ◌≤◌, ◌
 ghost use Rattle.std.specs.BTreeMap.{is_at};
 ghost use Rattle.numbered_items.specs.Index.{numbers_under, room_under};
 
+use crate::term_numbers::TermNumbers;
 use mlb_base::NoMemory;
 use std::alloc::Global;
 use std::collections::BTreeMap;
@@ -14,15 +15,15 @@ use std::marker::Model;
 #[derive(Drop)]
 pub struct InvertedIndex<T: Ord> {
     alloc: Global,
-    lists: BTreeMap<T, Vec<u64>>,
+    lists: BTreeMap<T, TermNumbers>,
 }
 
 impl<T: Ord> Model for InvertedIndex<T> {
-    ghost use Rattle.numbered_items.specs.Index.{IndexValue, index_of};
+    ghost use Rattle.numbered_items.specs.Index.{IndexValue};
 
     ghost Value = { IndexValue T };
 
-    ghost view = { λ i. index_of i.lists.entries };
+    ghost view = { λ i. i.lists.entries };
 }
 
 impl<T: Ord> InvertedIndex<T> {
@@ -56,7 +57,7 @@ impl<T: Ord> InvertedIndex<T> {
         let Some(list) = self.lists.get_mut(term) else {
             return;
         };
-        list.push_reserved(number);
+        list.push(number);
     }
 }
 
@@ -72,13 +73,14 @@ impl<T: Ord + Drop> InvertedIndex<T> {
             list.reserve(more)?;
             return Ok(());
         }
-        let list = Vec::with_capacity(self.alloc, more)?;
+        let list = TermNumbers::with_room(self.alloc, more)?;
         let _none = self.lists.insert(term, list)?;
         Ok(())
     }
 
     /// Takes the number out of the term's list, wherever it stands in it. A list that is empty then is dropped, with its room. It
-    /// takes no memory, and the length of the term's list in steps.
+    /// takes no memory. Where each number of the list was greater than the one before it, the number is found in the logarithm of the
+    /// list's length, and those behind it move up; else the list is gone through.
     pub fn remove(&mut self, term: &T, number: u64)
         ensures numbers { numbers_under T.cmp self.new ≡ (λ t. if is_at (T.cmp term.now) t then filter (λ n. not (n == number)) (numbers_under T.cmp self.old t) else numbers_under T.cmp self.old t) }
         ensures room { (t : T) → is_at (T.cmp term.now) t ≡ false → room_under T.cmp self.new t ≡ room_under T.cmp self.old t }
@@ -86,8 +88,8 @@ impl<T: Ord + Drop> InvertedIndex<T> {
         let Some(list) = self.lists.get_mut(term) else {
             return;
         };
-        list.retain(|listed| *listed != number);
-        if list.is_empty() {
+        list.remove(number);
+        if list.as_slice().is_empty() {
             self.drop_empty(term);
         }
     }

@@ -3,6 +3,7 @@
 
 mod inverted_index;
 mod numbered_list;
+mod term_numbers;
 
 pub use inverted_index::InvertedIndex;
 pub use numbered_list::NumberedList;

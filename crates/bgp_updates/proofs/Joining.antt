@@ -1,31 +1,139 @@
--- A route joins its group.
-use Rattle.std.proofs.Common.{◌≡◌, ℕ, suc, true, ◌<◌, ◌≤◌, List, [], ◌∷◌, ◌++◌, length, get_or, take, drop, set, refl, sym, ◌∙◌, ap, drop-cons}
-use Rattle.std.proofs.lemmas.List.{set_split, get_or_default, drop_all, take_all}
+-- A route joins its group, which stands at its place.
+use Rattle.std.proofs.Common.{◌≡◌, ℕ, zero, suc, Bool, true, false, cond, ◌&&◌, ◌==◌, ◌<◌, List, [], ◌∷◌, ◌++◌, length, get_or, set, Option, Some, None, Result, Ordering, Less, Equal, Greater, is_eq, refl, sym, ◌∙◌, ap, subst, arith}
+use Rattle.std.proofs.lemmas.Bool.Decides.{nat_tests}
+use Rattle.std.proofs.lemmas.Map.Text.{is_eq-slice_cmp}
+use Rattle.std.proofs.lemmas.Result.{on_ok_weaker}
+use Rattle.std.specs.BTreeMap.{is_at}
+use Rattle.std.specs.Cmp.Lexicographic.{slice_cmp}
+use Rattle.std.specs.Map.{lookup}
+use Rattle.std.specs.Option.{option_cmp, option_map, option_or}
+use Rattle.std.specs.Ordering.{nat_cmp, ordering_then}
+use Rattle.std.specs.Result.{OnOk}
 use Rattle.ip_ranges.specs.Values.{PrefixValue}
-use Rattle.bgp_updates.specs.declared.route.Terms.{Terms}
+use Rattle.bgp_updates.specs.declared.grouping.TermsKey.{TermsKey}
 use Rattle.bgp_updates.specs.declared.route.Group.{Group}
-use Rattle.bgp_updates.specs.Received.{with_route, same_terms}
+use Rattle.bgp_updates.specs.declared.route.Terms.{Terms}
+use Rattle.bgp_updates.specs.GroupPlaces.{ArePlaces, key_cmp, place_of, terms_in, with_prefix}
+use Rattle.bgp_updates.specs.Received.{same_preference, same_terms, with_route}
+use Rattle.bgp_updates.proofs.ReceivedLaws.{same_terms-is}
 
--- No group before the index has the route's terms.
-pub record IsSought (groups start : List Group) (index : ℕ) (route : PrefixValue × Terms) : Type 0 where
-  pub same : groups ≡ start
-  pub rest : take index groups ++ with_route same_terms (drop index groups) route ≡ with_route same_terms start route
+-- ---- the group at a place
+pub set-with_prefix : (groups : List Group) (place : ℕ) (p : PrefixValue) (group : Group) → place < length groups → group ≡ get_or groups place group
+    → set groups place (record { terms = group.terms; prefixes = group.prefixes ++ p ∷ [] }) ≡ with_prefix groups place p
+set-with_prefix [] place p group lt is = absurd (omega arith)
+set-with_prefix (first ∷ groups) zero p group lt is = ap (λ (g : Group). record { terms = g.terms; prefixes = g.prefixes ++ p ∷ [] } ∷ groups) is
+set-with_prefix (first ∷ groups) (suc place) p group lt is = ap (λ rest. first ∷ rest) (set-with_prefix groups place p group (omega arith) is)
 
-pub joined : (groups start : List Group) (index : ℕ) (route : PrefixValue × Terms) (seen group : Group) → IsSought groups start index route → index < length groups
-    → seen ≡ get_or groups index seen → group ≡ get_or groups index group → same_terms seen.terms route.1 ≡ true
-    → set groups index (record { terms = group.terms; prefixes = group.prefixes ++ route.0 ∷ [] }) ≡ with_route same_terms start route
-joined groups start index route seen group held there is_seen is_group alike =
-    let one : seen ≡ group = is_seen ∙ get_or_default groups index seen group there ∙ sym is_group in
-    let alike_group : same_terms group.terms route.1 ≡ true = ap (λ g. same_terms g.terms route.1) (sym one) ∙ alike in
-    let at : drop index groups ≡ group ∷ drop (suc index) groups = drop-cons groups index group there ∙ ap (λ g. g ∷ drop (suc index) groups) (sym is_group) in
-    let joins : with_route same_terms (group ∷ drop (suc index) groups) route ≡ record { terms = group.terms; prefixes = group.prefixes ++ route.0 ∷ [] } ∷ drop (suc index) groups = rw alike_group refl in
-    set_split groups index (record { terms = group.terms; prefixes = group.prefixes ++ route.0 ∷ [] }) there
-    ∙ ap (λ rest. take index groups ++ rest) (sym (ap (λ rest. with_route same_terms rest route) at ∙ joins))
-    ∙ held.rest
+within-by : (same : Bool) (found : Option ℕ) (place n : ℕ) → cond same (Some 0) (option_map (λ m. suc m) found) ≡ Some place → ((m : ℕ) → found ≡ Some m → m < n) → place < suc n
+within-by true found place n is later = let first : 0 ≡ place = cc in omega (arith, first)
+within-by false None place n is later = absurd (cc)
+within-by false (Some m) place n is later = let next : suc m ≡ place = cc in omega (arith, next, later m refl)
 
-pub appended : (groups start : List Group) (index : ℕ) (route : PrefixValue × Terms) → IsSought groups start index route → length groups ≤ index
-    → groups ++ record { terms = route.1; prefixes = route.0 ∷ [] } ∷ [] ≡ with_route same_terms start route
-appended groups start index route held past =
-    ap (λ front. front ++ record { terms = route.1; prefixes = route.0 ∷ [] } ∷ []) (sym (take_all index groups past))
-    ∙ ap (λ rest. take index groups ++ with_route same_terms rest route) (sym (drop_all index groups past))
-    ∙ held.rest
+pub place-within : (groups : List Group) (terms : Terms) (place : ℕ) → place_of groups terms ≡ Some place → place < length groups
+place-within [] terms place is = absurd (cc)
+place-within (group ∷ groups) terms place is =
+    within-by (same_terms group.terms terms) (place_of groups terms) place (length groups) is (place-within groups terms)
+
+-- ---- the route joins the group of its terms
+joined-by : (same : Bool) (found : Option ℕ) (group : Group) (groups : List Group) (route : PrefixValue × Terms) (place : ℕ) → same_terms group.terms route.1 ≡ same
+    → ((m : ℕ) → found ≡ Some m → with_prefix groups m route.0 ≡ with_route same_terms groups route)
+    → cond same (Some 0) (option_map (λ m. suc m) found) ≡ Some place → with_prefix (group ∷ groups) place route.0 ≡ with_route same_terms (group ∷ groups) route
+joined-by true found group groups route place same later is =
+    let first : 0 ≡ place = cc in
+    rw same (subst (λ n. with_prefix (group ∷ groups) n route.0 ≡ record { terms = group.terms; prefixes = group.prefixes ++ route.0 ∷ [] } ∷ groups) first refl)
+joined-by false None group groups route place same later is = absurd (cc)
+joined-by false (Some m) group groups route place same later is =
+    let next : suc m ≡ place = cc in
+    rw same (subst (λ n. with_prefix (group ∷ groups) n route.0 ≡ group ∷ with_route same_terms groups route) next (ap (λ rest. group ∷ rest) (later m refl)))
+
+pub joined : (groups : List Group) (route : PrefixValue × Terms) (place : ℕ) → place_of groups route.1 ≡ Some place → with_prefix groups place route.0 ≡ with_route same_terms groups route
+joined [] route place is = absurd (cc)
+joined (group ∷ groups) route place is =
+    joined-by (same_terms group.terms route.1) (place_of groups route.1) group groups route place refl (joined groups route) is
+
+appended-by : (same : Bool) (found : Option ℕ) (group : Group) (groups : List Group) (route : PrefixValue × Terms) → same_terms group.terms route.1 ≡ same
+    → (found ≡ None → groups ++ record { terms = route.1; prefixes = route.0 ∷ [] } ∷ [] ≡ with_route same_terms groups route)
+    → cond same (Some 0) (option_map (λ m. suc m) found) ≡ None → (group ∷ groups) ++ record { terms = route.1; prefixes = route.0 ∷ [] } ∷ [] ≡ with_route same_terms (group ∷ groups) route
+appended-by true found group groups route same later is = absurd (cc)
+appended-by false None group groups route same later is = rw same (ap (λ rest. group ∷ rest) (later refl))
+appended-by false (Some m) group groups route same later is = absurd (cc)
+
+pub appended : (groups : List Group) (route : PrefixValue × Terms) → place_of groups route.1 ≡ None → groups ++ record { terms = route.1; prefixes = route.0 ∷ [] } ∷ [] ≡ with_route same_terms groups route
+appended [] route is = refl
+appended (group ∷ groups) route is = appended-by (same_terms group.terms route.1) (place_of groups route.1) group groups route refl (appended groups route) is
+
+-- ---- where the groups stand then
+place-with_prefix : (groups : List Group) (place : ℕ) (p : PrefixValue) (terms : Terms) → place_of (with_prefix groups place p) terms ≡ place_of groups terms
+place-with_prefix [] place p terms = refl
+place-with_prefix (group ∷ groups) zero p terms = refl
+place-with_prefix (group ∷ groups) (suc place) p terms =
+    ap (λ found. cond (same_terms group.terms terms) (Some 0) (option_map (λ m. suc m) found)) (place-with_prefix groups place p terms)
+
+pub places-stay : (entries : List (TermsKey × ℕ)) (groups : List Group) (place : ℕ) (p : PrefixValue) → ArePlaces entries groups → ArePlaces entries (with_prefix groups place p)
+places-stay entries groups place p are key = are key ∙ sym (place-with_prefix groups place p (terms_in key))
+
+-- the place of a group behind the others
+abbrev last_place : ℕ → Bool → Option ℕ
+last_place n same = cond same (Some n) None
+
+last-next : (first same : Bool) (found : Option ℕ) (n : ℕ) → cond first (Some 0) (option_map (λ m. suc m) (option_or found (last_place n same)))
+    ≡ option_or (cond first (Some 0) (option_map (λ m. suc m) found)) (last_place (suc n) same)
+last-next true same found n = refl
+last-next false same (Some m) n = refl
+last-next false true None n = refl
+last-next false false None n = refl
+
+place-append : (groups : List Group) (group : Group) (terms : Terms) → place_of (groups ++ group ∷ []) terms ≡ option_or (place_of groups terms) (last_place (length groups) (same_terms group.terms terms))
+place-append [] group terms = elim (same_terms group.terms terms) as (λ s. cond s (Some 0) None ≡ last_place 0 s) [ true ↦ refl | false ↦ refl ]
+place-append (first ∷ groups) group terms =
+    ap (λ found. cond (same_terms first.terms terms) (Some 0) (option_map (λ m. suc m) found)) (place-append groups group terms)
+    ∙ last-next (same_terms first.terms terms) (same_terms group.terms terms) (place_of groups terms) (length groups)
+
+or-none : (found : Option ℕ) → option_or found None ≡ found
+or-none None = refl
+or-none (Some n) = refl
+
+-- ---- keys are equal where their terms are
+eq-then : (r s : Ordering) → is_eq (ordering_then r s) ≡ is_eq r && is_eq s
+eq-then Less s = refl
+eq-then Equal s = refl
+eq-then Greater s = refl
+
+eq-numbers : (a b : ℕ) → is_eq (nat_cmp a b) ≡ (a == b)
+eq-numbers a b = grind (arith, nat_tests)
+
+eq-preferences : (p q : Option ℕ) → is_eq (option_cmp nat_cmp p q) ≡ same_preference p q
+eq-preferences None None = refl
+eq-preferences None (Some b) = refl
+eq-preferences (Some a) None = refl
+eq-preferences (Some a) (Some b) = eq-numbers a b
+
+same-keys : (a b : TermsKey) → is_eq (key_cmp a b) ≡ same_terms (terms_in a) (terms_in b)
+same-keys a b =
+    eq-then (option_cmp nat_cmp a.preference b.preference) (slice_cmp nat_cmp a.communities.items b.communities.items)
+    ∙ ap (λ s. s && is_eq (slice_cmp nat_cmp a.communities.items b.communities.items)) (eq-preferences a.preference b.preference)
+    ∙ ap (λ s. same_preference a.preference b.preference && s) (is_eq-slice_cmp a.communities.items b.communities.items)
+
+module _ (before after : List (TermsKey × ℕ)) (groups : List Group) (group : Group) (key : TermsKey) (are : ArePlaces before groups) (own : terms_in key ≡ group.terms)
+    (absent : lookup (is_at (key_cmp key)) before ≡ None)
+    (updates : (q : TermsKey) → lookup (is_at (key_cmp q)) after ≡ cond (is_at (key_cmp key) q) (Some (length groups)) (lookup (is_at (key_cmp q)) before)) where
+  at-key : (q : TermsKey) (same : Bool) → same_terms group.terms (terms_in q) ≡ same
+      → cond same (Some (length groups)) (place_of groups (terms_in q)) ≡ option_or (place_of groups (terms_in q)) (last_place (length groups) same)
+  at-key q true same =
+      let one : terms_in key ≡ terms_in q = own ∙ same_terms-is group.terms (terms_in q) same in
+      let none : place_of groups (terms_in q) ≡ None = ap (place_of groups) (sym one) ∙ sym (are key) ∙ absent in
+      rw none refl
+  at-key q false same = sym (or-none (place_of groups (terms_in q)))
+
+  pub places-with : ArePlaces after (groups ++ group ∷ [])
+  places-with q =
+      updates q
+      ∙ ap (λ s. cond s (Some (length groups)) (lookup (is_at (key_cmp q)) before)) (same-keys key q ∙ ap (λ t. same_terms t (terms_in q)) own)
+      ∙ ap (cond (same_terms group.terms (terms_in q)) (Some (length groups))) (are q)
+      ∙ at-key q (same_terms group.terms (terms_in q)) refl
+      ∙ sym (place-append groups group (terms_in q))
+
+pub pushed : {T E : Type 0} (answer : Result T E) (groups : List Group) (place : ℕ) (p : PrefixValue) (group : Group) (prefixes : List PrefixValue) → place < length groups → group ≡ get_or groups place group
+    → OnOk answer (prefixes ≡ group.prefixes ++ p ∷ []) → OnOk answer (set groups place (record { terms = group.terms; prefixes = prefixes }) ≡ with_prefix groups place p)
+pushed answer groups place p group prefixes lt is told =
+    on_ok_weaker answer (λ e. ap (λ (ps : List PrefixValue). set groups place (record { terms = group.terms; prefixes = ps })) e ∙ set-with_prefix groups place p group lt is) told

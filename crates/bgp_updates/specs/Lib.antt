@@ -1,4 +1,5 @@
 pub mod Between
+pub mod GroupPlaces
 pub mod Laws
 pub mod Message
 pub mod Received

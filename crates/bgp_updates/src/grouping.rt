@@ -1,6 +1,9 @@
 //! The routes that differ, in groups.
-ghost use Rattle.std.specs.Prelude.{◌≡◌, ◌&&◌, [], IfOk, OnOk};
+ghost use Rattle.std.specs.Prelude.{◌≡◌, ◌<◌, ◌&&◌, ◌∷◌, [], length, IfOk, OnOk};
+ghost use Rattle.std.specs.BTreeMap.{is_at};
+ghost use Rattle.std.specs.Map.{lookup};
 ghost use Rattle.std.specs.Str.{bytes_eq};
+ghost use Rattle.bgp_updates.specs.GroupPlaces.{ArePlaces, key_cmp, terms_in, with_prefix};
 ghost use Rattle.bgp_updates.specs.Received.{changed, groups_from, same_preference, same_terms, stands_as, terms_at, with_route};
 ghost use Rattle.bgp_updates.specs.Tables.{IsTable};
 
@@ -10,8 +13,17 @@ use ip_ranges::Prefix;
 use mlb_base::{NoMemory, Sequence, TryCopy};
 use pool_config::CommunityNumbers;
 use std::alloc::Global;
+use std::collections::BTreeMap;
 
-/// The routes of the new table that the old one doesn't have equally, in groups.
+/// Terms as the key of their group.
+#[derive(PartialEq, Eq, PartialOrd, Ord, Drop)]
+pub(crate) struct TermsKey {
+    preference: Option<u32>,
+    communities: Vec<u32>,
+}
+
+/// The routes of the new table that the old one doesn't have equally, in groups. A route finds its group in the logarithm of the number
+/// of groups.
 pub(crate) fn changed_groups(
     alloc: Global,
     old: &[Route],
@@ -21,9 +33,10 @@ pub(crate) fn changed_groups(
     ensures { IfOk result (λ groups. groups.items ≡ groups_from same_terms [] (changed same_terms old.now new.now)) }
 {
     let mut groups = Vec::new(alloc);
+    let mut places = BTreeMap::new(alloc);
     for route in new {
         if !stands(old, route) {
-            join(alloc, &mut groups, route)?;
+            join(alloc, &mut groups, &mut places, route)?;
         }
     }
     Ok(groups)
@@ -50,38 +63,68 @@ fn stands(table: &[Route], route: &Route) -> bool
     }
 }
 
-fn join(alloc: Global, groups: &mut Vec<Group>, route: &Route) -> Result<(), NoMemory>
-    ensures { OnOk result (groups.new.items ≡ with_route same_terms groups.old.items route.now) }
+/// Adds the route to the group of its terms, which the places tell, or as a group of its own.
+fn join(
+    alloc: Global,
+    groups: &mut Vec<Group>,
+    places: &mut BTreeMap<TermsKey, usize>,
+    route: &Route,
+) -> Result<(), NoMemory>
+    requires { ArePlaces places.old.entries groups.old.items }
+    ensures groups { OnOk result (groups.new.items ≡ with_route same_terms groups.old.items route.now) }
+    ensures places { OnOk result (ArePlaces places.new.entries groups.new.items) }
 {
-    let prefix = prefix_of(route);
-    for i in 0..groups.len() {
-        if has_terms(&groups[i], route) {
-            groups[i].prefixes.push(prefix)?;
-            return Ok(());
-        }
+    let key = key_of(alloc, route)?;
+    match places.get(&key) {
+        Some(place) => push_prefix(groups, *place, route.prefix),
+        None => begin(alloc, groups, places, key, route),
     }
-    let mut prefixes = Sequence::new(alloc);
-    prefixes.push(prefix)?;
-    let terms = terms_of(route)?;
-    groups.push(Group { terms, prefixes })?;
+}
+
+/// Adds a group of the route alone, where no group has its terms.
+fn begin(
+    alloc: Global,
+    groups: &mut Vec<Group>,
+    places: &mut BTreeMap<TermsKey, usize>,
+    key: TermsKey,
+    route: &Route,
+) -> Result<(), NoMemory>
+    requires places { ArePlaces places.old.entries groups.old.items }
+    requires key { terms_in key ≡ route.now.1 }
+    requires absent { lookup (is_at (key_cmp key)) places.old.entries ≡ None }
+    ensures groups { OnOk result (groups.new.items ≡ with_route same_terms groups.old.items route.now) }
+    ensures places { OnOk result (ArePlaces places.new.entries groups.new.items) }
+{
+    let _none = places.insert(key, groups.len())?;
+    groups.push(group_of(alloc, route)?)?;
     Ok(())
 }
 
-fn prefix_of(route: &Route) -> Prefix
-    ensures { result ≡ route.now.0 }
+/// Appends the prefix to the group at the place.
+fn push_prefix(groups: &mut Vec<Group>, place: usize, prefix: Prefix) -> Result<(), NoMemory>
+    requires { place < length groups.old.items }
+    ensures { OnOk result (groups.new.items ≡ with_prefix groups.old.items place prefix) }
 {
-    route.prefix
+    groups[place].prefixes.push(prefix)
 }
 
-fn has_terms(group: &Group, route: &Route) -> bool
-    ensures { result ≡ same_terms group.now.terms route.now.1 }
+fn key_of(alloc: Global, route: &Route) -> Result<TermsKey, NoMemory>
+    ensures { IfOk result (λ key. terms_in key ≡ route.now.1) }
 {
-    same_terms(
-        group.terms.preference,
-        &group.terms.communities,
-        route.preference,
-        &route.communities,
-    )
+    Ok(TermsKey {
+        preference: route.preference,
+        communities: Vec::from_slice(alloc, route.communities.as_slice())?,
+    })
+}
+
+/// The group of the route alone.
+fn group_of(alloc: Global, route: &Route) -> Result<Group, NoMemory>
+    ensures { IfOk result (λ group. group ≡ record { terms = route.now.1; prefixes = route.now.0 ∷ [] }) }
+{
+    let mut prefixes = Sequence::new(alloc);
+    prefixes.push(route.prefix)?;
+    let terms = terms_of(route)?;
+    Ok(Group { terms, prefixes })
 }
 
 fn terms_of(route: &Route) -> Result<Terms, NoMemory>

@@ -1,15 +1,26 @@
-use Rattle.std.proofs.Common.{◌<◌, ◌≤◌, length, ap, sym, ◌∙◌, arith}
-use Rattle.bgp_updates.proofs.Joining.{joined, appended}
+use Rattle.std.proofs.Common.{◌≡◌, Some, sym, ◌∙◌, ap, subst}
+use Rattle.std.proofs.lemmas.Result.{on_ok_weaker}
+use Rattle.ip_ranges.specs.Values.{PrefixValue}
+use Rattle.bgp_updates.specs.GroupPlaces.{ArePlaces, place_of, with_prefix}
+use Rattle.bgp_updates.proofs.Joining.{joined, place-within, places-stay}
 use Rattle.bgp_updates.proofs.grouping.join.Goals as goal
 
-pub returns-then-has_terms : goal.returns-then-has_terms
-returns-then-has_terms c =
-    let long = ap length c.loop-i.invariant.same in
-    let there : c.loop-i.i < length c.loop-i.groups.items = omega (arith, long, c.args.groups.now.ok, c.len-i-end.ensures) in
-    rw (c.in_ok-push.ensures.ok, c.prefix_of-prefix.ensures) (joined c.loop-i.groups.items c.args.groups.now.items c.loop-i.i c.args.route.now c.index.result.now c.index_mut.result.now c.loop-i.invariant there c.index.ensures c.index_mut.ensures.value (sym c.has_terms.ensures ∙ c.if-has_terms.true))
+pub push_prefix-requires : goal.push_prefix-requires
+push_prefix-requires c =
+    let groups = c.args.groups.now.items in
+    let found : place_of groups c.args.route.now.1 ≡ Some c.in-Some.place.now = ap (place_of groups) (sym c.in_ok-key.ensures) ∙ sym (c.requires c.in_ok-key.key) ∙ sym c.in-Some.ensures.value in
+    place-within groups c.args.route.now.1 c.in-Some.place.now found
 
-pub returns : goal.returns
-returns c =
-    let long = ap length c.loop-i.invariant.same in
-    let past : length c.loop-i.groups.items ≤ c.loop-i.i = omega (arith, long, c.args.groups.now.ok, c.len-i-end.ensures) in
-    rw (c.in_ok-push-3.ensures.items, c.in_ok-push-2.ensures.ok, c.new-prefixes.ensures, c.in_ok-terms.ensures, c.prefix_of-prefix.ensures) (appended c.loop-i.groups.items c.args.groups.now.items c.loop-i.i c.args.route.now c.loop-i.invariant past)
+pub returns-in-Some-clause-groups : goal.returns-in-Some-clause-groups
+returns-in-Some-clause-groups c =
+    let groups = c.args.groups.now.items in
+    let place = c.in-Some.place.now in
+    let found : place_of groups c.args.route.now.1 ≡ Some place = ap (place_of groups) (sym c.in_ok-key.ensures) ∙ sym (c.requires c.in_ok-key.key) ∙ sym c.in-Some.ensures.value in
+    let prefix : c.route.inside.prefix ≡ c.args.route.now.0 = ap (λ route. route.0) c.route.view_is in
+    on_ok_weaker c.push_prefix.result (λ e. e ∙ ap (λ (p : PrefixValue). with_prefix groups place p) prefix ∙ joined groups c.args.route.now place found) c.push_prefix.ensures
+
+pub returns-in-Some-clause-places : goal.returns-in-Some-clause-places
+returns-in-Some-clause-places c =
+    let groups = c.args.groups.now.items in
+    let entries = c.args.places.now.entries in
+    on_ok_weaker c.push_prefix.result (λ e. subst (ArePlaces entries) (sym e) (places-stay entries groups c.in-Some.place.now c.route.inside.prefix c.requires)) c.push_prefix.ensures

@@ -35,6 +35,14 @@ HOLD_NOTHING_BACK = ("IPAddressPool", "Service", "EndpointSlice")
 SPEAKER_PATHS = {"Node": "/api/v1/nodes", "EndpointSlice": "/apis/discovery.k8s.io/v1/endpointslices"}
 
 
+def read(line):
+    """The event of a line, and the line to give: without `metadata.managedFields`, which no program reads, and which may make it too long."""
+    event = json.loads(line)
+    if event["object"].get("metadata", {}).pop("managedFields", None) is not None:
+        line = json.dumps(event, separators=(",", ":")).encode() + b"\n"
+    return event, line
+
+
 def ends_list(event):
     annotations = event["object"].get("metadata", {}).get("annotations") or {}
     return event["type"] == "BOOKMARK" and annotations.get("k8s.io/initial-events-end") == "true"
@@ -88,7 +96,7 @@ class Watches:
                 query = NEXT.format(version) if self.lists[kind].is_set() else FIRST
                 async with contextlib.aclosing(self.api.lines(f"{path}?{query}")) as lines:
                     async for line in lines:
-                        event = json.loads(line)
+                        event, line = read(line)
                         if event["type"] == "ERROR":
                             raise Expired()
                         told = None

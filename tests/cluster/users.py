@@ -2,7 +2,7 @@
 import copy
 
 from kinds import BY_NAME
-from rules import ADDRESSES, POOL, SHARED, Config, compiled
+from rules import ADDRESSES, POOL, SHARED, Config, compiled, printed, record_of
 from store import Refused
 
 METALLB = "metallb-system"
@@ -44,9 +44,16 @@ class Users:
     # Edits; each is tried, and may be refused as a user's edit is
 
     def edit(self):
-        edits = [self.set_service] * 8 + [self.delete_service] * 3 + [self.set_pool] * 2 + [self.delete_pool, self.label_space]
+        edits = [self.set_service] * 8 + [self.delete_service] * 3 + [self.set_pool] * 2 + [self.delete_pool, self.label_space, self.want_taken, self.give_up]
         if self.speakers:
             edits += [self.set_slice] * 6 + [self.label_node] * 2 + [self.set_advertisement] * 2 + [self.set_peer]
+        self.make(edits)
+
+    def edit_services(self):
+        """An edit behind which a service may be left waiting: no list begins anew for it, and no configuration is compiled."""
+        self.make([self.set_service, self.delete_service, self.want_taken, self.want_taken, self.give_up, self.give_up])
+
+    def make(self, edits):
         try:
             self.random.choice(edits)()
             self.made += 1
@@ -67,6 +74,37 @@ class Users:
                 self.store.update(kind, (namespace, name), thing)
         if self.speakers and self.flip(0.5):
             self.slice_of(namespace, name)
+
+    def holders(self):
+        """The services that have one address, and copies of them."""
+        return {key: copy.deepcopy(thing) for key, thing in self.store.objects[BY_NAME["Service"]].items() if len(record_of(thing).addresses) == 1}
+
+    def want_taken(self):
+        """A service asks for the address that another one has."""
+        kind, name = BY_NAME["Service"], self.random.choice(NAMES)
+        with self.store.lock:
+            holders = self.holders()
+            if not holders:
+                return
+            address, = record_of(self.random.choice(list(holders.values()))).addresses
+            key = self.random.choice(list(SPACES)), name
+            thing = copy.deepcopy(self.store.objects[kind].get(key)) or self.service(name)
+            thing["metadata"].setdefault("annotations", {})[ADDRESSES] = printed(address)
+            if "resourceVersion" in thing["metadata"]:
+                self.store.update(kind, key, thing)
+            else:
+                self.store.create(kind, key[0], thing)
+
+    def give_up(self):
+        """A service that has an address asks for what it can't have, so that the controller takes the address away."""
+        with self.store.lock:
+            holders = self.holders()
+            if not holders:
+                return
+            key = self.random.choice(list(holders))
+            name, value = self.random.choice([(POOL, "p9"), (ADDRESSES, "203.0.113.1"), (ADDRESSES, "x")])
+            holders[key]["metadata"].setdefault("annotations", {})[name] = value
+            self.store.update(BY_NAME["Service"], key, holders[key])
 
     def service(self, name):
         thing = {"metadata": {"name": name}, "spec": {"type": "LoadBalancer", "selector": {"app": "web"}, "ports": self.ports()}}

@@ -27,6 +27,7 @@ TURNS, STAYS = 20, 3.0  # what is left is a difference once all programs took no
 SHORTEST_PAUSE, LONGEST_PAUSE = 0.02, 0.2  # seconds between two looks
 FIRST_PAUSE = 0.5  # seconds until the watches are called again for bookmarks where nothing came of it
 LONGEST_ROUND = 60.0  # seconds in which users edit
+LAST_EDITS = 20  # at most so many of services alone, behind all others
 NOT_STILL = "NOT STILL"
 NO_VERDICT = "WAITS"  # begins a line that tells why it can't be judged yet
 
@@ -39,9 +40,9 @@ def program_of(name):
     return str(TOP / "crates" / name / "out" / name)
 
 
-def text_of(lines):
-    """The lines without the frames in them, which tell of another neighbor each time."""
-    return [re.sub("[0-9a-f]{40,}", "", line) for line in lines or ()]
+def text_of(line):
+    """The line without the frame in it, which tells of another neighbor each time."""
+    return re.sub("[0-9a-f]{40,}", "", line)
 
 
 class Bridge:
@@ -189,7 +190,21 @@ class World:
         self.faults.calm()
         self.heal()
         self.rounds += 1
+        self.last_edits()
         return self.still()
+
+    def last_edits(self):
+        """Once the controller was shown all, services alone are edited, and replies are lost. Nothing wakes behind it who isn't woken as an address comes
+        free."""
+        until = time.monotonic() + self.patience
+        while not self.judge.faults and not self.bridge.turns(self.store.latest_versions()) and time.monotonic() < until:
+            self.server.call()
+            time.sleep(SHORTEST_PAUSE)
+        self.faults.puts = 0.2
+        for _ in range(self.random.randrange(LAST_EDITS)):
+            self.users.edit_services()
+            time.sleep(self.random.uniform(0, 0.02))
+        self.faults.calm()
 
     def bridges(self):
         return [self.bridge]
@@ -199,9 +214,9 @@ class World:
         return self.judge.left()
 
     def still(self):
-        """Waits until nothing is left to be done; what is wrong. What is left counts as wrong only where it stays while the programs take note, over and
+        """Waits until nothing is left to be done; what is wrong. Of what is left that counts as wrong which stays while the programs take note, over and
         over, that nothing comes any more: how fast they are doesn't matter."""
-        begun, since, left, looked = time.monotonic(), (0.0, 0), None, 0
+        begun, since, left, stays, looked = time.monotonic(), (0.0, 0), [], set(), 0
         called, call_at, pause = None, 0.0, FIRST_PAUSE
         while not self.judge.faults:
             now, latest = time.monotonic(), self.store.latest_versions()
@@ -211,14 +226,15 @@ class World:
                 called, call_at = (turns, latest), now + pause
                 self.server.call()
             if not turns or turns != looked:
-                before, left = left, self.left(turns > 0)
+                left = self.left(turns > 0)
                 if not left:
                     return []
-                if turns <= looked or left[0].startswith(NO_VERDICT) or text_of(left) != text_of(before):
-                    since = now, turns
+                stays &= set(map(text_of, left))
+                if turns <= looked or left[0].startswith(NO_VERDICT) or not stays:
+                    since, stays = (now, turns), set(map(text_of, left))
                 looked = turns
                 if now > since[0] + STAYS and turns >= since[1] + TURNS:
-                    return [*left, *self.bridge.told]
+                    return [*(line for line in left if text_of(line) in stays), *self.bridge.told]
             if now > begun + self.patience:
                 return [f"{NOT_STILL} after {self.patience} s, and so without a verdict", *left, *self.bridge.told]
             time.sleep(min(LONGEST_PAUSE, SHORTEST_PAUSE + (now - begun) / 20))

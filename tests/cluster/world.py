@@ -22,7 +22,8 @@ from wire_judge import WireJudge
 
 TOP = pathlib.Path(__file__).resolve().parents[2]
 BRIDGE = TOP / "examples/bridge"
-PATIENCE = 300.0  # seconds in which all must be still; else there is no verdict
+PATIENCE = 600.0  # seconds in which all must be still; else there is no verdict
+SLOW = 30.0  # seconds without stillness behind which the machine is looked at anew, and again behind as many
 TURNS, STAYS = 20, 3.0  # what is left is a difference once all programs took note so many times, and in so many seconds, that nothing changes any more
 SHORTEST_PAUSE, LONGEST_PAUSE = 0.02, 0.2  # seconds between two looks
 FIRST_PAUSE = 0.5  # seconds until the watches are called again for bookmarks where nothing came of it
@@ -206,6 +207,9 @@ class World:
             time.sleep(self.random.uniform(0, 0.02))
         self.faults.calm()
 
+    def slow(self):
+        """What is done where it takes long until all is still."""
+
     def bridges(self):
         return [self.bridge]
 
@@ -217,9 +221,12 @@ class World:
         """Waits until nothing is left to be done; what is wrong. Of what is left that counts as wrong which stays while the programs take note, over and
         over, that nothing comes any more: how fast they are doesn't matter."""
         begun, since, left, stays, looked = time.monotonic(), (0.0, 0), [], set(), 0
-        called, call_at, pause = None, 0.0, FIRST_PAUSE
+        called, call_at, pause, slow_at = None, 0.0, FIRST_PAUSE, begun + SLOW
         while not self.judge.faults:
             now, latest = time.monotonic(), self.store.latest_versions()
+            if now > slow_at:
+                self.slow()
+                slow_at = now + SLOW
             turns = min(bridge.turns(latest) for bridge in self.bridges())
             if called != (turns, latest) or now > call_at:  # a program that is slow is called ever less often, so that it catches up
                 pause = 2 * pause if called == (turns, latest) else FIRST_PAUSE
@@ -303,6 +310,15 @@ class SpeakerWorld(World):
         """A node that is gone stays so in half of the rounds."""
         for node in NODES:
             if node not in self.speakers and (self.random.random() < 0.5 or len(self.speakers) == 0):
+                self.start_speaker(node)
+
+    def slow(self):
+        """Where Leases have become too short for the machine, all nodes go, and come back with longer ones."""
+        lease = lease_seconds()
+        if lease > self.lease:
+            self.lease = lease
+            for node, bridge in list(self.speakers.items()):
+                bridge.end()
                 self.start_speaker(node)
 
     def bridges(self):

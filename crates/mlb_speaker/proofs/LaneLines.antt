@@ -13,12 +13,12 @@ use Rattle.line_run.specs.Run.{AreTaken}
 use Rattle.mlb_edge.specs.declared.lines.Line.{Line}
 use Rattle.mlb_speaker.specs.declared.entries.Entry.{Entry}
 use Rattle.mlb_speaker.specs.Causes.{awaits_none}
-use Rattle.mlb_speaker.specs.LaneLaws.{HaveEvents, event_in, ItemsAreAsLines, ItemsTellWhatIsAnnounced, ItemsSendWhatIsMeant, ItemsMakeRoutes}
+use Rattle.mlb_speaker.specs.LaneLaws.{HaveEvents, event_in, ItemsAreAsLines, ItemsTellWhatIsAnnounced, ItemsTellWhatChanges, ItemsSendWhatIsMeant, ItemsMakeRoutes}
 use Rattle.mlb_speaker.specs.Lanes.{belongs_to, item_step, lane_rules}
 use Rattle.mlb_speaker.specs.Heard.{HearsItsRoutes}
 use Rattle.mlb_speaker.specs.Meant.{SendsWhatIsMeant}
 use Rattle.mlb_speaker.specs.Stream.{SpeakerState, line_step, speaker_rules}
-use Rattle.mlb_speaker.specs.Told.{TellsWhatIsAnnounced}
+use Rattle.mlb_speaker.specs.Told.{TellsWhatIsAnnounced, TellsWhatChanges}
 
 abbrev AreRead : List Item → Type 0
 AreRead items = AllByRecursion (IsRead belongs_to) items
@@ -81,4 +81,9 @@ module _ (start : SpeakerState) where
   pub items_send : SendsWhatIsMeant start → ItemsSendWhatIsMeant start
   items_send sends items item s t told entries taken goes =
       let (read, last) = read_parts items item (items_are_read belongs_to taken.first taken.second (items ++ item ∷ []) taken.begin) in
-      sends (lines_for items read) s (entries_of told) (lines_taken items read taken.replies start s told taken.taken) (line_for item last) t entries (line_is item last s ∙ goes)
+      sends (lines_for items read) s (entries_of told) (lines_taken items read taken.replies start s told taken.taken) (line_for item last) t entries (line_is item last s ∙ goes) item.event last.read
+
+  pub items_tell_changes : TellsWhatChanges start → ItemsTellWhatChanges start
+  items_tell_changes tells items item s t told entries taken goes =
+      let (read, last) = read_parts items item (items_are_read belongs_to taken.first taken.second (items ++ item ∷ []) taken.begin) in
+      tells (lines_for items read) s (entries_of told) (lines_taken items read taken.replies start s told taken.taken) (line_for item last) t entries (line_is item last s ∙ goes)

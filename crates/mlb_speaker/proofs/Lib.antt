@@ -1,4 +1,5 @@
 pub mod Begun
+pub mod ChangesTold
 pub mod Meant
 pub mod Steps
 pub mod Tables

@@ -1,94 +1,125 @@
 -- Each frame that is sent is unasked or an answer, for an address for which the node listens.
-use Rattle.std.proofs.Common.{◌≡◌, ℕ, Bool, true, false, cond, List, [], ◌∷◌, ◌++◌, map, filter, Option, Some, None, refl, sym, ap, ◌∙◌, subst, inl, inr}
+use Rattle.std.proofs.Common.{◌≡◌, ℕ, Bool, true, false, cond, List, [], ◌∷◌, ◌++◌, map, filter, Option, Some, None, Ok, refl, sym, ap, ◌∙◌, subst, inl, inr}
 use Rattle.std.specs.List.{AllByRecursion, Contains, flat_map, find}
 use Rattle.std.specs.Option.{option_or}
 use Rattle.std.specs.Str.{bytes_eq}
 use Rattle.std.proofs.lemmas.Slice.Eq.{bytes_eq-Decides}
-use Rattle.mlb_base.proofs.Among.{contains-first, contains-later}
+use Rattle.std.specs.Prelude.{slice_range}
+use Rattle.std.proofs.lemmas.Bool.{true≢false}
+use Rattle.mlb_base.specs.Items.{IsIn}
+use Rattle.mlb_base.proofs.Among.{contains-first, contains-later, contains-cons, contains-none}
+use Rattle.pool_config.proofs.ItemLaws.{has_left, has_right}
 use Rattle.ip_ranges.specs.Values.{AddressValue}
 use Rattle.ip_ranges.specs.declared.family.Family.{Family}
 use Rattle.ip_ranges.specs.declared.family.Family.TheVariants.{V4, V6}
 use Rattle.pool_config.specs.declared.compiled.CompiledPeer.{CompiledPeer}
 use Rattle.kube_events.specs.Event.{event_of_line}
 use Rattle.kube_model.specs.declared.event.Event.{Event}
-use Rattle.object_cache.specs.declared.change.TakeNote.{TakeNote}
 use Rattle.speaker_view.specs.ViewValue.{ViewValue}
 use Rattle.speaker_view.specs.View.{view_after, note_by}
-use Rattle.l2_elect.specs.Listening.{listens_of}
+use Rattle.l2_elect.specs.Listening.{listens_of, Listens}
+use Rattle.l2_elect.proofs.Filters.{Contains-filter}
 use Rattle.l2_elect.proofs.ListenLaws.{listens-means}
-use Rattle.neigh_frames.specs.Arp.{arp_answer_of}
-use Rattle.neigh_frames.specs.Ndp.{ndp_answer_of}
+use Rattle.neigh_frames.specs.Advertisement.{reply_to}
+use Rattle.neigh_frames.specs.Arp.{arp_answer_of, arp_reply, IsArpAnswer}
+use Rattle.neigh_frames.specs.Ndp.{ndp_answer_of, IsNdpAnswer}
+use Rattle.neigh_frames.specs.Options.{sender_in}
 use Rattle.neigh_frames.proofs.ArpMeaning.{arp-means}
 use Rattle.neigh_frames.proofs.NdpMeaning.{ndp-means}
 use Rattle.mlb_edge.specs.declared.lines.Line.{Line}
 use Rattle.line_run.specs.Machine.{Goes}
 use Rattle.speaker_words.specs.Reading.{said_in}
 use Rattle.mlb_speaker.specs.declared.entries.Entry.{Entry}
+use Rattle.mlb_speaker.specs.declared.entries.Entry.TheVariants.{Sent}
 use Rattle.mlb_speaker.specs.declared.station.Interface.{Interface}
 use Rattle.mlb_speaker.specs.declared.station.Station.{Station}
 use Rattle.announced_set.specs.Announced.{announced_by}
 use Rattle.mlb_speaker.specs.Clauses.{begun_with}
 use Rattle.announced_set.specs.Changes.{difference}
 use Rattle.mlb_speaker.specs.Entries.{withdrawn, withdrawals, announcements, entries_for}
-use Rattle.mlb_speaker.specs.Meant.{SaysWhatIsMeant, SendsWhatIsMeant, AllSendWhatIsMeant}
-use Rattle.mlb_speaker.specs.Sends.{unasked_by, unasked, announcement, sent_on, answer_by, interface_of}
+use Rattle.mlb_speaker.specs.Meant.{IsAnswer, IsOfThese, SendsAnswer, SendsOf, SendsWhatIsMeant, AllSendWhatIsMeant}
+use Rattle.mlb_speaker.specs.Sends.{unasked_of, unasked_by, unasked, listening, announcement, sent_on, answer_by, interface_of}
+use Rattle.mlb_speaker.specs.Told.{announced_in}
 use Rattle.mlb_speaker.specs.Stream.{SpeakerState, Received, frame_in, entries_at, line_step}
 use Rattle.mlb_speaker.specs.Updates.{peers_of, messages_to, updated, updates_to, updates_by, with_hop, update_entries}
 use Rattle.mlb_speaker.proofs.Steps.{frame_leaves}
+use Rattle.mlb_speaker.proofs.ChangesTold.{none-updates, change-announces}
 use Rattle.mlb_speaker.proofs.Telling.{event_applies}
 
 all-append : {X : Type 0} (P : X → Type 0) (xs ys : List X) → AllByRecursion P xs → AllByRecursion P ys → AllByRecursion P (xs ++ ys)
 all-append P [] ys h k = k
 all-append P (x ∷ xs) ys h k = (h.0, all-append P xs ys h.1 k)
 
+-- what stands in a list stands in what is made of each
+mapped : {X Y : Type 0} (f : X → Y) (xs : List X) (x : X) → Contains xs x → IsIn (map f xs) (f x)
+mapped f [] x there = absurd (contains-none x there)
+mapped f (y ∷ xs) x there = elim (contains-cons y xs x there) [ inl here ↦ inl (ap f here) | inr later ↦ inr (mapped f xs x later) ]
+
+abbrev the_none : Option (List ℕ)
+the_none = None
+
+none-some : (x : List ℕ) → the_none ≡ Some x → ⊥
+none-some x e = absurd (cc)
+
 module _ (v : ViewValue) (station : Station) where
-  abbrev Meant : List Entry → Type 0
-  Meant entries = AllByRecursion (SaysWhatIsMeant v station) entries
-
   -- ---- unasked
-  unasked-meant : (a : AddressValue) (interfaces : List Interface) → ((i : Interface) → Contains interfaces i → Contains station.interfaces i)
-      → Meant (map (unasked_by a) (filter (λ i. listens_of v station.node i.name a) interfaces))
-  unasked-meant a [] within = tt
-  unasked-meant a (i ∷ interfaces) within =
-      go (listens_of v station.node i.name a) refl (unasked-meant a interfaces (λ j there. within j (contains-later i interfaces j there)))
-    where
-      go : (b : Bool) → listens_of v station.node i.name a ≡ b → Meant (map (unasked_by a) (filter (λ i. listens_of v station.node i.name a) interfaces))
-          → Meant (map (unasked_by a) (cond b (i ∷ filter (λ i. listens_of v station.node i.name a) interfaces) (filter (λ i. listens_of v station.node i.name a) interfaces)))
-      go true is rest =
-          let listens = (listens-means v station.node i.name a (listens_of v station.node i.name a) refl).0 is in
-          (record { interface = i; of_words = within i (contains-first i interfaces); named = refl; says = inl (a, listens, refl) }, rest)
-      go false is rest = rest
+  module _ (all : List Entry) where
+    abbrev Meant : List Entry → Type 0
+    Meant entries = AllByRecursion (IsOfThese v station all) entries
 
-  announced-meant : (addresses : List AddressValue) → Meant (flat_map (announcement v station) addresses)
-  announced-meant [] = tt
-  announced-meant (a ∷ addresses) =
-      (tt, all-append (SaysWhatIsMeant v station) (unasked v station a) (flat_map (announcement v station) addresses) (unasked-meant a station.interfaces (λ i there. there)) (announced-meant addresses))
+    unasked-meant : (a : AddressValue) → IsIn (announced_in all) a → (interfaces : List Interface) → ((i : Interface) → Contains interfaces i → Contains station.interfaces i)
+        → Meant (map (unasked_by a) (filter (λ i. listens_of v station.node i.name a) interfaces))
+    unasked-meant a told [] within = tt
+    unasked-meant a told (i ∷ interfaces) within =
+        go (listens_of v station.node i.name a) refl (unasked-meant a told interfaces (λ j there. within j (contains-later i interfaces j there)))
+      where
+        go : (b : Bool) → listens_of v station.node i.name a ≡ b → Meant (map (unasked_by a) (filter (λ i. listens_of v station.node i.name a) interfaces))
+            → Meant (map (unasked_by a) (cond b (i ∷ filter (λ i. listens_of v station.node i.name a) interfaces) (filter (λ i. listens_of v station.node i.name a) interfaces)))
+        go true is rest =
+            let listens = (listens-means v station.node i.name a (listens_of v station.node i.name a) refl).0 is in
+            ((a, told, record { interface = i; of_words = within i (contains-first i interfaces); named = refl; listens = listens; says = refl }), rest)
+        go false is rest = rest
 
-  withdrawn-meant : (addresses : List AddressValue) → Meant (map withdrawn addresses)
-  withdrawn-meant [] = tt
-  withdrawn-meant (a ∷ addresses) = (tt, withdrawn-meant addresses)
+    announced-meant : (addresses : List AddressValue) → ((a : AddressValue) → IsIn addresses a → IsIn (announced_in all) a) → Meant (flat_map (announcement v station) addresses)
+    announced-meant [] told = tt
+    announced-meant (a ∷ addresses) told = (
+      tt,
+      all-append (IsOfThese v station all) (unasked v station a) (flat_map (announcement v station) addresses)
+          (unasked-meant a (told a (inl refl)) station.interfaces (λ i there. there)) (announced-meant addresses (λ b there. told b (inr there))),
+    )
 
-  changes-meant : (note : TakeNote) (before after : List AddressValue) → Meant (entries_for v station note before after)
-  changes-meant note before after =
-      (tt, all-append (SaysWhatIsMeant v station) (withdrawals before after) (announcements v station before after) (withdrawn-meant (difference before after)) (announced-meant (difference after before)))
+    withdrawn-meant : (addresses : List AddressValue) → Meant (map withdrawn addresses)
+    withdrawn-meant [] = tt
+    withdrawn-meant (a ∷ addresses) = (tt, withdrawn-meant addresses)
 
-  -- ---- what is told to peers
-  messages-meant : (peer : CompiledPeer) (messages : List (List ℕ)) → Meant (map (updated peer) messages)
-  messages-meant peer [] = tt
-  messages-meant peer (message ∷ messages) = (tt, messages-meant peer messages)
+    -- what is told to peers
+    messages-meant : (peer : CompiledPeer) (messages : List (List ℕ)) → Meant (map (updated peer) messages)
+    messages-meant peer [] = tt
+    messages-meant peer (message ∷ messages) = (tt, messages-meant peer messages)
 
-  peers-meant : (u u' : ViewValue) (node : List ℕ) (hop : AddressValue) (peers : List CompiledPeer) → Meant (flat_map (updates_to u u' node hop) peers)
-  peers-meant u u' node hop [] = tt
-  peers-meant u u' node hop (peer ∷ peers) =
-      all-append (SaysWhatIsMeant v station) (updates_to u u' node hop peer) (flat_map (updates_to u u' node hop) peers) (messages-meant peer (messages_to u u' node hop peer)) (peers-meant u u' node hop peers)
+    peers-meant : (u u' : ViewValue) (node : List ℕ) (hop : AddressValue) (peers : List CompiledPeer) → Meant (flat_map (updates_to u u' node hop) peers)
+    peers-meant u u' node hop [] = tt
+    peers-meant u u' node hop (peer ∷ peers) =
+        all-append (IsOfThese v station all) (updates_to u u' node hop peer) (flat_map (updates_to u u' node hop) peers) (messages-meant peer (messages_to u u' node hop peer)) (peers-meant u u' node hop peers)
 
-  hop-meant : (family : Family) (entries : List Entry) → Meant entries → Meant (with_hop family entries)
-  hop-meant V4 entries all = all
-  hop-meant V6 entries all = tt
+    hop-meant : (family : Family) (entries : List Entry) → Meant entries → Meant (with_hop family entries)
+    hop-meant V4 entries meant = meant
+    hop-meant V6 entries meant = tt
 
-  updates-meant : (u u' : ViewValue) (node : List ℕ) (hop : Option AddressValue) → Meant (updates_by u u' node hop)
-  updates-meant u u' node None = tt
-  updates-meant u u' node (Some hop) = hop-meant hop.family (flat_map (updates_to u u' node hop) (peers_of u')) (peers-meant u u' node hop (peers_of u'))
+    updates-meant : (u u' : ViewValue) (node : List ℕ) (hop : Option AddressValue) → Meant (updates_by u u' node hop)
+    updates-meant u u' node None = tt
+    updates-meant u u' node (Some hop) = hop-meant hop.family (flat_map (updates_to u u' node hop) (peers_of u')) (peers-meant u u' node hop (peers_of u'))
+
+  -- the frame of each interface on which the node listens is sent with the announce line
+  announced-sends : (a : AddressValue) (i : Interface) → Contains station.interfaces i → Listens v station.node i.name a → (addresses : List AddressValue) → IsIn addresses a
+      → IsIn (flat_map (announcement v station) addresses) (unasked_by a i)
+  announced-sends a i there listens [] none = absurd none
+  announced-sends a i there listens (b ∷ addresses) (inl here) =
+      let listed = Contains-filter (λ (j : Interface). listens_of v station.node j.name a) station.interfaces i there ((listens-means v station.node i.name a (listens_of v station.node i.name a) refl).1 listens) in
+      let own : IsIn (unasked v station b) (unasked_by a i) = subst (λ (c : AddressValue). IsIn (unasked v station c) (unasked_by a i)) (sym here) (mapped (unasked_by a) (listening v station a) i listed) in
+      has_left (λ e. e ≡ unasked_by a i) (announcement v station b) (flat_map (announcement v station) addresses) (inr own)
+  announced-sends a i there listens (b ∷ addresses) (inr later) =
+      has_right (λ e. e ≡ unasked_by a i) (announcement v station b) (flat_map (announcement v station) addresses) (announced-sends a i there listens addresses later)
 
   -- ---- answers
   -- the interface that is found is one of them, and has the name
@@ -102,44 +133,102 @@ module _ (v : ViewValue) (station : Station) where
         (subst (Contains (j ∷ interfaces)) same (contains-first j interfaces), ap (λ (k : Interface). k.name) (sym same) ∙ (bytes_eq-Decides j.name name).0 named)
     go false other f rest = let (there, named) = rest f in (contains-later j interfaces i there, named)
 
-  module _ (i : Interface) (name frame : List ℕ) (there : Contains station.interfaces i) (named : i.name ≡ name) where
-    meant-answer : (arp ndp : Option (List ℕ)) → arp ≡ arp_answer_of (listens_of v station.node i.name) i.mac frame → ndp ≡ ndp_answer_of (listens_of v station.node i.name) i.mac frame
-        → Meant (sent_on i (option_or arp ndp))
-    meant-answer (Some answer) ndp a n =
-        (record { interface = i; of_words = there; named = refl; says = inr (frame, inl ((arp-means v station.node i.name i.mac frame answer (Some answer) a).0 refl)) }, tt)
-    meant-answer None (Some answer) a n =
-        (record { interface = i; of_words = there; named = refl; says = inr (frame, inr ((ndp-means v station.node i.name frame i.mac answer (Some answer) n).0 refl)) }, tt)
-    meant-answer None None a n = tt
+  -- where none is found, none has it
+  find-none : (name : List ℕ) (interfaces : List Interface) → find (λ j. bytes_eq j.name name) interfaces ≡ None → (i : Interface) → Contains interfaces i → i.name ≡ name → ⊥
+  find-none name [] e i there named = contains-none i there
+  find-none name (j ∷ interfaces) e i there named = go (bytes_eq j.name name) refl e (λ f later. find-none name interfaces f i later named) where
+    go : (b : Bool) → bytes_eq j.name name ≡ b → cond b (Some j) (find (λ j. bytes_eq j.name name) interfaces) ≡ None
+        → (find (λ j. bytes_eq j.name name) interfaces ≡ None → Contains interfaces i → ⊥) → ⊥
+    go true is f rest = absurd (cc)
+    go false other f rest =
+        elim (contains-cons j interfaces i there) [
+          | inl here ↦ true≢false (sym ((bytes_eq-Decides j.name name).1 (ap (λ (k : Interface). k.name) here ∙ named)) ∙ other)
+          | inr later ↦ rest f later
+        ]
 
-  answers-meant : (name frame : List ℕ) (found : Option Interface) → interface_of station name ≡ found → Meant (answer_by v station.node found frame)
-  answers-meant name frame None is = tt
-  answers-meant name frame (Some i) is =
-      let (there, named) = find-is name station.interfaces i is in
-      meant-answer i name frame there named (arp_answer_of (listens_of v station.node i.name) i.mac frame) (ndp_answer_of (listens_of v station.node i.name) i.mac frame) refl refl
+  module _ (received : Received) (i : Interface) (there : Contains station.interfaces i) (named : i.name ≡ received.interface) where
+    abbrev frame : List ℕ
+    frame = received.frame
+
+    -- a frame that has no answer of ARP with one hardware address has none with another
+    no-arp : None ≡ arp_answer_of (listens_of v station.node i.name) i.mac frame → (j : Interface) → j.name ≡ i.name → (answer : List ℕ) → ¬ (IsArpAnswer v station.node j.name j.mac frame answer)
+    no-arp none j same answer is =
+        let own = arp_reply i.mac (slice_range frame 38 42) (slice_range frame 22 28) (slice_range frame 28 32) in
+        let answers : IsArpAnswer v station.node j.name i.mac frame own = record { long = is.long; request = is.request; listens = is.listens; reply = refl } in
+        none-some own ((arp-means v station.node i.name i.mac frame own None none).1 (subst (λ (n : List ℕ). IsArpAnswer v station.node n i.mac frame own) same answers))
+
+    no-ndp : None ≡ ndp_answer_of (listens_of v station.node i.name) i.mac frame → (j : Interface) → j.name ≡ i.name → (answer : List ℕ) → ¬ (IsNdpAnswer v station.node j.name j.mac frame answer)
+    no-ndp none j same answer is =
+        let own = reply_to i.mac frame (sender_in is.options) in
+        let answers : IsNdpAnswer v station.node j.name i.mac frame own = record { options = is.options; solicited = is.solicited; reply = refl } in
+        none-some own ((ndp-means v station.node i.name frame i.mac own None none).1 (subst (λ (n : List ℕ). IsNdpAnswer v station.node n i.mac frame own) same answers))
+
+    meant-answer : (arp ndp : Option (List ℕ)) → arp ≡ arp_answer_of (listens_of v station.node i.name) i.mac frame → ndp ≡ ndp_answer_of (listens_of v station.node i.name) i.mac frame
+        → SendsAnswer v station received (sent_on i (option_or arp ndp))
+    meant-answer (Some answer) ndp a n =
+        inl (answer, record { interface = i; of_words = there; named = named; says = inl ((arp-means v station.node i.name i.mac frame answer (Some answer) a).0 refl) }, ap (λ (name : List ℕ). Sent name answer ∷ []) named)
+    meant-answer None (Some answer) a n =
+        inl (answer, record { interface = i; of_words = there; named = named; says = inr ((ndp-means v station.node i.name frame i.mac answer (Some answer) n).0 refl) }, ap (λ (name : List ℕ). Sent name answer ∷ []) named)
+    meant-answer None None a n = inr (none, refl) where
+      none : (answer : List ℕ) → ¬ (IsAnswer v station received answer)
+      none answer is =
+          elim is.says [
+            | inl arp ↦ no-arp a is.interface (is.named ∙ sym named) answer arp
+            | inr ndp ↦ no-ndp n is.interface (is.named ∙ sym named) answer ndp
+          ]
+
+  answers-meant : (received : Received) (found : Option Interface) → interface_of station received.interface ≡ found → SendsAnswer v station received (answer_by v station.node found received.frame)
+  answers-meant received None is = inr (λ answer answers. find-none received.interface station.interfaces is answers.interface answers.of_words answers.named, refl)
+  answers-meant received (Some i) is =
+      let (there, named) = find-is received.interface station.interfaces i is in
+      meant-answer received i there named (arp_answer_of (listens_of v station.node i.name) i.mac received.frame) (ndp_answer_of (listens_of v station.node i.name) i.mac received.frame) refl refl
 
 -- what is told of an event says what is meant by the view after it
-told-meant : (o : Option Received) (s : SpeakerState) (event : Event) → frame_in event ≡ o → AllByRecursion (SaysWhatIsMeant (view_after event s.view) s.station) (entries_at o s event)
+told-meant : (o : Option Received) (s : SpeakerState) (event : Event) → frame_in event ≡ o → SendsOf (view_after event s.view) s.station o (entries_at o s event)
 told-meant (Some received) s event is =
-    subst (λ (u : ViewValue). AllByRecursion (SaysWhatIsMeant u s.station) (answer_by s.view s.station.node (interface_of s.station received.interface) received.frame))
+    subst (λ (u : ViewValue). SendsAnswer u s.station received (answer_by s.view s.station.node (interface_of s.station received.interface) received.frame))
     (sym (frame_leaves event received s.view is))
-    (answers-meant s.view s.station received.interface received.frame (interface_of s.station received.interface) refl)
+    (answers-meant s.view s.station received (interface_of s.station received.interface) refl)
 told-meant None s event is =
-    all-append (SaysWhatIsMeant (view_after event s.view) s.station)
-    (entries_for (view_after event s.view) s.station (note_by s.view event) (announced_by s.view s.station.node) (announced_by (view_after event s.view) s.station.node))
-    (update_entries s.view (view_after event s.view) s.station)
-    (changes-meant (view_after event s.view) s.station (note_by s.view event) (announced_by s.view s.station.node) (announced_by (view_after event s.view) s.station.node))
-    (updates-meant (view_after event s.view) s.station s.view (view_after event s.view) s.station.node s.station.next_hop)
+    let node = s.station.node in
+    let w = view_after event s.view in
+    let note = note_by s.view event in
+    let before = announced_by s.view node in
+    let after = announced_by w node in
+    let updates = update_entries s.view w s.station in
+    let all = entries_for w s.station note before after ++ updates in
+    let come : announced_in all ≡ difference after before = change-announces w s.station note before after updates (none-updates s.view w node s.station.next_hop) in
+    record {
+      only =
+          all-append (IsOfThese w s.station all) (entries_for w s.station note before after) updates (
+            tt,
+            all-append (IsOfThese w s.station all) (withdrawals before after) (announcements w s.station before after) (withdrawn-meant w s.station all (difference before after))
+                (announced-meant w s.station all (difference after before) (λ a there. subst (λ (zs : List AddressValue). IsIn zs a) (sym come) there)),
+          )
+          (updates-meant w s.station all s.view w node s.station.next_hop);
+      each = λ a there name frame is.
+          let listed : IsIn (difference after before) a = subst (λ (zs : List AddressValue). IsIn zs a) come there in
+          let sent = announced-sends w s.station a is.interface is.of_words is.listens (difference after before) listed in
+          let same : unasked_by a is.interface ≡ Sent name frame = ap (λ (n : List ℕ). Sent n (unasked_of a.family is.interface.mac a.number)) is.named ∙ ap (λ (f : List ℕ). Sent name f) (sym is.says) in
+          has_left (λ e. e ≡ Sent name frame) (entries_for w s.station note before after) updates
+          (inr (has_right (λ e. e ≡ Sent name frame) (withdrawals before after) (announcements w s.station before after)
+          (subst (λ (e : Entry). IsIn (announcements w s.station before after) e) same sent)));
+    }
 
-line-meant : (s : SpeakerState) (line : Line) (t : SpeakerState) (entries : List Entry) → line_step s line ≡ Goes t entries → AllByRecursion (SaysWhatIsMeant t.view t.station) entries
-line-meant s line t entries goes =
+line-meant : (s : SpeakerState) (line : Line) (t : SpeakerState) (entries : List Entry) → line_step s line ≡ Goes t entries
+    → (event : Event) → event_of_line line.bytes ≡ Ok event → SendsOf t.view t.station (frame_in event) entries
+line-meant s line t entries goes event reads =
     let by = event_applies (event_of_line line.bytes) s t line entries goes in
-    subst (λ (es : List Entry). AllByRecursion (SaysWhatIsMeant t.view t.station) es) (sym by.tells)
-    (subst (λ (u : SpeakerState). AllByRecursion (SaysWhatIsMeant u.view u.station) (entries_at (frame_in by.event) s by.event)) (sym by.leads)
-    (told-meant (frame_in by.event) s by.event refl))
+    let read : Ok by.event ≡ Ok event = sym by.reads ∙ reads in
+    let same : by.event ≡ event = cc in
+    subst (λ (e : Event). SendsOf t.view t.station (frame_in e) entries) same
+    (subst (λ (es : List Entry). SendsOf t.view t.station (frame_in by.event) es) (sym by.tells)
+    (subst (λ (u : SpeakerState). SendsOf u.view u.station (frame_in by.event) (entries_at (frame_in by.event) s by.event)) (sym by.leads)
+    (told-meant (frame_in by.event) s by.event refl)))
 
 pub all_send_what_is_meant : AllSendWhatIsMeant
-all_send_what_is_meant said lines s told taken line t entries goes = line-meant s line t entries goes
+all_send_what_is_meant said lines s told taken line t entries goes event reads = line-meant s line t entries goes event reads
 
 -- whatever the words say
 pub meant_by : (words : List (List ℕ)) → SendsWhatIsMeant (begun_with (said_in words))
-meant_by words lines s told taken line t entries goes = line-meant s line t entries goes
+meant_by words lines s told taken line t entries goes event reads = line-meant s line t entries goes event reads

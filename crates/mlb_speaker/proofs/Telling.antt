@@ -118,7 +118,7 @@ module _ (a : AddressValue) where
       ∙ stands-announced v station xs (cond (same_address a x) true b)
       ∙ announced_bools b (same_address a x) (has_address xs a)
 
-  has-difference : (xs ys : List AddressValue) → has_address (difference xs ys) a ≡ (has_address xs a && not (has_address ys a))
+  pub has-difference : (xs ys : List AddressValue) → has_address (difference xs ys) a ≡ (has_address xs a && not (has_address ys a))
   has-difference xs ys = has-filter (λ b. not (has_address ys b)) xs
 
   turned : (b c : Bool) → ((b && not (b && not c)) || (c && not b)) ≡ c

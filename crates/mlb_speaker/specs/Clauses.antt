@@ -90,7 +90,11 @@ WritesOnly words told out out' = InStream words (written.WritesOnly speaker_rule
 abbrev pub TellsWhatIsAnnounced : {Z : Type 0} → List (String Z) → Type 0
 TellsWhatIsAnnounced words = told.TellsWhatIsAnnounced (begun_by words)
 
--- each frame that is sent says, unasked or as an answer, that an interface's hardware address has an address for which the node listens on it
+-- at each line of a run just what its event changes for the node is told, in its order
+abbrev pub TellsWhatChanges : {Z : Type 0} → List (String Z) → Type 0
+TellsWhatChanges words = told.TellsWhatChanges (begun_by words)
+
+-- at each line of a run just the frames are sent that are meant of its event
 abbrev pub SendsWhatIsMeant : {Z : Type 0} → List (String Z) → Type 0
 SendsWhatIsMeant words = meant.SendsWhatIsMeant (begun_by words)
 

@@ -97,9 +97,13 @@ LanesAreAsLines words = laws.ItemsAreAsLines (begun_by words)
 abbrev pub LanesTellWhatIsAnnounced : {Z : Type 0} → List (String Z) → Type 0
 LanesTellWhatIsAnnounced words = laws.ItemsTellWhatIsAnnounced (begun_by words)
 
--- each frame that is sent at an item says that an interface's hardware address has an address for which the node listens on it
+-- at each item just the frames are sent that are meant of its event
 abbrev pub LanesSendWhatIsMeant : {Z : Type 0} → List (String Z) → Type 0
 LanesSendWhatIsMeant words = laws.ItemsSendWhatIsMeant (begun_by words)
+
+-- at each item just what its event changes for the node is told
+abbrev pub LanesTellWhatChanges : {Z : Type 0} → List (String Z) → Type 0
+LanesTellWhatChanges words = laws.ItemsTellWhatChanges (begun_by words)
 
 -- after any items, with a next hop, each peer of the configuration in force has heard its routes
 abbrev pub LanesMakeRoutes : {Z : Type 0} → List (String Z) → Type 0

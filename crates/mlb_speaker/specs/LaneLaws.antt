@@ -1,6 +1,5 @@
 -- What is told of the items of two lanes.
 use Rattle.std.specs.Prelude.{◌≡◌, ◌↔◌, ℕ, List, [], ◌∷◌, ◌++◌, map, Option, Some, Result, Ok}
-use Rattle.std.specs.List.{AllByRecursion}
 use Rattle.ip_ranges.specs.Values.{AddressValue}
 use Rattle.kube_events.specs.Event.{event_of_line}
 use Rattle.kube_model.specs.declared.event.Event.{Event}
@@ -17,9 +16,9 @@ use Rattle.pool_config.specs.declared.compiled.CompiledPeer.{CompiledPeer}
 use Rattle.mlb_speaker.specs.declared.entries.Entry.{Entry}
 use Rattle.mlb_speaker.specs.Heard.{HearsSince}
 use Rattle.mlb_speaker.specs.Lanes.{belongs_to, item_step, lane_rules}
-use Rattle.mlb_speaker.specs.Meant.{SaysWhatIsMeant}
-use Rattle.mlb_speaker.specs.Stream.{SpeakerState, speaker_rules}
-use Rattle.mlb_speaker.specs.Told.{IsToldOf}
+use Rattle.mlb_speaker.specs.Meant.{SendsOf}
+use Rattle.mlb_speaker.specs.Stream.{SpeakerState, frame_in, speaker_rules}
+use Rattle.mlb_speaker.specs.Told.{IsToldOf, TellsChange}
 use Rattle.mlb_speaker.specs.Updates.{peers_of}
 
 -- Items of two lanes are taken one after the other. More may come behind them.
@@ -48,11 +47,15 @@ abbrev pub ItemsTellWhatIsAnnounced : SpeakerState → Type 0
 ItemsTellWhatIsAnnounced start = (items : List Item) (t : SpeakerState) (told : List (Told Entry)) → TakesItems start items [] t told
     → (a : AddressValue) → IsToldOf (entries_of told) a ↔ IsAnnouncer t.view a start.station.node
 
--- Each frame that is sent at an item says, unasked or as an answer, that an interface's hardware address has an address for which the node
--- listens on it.
+-- At each item just the frames are sent that are meant of its event, by what was shown then.
 abbrev pub ItemsSendWhatIsMeant : SpeakerState → Type 0
 ItemsSendWhatIsMeant start = (items : List Item) (item : Item) (s t : SpeakerState) (told : List (Told Entry)) (entries : List Entry)
-    → TakesItems start items (item ∷ []) s told → item_step s item ≡ Goes t entries → AllByRecursion (SaysWhatIsMeant t.view t.station) entries
+    → TakesItems start items (item ∷ []) s told → item_step s item ≡ Goes t entries → SendsOf t.view t.station (frame_in item.event) entries
+
+-- At each item just what its event changes for the node is told.
+abbrev pub ItemsTellWhatChanges : SpeakerState → Type 0
+ItemsTellWhatChanges start = (items : List Item) (item : Item) (s t : SpeakerState) (told : List (Told Entry)) (entries : List Entry)
+    → TakesItems start items (item ∷ []) s told → item_step s item ≡ Goes t entries → TellsChange start.station.node s.view t.view entries
 
 -- After any items that are taken, with a next hop, it is with each peer of the configuration in force as behind lines with their events, which are
 -- taken so in one stream: it has come with one of them, and what it was told since makes its routes of the empty table.

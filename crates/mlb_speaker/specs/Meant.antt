@@ -1,7 +1,10 @@
--- What the frames that are sent say.
-use Rattle.std.specs.Prelude.{◌≡◌, ◌⊎◌, ℕ, List, ⊤, Contains}
+-- Which frames are sent of an event, and what they say.
+use Rattle.std.specs.Prelude.{◌≡◌, ◌⊎◌, ℕ, List, [], ◌∷◌, ⊤, Contains, Option, Some, None, Ok}
 use Rattle.std.specs.List.{AllByRecursion}
+use Rattle.mlb_base.specs.Items.{IsIn}
 use Rattle.ip_ranges.specs.Values.{AddressValue}
+use Rattle.kube_events.specs.Event.{event_of_line}
+use Rattle.kube_model.specs.declared.event.Event.{Event}
 use Rattle.speaker_view.specs.ViewValue.{ViewValue}
 use Rattle.l2_elect.specs.Listening.{Listens}
 use Rattle.neigh_frames.specs.Arp.{IsArpAnswer}
@@ -15,36 +18,55 @@ use Rattle.mlb_speaker.specs.declared.entries.Entry.TheVariants.{Noted, Withdraw
 use Rattle.mlb_speaker.specs.declared.station.Interface.{Interface}
 use Rattle.mlb_speaker.specs.declared.station.Station.{Station}
 use Rattle.mlb_speaker.specs.Sends.{unasked_of}
-use Rattle.mlb_speaker.specs.Stream.{SpeakerState, first_state, line_step, speaker_rules}
+use Rattle.mlb_speaker.specs.Told.{announced_in}
+use Rattle.mlb_speaker.specs.Stream.{SpeakerState, Received, first_state, frame_in, line_step, speaker_rules}
 
--- the interface's hardware address has an address for which the node listens on it, which nobody asked
-abbrev pub IsUnasked : ViewValue → List ℕ → Interface → List ℕ → Type 0
-IsUnasked v node i frame = (a : AddressValue) × Listens v node i.name a × (frame ≡ unasked_of a.family i.mac a.number)
-
--- the answer to a request (RFC 826) or to a solicitation (RFC 4861), which is for such an address
-abbrev pub IsAnswer : ViewValue → List ℕ → Interface → List ℕ → List ℕ → Type 0
-IsAnswer v node i asked frame = IsArpAnswer v node i.name i.mac asked frame ⊎ IsNdpAnswer v node i.name i.mac asked frame
-
--- The frame is sent by an interface of the words, unasked or as an answer.
-pub record IsMeant (v : ViewValue) (station : Station) (name frame : List ℕ) : Type 0 where
+-- An interface of the words, on which the node listens for the address, says unasked that its hardware address has it: by a gratuitous ARP
+-- (RFC 5227, section 3) or an unsolicited advertisement (RFC 4861, section 7.2.6).
+pub record IsUnasked (v : ViewValue) (station : Station) (a : AddressValue) (name frame : List ℕ) : Type 0 where
   pub interface : Interface
   pub of_words : Contains station.interfaces interface
   pub named : interface.name ≡ name
-  pub says : IsUnasked v station.node interface frame ⊎ ((asked : List ℕ) × IsAnswer v station.node interface asked frame)
+  pub listens : Listens v station.node interface.name a
+  pub says : frame ≡ unasked_of a.family interface.mac a.number
 
--- the entry is no frame that is sent, or one that is meant
-abbrev pub SaysWhatIsMeant : ViewValue → Station → Entry → Type 0
-SaysWhatIsMeant v station (Noted note) = ⊤
-SaysWhatIsMeant v station (Withdrawn a) = ⊤
-SaysWhatIsMeant v station (Announced a) = ⊤
-SaysWhatIsMeant v station (Updated peer message) = ⊤
-SaysWhatIsMeant v station (Sent interface frame) = IsMeant v station interface frame
+-- The interface of the words by which a frame came answers it: a request (RFC 826) or a solicitation (RFC 4861, section 7.2.3) of an address for
+-- which the node listens on that interface.
+pub record IsAnswer (v : ViewValue) (station : Station) (received : Received) (frame : List ℕ) : Type 0 where
+  pub interface : Interface
+  pub of_words : Contains station.interfaces interface
+  pub named : interface.name ≡ received.interface
+  pub says : IsArpAnswer v station.node interface.name interface.mac received.frame frame ⊎ IsNdpAnswer v station.node interface.name interface.mac received.frame frame
 
--- Each frame that is sent at a line of a run says, unasked or as an answer, that an interface's hardware address has an address for which
--- the node listens on it by what was shown then.
+-- the entry is no frame, or an unasked one of an address that these entries announce
+abbrev pub IsOfThese : ViewValue → Station → List Entry → Entry → Type 0
+IsOfThese v station entries (Noted note) = ⊤
+IsOfThese v station entries (Withdrawn a) = ⊤
+IsOfThese v station entries (Announced a) = ⊤
+IsOfThese v station entries (Updated peer message) = ⊤
+IsOfThese v station entries (Sent name frame) = (a : AddressValue) × IsIn (announced_in entries) a × IsUnasked v station a name frame
+
+-- Just the unasked frames of the addresses that the entries announce are sent, each of them.
+pub record SendsUnasked (v : ViewValue) (station : Station) (entries : List Entry) : Type 0 where
+  pub only : AllByRecursion (IsOfThese v station entries) entries
+  pub each : (a : AddressValue) → IsIn (announced_in entries) a → (name frame : List ℕ) → IsUnasked v station a name frame → IsIn entries (Sent name frame)
+
+-- the answer to the frame is sent by the interface by which it came, and nothing else is told; nothing where it has no answer
+abbrev pub SendsAnswer : ViewValue → Station → Received → List Entry → Type 0
+SendsAnswer v station received entries =
+    ((frame : List ℕ) × IsAnswer v station received frame × (entries ≡ Sent received.interface frame ∷ []))
+    ⊎ (((frame : List ℕ) → ¬ (IsAnswer v station received frame)) × (entries ≡ []))
+
+-- what is sent of an event: of a received frame its answer, of others the unasked frames of what they announce
+abbrev pub SendsOf : ViewValue → Station → Option Received → List Entry → Type 0
+SendsOf v station None entries = SendsUnasked v station entries
+SendsOf v station (Some received) entries = SendsAnswer v station received entries
+
+-- At each line of a run just the frames are sent that are meant of its event, by what was shown then.
 abbrev pub SendsWhatIsMeant : SpeakerState → Type 0
 SendsWhatIsMeant start = (lines : List Line) (s : SpeakerState) (told : List Entry) → AreTaken speaker_rules lines start s told
-    → (line : Line) (t : SpeakerState) (entries : List Entry) → line_step s line ≡ Goes t entries → AllByRecursion (SaysWhatIsMeant t.view t.station) entries
+    → (line : Line) (t : SpeakerState) (entries : List Entry) → line_step s line ≡ Goes t entries
+    → (event : Event) → event_of_line line.bytes ≡ Ok event → SendsOf t.view t.station (frame_in event) entries
 
 -- so it is whatever the words say, where nothing was shown yet
 abbrev pub AllSendWhatIsMeant : Type 0

@@ -9,8 +9,8 @@ pub fn lines_tell_what_is_announced()
     ensures { LinesTellWhatIsAnnounced }
 {}
 
-/// Each frame that is sent at a line says, unasked or as an answer, that an interface's hardware address has an address for which the
-/// node listens on it.
+/// At each line just the frames are sent that are meant of its event: of a received frame its answer, of others the unasked frames of what is
+/// announced with it.
 pub fn all_send_what_is_meant()
     ensures { AllSendWhatIsMeant }
 {}

@@ -5,8 +5,8 @@ ghost use Rattle.lane_drive.specs.Files.{files_view};
 ghost use Rattle.lane_run.specs.Views.{source_view};
 ghost use Rattle.line_run.specs.Clauses.{AtEnd, AtReadFault, AtWriteFault};
 ghost use Rattle.command_options.specs.Options.{texts_of};
-ghost use Rattle.mlb_speaker.specs.Clauses.{InStream, MayAskAnswered, CanEnd, SpeaksForNamed, AtDone, AtBadLine, AtHeldLimit, AtLongLine, AtTooLong, AfterRead, AfterWrite, AtNoMemory, WritesOnly, TellsWhatIsAnnounced, SendsWhatIsMeant, TellsPeersTheirRoutes, IsExact, IsComplete};
-ghost use Rattle.mlb_speaker.specs.LaneClauses.{EndsLanes, LanesMayWait, LanesComplete, LanesDone, LanesWriteOnly, AtLaneOpenFault, AtLaneReadFault, LeavesOtherFiles, LeavesInput, LanesCanEnd, LanesAreAsLines, LanesTellWhatIsAnnounced, LanesSendWhatIsMeant, LanesMakeRoutes};
+ghost use Rattle.mlb_speaker.specs.Clauses.{InStream, MayAskAnswered, CanEnd, SpeaksForNamed, AtDone, AtBadLine, AtHeldLimit, AtLongLine, AtTooLong, AfterRead, AfterWrite, AtNoMemory, WritesOnly, TellsWhatIsAnnounced, TellsWhatChanges, SendsWhatIsMeant, TellsPeersTheirRoutes, IsExact, IsComplete};
+ghost use Rattle.mlb_speaker.specs.LaneClauses.{EndsLanes, LanesMayWait, LanesComplete, LanesDone, LanesWriteOnly, AtLaneOpenFault, AtLaneReadFault, LeavesOtherFiles, LeavesInput, LanesCanEnd, LanesAreAsLines, LanesTellWhatIsAnnounced, LanesTellWhatChanges, LanesSendWhatIsMeant, LanesMakeRoutes};
 ghost use Rattle.speaker_words.specs.Words.{AreKnown};
 
 use crate::speaker::Speaker;
@@ -68,8 +68,13 @@ pub fn run_speaker<
     // words announces by what was shown.
     ensures told { TellsWhatIsAnnounced words.now }
 
-    // Each frame that is sent says, unasked or as an answer, that the hardware address of an interface of the words has an address for
-    // which the node listens on it by what was shown then.
+    // At each line of a run just what its event changes is told: a withdraw line for each address that the node announces no more, and behind
+    // these an announce line for each that it announces from now on, each address once, IPv4 before IPv6 and each family ascending.
+    ensures changes { TellsWhatChanges words.now }
+
+    // At each line of a run just the frames are sent that are meant of its event, by what was shown then: of a received frame its answer by the
+    // interface of the words by which it came, where the node listens there for what is asked; of others, with each announce line, an unasked
+    // frame by each interface on which the node listens for the address.
     ensures sends { SendsWhatIsMeant words.now }
 
     // After each line of a run, with a next hop, what a peer of the configuration in force was told since it came, or since its AS
@@ -99,9 +104,10 @@ pub fn run_speaker<
     ensures lanes_only { LanesWriteOnly words.now (F.bytes files.old) (S.left input.old) K.written out.old out.new }
 
     // Whatever items are taken, there are lines with their events, one for each, that are taken so in one stream. So the clauses `told`,
-    // `sends` and `routes`, which speak of any lines, hold of what is told over lanes too.
+    // `changes`, `sends` and `routes`, which speak of any lines, hold of what is told over lanes too.
     ensures lanes_as_lines { LanesAreAsLines words.now }
     ensures lanes_told { LanesTellWhatIsAnnounced words.now }
+    ensures lanes_changes { LanesTellWhatChanges words.now }
     ensures lanes_sends { LanesSendWhatIsMeant words.now }
     ensures lanes_routes { LanesMakeRoutes words.now }
 

@@ -2,7 +2,7 @@
 ghost use Rattle.std.specs.Prelude.{◌≡◌, ◌↔◌, None};
 ghost use Rattle.line_run.specs.Clauses.{AtEnd, AtReadFault, AtWriteFault};
 ghost use Rattle.command_options.specs.Options.{texts_of};
-ghost use Rattle.mlb_speaker.specs.Clauses.{lanes_of, MayAskAnswered, CanEnd, SpeaksForNamed, AtDone, AtBadLine, AtHeldLimit, AtLongLine, AtTooLong, AfterRead, AfterWrite, AtNoMemory, WritesOnly, TellsWhatIsAnnounced, SendsWhatIsMeant, TellsPeersTheirRoutes, IsExact, IsComplete};
+ghost use Rattle.mlb_speaker.specs.Clauses.{lanes_of, MayAskAnswered, CanEnd, SpeaksForNamed, AtDone, AtBadLine, AtHeldLimit, AtLongLine, AtTooLong, AfterRead, AfterWrite, AtNoMemory, WritesOnly, TellsWhatIsAnnounced, TellsWhatChanges, SendsWhatIsMeant, TellsPeersTheirRoutes, IsExact, IsComplete};
 ghost use Rattle.speaker_words.specs.Words.{AreKnown};
 
 use crate::speaker::Speaker;
@@ -55,8 +55,13 @@ pub fn stream_speaker<S: PacedSource<K>, K: Sink>(
     // words announces by what was shown.
     ensures told { TellsWhatIsAnnounced words.now }
 
-    // Each frame that is sent says, unasked or as an answer, that the hardware address of an interface of the words has an address for
-    // which the node listens on it by what was shown then.
+    // At each line of a run just what its event changes is told: a withdraw line for each address that the node announces no more, and behind
+    // these an announce line for each that it announces from now on, each address once, IPv4 before IPv6 and each family ascending.
+    ensures changes { TellsWhatChanges words.now }
+
+    // At each line of a run just the frames are sent that are meant of its event, by what was shown then: of a received frame its answer by the
+    // interface of the words by which it came, where the node listens there for what is asked; of others, with each announce line, an unasked
+    // frame by each interface on which the node listens for the address.
     ensures sends { SendsWhatIsMeant words.now }
 
     // After each line of a run, with a next hop, what a peer of the configuration in force was told since it came, or since its AS

@@ -9,9 +9,10 @@ use Rattle.mlb_speaker.specs.Clauses.{begun_by}
 use Rattle.mlb_speaker.specs.Lanes.{lane_rules}
 use Rattle.mlb_speaker.specs.Stream.{SpeakerState}
 use Rattle.mlb_speaker.proofs.Begun.{named-begun}
+use Rattle.mlb_speaker.proofs.ChangesTold.{lines_tell_what_changes}
 use Rattle.mlb_speaker.proofs.Heard.{heard_by}
 use Rattle.mlb_speaker.proofs.LaneEnds.{asks_never, can_end, ends_none, writes_none}
-use Rattle.mlb_speaker.proofs.LaneLines.{items_as_lines, items_make, items_tell, items_send}
+use Rattle.mlb_speaker.proofs.LaneLines.{items_as_lines, items_make, items_tell, items_tell_changes, items_send}
 use Rattle.mlb_speaker.proofs.Meant.{meant_by}
 use Rattle.mlb_speaker.proofs.Telling.{told_by}
 use Rattle.speaker_words.specs.Seen.{said_seen}
@@ -118,3 +119,24 @@ returns-clause-lane_can_end g c files named =
 
 pub returns-in_default-new-clause-lanes_complete : goal.returns-in_default-new-clause-lanes_complete
 returns-in_default-new-clause-lanes_complete g c files named = λ ready opens reads none none'. inr refl
+
+pub returns-in_default-clause-changes : goal.returns-in_default-clause-changes
+returns-in_default-clause-changes g c = lines_tell_what_changes (begun_by c.args.words.now)
+
+pub returns-in_default-new-clause-changes : goal.returns-in_default-new-clause-changes
+returns-in_default-new-clause-changes g c = lines_tell_what_changes (begun_by c.args.words.now)
+
+pub returns-clause-changes : goal.returns-clause-changes
+returns-clause-changes g c = lines_tell_what_changes (begun_by c.args.words.now)
+
+pub returns-in_default-clause-lanes_changes : goal.returns-in_default-clause-lanes_changes
+returns-in_default-clause-lanes_changes g c = items_tell_changes (begun_by c.args.words.now) (lines_tell_what_changes (begun_by c.args.words.now))
+
+pub returns-in_default-lanes-clause-lanes_changes : goal.returns-in_default-lanes-clause-lanes_changes
+returns-in_default-lanes-clause-lanes_changes g c = items_tell_changes (begun_by c.args.words.now) (lines_tell_what_changes (begun_by c.args.words.now))
+
+pub returns-in_default-new-clause-lanes_changes : goal.returns-in_default-new-clause-lanes_changes
+returns-in_default-new-clause-lanes_changes g c = items_tell_changes (begun_by c.args.words.now) (lines_tell_what_changes (begun_by c.args.words.now))
+
+pub returns-clause-lanes_changes : goal.returns-clause-lanes_changes
+returns-clause-lanes_changes g c = items_tell_changes (begun_by c.args.words.now) (lines_tell_what_changes (begun_by c.args.words.now))

@@ -4,6 +4,7 @@ use Rattle.line_run.specs.Answered.{IsAnswered}
 use Rattle.mlb_speaker.specs.Clauses.{begun_by, begun_with}
 use Rattle.mlb_speaker.specs.Stream.{speaker_rules}
 use Rattle.mlb_speaker.proofs.Begun.{named-begun}
+use Rattle.mlb_speaker.proofs.ChangesTold.{lines_tell_what_changes}
 use Rattle.mlb_speaker.proofs.Heard.{heard_by}
 use Rattle.mlb_speaker.proofs.Meant.{meant_by}
 use Rattle.mlb_speaker.proofs.Telling.{told_by}
@@ -57,3 +58,12 @@ returns-in_default-new-clause-routes g c = heard_by (texts_of c.args.words.now)
 
 pub returns-clause-routes : goal.returns-clause-routes
 returns-clause-routes g c = heard_by (texts_of c.args.words.now)
+
+pub returns-in_default-clause-changes : goal.returns-in_default-clause-changes
+returns-in_default-clause-changes g c = lines_tell_what_changes (begun_by c.args.words.now)
+
+pub returns-in_default-new-clause-changes : goal.returns-in_default-new-clause-changes
+returns-in_default-new-clause-changes g c = lines_tell_what_changes (begun_by c.args.words.now)
+
+pub returns-clause-changes : goal.returns-clause-changes
+returns-clause-changes g c = lines_tell_what_changes (begun_by c.args.words.now)

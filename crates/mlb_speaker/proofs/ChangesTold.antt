@@ -1,0 +1,259 @@
+-- Of each event is told just what it changes.
+use Rattle.std.proofs.Common.{◌≡◌, ◌↔◌, ℕ, Bool, true, false, not, ◌&&◌, List, [], ◌∷◌, ◌++◌, map, Option, Some, None, refl, sym, ap, ◌∙◌, subst, append_assoc, Contains, inl, inr}
+use Rattle.std.proofs.lemmas.Bool.{and_parts, and_from, false_from_ne_true, true≢false}
+use Rattle.std.proofs.lemmas.List.{append-nil}
+use Rattle.std.proofs.lemmas.List.Kept.{IsStrictlySortedBy-filter}
+use Rattle.std.specs.List.{flat_map}
+use Rattle.std.specs.List.Sorted.{IsStrictlySortedBy}
+use Rattle.mlb_base.specs.Items.{IsIn}
+use Rattle.mlb_base.proofs.Among.{contains-first, contains-later, contains-cons, contains-none}
+use Rattle.ip_ranges.specs.Values.{AddressValue, has_address}
+use Rattle.ip_ranges.specs.declared.family.Family.{Family}
+use Rattle.ip_ranges.specs.declared.family.Family.TheVariants.{V4, V6}
+use Rattle.ip_ranges.proofs.AddressLaws.{has_address-is, has_address-from}
+use Rattle.kube_events.specs.Event.{event_of_line}
+use Rattle.kube_model.specs.declared.event.Event.{Event}
+use Rattle.pool_config.specs.declared.compiled.CompiledPeer.{CompiledPeer}
+use Rattle.object_cache.specs.declared.change.TakeNote.{TakeNote}
+use Rattle.speaker_view.specs.ViewValue.{ViewValue}
+use Rattle.speaker_view.specs.View.{view_after, note_by}
+use Rattle.l2_elect.specs.Election.{IsAnnouncer, announces_of}
+use Rattle.l2_elect.proofs.Least.{announces-announcer, announcer-announces}
+use Rattle.announced_set.specs.Announced.{address_cmp, announced_by}
+use Rattle.announced_set.specs.Changes.{difference}
+use Rattle.announced_set.proofs.Listed.{all_are_announced, has-announced}
+use Rattle.mlb_edge.specs.declared.lines.Line.{Line}
+use Rattle.line_run.specs.Machine.{Goes}
+use Rattle.line_run.specs.Run.{AreTaken}
+use Rattle.speaker_words.specs.Reading.{said_in}
+use Rattle.mlb_speaker.specs.declared.entries.Entry.{Entry}
+use Rattle.mlb_speaker.specs.declared.entries.Entry.TheVariants.{Noted, Withdrawn, Announced, Sent, Updated}
+use Rattle.mlb_speaker.specs.declared.station.Interface.{Interface}
+use Rattle.mlb_speaker.specs.declared.station.Station.{Station}
+use Rattle.mlb_speaker.specs.Clauses.{begun_with}
+use Rattle.mlb_speaker.specs.Entries.{withdrawn, withdrawals, announcements, entries_for}
+use Rattle.mlb_speaker.specs.Sends.{unasked_by, unasked, listening, announcement, sent_on, answer_on, answer_by, interface_of}
+use Rattle.mlb_speaker.specs.Stream.{SpeakerState, Received, frame_in, entries_at, entries_of, line_step, speaker_rules}
+use Rattle.mlb_speaker.specs.Told.{withdrawn_in, announced_in, AnnouncesAlone, TellsChange, TellsWhatChanges}
+use Rattle.mlb_speaker.specs.Updates.{peers_of, messages_to, updated, updates_to, updates_by, with_hop, update_entries}
+use Rattle.mlb_speaker.proofs.Steps.{frame_leaves}
+use Rattle.mlb_speaker.proofs.Telling.{event_applies, has-difference, station_kept}
+
+-- ---- the addresses of the lines
+pub announced-append : (xs ys : List Entry) → announced_in (xs ++ ys) ≡ announced_in xs ++ announced_in ys
+announced-append [] ys = refl
+announced-append (Announced a ∷ xs) ys = ap (λ (zs : List AddressValue). a ∷ zs) (announced-append xs ys)
+announced-append (Noted note ∷ xs) ys = announced-append xs ys
+announced-append (Withdrawn a ∷ xs) ys = announced-append xs ys
+announced-append (Sent interface frame ∷ xs) ys = announced-append xs ys
+announced-append (Updated peer message ∷ xs) ys = announced-append xs ys
+
+withdrawn-append : (xs ys : List Entry) → withdrawn_in (xs ++ ys) ≡ withdrawn_in xs ++ withdrawn_in ys
+withdrawn-append [] ys = refl
+withdrawn-append (Withdrawn a ∷ xs) ys = ap (λ (zs : List AddressValue). a ∷ zs) (withdrawn-append xs ys)
+withdrawn-append (Noted note ∷ xs) ys = withdrawn-append xs ys
+withdrawn-append (Announced a ∷ xs) ys = withdrawn-append xs ys
+withdrawn-append (Sent interface frame ∷ xs) ys = withdrawn-append xs ys
+withdrawn-append (Updated peer message ∷ xs) ys = withdrawn-append xs ys
+
+announced-withdrawals : (zs : List AddressValue) → announced_in (map withdrawn zs) ≡ []
+announced-withdrawals [] = refl
+announced-withdrawals (a ∷ zs) = announced-withdrawals zs
+
+withdrawn-withdrawals : (zs : List AddressValue) → withdrawn_in (map withdrawn zs) ≡ zs
+withdrawn-withdrawals [] = refl
+withdrawn-withdrawals (a ∷ zs) = ap (λ (bs : List AddressValue). a ∷ bs) (withdrawn-withdrawals zs)
+
+announced-unasked : (a : AddressValue) (interfaces : List Interface) → announced_in (map (unasked_by a) interfaces) ≡ []
+announced-unasked a [] = refl
+announced-unasked a (i ∷ interfaces) = announced-unasked a interfaces
+
+withdrawn-unasked : (a : AddressValue) (interfaces : List Interface) → withdrawn_in (map (unasked_by a) interfaces) ≡ []
+withdrawn-unasked a [] = refl
+withdrawn-unasked a (i ∷ interfaces) = withdrawn-unasked a interfaces
+
+announced-announcements : (v : ViewValue) (station : Station) (zs : List AddressValue) → announced_in (flat_map (announcement v station) zs) ≡ zs
+announced-announcements v station [] = refl
+announced-announcements v station (a ∷ zs) =
+    ap (λ (bs : List AddressValue). a ∷ bs) (
+    announced-append (unasked v station a) (flat_map (announcement v station) zs)
+    ∙ ap (λ (bs : List AddressValue). bs ++ announced_in (flat_map (announcement v station) zs)) (announced-unasked a (listening v station a))
+    ∙ announced-announcements v station zs)
+
+withdrawn-announcements : (v : ViewValue) (station : Station) (zs : List AddressValue) → withdrawn_in (flat_map (announcement v station) zs) ≡ []
+withdrawn-announcements v station [] = refl
+withdrawn-announcements v station (a ∷ zs) =
+    withdrawn-append (unasked v station a) (flat_map (announcement v station) zs)
+    ∙ ap (λ (bs : List AddressValue). bs ++ withdrawn_in (flat_map (announcement v station) zs)) (withdrawn-unasked a (listening v station a))
+    ∙ withdrawn-announcements v station zs
+
+-- what is told to peers has none
+pub record TellsNone (entries : List Entry) : Type 0 where
+  pub announced : announced_in entries ≡ []
+  pub withdrawn : withdrawn_in entries ≡ []
+
+none-append : (xs ys : List Entry) → TellsNone xs → TellsNone ys → TellsNone (xs ++ ys)
+none-append xs ys x y = record {
+  announced = announced-append xs ys ∙ ap (λ (zs : List AddressValue). zs ++ announced_in ys) x.announced ∙ y.announced;
+  withdrawn = withdrawn-append xs ys ∙ ap (λ (zs : List AddressValue). zs ++ withdrawn_in ys) x.withdrawn ∙ y.withdrawn;
+}
+
+none-messages : (peer : CompiledPeer) (messages : List (List ℕ)) → TellsNone (map (updated peer) messages)
+none-messages peer [] = record { announced = refl; withdrawn = refl }
+none-messages peer (message ∷ messages) = let rest = none-messages peer messages in record { announced = rest.announced; withdrawn = rest.withdrawn }
+
+none-peers : (v v' : ViewValue) (node : List ℕ) (hop : AddressValue) (peers : List CompiledPeer) → TellsNone (flat_map (updates_to v v' node hop) peers)
+none-peers v v' node hop [] = record { announced = refl; withdrawn = refl }
+none-peers v v' node hop (peer ∷ peers) =
+    none-append (updates_to v v' node hop peer) (flat_map (updates_to v v' node hop) peers) (none-messages peer (messages_to v v' node hop peer)) (none-peers v v' node hop peers)
+
+none-hop : (family : Family) (entries : List Entry) → TellsNone entries → TellsNone (with_hop family entries)
+none-hop V4 entries none = none
+none-hop V6 entries none = record { announced = refl; withdrawn = refl }
+
+pub none-updates : (v v' : ViewValue) (node : List ℕ) (hop : Option AddressValue) → TellsNone (updates_by v v' node hop)
+none-updates v v' node None = record { announced = refl; withdrawn = refl }
+none-updates v v' node (Some hop) = none-hop hop.family (flat_map (updates_to v v' node hop) (peers_of v')) (none-peers v v' node hop (peers_of v'))
+
+none-answer : (v : ViewValue) (node : List ℕ) (found : Option Interface) (frame : List ℕ) → TellsNone (answer_by v node found frame)
+none-answer v node None frame = record { announced = refl; withdrawn = refl }
+none-answer v node (Some i) frame = go (answer_on v node i frame) where
+  go : (answer : Option (List ℕ)) → TellsNone (sent_on i answer)
+  go None = record { announced = refl; withdrawn = refl }
+  go (Some answer) = record { announced = refl; withdrawn = refl }
+
+-- what is told of a change, with what is told to peers behind it
+module _ (v : ViewValue) (station : Station) (note : TakeNote) (before after : List AddressValue) (updates : List Entry) (none : TellsNone updates) where
+  abbrev gone : List Entry
+  gone = Noted note ∷ withdrawals before after
+
+  abbrev come : List Entry
+  come = announcements v station before after ++ updates
+
+  come-announces : announced_in come ≡ difference after before
+  come-announces =
+      announced-append (announcements v station before after) updates
+      ∙ ap (λ (zs : List AddressValue). announced_in (announcements v station before after) ++ zs) none.announced
+      ∙ append-nil (announced_in (announcements v station before after))
+      ∙ announced-announcements v station (difference after before)
+
+  come-withdraws : withdrawn_in come ≡ []
+  come-withdraws =
+      withdrawn-append (announcements v station before after) updates
+      ∙ ap (λ (zs : List AddressValue). withdrawn_in (announcements v station before after) ++ zs) none.withdrawn
+      ∙ append-nil (withdrawn_in (announcements v station before after))
+      ∙ withdrawn-announcements v station (difference after before)
+
+  change-splits : entries_for v station note before after ++ updates ≡ gone ++ come
+  change-splits = append_assoc gone (announcements v station before after) updates
+
+  pub change-announces : announced_in (entries_for v station note before after ++ updates) ≡ difference after before
+  change-announces =
+      ap announced_in change-splits
+      ∙ announced-append gone come
+      ∙ ap (λ (zs : List AddressValue). zs ++ announced_in come) (announced-withdrawals (difference before after))
+      ∙ come-announces
+
+  change-withdraws : withdrawn_in (entries_for v station note before after ++ updates) ≡ difference before after
+  change-withdraws =
+      ap withdrawn_in change-splits
+      ∙ withdrawn-append gone come
+      ∙ ap (λ (zs : List AddressValue). withdrawn_in gone ++ zs) come-withdraws
+      ∙ append-nil (withdrawn_in gone)
+      ∙ withdrawn-withdrawals (difference before after)
+
+-- ---- what a difference has
+listed-in : (xs : List AddressValue) (a : AddressValue) → Contains xs a → IsIn xs a
+listed-in [] a there = absurd (contains-none a there)
+listed-in (x ∷ xs) a there = elim (contains-cons x xs a there) [ inl here ↦ inl here | inr later ↦ inr (listed-in xs a later) ]
+
+in-listed : (xs : List AddressValue) (a : AddressValue) → IsIn xs a → Contains xs a
+in-listed [] a none = absurd none
+in-listed (x ∷ xs) a (inl here) = subst (λ (y : AddressValue). Contains (x ∷ xs) y) here (contains-first x xs)
+in-listed (x ∷ xs) a (inr later) = contains-later x xs a (in-listed xs a later)
+
+module _ (node : List ℕ) (v w : ViewValue) where
+  abbrev alone : List AddressValue
+  alone = difference (announced_by v node) (announced_by w node)
+
+  -- the test at an address
+  tested : (a : AddressValue) → has_address alone a ≡ (announces_of v node a && not (announces_of w node a))
+  tested a =
+      has-difference a (announced_by v node) (announced_by w node)
+      ∙ ap (λ (b : Bool). b && not (has_address (announced_by w node) a)) (has-announced v node a)
+      ∙ ap (λ (b : Bool). announces_of v node a && not b) (has-announced w node a)
+
+  refuses : (a : AddressValue) (b : Bool) → announces_of w node a ≡ b → not b ≡ true → ¬ (IsAnnouncer w a node)
+  refuses a true is passes announcer = absurd (cc)
+  refuses a false is passes announcer = true≢false (sym (announcer-announces w a node announcer) ∙ is)
+
+  pub alone-means : (a : AddressValue) → IsIn alone a ↔ AnnouncesAlone node v w a
+  alone-means a = (
+    λ there.
+        let both = and_parts (announces_of v node a) (not (announces_of w node a)) (sym (tested a) ∙ has_address-from alone a (in-listed alone a there)) in
+        (announces-announcer v a node both.0, refuses a (announces_of w node a) refl both.1),
+    λ is.
+        let none : announces_of w node a ≡ false = false_from_ne_true (announces_of w node a) (λ h. is.1 (announces-announcer w a node h)) in
+        listed-in alone a (has_address-is alone a (tested a ∙ and_from (announces_of v node a) (not (announces_of w node a)) (announcer-announces v a node is.0) (ap not none))),
+  )
+
+  pub alone-ascends : IsStrictlySortedBy address_cmp alone
+  alone-ascends = IsStrictlySortedBy-filter address_cmp (λ a. not (has_address (announced_by w node) a)) (announced_by v node) (all_are_announced v node).ascend
+
+-- ---- events
+pub nothing_ascends : IsStrictlySortedBy address_cmp []
+unfolding IsStrictlySortedBy
+nothing_ascends = tt
+
+-- nothing is told where the view stays
+still : (node : List ℕ) (v : ViewValue) (entries : List Entry) → TellsNone entries → TellsChange node v v entries
+still node v entries none = record {
+  withdrawn = λ a. (λ there. let none_there : IsIn [] a = subst (λ (zs : List AddressValue). IsIn zs a) none.withdrawn there in absurd none_there, λ is. absurd (is.1 is.0));
+  announced = λ a. (λ there. let none_there : IsIn [] a = subst (λ (zs : List AddressValue). IsIn zs a) none.announced there in absurd none_there, λ is. absurd (is.1 is.0));
+  withdrawn_ascend = subst (IsStrictlySortedBy address_cmp) (sym none.withdrawn) nothing_ascends;
+  announced_ascend = subst (IsStrictlySortedBy address_cmp) (sym none.announced) nothing_ascends;
+  first = [];
+  later = entries;
+  split = refl;
+  first_withdraws = refl;
+  later_announces = none.withdrawn;
+}
+
+event-told : (o : Option Received) (s : SpeakerState) (event : Event) → frame_in event ≡ o → TellsChange s.station.node s.view (view_after event s.view) (entries_at o s event)
+event-told (Some received) s event is =
+    let stays = frame_leaves event received s.view is in
+    subst (λ (w : ViewValue). TellsChange s.station.node s.view w (entries_at (Some received) s event)) (sym stays)
+    (still s.station.node s.view (entries_at (Some received) s event) (none-answer s.view s.station.node (interface_of s.station received.interface) received.frame))
+event-told None s event is =
+    let node = s.station.node in
+    let v = s.view in
+    let w = view_after event s.view in
+    let note = note_by s.view event in
+    let none = none-updates v w node s.station.next_hop in
+    let before = announced_by v node in
+    let after = announced_by w node in
+    let updates = update_entries v w s.station in
+    let gone = change-withdraws w s.station note before after updates none in
+    let come = change-announces w s.station note before after updates none in
+    record {
+      withdrawn = λ a. subst (λ (zs : List AddressValue). IsIn zs a ↔ AnnouncesAlone node v w a) (sym gone) (alone-means node v w a);
+      announced = λ a. subst (λ (zs : List AddressValue). IsIn zs a ↔ AnnouncesAlone node w v a) (sym come) (alone-means node w v a);
+      withdrawn_ascend = subst (IsStrictlySortedBy address_cmp) (sym gone) (alone-ascends node v w);
+      announced_ascend = subst (IsStrictlySortedBy address_cmp) (sym come) (alone-ascends node w v);
+      first = Noted note ∷ withdrawals before after;
+      later = announcements w s.station before after ++ updates;
+      split = change-splits w s.station note before after updates none;
+      first_withdraws = announced-withdrawals (difference before after);
+      later_announces = come-withdraws w s.station note before after updates none;
+    }
+
+line-told : (s : SpeakerState) (line : Line) (t : SpeakerState) (entries : List Entry) → line_step s line ≡ Goes t entries → TellsChange s.station.node s.view t.view entries
+line-told s line t entries goes =
+    let by = event_applies (event_of_line line.bytes) s t line entries goes in
+    subst (λ (es : List Entry). TellsChange s.station.node s.view t.view es) (sym by.tells)
+    (subst (λ (u : SpeakerState). TellsChange s.station.node s.view u.view (entries_of s by.event)) (sym by.leads)
+    (event-told (frame_in by.event) s by.event refl))
+
+pub lines_tell_what_changes : (start : SpeakerState) → TellsWhatChanges start
+lines_tell_what_changes start lines s told taken line t entries goes =
+    subst (λ (station : Station). TellsChange station.node s.view t.view entries) (station_kept lines start s told taken) (line-told s line t entries goes)

@@ -219,6 +219,19 @@ module _ (more : AddressValue → List ℕ) where
           ∙ (λ j a. append-nil (claims_having old (OfPort next-port) a) j ++ more a)
           ∙ ap (kept (OfPort next-port)) (sym now_on)
 
+  -- what isn't listed in a slot yet isn't in that of the port that comes next
+  pub fresh-next : (old before : AddressHoldersValue) (ports : List Port) (i : ℕ) (d : Port) → i < length ports → AreAscending ports
+      → ((s : Slot) → claims_having before s ≡ with_more old (take i ports) s) → (n : ℕ)
+      → ((s : Slot) (a : AddressValue) → Contains (claims_having old s a) n → ⊥)
+      → (a : AddressValue) → Contains (claims_having before (OfPort (get_or ports i d)) a) n → ⊥
+  fresh-next old before ports i d within up listed n fresh a there =
+      let next : Slot = OfPort (get_or ports i d) in
+      let same : claims_having before next a ≡ claims_having old next a =
+      ap (λ (f : AddressValue → List ℕ). f a) (listed next)
+      ∙ ap (λ (b : Bool). claims_having old next a ++ (if b then more a else [])) (not-before ports i d within up)
+      ∙ append-nil (claims_having old next a) in
+      fresh next a (subst (λ (ns : List ℕ). Contains ns n) same there)
+
   -- once no port is left
   pub listed-each : (old h : AddressHoldersValue) (ports shown : List Port) (i : ℕ) → length ports ≤ i → ports ≡ shown
       → ((s : Slot) → claims_having h s ≡ with_more old (take i ports) s) → (s : Slot) → claims_having h s ≡ with_more old shown s

@@ -1,15 +1,16 @@
 -- An index of claims that gets room, or one claim more.
-use Rattle.std.proofs.Common.{◌≡◌, ◌≢◌, ℕ, ◌+◌, ◌<◌, ◌≤◌, Bool, true, false, cond, not, ◌==◌, ◌&&◌, ◌||◌, List, [], ◌∷◌, ◌++◌, length, map, filter, take, drop, get_or, suc, Some, None, refl, sym, ap, subst, ◌∙◌, arith, append_assoc, add-one, ⊎_elim}
+use Rattle.std.proofs.Common.{◌≡◌, ◌≢◌, ℕ, ◌+◌, ◌-◌, ◌<◌, ◌≤◌, Bool, true, false, cond, if◌then◌else◌, not, ◌==◌, ◌&&◌, ◌||◌, List, [], ◌∷◌, ◌++◌, length, filter, take, drop, get_or, suc, Option, Some, None, refl, sym, ap, subst, ◌∙◌, arith, append_assoc, add-one, ⊎_elim, eqb-true, take_all}
 use Rattle.std.proofs.lemmas.Bool.{and_parts, and_from, or_cases, or_left, or_right, eq-eqb, true≢false}
 use Rattle.std.proofs.lemmas.Bool.Decides.{nat_tests, same_from_decides}
-use Rattle.std.proofs.lemmas.List.{map-append, append-nil}
-use Rattle.std.proofs.lemmas.List.Elements.{filter-append, Contains-push_cases, All-head, All-tail}
+use Rattle.std.proofs.lemmas.List.{map-append, append-nil, length-append}
+use Rattle.std.proofs.lemmas.List.Elements.{filter-append, Contains-append_cases, Contains-push_cases, Contains-get_or, All-head, All-tail}
 use Rattle.std.proofs.lemmas.List.Folds.{list_any-append}
 use Rattle.std.proofs.lemmas.Slice.Eq.{bytes_eq-Decides}
 use Rattle.std.proofs.Math.Seq.{take-suc, drop-cons}
-use Rattle.std.proofs.Math.ListN.{drop_of_length-le}
+use Rattle.std.proofs.lemmas.Option.{slice_get_within, get_or_from_slice_get}
 use Rattle.std.specs.BTreeMap.{is_at}
-use Rattle.std.specs.List.{All, Contains}
+use Rattle.std.specs.List.{All, Contains, slice_get}
+use Rattle.std.specs.Option.{option_map_or}
 use Rattle.std.specs.Map.{lookup, keys_of, values_of}
 use Rattle.std.specs.Str.{bytes_eq}
 use Rattle.ip_ranges.specs.declared.family.Family.{Family}
@@ -20,7 +21,7 @@ use Rattle.kube_model.specs.Keys.{key_cmp, same_key}
 use Rattle.kube_model.specs.Records.{is_assigned}
 use Rattle.kube_model.proofs.KeyLaws.{is_eq-key_cmp}
 use Rattle.mlb_base.specs.Items.{is_nil}
-use Rattle.mlb_base.proofs.Among.{contains-none, contains-first, contains-later}
+use Rattle.mlb_base.proofs.Among.{contains-none, contains-cons, contains-first, contains-later}
 use Rattle.numbered_items.specs.Index.{IndexValue, numbers_under, room_under}
 use Rattle.sharing_terms.specs.declared.terms.Terms.{Terms}
 use Rattle.alloc_book.specs.Book.{AreAssigned, HasRoomFor}
@@ -31,7 +32,34 @@ use Rattle.alloc_book.specs.Alike.{are_alike}
 use Rattle.alloc_book.specs.Holders.{AddressHoldersValue, ClaimantsValue, HasRoomAt, CanBeMixed, AreKnown, in_slot, claims_at, claim_room_at, claims_having, claim_room, address_room, is_known, mixed_of, is_mixed, mixed_room}
 use Rattle.number_sets.specs.Runs.{RunsValue, has}
 use Rattle.alloc_book.proofs.UniformLaws.{uniform-kept, uniform-added}
-use Rattle.alloc_book.specs.Index.{IsIndexed, AreShared, numbers_of, numbers_at, numbered_at, is_marked, is_shared, HasIt, AreUniform}
+use Rattle.alloc_book.specs.Index.{IsIndexed, AreShared, numbers_of, numbers_at, numbered, numbered_at, ends_with, is_marked, is_shared, HasIt, AreUniform}
+
+same_address-flip : (a b : AddressValue) → same_address a b ≡ same_address b a
+same_address-flip a b =
+    same_from_decides (same_address a b) (same_address b a) (same_address-is a b, λ e. subst (λ c. same_address a c ≡ true) e (same_address-itself a))
+    (λ e. sym (same_address-is b a e), λ e. subst (λ c. same_address c a ≡ true) e (same_address-itself a))
+
+-- ---- the number at the end of a list
+ends-by : (n : ℕ) (numbers : List ℕ) (last : Option ℕ) → last ≡ slice_get numbers (length numbers - 1) → option_map_or (λ m. m == n) last false ≡ true → Contains numbers n
+ends-by n numbers None e ends = absurd (true≢false (sym ends))
+ends-by n numbers (Some m) e ends =
+    let same : m ≡ n = eqb-true m n ends in
+    subst (Contains numbers) (get_or_from_slice_get numbers (length numbers - 1) m 0 (sym e) ∙ same)
+    (Contains-get_or numbers (length numbers - 1) 0 (slice_get_within numbers (length numbers - 1) m (sym e)))
+
+pub ends-there : (n : ℕ) (numbers : List ℕ) → ends_with n numbers ≡ true → Contains numbers n
+ends-there n numbers ends = ends-by n numbers (slice_get numbers (length numbers - 1)) refl ends
+
+last-put : (n : ℕ) (before : List ℕ) → slice_get (before ++ n ∷ []) (length before) ≡ Some n
+last-put n [] = refl
+last-put n (m ∷ before) = last-put n before
+
+pub ends-put : (n : ℕ) (before : List ℕ) → ends_with n (before ++ n ∷ []) ≡ true
+ends-put n before =
+    let at : length (before ++ n ∷ []) - 1 ≡ length before = omega (arith, length-append before (n ∷ [])) in
+    ap (λ k. option_map_or (λ m. m == n) (slice_get (before ++ n ∷ []) k) false) at
+    ∙ ap (λ o. option_map_or (λ m. m == n) o false) (last-put n before)
+    ∙ eq-eqb n n refl
 
 -- ---- room at addresses
 pub room-none : (h : AddressHoldersValue) (more : ℕ) (slot : Slot) → HasRoomAt h more slot []
@@ -47,12 +75,12 @@ rest-of addresses i x within is = drop-cons addresses i x within ∙ ap (λ y. y
 pub room-more : (before after : AddressHoldersValue) (more : ℕ) (slot : Slot) (addresses : List AddressValue) (i : ℕ) (x : AddressValue)
     → i < length addresses → x ≡ get_or addresses i x → HasRoomAt before more slot (take i addresses)
     → ((a : AddressValue) → claim_room before slot a ≤ claim_room after slot a) → ((family : Family) → address_room before slot family ≤ address_room after slot family)
-    → more ≤ claim_room after slot x → more ≤ address_room after slot x.family → HasRoomAt after more slot (take (i + 1) addresses)
+    → 0 < claim_room after slot x → more ≤ address_room after slot x.family → HasRoomAt after more slot (take (i + 1) addresses)
 room-more before after more slot addresses i x within is room claims families claim family =
     subst (HasRoomAt after more slot) (sym (taken-more addresses i x within is)) (record {
       by_claims = λ a there. ⊎_elim
           (λ old. omega (arith, room.by_claims a old, claims a))
-          (λ same. subst (λ y. more ≤ claim_room after slot y) same claim)
+          (λ same. subst (λ y. 0 < claim_room after slot y) same claim)
           (Contains-push_cases (take i addresses) x a there);
       by_family = λ a there. ⊎_elim
           (λ old. omega (arith, room.by_family a old, families a.family))
@@ -63,7 +91,7 @@ room-more before after more slot addresses i x within is room claims families cl
 -- the same room
 pub room-same : (before after : AddressHoldersValue) (more : ℕ) (slot : Slot) (addresses : List AddressValue) → in_slot after slot ≡ in_slot before slot → HasRoomAt before more slot addresses → HasRoomAt after more slot addresses
 room-same before after more slot addresses same room = record {
-  by_claims = λ a there. subst (λ (f : Family → ClaimantsValue). more ≤ claim_room_at (f a.family) a.number) (sym same) (room.by_claims a there);
+  by_claims = λ a there. subst (λ (f : Family → ClaimantsValue). 0 < claim_room_at (f a.family) a.number) (sym same) (room.by_claims a there);
   by_family = λ a there. subst (λ (f : Family → ClaimantsValue). more ≤ (f a.family).room) (sym same) (room.by_family a there);
 }
 
@@ -100,26 +128,123 @@ mixed-more before after more addresses i x within is room kept here =
     (λ same. subst (λ (y : AddressValue). more ≤ mixed_room after y.family) same here)
     (Contains-push_cases (take i addresses) x a there))
 
--- there is room for the first
-pub room-first : (h : AddressHoldersValue) (slot : Slot) (addresses : List AddressValue) (i : ℕ) (x : AddressValue)
-    → i < length addresses → x ≡ get_or addresses i x → HasRoomAt h (length (drop i addresses)) slot (drop i addresses)
-    → (0 < claim_room h slot x) × (0 < address_room h slot x.family)
-room-first h slot addresses i x within is room =
-    let here : HasRoomAt h (length (x ∷ drop (i + 1) addresses)) slot (x ∷ drop (i + 1) addresses) = subst (λ rest. HasRoomAt h (length rest) slot rest) (rest-of addresses i x within is) room in
-    let first : Contains (x ∷ drop (i + 1) addresses) x = contains-first x (drop (i + 1) addresses) in
-    (omega (arith, here.by_claims x first), omega (arith, here.by_family x first))
+-- There is room at the addresses from the index on: for a claim at each of them that doesn't stand ahead of the index, and for so many addresses.
+pub record HasRoomFrom (h : AddressHoldersValue) (slot : Slot) (addresses : List AddressValue) (i : ℕ) : Type 0 where
+  pub by_claims : (a : AddressValue) → Contains (drop i addresses) a → has_address (take i addresses) a ≡ false → 0 < claim_room h slot a
+  pub by_family : (a : AddressValue) → Contains (drop i addresses) a → length (drop i addresses) ≤ address_room h slot a.family
 
--- and then for the rest
-pub room-rest : (before after : AddressHoldersValue) (slot : Slot) (addresses : List AddressValue) (i : ℕ) (x : AddressValue)
-    → i < length addresses → x ≡ get_or addresses i x → HasRoomAt before (length (drop i addresses)) slot (drop i addresses)
-    → ((a : AddressValue) → claim_room before slot a ≤ claim_room after slot a + 1) → ((family : Family) → address_room before slot family ≤ address_room after slot family + 1)
-    → HasRoomAt after (length (drop (i + 1) addresses)) slot (drop (i + 1) addresses)
-room-rest before after slot addresses i x within is room claims families =
-    let here : HasRoomAt before (length (x ∷ drop (i + 1) addresses)) slot (x ∷ drop (i + 1) addresses) = subst (λ rest. HasRoomAt before (length rest) slot rest) (rest-of addresses i x within is) room in
-    record {
-      by_claims = λ a there. omega (arith, here.by_claims a (contains-later x (drop (i + 1) addresses) a there), claims a);
-      by_family = λ a there. omega (arith, here.by_family a (contains-later x (drop (i + 1) addresses) a there), families a.family);
+pub room-from : (h : AddressHoldersValue) (slot : Slot) (addresses : List AddressValue) → HasRoomAt h (length addresses) slot addresses → HasRoomFrom h slot addresses 0
+room-from h slot addresses room = record { by_claims = λ a there apart. room.by_claims a there; by_family = room.by_family }
+
+-- the address at the index, and whether one stands up to it
+module _ (addresses : List AddressValue) (i : ℕ) (x : AddressValue) (within : i < length addresses) (is : x ≡ get_or addresses i x) where
+  here-first : Contains (drop i addresses) x
+  here-first = subst (λ (rest : List AddressValue). Contains rest x) (sym (rest-of addresses i x within is)) (contains-first x (drop (i + 1) addresses))
+
+  later-too : (a : AddressValue) → Contains (drop (i + 1) addresses) a → Contains (drop i addresses) a
+  later-too a there = subst (λ (rest : List AddressValue). Contains rest a) (sym (rest-of addresses i x within is)) (contains-later x (drop (i + 1) addresses) a there)
+
+  shorter : length (drop i addresses) ≡ length (drop (i + 1) addresses) + 1
+  shorter = ap (λ (rest : List AddressValue). length rest) (rest-of addresses i x within is) ∙ omega (arith)
+
+  pub grown : (a : AddressValue) → has_address (take (i + 1) addresses) a ≡ (has_address (take i addresses) a || (same_address x a || false))
+  grown a =
+      ap (λ (taken : List AddressValue). has_address taken a) (taken-more addresses i x within is)
+      ∙ list_any-append (same_address a) (take i addresses) (x ∷ [])
+      ∙ ap (λ b. has_address (take i addresses) a || (b || false)) (same_address-flip a x)
+
+  neither : (a : AddressValue) → has_address (take (i + 1) addresses) a ≡ false → (has_address (take i addresses) a ≡ false) × (same_address x a ≡ false)
+  neither a apart = parts (has_address (take i addresses) a) (same_address x a) (sym (grown a) ∙ apart)
+    where
+      parts : (p q : Bool) → (p || (q || false)) ≡ false → (p ≡ false) × (q ≡ false)
+      parts true q e = absurd (true≢false e)
+      parts false true e = absurd (true≢false e)
+      parts false false e = (refl, refl)
+
+  module _ (slot : Slot) (before : AddressHoldersValue) (room : HasRoomFrom before slot addresses i) where
+    pub room-here : has_address (take i addresses) x ≡ false → (0 < claim_room before slot x) × (0 < address_room before slot x.family)
+    room-here apart = (room.by_claims x here-first apart, omega (arith, shorter, room.by_family x here-first))
+
+    -- once the claim was listed at that address
+    pub room-next : (after : AddressHoldersValue)
+        → ((a : AddressValue) → claim_room before slot a ≤ claim_room after slot a + (if same_address x a then 1 else 0))
+        → ((family : Family) → address_room before slot family ≤ address_room after slot family + 1) → HasRoomFrom after slot addresses (i + 1)
+    room-next after claims families = record {
+      by_claims = λ a there apart.
+          let two = neither a apart in
+          let kept : claim_room before slot a ≤ claim_room after slot a + 0 = subst (λ (b : Bool). claim_room before slot a ≤ claim_room after slot a + cond b 1 0) two.1 (claims a) in
+          omega (arith, room.by_claims a (later-too a there) two.0, kept);
+      by_family = λ a there. omega (arith, shorter, room.by_family a (later-too a there), families a.family);
     }
+
+    -- or stood there already
+    pub room-still : HasRoomFrom before slot addresses (i + 1)
+    room-still = record {
+      by_claims = λ a there apart. room.by_claims a (later-too a there) (neither a apart).0;
+      by_family = λ a there. omega (arith, shorter, room.by_family a (later-too a there));
+    }
+
+  module _ (number : ℕ) (start before : AddressValue → List ℕ) (listed : (a : AddressValue) → before a ≡ start a ++ numbered number (take i addresses) a) where
+    added-by : (had here : Bool) (old : List ℕ) → (here ≡ true → had ≡ false)
+        → cond here ((old ++ cond had (number ∷ []) []) ++ number ∷ []) (old ++ cond had (number ∷ []) []) ≡ old ++ cond (had || (here || false)) (number ∷ []) []
+    added-by true true old apart = absurd (true≢false (apart refl))
+    added-by true false old apart = refl
+    added-by false true old apart = ap (λ (ns : List ℕ). ns ++ number ∷ []) (append-nil old)
+    added-by false false old apart = refl
+
+    -- the number was put at the end of the list of that address, where it wasn't
+    pub listed-next : (after : AddressValue → List ℕ) → has_address (take i addresses) x ≡ false
+        → after ≡ (λ a. cond (same_address x a) (before a ++ number ∷ []) (before a))
+        → (a : AddressValue) → after a ≡ start a ++ numbered number (take (i + 1) addresses) a
+    listed-next after apart adds a =
+        ap (λ (f : AddressValue → List ℕ). f a) adds
+        ∙ ap (λ (ns : List ℕ). cond (same_address x a) (ns ++ number ∷ []) ns) (listed a)
+        ∙ added-by (has_address (take i addresses) a) (same_address x a) (start a)
+        (λ same. ap (has_address (take i addresses)) (sym (same_address-is x a same)) ∙ apart)
+        ∙ ap (λ b. start a ++ cond b (number ∷ []) []) (sym (grown a))
+
+    still-by : (had here : Bool) (old : List ℕ) → (here ≡ true → had ≡ true) → old ++ cond had (number ∷ []) [] ≡ old ++ cond (had || (here || false)) (number ∷ []) []
+    still-by true here old there = refl
+    still-by false true old there = absurd (true≢false (sym (there refl)))
+    still-by false false old there = refl
+
+    -- it stood there already
+    pub listed-still : has_address (take i addresses) x ≡ true → (a : AddressValue) → before a ≡ start a ++ numbered number (take (i + 1) addresses) a
+    listed-still there a =
+        listed a
+        ∙ still-by (has_address (take i addresses) a) (same_address x a) (start a) (λ same. ap (has_address (take i addresses)) (sym (same_address-is x a same)) ∙ there)
+        ∙ ap (λ b. start a ++ cond b (number ∷ []) []) (sym (grown a))
+
+    -- the number stands at the end exactly where the address stands ahead of the index
+    module _ (fresh : (a : AddressValue) → Contains (start a) number → ⊥) where
+      ended-by : (had : Bool) → had ≡ has_address (take i addresses) x → ends_with number (before x) ≡ true → had ≡ true
+      ended-by true e ends = refl
+      ended-by false e ends =
+          let same : before x ≡ start x = listed x ∙ ap (λ b. start x ++ cond b (number ∷ []) []) (sym e) ∙ append-nil (start x) in
+          absurd (fresh x (ends-there number (start x) (ap (ends_with number) (sym same) ∙ ends)))
+
+      pub ended : ends_with number (before x) ≡ true → has_address (take i addresses) x ≡ true
+      ended ends = sym (sym (ended-by (has_address (take i addresses) x) refl ends))
+
+      open-by : (had : Bool) → had ≡ has_address (take i addresses) x → ends_with number (before x) ≡ false → had ≡ false
+      open-by false e ends = refl
+      open-by true e ends =
+          let same : before x ≡ start x ++ number ∷ [] = listed x ∙ ap (λ b. start x ++ cond b (number ∷ []) []) (sym e) in
+          absurd (true≢false (sym (ap (ends_with number) same ∙ ends-put number (start x)) ∙ ends))
+
+      pub not-ended : ends_with number (before x) ≡ false → has_address (take i addresses) x ≡ false
+      not-ended ends = open-by (has_address (take i addresses) x) refl ends
+
+-- before any address
+pub listed-none : (number : ℕ) (start : AddressValue → List ℕ) (addresses : List AddressValue) (a : AddressValue) → start a ≡ start a ++ numbered number (take 0 addresses) a
+listed-none number start addresses a = sym (append-nil (start a))
+
+-- once no address is left
+pub listed-all : (number : ℕ) (start after : AddressValue → List ℕ) (addresses : List AddressValue) (i : ℕ) → length addresses ≤ i
+    → ((a : AddressValue) → after a ≡ start a ++ numbered number (take i addresses) a)
+    → after ≡ (λ a. start a ++ numbered number addresses a)
+listed-all number start after addresses i passed each =
+    λ j a. (each a ∙ ap (λ (taken : List AddressValue). start a ++ numbered number taken a) (take_all i addresses passed)) j
 
 -- ---- sharing keys
 pub known-more : (before after : List ℕ → AddressValue → Bool) (key : List ℕ) (x : AddressValue)
@@ -141,43 +266,6 @@ known-first before after key copied addresses i x within is same_text sets known
     let first : after key x ≡ true = ap (λ (f : List ℕ → AddressValue → Bool). f key x) sets ∙ or_left (bytes_eq copied key && same_address x x) (before key x) itself in
     subst (λ y. after key y ≡ true) same first)
     (Contains-push_cases (take i addresses) x a (subst (λ taken. Contains taken a) (taken-more addresses i x within is) there))
-
--- ---- a number at the end of each address's list
-same_address-flip : (a b : AddressValue) → same_address a b ≡ same_address b a
-same_address-flip a b =
-    same_from_decides (same_address a b) (same_address b a) (same_address-is a b, λ e. subst (λ c. same_address a c ≡ true) e (same_address-itself a))
-    (λ e. sym (same_address-is b a e), λ e. subst (λ c. same_address c a ≡ true) e (same_address-itself a))
-
-listed-by : (b : Bool) (before more : List ℕ) (number : ℕ) → before ++ cond b (number ∷ more) more ≡ cond b (before ++ number ∷ []) before ++ more
-listed-by true before more number = sym (append_assoc before (number ∷ []) more)
-listed-by false before more number = refl
-
-numbered-by : (b : Bool) (number : ℕ) (x : AddressValue) (more : List AddressValue) → map (λ _. number) (cond b (x ∷ more) more) ≡ cond b (number ∷ map (λ _. number) more) (map (λ _. number) more)
-numbered-by true number x more = refl
-numbered-by false number x more = refl
-
-pub listed-more : (before after : AddressValue → List ℕ) (number : ℕ) (addresses : List AddressValue) (i : ℕ) (x : AddressValue)
-    → i < length addresses → x ≡ get_or addresses i x
-    → after ≡ (λ a. cond (same_address x a) (before a ++ number ∷ []) (before a))
-    → (a : AddressValue) → before a ++ map (λ _. number) (filter (same_address a) (drop i addresses)) ≡ after a ++ map (λ _. number) (filter (same_address a) (drop (i + 1) addresses))
-listed-more before after number addresses i x within is adds a =
-    let rest : List AddressValue = drop (i + 1) addresses in
-    let more : List AddressValue = filter (same_address a) rest in
-    ap (λ (list : List AddressValue). before a ++ map (λ _. number) (filter (same_address a) list)) (rest-of addresses i x within is)
-    ∙ ap (λ (ns : List ℕ). before a ++ ns) (numbered-by (same_address a x) number x more)
-    ∙ listed-by (same_address a x) (before a) (map (λ _. number) more) number
-    ∙ ap (λ b. cond b (before a ++ number ∷ []) (before a) ++ map (λ _. number) more) (same_address-flip a x)
-    ∙ ap (λ (f : AddressValue → List ℕ). f a ++ map (λ _. number) more) (sym adds)
-
--- once no address is left
-pub listed-all : (before after : AddressValue → List ℕ) (number : ℕ) (addresses : List AddressValue) (i : ℕ)
-    → length addresses ≤ i
-    → ((a : AddressValue) → before a ++ map (λ _. number) (filter (same_address a) addresses) ≡ after a ++ map (λ _. number) (filter (same_address a) (drop i addresses)))
-    → after ≡ (λ a. before a ++ map (λ _. number) (filter (same_address a) addresses))
-listed-all before after number addresses i passed each = λ j a. sym (each a ∙ none a) j
-  where
-    none : (a : AddressValue) → after a ++ map (λ _. number) (filter (same_address a) (drop i addresses)) ≡ after a
-    none a = ap (λ (list : List AddressValue). after a ++ map (λ _. number) (filter (same_address a) list)) (drop_of_length-le addresses passed) ∙ append-nil (after a)
 
 -- where the slots stay, or the mixed addresses, what is read of them stays
 pub same-claims : (before after : AddressHoldersValue) (slot : Slot) → in_slot after ≡ in_slot before → claims_having after slot ≡ claims_having before slot
@@ -303,6 +391,24 @@ indexed-added items more number c keys keys_after h h_after indexed is assigned 
         marked-known h c.terms c.holding.addresses key a known parts.0 parts.1)
         (or_cases (is_shared key (values_of items) a) (is_shared key (c ∷ []) a) either) in
         ap (λ (f : List ℕ → AddressValue → Bool). f key a) same_known ∙ before
+
+-- a number that is greater than all isn't listed yet
+pub not-listed : (slot : Slot) (a : AddressValue) (items : List (ℕ × ClaimValue)) (number : ℕ) → All (λ p. p.0 < number) items → Contains (numbers_at slot a items) number → ⊥
+not-listed slot a [] number fresh there = contains-none number there
+not-listed slot a (p ∷ items) number fresh there =
+    ⊎_elim
+    (λ here. below (numbered_at slot a p) (occupies slot p.1) (has_address p.1.holding.addresses a) refl here)
+    (λ later. not-listed slot a items number (All-tail (λ (p : ℕ × ClaimValue). p.0 < number) p items fresh) later)
+    (Contains-append_cases (numbered_at slot a p) (numbers_at slot a items) number there)
+  where
+    less : p.0 < number
+    less = All-head (λ (p : ℕ × ClaimValue). p.0 < number) p items fresh
+
+    below : (ns : List ℕ) (occupied has : Bool) → ns ≡ cond occupied (cond has (p.0 ∷ []) []) [] → Contains ns number → ⊥
+    below ns true true is there =
+        ⊎_elim (λ (same : p.0 ≡ number). omega (arith, less, same)) (λ none. contains-none number none) (contains-cons p.0 [] number (subst (λ (l : List ℕ). Contains l number) is there))
+    below ns true false is there = contains-none number (subst (λ (l : List ℕ). Contains l number) is there)
+    below ns false has is there = contains-none number (subst (λ (l : List ℕ). Contains l number) is there)
 
 -- the claim that is found under its number is that one
 pub found-is : (items more : List (ℕ × ClaimValue)) (number : ℕ) (c found : ClaimValue)

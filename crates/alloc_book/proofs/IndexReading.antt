@@ -1,5 +1,5 @@
 -- What the claims under the numbers of a key or of an address say of all claims.
-use Rattle.std.proofs.Common.{◌≡◌, ℕ, ◌+◌, ◌<◌, ◌≤◌, ◌==◌, Bool, true, false, cond, not, ◌&&◌, ◌||◌, List, [], ◌∷◌, ◌++◌, map, filter, length, Option, Some, None, Less, IfSome, IfNone, refl, sym, ap, ◌∙◌, subst, arith, ⊎_elim}
+use Rattle.std.proofs.Common.{◌≡◌, ℕ, ◌+◌, ◌<◌, ◌≤◌, ◌==◌, Bool, true, false, cond, not, ◌&&◌, ◌||◌, List, [], ◌∷◌, ◌++◌, filter, length, Option, Some, None, Less, IfSome, IfNone, refl, sym, ap, ◌∙◌, subst, arith, ⊎_elim}
 use Rattle.std.specs.Bool.{MatchBool}
 use Rattle.std.specs.List.{Contains, AllByRecursion, AllWithin, HoldsAt, list_any, list_all}
 use Rattle.std.specs.List.Sorted.{IsStrictlySortedBy}
@@ -8,7 +8,7 @@ use Rattle.std.specs.Ordering.{nat_cmp}
 use Rattle.std.proofs.lemmas.Bool.Decides.{nat_tests}
 use Rattle.std.proofs.lemmas.Bool.{true≢false}
 use Rattle.ip_ranges.specs.declared.family.Family.{Family}
-use Rattle.ip_ranges.specs.Values.{AddressValue, has_address, same_address}
+use Rattle.ip_ranges.specs.Values.{AddressValue, has_address}
 use Rattle.kube_model.specs.declared.key.Key.{Key}
 use Rattle.kube_model.specs.declared.record.Record.{Record}
 use Rattle.kube_model.specs.Keys.{same_key}
@@ -22,7 +22,7 @@ use Rattle.alloc_book.specs.declared.slot.Slot.TheVariants.{Any}
 use Rattle.alloc_book.specs.Slots.{occupies}
 use Rattle.alloc_book.specs.Claims.{ClaimValue, has_claims, loses, claims_it}
 use Rattle.alloc_book.specs.Holders.{AddressHoldersValue, claims_having, is_known}
-use Rattle.alloc_book.specs.Index.{numbers_of, numbers_at, is_taken, is_shared, AreShared, NoneShared}
+use Rattle.alloc_book.specs.Index.{numbers_of, numbered, numbers_at, is_taken, is_shared, AreShared, NoneShared}
 use Rattle.alloc_book.specs.Reading.{is_claim_under, gives_way, is_of, yields}
 use Rattle.alloc_book.specs.Search.{address_of, leaves}
 
@@ -71,24 +71,13 @@ nil-of key [] = refl
 nil-of key (p ∷ items) = nil-of-by (same_key p.1.key key) p (filter (λ p. same_key p.1.key key) items) (has_claims key (values_of items)) (nil-of key items)
 
 module _ (a : AddressValue) where
-  nil-each-by : (s : Bool) (n : ℕ) (b : AddressValue) (kept : List AddressValue) (rest : List ℕ) (h : Bool) → is_nil (map (λ _. n) kept ++ rest) ≡ not h
-      → is_nil (map (λ _. n) (cond s (b ∷ kept) kept) ++ rest) ≡ not (s || h)
-  nil-each-by true n b kept rest h ih = refl
-  nil-each-by false n b kept rest h ih = ih
-
-  or-behind : (x y z : Bool) → not (x || (y || z)) ≡ not ((x || y) || z)
-  or-behind true y z = refl
-  or-behind false y z = refl
-
-  nil-each : (n : ℕ) (addresses : List AddressValue) (rest : List ℕ) (h : Bool) → is_nil rest ≡ not h → is_nil (map (λ _. n) (filter (same_address a) addresses) ++ rest) ≡ not (has_address addresses a || h)
-  nil-each n [] rest h ih = ih
-  nil-each n (b ∷ addresses) rest h ih =
-      nil-each-by (same_address a b) n b (filter (same_address a) addresses) rest (has_address addresses a || h) (nil-each n addresses rest h ih)
-      ∙ or-behind (same_address a b) (has_address addresses a) h
+  nil-once : (has : Bool) (n : ℕ) (rest : List ℕ) (h : Bool) → is_nil rest ≡ not h → is_nil (cond has (n ∷ []) [] ++ rest) ≡ not (has || h)
+  nil-once true n rest h ih = refl
+  nil-once false n rest h ih = ih
 
   nil-listed : (occupied : Bool) (n : ℕ) (addresses : List AddressValue) (rest : List ℕ) (h : Bool) → is_nil rest ≡ not h
-      → is_nil (cond occupied (map (λ _. n) (filter (same_address a) addresses)) [] ++ rest) ≡ not (occupied && has_address addresses a || h)
-  nil-listed true n addresses rest h ih = nil-each n addresses rest h ih
+      → is_nil (cond occupied (numbered n addresses a) [] ++ rest) ≡ not (occupied && has_address addresses a || h)
+  nil-listed true n addresses rest h ih = nil-once (has_address addresses a) n rest h ih
   nil-listed false n addresses rest h ih = ih
 
   pub nil-at : (slot : Slot) (items : List (ℕ × ClaimValue)) → is_nil (numbers_at slot a items) ≡ not (is_taken slot (values_of items) a)
@@ -154,24 +143,14 @@ module _ (find : ℕ → Option ClaimValue) (test : Option ClaimValue → Bool) 
       any-of-by (same_key p.1.key key) p (filter (λ p. same_key p.1.key key) items) (list_any (λ c. same_key c.key key && test (Some c)) (values_of items)) found.0 (any-of key items found.1)
 
   module _ (a : AddressValue) where
-    all-each-by : (s t h : Bool) (n : ℕ) (b : AddressValue) (kept : List AddressValue) (rest : List ℕ) → (s ≡ true → test (find n) ≡ t)
-        → list_all (λ n. test (find n)) (map (λ _. n) kept ++ rest) ≡ ((not h || t) && list_all (λ n. test (find n)) rest)
-        → list_all (λ n. test (find n)) (map (λ _. n) (cond s (b ∷ kept) kept) ++ rest) ≡ ((not (s || h) || t) && list_all (λ n. test (find n)) rest)
-    all-each-by false t h n b kept rest is ih = ih
-    all-each-by true true h n b kept rest is ih = rw (is refl) (ih ∙ ap (λ x. x && list_all (λ n. test (find n)) rest) (or-true (not h)))
-    all-each-by true false h n b kept rest is ih = rw (is refl) refl
-
-    all-each : (n : ℕ) (c : ClaimValue) (addresses : List AddressValue) (rest : List ℕ) → (has_address addresses a ≡ true → find n ≡ Some c)
-        → list_all (λ n. test (find n)) (map (λ _. n) (filter (same_address a) addresses) ++ rest) ≡ ((not (has_address addresses a) || test (Some c)) && list_all (λ n. test (find n)) rest)
-    all-each n c [] rest is = refl
-    all-each n c (b ∷ addresses) rest is =
-        all-each-by (same_address a b) (test (Some c)) (has_address addresses a) n b (filter (same_address a) addresses) rest
-        (λ e. ap test (is (ap (λ x. x || has_address addresses a) e)))
-        (all-each n c addresses rest (λ e. is (ap (λ x. same_address a b || x) e ∙ or-true (same_address a b))))
+    all-once : (has : Bool) (n : ℕ) (c : ClaimValue) (rest : List ℕ) → (has ≡ true → find n ≡ Some c)
+        → list_all (λ n. test (find n)) (cond has (n ∷ []) [] ++ rest) ≡ ((not has || test (Some c)) && list_all (λ n. test (find n)) rest)
+    all-once true n c rest is = rw (is refl) refl
+    all-once false n c rest is = refl
 
     all-listed : (occupied : Bool) (n : ℕ) (c : ClaimValue) (addresses : List AddressValue) (rest : List ℕ) → (occupied && has_address addresses a ≡ true → find n ≡ Some c)
-        → list_all (λ n. test (find n)) (cond occupied (map (λ _. n) (filter (same_address a) addresses)) [] ++ rest) ≡ ((not (occupied && has_address addresses a) || test (Some c)) && list_all (λ n. test (find n)) rest)
-    all-listed true n c addresses rest is = all-each n c addresses rest is
+        → list_all (λ n. test (find n)) (cond occupied (numbered n addresses a) [] ++ rest) ≡ ((not (occupied && has_address addresses a) || test (Some c)) && list_all (λ n. test (find n)) rest)
+    all-listed true n c addresses rest is = all-once (has_address addresses a) n c rest is
     all-listed false n c addresses rest is = refl
 
     all-at : (slot : Slot) (items : List (ℕ × ClaimValue)) → AreFound (λ c. occupies slot c && has_address c.holding.addresses a) find items

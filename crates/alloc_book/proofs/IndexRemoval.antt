@@ -26,7 +26,7 @@ use Rattle.numbered_items.specs.Index.{IndexValue, numbers_under}
 use Rattle.alloc_book.specs.Book.{AreAssigned}
 use Rattle.alloc_book.specs.Claims.{ClaimValue}
 use Rattle.alloc_book.specs.Holders.{AddressHoldersValue, claims_having, is_known}
-use Rattle.alloc_book.specs.Index.{numbers_of, numbered_at, numbers_at, is_marked, is_shared, AreShared, IsIndexed}
+use Rattle.alloc_book.specs.Index.{numbers_of, numbered, numbered_at, numbers_at, is_marked, is_shared, AreShared, IsIndexed}
 use Rattle.alloc_book.specs.declared.slot.Slot.{Slot}
 use Rattle.alloc_book.specs.declared.slot.Slot.TheVariants.{Any}
 use Rattle.alloc_book.specs.Slots.{occupies}
@@ -203,11 +203,11 @@ keys-left n c items before after only e change = change ∙ (λ i key. at key i)
         ∙ of-left (is_at (key_cmp c.key) key) n c items key only (sym (is_eq-key_cmp c.key key))
 
 -- ---- the numbers at each address
-here-by : (b : Bool) (n m : ℕ) (xs : List AddressValue) → (m == n) ≡ b → all_but n (map (λ _. m) xs) ≡ cond (not b) (map (λ _. m) xs) []
-here-by true n m [] e = refl
-here-by true n m (x ∷ xs) e = rw e (here-by true n m xs e)
-here-by false n m [] e = refl
-here-by false n m (x ∷ xs) e = rw e (ap (λ (l : List ℕ). m ∷ l) (here-by false n m xs e))
+here-by : (b has : Bool) (n m : ℕ) → (m == n) ≡ b → all_but n (cond has (m ∷ []) []) ≡ cond (not b) (cond has (m ∷ []) []) []
+here-by true true n m e = rw e refl
+here-by false true n m e = rw e refl
+here-by true false n m e = refl
+here-by false false n m e = refl
 
 at-by : (b : Bool) (n : ℕ) (slot : Slot) (a : AddressValue) (p : ℕ × ClaimValue) (rest : List (ℕ × ClaimValue)) (numbers : List ℕ) → numbers_at slot a rest ≡ numbers
     → numbers_at slot a (cond (not b) (p ∷ rest) rest) ≡ cond (not b) (numbered_at slot a p) [] ++ numbers
@@ -215,9 +215,9 @@ at-by true n slot a p rest numbers ih = ih
 at-by false n slot a p rest numbers ih = ap (λ (l : List ℕ). numbered_at slot a p ++ l) ih
 
 -- the number of a claim is taken out of its list
-here-at : (occupied : Bool) (n m : ℕ) (xs : List AddressValue) → all_but n (cond occupied (map (λ _. m) xs) []) ≡ cond (not (m == n)) (cond occupied (map (λ _. m) xs) []) []
-here-at true n m xs = here-by (m == n) n m xs refl
-here-at false n m xs = nothing-left (not (m == n))
+here-at : (occupied : Bool) (n m : ℕ) (xs : List AddressValue) (a : AddressValue) → all_but n (cond occupied (numbered m xs a) []) ≡ cond (not (m == n)) (cond occupied (numbered m xs a) []) []
+here-at true n m xs a = here-by (m == n) (has_address xs a) n m refl
+here-at false n m xs a = nothing-left (not (m == n))
   where
     nothing-left : (b : Bool) → ◌≡◌ {A = List ℕ} [] (cond b [] [])
     nothing-left true = refl
@@ -227,30 +227,21 @@ at-without : (n : ℕ) (slot : Slot) (items : List (ℕ × ClaimValue)) (a : Add
 at-without n slot [] a = refl
 at-without n slot (p ∷ items) a =
     at-by (p.0 == n) n slot a p (without n items) (all_but n (numbers_at slot a items)) (at-without n slot items a)
-    ∙ ap (λ (l : List ℕ). l ++ all_but n (numbers_at slot a items)) (sym (here-at (occupies slot p.1) n p.0 (filter (same_address a) p.1.holding.addresses)))
+    ∙ ap (λ (l : List ℕ). l ++ all_but n (numbers_at slot a items)) (sym (here-at (occupies slot p.1) n p.0 p.1.holding.addresses a))
     ∙ sym (filter-append (λ m. not (m == n)) (numbered_at slot a p) (numbers_at slot a items))
-
-nothing-by : (b : Bool) (x : AddressValue) (rest : List AddressValue) → b ≡ false → rest ≡ [] → cond b (x ∷ rest) rest ≡ []
-nothing-by true x rest e ih = absurd (true≢false e)
-nothing-by false x rest e ih = ih
 
 pub or-none : (x y : Bool) → (x || y) ≡ false → (x ≡ false) × (y ≡ false)
 or-none true y e = absurd (true≢false e)
 or-none false y e = (refl, e)
 
-nothing-at : (a : AddressValue) (xs : List AddressValue) → has_address xs a ≡ false → filter (same_address a) xs ≡ []
-nothing-at a [] e = refl
-nothing-at a (x ∷ xs) e =
-    let parts = or-none (same_address a x) (has_address xs a) e in
-    nothing-by (same_address a x) x (filter (same_address a) xs) parts.0 (nothing-at a xs parts.1)
+elsewhere-by : (b has : Bool) (n m : ℕ) → (m == n) ≡ b → (b ≡ true → has ≡ false) → all_but n (cond has (m ∷ []) []) ≡ cond has (m ∷ []) []
+elsewhere-by true has n m e none = rw (none refl) refl
+elsewhere-by false has n m e none = here-by false has n m e
 
-elsewhere-by : (b : Bool) (n m : ℕ) (xs : List AddressValue) → (m == n) ≡ b → (b ≡ true → xs ≡ []) → all_but n (map (λ _. m) xs) ≡ map (λ _. m) xs
-elsewhere-by true n m xs e none = rw (none refl) refl
-elsewhere-by false n m xs e none = here-by false n m xs e
-
-elsewhere-at : (occupied b : Bool) (n m : ℕ) (xs : List AddressValue) → (m == n) ≡ b → (b ≡ true → occupied ≡ true → xs ≡ []) → all_but n (cond occupied (map (λ _. m) xs) []) ≡ cond occupied (map (λ _. m) xs) []
-elsewhere-at true b n m xs e none = elsewhere-by b n m xs e (λ same. none same refl)
-elsewhere-at false b n m xs e none = refl
+elsewhere-at : (occupied b : Bool) (n m : ℕ) (xs : List AddressValue) (a : AddressValue) → (m == n) ≡ b → (b ≡ true → occupied ≡ true → has_address xs a ≡ false)
+    → all_but n (cond occupied (numbered m xs a) []) ≡ cond occupied (numbered m xs a) []
+elsewhere-at true b n m xs a e none = elsewhere-by b (has_address xs a) n m e (λ same. none same refl)
+elsewhere-at false b n m xs a e none = refl
 
 -- no claim has the number in a slot at an address where the claim of the number isn't listed
 at-others : (n : ℕ) (slot : Slot) (c : ClaimValue) (items : List (ℕ × ClaimValue)) (a : AddressValue) → IsOnly n c items → (occupies slot c ≡ true → has_address c.holding.addresses a ≡ false)
@@ -258,9 +249,9 @@ at-others : (n : ℕ) (slot : Slot) (c : ClaimValue) (items : List (ℕ × Claim
 at-others n slot c [] a only other = refl
 at-others n slot c (p ∷ items) a only other =
     let here : all_but n (numbered_at slot a p) ≡ numbered_at slot a p =
-    elsewhere-at (occupies slot p.1) (p.0 == n) n p.0 (filter (same_address a) p.1.holding.addresses) refl
+    elsewhere-at (occupies slot p.1) (p.0 == n) n p.0 p.1.holding.addresses a refl
     (λ same occupied. let is : p.1 ≡ c = only p (contains-first p items) same in
-    nothing-at a p.1.holding.addresses (ap (λ (x : ClaimValue). has_address x.holding.addresses a) is ∙ other (ap (λ (x : ClaimValue). occupies slot x) (sym is) ∙ occupied))) in
+    ap (λ (x : ClaimValue). has_address x.holding.addresses a) is ∙ other (ap (λ (x : ClaimValue). occupies slot x) (sym is) ∙ occupied)) in
     filter-append (λ m. not (m == n)) (numbered_at slot a p) (numbers_at slot a items)
     ∙ ap (λ (l : List ℕ). l ++ all_but n (numbers_at slot a items)) here
     ∙ ap (λ (l : List ℕ). numbered_at slot a p ++ l) (at-others n slot c items a (only-tail n c p items only) other)
@@ -289,17 +280,9 @@ holders-left n c items before after only e change slot =
 marked-has : (key : List ℕ) (c : ClaimValue) → is_marked key c.terms ≡ true → has_sharing_key key (Some c.terms) ≡ true
 marked-has key c e = (and_parts (bytes_eq c.terms.key key) (not (is_nil key)) e).0
 
-named-by : (test : ℕ → Bool) (b : Bool) (n : ℕ) (x : AddressValue) (rest : List AddressValue) → test n ≡ true → (b ≡ true) ⊎ (list_any test (map (λ _. n) rest) ≡ true)
-    → list_any test (map (λ _. n) (cond b (x ∷ rest) rest)) ≡ true
-named-by test true n x rest passes some = or_left (test n) (list_any test (map (λ _. n) rest)) passes
-named-by test false n x rest passes some = ⊎_elim (λ here. absurd (true≢false (sym here))) (λ later. later) some
-
 -- the number of a claim that has the address is one of the numbers at it
-pub named : (test : ℕ → Bool) (n : ℕ) (a : AddressValue) (xs : List AddressValue) → test n ≡ true → has_address xs a ≡ true → list_any test (map (λ _. n) (filter (same_address a) xs)) ≡ true
-named test n a [] passes e = absurd (true≢false (sym e))
-named test n a (x ∷ xs) passes e =
-    named-by test (same_address a x) n x (filter (same_address a) xs) passes
-    (⊎_elim (λ here. inl here) (λ later. inr (named test n a xs passes later)) (or_cases (same_address a x) (has_address xs a) e))
+pub named : (test : ℕ → Bool) (n : ℕ) (a : AddressValue) (xs : List AddressValue) → test n ≡ true → has_address xs a ≡ true → list_any test (numbered n xs a) ≡ true
+named test n a xs passes e = ap (λ (b : Bool). list_any test (cond b (n ∷ []) [])) e ∙ or_left (test n) false passes
 
 marked-among : (key : List ℕ) (a : AddressValue) (items rest : List (ℕ × ClaimValue)) → ((p : ℕ × ClaimValue) → Contains rest p → lookup (λ n. n == p.0) items ≡ Some p.1)
     → is_shared key (values_of rest) a ≡ true → list_any (is_marked_at key items) (numbers_at Any a rest) ≡ true

@@ -13,6 +13,7 @@ pub mod IndexRemoval
 pub mod LeastLaws
 pub mod MixLaws
 pub mod PendingLaws
+pub mod PoolLaws
 pub mod SearchLaws
 pub mod SlotLaws
 pub mod TermLaws

@@ -16,7 +16,7 @@ use Rattle.ip_ranges.proofs.AddressLaws.{same_address-is, same_address-itself}
 use Rattle.kube_model.specs.declared.key.Key.{Key}
 use Rattle.kube_model.specs.Keys.{key_cmp}
 use Rattle.kube_model.specs.declared.port.Port.{Port}
-use Rattle.mlb_base.proofs.Among.{contains-none, contains-cons, contains-later, any-contains, any-found}
+use Rattle.mlb_base.proofs.Among.{contains-none, contains-cons, contains-first, contains-later, any-contains}
 use Rattle.number_sets.specs.Runs.{has}
 use Rattle.numbered_items.specs.Index.{IndexValue, numbers_under}
 use Rattle.pool_choice.proofs.Filters.{filter-contains}
@@ -95,8 +95,7 @@ unmixed-one before after x P change here so_far a e = by (same_address x a) refl
 numbered-in : (a : AddressValue) (p : ℕ × ClaimValue) → Contains p.1.holding.addresses a → Contains (numbered_at Any a p) p.0
 numbered-in a p there =
     let has : has_address p.1.holding.addresses a ≡ true = any-contains (same_address a) p.1.holding.addresses a there (same_address-itself a) in
-    let found = any-found (λ m. m == p.0) (numbered_at Any a p) (named (λ m. m == p.0) p.0 a p.1.holding.addresses (itself p.0) has) in
-    subst (λ (m : ℕ). Contains (numbered_at Any a p) m) (same-number found.0 p.0 found.2) found.1
+    subst (λ (b : Bool). Contains (cond b (p.0 ∷ []) []) p.0) (sym has) (contains-first p.0 [])
 
 -- each claim that has the address is listed there
 pub listed-in : (a : AddressValue) (items : List (ℕ × ClaimValue)) (p : ℕ × ClaimValue) → HasIt items a p → Contains (numbers_at Any a items) p.0

@@ -91,15 +91,6 @@ uniform-added items number c before after uniform same alike a e p q has_p has_q
     unmixed = ap (λ (f : Family → RunsValue). has (f a.family) a.number) (sym same) ∙ e
 
 -- ---- the first claim on an address that isn't mixed
-kept-some : (a : AddressValue) (addresses : List AddressValue) (b : AddressValue) (rest : List AddressValue) → filter (same_address a) addresses ≡ b ∷ rest → has_address addresses a ≡ true
-kept-some a [] b rest e = absurd (cc)
-kept-some a (x ∷ addresses) b rest e = by (same_address a x) refl (kept-some a addresses b rest) e
-  where
-    by : (t : Bool) → t ≡ same_address a x → (filter (same_address a) addresses ≡ b ∷ rest → has_address addresses a ≡ true)
-        → cond t (x ∷ filter (same_address a) addresses) (filter (same_address a) addresses) ≡ b ∷ rest → has_address (x ∷ addresses) a ≡ true
-    by true is later kept = or_left (same_address a x) (has_address addresses a) (sym is)
-    by false is later kept = or_right (same_address a x) (has_address addresses a) (later kept)
-
 -- The claim of the number has the address.
 record IsAt (items : List (ℕ × ClaimValue)) (a : AddressValue) (n : ℕ) : Type 0 where
   claim : ℕ × ClaimValue
@@ -111,14 +102,14 @@ at-behind p items a n at = record { claim = at.claim; has = (contains-later p it
 
 first-at : (a : AddressValue) (items : List (ℕ × ClaimValue)) (n : ℕ) (rest : List ℕ) → numbers_at Any a items ≡ n ∷ rest → IsAt items a n
 first-at a [] n rest e = absurd (cc)
-first-at a (p ∷ items) n rest e = by (filter (same_address a) p.1.holding.addresses) refl (first-at a items n rest) e
+first-at a (p ∷ items) n rest e = by (has_address p.1.holding.addresses a) refl (first-at a items n rest) e
   where
-    by : (kept : List AddressValue) → kept ≡ filter (same_address a) p.1.holding.addresses → (numbers_at Any a items ≡ n ∷ rest → IsAt items a n)
-        → map (λ _. p.0) kept ++ numbers_at Any a items ≡ n ∷ rest → IsAt (p ∷ items) a n
-    by [] is behind later = at-behind p items a n (behind later)
-    by (b ∷ bs) is behind here =
+    by : (has : Bool) → has ≡ has_address p.1.holding.addresses a → (numbers_at Any a items ≡ n ∷ rest → IsAt items a n)
+        → cond has (p.0 ∷ []) [] ++ numbers_at Any a items ≡ n ∷ rest → IsAt (p ∷ items) a n
+    by false is behind later = at-behind p items a n (behind later)
+    by true is behind here =
         let first : p.0 ≡ n = cc in
-        record { claim = p; has = (contains-first p items, has_address-is p.1.holding.addresses a (kept-some a p.1.holding.addresses b bs (sym is))); numbered = first }
+        record { claim = p; has = (contains-first p items, has_address-is p.1.holding.addresses a (sym is)); numbered = first }
 
 -- one claim has the number
 same-claim : (items : List (ℕ × ClaimValue)) (p q : ℕ × ClaimValue) → IsStrictlySortedBy nat_cmp (keys_of items) → Contains items p → Contains items q → p.0 ≡ q.0 → p.1 ≡ q.1

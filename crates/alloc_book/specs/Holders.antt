@@ -1,5 +1,5 @@
 -- Who has the addresses: by each address the numbers of the claims that have it.
-use Rattle.std.specs.Prelude.{◌≡◌, ◌≢◌, ◌≤◌, ℕ, Bool, true, List, []}
+use Rattle.std.specs.Prelude.{◌≡◌, ◌≢◌, ◌≤◌, ◌<◌, ℕ, Bool, true, List, []}
 use Rattle.std.specs.List.{Contains}
 use Rattle.std.specs.Map.{lookup}
 use Rattle.std.specs.Option.{unwrap_or}
@@ -89,9 +89,9 @@ is_mixed h a = has (mixed_of h a.family) a.number
 abbrev pub mixed_room : AddressHoldersValue → Family → ℕ
 mixed_room h family = (mixed_of h family).room
 
--- There is room in the slot for so many claims more on each of the addresses, and for so many addresses.
+-- There is room in the slot for a claim more on each of the addresses, and for so many addresses.
 pub record HasRoomAt (h : AddressHoldersValue) (more : ℕ) (slot : Slot) (addresses : List AddressValue) : Type 0 where
-  pub by_claims : (a : AddressValue) → Contains addresses a → more ≤ claim_room h slot a
+  pub by_claims : (a : AddressValue) → Contains addresses a → 0 < claim_room h slot a
   pub by_family : (a : AddressValue) → Contains addresses a → more ≤ address_room h slot a.family
 
 -- so many addresses more of the family of each of the addresses can be mixed without memory

@@ -1,11 +1,11 @@
 -- The claims under their numbers, and by what each is found.
-use Rattle.std.specs.Prelude.{◌≡◌, ◌≢◌, ◌≤◌, ◌<◌, ℕ, Bool, true, false, ◌==◌, ◌&&◌, not, if◌then◌else◌, find, List, [], ◌∷◌, ◌++◌, map, filter, Option, Some, None}
-use Rattle.std.specs.List.{Contains, list_any}
+use Rattle.std.specs.Prelude.{◌≡◌, ◌≢◌, ◌≤◌, ◌<◌, ◌-◌, ℕ, length, Bool, true, false, ◌==◌, ◌&&◌, not, if◌then◌else◌, find, List, [], ◌∷◌, ◌++◌, filter, Option, Some, None}
+use Rattle.std.specs.List.{Contains, list_any, slice_get}
 use Rattle.std.specs.Map.{lookup, keys_of, values_of}
 use Rattle.std.specs.Option.{option_and_then, option_map_or}
 use Rattle.std.specs.Str.{bytes_eq}
 use Rattle.ip_ranges.specs.declared.family.Family.{Family}
-use Rattle.ip_ranges.specs.Values.{AddressValue, has_address, same_address, is_buggy}
+use Rattle.ip_ranges.specs.Values.{AddressValue, has_address, is_buggy}
 use Rattle.kube_model.specs.declared.key.Key.{Key}
 use Rattle.kube_model.specs.Keys.{key_cmp, same_key}
 use Rattle.mlb_base.specs.Items.{is_nil}
@@ -34,9 +34,13 @@ first_but n numbers = find (λ m. not (m == n)) numbers
 abbrev pub first_other : ℕ → List (ℕ × ClaimValue) → Option ℕ
 first_other n items = option_and_then (λ c. first_but n (numbers_of c.key items)) (lookup (λ m. m == n) items)
 
--- the number of the claim, where it is listed in the slot, once for each time that the claim has the address
+-- the number, where the address is one of these
+abbrev pub numbered : ℕ → List AddressValue → AddressValue → List ℕ
+numbered n addresses a = if has_address addresses a then n ∷ [] else []
+
+-- the number of the claim, where it is listed in the slot at the address
 abbrev pub numbered_at : Slot → AddressValue → ℕ × ClaimValue → List ℕ
-numbered_at slot a p = if occupies slot p.1 then map (λ _. p.0) (filter (same_address a) p.1.holding.addresses) else []
+numbered_at slot a p = if occupies slot p.1 then numbered p.0 p.1.holding.addresses a else []
 
 -- the numbers of the claims in the slot that have the address
 abbrev pub numbers_at : Slot → AddressValue → List (ℕ × ClaimValue) → List ℕ
@@ -108,6 +112,10 @@ NoneShared family key claims low high = (n : ℕ) → low ≤ n → n < high →
 -- each address of the family with a number from low on, below high, has a claim with one of the ports
 abbrev pub AreBarred : List Port → List ClaimValue → Family → ℕ → ℕ → Type 0
 AreBarred ports claims family low high = (n : ℕ) → low ≤ n → n < high → is_barred ports claims (address_of family n) ≡ true
+
+-- the number stands at the end
+abbrev pub ends_with : ℕ → List ℕ → Bool
+ends_with n numbers = option_map_or (λ m. m == n) (slice_get numbers (length numbers - 1)) false
 
 -- the first claim of the numbers is alike with the terms, or there is no number
 abbrev pub is_like_first : Terms → List (ℕ × ClaimValue) → List ℕ → Bool

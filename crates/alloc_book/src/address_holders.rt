@@ -44,8 +44,8 @@ impl AddressHolders {
         }
     }
 
-    /// Makes room in the slot for so many claims more on the address, and for so many addresses more of its family. Where there is
-    /// no memory the claims stay.
+    /// Makes room in the slot for a claim more on the address, and for so many addresses more of its family. Where there is no
+    /// memory the claims stay.
     pub(crate) fn reserve(
         &mut self,
         slot: Slot,
@@ -53,7 +53,7 @@ impl AddressHolders {
         more: usize,
     ) -> Result<(), NoMemory>
         ensures numbers { (s : Slot) → claims_having self.new s ≡ claims_having self.old s }
-        ensures claims { OnOk result (more ≤ claim_room self.new slot address.now) }
+        ensures claims { OnOk result (0 < claim_room self.new slot address.now) }
         ensures addresses { OnOk result (more ≤ address_room self.new slot address.now.family) }
         ensures claims_kept { (s : Slot) (a : AddressValue) → claim_room self.old s a ≤ claim_room self.new s a }
         ensures addresses_kept { (s : Slot) (family : Family) → address_room self.old s family ≤ address_room self.new s family }
@@ -147,7 +147,7 @@ impl AddressHolders {
         requires addresses { 0 < address_room self.old slot address.now.family }
         ensures numbers { claims_having self.new slot
             ≡ (λ a. if same_address address.now a then claims_having self.old slot a ++ claim ∷ [] else claims_having self.old slot a) }
-        ensures claims { (a : AddressValue) → claim_room self.old slot a ≤ claim_room self.new slot a + 1 }
+        ensures claims { (a : AddressValue) → claim_room self.old slot a ≤ claim_room self.new slot a + (if same_address address.now a then 1 else 0) }
         ensures addresses { (family : Family) → address_room self.old slot family ≤ address_room self.new slot family + 1 }
         ensures others { (s : Slot) → same_slot slot s ≡ false → in_slot self.new s ≡ in_slot self.old s }
         ensures shared { is_known self.new ≡ is_known self.old }

@@ -141,7 +141,7 @@ impl<'a> Choosing<'a> {
         if !is_asked(&self.service.wanted) {
             return self.unasked();
         }
-        let home = home_of(self.pools(), self.service, self.terms, self.namespace);
+        let home = home_of(self.config, self.service, self.terms, self.namespace);
         if home.is_none() {
             return Ok(Choice::Pending {
                 reason: Reason::AddressOutside,
@@ -161,7 +161,7 @@ impl<'a> Choosing<'a> {
     {
         let kept = kept_in(
             self.book,
-            self.pools(),
+            self.config,
             self.service,
             self.terms,
             self.namespace,

@@ -44,15 +44,15 @@ impl Claimants {
         }
     }
 
-    /// Makes room for so many claims more on the address, and for so many addresses more.
+    /// Makes room for a claim more on the address, and for so many addresses more.
     pub(crate) fn reserve(&mut self, number: u128, more: usize) -> Result<(), NoMemory>
         ensures numbers { claims_at self.new ≡ claims_at self.old }
-        ensures claims { OnOk result (more ≤ claim_room_at self.new number) }
+        ensures claims { OnOk result (0 < claim_room_at self.new number) }
         ensures addresses { OnOk result (more ≤ self.new.room) }
         ensures claims_kept { (n : ℕ) → claim_room_at self.old n ≤ claim_room_at self.new n }
         ensures addresses_kept { self.old.room ≤ self.new.room }
     {
-        self.by_number.reserve(number, more)?;
+        self.by_number.reserve(number, 1)?;
         self.held.reserve(more)
     }
 
@@ -61,7 +61,7 @@ impl Claimants {
         requires claims { 0 < claim_room_at self.old number }
         requires addresses { 0 < self.old.room }
         ensures numbers { claims_at self.new ≡ (λ n. if number == n then claims_at self.old n ++ claim ∷ [] else claims_at self.old n) }
-        ensures claims { (n : ℕ) → claim_room_at self.old n ≤ claim_room_at self.new n + 1 }
+        ensures claims { (n : ℕ) → claim_room_at self.old n ≤ claim_room_at self.new n + (if number == n then 1 else 0) }
         ensures addresses { self.old.room ≤ self.new.room + 1 }
     {
         self.held.insert(number);

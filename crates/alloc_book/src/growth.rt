@@ -1,14 +1,14 @@
 //! A claim gets room at its addresses, and is listed there.
-ghost use Rattle.std.specs.Prelude.{◌≡◌, ◌≢◌, ◌≤◌, ℕ, List, map, ◌++◌, [], true, false, filter, length, OnOk};
+ghost use Rattle.std.specs.Prelude.{◌≡◌, ◌≢◌, ◌≤◌, ℕ, List, ◌++◌, [], true, false, length, OnOk};
 ghost use Rattle.std.specs.List.{Contains};
 ghost use Rattle.ip_ranges.specs.declared.family.Family.{Family};
-ghost use Rattle.ip_ranges.specs.Values.{AddressValue, same_address};
+ghost use Rattle.ip_ranges.specs.Values.{AddressValue};
 ghost use Rattle.alloc_book.specs.declared.slot.Slot.{Slot};
 ghost use Rattle.alloc_book.specs.declared.slot.Slot.TheVariants.{Any};
 ghost use Rattle.alloc_book.specs.Alike.{are_alike};
 ghost use Rattle.alloc_book.specs.Claims.{ClaimValue};
 ghost use Rattle.alloc_book.specs.Holders.{HasRoomAt, CanBeMixed, in_slot, claims_having, claim_room, address_room, is_known, mixed_of, is_mixed, mixed_room};
-ghost use Rattle.alloc_book.specs.Index.{numbers_at, numbered_at, HasIt, AreUniform};
+ghost use Rattle.alloc_book.specs.Index.{numbered, ends_with, numbers_at, numbered_at, HasIt, AreUniform};
 ghost use Rattle.alloc_book.specs.Slots.{occupies, same_slot};
 
 use crate::address_holders::AddressHolders;
@@ -111,8 +111,9 @@ pub(crate) fn mix_each(claims: &NumberedList<Claim>, holders: &mut AddressHolder
 
 /// The claim is listed under its number at its addresses, in each slot that it occupies. There is room for it, so it takes no memory.
 pub(crate) fn add_claim(holders: &mut AddressHolders, claim: &Claim, number: u64)
-    requires { (slot : Slot) → occupies slot claim.now ≡ true
+    requires room { (slot : Slot) → occupies slot claim.now ≡ true
         → HasRoomAt holders.old (length claim.now.holding.addresses) slot claim.now.holding.addresses }
+    requires fresh { (slot : Slot) (a : AddressValue) → ¬ (Contains (claims_having holders.old slot a) number) }
     ensures numbers { (slot : Slot) → claims_having holders.new slot ≡ (λ a. claims_having holders.old slot a ++ numbered_at slot a (number, claim.now)) }
     ensures shared { is_known holders.new ≡ is_known holders.old }
     ensures mixed { mixed_of holders.new ≡ mixed_of holders.old }
@@ -124,16 +125,29 @@ pub(crate) fn add_claim(holders: &mut AddressHolders, claim: &Claim, number: u64
     }
 }
 
-/// The claim is listed in the slot at the addresses. There is room for it, so it takes no memory.
+/// The claim is listed in the slot at the addresses, once at each, however often it stands among them. There is room for it, so it
+/// takes no memory.
 fn add_each(holders: &mut AddressHolders, slot: Slot, addresses: &[Address], number: u64)
-    requires { HasRoomAt holders.old (length addresses.now) slot addresses.now }
-    ensures numbers { claims_having holders.new slot
-        ≡ (λ a. claims_having holders.old slot a ++ map (λ _. number) (filter (same_address a) addresses.now)) }
+    requires room { HasRoomAt holders.old (length addresses.now) slot addresses.now }
+    requires fresh { (a : AddressValue) → ¬ (Contains (claims_having holders.old slot a) number) }
+    ensures numbers { claims_having holders.new slot ≡ (λ a. claims_having holders.old slot a ++ numbered number addresses.now a) }
     ensures others { (s : Slot) → same_slot slot s ≡ false → in_slot holders.new s ≡ in_slot holders.old s }
     ensures shared { is_known holders.new ≡ is_known holders.old }
     ensures mixed { mixed_of holders.new ≡ mixed_of holders.old }
 {
     for address in addresses {
-        holders.add(slot, address, number);
+        if !ends_with(holders.numbers(slot, address), number) {
+            holders.add(slot, address, number);
+        }
+    }
+}
+
+/// Whether the number stands at the end.
+fn ends_with(numbers: &[u64], number: u64) -> bool
+    ensures { result ≡ ends_with number numbers.now }
+{
+    match numbers.last() {
+        Some(last) => *last == number,
+        None => false,
     }
 }

@@ -48,10 +48,10 @@ impl Holders {
         }
     }
 
-    /// Makes room in the slot for so many claims more on the address, and for so many addresses more.
+    /// Makes room in the slot for a claim more on the address, and for so many addresses more.
     pub(crate) fn reserve(&mut self, slot: Slot, number: u128, more: usize) -> Result<(), NoMemory>
         ensures numbers { (s : Slot) → claims_at (in_slot_at self.new s) ≡ claims_at (in_slot_at self.old s) }
-        ensures claims { OnOk result (more ≤ claim_room_at (in_slot_at self.new slot) number) }
+        ensures claims { OnOk result (0 < claim_room_at (in_slot_at self.new slot) number) }
         ensures addresses { OnOk result (more ≤ (in_slot_at self.new slot).room) }
         ensures claims_kept { (s : Slot) (n : ℕ) → claim_room_at (in_slot_at self.old s) n ≤ claim_room_at (in_slot_at self.new s) n }
         ensures addresses_kept { (s : Slot) → (in_slot_at self.old s).room ≤ (in_slot_at self.new s).room }
@@ -130,7 +130,7 @@ impl Holders {
         requires addresses { 0 < (in_slot_at self.old slot).room }
         ensures numbers { claims_at (in_slot_at self.new slot)
             ≡ (λ n. if number == n then claims_at (in_slot_at self.old slot) n ++ claim ∷ [] else claims_at (in_slot_at self.old slot) n) }
-        ensures claims { (n : ℕ) → claim_room_at (in_slot_at self.old slot) n ≤ claim_room_at (in_slot_at self.new slot) n + 1 }
+        ensures claims { (n : ℕ) → claim_room_at (in_slot_at self.old slot) n ≤ claim_room_at (in_slot_at self.new slot) n + (if number == n then 1 else 0) }
         ensures addresses { (in_slot_at self.old slot).room ≤ (in_slot_at self.new slot).room + 1 }
         ensures others { (s : Slot) → same_slot slot s ≡ false → in_slot_at self.new s ≡ in_slot_at self.old s }
         ensures shared { is_known_at self.new ≡ is_known_at self.old }

@@ -15,7 +15,7 @@ use ip_ranges::{Address, Family};
 use kube_labels::{Labels, Text};
 use kube_model::{Service, Wanted};
 use pool_choice::serves;
-use pool_config::CompiledPool;
+use pool_config::{CompiledPool, Config};
 
 pub(crate) fn is_asked(wanted: &Wanted) -> bool
     ensures { result ≡ is_asked wanted.now }
@@ -185,8 +185,27 @@ fn all_in(pool: &CompiledPool, addresses: &[Address]) -> bool
     addresses.iter().all(|address| is_in(pool, address))
 }
 
-/// The first pool in which the recorded addresses may stay.
+/// The first pool in which the recorded addresses may stay. Where there are some, it is the one that has the first of them.
 pub(crate) fn kept_in<'a>(
+    book: &Book,
+    config: &'a Config,
+    service: &Service,
+    terms: &MarkedTerms,
+    namespace: &Labels,
+) -> Option<&'a CompiledPool>
+    ensures { option_copied result ≡ find (is_kept book.now.claims (offering [] [] service.now namespace.now) (asking service.now terms.now)) config.now.pools }
+{
+    let Some(address) = service.holding.addresses.as_slice().first() else {
+        return first_kept(book, config.pools.as_slice(), service, terms, namespace);
+    };
+    let pool = config.pool_with(address)?;
+    if is_kept(book, service, terms, namespace, pool) {
+        return Some(pool);
+    }
+    None
+}
+
+fn first_kept<'a>(
     book: &Book,
     pools: &'a [CompiledPool],
     service: &Service,
@@ -203,8 +222,26 @@ pub(crate) fn kept_in<'a>(
     None
 }
 
-/// The first pool in which the addresses asked for lie.
+/// The first pool in which the addresses asked for lie. Where there are some, it is the one that has the first of them.
 pub(crate) fn home_of<'a>(
+    config: &'a Config,
+    service: &Service,
+    terms: &MarkedTerms,
+    namespace: &Labels,
+) -> Option<&'a CompiledPool>
+    ensures { option_copied result ≡ find (is_home (offering [] [] service.now namespace.now) (asking service.now terms.now)) config.now.pools }
+{
+    let Some(address) = asked_in(&service.wanted).first() else {
+        return first_home(config.pools.as_slice(), service, terms, namespace);
+    };
+    let pool = config.pool_with(address)?;
+    if is_home(service, terms, namespace, pool) {
+        return Some(pool);
+    }
+    None
+}
+
+fn first_home<'a>(
     pools: &'a [CompiledPool],
     service: &Service,
     terms: &MarkedTerms,

@@ -1,6 +1,6 @@
-use Rattle.std.proofs.Common.{◌<◌, ◌++◌, ◌∷◌, []}
+use Rattle.std.proofs.Common.{◌<◌, ◌≤◌, ◌+◌, ◌==◌, ℕ, if◌then◌else◌, ◌++◌, ◌∷◌, [], arith}
 use Rattle.alloc_book.specs.Holders.{claim_room_at}
-use Rattle.alloc_book.proofs.SlotLaws.{to-found, written-claims, written-apart}
+use Rattle.alloc_book.proofs.SlotLaws.{to-found, written-claims, written-each, written-apart}
 use Rattle.alloc_book.proofs.holders.Holders.add.Goals as goal
 
 pub add-requires-clause-claims : goal.add-requires-clause-claims
@@ -24,3 +24,10 @@ returns-clause-others c =
     rw (← c.self.view_is)
     (written-apart c.args.slot c.self.inside.by_slot (c.get_mut.follows.lender c.add.new.self) c.in-Some.claimants.now c.add.new.self c.in-Some.ensures.value
     (c.get_mut.follows.holds c.add.new.self))
+
+pub returns-clause-claims : goal.returns-clause-claims
+returns-clause-claims c =
+    rw (← c.self.view_is)
+    (written-each c.args.slot c.self.inside.by_slot (c.get_mut.follows.lender c.add.new.self) c.in-Some.claimants.now c.add.new.self c.in-Some.ensures.value
+    (c.get_mut.follows.holds c.add.new.self) (λ old new. (n : ℕ) → claim_room_at old n ≤ claim_room_at new n + (if c.args.number == n then 1 else 0)) (λ same n. omega arith)
+    c.add.ensures.claims c.args.slot)

@@ -1,4 +1,6 @@
-use Rattle.std.proofs.Common.{◌≡◌, true, ◌<◌, length, sym, ap, subst, ◌∙◌}
+use Rattle.std.proofs.Common.{◌≡◌, true, ◌<◌, ℕ, List, length, sym, ap, subst, ◌∙◌}
+use Rattle.std.specs.List.{Contains}
+use Rattle.ip_ranges.specs.Values.{AddressValue}
 use Rattle.kube_model.specs.declared.key.Key.{Key}
 use Rattle.kube_model.specs.Keys.{key_cmp}
 use Rattle.numbered_items.specs.Index.{room_under}
@@ -9,7 +11,7 @@ use Rattle.alloc_book.specs.Claims.{ClaimValue}
 use Rattle.alloc_book.specs.Holders.{HasRoomAt}
 use Rattle.alloc_book.specs.Index.{ClaimIndexValue}
 use Rattle.alloc_book.specs.Slots.{occupies}
-use Rattle.alloc_book.proofs.IndexGrowth.{indexed-pushed, found-is, not-lost, room-same}
+use Rattle.alloc_book.proofs.IndexGrowth.{indexed-pushed, found-is, not-lost, not-listed, room-same, same-claims}
 use Rattle.alloc_book.proofs.index.ClaimIndex.add.Goals as goal
 
 pub mix_each-requires-clause-numbers : goal.mix_each-requires-clause-numbers
@@ -29,12 +31,18 @@ add-requires c =
     let is = found-is c.self.inside.claims.items c.push-number.new.self.items c.push-number.result c.args.claim c.in-Some.claim.now c.push-number.ensures.items c.push-number.ensures.fresh c.in-Some.ensures.item in
     subst (λ (k : Key). 0 < room_under key_cmp c.self.inside.by_key k) (sym (c.key.ensures ∙ ap (λ (x : ClaimValue). x.key) is)) room.key
 
-pub add_claim-requires : goal.add_claim-requires
-add_claim-requires c =
+pub add_claim-requires-clause-room : goal.add_claim-requires-clause-room
+add_claim-requires-clause-room c =
     let room = subst (λ (v : ClaimIndexValue). HasRoomFor v.room c.args.claim) (sym c.self.view_is) c.requires.room in
     let is = found-is c.self.inside.claims.items c.push-number.new.self.items c.push-number.result c.args.claim c.in-Some.claim.now c.push-number.ensures.items c.push-number.ensures.fresh c.in-Some.ensures.item in
     subst (λ (x : ClaimValue). (slot : Slot) → occupies slot x ≡ true → HasRoomAt c.mix_each.new.holders (length x.holding.addresses) slot x.holding.addresses) (sym is)
     (λ slot occupied. room-same c.self.inside.holders c.mix_each.new.holders (length c.args.claim.holding.addresses) slot c.args.claim.holding.addresses (ap (λ f. f slot) c.mix_each.ensures.slots) (room.addresses slot occupied))
+
+pub add_claim-requires-clause-fresh : goal.add_claim-requires-clause-fresh
+add_claim-requires-clause-fresh c slot a there =
+    let listed = same-claims c.self.inside.holders c.mix_each.new.holders slot c.mix_each.ensures.slots ∙ c.self.invariant.holders slot in
+    not-listed slot a c.self.inside.claims.items c.push-number.result c.push-number.ensures.fresh
+    (subst (λ (f : AddressValue → List ℕ). Contains (f a) c.push-number.result) listed there)
 
 pub invariant_of-self : goal.invariant_of-self
 invariant_of-self c =

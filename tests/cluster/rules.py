@@ -280,28 +280,28 @@ def read_mark(text):
         return None
 
 
-def shares(mark, other):
-    """Whether services with these recorded marks may have one address."""
+def may_not_share(mark, other):
+    """Whether services with these recorded marks may not have one address. Of a text that is no mark nothing is said."""
     one, two = read_mark(mark), read_mark(other)
-    return one is not None and two is not None and may_share(one, two)
+    return one is not None and two is not None and not may_share(one, two)
 
 
 # Choosing
 
 class Claims:
-    """Which records have each address: of each key those that it has or may have."""
+    """Which services have each address, or may have it, and under which terms. A claim is a key, a record and the service as it is: its terms are those of
+    the record where that has no mark."""
 
     def __init__(self, claims):
         self.at = {}
-        for key, record in claims:
+        for key, record, service in claims:
             for address in record.addresses:
-                self.at.setdefault(address, []).append((key, record.mark))
+                self.at.setdefault(address, []).append((key, read_mark(record.mark) or terms_of(service)))
 
     def usable(self, pool, key, terms, address):
         if not pool.has(address) or pool.avoids and address[0] == 4 and address[1] % 256 in (0, 255):
             return False
-        others = [read_mark(mark) for other, mark in self.at.get(address, ()) if other != key]
-        return all(other is not None and may_share(terms, other) for other in others)
+        return all(may_share(terms, others) for other, others in self.at.get(address, ()) if other != key)
 
     def least(self, pool, key, terms, version):
         return next((address for address in pool.addresses(version) if self.usable(pool, key, terms, address)), None)
@@ -335,12 +335,16 @@ def asked_of(service):
     return False if None in read else read
 
 
-def families_of(service):
-    return [{"IPv4": 4, "IPv6": 6}[family] for family in service["spec"].get("ipFamilies") or ["IPv4"]]
+def options_of(service):
+    """The lists of families of which the service wants one, the first that can be had."""
+    families = [{"IPv4": 4, "IPv6": 6}[family] for family in service["spec"].get("ipFamilies") or ["IPv4"]]
+    is_free = service["spec"].get("ipFamilyPolicy") == "PreferDualStack" and len(families) == 2
+    return [families, families[:1], families[1:]] if is_free else [families]
 
 
-def one_of_each(addresses, families):
-    return sorted(address[0] for address in addresses) == sorted(families)
+def one_of_each(addresses, options):
+    """Whether they are one address of each family of some option."""
+    return any(sorted(address[0] for address in addresses) == sorted(families) for families in options)
 
 
 def choose(claims, config, lb_class, key, service, namespace, held):
@@ -349,10 +353,10 @@ def choose(claims, config, lb_class, key, service, namespace, held):
         return "foreign", None
     if not is_balancer(service):
         return "clear", NOTHING
-    asked, families, terms = asked_of(service), families_of(service), terms_of(service)
+    asked, options, terms = asked_of(service), options_of(service), terms_of(service)
     if asked is False:
         return "request-unreadable", NOTHING
-    if asked is not None and not one_of_each(asked, families):
+    if asked is not None and not one_of_each(asked, options):
         return "request-families", NOTHING
     wanted = (service["metadata"].get("annotations") or {}).get(POOL, "")
     pool_asked = next((pool for pool in config.pools if pool.name == wanted), None)
@@ -363,7 +367,7 @@ def choose(claims, config, lb_class, key, service, namespace, held):
     serving = [pool_asked] if wanted else [pool for pool in config.pools if serves(pool, service, namespace)]
     mark = mark_of(terms)
     home = next((pool for pool in serving if all(pool.has(address) for address in held.addresses)), None)
-    if (one_of_each(held.addresses, families) and home and all(claims.usable(home, key, terms, one) for one in held.addresses)
+    if (one_of_each(held.addresses, options) and home and all(claims.usable(home, key, terms, one) for one in held.addresses)
             and (asked is None or sorted(asked) == sorted(held.addresses))):
         return "keep", Record(held.addresses, home.name, mark)
     if asked is not None:
@@ -376,10 +380,11 @@ def choose(claims, config, lb_class, key, service, namespace, held):
     pools = [pool_asked] if wanted else eligible(config, service, namespace)
     if not pools:
         return "no-pool", NOTHING
-    for pool in pools:
-        found = [claims.least(pool, key, terms, family) for family in families]
-        if None not in found:
-            return "new", Record(tuple(found), pool.name, mark)
+    for families in options:
+        for pool in pools:
+            found = [claims.least(pool, key, terms, family) for family in families]
+            if None not in found:
+                return "new", Record(tuple(found), pool.name, mark)
     return "pool-exhausted" if wanted else "exhausted", NOTHING
 
 

@@ -1,6 +1,6 @@
 """Judges what a controller does by the store and the requests alone, by the rules of rules.py.
 
-- After each change of a service: two services recorded with one address share it by their recorded marks.
+- After each change of a service: two services recorded with one address share it by their recorded marks, where both have one.
 - Each put is what is chosen at some moment. A moment is how far each watch was shown: no further than was written to it, and never back behind
   the moment of an earlier put. All moments that explain a put are kept, so that one is refused exactly where no history of what was shown, with the
   replies as they were given, has it. What a service may have by a put whose reply was lost counts, until it is shown at another version. Where other
@@ -9,7 +9,7 @@
 import bisect
 from typing import NamedTuple
 
-from rules import FROM_POOL, HELD_AS, Claims, Config, Record, choose, compiled, labels_of, printed, read_address, record_of, shares
+from rules import FROM_POOL, HELD_AS, Claims, Config, Record, choose, compiled, labels_of, mark_of, may_not_share, printed, read_address, record_of
 from store import version_of
 
 CONFIG = ("IPAddressPool", "L2Advertisement", "BGPAdvertisement", "BGPPeer", "Community")
@@ -118,7 +118,7 @@ class Judge:
             record = record_of(change.object)
             for key, other in shown.states[-1].items():
                 held = record_of(other)
-                if key != change.key and set(held.addresses) & set(record.addresses) and not shares(held.mark, record.mark):
+                if key != change.key and set(held.addresses) & set(record.addresses) and may_not_share(held.mark, record.mark):
                     self.fault(f"SHARED version {change.version}: {'/'.join(change.key)} has {text_of(record)}, {'/'.join(key)} has {text_of(held)}")
 
     def watched(self, watch):
@@ -223,8 +223,8 @@ class Judge:
                 if self.held.get(key, (0,))[0] > version:
                     version, record = self.held[key]
                 held[key] = version, thing, record
-            claims = [(key, record) for key, (_, _, record) in held.items()]
-            claims += [(put.key, put.record) for put in self.doubts if held.get(put.key, (0,))[0] == put.version and put.record.addresses]
+            claims = [(key, record, thing) for key, (_, thing, record) in held.items()]
+            claims += [(put.key, put.record, held[put.key][1]) for put in self.doubts if held.get(put.key, (0,))[0] == put.version and put.record.addresses]
             self.known[place] = held, Claims(claims)
         return self.known[place]
 
@@ -277,8 +277,8 @@ class Judge:
         lines = [f"  at the last moment, of services {self.shown['Service'].versions[last]}: {case}, {text_of(chosen) if chosen else 'left alone'}",
                  f"  it is at version {version} and has {text_of(held)}"]
         touched = set(put.record.addresses) | set(chosen.addresses if chosen else ())
-        lines += [f"  {'/'.join(key)} has, or may have, {printed(address)} as {mark or 'no mark'}"
-                  for address in touched for key, mark in self.services(last)[1].at.get(address, ()) if key != put.key]
+        lines += [f"  {'/'.join(key)} has, or may have, {printed(address)} as {mark_of(terms)}"
+                  for address in touched for key, terms in self.services(last)[1].at.get(address, ()) if key != put.key]
         lines += [pool_text(pool) for pool in self.config(moment.force, None).pools]
         lines += ["  its put of this version was answered stale or missing"] if (put.key, put.version) in self.awaiting else []
         return "\n".join([*lines, f"  {len(reached)} moments, of the services from {self.shown['Service'].versions[min(reached.values())]} on"])
@@ -292,7 +292,7 @@ class Judge:
             config = compiled({kind: self.shown[kind].states[-1] for kind in CONFIG})
             if not isinstance(config, Config):
                 return [f"CONFIG {config}"]
-            claims = Claims((key, record_of(thing)) for key, thing in services.items())
+            claims = Claims((key, record_of(thing), thing) for key, thing in services.items())
             lines = []
             for key, thing in services.items():
                 held = record_of(thing)

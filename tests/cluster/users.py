@@ -2,8 +2,8 @@
 import copy
 
 from kinds import BY_NAME
-from rules import ADDRESSES, POOL, SHARED, Config, compiled, printed, record_of
-from store import Refused
+from rules import ADDRESSES, FROM_POOL, POOL, SHARED, Config, compiled, printed, record_of
+from store import MERGE, Refused
 
 METALLB = "metallb-system"
 SPACES = {"default": {}, "team-a": {"tier": "front"}, "team-b": {"tier": "back"}}
@@ -11,6 +11,7 @@ NAMES = ["a", "b", "c", "d"]
 SPANS = ["192.0.2.0/30", "192.0.2.4-192.0.2.6", "192.0.2.6-192.0.2.9", "192.0.2.254-192.0.3.1", "198.51.100.8/31", "198.51.100.10/32",
          "2001:db8::/126", "2001:db8::8-2001:db8::a"]
 ASKED = ["192.0.2.1", "192.0.2.5", "198.51.100.10", "2001:db8::9", "203.0.113.1", "192.0.2.1,2001:db8::1", "x"]
+DUAL = ["RequireDualStack", "PreferDualStack"]
 PORTS = [("TCP", 80), ("TCP", 443), ("UDP", 53), ("TCP", 53)]
 NODES = ["n1", "n2", "n3"]
 CONFIG = ["IPAddressPool", "L2Advertisement", "BGPAdvertisement", "BGPPeer", "Community"]
@@ -31,15 +32,24 @@ class Users:
         return self.random.random() < share
 
     def begin(self):
-        """The namespaces, two pools, an advertisement of each kind, and some services."""
+        """The namespaces, two pools, an advertisement of each kind, and some services, of which some have a record as MetalLB leaves it."""
         for name, labels in SPACES.items():
             self.store.put({"apiVersion": "v1", "kind": "Namespace", "metadata": {"name": name, "labels": labels}})
         self.store.put(custom("IPAddressPool", "p0", {"addresses": SPANS[:1]}))
         self.store.put(custom("IPAddressPool", "p1", {"addresses": [SPANS[5], SPANS[6]]}))
         self.store.put(custom("L2Advertisement", "l0", {}))
         self.store.put(custom("BGPAdvertisement", "b0", {}))
-        for _ in range(self.random.randrange(8)):
+        for _ in range(self.random.randrange(20)):
             self.edit()
+        for key in list(self.store.objects[BY_NAME["Service"]]):
+            if self.flip(0.5):
+                self.make([lambda: self.leave_record(key)])
+
+    def leave_record(self, key):
+        """The service has an address, without a mark. Whether another one has it too, and may share it, isn't asked."""
+        ingress = [{"ip": f"192.0.2.{self.random.randrange(6)}"}]
+        body = {"metadata": {"annotations": {FROM_POOL: self.random.choice(["p0", "p1", None])}}, "status": {"loadBalancer": {"ingress": ingress}}}
+        self.store.patch(BY_NAME["Service"], key, body, MERGE, True)
 
     # Edits; each is tried, and may be refused as a user's edit is
 
@@ -113,7 +123,7 @@ class Users:
                 change(self, thing)
         if self.flip(0.25):
             thing["spec"]["ipFamilies"] = self.random.choice([["IPv6"], ["IPv4", "IPv6"], ["IPv6", "IPv4"]])
-            thing["spec"]["ipFamilyPolicy"] = "SingleStack" if len(thing["spec"]["ipFamilies"]) == 1 else "RequireDualStack"
+            thing["spec"]["ipFamilyPolicy"] = "SingleStack" if len(thing["spec"]["ipFamilies"]) == 1 else self.random.choice(DUAL)
         return thing
 
     def ports(self):
@@ -154,7 +164,12 @@ class Users:
     def change_selector(self, thing):
         thing["spec"]["selector"] = {"app": self.random.choice(["web", "db"])}
 
-    CHANGES = [change_key, change_policy, change_pool, change_asked, change_labels, change_ports, change_ports, change_type, change_type, change_selector]
+    def change_families(self, thing):
+        if len(thing["spec"].get("ipFamilies") or []) == 2:
+            thing["spec"]["ipFamilyPolicy"] = self.random.choice(DUAL)
+
+    CHANGES = [change_key, change_policy, change_pool, change_asked, change_labels, change_ports, change_ports, change_type, change_type, change_selector,
+               change_families]
 
     def delete_service(self):
         self.store.delete(BY_NAME["Service"], (self.random.choice(list(SPACES)), self.random.choice(NAMES)))

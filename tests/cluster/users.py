@@ -41,15 +41,21 @@ class Users:
         self.store.put(custom("BGPAdvertisement", "b0", {}))
         for _ in range(self.random.randrange(20)):
             self.edit()
-        for key in list(self.store.objects[BY_NAME["Service"]]):
-            if self.flip(0.5):
-                self.make([lambda: self.leave_record(key)])
+        for at, key in enumerate(list(self.store.objects[BY_NAME["Service"]])):
+            if self.flip(0.7):
+                self.make([lambda: self.leave_record(at, key)])
 
-    def leave_record(self, key):
-        """The service has an address, without a mark. Whether another one has it too, and may share it, isn't asked."""
-        ingress = [{"ip": f"192.0.2.{self.random.randrange(6)}"}]
-        body = {"metadata": {"annotations": {FROM_POOL: self.random.choice(["p0", "p1", None])}}, "status": {"loadBalancer": {"ingress": ingress}}}
-        self.store.patch(BY_NAME["Service"], key, body, MERGE, True)
+    def leave_record(self, at, key):
+        """The service has an address without a mark. Some others have it too, and most of these may share it."""
+        kind, thing = BY_NAME["Service"], copy.deepcopy(self.store.objects[BY_NAME["Service"]][key])
+        if self.flip(0.8):
+            protocol, port = PORTS[at % len(PORTS)]
+            thing["metadata"].setdefault("annotations", {})[SHARED] = "k1"
+            thing["spec"] |= {"type": "LoadBalancer", "externalTrafficPolicy": "Cluster", "ports": [{"protocol": protocol, "port": port}]}
+            self.store.update(kind, key, thing)
+        body = {"metadata": {"annotations": {FROM_POOL: self.random.choice(["p0", "p1", None])}},
+                "status": {"loadBalancer": {"ingress": [{"ip": f"192.0.2.{at // len(PORTS)}"}]}}}
+        self.store.patch(kind, key, body, MERGE, True)
 
     # Edits; each is tried, and may be refused as a user's edit is
 

@@ -1,4 +1,6 @@
 pub mod Contribution
+pub mod Determined
+pub mod Kept
 pub mod Laws
 pub mod Placed
 pub mod Routes

@@ -1,5 +1,6 @@
 -- Contributions, united to routes.
-use Rattle.std.specs.Prelude.{ℕ, if◌then◌else◌, max, List, [], ◌∷◌, Option, Some, None}
+use Rattle.std.specs.Prelude.{ℕ, ◌+◌, Bool, true, ◌&&◌, nat_le, if◌then◌else◌, max, List, [], ◌∷◌, Option, Some, None}
+use Rattle.std.specs.Str.{bytes_eq}
 use Rattle.ip_ranges.specs.Values.{PrefixValue}
 use Rattle.pool_config.specs.Numbers.{ascending_with}
 use Rattle.bgp_updates.specs.declared.route.Terms.{Terms}
@@ -15,6 +16,15 @@ greater (Some a) (Some b) = Some (max a b)
 -- the numbers of both, ascending, each once
 abbrev pub united : List ℕ → List ℕ → List ℕ
 united a b = ascending_with (ascending_with [] a) b
+
+-- the numbers ascend, the first of them not below this one
+abbrev pub ascend_from : ℕ → List ℕ → Bool
+ascend_from low [] = true
+ascend_from low (n ∷ numbers) = nat_le low n && ascend_from (n + 1) numbers
+
+-- the lists are equal, and ascend
+abbrev pub are_same : List ℕ → List ℕ → Bool
+are_same a b = bytes_eq a b && ascend_from 0 a
 
 -- the greater preference and the communities of both
 abbrev pub united_terms : Terms → Terms → Terms

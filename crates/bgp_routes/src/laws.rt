@@ -1,4 +1,6 @@
 //! What holds of the routes of every node for every peer.
+ghost use Rattle.bgp_routes.specs.Determined.{TablesAreDetermined};
+ghost use Rattle.bgp_routes.specs.Kept.{SameViewsKeepTables};
 ghost use Rattle.bgp_routes.specs.Laws.{ContributionsAreListed, RoutesAreStated, RoutesUniteContributions};
 
 /// The table of a node for a peer says of each prefix what all contributions of the prefix do, united.
@@ -16,4 +18,15 @@ pub fn contributions_are_listed()
 /// prefix, and its preference is the greatest of theirs.
 pub fn routes_unite_contributions()
     ensures { RoutesUniteContributions }
+{}
+
+/// The routes of a node for a peer are one table at most, where the communities of each ascend.
+pub fn tables_are_determined()
+    ensures { TablesAreDetermined }
+{}
+
+/// Where two views have the same configuration in force and the same labels of a node, and announce the same addresses from it, its
+/// routes for all peers are the same.
+pub fn same_views_keep_tables()
+    ensures { SameViewsKeepTables }
 {}

@@ -4,10 +4,10 @@ ghost use Rattle.std.specs.Option.{option_copied};
 ghost use Rattle.pool_config.specs.Numbers.{ascending_with};
 ghost use Rattle.bgp_updates.specs.Tables.{IsTable, IsV4};
 ghost use Rattle.bgp_routes.specs.Placed.{place_of, united_with};
-ghost use Rattle.bgp_routes.specs.Uniting.{greater, united, united_terms, with_contribution};
+ghost use Rattle.bgp_routes.specs.Uniting.{are_same, ascend_from, greater, united, united_terms, with_contribution};
 
 use bgp_updates::Route;
-use mlb_base::NoMemory;
+use mlb_base::{NoMemory, TryCopy};
 use pool_config::{CommunityNumbers, numbers_from};
 use std::alloc::Global;
 use std::collections::{BTreeMap, BTreeSet};
@@ -113,6 +113,8 @@ fn greater(a: Option<u32>, b: Option<u32>) -> Option<u32>
     }
 }
 
+/// The numbers of both. Lists that are equal, as those of one advertisement are, need no set.
+#[tactic(auto, using(crate::proofs::Same::united_same))]
 fn united(
     alloc: Global,
     a: &CommunityNumbers,
@@ -120,10 +122,34 @@ fn united(
 ) -> Result<CommunityNumbers, NoMemory>
     ensures { IfOk result (λ numbers. numbers ≡ united a.now b.now) }
 {
+    if are_same(a.as_slice(), b.as_slice()) {
+        return a.copy();
+    }
     let mut set = BTreeSet::new(alloc);
     add_numbers(&mut set, a.as_slice())?;
     add_numbers(&mut set, b.as_slice())?;
     numbers_from(alloc, &set)
+}
+
+/// Whether the lists are equal, and ascend.
+fn are_same(a: &[u32], b: &[u32]) -> bool
+    ensures { result ≡ are_same a.now b.now }
+{
+    a == b && ascend(a)
+}
+
+fn ascend(numbers: &[u32]) -> bool
+    ensures { result ≡ ascend_from 0 numbers.now }
+{
+    let mut low = 0;
+    for number in numbers {
+        let number = u64::from(*number);
+        if number < low {
+            return false;
+        }
+        low = number + 1;
+    }
+    true
 }
 
 fn add_numbers(set: &mut BTreeSet<u32>, numbers: &[u32]) -> Result<(), NoMemory>

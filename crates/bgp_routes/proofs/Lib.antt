@@ -1,8 +1,9 @@
 pub mod Determined
 pub mod Elements
-pub mod SameViews
+pub mod Few
 pub mod Listing
 pub mod Placed
 pub mod Placing
 pub mod Same
+pub mod SameViews
 pub mod Stated

@@ -1,5 +1,6 @@
 pub mod Contribution
 pub mod Determined
+pub mod Few
 pub mod Kept
 pub mod Laws
 pub mod Placed

@@ -1,9 +1,9 @@
 //! The routes of a node for a peer.
-ghost use Rattle.std.specs.Prelude.{◌≡◌, ◌||◌, IfOk, OnOk};
+ghost use Rattle.std.specs.Prelude.{◌≡◌, ◌||◌, All, IfOk, OnOk};
 ghost use Rattle.ip_ranges.specs.declared.family.Family.TheVariants.{V4};
 ghost use Rattle.kube_labels.specs.Names.{has_text};
 ghost use Rattle.speaker_view.specs.Held.{objects_of};
-ghost use Rattle.bgp_updates.specs.Tables.{IsTable, IsV4};
+ghost use Rattle.bgp_updates.specs.Tables.{HasFew, IsTable, IsV4};
 ghost use Rattle.bgp_routes.specs.Contribution.{contribution, told};
 ghost use Rattle.bgp_routes.specs.Laws.{AreRoutes};
 ghost use Rattle.bgp_routes.specs.Routes.{advertises, is_for, of_address, of_pool, of_service, routes_of};
@@ -24,8 +24,8 @@ use std::alloc::Global;
 /// Each IPv4 address that is recorded on some service which can be announced from the node, and each BGPAdvertisement (MetalLB) of the
 /// configuration in force that chooses the address's pool, selects the node and names the peer or none, contributes the address masked
 /// to `aggregationLength`. A route's communities are those of all contributions of its prefix, and its preference is the greatest of
-/// theirs for a peer of the same AS, else `None`. The table is empty where the peer doesn't select the node. `NoMemory` may come at any
-/// time.
+/// theirs for a peer of the same AS, else `None`. The table is empty where the peer doesn't select the node. No route has more than 512
+/// communities. `NoMemory` may come at any time.
 pub fn routes(
     alloc: Global,
     view: &View,
@@ -35,6 +35,7 @@ pub fn routes(
     ensures value { IfOk result (λ table. table ≡ routes_of view.now node.now peer.now) }
     ensures meaning { IfOk result (λ table. AreRoutes view.now node.now peer.now table) }
     ensures table { IfOk result (λ table. IsTable table) }
+    ensures few { IfOk result (λ table. All HasFew table) }
 {
     let node = Text::new(alloc, node)?;
     let united = united_routes(alloc, view, &node, peer)?;
@@ -49,7 +50,8 @@ fn united_routes(
     node: &Text,
     peer: &CompiledPeer,
 ) -> Result<UnitedRoutes, NoMemory>
-    ensures { IfOk result (λ routes. routes ≡ routes_of view.now node.now peer.now) }
+    ensures value { IfOk result (λ routes. routes ≡ routes_of view.now node.now peer.now) }
+    ensures few { IfOk result (λ routes. All HasFew routes) }
 {
     let mut routes = UnitedRoutes::new(alloc);
     if !peer.selects(view.node_labels(node)) {

@@ -41,9 +41,9 @@ use Rattle.bgp_reading.specs.Laws.{CanBeTold, joined, last_table, messages_over}
 use Rattle.bgp_reading.specs.Update.{IsMessageOf}
 use Rattle.bgp_reading.proofs.ReceivedAgain.{of-sender, tables-received}
 use Rattle.bgp_routes.specs.Routes.{routes_of}
-use Rattle.limited_view.specs.Limited.{IsLimited}
-use Rattle.limited_view.proofs.FewRoutes.{each-of}
-use Rattle.limited_view.proofs.Kept.{fresh_limited, after_limited}
+use Rattle.bgp_routes.specs.Few.{HasFewInForce}
+use Rattle.bgp_routes.proofs.Few.{each-of}
+use Rattle.shown_views.proofs.InForce.{fresh-few, after-few}
 use Rattle.shown_views.specs.Numbered.{IsNumbered, IsNumberedConfig, HasCompiledAsn}
 use Rattle.shown_views.proofs.Kept.{fresh-numbered, after-numbered}
 use Rattle.shown_views.proofs.Tellable.{routes_can_be_told}
@@ -203,7 +203,7 @@ module _ (peer : CompiledPeer) where
 
 record IsGoodView (v : ViewValue) : Type 0 where
   numbered : IsNumbered v
-  limited : IsLimited v
+  few : HasFewInForce v
 
 names-in : (config : Option ConfigValue) → ((c : ConfigValue) → config ≡ Some c → IsNumberedConfig c) → NamesAscend (peers_in config)
 unfolding IsStrictlySortedBy
@@ -220,7 +220,7 @@ names-of v good = names-in v.held.config good.numbered.config
 good-after : (event : Event) (line : List ℕ) (v : ViewValue) → event_of_line line ≡ Ok event → IsGoodView v → IsGoodView (view_after event v)
 good-after event line v reads good = record {
   numbered = after-numbered event v (lines_show_numbers line event reads) good.numbered;
-  limited = after_limited event v good.limited;
+  few = after-few event v good.few;
 }
 
 line-good : (s t : SpeakerState) (line : Line) (entries : List Entry) → line_step s line ≡ Goes t entries → IsGoodView s.view → IsGoodView t.view
@@ -233,7 +233,7 @@ lines-good [] s t entries taken good = subst (λ (u : SpeakerState). IsGoodView 
 lines-good (line ∷ lines) s t entries (next, first, rest, goes, others, is) good = lines-good lines next t rest others (line-good s next line first goes good)
 
 fresh-good : (class : Option (List ℕ)) → IsGoodView (fresh class)
-fresh-good class = record { numbered = fresh-numbered class; limited = fresh_limited class }
+fresh-good class = record { numbered = fresh-numbered class; few = fresh-few class }
 
 -- ---- what a peer is told
 
@@ -349,7 +349,7 @@ module _ (peer : CompiledPeer) (node : List ℕ) (hop : AddressValue) (v4 : hop.
   can-be-told : (v : ViewValue) (other : CompiledPeer) → IsGoodView v → IsIn (peers_of v) other → IsSamePeer peer other → CanBeTold peering (routes_of v node other)
   can-be-told v other good there same =
       subst (λ (p : Peering). CanBeTold p (routes_of v node other)) (same-peering other same)
-      (routes_can_be_told v node other hop good.numbered good.limited (each-of HasCompiledAsn (peers_of v) other (asns-in v.held.config good.numbered.config) there) small)
+      (routes_can_be_told v node other hop good.numbered good.few (each-of HasCompiledAsn (peers_of v) other (asns-in v.held.config good.numbered.config) there) small)
 
   -- ---- an event
 

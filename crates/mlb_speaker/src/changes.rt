@@ -19,9 +19,9 @@ use crate::station::Station;
 use announced_set::{announced, touched_addresses, update_announced};
 use ip_ranges::Address;
 use kube_model::Event;
-use limited_view::LimitedView;
 use mlb_base::{NoMemory, Sequence};
 use object_cache::{ApplyFault, TakeNote};
+use speaker_view::View;
 use std::alloc::Global;
 use std::collections::BTreeSet;
 
@@ -83,7 +83,7 @@ impl Speaker {
 fn stands_before(
     alloc: Global,
     known: Option<BTreeSet<Address>>,
-    view: &LimitedView,
+    view: &View,
     station: &Station,
     event: &Event,
 ) -> Result<Standing, NoMemory>
@@ -94,9 +94,9 @@ fn stands_before(
 {
     let addresses = match known {
         Some(addresses) => addresses,
-        None => announced(alloc, view.as_view(), &station.node)?,
+        None => announced(alloc, view, &station.node)?,
     };
-    let Ok(touched) = touched_addresses(alloc, view.as_view(), event) else {
+    let Ok(touched) = touched_addresses(alloc, view, event) else {
         drop(addresses);
         return Err(NoMemory);
     };
@@ -115,7 +115,7 @@ fn stands_before(
 /// What is told where this stood before, and the view is this one now.
 fn told_since(
     alloc: Global,
-    view: &LimitedView,
+    view: &View,
     station: &Station,
     note: TakeNote,
     before: &mut Standing,
@@ -138,7 +138,7 @@ fn told_since(
 /// The note, and what is told of the addresses that are announced no more, or from now on.
 fn changed_entries(
     alloc: Global,
-    view: &LimitedView,
+    view: &View,
     station: &Station,
     note: TakeNote,
     before: &mut Standing,
@@ -152,7 +152,7 @@ fn changed_entries(
     let changes = match update_announced(
         alloc,
         &mut before.addresses,
-        view.as_view(),
+        view,
         &station.node,
         before.touched.as_deref(),
     ) {
@@ -162,7 +162,7 @@ fn changed_entries(
             return Err(refused);
         }
     };
-    let entries = entries_for(alloc, view.as_view(), station, note, &changes);
+    let entries = entries_for(alloc, view, station, note, &changes);
     drop(changes);
     entries
 }

@@ -55,7 +55,7 @@ fn entries_by(
     ensures limit { (kind : Kind) (count : ℕ)
         → IsErrOf result (ApplyFault.Limit kind count) → limit_by speaker.old.view event ≡ Some (kind, count) }
 {
-    match answers_to(alloc, speaker.view.as_view(), &speaker.station, &event) {
+    match answers_to(alloc, &speaker.view, &speaker.station, &event) {
         Ok(None) => speaker.changes_by(alloc, event),
         Ok(Some(entries)) => {
             drop(event);

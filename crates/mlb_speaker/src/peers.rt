@@ -10,12 +10,13 @@ ghost use Rattle.mlb_speaker.specs.Updates.{peers_of, updated, with_hop};
 
 use crate::entries::Entry;
 use crate::station::Station;
+use bgp_routes::routes;
 use bgp_updates::{MessageList, RouteTable, updates};
 use ip_ranges::{Address, Family};
 use kube_labels::Text;
-use limited_view::LimitedView;
 use mlb_base::{ByteList, NoMemory, Sequence, TryCopy};
 use pool_config::CompiledPeer;
+use speaker_view::View;
 use std::alloc::Global;
 
 /// The routes of a peer.
@@ -30,7 +31,7 @@ pub(crate) struct PeerTable {
 /// The routes of all peers of the configuration in force, where the words name a next hop.
 pub(crate) fn tables_of(
     alloc: Global,
-    view: &LimitedView,
+    view: &View,
     station: &Station,
 ) -> Result<Sequence<PeerTable>, NoMemory>
     ensures { IfOk result (λ tables. tables ≡ tables_of view.now station.now) }
@@ -41,11 +42,7 @@ pub(crate) fn tables_of(
     }
 }
 
-fn all_tables(
-    alloc: Global,
-    view: &LimitedView,
-    node: &Text,
-) -> Result<Sequence<PeerTable>, NoMemory>
+fn all_tables(alloc: Global, view: &View, node: &Text) -> Result<Sequence<PeerTable>, NoMemory>
     ensures { IfOk result (λ tables. tables ≡ map (table_at view.now node.now) (peers_of view.now)) }
 {
     let peers = peers_of(view);
@@ -57,10 +54,10 @@ fn all_tables(
 }
 
 /// The peers of the configuration in force.
-fn peers_of(view: &LimitedView) -> &[CompiledPeer]
+fn peers_of(view: &View) -> &[CompiledPeer]
     ensures { result.now ≡ peers_of view.now }
 {
-    match view.as_view().config() {
+    match view.config() {
         None => &[],
         Some(config) => config.peers.as_slice(),
     }
@@ -68,13 +65,13 @@ fn peers_of(view: &LimitedView) -> &[CompiledPeer]
 
 fn table_at(
     alloc: Global,
-    view: &LimitedView,
+    view: &View,
     node: &Text,
     peer: &CompiledPeer,
 ) -> Result<PeerTable, NoMemory>
     ensures { IfOk result (λ table. table ≡ table_at view.now node.now peer.now) }
 {
-    let routes = view.routes(alloc, node.as_str(), peer)?;
+    let routes = routes(alloc, view, node.as_str(), peer)?;
     Ok(PeerTable {
         name: peer.name.copy()?,
         my_asn: peer.my_asn,
@@ -87,7 +84,7 @@ fn table_at(
 pub(crate) fn push_updates(
     alloc: Global,
     entries: &mut Sequence<Entry>,
-    view: &LimitedView,
+    view: &View,
     station: &Station,
     tables: &[PeerTable],
 ) -> Result<(), NoMemory>
@@ -102,7 +99,7 @@ pub(crate) fn push_updates(
 fn push_with_hop(
     alloc: Global,
     entries: &mut Sequence<Entry>,
-    view: &LimitedView,
+    view: &View,
     node: &Text,
     hop: &Address,
     tables: &[PeerTable],
@@ -119,7 +116,7 @@ fn push_with_hop(
 fn push_to_all(
     alloc: Global,
     entries: &mut Sequence<Entry>,
-    view: &LimitedView,
+    view: &View,
     node: &Text,
     hop: &Address,
     tables: &[PeerTable],
@@ -138,7 +135,7 @@ fn push_to_all(
 fn push_to(
     alloc: Global,
     entries: &mut Sequence<Entry>,
-    view: &LimitedView,
+    view: &View,
     node: &Text,
     hop: &Address,
     tables: &[PeerTable],
@@ -169,7 +166,7 @@ fn push_message(
 
 fn messages_to(
     alloc: Global,
-    view: &LimitedView,
+    view: &View,
     node: &Text,
     hop: &Address,
     tables: &[PeerTable],
@@ -178,7 +175,7 @@ fn messages_to(
     requires { hop.now.family ≡ V4 }
     ensures { IfOk result (λ messages. messages ≡ messages_from tables.now view.now node.now hop.now peer.now) }
 {
-    let new = view.routes(alloc, node.as_str(), peer)?;
+    let new = routes(alloc, view, node.as_str(), peer)?;
     match table_of(tables, peer) {
         Some(table) => updates(alloc, &table.routes, &new, peer, hop),
         None => first_messages(alloc, &new, peer, hop),

@@ -9,10 +9,10 @@ use crate::station::Station;
 use ip_ranges::Address;
 use kube_labels::Text;
 use kube_model::Status;
-use limited_view::LimitedView;
 use line_run::{Machine, Refusal};
 use mlb_base::NoMemory;
 use mlb_edge::{Line, Sink};
+use speaker_view::View;
 use speaker_words::SpeakerWords;
 use std::alloc::Global;
 use std::collections::BTreeSet;
@@ -21,7 +21,7 @@ use std::marker::Model;
 /// Applies lines to a view, and tells what its node announces.
 #[derive(Drop)]
 pub(crate) struct Speaker {
-    pub(crate) view: LimitedView,
+    pub(crate) view: View,
     pub(crate) station: Station,
     // what the node announces by the view, once it is known: an event of a service or slice changes it at few addresses
     pub(crate) announced: Option<BTreeSet<Address>>,
@@ -47,7 +47,7 @@ impl Speaker {
         let class = owned(alloc, said.class)?;
         let station = Station::new(alloc, said)?;
         Ok(Speaker {
-            view: LimitedView::new(alloc, class),
+            view: View::new(alloc, class),
             station,
             announced: None,
         })

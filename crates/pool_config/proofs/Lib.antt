@@ -1,11 +1,13 @@
 pub mod ByName
 pub mod CommunitySets
 pub mod Counts
+pub mod Few
 pub mod FirstFault
 pub mod Firsts
 pub mod Halves
 pub mod ItemLaws
 pub mod KeySets
+pub mod KnownClashes
 pub mod Limits
 pub mod Names
 pub mod NumberTexts
@@ -16,6 +18,7 @@ pub mod Repeats
 pub mod Rows
 pub mod Sets
 pub mod Shared
+pub mod SpanPlaces
 pub mod Spans
 pub mod Stages
 pub mod Tests

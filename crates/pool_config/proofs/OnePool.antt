@@ -1,8 +1,10 @@
 -- The one pool that has an address.
-use Rattle.std.proofs.Common.{◌≡◌, ℕ, zero, suc, ◌+◌, ◌<◌, ◌≤◌, Bool, true, false, List, [], ◌∷◌, ◌++◌, inl, inr, map, cond, length, Option, Some, None, refl, sym, ◌∙◌, ap, subst, arith, Decides, IfSome, IfNone}
-use Rattle.std.proofs.lemmas.Bool.{cases_order, and_parts, and_from, leb-true, le-leb}
+use Rattle.std.proofs.Common.{◌≡◌, ℕ, zero, suc, ◌+◌, ◌<◌, ◌≤◌, Bool, true, false, List, [], ◌∷◌, ◌++◌, inl, inr, map, cond, length, Option, Some, None, refl, sym, ◌∙◌, ap, subst, arith, Decides, IfSome, IfNone, IsSome, Bor, get_or}
+use Rattle.std.proofs.lemmas.Bool.{cases_order, false≢true, and_parts, and_from, leb-true, le-leb}
 use Rattle.std.proofs.lemmas.Bool.Decides.{not_from_Decides}
-use Rattle.std.specs.List.{position_from}
+use Rattle.std.proofs.lemmas.Option.{slice_get_read}
+use Rattle.std.specs.List.{position_from, slice_get}
+use Rattle.std.specs.Option.{option_copied}
 use Rattle.ip_ranges.specs.Values.{AddressValue, SpanValue, Holds, holds}
 use Rattle.ip_ranges.proofs.AddressLaws.{same_family-is, same_family-itself}
 use Rattle.pool_config.specs.declared.compiled.CompiledPool.{CompiledPool}
@@ -13,7 +15,7 @@ use Rattle.pool_config.proofs.Firsts.{find_some, find_none}
 use Rattle.pool_config.proofs.ItemLaws.{item_bound, in_list, at_has, same_item}
 use Rattle.pool_config.proofs.Tests.{Decides-has}
 
-abbrev Placed : Type 0
+abbrev pub Placed : Type 0
 Placed = List ℕ × SpanValue
 
 holds-Decides : (s : SpanValue) (a : AddressValue) → Decides (holds s a) (Holds s a)
@@ -26,12 +28,12 @@ pub address-Decides : (a : AddressValue) (pool : CompiledPool) → Decides (has_
 address-Decides a pool = Decides-has (λ s. holds s a) (λ s. Holds s a) (λ s. holds-Decides s a) pool.spans
 
 -- places in lists that are joined
-item_left : {A : Type 0} (xs ys : List A) (i : ℕ) (x : A) → ItemAt xs i x → ItemAt (xs ++ ys) i x
+pub item_left : {A : Type 0} (xs ys : List A) (i : ℕ) (x : A) → ItemAt xs i x → ItemAt (xs ++ ys) i x
 item_left [] ys i x h = absurd h
 item_left (y ∷ xs) ys zero x h = h
 item_left (y ∷ xs) ys (suc i) x h = item_left xs ys i x h
 
-item_right : {A : Type 0} (xs ys : List A) (i : ℕ) (y : A) → ItemAt ys i y → (n : ℕ) × (length xs ≤ n) × ItemAt (xs ++ ys) n y
+pub item_right : {A : Type 0} (xs ys : List A) (i : ℕ) (y : A) → ItemAt ys i y → (n : ℕ) × (length xs ≤ n) × ItemAt (xs ++ ys) n y
 item_right [] ys i y h = (i, omega arith, h)
 item_right (x ∷ xs) ys i y h = let (n, behind, stands) = item_right xs ys i y h in (suc n, omega arith, stands)
 
@@ -160,3 +162,38 @@ with_only pools apart a pool inside has = go (pool_with pools a) refl
         let Stands : ℕ → Type 0 = λ n. ItemAt pools n q in
         let equal : q ≡ p = same_item pools place q p (subst Stands at f.stands) stands in
         e ∙ ap (λ x. Some x) (equal ∙ same)
+
+-- so it stands at the place that is found
+get_at : {A : Type 0} (xs : List A) (i : ℕ) (x : A) → ItemAt xs i x → slice_get xs i ≡ Some x
+get_at [] i x none = absurd none
+get_at (y ∷ ys) zero x stands = ap (λ z. Some z) stands
+get_at (y ∷ ys) (suc i) x stands = get_at ys i x stands
+
+if_found : {A : Type 0} (P : A → Type 0) (r : Option A) (x : A) → r ≡ Some x → IfSome r P → P x
+if_found P None x e h = absurd (let wrong : None ≡ Some x = e in cc)
+if_found P (Some y) x e h = let same : y ≡ x = cc in subst P same h
+
+pub place_bound : (pools : List CompiledPool) (a : AddressValue) (place : ℕ) → pool_of pools a ≡ Some place → place < length pools
+place_bound pools a place e =
+    let (p, stands, has) = if_found (λ (place : ℕ). (p : CompiledPool) × ItemAt pools place p × HasAddress a p) (pool_of pools a) place e (holder_found pools a) in
+    item_bound pools place p stands
+
+pub with_at : (pools : List CompiledPool) → AreApart (placed_spans pools) → (a : AddressValue) (place : ℕ) → pool_of pools a ≡ Some place → slice_get pools place ≡ pool_with pools a
+with_at pools apart a place e =
+    let (p, stands, has) = if_found (λ (place : ℕ). (p : CompiledPool) × ItemAt pools place p × HasAddress a p) (pool_of pools a) place e (holder_found pools a) in
+    get_at pools place p stands ∙ sym (with_only pools apart a p (at_has (λ q. q ≡ p) pools place p stands refl) has)
+
+-- what a look at the place gives
+pub got : {X : Type 0} (xs : List X) (i : ℕ) (r : Option (Bor X)) → IfSome r (λ x. x.now ≡ get_or xs i x.now) → (i < length xs → IsSome r) → i < length xs → option_copied r ≡ slice_get xs i
+got xs i None value some below = absurd (false≢true (some below))
+got xs i (Some x) value some below = sym (slice_get_read xs (length xs) i x.now refl below value)
+
+pub with_none : (pools : List CompiledPool) → AreApart (placed_spans pools) → (a : AddressValue) → pool_of pools a ≡ None → None ≡ pool_with pools a
+with_none pools apart a e = go (pool_with pools a) refl
+  where
+    go : (r : Option CompiledPool) → pool_with pools a ≡ r → None ≡ r
+    go None is = refl
+    go (Some pool) is =
+        let f = find_some (has_address a) pools pool is in
+        let found : None ≡ Some f.place = sym e ∙ holder_only pools apart a f.place pool f.stands ((address-Decides a pool).0 f.passes) in
+        absurd cc

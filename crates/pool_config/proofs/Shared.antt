@@ -15,6 +15,7 @@ use Rattle.ip_ranges.proofs.EntryLemmas.{entry_of-err, entry_of-mapped, entry_of
 use Rattle.ip_ranges.proofs.AddressLaws.{same_family-is, same_family-itself}
 use Rattle.kube_model.specs.declared.pool.Pool.{Pool}
 use Rattle.mlb_base.specs.Items.{ItemAt}
+use Rattle.pool_config.specs.declared.compiled.CompiledPool.{CompiledPool}
 use Rattle.pool_config.specs.ConfigValue.{Overlaps, placed_spans}
 use Rattle.pool_config.specs.Faults.{FaultyPair, key_of}
 use Rattle.pool_config.specs.Lists.{compiled_pool, spans_of}
@@ -136,6 +137,10 @@ rises_at : (xs : List Placed) → AllByRecursion PlacedRises xs → (i : ℕ) (x
 rises_at [] all i x stands = absurd stands
 rises_at (y ∷ ys) all zero x stands = let P : Placed → Type 0 = PlacedRises in subst P stands all.0
 rises_at (y ∷ ys) all (suc i) x stands = rises_at ys all.1 i x stands
+
+pub pools_rise : (entries : List (List ℕ × Pool)) (pools : List CompiledPool) → pools ≡ map compiled_pool entries → (i : ℕ) (x : Placed) → ItemAt (placed_spans pools) i x → PlacedRises x
+pools_rise entries pools made i x stands =
+    rises_at (placed_spans (map compiled_pool entries)) (all_placed_rise entries) i x (subst (λ (ps : List CompiledPool). ItemAt (placed_spans ps) i x) made stands)
 
 -- what finds one fault finds another that is as good
 finds_like : (F G : ℕ → ℕ → List ℕ → Type 0) → ((i j : ℕ) (n : List ℕ) → F i j n → G i j n) → ((i j : ℕ) (n : List ℕ) → G i j n → F i j n) → (r : Option (List ℕ))

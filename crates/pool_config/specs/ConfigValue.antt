@@ -1,14 +1,15 @@
 -- A configuration as contracts see it.
-use Rattle.std.specs.Prelude.{ℕ, ◌<◌, List, map}
-use Rattle.std.specs.List.{flat_map}
+use Rattle.std.specs.Prelude.{ℕ, ◌<◌, ◌≤◌, List, length, map}
+use Rattle.std.specs.List.{AllByRecursion, flat_map}
 use Rattle.std.specs.List.Sorted.{IsStrictlySortedBy}
+use Rattle.std.specs.Ordering.{nat_cmp}
 use Rattle.ip_ranges.specs.Values.{AddressValue, SpanValue, Holds}
 use Rattle.pool_config.specs.declared.compiled.CompiledPool.{CompiledPool}
 use Rattle.pool_config.specs.declared.compiled.CompiledL2.{CompiledL2}
 use Rattle.pool_config.specs.declared.compiled.CompiledBgp.{CompiledBgp}
 use Rattle.pool_config.specs.declared.compiled.CompiledPeer.{CompiledPeer}
 use Rattle.kube_labels.specs.Names.{name_cmp}
-use Rattle.mlb_base.specs.Items.{ItemAt}
+use Rattle.mlb_base.specs.Items.{ItemAt, Has, IsIn}
 
 pub record ConfigValue : Type 0 where
   pub pools : List CompiledPool
@@ -34,9 +35,25 @@ AreApart spans =
 abbrev pub Ascend : List (List ℕ) → Type 0
 Ascend names = IsStrictlySortedBy name_cmp names
 
--- in each list the names ascend, and no two spans, of one pool or of two, overlap
-abbrev pub IsConfig : ConfigValue → Type 0
-IsConfig c =
-    Ascend (map (λ p. p.name) c.pools) × Ascend (map (λ a. a.name) c.l2)
-    × Ascend (map (λ a. a.name) c.bgp) × Ascend (map (λ p. p.name) c.peers)
-    × AreApart (placed_spans c.pools)
+-- an advertisement of the configuration has the number among its communities
+abbrev pub HasNumber : ConfigValue → ℕ → Type 0
+HasNumber c n = Has (λ adv. IsIn adv.communities n) c.bgp
+
+-- numbers that ascend and that its advertisements have are at most 512
+abbrev pub HasFewNumbers : ConfigValue → Type 0
+HasFewNumbers c =
+    (numbers : List ℕ) → IsStrictlySortedBy nat_cmp numbers → AllByRecursion (HasNumber c) numbers → length numbers ≤ 512
+
+-- the communities of each advertisement ascend, and those of all are so few
+pub record HasFewCommunities (c : ConfigValue) : Type 0 where
+  pub ascend : AllByRecursion (λ adv. IsStrictlySortedBy nat_cmp adv.communities) c.bgp
+  pub few : HasFewNumbers c
+
+-- in each list the names ascend, no two spans, of one pool or of two, overlap, and there are at most 512 communities
+pub record IsConfig (c : ConfigValue) : Type 0 where
+  pub pools : Ascend (map (λ p. p.name) c.pools)
+  pub l2 : Ascend (map (λ a. a.name) c.l2)
+  pub bgp : Ascend (map (λ a. a.name) c.bgp)
+  pub peers : Ascend (map (λ p. p.name) c.peers)
+  pub apart : AreApart (placed_spans c.pools)
+  pub communities : HasFewCommunities c

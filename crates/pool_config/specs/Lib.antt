@@ -1,5 +1,6 @@
 pub mod Bounds
 pub mod Choice
+pub mod Clashing
 pub mod Compile
 pub mod ConfigValue
 pub mod Faults
@@ -10,4 +11,6 @@ pub mod Meeting
 pub mod Numbers
 pub mod Objects
 pub mod PoolOf
+pub mod Preferences
 pub mod Search
+pub mod SpanIndex

@@ -9,7 +9,8 @@ ghost use Rattle.pool_config.specs.Lists.{lists_of};
 ghost use Rattle.pool_config.specs.Objects.{objects_of};
 ghost use Rattle.pool_config.specs.Search.{found_among, Refuses, pool_rows, overlap_rows, selector_rows, advertised_rows, name_rows};
 
-use crate::advertised::{bgp_of_unknown_peer, bgp_too_far, clashing_bgp};
+use crate::advertised::{bgp_of_unknown_peer, bgp_too_far};
+use crate::clashes::clashing_bgp;
 use crate::communities::{
     bgp_of_bad_text, bgp_of_many_texts, bgp_of_unknown, list_of_bad_value, list_of_repeat,
 };
@@ -22,6 +23,7 @@ use crate::reading::{read_bgps, read_l2s, read_peers, read_pools};
 use crate::selector_faults::{
     bgp_of_bad_selector, l2_of_bad_selector, peer_of_bad_selector, pool_of_bad_selector,
 };
+use crate::span_index::SpanIndex;
 use kube_labels::Text;
 use kube_model::{Cause, ConfigFault, Kind};
 use mlb_base::{NoMemory, TryCopy};
@@ -138,6 +140,7 @@ fn check_selectors(objects: &ObjectSet) -> Result<(), CompileFault>
 
 /// What is wrong with how advertisements and pools fit.
 fn check_advertised(
+    alloc: Global,
     objects: &ObjectSet,
     pools: &[CompiledPool],
     bgp: &[CompiledBgp],
@@ -148,7 +151,11 @@ fn check_advertised(
     ensures refused { IfErr result (Refuses (objects_of objects.now) advertised_rows) }
 {
     check(Cause::Aggregation, Kind::Bgp, bgp_too_far(pools, bgp))?;
-    check(Cause::LocalPrefClash, Kind::Bgp, clashing_bgp(pools, bgp))
+    check(
+        Cause::LocalPrefClash,
+        Kind::Bgp,
+        clashing_bgp(alloc, pools, bgp)?,
+    )
 }
 
 /// What is wrong with communities, and with the peers that advertisements name.
@@ -211,12 +218,14 @@ fn compile_in_order(alloc: Global, objects: &ObjectSet) -> Result<Config, Compil
     let l2 = read_l2s(alloc, &objects.l2s)?;
     let bgp = read_bgps(alloc, &objects.communities, &objects.bgps)?;
     let peers = read_peers(alloc, &objects.peers)?;
-    check_advertised(objects, pools.as_slice(), bgp.as_slice())?;
+    check_advertised(alloc, objects, pools.as_slice(), bgp.as_slice())?;
     check_names(alloc, objects)?;
+    let index = SpanIndex::new(alloc, pools.as_slice())?;
     Ok(Config {
         pools,
         l2,
         bgp,
         peers,
+        index,
     })
 }

@@ -1,30 +1,30 @@
 //! A configuration that can be in force.
 use crate::compiled::{BgpList, CompiledPool, L2List, PeerList, PoolList};
-use crate::holders::{first_holder, pool_with};
+use crate::span_index::SpanIndex;
 use ip_ranges::Address;
 use std::alloc::Global;
 use std::marker::Model;
 
-/// A configuration that can be in force. The names in each list ascend by their bytes, so that no two are the same, and no two spans
-/// overlap, of one pool or of two.
+/// A configuration that can be in force. The names in each list ascend by their bytes, so that no two are the same, no two spans
+/// overlap, of one pool or of two, and the advertisements have at most 512 communities, each counted once.
 #[derive(Drop)]
 pub struct Config {
     pub pools: PoolList,
     pub l2: L2List,
     pub bgp: BgpList,
     pub peers: PeerList,
+    pub(crate) index: SpanIndex,
 }
 
 impl Model for Config {
     ghost use Rattle.pool_config.specs.ConfigValue.{ConfigValue, IsConfig};
+    ghost use Rattle.pool_config.specs.SpanIndex.{IsIndexOf};
 
     ghost Value = { ConfigValue };
 
     ghost view = { λ c. record { pools = c.pools; l2 = c.l2; bgp = c.bgp; peers = c.peers } };
 
-    ghost invariant = { λ c. IsConfig (record { pools = c.pools; l2 = c.l2; bgp = c.bgp; peers = c.peers }) };
-
-    ghost inverse = { λ v. record { pools = v.pools; l2 = v.l2; bgp = v.bgp; peers = v.peers } };
+    ghost invariant = { λ c. IsConfig (record { pools = c.pools; l2 = c.l2; bgp = c.bgp; peers = c.peers }) × IsIndexOf c.pools c.index };
 }
 
 impl Config {
@@ -44,7 +44,15 @@ impl Config {
             l2: L2List::new(alloc),
             bgp: BgpList::new(alloc),
             peers: PeerList::new(alloc),
+            index: SpanIndex::empty(alloc),
         }
+    }
+
+    /// Takes no time: it says what holds of every configuration.
+    pub fn known(&self)
+        ensures { IsConfig self.now }
+    {
+        let _ = &self.pools;
     }
 
     /// The place in `pools` of the one pool that has the address, and `None` where none has it. It takes no memory.
@@ -57,7 +65,7 @@ impl Config {
         ensures none { IfNone result (¬ Has (HasAddress address.now) self.now.pools) }
         ensures config { IsConfig self.now }
     {
-        first_holder(self.pools.as_slice(), address)
+        self.index.holder(address)
     }
 
     /// The one pool that has the address, and `None` where none has it. It takes no memory.
@@ -68,6 +76,16 @@ impl Config {
         ensures only { (pool : CompiledPool) → IsIn self.now.pools pool
             → HasAddress address.now pool → option_copied result ≡ Some pool }
     {
-        pool_with(self.pools.as_slice(), address)
+        self.holder(address)
+    }
+
+    fn holder(&self, address: &Address) -> Option<&CompiledPool>
+        ensures value { option_copied result ≡ pool_with self.now.pools address.now }
+        ensures config { IsConfig self.now }
+    {
+        match self.index.holder(address) {
+            Some(place) => self.pools.as_slice().get(place),
+            None => None,
+        }
     }
 }

@@ -4,18 +4,20 @@
 mod advertised;
 mod bounds;
 mod choice;
+mod clashes;
 mod communities;
 mod compile_objects;
 mod compiled;
 mod config;
-mod holders;
 mod laws;
 mod numbers;
 mod object_set;
 mod overlap;
 mod pool_faults;
+mod preferences;
 mod reading;
 mod selector_faults;
+mod span_index;
 
 pub use compile_objects::{CompileFault, compile};
 pub use compiled::{

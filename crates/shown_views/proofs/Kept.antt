@@ -44,8 +44,8 @@ use Rattle.object_history.proofs.Held.{ascending-held_after}
 use Rattle.speaker_view.specs.Held.{objects_of}
 use Rattle.speaker_view.specs.ViewValue.{ViewValue}
 use Rattle.speaker_view.specs.View.{fresh, view_after, view_of}
-use Rattle.limited_view.proofs.FewRoutes.{all-from, each-of}
-use Rattle.limited_view.proofs.Kept.{kept-force}
+use Rattle.bgp_routes.proofs.Few.{all-from, each-of}
+use Rattle.shown_views.proofs.InForce.{kept-force}
 use Rattle.shown_views.specs.Numbered.{HasShortAddresses, HasCompiledNumbers, HasCompiledAsn, IsNumberedConfig, IsNumbered, IsRead, ShownViewsAreNumbered}
 
 -- ---- what is held of a kind

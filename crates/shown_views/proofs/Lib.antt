@@ -1,2 +1,3 @@
+pub mod InForce
 pub mod Kept
 pub mod Tellable

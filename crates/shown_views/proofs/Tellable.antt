@@ -30,8 +30,8 @@ use Rattle.bgp_routes.specs.Uniting.{greater, united, united_terms, with_contrib
 use Rattle.bgp_routes.proofs.Elements.{in_united}
 use Rattle.bgp_routes.proofs.Listing.{contributions-listed}
 use Rattle.bgp_routes.proofs.Placing.{stays}
-use Rattle.limited_view.specs.Limited.{IsLimited}
-use Rattle.limited_view.proofs.FewRoutes.{all-from, each-of, routes-few, united-ascend}
+use Rattle.bgp_routes.specs.Few.{HasFewInForce}
+use Rattle.bgp_routes.proofs.Few.{all-from, each-of, routes-few, united-ascend}
 use Rattle.shown_views.specs.Numbered.{HasShortAddresses, HasCompiledNumbers, HasCompiledAsn, IsNumbered}
 use Rattle.shown_views.specs.Tellable.{RoutesCanBeTold}
 
@@ -113,7 +113,7 @@ module _ (peering : Peering) where
 
 -- ---- contributions
 
-module _ (v : ViewValue) (node : List ℕ) (peer : CompiledPeer) (hop : AddressValue) (numbered : IsNumbered v) (limited : IsLimited v) (asn : HasCompiledAsn peer) (hop_small : hop.number < 2 ^ 32) where
+module _ (v : ViewValue) (node : List ℕ) (peer : CompiledPeer) (hop : AddressValue) (numbered : IsNumbered v) (limited : HasFewInForce v) (asn : HasCompiledAsn peer) (hop_small : hop.number < 2 ^ 32) where
   abbrev peering : Peering
   peering = peering_of peer hop
 

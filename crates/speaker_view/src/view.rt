@@ -2,6 +2,7 @@
 ghost use Rattle.std.specs.Prelude.{◌≡◌, ◌↔◌, ℕ, Some, IfOk, OnOk, OnErr, IsErrOf, IsTrue};
 ghost use Rattle.std.specs.Option.{option_copied};
 ghost use Rattle.kube_model.specs.declared.object.Kind.{Kind};
+ghost use Rattle.pool_config.specs.ConfigValue.{ConfigValue, IsConfig};
 ghost use Rattle.object_history.specs.Observations.{Watched};
 ghost use Rattle.object_history.specs.Cache.{cached_after};
 ghost use Rattle.object_cache.specs.Change.{applied};
@@ -77,9 +78,12 @@ impl View {
 
     /// The configuration in force.
     pub fn config(&self) -> Option<&Config>
-        ensures { option_copied result ≡ self.now.held.config }
+        ensures value { option_copied result ≡ self.now.held.config }
+        ensures known { (config : ConfigValue) → self.now.held.config ≡ Some config → IsConfig config }
     {
-        self.cache.config()
+        let config = self.cache.config()?;
+        config.known();
+        Some(config)
     }
 
     /// The names of the nodes whose speakers are active.

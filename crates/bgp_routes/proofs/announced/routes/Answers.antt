@@ -10,5 +10,5 @@ returns-clause-meaning c =
     let peer = c.args.peer.now in
     let same : c.in_ok-node.node ≡ c.args.node.now = c.in_ok-node.ensures in
     let value : c.from_vec.result ≡ routes_of view c.args.node.now peer =
-    c.from_vec.ensures ∙ c.in_ok-routes.ensures.value ∙ c.in_ok-united.ensures ∙ ap (λ n. routes_of view n peer) same in
+    c.from_vec.ensures ∙ c.in_ok-routes.ensures.value ∙ c.in_ok-united.ensures.value ∙ ap (λ n. routes_of view n peer) same in
     subst (AreRoutes view c.args.node.now peer) (sym value) (routes-unite view c.args.node.now peer)

@@ -1,3 +1,0 @@
-pub mod Few
-pub mod FewRoutes
-pub mod Kept

@@ -1,0 +1,8 @@
+use Rattle.std.proofs.Common.{rules}
+use Rattle.std.proofs.lemmas.List.Sorted.{IsNonDecreasingBy-from_sort_by_key}
+use Rattle.pool_config.proofs.span_index.FamilyIndex.new.Goals as goal
+
+pub invariant_of-result : goal.invariant_of-result
+invariant_of-result c = record {
+  ascend = IsNonDecreasingBy-from_sort_by_key (λ span. span.low) _ c.sort_unstable_by_key.ensures.sorted (λ a r q k. search rules);
+}

@@ -1,5 +1,5 @@
 -- Where all can be taken, a run over two lane files is done.
-use Rattle.std.proofs.Common.{◌≡◌, ◌≢◌, ◌⊎◌, inl, inr, ℕ, ◌+◌, ◌≤◌, ◌==◌, Bool, true, false, if◌then◌else◌, List, [], ◌∷◌, ◌++◌, length, Option, Some, None, refl, sym, ap, ◌∙◌, subst, arith, append_assoc, length-append}
+use Rattle.std.proofs.Common.{◌≡◌, ◌≢◌, ◌⊎◌, inl, inr, ℕ, ◌+◌, ◌==◌, Bool, true, false, if◌then◌else◌, List, [], ◌∷◌, ◌++◌, length, Option, Some, None, refl, sym, ap, ◌∙◌, subst, arith, append_assoc, length-append}
 use Rattle.std.specs.Option.{option_to_list}
 use Rattle.std.proofs.lemmas.Bool.{eqb-true}
 use Rattle.std.proofs.lemmas.List.{append-nil}
@@ -15,7 +15,6 @@ use Rattle.lane_mail.specs.Merges.{IsMerge}
 use Rattle.lane_run.specs.declared.lane_end.LaneEnd.{LaneEnd}
 use Rattle.lane_run.specs.declared.lane_end.LaneEnd.TheVariants.{Done, ReadFault, LineLimit, InputLimit, BadLine, NoMemory}
 use Rattle.lane_run.specs.LaneInputs.{LaneInput, lane_input, IsInputOf}
-use Rattle.lane_run.specs.Ran.{LanesEnded}
 use Rattle.lane_run.specs.Views.{SourceView, Outside, outside}
 use Rattle.lane_run.specs.Watched.{Begins, Sends}
 use Rattle.line_run.specs.declared.halt.Halt.{Halt}
@@ -32,7 +31,7 @@ use Rattle.mlb_edge.specs.Reading.{Reading}
 use Rattle.mlb_edge.specs.declared.lines.Line.{Line}
 use Rattle.mlb_edge.specs.declared.lines.LineEnd.{LineEnd}
 use Rattle.mlb_edge.specs.declared.lines.LineEnd.TheVariants as reader
-use Rattle.mlb_edge.specs.InputLines.{Input, Ending, Whole, LongLine, LongInput, Follows, EndsAs, no_lines, input_of, to_come}
+use Rattle.mlb_edge.specs.InputLines.{Input, Whole, LongLine, LongInput, Follows, EndsAs, input_of, to_come}
 use Rattle.mlb_edge.specs.Written.{Grows}
 use Rattle.lane_drive.specs.Clauses.{AreLinesOf, AtEnd, AtOpenFault, EndsWith, FailsToOpen, unread}
 use Rattle.lane_drive.specs.Complete.{AreReadable, IsComplete}

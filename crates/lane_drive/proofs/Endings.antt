@@ -38,7 +38,7 @@ use Rattle.lane_drive.specs.Causes.{held_status, reply_causes, end_causes}
 use Rattle.lane_drive.specs.Clauses.{AreLinesOf, TakesWhole, unread}
 use Rattle.lane_drive.specs.Drive.{Told, Drives, told_text}
 use Rattle.lane_drive.specs.LaneRules.{LaneRules, IsHeldLimit, reply_rules, item_text, HaltsItem}
-use Rattle.lane_drive.specs.Stops.{status_of_lane, status_of_lanes, AreBeginnings, TakesAll, EndsAsLanes, WritesUpTo, EndsSo}
+use Rattle.lane_drive.specs.Stops.{status_of_lane, status_of_lanes, AreBeginnings, EndsAsLanes, WritesUpTo, EndsSo}
 use Rattle.lane_drive.proofs.Faults.{IsIllBy, line_ill, end_ill, halt_ill, ill_since, ends_ill}
 use Rattle.lane_drive.proofs.Taken.{told_text-append, AreTaken-append, hears_last, one_told, takes_one}
 
@@ -175,7 +175,7 @@ module _ {S E : Type 0} (belongs : Lane → Event → Bool) (rules : LaneRules S
     upto_refused (Stopped status) line writes writes' next' comes begin r = upto_still begin r.1
     upto_refused (Halted halt) line writes writes' next' comes begin r = upto_halted halt line writes writes' next' comes begin r
 
-    upto_read : (status : Status) (next : Option Input) (held' : List ℕ) (left' : Option (List ℕ)) (reads reads' writes writes' : ℕ) → AreBeginnings belongs first second items
+    pub upto_read : (status : Status) (next : Option Input) (held' : List ℕ) (left' : Option (List ℕ)) (reads reads' writes writes' : ℕ) → AreBeginnings belongs first second items
         → Ends (reply_rules rules) state status (to_come mid.reading mid.replies.left) next held' left' mid.written after reads reads' writes writes' → WritesUpTo belongs rules start first second (to_come before.reading before.replies.left) before.written after
     upto_read status next held' left' reads reads' writes writes' begin (inl (last, nothing)) = upto_still begin nothing
     upto_read status next held' left' reads reads' writes writes' begin (inr (inl (u, nothing))) = upto_still begin nothing
@@ -187,7 +187,7 @@ module _ {S E : Type 0} (belongs : Lane → Event → Bool) (rules : LaneRules S
     upto_unwritten halts.NoMemory item writes writes' begin begin' quiet' (inl nothing) = upto_still begin nothing
     upto_unwritten halts.NoMemory item writes writes' begin begin' quiet' (inr b) = upto_item item b.next b.entries begin' quiet' b.steps b.halts
 
-    upto_stopped : (status : Status) (item : Item) (writes writes' : ℕ) → AreBeginnings belongs first second items → AreBeginnings belongs first second (items ++ item ∷ []) → rules.waits state ≡ false
+    pub upto_stopped : (status : Status) (item : Item) (writes writes' : ℕ) → AreBeginnings belongs first second items → AreBeginnings belongs first second (items ++ item ∷ []) → rules.waits state ≡ false
         → ((rules.take state item ≡ Stops status) × Grows mid.written after []) ⊎ ((halt : Halt) × (status ≡ status_of_halt halt) × HaltsItem halt rules state item mid.written after writes writes') → WritesUpTo belongs rules start first second (to_come before.reading before.replies.left) before.written after
     upto_stopped status item writes writes' begin begin' quiet' (inl stops) = upto_still begin stops.1
     upto_stopped status item writes writes' begin begin' quiet' (inr (halt, is, h)) = upto_unwritten halt item writes writes' begin begin' quiet' h

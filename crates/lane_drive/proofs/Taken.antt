@@ -5,14 +5,14 @@ use Rattle.std.proofs.lemmas.Grind.{flat_map-append}
 use Rattle.std.proofs.lemmas.List.{append-nil}
 use Rattle.kube_model.specs.declared.status.Status.{Status}
 use Rattle.lane_mail.specs.declared.item.Item.{Item}
-use Rattle.lane_run.specs.Reconciled.{AreDriven, AsksIn, HasDriven}
+use Rattle.lane_run.specs.Reconciled.{AreDriven, AsksIn, HasDriven, HasRefused}
 use Rattle.lane_run.specs.Views.{SourceView, Outside}
 use Rattle.line_run.specs.Ended.{status_of_refusal}
 use Rattle.line_run.specs.Machine.{Goes}
 use Rattle.line_run.specs.Text.{line_of}
 use Rattle.line_run.specs.declared.halt.Refusal.{Refusal}
 use Rattle.kube_lines.specs.OutputLines.{took_text}
-use Rattle.lane_drive.specs.Asking.{AnswersAll, AwaitsMore, AwaitsReply, AsksFor}
+use Rattle.lane_drive.specs.Asking.{AnswersAll, AwaitsMore, AwaitsReply, AsksFor, HasStopped}
 use Rattle.lane_drive.specs.LaneRules.{LaneRules, item_text, TakesItem, RefusesItem}
 use Rattle.lane_drive.specs.Drive.{Told, AreHeard, AreTaken, Drives, told_text}
 use Rattle.lane_drive.specs.Hearing.{HearsSome, Hears, StopsHearing, DrivesItem, FailsItem, RefusesNext}
@@ -250,3 +250,22 @@ module _ {S E : Type 0} (rules : LaneRules S E) where
   answers_in s before items written quiet has =
       let d = drives_all items s has.state before has.now quiet has.drove in
       record { state = has.state; told = d.0; now = has.now; drove = d.1; quiet = d.2; is = has.is }
+
+  -- Where what the lanes still send is dropped, the run has stopped.
+  pub stopped_in : (s : S) (before : Outside) (items : List Item) (written : Option (List ℕ)) → rules.waits s ≡ false → HasRefused (DrivesItem rules) (RefusesNext rules) s before items written → HasStopped rules s before items written
+  stopped_in s before items written quiet has =
+      let d = drives_all has.driven s has.state before has.mid quiet has.drove in
+      record {
+        driven = has.driven;
+        item = has.item;
+        items_are = has.items_are;
+        state = has.state;
+        told = d.0;
+        mid = has.mid;
+        drove = d.1;
+        quiet = d.2;
+        status = has.status;
+        now = has.now;
+        stops = has.refused d.2;
+        is = has.is;
+      }

@@ -29,7 +29,8 @@ use Rattle.lane_drive.specs.LaneRules.{LaneRules, RefusesItem, HaltsItem}
 use Rattle.lane_drive.specs.Drive.{Told, AreHeard, AreTaken, Drives, told_text}
 use Rattle.lane_drive.specs.Clauses.{LeavesInput}
 use Rattle.lane_drive.specs.Hearing.{DrivesItem, FailsItem, FailsBehind, RefusesNext, EndsHearing, GoesBehind}
-use Rattle.lane_drive.specs.Stops.{AreBeginnings, StopsAtItem, StopsAtReply, TakesAll, WritesUpTo, EndsSo, status_of_lanes}
+use Rattle.lane_drive.specs.Stops.{AreBeginnings, TakesAll, WritesUpTo, EndsSo, status_of_lanes}
+use Rattle.lane_drive.proofs.Endings.{begins_of, upto_read, upto_stopped}
 use Rattle.lane_drive.proofs.Taken.{drives_all, drives_more}
 
 -- no items are a beginning of what a lane carries
@@ -85,70 +86,110 @@ module _ {S E : Type 0} (belongs : Lane → Event → Bool) (rules : LaneRules S
   ends_undriven first first' second second' before after same =
       inr (inr (inr (inr (refl, subst (λ (o : Option (List ℕ)). WritesUpTo belongs rules start first.left second.left (to_come before.reading before.replies.left) before.written o) (sym same) (writes_none first.left second.left (to_come before.reading before.replies.left) before.written)))))
 
-  by_refusal : (first first' second second' : SourceView) (end end' : LaneEnd) (before mid after : Outside) (status : Status) (items : List Item) (item : Item) (dropped : List Item) (state : S) (told : List (Told E))
-      → LanesEnded belongs first first' second second' (items ++ item ∷ dropped) end end' → Drives rules items start state told before mid
-      → rules.waits state ≡ false → FailsItem rules status state item mid after ⊎ FailsBehind rules status state item mid after
-      → StopsAtItem belongs rules start first first' second second' before after status ⊎ StopsAtReply belongs rules start first first' second second' before after status
-  by_refusal first first' second second' end end' before mid after status items item dropped state told lanes drove quiet' (inl fails) = inl (record {
-    items = items;
-    item = item;
-    dropped = dropped;
-    end = end;
-    end' = end';
-    lanes = lanes;
-    state = state;
-    told = told;
-    mid = mid;
-    drove = drove;
-    quiet = quiet';
-    stops = rw fails.is (why rules fails.refusal state item mid after fails.refuses);
-    unread = fails.unread;
-  })
-  by_refusal first first' second second' end end' before mid after status items item dropped state told lanes drove quiet' (inr fails) = inr (record {
-    items = items ++ item ∷ [];
-    dropped = dropped;
-    end = end;
-    end' = end';
-    lanes = subst (λ (l : List Item). LanesEnded belongs first first' second second' l end end') (sym (append_assoc items (item ∷ []) dropped)) lanes;
-    state = fails.state;
-    told = told ++ fails.told;
-    mid = fails.mid;
-    drove = drives_more rules items (item ∷ []) start state fails.state told fails.told before mid fails.mid drove fails.drove;
-    waits = fails.waits;
-    stops = fails.stops;
-  })
+  -- The items before this one drove the machine, which refused it or a reply behind it.
+  record Refused (before after : Outside) (taken : List Item) (status : Status) : Type 0 where
+    pub items : List Item
+    pub item : Item
+    pub dropped : List Item
+    pub split : taken ≡ items ++ item ∷ dropped
+    pub state : S
+    pub told : List (Told E)
+    pub mid : Outside
+    pub drove : Drives rules items start state told before mid
+    pub still : rules.waits state ≡ false
+    pub fails : FailsItem rules status state item mid after ⊎ FailsBehind rules status state item mid after
 
-  stops_first : (first first' second second' : SourceView) (before after : Outside) (status : Status) → StopsAtItem belongs rules start first first' second second' before after status ⊎ StopsAtReply belongs rules start first first' second second' before after status
-      → EndsSo belongs rules start first first' second second' before after status
-  stops_first first first' second second' before after status (inl stops) = inl stops
-  stops_first first first' second second' before after status (inr stops) = inr (inl stops)
+  module _ (first first' second second' : SourceView) (end end' : LaneEnd) (before after : Outside) (taken : List Item) (status : Status) (r : Refused before after taken status) (lanes : LanesEnded belongs first first' second second' taken end end') where
+    sent : LanesEnded belongs first first' second second' (r.items ++ r.item ∷ r.dropped) end end'
+    sent = subst (λ (l : List Item). LanesEnded belongs first first' second second' l end end') r.split lanes
 
-  -- where no reply is ever awaited, nothing was read
-  leaves_first : (first first' second second' : SourceView) (before after : Outside) (status : Status) → ((x : S) → rules.waits x ≡ false)
-      → StopsAtItem belongs rules start first first' second second' before after status ⊎ StopsAtReply belongs rules start first first' second second' before after status → after.replies ≡ before.replies
-  leaves_first first first' second second' before after status never (inl stops) = stops.unread.1 ∙ (stops.drove.unread (silent rules stops.items stops.drove.replies start stops.state stops.told never stops.drove.taken)).1
-  leaves_first first first' second second' before after status never (inr stops) =
-      let waits : rules.waits stops.state ≡ true = stops.waits in
-      let quiet' : rules.waits stops.state ≡ false = never stops.state in
-      absurd (cc)
+    with_item : r.items ++ r.item ∷ r.dropped ≡ (r.items ++ r.item ∷ []) ++ r.dropped
+    with_item = sym (append_assoc r.items (r.item ∷ []) r.dropped)
+
+    begin : AreBeginnings belongs first.left second.left r.items
+    begin = begins_of belongs rules start first first' second second' (r.items ++ r.item ∷ r.dropped) r.items (r.item ∷ r.dropped) end end' sent refl
+
+    begin' : AreBeginnings belongs first.left second.left (r.items ++ r.item ∷ [])
+    begin' = begins_of belongs rules start first first' second second' (r.items ++ r.item ∷ r.dropped) (r.items ++ r.item ∷ []) r.dropped end end' sent with_item
+
+    by_fails : (end ≢ NoMemory) × (end' ≢ NoMemory) → FailsItem rules status r.state r.item r.mid after ⊎ FailsBehind rules status r.state r.item r.mid after → EndsSo belongs rules start first first' second second' before after status
+    by_fails known (inl fails) = inl (record {
+      items = r.items;
+      item = r.item;
+      dropped = r.dropped;
+      end = end;
+      end' = end';
+      lanes = sent;
+      state = r.state;
+      told = r.told;
+      mid = r.mid;
+      drove = r.drove;
+      quiet = r.still;
+      stops = rw fails.is (why rules fails.refusal r.state r.item r.mid after fails.refuses);
+      unread = fails.unread;
+      known = known;
+    })
+    by_fails known (inr fails) = inr (inl (record {
+      items = r.items ++ r.item ∷ [];
+      dropped = r.dropped;
+      end = end;
+      end' = end';
+      lanes = subst (λ (l : List Item). LanesEnded belongs first first' second second' l end end') with_item sent;
+      state = fails.state;
+      told = r.told ++ fails.told;
+      mid = fails.mid;
+      drove = drives_more rules r.items (r.item ∷ []) start r.state fails.state r.told fails.told before r.mid fails.mid r.drove fails.drove;
+      waits = fails.waits;
+      stops = fails.stops;
+      known = known;
+    }))
+
+    upto_fails : FailsItem rules status r.state r.item r.mid after ⊎ FailsBehind rules status r.state r.item r.mid after → WritesUpTo belongs rules start first.left second.left (to_come before.reading before.replies.left) before.written after.written
+    upto_fails (inl fails) =
+        upto_stopped belongs rules start quiet first.left second.left r.items r.state r.told before r.mid r.drove after.written status r.item r.mid.faults after.faults begin begin' r.still
+        (rw fails.is (why rules fails.refusal r.state r.item r.mid after fails.refuses))
+    upto_fails (inr fails) =
+        upto_read belongs rules start quiet first.left second.left (r.items ++ r.item ∷ []) fails.state (r.told ++ fails.told) before fails.mid
+        (drives_more rules r.items (r.item ∷ []) start r.state fails.state r.told fails.told before r.mid fails.mid r.drove fails.drove) after.written status _ _ _ _ _ _ _ begin' fails.stops
+
+    -- where no reply is ever awaited, nothing was read
+    leaves_fails : ((x : S) → rules.waits x ≡ false) → FailsItem rules status r.state r.item r.mid after ⊎ FailsBehind rules status r.state r.item r.mid after → after.replies ≡ before.replies
+    leaves_fails never (inl fails) = fails.unread.1 ∙ (r.drove.unread (silent rules r.items r.drove.replies start r.state r.told never r.drove.taken)).1
+    leaves_fails never (inr fails) =
+        let waits : rules.waits fails.state ≡ true = fails.waits in
+        let quiet' : rules.waits fails.state ≡ false = never fails.state in
+        absurd (cc)
 
   -- the reconciler refused an item
   module _ (first first' second second' : SourceView) (before after : Outside) (t : S) (run : LaneRun) (ran : Ran belongs (DrivesItem rules) (RefusesNext rules) first first' second second' start t before after run) (status : Status) (ill : run.outcome ≡ Err status) where
-    at_item : StopsAtItem belongs rules start first first' second second' before after status ⊎ StopsAtReply belongs rules start first first' second second' before after status
-    at_item =
+    refused : Refused before after ran.taken status
+    refused =
         let failed : Result (Unit {0}) Status = Err status in
         let drove : Drove (DrivesItem rules) (RefusesNext rules) ran.taken start t before after failed = rw ill at ran.drove in
         let leaves : Leaves (RefusesNext rules) failed drove.behind drove.state t drove.mid after = drove.leaves in
         let d = drives_all rules drove.driven start drove.state before drove.mid quiet drove.drove in
-        let split : ran.taken ≡ drove.driven ++ leaves.0 ∷ leaves.1 = drove.split ∙ ap (λ (l : List Item). drove.driven ++ l) leaves.2 in
-        by_refusal first first' second second' run.first run.second before drove.mid after status drove.driven leaves.0 leaves.1 drove.state d.0
-        (subst (λ (l : List Item). LanesEnded belongs first first' second second' l run.first run.second) split ran.lanes) d.1 d.2 (leaves.3 d.2)
+        record {
+          items = drove.driven;
+          item = leaves.0;
+          dropped = leaves.1;
+          split = drove.split ∙ ap (λ (l : List Item). drove.driven ++ l) leaves.2;
+          state = drove.state;
+          told = d.0;
+          mid = drove.mid;
+          drove = d.1;
+          still = d.2;
+          fails = leaves.3 d.2;
+        }
 
-    pub ends_refused : EndsSo belongs rules start first first' second second' before after status
-    ends_refused = stops_first first first' second second' before after status at_item
+    pub ends_refused : (run.first ≢ NoMemory) × (run.second ≢ NoMemory) → EndsSo belongs rules start first first' second second' before after status
+    ends_refused known = by_fails first first' second second' run.first run.second before after ran.taken status refused ran.lanes known refused.fails
 
     pub leaves_refused : (rules.hears ≡ false → (x : S) → rules.waits x ≡ false) → rules.hears ≡ false → LeavesInput before.replies after.replies
-    leaves_refused never none = leaves_first first first' second second' before after status (never none) at_item
+    leaves_refused never none = leaves_fails first first' second second' run.first run.second before after ran.taken status refused ran.lanes (never none) refused.fails
+
+    -- and a lane ended for want of memory
+    upto_refused : EndsSo belongs rules start first first' second second' before after statuses.NoMemory
+    upto_refused = inr (inr (inr (inr (refl, upto_fails first first' second second' run.first run.second before after ran.taken status refused ran.lanes refused.fails))))
 
   -- all that both lanes sent was taken
   module _ (first first' second second' : SourceView) (before mid : Outside) (t : S) (run : LaneRun) (ran : Ran belongs (DrivesItem rules) (RefusesNext rules) first first' second second' start t before mid run) (done : run.outcome ≡ Ok tt) where
@@ -162,8 +203,8 @@ module _ {S E : Type 0} (belongs : Lane → Event → Bool) (rules : LaneRules S
     quiet_then = (drives_all rules ran.taken start t before mid quiet all_driven).2
 
     -- one of them ended for want of memory
-    pub ends_unknown : EndsSo belongs rules start first first' second second' before mid statuses.NoMemory
-    ends_unknown =
+    upto_done : EndsSo belongs rules start first first' second second' before mid statuses.NoMemory
+    upto_done =
         let d = drives_all rules ran.taken start t before mid quiet all_driven in
         inr (inr (inr (inr (
           refl,
@@ -215,10 +256,27 @@ module _ {S E : Type 0} (belongs : Lane → Event → Bool) (rules : LaneRules S
     }))))
 
     -- where no reply is ever awaited, nothing was read
-    pub leaves_driven : ((x : S) → rules.waits x ≡ false) → mid.replies ≡ before.replies
+    leaves_driven : ((x : S) → rules.waits x ≡ false) → mid.replies ≡ before.replies
     leaves_driven never =
         let d = (drives_all rules ran.taken start t before mid quiet all_driven).1 in
         (d.unread (silent rules ran.taken d.replies start t (drives_all rules ran.taken start t before mid quiet all_driven).0 never d.taken)).1
 
     pub leaves_lanes : (after : Outside) → (rules.hears ≡ false → (x : S) → rules.waits x ≡ false) → EndsHearing rules mid after → rules.hears ≡ false → LeavesInput before.replies after.replies
     leaves_lanes after never behind none = (behind.unheard none).1 ∙ leaves_driven (never none)
+
+  -- One of the lanes ended for want of memory, whatever the reconciler made of what they sent.
+  module _ (first first' second second' : SourceView) (before mid : Outside) (t : S) (run : LaneRun) (ran : Ran belongs (DrivesItem rules) (RefusesNext rules) first first' second second' start t before mid run) where
+    unknown_by : (outcome : Result (Unit {0}) Status) → run.outcome ≡ outcome → EndsSo belongs rules start first first' second second' before mid statuses.NoMemory
+    unknown_by (Ok tt) done = upto_done first first' second second' before mid t run ran done
+    unknown_by (Err status) ill = upto_refused first first' second second' before mid t run ran status ill
+
+    pub ends_unknown : EndsSo belongs rules start first first' second second' before mid statuses.NoMemory
+    ends_unknown = unknown_by run.outcome refl
+
+    leaves_by : (rules.hears ≡ false → (x : S) → rules.waits x ≡ false) → rules.hears ≡ false → (outcome : Result (Unit {0}) Status) → run.outcome ≡ outcome → LeavesInput before.replies mid.replies
+    leaves_by never none (Ok tt) done = leaves_driven first first' second second' before mid t run ran done (never none)
+    leaves_by never none (Err status) ill = leaves_refused first first' second second' before mid t run ran status ill never none
+
+    -- where no reply is ever awaited, nothing was read
+    pub leaves_unknown : (rules.hears ≡ false → (x : S) → rules.waits x ≡ false) → rules.hears ≡ false → LeavesInput before.replies mid.replies
+    leaves_unknown never none = leaves_by never none run.outcome refl

@@ -1,13 +1,15 @@
--- When the input may be asked for more, or the next item waited for: all that was taken is answered, with all replies that came.
-use Rattle.std.specs.Prelude.{◌≡◌, ◌⊎◌, ℕ, Bool, true, false, List, [], ◌∷◌, Option}
+-- When the input may be asked for more, or the next item waited for: all that was taken is answered, with all replies that came. When what comes by the
+-- lanes may be dropped: the run has stopped.
+use Rattle.std.specs.Prelude.{◌≡◌, ◌⊎◌, ℕ, Bool, true, false, List, [], ◌∷◌, ◌++◌, Option}
 use Rattle.kube_model.specs.declared.event.Event.{Event}
+use Rattle.kube_model.specs.declared.status.Status.{Status}
 use Rattle.lane_mail.specs.declared.item.Item.{Item}
 use Rattle.lane_mail.specs.declared.lane.Lane.{Lane}
 use Rattle.lane_run.specs.declared.lane_end.LaneEnd.{LaneEnd}
 use Rattle.lane_run.specs.Views.{SourceView, Outside}
 use Rattle.lane_drive.specs.LaneRules.{LaneRules}
 use Rattle.lane_drive.specs.Drive.{Told, Drives}
-use Rattle.lane_drive.specs.Hearing.{HearsSome}
+use Rattle.lane_drive.specs.Hearing.{FailsBehind, FailsItem, HearsSome}
 use Rattle.lane_drive.specs.Stops.{TakesAll}
 use Rattle.mlb_edge.specs.InputLines.{HoldsLine}
 
@@ -38,6 +40,21 @@ pub record AnswersAll {S E : Type 0} (rules : LaneRules S E) (start : S) (before
   pub now : Outside
   pub drove : Drives rules items start state told before now
   pub quiet : rules.waits state ≡ false
+  pub is : written ≡ now.written
+
+-- Just these items were taken, and the machine stopped at the last of them, or at a reply behind it. This stands written.
+pub record HasStopped {S E : Type 0} (rules : LaneRules S E) (start : S) (before : Outside) (items : List Item) (written : Option (List ℕ)) : Type 0 where
+  pub driven : List Item
+  pub item : Item
+  pub items_are : items ≡ driven ++ item ∷ []
+  pub state : S
+  pub told : List (Told E)
+  pub mid : Outside
+  pub drove : Drives rules driven start state told before mid
+  pub quiet : rules.waits state ≡ false
+  pub status : Status
+  pub now : Outside
+  pub stops : FailsItem rules status state item mid now ⊎ FailsBehind rules status state item mid now
   pub is : written ≡ now.written
 
 module _ {S E : Type 0} (belongs : Lane → Event → Bool) (rules : LaneRules S E) (start : S) where

@@ -73,6 +73,8 @@ module _ {S E : Type 0} (belongs : Lane → Event → Bool) (rules : LaneRules S
     pub stops : ((rules.take state item ≡ Stops status) × Grows mid.written after.written [])
         ⊎ ((halt : Halt) × (status ≡ status_of_halt halt) × HaltsItem halt rules state item mid.written after.written mid.faults after.faults)
     pub unread : (after.reading ≡ mid.reading) × (after.replies ≡ mid.replies)
+    -- and for want of memory neither lane ended
+    pub known : (end ≢ NoMemory) × (end' ≢ NoMemory)
 
   -- A reply is awaited, and the next line isn't one, can't be read, or isn't there; or what it comes to isn't written whole. What the lanes sent
   -- behind the items was dropped.
@@ -88,6 +90,8 @@ module _ {S E : Type 0} (belongs : Lane → Event → Bool) (rules : LaneRules S
     pub drove : Drives rules items start state told before mid
     pub waits : rules.waits state ≡ true
     pub stops : StopsReading rules state status mid after
+    -- and for want of memory neither lane ended
+    pub known : (end ≢ NoMemory) × (end' ≢ NoMemory)
 
   -- All that both lanes sent was taken, in an order that is each lane's own, and no reply is awaited. The lanes ended so.
   pub record TakesAll (first first' second second' : SourceView) (before mid : Outside) (end end' : LaneEnd) : Type 0 where

@@ -1,7 +1,7 @@
 //! The run over two lane files.
 ghost use Rattle.std.specs.Prelude.{◌≡◌, ℕ, List, Some, false};
 ghost use Rattle.kube_model.specs.declared.status.LaneName.{LaneName as Name};
-ghost use Rattle.lane_drive.specs.Asking.{AnswersAll, AsksMore};
+ghost use Rattle.lane_drive.specs.Asking.{AnswersAll, AsksMore, HasStopped};
 ghost use Rattle.lane_drive.specs.Clauses.{AtDone, AtEnd, AtOpenFault, AtReadFault, LeavesInput, LeavesOthers, OnlyWrites, status_of_open, unread};
 ghost use Rattle.lane_drive.specs.Complete.{IsComplete};
 ghost use Rattle.lane_drive.specs.Files.{files_view};
@@ -14,9 +14,9 @@ use crate::lane_machine::LaneMachine;
 use crate::opened::run_opened;
 use kube_model::{LaneName, Status};
 use lane_mail::Lane;
-use lane_run::{Lanes, PacedWait};
+use lane_run::{Lanes, PacedWait, WatchedFiles};
 use line_run::PacedSource;
-use mlb_edge::{Files, LineReader, OpenEnd, Sink};
+use mlb_edge::{LineReader, OpenEnd, Sink};
 use std::alloc::Global;
 use std::thread::Threads;
 
@@ -24,12 +24,13 @@ use std::thread::Threads;
 /// Replies are the lines of `input`.
 ///
 /// Both files are opened first, and handed back in the end. Of several reasons to stop the one is answered that comes first: the first file
-/// isn't opened, the second isn't, the machine stops at an item or a reply, the input isn't at its end behind the last reply, the first lane
-/// ends at a fault, the second does. A lane that ends at a fault doesn't end the other, and what it sent before is taken all the same.
+/// isn't opened, the second isn't, a lane ends for want of memory, the machine stops at an item or a reply, the input isn't at its end behind
+/// the last reply, the first lane ends at a fault, the second does. A lane that ends at a fault doesn't end the other, and what it sent before
+/// is taken all the same.
 pub fn run_lane_files<
     M: LaneMachine + Lanes + Drop + Send,
     R: Threads + PacedWait + Sync,
-    F: Files,
+    F: WatchedFiles,
     I: PacedSource<K> + Send,
     K: Sink + Send,
 >(
@@ -57,6 +58,11 @@ pub fn run_lane_files<
     // The next item may be waited for where just the text of all items taken before stands written, with all replies to them heard. Nothing
     // else is known of when it may, so nothing is held back while a lane is waited for.
     requires waits { MayBeAwaited R.may_wait rt.now (AnswersAll M.rules (M.state machine)
+        (outside unread (source_view (I.left input.old) (I.name input.old) (I.faults input.old))
+        (K.written out.old) (K.faults out.old))) }
+
+    // What the lanes still send may be dropped where the machine stopped at the last item taken, or at a reply behind it, and nowhere else.
+    requires drops { MayBeAwaited R.may_drop rt.now (HasStopped M.rules (M.state machine)
         (outside unread (source_view (I.left input.old) (I.name input.old) (I.faults input.old))
         (K.written out.old) (K.faults out.old))) }
 

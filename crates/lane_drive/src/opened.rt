@@ -1,6 +1,6 @@
 //! The run over two lanes that are open.
 ghost use Rattle.std.specs.Prelude.{◌≡◌, false};
-ghost use Rattle.lane_drive.specs.Asking.{AnswersAll, AsksMore};
+ghost use Rattle.lane_drive.specs.Asking.{AnswersAll, AsksMore, HasStopped};
 ghost use Rattle.lane_drive.specs.Clauses.{LeavesInput, unread};
 ghost use Rattle.lane_drive.specs.Stops.{EndsSo};
 ghost use Rattle.lane_run.specs.Views.{lane_view, outside, source_view};
@@ -13,9 +13,9 @@ use crate::lane_machine::LaneMachine;
 use crate::replies::Replies;
 use crate::status::{are_known, status_of_lanes};
 use kube_model::Status;
-use lane_run::{LaneRun, Lanes, PacedWait, run_lanes};
+use lane_run::{LaneRun, Lanes, PacedWait, WatchedSource, run_lanes};
 use line_run::PacedSource;
-use mlb_edge::{LineReader, Sink, Source};
+use mlb_edge::{LineReader, Sink};
 use std::alloc::Global;
 use std::thread::Threads;
 
@@ -24,7 +24,7 @@ use std::thread::Threads;
 pub(crate) fn run_opened<
     M: LaneMachine + Lanes + Drop + Send,
     R: Threads + PacedWait + Sync,
-    S: Source + Send,
+    S: WatchedSource + Send,
     I: PacedSource<K> + Send,
     K: Sink + Send,
 >(
@@ -46,6 +46,9 @@ pub(crate) fn run_opened<
         (K.written out.old) (K.faults out.old))
         (outside r (source_view (I.left i) (I.name i) (I.faults i)) (K.written o) (K.faults o))) }
     requires waits { MayBeAwaited R.may_wait rt.now (AnswersAll M.rules (M.state machine)
+        (outside reader.old (source_view (I.left input.old) (I.name input.old) (I.faults input.old))
+        (K.written out.old) (K.faults out.old))) }
+    requires drops { MayBeAwaited R.may_drop rt.now (HasStopped M.rules (M.state machine)
         (outside reader.old (source_view (I.left input.old) (I.name input.old) (I.faults input.old))
         (K.written out.old) (K.faults out.old))) }
     ensures ended { EndsSo M.belongs M.rules (M.state machine)
@@ -87,15 +90,16 @@ pub(crate) fn run_opened<
     else {
         return Status::NoMemory;
     };
+    if !are_known(&first, &second) {
+        drop(outcome);
+        drop(first);
+        drop(second);
+        return Status::NoMemory;
+    }
     if let Err(status) = outcome {
         drop(first);
         drop(second);
         return status;
-    }
-    if !are_known(&first, &second) {
-        drop(first);
-        drop(second);
-        return Status::NoMemory;
     }
     if let Some(status) = look_behind(alloc, &mut driver.replies, reader, input, out) {
         drop(first);

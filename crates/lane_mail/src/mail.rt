@@ -1,5 +1,5 @@
 //! A queue of items, and beside it one of two end marks.
-ghost use Rattle.std.specs.Prelude.{◌≡◌, ◌^◌, ◌<◌, ◌↔◌, [], ◌∷◌, ◌++◌, length, Some, None, IfOk, OnOk, IfErr, MatchOption};
+ghost use Rattle.std.specs.Prelude.{◌≡◌, ◌^◌, ◌<◌, ◌≤◌, ◌↔◌, [], ◌∷◌, ◌++◌, length, Some, None, IfOk, OnOk, IfErr, IfSome, MatchOption};
 
 use crate::inbox_pass::InboxPass;
 use crate::item::Item;
@@ -140,7 +140,8 @@ impl Mail {
 
     fn pop_item<R: Wait>(&self, rt: &R, pass: &mut InboxPass) -> Option<Item>
         requires { pass.old.mail ≡ self.now }
-        ensures { MatchOption result (pass.new ≡ pass.old) (λ item. pass.new ≡ took_more pass.old item) }
+        ensures pass { MatchOption result (pass.new ≡ pass.old) (λ item. pass.new ≡ took_more pass.old item) }
+        ensures few { IfSome result (λ _. length pass.new.taken ≤ 2 ^ 62) }
     {
         let item = self.items.pop_as::<Get, R>(rt, &mut pass.items)?;
         match item.lane {
@@ -177,6 +178,9 @@ impl Mail {
         ensures mail { pass.new.mail ≡ pass.old.mail }
         ensures item { (item : Item) → result ≡ Taken.Item item → pass.new.taken ≡ pass.old.taken ++ item ∷ [] }
         ensures ended { (result ≡ Taken.AllEnded) ↔ ((pass.new.taken ≡ pass.old.taken) × HasAll pass.new) }
+
+        // No lane sends more than 2^61 items.
+        ensures few { (item : Item) → result ≡ Taken.Item item → length pass.new.taken ≤ 2 ^ 62 }
 
         // An end mark that came stays, and after the last item nothing changes any more.
         ensures ends { EndsStay pass.old pass.new }

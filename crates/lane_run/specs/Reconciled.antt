@@ -26,6 +26,19 @@ pub record HasDriven {S : Type 0} (Drives : S → S → Item → Outside → Out
   pub drove : AreDriven Drives items s state before now
   pub is : written ≡ now.written
 
+-- Just the items before the last drove it, which it refused, and this stands written.
+pub record HasRefused {S : Type 0} (Drives : S → S → Item → Outside → Outside → Type 0) (Refuses : Status → S → Item → Outside → Outside → Type 0) (s : S) (before : Outside) (items : List Item) (written : Option (List ℕ)) : Type 0 where
+  pub driven : List Item
+  pub item : Item
+  pub items_are : items ≡ driven ++ item ∷ []
+  pub state : S
+  pub mid : Outside
+  pub drove : AreDriven Drives driven s state before mid
+  pub status : Status
+  pub now : Outside
+  pub refused : Refuses status state item mid now
+  pub is : written ≡ now.written
+
 -- what is behind the driven items: nothing, or first the item that was refused
 abbrev pub Leaves : {S U : Type 0} → (Status → S → Item → Outside → Outside → Type 0) → Result U Status → List Item → S → S → Outside → Outside → Type 0
 Leaves Refuses (Ok done) behind s t before after = (behind ≡ []) × (t ≡ s) × (after ≡ before)

@@ -15,6 +15,7 @@ mod reconciler;
 mod reconciling;
 mod running;
 mod threads;
+mod watched;
 mod watching;
 
 pub use lane_end::LaneEnd;
@@ -24,3 +25,4 @@ pub use laws::lanes_stop_first;
 pub use paced::PacedWait;
 pub use reconciler::Reconciler;
 pub use running::run_lanes;
+pub use watched::{WatchPass, WatchedFiles, WatchedSource};

@@ -1,5 +1,5 @@
 //! Waiting for lanes, only at times.
-ghost use Rattle.std.specs.Prelude.{◌≡◌, ◌^◌, ◌<◌, ◌↔◌, ◌++◌, ◌∷◌, [], ⊤, ℕ, List, Option, length, OnOk, IfErr};
+ghost use Rattle.std.specs.Prelude.{◌≡◌, ◌^◌, ◌<◌, ◌≤◌, ◌↔◌, ◌++◌, ◌∷◌, [], ⊤, ℕ, List, Option, length, OnOk, IfErr};
 ghost use Rattle.lane_mail.specs.Lanes.{items_of};
 ghost use Rattle.lane_mail.specs.Merges.{IsMerge};
 ghost use Rattle.lane_mail.specs.Values.{HasAll, sent_more};
@@ -15,10 +15,13 @@ use std::sync::Wait;
 /// what those before came to.
 ///
 /// It isn't a `Wait`, so nothing else can be waited for by it. A run over any such runtime therefore shows, at each call that may wait
-/// for an item, that it may be waited for.
+/// for an item, that it may be waited for, and where it drops what the lanes send that this may be dropped.
 pub trait PacedWait {
     /// The next item may be waited for when these were taken, and this stands written, where the sink tells it.
     ghost may_wait: { Self → List Item → Option (List ℕ) → Type 0 };
+
+    /// What the lanes still send may be dropped when these were taken, and this stands written, where the sink tells it.
+    ghost may_drop: { Self → List Item → Option (List ℕ) → Type 0 };
 
     /// The next item, as `Mail::take` gives it. `out` is the sink that the items taken before are answered to.
     fn take_next<K: Sink>(&self, mail: &Mail, inbox: &mut InboxPass, out: &K) -> Taken
@@ -26,11 +29,13 @@ pub trait PacedWait {
         requires paced { may_wait self.now inbox.old.taken (K.written out.now) }
         ensures mail { inbox.new.mail ≡ inbox.old.mail }
         ensures item { (item : Item) → result ≡ Taken.Item item → inbox.new.taken ≡ inbox.old.taken ++ item ∷ [] }
+        ensures few { (item : Item) → result ≡ Taken.Item item → length inbox.new.taken ≤ 2 ^ 62 }
         ensures ended { (result ≡ Taken.AllEnded) ↔ ((inbox.new.taken ≡ inbox.old.taken) × HasAll inbox.new) };
 
-    /// Takes all that the lanes still send, and drops it unseen.
-    fn drop_rest(&self, mail: &Mail, inbox: &mut InboxPass)
-        requires { inbox.old.mail ≡ mail.now }
+    /// Takes all that the lanes still send, and drops it unseen. `out` is the sink that the items taken before are answered to.
+    fn drop_rest<K: Sink>(&self, mail: &Mail, inbox: &mut InboxPass, out: &K)
+        requires mail { inbox.old.mail ≡ mail.now }
+        requires paced { may_drop self.now inbox.old.taken (K.written out.now) }
         ensures mail { inbox.new.mail ≡ inbox.old.mail }
         ensures taken { IsBeginning inbox.old.taken inbox.new.taken }
         ensures ended { HasAll inbox.new };
@@ -56,20 +61,19 @@ pub trait PacedWait {
         ensures first { items_of First inbox.taken ≡ first.sent }
         ensures second { items_of Second inbox.taken ≡ second.sent }
         ensures merge { IsMerge inbox.taken first.sent second.sent };
-
-    /// Never returns.
-    fn block(&self) -> !;
 }
 
-/// What is a `Wait` may wait at any time.
+/// What is a `Wait` may wait, and drop, at any time.
 impl<R: Wait> PacedWait for R {
     ghost may_wait = { λ _ _ _. ⊤ };
+
+    ghost may_drop = { λ _ _ _. ⊤ };
 
     fn take_next<K: Sink>(&self, mail: &Mail, inbox: &mut InboxPass, _out: &K) -> Taken {
         mail.take(self, inbox)
     }
 
-    fn drop_rest(&self, mail: &Mail, inbox: &mut InboxPass) {
+    fn drop_rest<K: Sink>(&self, mail: &Mail, inbox: &mut InboxPass, _out: &K) {
         for _ in self.forever() {
             match mail.take(self, inbox) {
                 Taken::Item(item) => drop(item),
@@ -89,10 +93,5 @@ impl<R: Wait> PacedWait for R {
 
     fn into_lists(&self, mail: Mail, inbox: InboxPass, first: LaneDone, second: LaneDone) -> Lists {
         mail.into_lists(self, inbox, first, second)
-    }
-
-    fn block(&self) -> ! {
-        for _ in self.forever() {}
-        unreachable!()
     }
 }

@@ -1,6 +1,6 @@
 //! The third thread: it takes what the lanes sent, and drives the reconciler.
 ghost use Rattle.std.specs.Prelude.{◌≡◌, []};
-ghost use Rattle.lane_run.specs.Reconciled.{AsksIn, HasDriven, Reconciled};
+ghost use Rattle.lane_run.specs.Reconciled.{AsksIn, HasDriven, HasRefused, Reconciled};
 ghost use Rattle.lane_run.specs.Views.{outside, source_view};
 ghost use Rattle.lane_run.specs.Waiting.{MayBeAwaited};
 ghost use Rattle.line_run.specs.Answered.{MayBeAsked};
@@ -34,6 +34,9 @@ pub(crate) fn reconcile<M: Reconciler, R: PacedWait, I: PacedSource<K>, K: Sink>
     requires waits { MayBeAwaited R.may_wait rt.now (HasDriven M.Drives (M.state machine.old)
         (outside reader.old (source_view (I.left input.old) (I.name input.old) (I.faults input.old))
         (K.written out.old) (K.faults out.old))) }
+    requires drops { MayBeAwaited R.may_drop rt.now (HasRefused M.Drives M.Refuses (M.state machine.old)
+        (outside reader.old (source_view (I.left input.old) (I.name input.old) (I.faults input.old))
+        (K.written out.old) (K.faults out.old))) }
     ensures name { I.name input.new ≡ I.name input.old }
     ensures reconciled { Reconciled M.Drives M.Refuses mail.now inbox.new (M.state machine.old) (M.state machine.new)
         (outside reader.old (source_view (I.left input.old) (I.name input.old) (I.faults input.old))
@@ -41,17 +44,15 @@ pub(crate) fn reconcile<M: Reconciler, R: PacedWait, I: PacedSource<K>, K: Sink>
         (outside reader.new (source_view (I.left input.new) (I.name input.new) (I.faults input.new))
         (K.written out.new) (K.faults out.new)) result }
 {
-    for _ in 0..u64::MAX {
+    'items: loop {
         match rt.take_next(mail, inbox, out) {
             Taken::Item(item) => {
                 if let Err(status) = machine.take(alloc, item, reader, input, out) {
-                    rt.drop_rest(mail, inbox);
+                    rt.drop_rest(mail, inbox, out);
                     return Err(status);
                 }
             }
             Taken::AllEnded => return Ok(()),
         }
     }
-    // No run takes so many items.
-    rt.block()
 }

@@ -1,7 +1,7 @@
 //! The run of two lanes: three threads, joined.
 ghost use Rattle.std.specs.Prelude.{◌≡◌, IfOk, OnErr};
 ghost use Rattle.lane_run.specs.Ran.{Ran};
-ghost use Rattle.lane_run.specs.Reconciled.{AsksIn, HasDriven};
+ghost use Rattle.lane_run.specs.Reconciled.{AsksIn, HasDriven, HasRefused};
 ghost use Rattle.lane_run.specs.Views.{lane_view, outside, source_view};
 ghost use Rattle.lane_run.specs.Waiting.{MayBeAwaited};
 ghost use Rattle.line_run.specs.Answered.{MayBeAsked};
@@ -11,10 +11,11 @@ use crate::lanes::Lanes;
 use crate::paced::PacedWait;
 use crate::reconciler::Reconciler;
 use crate::threads::run_threads;
+use crate::watched::WatchedSource;
 use lane_mail::Mail;
 use line_run::PacedSource;
 use mlb_base::NoMemory;
-use mlb_edge::{LineReader, Sink, Source};
+use mlb_edge::{LineReader, Sink};
 use std::alloc::Global;
 use std::thread::Threads;
 
@@ -28,7 +29,7 @@ pub fn run_lanes<
     L: Lanes + Send,
     M: Reconciler + Send,
     R: Threads + PacedWait + Sync,
-    S: Source + Send,
+    S: WatchedSource + Send,
     I: PacedSource<K> + Send,
     K: Sink + Send,
 >(
@@ -49,6 +50,11 @@ pub fn run_lanes<
 
     // Behind each item that it took it waits for the next only where it was driven by all of them and what they came to stands written.
     requires waits { MayBeAwaited R.may_wait rt.now (HasDriven M.Drives (M.state machine.old)
+        (outside reader.old (source_view (I.left input.old) (I.name input.old) (I.faults input.old))
+        (K.written out.old) (K.faults out.old))) }
+
+    // What the lanes still send is dropped only where it refused the last item that it took, and what it wrote of that stands written.
+    requires drops { MayBeAwaited R.may_drop rt.now (HasRefused M.Drives M.Refuses (M.state machine.old)
         (outside reader.old (source_view (I.left input.old) (I.name input.old) (I.faults input.old))
         (K.written out.old) (K.faults out.old))) }
 

@@ -2,7 +2,7 @@
 ghost use Rattle.std.specs.Prelude.{◌≡◌, []};
 ghost use Rattle.std.specs.Thread.{IsSync};
 ghost use Rattle.lane_mail.specs.declared.lane.Lane.TheVariants.{First, Second};
-ghost use Rattle.lane_run.specs.Reconciled.{AsksIn, HasDriven, Reconciled};
+ghost use Rattle.lane_run.specs.Reconciled.{AsksIn, HasDriven, HasRefused, Reconciled};
 ghost use Rattle.lane_run.specs.Waiting.{MayBeAwaited};
 ghost use Rattle.lane_run.specs.Views.{lane_view, outside, source_view};
 ghost use Rattle.lane_run.specs.Watched.{CanWatch, Watched};
@@ -13,11 +13,11 @@ use crate::lanes::Lanes;
 use crate::paced::PacedWait;
 use crate::reconciler::Reconciler;
 use crate::reconciling::reconcile;
-use crate::watching::watch;
+use crate::watched::{WatchPass, WatchedSource};
 use kube_model::Status;
 use lane_mail::{InboxPass, Lane, LaneDone, LanePass, Mail};
 use line_run::PacedSource;
-use mlb_edge::{LineReader, Sink, Source};
+use mlb_edge::{LineReader, Sink};
 use std::alloc::Global;
 use std::thread::{Threads, join_mut};
 
@@ -30,7 +30,7 @@ pub(crate) fn run_threads<
     L: Lanes + Send,
     M: Reconciler + Send,
     R: Threads + PacedWait + Sync,
-    S: Source + Send,
+    S: WatchedSource + Send,
     I: PacedSource<K> + Send,
     K: Sink + Send,
 >(
@@ -57,6 +57,9 @@ pub(crate) fn run_threads<
     requires waits { MayBeAwaited R.may_wait rt.now (HasDriven M.Drives (M.state machine.old)
         (outside reader.old (source_view (I.left input.old) (I.name input.old) (I.faults input.old))
         (K.written out.old) (K.faults out.old))) }
+    requires drops { MayBeAwaited R.may_drop rt.now (HasRefused M.Drives M.Refuses (M.state machine.old)
+        (outside reader.old (source_view (I.left input.old) (I.name input.old) (I.faults input.old))
+        (K.written out.old) (K.faults out.old))) }
     ensures name { I.name input.new ≡ I.name input.old }
     ensures inbox { Reconciled M.Drives M.Refuses mail.now inbox.new (M.state machine.old) (M.state machine.new)
         (outside reader.old (source_view (I.left input.old) (I.name input.old) (I.faults input.old))
@@ -72,7 +75,12 @@ pub(crate) fn run_threads<
         (lane_view (S.left second.new) (S.name second.new) (S.faults second.new) (S.safe second.new))
         result.2.0 result.2.1 }
 {
-    let (mut first_slot, mut second_slot) = (Some(first_pass), Some(second_pass));
+    let mut first_slot = WatchPass {
+        pass: Some(first_pass),
+    };
+    let mut second_slot = WatchPass {
+        pass: Some(second_pass),
+    };
     let (outcome, (second_end, first_end)) = join_mut(
         rt,
         &mut || -> Result<(), Status>
@@ -82,6 +90,9 @@ pub(crate) fn run_threads<
                 (K.written out.now) (K.faults out.now))
                 (outside r (source_view (I.left i) (I.name i) (I.faults i)) (K.written o) (K.faults o))) }
             requires waits { MayBeAwaited R.may_wait rt.now (HasDriven M.Drives (M.state machine.now)
+                (outside reader.now (source_view (I.left input.now) (I.name input.now) (I.faults input.now))
+                (K.written out.now) (K.faults out.now))) }
+            requires drops { MayBeAwaited R.may_drop rt.now (HasRefused M.Drives M.Refuses (M.state machine.now)
                 (outside reader.now (source_view (I.left input.now) (I.name input.now) (I.faults input.now))
                 (K.written out.now) (K.faults out.now))) }
             ensures name { I.name input.exit.now ≡ I.name input.entry.now }
@@ -110,14 +121,14 @@ pub(crate) fn run_threads<
                         (lane_view (S.left second.entry.now) (S.name second.entry.now) (S.faults second.entry.now) (S.safe second.entry.now))
                         (lane_view (S.left second.exit.now) (S.name second.exit.now) (S.faults second.exit.now) (S.safe second.exit.now))
                         result.0 result.1 }
-                { watch::<L, R, S>(rt, alloc, Lane::Second, mail, &mut second_slot, second) },
+                { second.watch::<L, R>(rt, alloc, Lane::Second, mail, &mut second_slot) },
                 &mut || -> Watch
                     requires { CanWatch mail.now First first_slot }
                     ensures { Watched L.belongs mail.entry.now First
                         (lane_view (S.left first.entry.now) (S.name first.entry.now) (S.faults first.entry.now) (S.safe first.entry.now))
                         (lane_view (S.left first.exit.now) (S.name first.exit.now) (S.faults first.exit.now) (S.safe first.exit.now))
                         result.0 result.1 }
-                { watch::<L, R, S>(rt, alloc, Lane::First, mail, &mut first_slot, first) },
+                { first.watch::<L, R>(rt, alloc, Lane::First, mail, &mut first_slot) },
             )
         },
     );

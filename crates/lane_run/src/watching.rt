@@ -10,6 +10,7 @@ use crate::lane_end::{LaneEnd, end_of};
 use crate::lanes::Lanes;
 use crate::line_items::item_of_line;
 use crate::paced::PacedWait;
+use crate::watched::WatchPass;
 use lane_mail::{Item, Lane, LaneDone, LanePass, Mail};
 use mlb_edge::{LineReader, Source};
 use std::alloc::Global;
@@ -127,22 +128,22 @@ fn send_source<L: Lanes, R: PacedWait, S: Source>(
 }
 
 /// Sends the events of the source's lines until the input ends or something stops it, and then puts the
-/// lane's end mark. The lane's pass is taken out of its slot.
+/// lane's end mark. The lane's pass is used up.
 pub(crate) fn watch<L: Lanes, R: PacedWait, S: Source>(
     rt: &R,
     alloc: Global,
     lane: Lane,
     mail: &Mail,
-    slot: &mut Option<LanePass>,
+    pass: &mut WatchPass,
     source: &mut S,
 ) -> (LaneDone, LaneEnd)
-    requires { CanWatch mail.now lane slot.old }
+    requires { CanWatch mail.now lane pass.old }
     ensures { Watched L.belongs mail.now lane
         (lane_view (S.left source.old) (S.name source.old) (S.faults source.old) (S.safe source.old))
         (lane_view (S.left source.new) (S.name source.new) (S.faults source.new) (S.safe source.new))
         result.0 result.1 }
 {
-    let Some(mut pass) = slot.take() else {
+    let Some(mut pass) = pass.pass.take() else {
         unreachable!();
     };
     let end = send_source::<L, R, S>(rt, alloc, lane, mail, &mut pass, source);

@@ -8,7 +8,7 @@ use Rattle.kube_model.specs.declared.status.LaneName.{LaneName}
 use Rattle.kube_model.specs.declared.status.LaneName.TheVariants as names
 use Rattle.kube_model.specs.declared.status.Status.{Status}
 use Rattle.kube_model.specs.declared.status.Status.TheVariants.{Done, Usage, OpenFault, ReadFault, WriteFault, BadLine, BadReply, NoReply, Limit, NoMemory}
-use Rattle.lane_drive.specs.Asking.{AnswersAll, AsksMore}
+use Rattle.lane_drive.specs.Asking.{AnswersAll, AsksMore, HasStopped}
 use Rattle.lane_drive.specs.Clauses as lanes
 use Rattle.lane_drive.specs.Complete as can_be_done
 use Rattle.lane_drive.specs.Drive.{entries_of}
@@ -38,6 +38,10 @@ LanesMayAsk bytes safe name left reads may_read written writes input out class f
 -- the next item may be waited for wherever just the text of all items taken before stands written, with all replies to them heard
 abbrev pub LanesMayWait : {R : Type 0} → (R → List Item → Option (List ℕ) → Type 0) → R → (replies : SourceView) (written : Option (List ℕ)) (writes : ℕ) → Option (List ℕ) → LaneNames → Type 0
 LanesMayWait may_wait rt replies written writes class files = MayBeAwaited may_wait rt (AnswersAll lane_rules (fresh class) (outside lanes.unread replies written writes))
+
+-- what the files still give may be dropped wherever the run stopped at the last item taken, or at a reply behind it
+abbrev pub LanesMayDrop : {R : Type 0} → (R → List Item → Option (List ℕ) → Type 0) → R → (replies : SourceView) (written : Option (List ℕ)) (writes : ℕ) → Option (List ℕ) → LaneNames → Type 0
+LanesMayDrop may_drop rt replies written writes class files = MayBeAwaited may_drop rt (HasStopped lane_rules (fresh class) (outside lanes.unread replies written writes))
 
 -- how the run ended, once both files are open
 abbrev pub LanesEnd : (List ℕ → Option (List ℕ)) → (List ℕ → Bool) → (files files' : FilesView) (replies replies' : SourceView) (before after : Option (List ℕ)) (writes writes' : ℕ) → Status → Option (List ℕ) → LaneNames → Type 0

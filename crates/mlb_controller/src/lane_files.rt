@@ -6,15 +6,15 @@ ghost use Rattle.kube_model.specs.declared.status.LaneName.{LaneName};
 ghost use Rattle.lane_drive.specs.Files.{files_view};
 ghost use Rattle.lane_run.specs.Views.{source_view};
 ghost use Rattle.line_run.specs.Clauses.{AtWriteFault};
-ghost use Rattle.mlb_controller.specs.LaneClauses.{LanesMayAsk, LanesMayWait, LanesEnd, LanesComplete, LanesDone, LanesSound, LanesQuiet, CanEndLanes, LaneOpenFault, LaneReadFault, LaneOthers};
+ghost use Rattle.mlb_controller.specs.LaneClauses.{LanesMayAsk, LanesMayWait, LanesMayDrop, LanesEnd, LanesComplete, LanesDone, LanesSound, LanesQuiet, CanEndLanes, LaneOpenFault, LaneReadFault, LaneOthers};
 
 use crate::controller::Controller;
 use command_options::LaneFiles;
 use kube_model::Status;
 use lane_drive::run_lane_files;
-use lane_run::PacedWait;
+use lane_run::{PacedWait, WatchedFiles};
 use line_run::PacedSource;
-use mlb_edge::{Files, Sink};
+use mlb_edge::Sink;
 use std::alloc::Global;
 use std::thread::Threads;
 
@@ -22,7 +22,7 @@ use std::thread::Threads;
 /// replies to its puts.
 pub(crate) fn lanes_controller<
     R: Threads + PacedWait + Sync,
-    F: Files,
+    F: WatchedFiles,
     S: PacedSource<K> + Send,
     K: Sink + Send,
 >(
@@ -37,6 +37,9 @@ pub(crate) fn lanes_controller<
     requires live { LanesMayAsk (F.bytes files.old) (F.safe files.old) S.name S.left S.faults S.may_read K.written K.faults input.old out.old
         (option_map (λ c. c.now) class) (lane_seen lanes) }
     requires waits { LanesMayWait R.may_wait rt.now
+        (source_view (S.left input.old) (S.name input.old) (S.faults input.old)) (K.written out.old) (K.faults out.old)
+        (option_map (λ c. c.now) class) (lane_seen lanes) }
+    requires drops { LanesMayDrop R.may_drop rt.now
         (source_view (S.left input.old) (S.name input.old) (S.faults input.old)) (K.written out.old) (K.faults out.old)
         (option_map (λ c. c.now) class) (lane_seen lanes) }
     ensures ended { LanesEnd (F.bytes files.old) (F.safe files.old)

@@ -9,23 +9,23 @@ ghost use Rattle.line_run.specs.Clauses.{AtReadFault, AtWriteFault};
 ghost use Rattle.command_options.specs.Options.{texts_of};
 ghost use Rattle.controller_words.specs.Words.{AreKnown};
 ghost use Rattle.mlb_controller.specs.Asked.{AskLanes, AskNoLanes};
-ghost use Rattle.mlb_controller.specs.LaneClauses.{OverLanes, LanesMayAsk, LanesMayWait, LanesEnd, LanesComplete, LanesDone, LanesSound, LanesQuiet, LaneCanEnd, LaneOpenFault, LaneReadFault, LaneOthers};
+ghost use Rattle.mlb_controller.specs.LaneClauses.{OverLanes, LanesMayAsk, LanesMayWait, LanesMayDrop, LanesEnd, LanesComplete, LanesDone, LanesSound, LanesQuiet, LaneCanEnd, LaneOpenFault, LaneReadFault, LaneOthers};
 ghost use Rattle.mlb_controller.specs.Clauses.{MayAskAnswered, CanEnd, AtEnd, AtDone, AtNoReply, AtBadLine, AtBadReply, AtServiceLimit, AtLongLine, AtTooLong, AfterRead, AfterWrite, AtNoMemory, WritesSound, RunsSound, RunsSafe, EndsQuiet, HandlesNamed, IsExact, IsComplete, WritesTrial, LeavesInput, TrialIsSafe};
 
 use crate::lane_files::lanes_controller;
 use crate::stream::stream_controller;
 use controller_words::{Asked, LaneFiles, controller_words};
 use kube_model::Status;
-use lane_run::PacedWait;
+use lane_run::{PacedWait, WatchedFiles};
 use line_run::PacedSource;
-use mlb_edge::{Files, Sink};
+use mlb_edge::Sink;
 use std::alloc::Global;
 use std::thread::Threads;
 
 /// All that the program does: the run over one stream, where no file is opened, or that over two lane files, where the words name them.
 pub fn run_controller<
     R: Threads + PacedWait + Sync,
-    F: Files,
+    F: WatchedFiles,
     S: PacedSource<K> + Send,
     K: Sink + Send,
 >(rt: &R, alloc: Global, words: &[String], files: &mut F, input: &mut S, out: &mut K) -> Status
@@ -38,9 +38,14 @@ pub fn run_controller<
         input.old out.old) }
 
     // The next event of the files may be waited for where just the text of all that were taken before stands written, with the replies to
-    // their puts heard. Nothing else is known of when it may, so nothing is held back while a lane is waited for. What is a `Wait` may wait
-    // at any time, and meets this.
+    // their puts heard. Nothing else is known of when it may, and the files can only be watched, so what is taken of them is waited for so:
+    // nothing is held back meanwhile. What is a `Wait` may wait at any time, and meets this.
     requires lanes_wait { OverLanes words.now (LanesMayWait R.may_wait rt.now
+        (source_view (S.left input.old) (S.name input.old) (S.faults input.old)) (K.written out.old) (K.faults out.old)) }
+
+    // What the files still give may be dropped where the run stopped at the last event taken, or at the reply to its put, and what it wrote of
+    // that stands written; and nowhere else.
+    requires lanes_drop { OverLanes words.now (LanesMayDrop R.may_drop rt.now
         (source_view (S.left input.old) (S.name input.old) (S.faults input.old)) (K.written out.old) (K.faults out.old)) }
 
     ensures no_file { AskNoLanes (texts_of words.now) → files.new ≡ files.old }

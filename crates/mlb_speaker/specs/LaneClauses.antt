@@ -7,7 +7,7 @@ use Rattle.kube_model.specs.declared.status.Status.{Status}
 use Rattle.kube_model.specs.declared.status.Status.TheVariants.{Done, Usage, OpenFault, ReadFault, WriteFault, BadLine, BadReply, NoReply, Limit, NoMemory}
 use Rattle.command_options.specs.Lanes.{LaneNames}
 use Rattle.command_options.specs.Options.{texts_of}
-use Rattle.lane_drive.specs.Asking.{AnswersAll}
+use Rattle.lane_drive.specs.Asking.{AnswersAll, HasStopped}
 use Rattle.lane_drive.specs.Clauses as drive
 use Rattle.lane_drive.specs.Complete as can_be_done
 use Rattle.lane_drive.specs.Files.{FilesView}
@@ -31,6 +31,10 @@ opened bytes safe file = lane_view (bytes file) (Some file) 0 (safe file)
 -- the next item may be waited for wherever just the text of all items taken before stands written
 abbrev pub LanesMayWait : {Z R : Type 0} → List (String Z) → (R → List Item → Option (List ℕ) → Type 0) → R → (input : SourceView) (written : Option (List ℕ)) (faults : ℕ) → Type 0
 LanesMayWait words may_wait rt input written faults = OverLanes words (λ files. MayBeAwaited may_wait rt (AnswersAll lane_rules (begun_by words) (outside drive.unread input written faults)))
+
+-- what the files still give may be dropped wherever the run stopped at the last item taken
+abbrev pub LanesMayDrop : {Z R : Type 0} → List (String Z) → (R → List Item → Option (List ℕ) → Type 0) → R → (input : SourceView) (written : Option (List ℕ)) (faults : ℕ) → Type 0
+LanesMayDrop words may_drop rt input written faults = OverLanes words (λ files. MayBeAwaited may_drop rt (HasStopped lane_rules (begun_by words) (outside drive.unread input written faults)))
 
 -- how the run ended, once both files are open
 abbrev pub EndsLanes : {Z K : Type 0} → List (String Z) → Status → (List ℕ → Option (List ℕ)) → (List ℕ → Bool) → (seen seen' : FilesView) (input input' : SourceView) → (K → Option (List ℕ)) → (K → ℕ) → K → K → Type 0

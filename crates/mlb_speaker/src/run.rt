@@ -6,16 +6,16 @@ ghost use Rattle.lane_run.specs.Views.{source_view};
 ghost use Rattle.line_run.specs.Clauses.{AtEnd, AtReadFault, AtWriteFault};
 ghost use Rattle.command_options.specs.Options.{texts_of};
 ghost use Rattle.mlb_speaker.specs.Clauses.{InStream, MayAskAnswered, CanEnd, SpeaksForNamed, AtDone, AtBadLine, AtHeldLimit, AtLongLine, AtTooLong, AfterRead, AfterWrite, AtNoMemory, WritesOnly, TellsWhatIsAnnounced, TellsWhatChanges, SendsWhatIsMeant, TellsPeersTheirRoutes, IsExact, IsComplete};
-ghost use Rattle.mlb_speaker.specs.LaneClauses.{EndsLanes, LanesMayWait, LanesComplete, LanesDone, LanesWriteOnly, AtLaneOpenFault, AtLaneReadFault, LeavesOtherFiles, LeavesInput, LanesCanEnd, LanesAreAsLines, LanesTellWhatIsAnnounced, LanesTellWhatChanges, LanesSendWhatIsMeant, LanesMakeRoutes};
+ghost use Rattle.mlb_speaker.specs.LaneClauses.{EndsLanes, LanesMayWait, LanesMayDrop, LanesComplete, LanesDone, LanesWriteOnly, AtLaneOpenFault, AtLaneReadFault, LeavesOtherFiles, LeavesInput, LanesCanEnd, LanesAreAsLines, LanesTellWhatIsAnnounced, LanesTellWhatChanges, LanesSendWhatIsMeant, LanesMakeRoutes};
 ghost use Rattle.speaker_words.specs.Words.{AreKnown};
 
 use crate::speaker::Speaker;
 use crate::stream::stream_speaker;
 use kube_model::Status;
 use lane_drive::run_lane_files;
-use lane_run::PacedWait;
+use lane_run::{PacedWait, WatchedFiles};
 use line_run::PacedSource;
-use mlb_edge::{Files, Sink};
+use mlb_edge::Sink;
 use speaker_words::speaker_words;
 use std::alloc::Global;
 use std::thread::Threads;
@@ -24,7 +24,7 @@ use std::thread::Threads;
 /// stream, which opens no file.
 pub fn run_speaker<
     R: Threads + PacedWait + Sync,
-    F: Files,
+    F: WatchedFiles,
     S: PacedSource<K> + Send,
     K: Sink + Send,
 >(rt: &R, alloc: Global, words: &[String], files: &mut F, input: &mut S, out: &mut K) -> Status
@@ -33,8 +33,14 @@ pub fn run_speaker<
     requires live { MayAskAnswered words.now S.name S.left S.may_read K.written input.old out.old }
 
     // Over two files the next event may be waited for where just the text of all that were taken before stands written. Nothing else is known
-    // of when it may, so nothing is held back while a lane is waited for. What is a `Wait` may wait at any time.
+    // of when it may, and the files can only be watched, so what is taken of them is waited for so: nothing is held back meanwhile. What is a
+    // `Wait` may wait at any time.
     requires lanes_wait { LanesMayWait words.now R.may_wait rt.now
+        (source_view (S.left input.old) (S.name input.old) (S.faults input.old)) (K.written out.old) (K.faults out.old) }
+
+    // What the files still give may be dropped where the run stopped at the last event taken, and what it wrote of that stands written; and
+    // nowhere else.
+    requires lanes_drop { LanesMayDrop words.now R.may_drop rt.now
         (source_view (S.left input.old) (S.name input.old) (S.faults input.old)) (K.written out.old) (K.faults out.old) }
 
     ensures no_file { InStream words.now (files.new ≡ files.old) }

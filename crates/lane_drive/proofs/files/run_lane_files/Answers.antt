@@ -2,7 +2,7 @@ use Rattle.std.proofs.Common.{ℕ, List, Err, inr, refl, ap, subst, ◌∙◌}
 use Rattle.mlb_edge.specs.Failed.{with_failed}
 use Rattle.mlb_edge.specs.Reading.{Reading}
 use Rattle.lane_run.specs.Views.{outside, source_view}
-use Rattle.lane_drive.specs.Asking.{AnswersAll, AsksMore}
+use Rattle.lane_drive.specs.Asking.{AnswersAll, AsksMore, HasStopped}
 use Rattle.lane_drive.proofs.Complete.{complete}
 use Rattle.lane_drive.proofs.Ways.{writes_none}
 use Rattle.lane_drive.proofs.OverFiles as files
@@ -24,6 +24,15 @@ run_opened-status-requires-clause-waits g c = λ _ _ items written answers.
     (outside reader (source_view (g.I.PacedSource.left c.args.input.now) (g.I.PacedSource.name c.args.input.now) (g.I.PacedSource.faults c.args.input.now)) (g.K.Sink.written c.args.out.now) (g.K.Sink.faults c.args.out.now))
     items written)
     c.in-Ok.ensures answers)
+
+pub run_opened-status-requires-clause-drops : goal.run_opened-status-requires-clause-drops
+run_opened-status-requires-clause-drops g c = λ _ _ items written stopped.
+    c.requires.drops items written
+    (subst
+    (λ (reader : Reading). HasStopped g.M.LaneMachine.rules (g.M.LaneMachine.state c.args.machine)
+    (outside reader (source_view (g.I.PacedSource.left c.args.input.now) (g.I.PacedSource.name c.args.input.now) (g.I.PacedSource.faults c.args.input.now)) (g.K.Sink.written c.args.out.now) (g.K.Sink.faults c.args.out.now))
+    items written)
+    c.in-Ok.ensures stopped)
 
 pub returns-in_default-clause-ended : goal.returns-in_default-clause-ended
 returns-in_default-clause-ended g c =

@@ -1,7 +1,7 @@
 use Rattle.std.proofs.Common.{inl, ap}
 use Rattle.lane_run.specs.Views.{outside, source_view}
-use Rattle.lane_drive.proofs.Taken.{answers_in, awaits_in}
-use Rattle.lane_drive.proofs.Ways.{asks_behind, ends_undriven, ends_refused, leaves_refused, quiet_then, ends_unknown, ends_behind, ends_as_lanes, leaves_driven, leaves_lanes}
+use Rattle.lane_drive.proofs.Taken.{answers_in, awaits_in, stopped_in}
+use Rattle.lane_drive.proofs.Ways.{asks_behind, ends_undriven, ends_refused, leaves_refused, quiet_then, ends_unknown, ends_behind, ends_as_lanes, leaves_lanes, leaves_unknown}
 use Rattle.lane_drive.proofs.opened.run_opened.Goals as goal
 
 pub run_lanes-ran-requires-clause-live : goal.run_lanes-ran-requires-clause-live
@@ -12,6 +12,10 @@ pub run_lanes-ran-requires-clause-waits : goal.run_lanes-ran-requires-clause-wai
 run_lanes-ran-requires-clause-waits g c = λ _ _ items written has.
     c.requires.waits items written (answers_in g.M.LaneMachine.rules (g.M.LaneMachine.state c.args.machine) _ items written c.requires.quiet has)
 
+pub run_lanes-ran-requires-clause-drops : goal.run_lanes-ran-requires-clause-drops
+run_lanes-ran-requires-clause-drops g c = λ _ _ items written has.
+    c.requires.drops items written (stopped_in g.M.LaneMachine.rules (g.M.LaneMachine.state c.args.machine) _ items written c.requires.quiet has)
+
 pub returns-in_default-clause-ended : goal.returns-in_default-clause-ended
 returns-in_default-clause-ended g c =
     ends_undriven g.M.Lanes.belongs g.M.LaneMachine.rules (g.M.LaneMachine.state c.args.machine) c.requires.quiet _ _ _ _ _ _ (ap g.K.Sink.written c.in_default.ensures.undriven.3)
@@ -19,6 +23,7 @@ returns-in_default-clause-ended g c =
 pub returns-in-Err-clause-ended : goal.returns-in-Err-clause-ended
 returns-in-Err-clause-ended g c =
     ends_refused g.M.Lanes.belongs g.M.LaneMachine.rules (g.M.LaneMachine.state c.args.machine) c.requires.quiet _ _ _ _ _ _ (g.M.LaneMachine.state c.run_lanes-ran.new.machine.replies.machine) _ c.in-Ok.ensures.ran c.in-Err.status c.in-Err.is
+    (c.are_known.ensures c.if-not-are_known.false)
 
 pub returns-in-Err-clause-unheard : goal.returns-in-Err-clause-unheard
 returns-in-Err-clause-unheard g c =
@@ -61,11 +66,11 @@ pub returns-then-not-are_known-clause-ended : goal.returns-then-not-are_known-cl
 returns-then-not-are_known-clause-ended g c =
     let ran = c.run_lanes-ran.new in
     let mid = outside ran.reader (source_view (g.I.PacedSource.left ran.input) (g.I.PacedSource.name ran.input) (g.I.PacedSource.faults ran.input)) (g.K.Sink.written ran.out) (g.K.Sink.faults ran.out) in
-    ends_unknown g.M.Lanes.belongs g.M.LaneMachine.rules (g.M.LaneMachine.state c.args.machine) c.requires.quiet _ _ _ _ _ mid (g.M.LaneMachine.state c.run_lanes-ran.new.machine.replies.machine) _ c.in-Ok.ensures.ran c.in_default-outcome.is
+    ends_unknown g.M.Lanes.belongs g.M.LaneMachine.rules (g.M.LaneMachine.state c.args.machine) c.requires.quiet _ _ _ _ _ mid (g.M.LaneMachine.state c.run_lanes-ran.new.machine.replies.machine) _ c.in-Ok.ensures.ran
 
 pub returns-then-not-are_known-clause-unheard : goal.returns-then-not-are_known-clause-unheard
-returns-then-not-are_known-clause-unheard g c = λ none.
+returns-then-not-are_known-clause-unheard g c =
     let ran = c.run_lanes-ran.new in
     let mid = outside ran.reader (source_view (g.I.PacedSource.left ran.input) (g.I.PacedSource.name ran.input) (g.I.PacedSource.faults ran.input)) (g.K.Sink.written ran.out) (g.K.Sink.faults ran.out) in
-    leaves_driven g.M.Lanes.belongs g.M.LaneMachine.rules (g.M.LaneMachine.state c.args.machine) c.requires.quiet _ _ _ _ _ mid (g.M.LaneMachine.state c.run_lanes-ran.new.machine.replies.machine) _ c.in-Ok.ensures.ran c.in_default-outcome.is
-    ((g.met.M.LaneMachine g.world.𝓛 g.world.𝓜 g.world.𝓡 ((λ s x. x), (λ x. x), (λ x. x), λ x. x)).unheard none)
+    leaves_unknown g.M.Lanes.belongs g.M.LaneMachine.rules (g.M.LaneMachine.state c.args.machine) c.requires.quiet _ _ _ _ _ mid (g.M.LaneMachine.state c.run_lanes-ran.new.machine.replies.machine) _ c.in-Ok.ensures.ran
+    (g.met.M.LaneMachine g.world.𝓛 g.world.𝓜 g.world.𝓡 ((λ s x. x), (λ x. x), (λ x. x), λ x. x)).unheard

@@ -1,22 +1,44 @@
-use Rattle.std.proofs.Common.{refl, ◌∙◌}
+use Rattle.std.proofs.Common.{[], ◌∷◌, length, refl, ap, ◌∙◌, arith, length-append}
 use Rattle.lane_run.proofs.DroveSoFar.{drives_next, drove_up_to}
 use Rattle.lane_run.proofs.reconciling.reconcile.Goals as goal
 
-pub loop-init : goal.loop-init
-loop-init g c = record { mail = refl; name = refl; drove = rw c.requires.fresh (refl, refl) }
+pub items-init : goal.items-init
+items-init g c = record { mail = refl; name = refl; drove = rw c.requires.fresh (refl, refl) }
 
-pub loop-preserved : goal.loop-preserved
-loop-preserved g c = record {
-  mail = c.take_next.ensures.mail ∙ c.loop.invariant.mail;
-  name = c.take.ensures.name ∙ c.loop.invariant.name;
-  drove = drives_next g.M.Reconciler.Drives c.loop.inbox.taken c.take_next.new.inbox.taken c.in-Item.item (g.M.Reconciler.state c.args.machine.now) (g.M.Reconciler.state c.loop.machine) (g.M.Reconciler.state c.take.new.self) _ _ _
-      c.loop.invariant.drove (c.in-Item.ensures.item c.in-Item.item refl) c.in_default.ensures.ok;
+pub items-preserved : goal.items-preserved
+items-preserved g c = record {
+  mail = c.take_next.ensures.mail ∙ c.items.invariant.mail;
+  name = c.take.ensures.name ∙ c.items.invariant.name;
+  drove = drives_next g.M.Reconciler.Drives c.items.inbox.taken c.take_next.new.inbox.taken c.in-Item.item (g.M.Reconciler.state c.args.machine.now) (g.M.Reconciler.state c.items.machine) (g.M.Reconciler.state c.take.new.self) _ _ _
+      c.items.invariant.drove (c.in-Item.ensures.item c.in-Item.item refl) c.in_default.ensures.ok;
 }
 
 pub returns-in-Err-clause-reconciled : goal.returns-in-Err-clause-reconciled
 returns-in-Err-clause-reconciled g c = record {
-  mail_is = c.drop_rest.ensures.mail ∙ (c.take_next.ensures.mail ∙ (c.loop.invariant.mail ∙ c.requires.mail));
+  mail_is = c.drop_rest.ensures.mail ∙ (c.take_next.ensures.mail ∙ (c.items.invariant.mail ∙ c.requires.mail));
   ended = c.drop_rest.ensures.ended;
-  drove = drove_up_to g.M.Reconciler.Drives g.M.Reconciler.Refuses c.in-Err.status c.loop.inbox.taken c.take_next.new.inbox.taken c.drop_rest.new.inbox.taken c.in-Item.item (g.M.Reconciler.state c.args.machine.now) (g.M.Reconciler.state c.loop.machine)
-      (g.M.Reconciler.state c.take.new.self) _ _ _ c.loop.invariant.drove (c.in-Item.ensures.item c.in-Item.item refl) c.drop_rest.ensures.taken c.in-Err.ensures.err;
+  drove = drove_up_to g.M.Reconciler.Drives g.M.Reconciler.Refuses c.in-Err.status c.items.inbox.taken c.take_next.new.inbox.taken c.drop_rest.new.inbox.taken c.in-Item.item (g.M.Reconciler.state c.args.machine.now) (g.M.Reconciler.state c.items.machine)
+      (g.M.Reconciler.state c.take.new.self) _ _ _ c.items.invariant.drove (c.in-Item.ensures.item c.in-Item.item refl) c.drop_rest.ensures.taken c.in-Err.ensures.err;
 }
+
+-- one more was taken, and no lane sends more than it may
+pub items-smaller : goal.items-smaller
+items-smaller g c =
+    let more = c.in-Item.ensures.item c.in-Item.item refl in
+    let few = c.in-Item.ensures.few c.in-Item.item refl in
+    omega (arith, few, ap length more, length-append c.items.inbox.taken (c.in-Item.item ∷ []))
+
+-- the item that was taken last was refused
+pub drop_rest-requires-clause-paced : goal.drop_rest-requires-clause-paced
+drop_rest-requires-clause-paced g c = c.requires.drops c.take_next.new.inbox.taken (g.K.Sink.written c.take.new.out) (record {
+  driven = c.items.inbox.taken;
+  item = c.in-Item.item;
+  items_are = c.in-Item.ensures.item c.in-Item.item refl;
+  state = g.M.Reconciler.state c.items.machine;
+  mid = _;
+  drove = c.items.invariant.drove;
+  status = c.in-Err.status;
+  now = _;
+  refused = c.in-Err.ensures.err;
+  is = refl;
+})

@@ -12,6 +12,9 @@ lanes_controller-requires-clause-live g c = λ _ _. c.requires.lanes_live _ _ c.
 pub lanes_controller-requires-clause-waits : goal.lanes_controller-requires-clause-waits
 lanes_controller-requires-clause-waits g c = λ _ _. c.requires.lanes_wait _ _ c.in-Some.ensures.some
 
+pub lanes_controller-requires-clause-drops : goal.lanes_controller-requires-clause-drops
+lanes_controller-requires-clause-drops g c = λ _ _. c.requires.lanes_drop _ _ c.in-Some.ensures.some
+
 -- ---- words that ask for no run over two lanes
 
 pub returns-in-None-clause-lanes : goal.returns-in-None-clause-lanes

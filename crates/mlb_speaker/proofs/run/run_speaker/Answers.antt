@@ -2,7 +2,7 @@ use Rattle.std.proofs.Common.{◌∙◌, ap, inr, refl, subst, sym}
 use Rattle.std.specs.Option.{option_map}
 use Rattle.command_options.specs.Lanes.{lane_seen}
 use Rattle.command_options.specs.Options.{texts_of}
-use Rattle.lane_drive.specs.Asking.{AnswersAll}
+use Rattle.lane_drive.specs.Asking.{AnswersAll, HasStopped}
 use Rattle.lane_drive.specs.Clauses.{unread}
 use Rattle.lane_run.specs.Views.{outside, source_view}
 use Rattle.mlb_speaker.specs.Clauses.{begun_by}
@@ -28,6 +28,14 @@ run_lane_files-requires-clause-waits g c = λ _ _ items written answers.
     let begun = named-begun (texts_of c.args.words.now) (said_seen c.in-Some.said) c.in-Some.ensures.said in
     c.requires.lanes_wait (lane_seen c.in-Some-lanes.lanes) (begun.1 ∙ ap (option_map lane_seen) c.in-Some-lanes.is) items written
     (subst (λ (s : SpeakerState). AnswersAll lane_rules s before items written) (c.in-Ok.ensures ∙ sym begun.0) answers))
+
+pub run_lane_files-requires-clause-drops : goal.run_lane_files-requires-clause-drops
+run_lane_files-requires-clause-drops g c = λ _ _ items written stopped.
+    (let before = outside unread (source_view (g.S.PacedSource.left c.args.input.now) (g.S.PacedSource.name c.args.input.now) (g.S.PacedSource.faults c.args.input.now))
+    (g.K.Sink.written c.args.out.now) (g.K.Sink.faults c.args.out.now) in
+    let begun = named-begun (texts_of c.args.words.now) (said_seen c.in-Some.said) c.in-Some.ensures.said in
+    c.requires.lanes_drop (lane_seen c.in-Some-lanes.lanes) (begun.1 ∙ ap (option_map lane_seen) c.in-Some-lanes.is) items written
+    (subst (λ (s : SpeakerState). HasStopped lane_rules s before items written) (c.in-Ok.ensures ∙ sym begun.0) stopped))
 
 pub returns-in_default-clause-told : goal.returns-in_default-clause-told
 returns-in_default-clause-told g c = told_by (texts_of c.args.words.now)

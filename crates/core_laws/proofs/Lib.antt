@@ -3,6 +3,7 @@ pub mod Assigned
 pub mod Awaiting
 pub mod Came
 pub mod Claimed
+pub mod Classes
 pub mod Expired
 pub mod Free
 pub mod Keyed

@@ -24,8 +24,11 @@ use Rattle.object_history.proofs.Seen.{last_shown-is}
 use Rattle.object_history.proofs.Force.{all_is_as_shown}
 use Rattle.alloc_book.specs.Asking.{Offer}
 use Rattle.alloc_book.specs.Chosen.{IsChosen}
+use Rattle.alloc_book.specs.declared.choice.Choice.{Choice}
 use Rattle.kube_model.specs.Records.{same_record}
-use Rattle.alloc_book.specs.Claims.{holders}
+use Rattle.kube_model.specs.Service.{same_class}
+use Rattle.mlb_base.proofs.CaseLaws.{case-has}
+use Rattle.alloc_book.specs.Claims.{Holders, holders}
 use Rattle.kube_model.proofs.RecordLaws.{same_record-itself}
 use Rattle.alloc_book.proofs.ChooseLaws.{choose-is}
 use Rattle.alloc_book.proofs.PendingLaws.{chosen-by}
@@ -40,6 +43,7 @@ use Rattle.core_rules.proofs.Claims.{shown-held, claims_are_shown}
 use Rattle.core_rules.proofs.Concerns.{by_concern}
 use Rattle.core_rules.proofs.Runs.{core_holds_what_was_observed}
 use Rattle.core_laws.specs.Puts.{labels_shown, IsRightDecision, PutsAreRight, TurnsAreReady}
+use Rattle.core_laws.proofs.Classes.{by-test, same_class-is}
 use Rattle.core_laws.proofs.Ready.{runs-idle}
 
 -- ---- the class
@@ -234,15 +238,27 @@ pub wanted-as : (class : Option (List ℕ)) (key : Key) (pending : Option Reason
 wanted-as class key pending earlier service d =
     ap (λ (x : Service). wanted_record x.holding (chosen_at (core_after class earlier) service)) d.object_is ∙ ap (wanted_record d.right.held.object.holding) d.choice_is
 
+-- a service of another class keeps its record, so a put is for one of its own
+own-of : (has : Holders) (o : Offer) (class : Option (List ℕ)) (service : Service) (c : Choice) → IsChosen has o class service c → wanted_record service.holding c ≢ service.holding
+    → service.balancer ≡ true → service.class ≡ class
+own-of has o class service c chosen differs balancer =
+    case-has _ _ _ _
+    (λ _ foreign. absurd (differs (ap (wanted_record service.holding) foreign)))
+    (λ one _. by-test (same_class class service.class) (same_class-is class service.class) (λ other. one (balancer, other)))
+    chosen
+
 pub puts_are_right : PutsAreRight
 puts_are_right class put pending earlier is =
     let s = core_after class earlier in
     let wanted : IsWanted s put pending s.queue = wanted-of s s.queue put pending is.0.1 in
     let d : IsDecidedAs class put.key pending earlier wanted.service =
     decided class (Wants put pending) earlier is (wants-busy put pending) put.key pending wanted.service wanted.found wanted.reason_is in
+    let holding_is : put.holding ≡ wanted_record d.right.held.object.holding d.right.choice = wanted.holding_is ∙ wanted-as class put.key pending earlier wanted.service d in
+    let differs : put.holding ≢ d.right.held.object.holding = subst (λ (x : Service). put.holding ≢ x.holding) d.object_is (differs-from put.holding wanted.service.holding wanted.differs) in
     record {
       decision = d.right;
       version_is = wanted.version_is ∙ d.version_is;
-      holding_is = wanted.holding_is ∙ wanted-as class put.key pending earlier wanted.service d;
-      differs = subst (λ (x : Service). put.holding ≢ x.holding) d.object_is (differs-from put.holding wanted.service.holding wanted.differs);
+      holding_is = holding_is;
+      differs = differs;
+      own = own-of _ _ class d.right.held.object d.right.choice d.right.chosen (λ e. differs (holding_is ∙ e));
     }

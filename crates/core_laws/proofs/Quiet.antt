@@ -1,7 +1,6 @@
 -- Settled services go on meeting their rows.
 use Rattle.std.proofs.Common.{◌≡◌, ◌≢◌, ℕ, Bool, true, false, cond, not, ◌&&◌, ◌||◌, List, [], ◌∷◌, Option, Some, None, is_some, refl, sym, ap, subst, ◌∙◌}
 use Rattle.std.proofs.lemmas.Bool.{true≢false}
-use Rattle.std.proofs.lemmas.Slice.Eq.{bytes_eq-Decides}
 use Rattle.kube_model.specs.declared.key.Key.{Key}
 use Rattle.kube_model.specs.declared.put.Put.{Put}
 use Rattle.kube_model.specs.declared.reason.Reason.{Reason}
@@ -19,13 +18,14 @@ use Rattle.alloc_book.specs.Claims.{holders, Holders}
 use Rattle.kube_model.specs.declared.record.Record.{Record}
 use Rattle.kube_model.specs.Records.{empty_record, same_record}
 use Rattle.kube_model.proofs.RecordLaws.{same_record-is}
-use Rattle.mlb_base.proofs.CaseLaws.{case-has}
+use Rattle.mlb_base.proofs.CaseLaws.{case-has, fails}
 use Rattle.alloc_book.proofs.ChooseLaws.{choose-is}
 use Rattle.kube_model.proofs.KeyLaws.{same_key-is}
 use Rattle.core_rules.specs.declared.turn.Turn.TheVariants.{NoPut, Wants}
 use Rattle.core_rules.specs.Core.{State, is_ready, service_of, offer_in, is_settled, waits}
 use Rattle.core_rules.specs.Turn.{wanted_record, reason_in, chosen_at, turn_at, turn_of, rest_of, put_in, after_turn}
 use Rattle.core_laws.specs.Quiet.{MeetsRow, is_put_of, IsQuiet}
+use Rattle.core_laws.proofs.Classes.{same_class-is}
 use Rattle.core_laws.proofs.Rows.{passing-has}
 
 -- ---- settled
@@ -107,19 +107,11 @@ waits-queued class told queue awaiting services key service found t q a handled 
     passing-has (waits class told queue awaiting) services key service found (rw (t, q, a, handled, empty) refl)
 
 -- what is pending is handled
-same_class-of : (a b : Option (List ℕ)) → same_class a b ≡ false → b ≢ a
-same_class-of None None e n = absurd (cc)
-same_class-of None (Some b) e n = absurd (cc)
-same_class-of (Some a) None e n = absurd (cc)
-same_class-of (Some a) (Some b) e n =
-    let is : b ≡ a = cc in
-    true≢false (sym ((bytes_eq-Decides a b).1 (sym is)) ∙ e)
-
 pub pending-handled : (has : Holders) (o : Offer) (class : Option (List ℕ)) (service : Service) (reason : Reason) → IsChosen has o class service (Pending reason) → is_handled class service ≡ true
 pending-handled has o class service reason =
     case-has _ _ _ _ (λ _ is. absurd (cc)) (λ one.
     case-has _ _ _ _ (λ _ is. absurd (cc)) (λ two _.
-    pending-balancer service.balancer (same_class class service.class) (λ b s. one (b, same_class-of class service.class s)) two))
+    pending-balancer service.balancer (same_class class service.class) (λ b s. one (b, fails (same_class class service.class) (same_class-is class service.class) s)) two))
 
 -- a row that waits is one of a handled service with an empty record
 pub row-handled : (class : Option (List ℕ)) (held : Cached) (has : Holders) (service : Service) (row : MeetsRow class (offer_in held) has service) (reason : Reason) → row.choice ≡ Pending reason → is_handled class service ≡ true

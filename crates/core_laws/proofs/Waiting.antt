@@ -1,7 +1,6 @@
 -- A service that waits is pending: the record that it has doesn't matter.
 use Rattle.std.proofs.Common.{◌≡◌, ◌≢◌, ℕ, suc, true, cond, List, [], ◌∷◌, map, length, filter, Option, Some, None, inl, inr, ⊎_elim, refl, sym, ap, subst, ◌∙◌}
 use Rattle.std.proofs.lemmas.Bool.{and_parts, true≢false}
-use Rattle.std.proofs.lemmas.Slice.Eq.{bytes_eq-Decides}
 use Rattle.ip_ranges.specs.declared.family.Family.{Family}
 use Rattle.ip_ranges.specs.Values.{AddressValue, same_family}
 use Rattle.ip_ranges.proofs.AddressLaws.{same_family-itself}
@@ -24,9 +23,9 @@ use Rattle.alloc_book.specs.First.{AllUsable, FitsOption, IsHome, IsKept, IsOneO
 use Rattle.alloc_book.specs.Granted.{IsFor}
 use Rattle.core_rules.specs.Turn.{wanted_record}
 use Rattle.core_laws.specs.Quiet.{MeetsRow}
-use Rattle.core_laws.specs.Served.{IsServed}
-use Rattle.core_laws.specs.Waiting.{AreForService, WaitsInVain}
-use Rattle.core_laws.proofs.Served.{chosen_is_served}
+use Rattle.core_laws.specs.Waiting.{IgnoresRecords, WaitsInVain}
+use Rattle.core_laws.proofs.Classes.{same_class-is}
+use Rattle.core_laws.proofs.Served.{chosen-fits}
 use Rattle.core_laws.proofs.Shared.{terms-kept}
 
 -- ---- no address is one of each family
@@ -112,16 +111,10 @@ module _ (has : Holders) (o : Offer) (q : Asker) (addresses : List AddressValue)
       seventh))))))
 
 -- ---- a handled service is neither foreign nor to be cleared
-same_class-is : (a b : Option (List ℕ)) → same_class a b ≡ true → b ≡ a
-same_class-is None None e = refl
-same_class-is None (Some b) e = absurd (cc)
-same_class-is (Some a) None e = absurd (cc)
-same_class-is (Some a) (Some b) e = ap Some (sym ((bytes_eq-Decides a b).0 e))
-
 handled-parts : (class : Option (List ℕ)) (service : Service) → is_handled class service ≡ true → (service.balancer ≡ true) × (service.class ≡ class)
 handled-parts class service e =
     let parts = and_parts service.balancer (same_class class service.class) e in
-    (parts.0, same_class-is class service.class parts.1)
+    (parts.0, (same_class-is class service.class).0 parts.1)
 
 pub not-foreign : (has : Holders) (o : Offer) (class : Option (List ℕ)) (service : Service) (q : Asker) → is_handled class service ≡ true → IsChosenFor has o class service q Foreign → ⊥
 not-foreign has o class service q handled =
@@ -184,7 +177,7 @@ kept-none has o q some none found =
     all-not [] = tt
     all-not (pool ∷ pools) = (not-kept pool, all-not pools)
 
-module _ (class : Option (List ℕ)) (offer_for : Service → Offer) (has : Holders) (service : Service) (for_service : AreForService offer_for) (row : MeetsRow class offer_for has service)
+module _ (class : Option (List ℕ)) (offer_for : Service → Offer) (has : Holders) (service : Service) (same : IgnoresRecords offer_for) (row : MeetsRow class offer_for has service)
     (handled : is_handled class service ≡ true) (some : service.families ≢ []) (empty : service.holding ≡ empty_record) where
   before-handled : is_handled class row.before ≡ true
   before-handled = sym (ap (is_handled class) row.only_record) ∙ handled
@@ -195,8 +188,8 @@ module _ (class : Option (List ℕ)) (offer_for : Service → Offer) (has : Hold
   -- a record with no address was not chosen
   not-served : (r : Record) → IsFor r row.choice → service.holding ≡ r → ⊥
   not-served r for is =
-      let served : IsServed row.chosen_by (offer_for row.before) (asker_of row.before) r = chosen_is_served row.chosen_by (offer_for row.before) class row.before r row.choice (for_service.offered row.before) for row.chosen in
-      none-fits (options_of row.before) before-some (subst (λ (x : Record). FitsOption (asker_of row.before) x.addresses) (sym is ∙ empty) served.fits)
+      let fits : FitsOption (asker_of row.before) r.addresses = chosen-fits row.chosen_by (offer_for row.before) class row.before r row.choice for row.chosen in
+      none-fits (options_of row.before) before-some (subst (λ (x : Record). FitsOption (asker_of row.before) x.addresses) (sym is ∙ empty) fits)
 
   pending-of : (reason : Reason) → row.choice ≡ Pending reason → IsChosen has (offer_for service) class service (Pending reason)
   pending-of reason is =
@@ -206,7 +199,7 @@ module _ (class : Option (List ℕ)) (offer_for : Service → Offer) (has : Hold
       let by = asker-with row.before service.holding in
       let turned = pending-turned has (offer_for row.before) (asker_of row.before) addresses (kept-none has (offer_for row.before) (record (asker_of row.before) { recorded = addresses }) before-some none) class row.before reason now in
       let asked = subst (λ q. IsChosenFor has (offer_for row.before) class row.before q (Pending reason)) (sym by) turned in
-      let offered = subst (λ o. IsChosenFor has o class row.before (asker_of (with_holding service.holding row.before)) (Pending reason)) (sym (for_service.same row.before service.holding)) asked in
+      let offered = subst (λ o. IsChosenFor has o class row.before (asker_of (with_holding service.holding row.before)) (Pending reason)) (sym (same row.before service.holding)) asked in
       subst (λ (s : Service). IsChosen has (offer_for s) class s (Pending reason)) (sym row.only_record) offered
 
   waits-by : (c : Choice) → row.choice ≡ c → (reason : Reason) × IsChosen has (offer_for service) class service (Pending reason)
@@ -217,4 +210,4 @@ module _ (class : Option (List ℕ)) (offer_for : Service → Offer) (has : Hold
   waits-by (New holding) e = absurd (not-served holding (inr e) (row.holding_is ∙ ap (wanted_record row.before.holding) e))
 
 pub waits_in_vain : WaitsInVain
-waits_in_vain class offer_for has service for_service row handled some empty = waits-by class offer_for has service for_service row handled some empty row.choice refl
+waits_in_vain class offer_for has service same row handled some empty = waits-by class offer_for has service same row handled some empty row.choice refl

@@ -1,5 +1,5 @@
 -- Each put is right by what the look back shows.
-use Rattle.std.specs.Prelude.{◌≡◌, ◌≢◌, ℕ, List, [], ◌∷◌, Option}
+use Rattle.std.specs.Prelude.{◌≡◌, ◌≢◌, ℕ, true, List, [], ◌∷◌, Option}
 use Rattle.std.specs.Option.{option_map_or}
 use Rattle.kube_model.specs.declared.event.Group.TheVariants as groups
 use Rattle.kube_model.specs.declared.key.Key.{Key}
@@ -35,12 +35,14 @@ pub record IsRightDecision (class : Option (List ℕ)) (key : Key) (pending : Op
   pub chosen : IsChosen (λ k. claims_shown k earlier) (offer_at config.pools (labels_shown held.object.key.namespace (observed earlier)) held.object) class held.object choice
   pub reason_is : pending ≡ reason_in choice
 
--- The put has the version last shown and the record that is wanted, which is another than the one that is held.
+-- The put has the version last shown and the record that is wanted, which is another than the one that is held. A service of type LoadBalancer
+-- is of the class that is handled: one of another class is never written.
 pub record IsRightPut (class : Option (List ℕ)) (put : Put) (pending : Option Reason) (earlier : List Entry) : Type 0 where
   pub decision : IsRightDecision class put.key pending earlier
   pub version_is : put.version ≡ decision.held.version
   pub holding_is : put.holding ≡ wanted_record decision.held.object.holding decision.choice
   pub differs : put.holding ≢ decision.held.object.holding
+  pub own : decision.held.object.balancer ≡ true → decision.held.object.class ≡ class
 
 -- No put is due: the record that is wanted is the one that is held.
 pub record IsRightNoPut (class : Option (List ℕ)) (key : Key) (pending : Option Reason) (earlier : List Entry) : Type 0 where

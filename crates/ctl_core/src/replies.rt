@@ -10,7 +10,7 @@ ghost use Rattle.core_laws.specs.Queue.{AreApart, NoneAmong};
 ghost use Rattle.ctl_core.specs.Reached.{IsReached};
 ghost use Rattle.ctl_core.specs.Waiting.{lacks_with};
 
-use crate::claims::loses;
+use crate::claims::{doubt, loses};
 use crate::keys::{Keys, Services, lacks_with};
 use crate::room::{append_new, push_new, reserved_claim};
 use crate::state::CoreState;
@@ -123,7 +123,7 @@ impl CoreState {
             return Err(NoMemory);
         };
         self.waiting.remove(claim.key());
-        self.book.doubt_prepared(claim);
+        doubt(&mut self.book, claim);
         drop(self.out.take());
         Ok(())
     }

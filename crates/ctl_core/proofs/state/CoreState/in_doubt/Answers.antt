@@ -32,7 +32,7 @@ returns-clause-ok c =
     let i = c.self.inside in
     let s : State = record { class = i.class; held = i.cache; claims = i.book.claims; queue = i.queue; awaiting = i.awaiting; out = i.out } in
     let put = c.args.put in
-    let claims_are : c.doubt_prepared.new.self.claims ≡ doubted put.key put.holding (put_terms s.held put) s.claims = c.doubt_prepared.ensures
+    let claims_are : c.doubt.new.book.claims ≡ doubted put.key put.holding (put_terms s.held put) s.claims = c.doubt.ensures
     ∙ ap (λ (x : ClaimValue). doubted x.key x.holding x.terms c.reserved_claim.new.book.claims) c.in-Ok.ensures.claim
     ∙ ap (doubted put.key put.holding (put_terms s.held put)) c.reserved_claim.ensures.claims in
-    rw (← c.self.view_is, c.take.ensures.after) (in_doubt-is s put c.doubt_prepared.new.self.claims c.push_new.new.keys claims_are c.in-Ok-push_new.ensures.ok)
+    rw (← c.self.view_is, c.take.ensures.after) (in_doubt-is s put c.doubt.new.book.claims c.push_new.new.keys claims_are c.in-Ok-push_new.ensures.ok)

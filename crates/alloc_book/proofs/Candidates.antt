@@ -5,6 +5,7 @@ use Rattle.std.proofs.lemmas.Bool.Decides.{nat_tests}
 use Rattle.std.proofs.lemmas.List.{take_more, take-append-drop}
 use Rattle.std.proofs.lemmas.List.Elements.{Contains-append_left}
 use Rattle.std.proofs.lemmas.List.Folds.{list_any-append}
+use Rattle.std.proofs.lemmas.Slice.Eq.{bytes_eq-Decides}
 use Rattle.std.specs.List.{Contains, list_any, list_all}
 use Rattle.std.specs.List.Sorted.{IsStrictlySortedBy}
 use Rattle.std.specs.Map.{lookup, keys_of, values_of}
@@ -22,15 +23,19 @@ use Rattle.mlb_base.proofs.Among.{contains-none, contains-cons, contains-later, 
 use Rattle.number_sets.specs.Least.{IsLeastIn, NonePasses}
 use Rattle.pool_config.specs.declared.compiled.CompiledPool.{CompiledPool}
 use Rattle.sharing_terms.specs.declared.terms.Terms.{Terms}
+use Rattle.sharing_terms.specs.declared.terms.Backend.{Backend}
+use Rattle.sharing_terms.specs.Marks.{mark_of}
 use Rattle.sharing_terms.specs.Sharing.{has_port, is_alike, may_share}
 use Rattle.sharing_terms.proofs.SharingLaws.{may_share-is}
 use Rattle.alloc_book.specs.declared.slot.Slot.TheVariants.{OfPort}
 use Rattle.alloc_book.specs.Claims.{ClaimValue}
-use Rattle.alloc_book.specs.Index.{numbers_of, is_marked, is_held, is_own, is_shared, is_offered, is_taken, is_barred, is_free, Covers, NoneShared, AreBarred}
+use Rattle.alloc_book.specs.Groups.{group_of}
+use Rattle.alloc_book.specs.Index.{numbers_of, is_grouped, is_held, is_own, is_shared, is_offered, is_taken, is_barred, is_free, Covers, NoneShared, AreBarred}
 use Rattle.alloc_book.specs.Search.{leaves, usable, address_of, numbered, least_between}
 use Rattle.alloc_book.specs.Usable.{is_in}
 use Rattle.alloc_book.specs.Slots.{occupies}
 use Rattle.alloc_book.proofs.LeastLaws.{numbered-is}
+use Rattle.alloc_book.proofs.TermLaws.{backend-same}
 use Rattle.alloc_book.proofs.IndexReading.{found-of}
 use Rattle.alloc_book.proofs.UniformLaws.{yields-left}
 
@@ -130,19 +135,22 @@ free-usable claims key terms pool span family n listed same from upto free =
     and_from (is_in pool a && not (pool.avoid_buggy && is_buggy a)) (list_all (leaves key terms a) claims)
     (and_from (is_in pool a) (not (pool.avoid_buggy && is_buggy a)) within parts.1) left
 
--- terms that share with those have their sharing key
-marked_by : (terms t : Terms) → may_share terms t ≡ true → is_marked terms.key t ≡ true
-marked_by terms t e =
-    let most = and_parts (bytes_eq terms.key t.key && not (is_nil terms.key) && not (list_any (has_port t.ports) terms.ports)) (is_alike terms.backend t.backend) e in
-    let keys = and_parts (bytes_eq terms.key t.key && not (is_nil terms.key)) (not (list_any (has_port t.ports) terms.ports)) most.0 in
-    let parts = and_parts (bytes_eq terms.key t.key) (not (is_nil terms.key)) keys.0 in
-    let same : terms.key ≡ t.key = (may_share-is terms t e).same_key in
-    let itself : bytes_eq terms.key terms.key ≡ true = subst (λ (k : List ℕ). bytes_eq terms.key k ≡ true) (sym same) parts.0 in
-    and_from (bytes_eq t.key terms.key) (not (is_nil terms.key)) (subst (λ (k : List ℕ). bytes_eq k terms.key ≡ true) same itself) parts.1
+-- terms that share with those are of their group
+group-same : (a b : Terms) → a.key ≡ b.key → a.backend ≡ b.backend → group_of a ≡ group_of b
+unfolding group_of
+group-same a b key backend =
+    ap (λ (k : List ℕ). mark_of (record { key = k; ports = []; backend = a.backend })) key ∙ ap (λ (x : Backend). mark_of (record { key = b.key; ports = []; backend = x })) backend
 
--- an address that the asker may use is free, its own or offered to it under its sharing key
+grouped_by : (terms t : Terms) → may_share terms t ≡ true → is_grouped (group_of terms) t ≡ true
+grouped_by terms t e =
+    let most = and_parts (bytes_eq terms.key t.key && not (is_nil terms.key) && not (list_any (has_port t.ports) terms.ports)) (is_alike terms.backend t.backend) e in
+    let key : terms.key ≡ t.key = (may_share-is terms t e).same_key in
+    let backend : terms.backend ≡ t.backend = backend-same terms.backend t.backend most.1 in
+    (bytes_eq-Decides (group_of t) (group_of terms)).1 (sym (group-same terms t key backend))
+
+-- an address that the asker may use is free, its own or offered to it by its group
 abbrev pub IsCandidate : List ClaimValue → Key → Terms → CompiledPool → AddressValue → Type 0
-IsCandidate claims key terms pool a = ((is_free claims pool a ≡ true) ⊎ (is_own key claims a ≡ true)) ⊎ (is_offered key terms.key claims a ≡ true)
+IsCandidate claims key terms pool a = ((is_free claims pool a ≡ true) ⊎ (is_own key claims a ≡ true)) ⊎ (is_offered key (group_of terms) claims a ≡ true)
 
 held_candidate : (claims : List ClaimValue) (key : Key) (terms : Terms) (pool : CompiledPool) (a : AddressValue) (c : ClaimValue)
     → Contains claims c → has_address c.holding.addresses a ≡ true → leaves key terms a c ≡ true → IsCandidate claims key terms pool a
@@ -152,13 +160,13 @@ held_candidate claims key terms pool a c there has left =
     (λ own. inl (inr (any-contains (λ (d : ClaimValue). same_key d.key key && has_address d.holding.addresses a) claims c there (and_from (same_key c.key key) (has_address c.holding.addresses a) own has))))
     (λ gone. absurd (true≢false (sym has ∙ not-true (has_address c.holding.addresses a) gone)))
     (or_cases (same_key c.key key) (not (has_address c.holding.addresses a)) first))
-    (λ shared. own-or_offered (is_own key claims a) refl (any-contains (λ (d : ClaimValue). is_marked terms.key d.terms && has_address d.holding.addresses a) claims c there
-    (and_from (is_marked terms.key c.terms) (has_address c.holding.addresses a) (marked_by terms c.terms shared) has)))
+    (λ shared. own-or_offered (is_own key claims a) refl (any-contains (λ (d : ClaimValue). is_grouped (group_of terms) d.terms && has_address d.holding.addresses a) claims c there
+    (and_from (is_grouped (group_of terms) c.terms) (has_address c.holding.addresses a) (grouped_by terms c.terms shared) has)))
     (or_cases (same_key c.key key || not (has_address c.holding.addresses a)) (may_share terms c.terms) left)
   where
-    own-or_offered : (own : Bool) → is_own key claims a ≡ own → is_shared terms.key claims a ≡ true → IsCandidate claims key terms pool a
+    own-or_offered : (own : Bool) → is_own key claims a ≡ own → is_shared (group_of terms) claims a ≡ true → IsCandidate claims key terms pool a
     own-or_offered true e shared = inl (inr e)
-    own-or_offered false e shared = inr (and_from (is_shared terms.key claims a) (not (is_own key claims a)) shared (ap not e))
+    own-or_offered false e shared = inr (and_from (is_shared (group_of terms) claims a) (not (is_own key claims a)) shared (ap not e))
 
 candidate_by : (held : Bool) (claims : List ClaimValue) (key : Key) (terms : Terms) (pool : CompiledPool) (a : AddressValue)
     → held ≡ is_held claims a → not (pool.avoid_buggy && is_buggy a) ≡ true → list_all (leaves key terms a) claims ≡ true → IsCandidate claims key terms pool a
@@ -190,16 +198,16 @@ pub least-of_three : (claims : List ClaimValue) (key : Key) (terms : Terms) (poo
     → IfSome free (IsLeastIn (numbered (is_free claims pool) family) span.low span.high)
     → IfNone free (NonePasses (numbered (is_free claims pool) family) span.low span.high)
     → Covers (numbered (is_own key claims) family) (numbered (usable claims key terms pool) family) span.low (unwrap_or free span.high) own
-    → Covers (numbered (is_offered key terms.key claims) family) (numbered (usable claims key terms pool) family) span.low (unwrap_or own (unwrap_or free span.high)) shared
+    → Covers (numbered (is_offered key (group_of terms) claims) family) (numbered (usable claims key terms pool) family) span.low (unwrap_or own (unwrap_or free span.high)) shared
     → least_between (numbered (usable claims key terms pool) family) span.low (span.high + 1 - span.low) ≡ option_or (option_or shared own) free
 least-of_three claims key terms pool span family free own shared listed same some none owned others =
     let test = numbered (usable claims key terms pool) family in
     let F : ℕ → Type 0 = λ m. numbered (is_free claims pool) family m ≡ true in
     let O : ℕ → Type 0 = λ m. numbered (is_own key claims) family m ≡ true in
-    let S : ℕ → Type 0 = λ m. numbered (is_offered key terms.key claims) family m ≡ true in
+    let S : ℕ → Type 0 = λ m. numbered (is_offered key (group_of terms) claims) family m ≡ true in
     let first = free-ahead claims key terms pool span family free listed same some none in
     let second = covers-is (numbered (is_own key claims) family) test span.low (unwrap_or free span.high) own owned in
-    let third = covers-is (numbered (is_offered key terms.key claims) family) test span.low (unwrap_or own (unwrap_or free span.high)) shared others in
+    let third = covers-is (numbered (is_offered key (group_of terms) claims) family) test span.low (unwrap_or own (unwrap_or free span.high)) shared others in
     let two = ahead-both O S test span.low (unwrap_or free span.high) own shared second third in
     let all = ahead-both F (λ m. O m ⊎ S m) test span.low span.high free (option_or shared own) first two in
     ahead-least (λ m. F m ⊎ (O m ⊎ S m)) test span.low span.high (option_or (option_or shared own) free)
@@ -207,7 +215,7 @@ least-of_three claims key terms pool span family free own shared listed same som
     all
   where
     three_from : (m : ℕ) → IsCandidate claims key terms pool (address_of family m)
-        → (numbered (is_free claims pool) family m ≡ true) ⊎ ((numbered (is_own key claims) family m ≡ true) ⊎ (numbered (is_offered key terms.key claims) family m ≡ true))
+        → (numbered (is_free claims pool) family m ≡ true) ⊎ ((numbered (is_own key claims) family m ≡ true) ⊎ (numbered (is_offered key (group_of terms) claims) family m ≡ true))
     three_from m (inl (inl free_one)) = inl free_one
     three_from m (inl (inr own_one)) = inr (inl own_one)
     three_from m (inr shared_one) = inr (inr shared_one)
@@ -394,15 +402,37 @@ free-avoided claims pool a e = false_from_ne_true (is_free claims pool a) (λ fr
 pub free-from : (claims : List ClaimValue) (pool : CompiledPool) (a : AddressValue) → not (is_held claims a) ≡ true → (pool.avoid_buggy && is_buggy a) ≡ false → is_free claims pool a ≡ true
 free-from claims pool a unheld kept = and_from (not (is_held claims a)) (not (pool.avoid_buggy && is_buggy a)) unheld (ap not kept)
 
--- nothing is shared under the empty sharing key
-marked_none : (t : Terms) → is_marked [] t ≡ true → ⊥
-marked_none t e = true≢false (sym (and_parts (bytes_eq t.key []) false e).1)
+-- nothing that another key has is left to terms without a sharing key
+keyless : (terms t : Terms) → eqb (length terms.key) 0 ≡ true → may_share terms t ≡ false
+keyless terms t e = by terms.key refl
+  where
+    nothing : (x : Bool) → (x && false) ≡ false
+    nothing true = refl
+    nothing false = refl
 
-pub no-key : (key : List ℕ) (claims : List ClaimValue) (a : AddressValue) → eqb (length key) 0 ≡ true → is_shared key claims a ≡ true → ⊥
-no-key [] claims a e shared =
-    let found = any-found (λ (c : ClaimValue). is_marked [] c.terms && has_address c.holding.addresses a) claims shared in
-    marked_none found.0.terms (and_parts (is_marked [] found.0.terms) (has_address found.0.holding.addresses a) found.2).0
-no-key (k ∷ key) claims a e shared = grind (arith, nat_tests)
+    by : (key : List ℕ) → key ≡ terms.key → may_share terms t ≡ false
+    by [] is = rw (← is, nothing (bytes_eq [] t.key)) refl
+    by (k ∷ key) is =
+        let none : eqb (length (k ∷ key)) 0 ≡ true = ap (λ (x : List ℕ). eqb (length x) 0) is ∙ e in
+        grind (arith, nat_tests, none)
+
+pub keyless-unusable : (claims : List ClaimValue) (key : Key) (terms : Terms) (pool : CompiledPool) (a : AddressValue) → eqb (length terms.key) 0 ≡ true
+    → is_offered key (group_of terms) claims a ≡ true → usable claims key terms pool a ≡ false
+keyless-unusable claims key terms pool a e offered =
+    let parts = and_parts (is_shared (group_of terms) claims a) (not (is_own key claims a)) offered in
+    let found = any-found (λ (c : ClaimValue). is_grouped (group_of terms) c.terms && has_address c.holding.addresses a) claims parts.0 in
+    let c = found.0 in
+    let has = (and_parts (is_grouped (group_of terms) c.terms) (has_address c.holding.addresses a) found.2).1 in
+    false_from_ne_true (usable claims key terms pool a) (λ passes.
+    let left = all-contains (leaves key terms a) claims c (and_parts (is_in pool a && not (pool.avoid_buggy && is_buggy a)) (list_all (leaves key terms a) claims) passes).1 found.1 in
+    ⊎_elim
+    (λ first. ⊎_elim
+    (λ own. true≢false (sym (any-contains (λ (d : ClaimValue). same_key d.key key && has_address d.holding.addresses a) claims c found.1 (and_from (same_key c.key key) (has_address c.holding.addresses a) own has))
+    ∙ not-true (is_own key claims a) parts.1))
+    (λ gone. true≢false (sym has ∙ not-true (has_address c.holding.addresses a) gone))
+    (or_cases (same_key c.key key) (not (has_address c.holding.addresses a)) first))
+    (λ shared. true≢false (sym shared ∙ keyless terms c.terms e))
+    (or_cases (same_key c.key key || not (has_address c.holding.addresses a)) (may_share terms c.terms) left))
 
 -- what is found is within the bounds
 pub least-within : (test : ℕ → Bool) (low high bound : ℕ) (found : Option ℕ) → IfSome found (IsLeastIn test low high) → high < bound → unwrap_or found high < bound
@@ -425,11 +455,11 @@ all-claims_met items claims key numbers i family test low high found are listed 
 -- what is known of those that are offered, ahead of a number
 
 abbrev pub NoneUsable : List ClaimValue → Key → Terms → CompiledPool → Family → ℕ → Type 0
-NoneUsable claims key terms pool family m = numbered (is_offered key terms.key claims) family m ≡ true → numbered (usable claims key terms pool) family m ≡ false
+NoneUsable claims key terms pool family m = numbered (is_offered key (group_of terms) claims) family m ≡ true → numbered (usable claims key terms pool) family m ≡ false
 
-none_shared : (claims : List ClaimValue) (key : Key) (terms : Terms) (pool : CompiledPool) (family : Family) (m : ℕ) → is_shared terms.key claims (address_of family m) ≡ false → NoneUsable claims key terms pool family m
+none_shared : (claims : List ClaimValue) (key : Key) (terms : Terms) (pool : CompiledPool) (family : Family) (m : ℕ) → is_shared (group_of terms) claims (address_of family m) ≡ false → NoneUsable claims key terms pool family m
 none_shared claims key terms pool family m e =
-    λ offered. absurd (true≢false (sym (and_parts (is_shared terms.key claims (address_of family m)) (not (is_own key claims (address_of family m))) offered).0 ∙ e))
+    λ offered. absurd (true≢false (sym (and_parts (is_shared (group_of terms) claims (address_of family m)) (not (is_own key claims (address_of family m))) offered).0 ∙ e))
 
 -- where a claim of another key has one of the ports at the address, it doesn't share it
 pub barred-unusable : (claims : List ClaimValue) (key : Key) (terms : Terms) (pool : CompiledPool) (a : AddressValue)
@@ -471,11 +501,13 @@ barred-all ports i claims family low n barred m from below =
 none_left : (claims : List ClaimValue) (key : Key) (terms : Terms) (pool : CompiledPool) (family : Family) (m : ℕ) → is_barred terms.ports claims (address_of family m) ≡ true → NoneUsable claims key terms pool family m
 none_left claims key terms pool family m barred = λ offered.
     barred-unusable claims key terms pool (address_of family m) barred
-    (not-true (is_own key claims (address_of family m)) (and_parts (is_shared terms.key claims (address_of family m)) (not (is_own key claims (address_of family m))) offered).1)
+    (not-true (is_own key claims (address_of family m)) (and_parts (is_shared (group_of terms) claims (address_of family m)) (not (is_own key claims (address_of family m))) offered).1)
 
 -- the same of the claims and the ports of a walk
-pub none-shared_in : (found_in claims : List ClaimValue) (family : Family) (key : List ℕ) (low high : ℕ) → found_in ≡ claims → NoneShared family key found_in low high → NoneShared family key claims low high
-none-shared_in found_in claims family key low high is none = subst (λ (cs : List ClaimValue). NoneShared family key cs low high) is none
+pub none-shared_in : (found_in claims : List ClaimValue) (family : Family) (group_in group : List ℕ) (low high : ℕ) → found_in ≡ claims → group_in ≡ group
+    → NoneShared family group_in found_in low high → NoneShared family group claims low high
+none-shared_in found_in claims family group_in group low high is same none =
+    subst (λ (g : List ℕ). NoneShared family g claims low high) same (subst (λ (cs : List ClaimValue). NoneShared family group_in cs low high) is none)
 
 pub barred-in : (ports_in ports : List Port) (found_in claims : List ClaimValue) (family : Family) (low high : ℕ) → ports_in ≡ ports → found_in ≡ claims → AreBarred ports_in found_in family low high → AreBarred ports claims family low high
 barred-in ports_in ports found_in claims family low high are is barred =
@@ -483,18 +515,18 @@ barred-in ports_in ports found_in claims family low high are is barred =
 
 -- none up to the next shared one, and from there none up to the next one that is left for the ports
 pub shared-more : (claims : List ClaimValue) (key : Key) (terms : Terms) (pool : CompiledPool) (family : Family) (low from n : ℕ) → ((m : ℕ) → low ≤ m → m < from → NoneUsable claims key terms pool family m)
-    → NoneShared family terms.key claims from n → (m : ℕ) → low ≤ m → m < n → NoneUsable claims key terms pool family m
+    → NoneShared family (group_of terms) claims from n → (m : ℕ) → low ≤ m → m < n → NoneUsable claims key terms pool family m
 shared-more claims key terms pool family low from n before here =
     before-more (NoneUsable claims key terms pool family) low from n before (λ m first below. none_shared claims key terms pool family m (here m first below))
 
 pub left-more : (claims : List ClaimValue) (key : Key) (terms : Terms) (pool : CompiledPool) (family : Family) (low from shared n : ℕ) → ((m : ℕ) → low ≤ m → m < from → NoneUsable claims key terms pool family m)
-    → NoneShared family terms.key claims from shared → AreBarred terms.ports claims family shared n → (m : ℕ) → low ≤ m → m < n → NoneUsable claims key terms pool family m
+    → NoneShared family (group_of terms) claims from shared → AreBarred terms.ports claims family shared n → (m : ℕ) → low ≤ m → m < n → NoneUsable claims key terms pool family m
 left-more claims key terms pool family low from shared n before here barred =
     before-more (NoneUsable claims key terms pool family) low shared n (shared-more claims key terms pool family low from shared before here)
     (λ m first below. none_left claims key terms pool family m (barred m first below))
 
 pub left-next : (claims : List ClaimValue) (key : Key) (terms : Terms) (pool : CompiledPool) (family : Family) (low from shared n : ℕ) → ((m : ℕ) → low ≤ m → m < from → NoneUsable claims key terms pool family m)
-    → NoneShared family terms.key claims from shared → AreBarred terms.ports claims family shared n → usable claims key terms pool (address_of family n) ≡ false
+    → NoneShared family (group_of terms) claims from shared → AreBarred terms.ports claims family shared n → usable claims key terms pool (address_of family n) ≡ false
     → (m : ℕ) → low ≤ m → m < n + 1 → NoneUsable claims key terms pool family m
 left-next claims key terms pool family low from shared n before here barred fails =
     before-next (NoneUsable claims key terms pool family) low shared n (shared-more claims key terms pool family low from shared before here)
@@ -507,12 +539,12 @@ pub least-number : (found_in claims : List ClaimValue) (key : Key) (terms : Term
     → IfSome free (IsLeastIn (numbered (is_free found_in pool) family) low high)
     → IfNone free (NonePasses (numbered (is_free found_in pool) family) low high)
     → Covers (numbered (is_own key claims) family) (numbered (usable claims key terms pool) family) low last own
-    → Covers (numbered (is_offered key terms.key claims) family) (numbered (usable claims key terms pool) family) low later shared
+    → Covers (numbered (is_offered key (group_of terms) claims) family) (numbered (usable claims key terms pool) family) low later shared
     → least_between (numbered (usable claims key terms pool) family) span.low (span.high + 1 - span.low) ≡ found
 least-number found_in claims key terms pool span family low high last later free own shared either found are low_is high_is last_is later_is either_is found_is listed same some none owned others =
     let test = numbered (usable claims key terms pool) family in
     let O = numbered (is_own key claims) family in
-    let S = numbered (is_offered key terms.key claims) family in
+    let S = numbered (is_offered key (group_of terms) claims) family in
     let some_here =
     subst (λ (h : ℕ). IfSome free (IsLeastIn (numbered (is_free claims pool) family) span.low h)) high_is
     (subst (λ (l : ℕ). IfSome free (IsLeastIn (numbered (is_free claims pool) family) l high)) low_is

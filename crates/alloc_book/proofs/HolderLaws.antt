@@ -17,7 +17,7 @@ use Rattle.alloc_book.proofs.ClaimantLaws.{number-flip}
 pub at-text : (key k : List ℕ) → is_at (name_cmp key) k ≡ bytes_eq key k
 at-text key k = is_eq-slice_cmp key k
 
--- ---- addresses by sharing key
+-- ---- addresses by group
 
 pub known-added : (key : List ℕ) (number : ℕ) (old new : List (List ℕ × BTreeSet ℕ))
     → in_group name_cmp new ≡ (λ k n. is_at (name_cmp key) k && (n == number) || in_group name_cmp old k n)

@@ -1,5 +1,5 @@
 -- An index of claims that gets room, or one claim more.
-use Rattle.std.proofs.Common.{◌≡◌, ◌≢◌, ℕ, ◌+◌, ◌-◌, ◌<◌, ◌≤◌, Bool, true, false, cond, if◌then◌else◌, not, ◌==◌, ◌&&◌, ◌||◌, List, [], ◌∷◌, ◌++◌, length, filter, take, drop, get_or, suc, Option, Some, None, refl, sym, ap, subst, ◌∙◌, arith, append_assoc, add-one, ⊎_elim, eqb-true, take_all}
+use Rattle.std.proofs.Common.{◌≡◌, ◌≢◌, ℕ, ◌+◌, ◌-◌, ◌<◌, ◌≤◌, Bool, true, false, cond, if◌then◌else◌, ◌==◌, ◌&&◌, ◌||◌, List, [], ◌∷◌, ◌++◌, length, filter, take, drop, get_or, suc, Option, Some, None, refl, sym, ap, subst, ◌∙◌, arith, append_assoc, add-one, ⊎_elim, eqb-true, take_all}
 use Rattle.std.proofs.lemmas.Bool.{and_parts, and_from, or_cases, or_left, or_right, eq-eqb, true≢false}
 use Rattle.std.proofs.lemmas.Bool.Decides.{nat_tests, same_from_decides}
 use Rattle.std.proofs.lemmas.List.{map-append, append-nil, length-append}
@@ -20,7 +20,6 @@ use Rattle.kube_model.specs.declared.key.Key.{Key}
 use Rattle.kube_model.specs.Keys.{key_cmp, same_key}
 use Rattle.kube_model.specs.Records.{is_assigned}
 use Rattle.kube_model.proofs.KeyLaws.{is_eq-key_cmp}
-use Rattle.mlb_base.specs.Items.{is_nil}
 use Rattle.mlb_base.proofs.Among.{contains-none, contains-cons, contains-first, contains-later}
 use Rattle.numbered_items.specs.Index.{IndexValue, numbers_under, room_under}
 use Rattle.sharing_terms.specs.declared.terms.Terms.{Terms}
@@ -29,10 +28,11 @@ use Rattle.alloc_book.specs.Claims.{ClaimValue}
 use Rattle.alloc_book.specs.declared.slot.Slot.{Slot}
 use Rattle.alloc_book.specs.Slots.{occupies}
 use Rattle.alloc_book.specs.Alike.{are_alike}
+use Rattle.alloc_book.specs.Groups.{group_of}
 use Rattle.alloc_book.specs.Holders.{AddressHoldersValue, ClaimantsValue, HasRoomAt, CanBeMixed, AreKnown, in_slot, claims_at, claim_room_at, claims_having, claim_room, address_room, is_known, mixed_of, is_mixed, mixed_room}
 use Rattle.number_sets.specs.Runs.{RunsValue, has}
 use Rattle.alloc_book.proofs.UniformLaws.{uniform-kept, uniform-added}
-use Rattle.alloc_book.specs.Index.{IsIndexed, AreShared, numbers_of, numbers_at, numbered, numbered_at, ends_with, is_marked, is_shared, HasIt, AreUniform}
+use Rattle.alloc_book.specs.Index.{IsIndexed, AreShared, numbers_of, numbers_at, numbered, numbered_at, ends_with, is_grouped, is_shared, HasIt, AreUniform}
 
 same_address-flip : (a b : AddressValue) → same_address a b ≡ same_address b a
 same_address-flip a b =
@@ -95,7 +95,7 @@ room-same before after more slot addresses same room = record {
   by_family = λ a there. subst (λ (f : Family → ClaimantsValue). more ≤ (f a.family).room) (sym same) (room.by_family a there);
 }
 
--- there is room for the claim, where each of its addresses is known by the sharing key of its terms
+-- there is room for the claim, where each of its addresses is known by the group of its terms
 pub room-claim : (room : ℕ) (keys : IndexValue Key) (before after : AddressHoldersValue) (c : ClaimValue) (key : Key)
     → 0 < room → 1 ≤ room_under key_cmp keys key → key ≡ c.key
     → ((slot : Slot) → occupies slot c ≡ true → HasRoomAt before (length c.holding.addresses) slot c.holding.addresses)
@@ -111,12 +111,13 @@ room-claim room keys before after c key claim under same at mixed slots mixed_is
   known = known;
 }
 
--- each of the addresses is known by the sharing key of the terms
-pub known-claim : (h : AddressHoldersValue) (c : ClaimValue) (terms : Terms) (shown : List AddressValue)
-    → terms ≡ c.terms → (terms.key ≢ [] → (a : AddressValue) → Contains shown a → is_known h terms.key a ≡ true) → shown ≡ c.holding.addresses
+-- each of the addresses is known by the group of the terms
+pub known-claim : (h : AddressHoldersValue) (c : ClaimValue) (group : List ℕ) (shown : List AddressValue)
+    → group ≡ group_of c.terms → ((a : AddressValue) → Contains shown a → is_known h group a ≡ true) → shown ≡ c.holding.addresses
     → AreKnown h c.terms c.holding.addresses
-known-claim h c terms shown terms_is known shown_is =
-    subst (λ (xs : List AddressValue). AreKnown h c.terms xs) shown_is (subst (λ (t : Terms). AreKnown h t shown) terms_is known)
+known-claim h c group shown group_is known shown_is =
+    subst (λ (xs : List AddressValue). AreKnown h c.terms xs) shown_is
+    (subst (λ (g : List ℕ). (a : AddressValue) → Contains shown a → is_known h g a ≡ true) group_is known)
 
 -- one address more can be mixed, and those before keep their room
 pub mixed-more : (before after : AddressHoldersValue) (more : ℕ) (addresses : List AddressValue) (i : ℕ) (x : AddressValue)
@@ -132,9 +133,6 @@ mixed-more before after more addresses i x within is room kept here =
 pub record HasRoomFrom (h : AddressHoldersValue) (slot : Slot) (addresses : List AddressValue) (i : ℕ) : Type 0 where
   pub by_claims : (a : AddressValue) → Contains (drop i addresses) a → has_address (take i addresses) a ≡ false → 0 < claim_room h slot a
   pub by_family : (a : AddressValue) → Contains (drop i addresses) a → length (drop i addresses) ≤ address_room h slot a.family
-
-pub room-from : (h : AddressHoldersValue) (slot : Slot) (addresses : List AddressValue) → HasRoomAt h (length addresses) slot addresses → HasRoomFrom h slot addresses 0
-room-from h slot addresses room = record { by_claims = λ a there apart. room.by_claims a there; by_family = room.by_family }
 
 -- the address at the index, and whether one stands up to it
 module _ (addresses : List AddressValue) (i : ℕ) (x : AddressValue) (within : i < length addresses) (is : x ≡ get_or addresses i x) where
@@ -235,10 +233,6 @@ module _ (addresses : List AddressValue) (i : ℕ) (x : AddressValue) (within : 
       pub not-ended : ends_with number (before x) ≡ false → has_address (take i addresses) x ≡ false
       not-ended ends = open-by (has_address (take i addresses) x) refl ends
 
--- before any address
-pub listed-none : (number : ℕ) (start : AddressValue → List ℕ) (addresses : List AddressValue) (a : AddressValue) → start a ≡ start a ++ numbered number (take 0 addresses) a
-listed-none number start addresses a = sym (append-nil (start a))
-
 -- once no address is left
 pub listed-all : (number : ℕ) (start after : AddressValue → List ℕ) (addresses : List AddressValue) (i : ℕ) → length addresses ≤ i
     → ((a : AddressValue) → after a ≡ start a ++ numbered number (take i addresses) a)
@@ -246,7 +240,7 @@ pub listed-all : (number : ℕ) (start after : AddressValue → List ℕ) (addre
 listed-all number start after addresses i passed each =
     λ j a. (each a ∙ ap (λ (taken : List AddressValue). start a ++ numbered number taken a) (take_all i addresses passed)) j
 
--- ---- sharing keys
+-- ---- groups
 pub known-more : (before after : List ℕ → AddressValue → Bool) (key : List ℕ) (x : AddressValue)
     → after ≡ (λ k a. (bytes_eq key k && same_address x a) || before k a)
     → (k : List ℕ) (a : AddressValue) → before k a ≡ true → after k a ≡ true
@@ -329,16 +323,10 @@ numbers_at-added slot [] number c a = append-nil (numbered_at slot a (number, c)
 numbers_at-added slot (p ∷ items) number c a =
     ap (λ ns. numbered_at slot a p ++ ns) (numbers_at-added slot items number c a) ∙ sym (append_assoc (numbered_at slot a p) (numbers_at slot a items) (numbered_at slot a (number, c)))
 
-not-nil : (key : List ℕ) → not (is_nil key) ≡ true → key ≡ [] → ⊥
-not-nil [] e none = true≢false (sym e)
-not-nil (b ∷ key) e none = cc
-
-marked-known : (h : AddressHoldersValue) (terms : Terms) (addresses : List AddressValue) (key : List ℕ) (a : AddressValue)
-    → AreKnown h terms addresses → is_marked key terms ≡ true → has_address addresses a ≡ true → is_known h key a ≡ true
-marked-known h terms addresses key a known e has =
-    let parts = and_parts (bytes_eq terms.key key) (not (is_nil key)) e in
-    let same : terms.key ≡ key = (bytes_eq-Decides terms.key key).0 parts.0 in
-    subst (λ k. is_known h k a ≡ true) same (known (λ none. not-nil key parts.1 (sym same ∙ none)) a (has_address-is addresses a has))
+grouped-known : (h : AddressHoldersValue) (terms : Terms) (addresses : List AddressValue) (group : List ℕ) (a : AddressValue)
+    → AreKnown h terms addresses → is_grouped group terms ≡ true → has_address addresses a ≡ true → is_known h group a ≡ true
+grouped-known h terms addresses group a known e has =
+    subst (λ g. is_known h g a ≡ true) ((bytes_eq-Decides (group_of terms) group).0 e) (known a (has_address-is addresses a has))
 
 or_one : (b : Bool) → (b || false) ≡ true → b ≡ true
 or_one true e = refl
@@ -382,13 +370,13 @@ indexed-added items more number c keys keys_after h h_after indexed is assigned 
     shared_all : AreShared h_after (values_of (items ++ (number, c) ∷ []))
     shared_all key a e =
         let either : (is_shared key (values_of items) a || is_shared key (c ∷ []) a) ≡ true =
-        sym (ap (λ (claims : List ClaimValue). is_shared key claims a) values ∙ list_any-append (λ (x : ClaimValue). is_marked key x.terms && has_address x.holding.addresses a) (values_of items) (c ∷ [])) ∙ e in
+        sym (ap (λ (claims : List ClaimValue). is_shared key claims a) values ∙ list_any-append (λ (x : ClaimValue). is_grouped key x.terms && has_address x.holding.addresses a) (values_of items) (c ∷ [])) ∙ e in
         let before : is_known h key a ≡ true = ⊎_elim
         (λ old. indexed.shared key a old)
         (λ new.
-        let own = or_one (is_marked key c.terms && has_address c.holding.addresses a) new in
-        let parts = and_parts (is_marked key c.terms) (has_address c.holding.addresses a) own in
-        marked-known h c.terms c.holding.addresses key a known parts.0 parts.1)
+        let own = or_one (is_grouped key c.terms && has_address c.holding.addresses a) new in
+        let parts = and_parts (is_grouped key c.terms) (has_address c.holding.addresses a) own in
+        grouped-known h c.terms c.holding.addresses key a known parts.0 parts.1)
         (or_cases (is_shared key (values_of items) a) (is_shared key (c ∷ []) a) either) in
         ap (λ (f : List ℕ → AddressValue → Bool). f key a) same_known ∙ before
 

@@ -193,7 +193,7 @@ module _ (items : List (ℕ × ClaimValue)) (numbers : List ℕ) (sorted : is_ni
           ap (λ x. x && list_all (λ c. not (has_address c.holding.addresses a) || gives_way key terms (Some c)) claims) (or-swap (not (has_address c.holding.addresses a)) (same_key c.key key) (may_share terms c.terms))
           ∙ ap (λ x. leaves key terms a c && x) (leaves-each claims)
 
--- ---- addresses that aren't known by a sharing key have no claim under it
+-- ---- addresses that aren't known by a group have no claim of it
 module _ (h : AddressHoldersValue) (claims : List ClaimValue) (shared : AreShared h claims) (family : Family) (key : List ℕ) where
   pub unshared-at : (n : ℕ) → is_known h key (address_of family n) ≡ false → is_shared key claims (address_of family n) ≡ false
   unshared-at n unknown = false-from (is_shared key claims (address_of family n)) (λ e. true≢false (sym (shared key (address_of family n) e) ∙ unknown))

@@ -1,5 +1,5 @@
 -- Which addresses are mixed, where a claim comes or goes, and the slots that a claim leaves.
-use Rattle.std.proofs.Common.{◌≡◌, ◌≢◌, ℕ, ◌+◌, ◌<◌, ◌≤◌, ◌==◌, Bool, true, false, cond, not, ◌&&◌, ◌||◌, List, [], ◌∷◌, ◌++◌, length, take, drop, get_or, Some, ◌⊎◌, inl, inr, refl, sym, ap, subst, ◌∙◌, arith, ⊎_elim, take_all}
+use Rattle.std.proofs.Common.{◌≡◌, ◌≢◌, ℕ, ◌+◌, ◌<◌, ◌≤◌, ◌==◌, Bool, true, false, cond, not, ◌&&◌, ◌||◌, List, [], ◌∷◌, ◌++◌, length, take, drop, get_or, Some, ◌⊎◌, refl, sym, ap, subst, ◌∙◌, arith, ⊎_elim, take_all}
 use Rattle.std.proofs.lemmas.Bool.{true≢false}
 use Rattle.std.proofs.lemmas.Bool.Decides.{same_from_decides}
 use Rattle.std.proofs.lemmas.List.{take_more}
@@ -26,12 +26,12 @@ use Rattle.alloc_book.specs.declared.slot.Slot.{Slot}
 use Rattle.alloc_book.specs.declared.slot.Slot.TheVariants.{Any, OfPort}
 use Rattle.alloc_book.specs.Claims.{ClaimValue}
 use Rattle.alloc_book.specs.Holders.{AddressHoldersValue, CanBeMixed, in_slot, claims_at, claims_having, is_known, mixed_of, is_mixed, mixed_room}
-use Rattle.alloc_book.specs.Index.{numbered_at, numbers_at, HasIt, AreShared, AreUniform, IsIndexed}
+use Rattle.alloc_book.specs.Index.{numbered_at, numbers_at, HasIt, AreAlikeAt, AreShared, AreUniform, IsIndexed, are_like_first}
 use Rattle.alloc_book.specs.Removal.{all_but, left_at}
 use Rattle.alloc_book.specs.Slots.{occupies, same_slot, is_slot_of}
 use Rattle.alloc_book.proofs.IndexGrowth.{taken-more, rest-of, same-claims, same-mixing}
-use Rattle.alloc_book.proofs.IndexRemoval.{filter-once, named, or-none, itself, same-number, without, removed-assigned, removed-shared, removed-keys, removed-holders}
-use Rattle.alloc_book.proofs.UniformLaws.{uniform-kept}
+use Rattle.alloc_book.proofs.IndexRemoval.{filter-once, or-none, without, removed-ascending, removed-assigned, removed-shared, removed-keys, removed-holders}
+use Rattle.alloc_book.proofs.UniformLaws.{uniform-kept, like-each}
 
 -- ---- room for mixed addresses
 -- an address that becomes mixed leaves room for the rest
@@ -116,16 +116,20 @@ two-apart (z ∷ []) x y has_x has_y apart short =
     (contains-cons z [] x has_x)
 two-apart (z ∷ w ∷ xs) x y has_x has_y apart short = omega (arith, short)
 
--- fewer claims, and an address that isn't mixed any more where at most one number is left
+-- fewer claims, and an address that isn't mixed any more where those that are left are alike
 pub uniform-without : (n : ℕ) (items less : List (ℕ × ClaimValue)) (before after : AddressHoldersValue) → less ≡ without n items
-    → claims_having after Any ≡ (λ a. numbers_at Any a less)
-    → ((a : AddressValue) → is_mixed after a ≡ false → (is_mixed before a ≡ false) ⊎ (length (claims_having after Any a) < 2))
+    → IsStrictlySortedBy nat_cmp (keys_of less)
+    → claims_having before Any ≡ (λ a. numbers_at Any a less)
+    → ((a : AddressValue) → is_mixed after a ≡ false → (is_mixed before a ≡ false) ⊎ AreAlikeAt before less a)
     → AreUniform before items → AreUniform after less
-uniform-without n items less before after is listed unmixed uniform a e p q has_p has_q apart =
+uniform-without n items less before after is sorted listed unmixed uniform a e p q has_p has_q apart =
     ⊎_elim
     (λ old. uniform a old p q (stood p has_p.0, has_p.1) (stood q has_q.0, has_q.1) apart)
+    (λ alike. ⊎_elim
     (λ few. absurd (two-apart (numbers_at Any a less) p.0 q.0 (listed-in a less p has_p) (listed-in a less q has_q) apart
     (subst (λ (f : AddressValue → List ℕ). length (f a) < 2) listed few)))
+    (λ first. like-each before less (numbers_at Any a less) a sorted (listed-in a less) (ap (λ (f : AddressValue → List ℕ). are_like_first less (f a)) (sym listed) ∙ first) p q has_p has_q)
+    alike)
     (unmixed a e)
   where
     stood : (s : ℕ × ClaimValue) → Contains less s → Contains items s
@@ -215,7 +219,7 @@ pub indexed-left : (n : ℕ) (items less : List (ℕ × ClaimValue)) (c : ClaimV
     → ((slot : Slot) → claims_having removed slot ≡ cond (occupies slot c) (left_at n c.holding.addresses (claims_having h slot)) (claims_having h slot))
     → is_known removed ≡ is_known h → mixed_of removed ≡ mixed_of h
     → in_slot unmixed ≡ in_slot removed → is_known unmixed ≡ is_known removed
-    → ((a : AddressValue) → is_mixed unmixed a ≡ false → (is_mixed removed a ≡ false) ⊎ (length (claims_having removed Any a) < 2))
+    → ((a : AddressValue) → is_mixed unmixed a ≡ false → (is_mixed removed a ≡ false) ⊎ AreAlikeAt removed less a)
     → IsIndexed less by_key_after unmixed
 indexed-left n items less c key by_key by_key_after h removed unmixed is sorted found key_is indexed keys numbers known mixed slots known_after mixed_after =
     record {
@@ -223,15 +227,15 @@ indexed-left n items less c key by_key by_key_after h removed unmixed is sorted 
       keys = removed-keys n items less is sorted c found key by_key by_key_after key_is indexed.keys keys;
       holders = listed;
       shared = removed-shared n items less is sorted h unmixed (known_after ∙ known) indexed.shared;
-      uniform = uniform-without n items less removed unmixed is (listed Any)
-          (λ a e. ⊎_elim (λ old. inl old) (λ few. inr (subst (λ (f : AddressValue → List ℕ). length (f a) < 2) (sym (same-claims removed unmixed Any slots)) few)) (mixed_after a e))
+      uniform = uniform-without n items less removed unmixed is (removed-ascending n items less is sorted)
+          (removed-holders n items less is sorted c found h removed indexed.holders numbers Any) mixed_after
           (uniform-kept items h removed (same-mixing h removed mixed) indexed.uniform);
     }
   where
     listed : (slot : Slot) → claims_having unmixed slot ≡ (λ a. numbers_at slot a less)
     listed slot = same-claims removed unmixed slot slots ∙ removed-holders n items less is sorted c found h removed indexed.holders numbers slot
 
--- what is known by a sharing key was changed, and still is enough
+-- what is known by a group was changed, and still is enough
 pub indexed-unshared : (items : List (ℕ × ClaimValue)) (by_key : IndexValue Key) (h after : AddressHoldersValue) → IsIndexed items by_key h
     → in_slot after ≡ in_slot h → mixed_of after ≡ mixed_of h → AreShared after (values_of items) → IsIndexed items by_key after
 indexed-unshared items by_key h after indexed slots mixed shared =

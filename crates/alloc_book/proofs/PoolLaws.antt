@@ -1,17 +1,17 @@
 -- The pool that has one of some addresses is the only one in which all of them may lie.
-use Rattle.std.proofs.Common.{◌≡◌, Bool, true, false, cond, ◌&&◌, List, [], ◌∷◌, Option, Some, None, find, slice_get, IfSome, inl, inr, ◌⊎◌, ⊎_elim, refl, sym, ap, ◌∙◌, subst}
+use Rattle.std.proofs.Common.{◌≡◌, Bool, true, false, cond, ◌&&◌, List, [], ◌∷◌, Option, Some, None, find, slice_get, inl, inr, ◌⊎◌, ⊎_elim, refl, sym, ap, ◌∙◌, subst}
 use Rattle.std.proofs.lemmas.Bool.{and_parts, true≢false}
 use Rattle.std.proofs.lemmas.Option.{slice_get_within, get_or_from_slice_get}
 use Rattle.std.proofs.lemmas.List.Elements.{Contains-get_or}
 use Rattle.std.specs.List.{Contains, list_all}
-use Rattle.ip_ranges.specs.Values.{AddressValue, is_buggy}
+use Rattle.ip_ranges.specs.Values.{AddressValue}
 use Rattle.mlb_base.specs.Items.{IsIn}
 use Rattle.mlb_base.proofs.Among.{all-contains}
 use Rattle.pool_config.specs.declared.compiled.CompiledPool.{CompiledPool}
 use Rattle.pool_config.specs.PoolOf.{HasAddress}
 use Rattle.pool_config.proofs.OnePool.{address-Decides}
-use Rattle.alloc_book.specs.Asking.{Asker, Offer, asked_in, is_asked}
-use Rattle.alloc_book.specs.Choose.{is_kept, is_home, is_open, fits_option, all_usable, same_addresses}
+use Rattle.alloc_book.specs.Asking.{Asker, Offer, asked_in}
+use Rattle.alloc_book.specs.Choose.{is_kept, is_home, is_open, fits_option, all_usable}
 use Rattle.alloc_book.specs.Claims.{ClaimValue}
 use Rattle.alloc_book.specs.Search.{usable, leaves}
 use Rattle.alloc_book.specs.Usable.{is_in}

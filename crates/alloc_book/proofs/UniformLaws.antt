@@ -1,10 +1,10 @@
 -- Claims on one address that are alike in sharing key and backend.
-use Rattle.std.proofs.Common.{◌≡◌, ◌≢◌, ℕ, ◌==◌, Bool, true, false, not, ◌&&◌, ◌||◌, List, [], ◌∷◌, ◌++◌, filter, Option, Some, ◌⊎◌, refl, sym, ap, ◌∙◌, subst, ⊎_elim, eqb-true, cond, map}
+use Rattle.std.proofs.Common.{◌≡◌, ◌≢◌, ℕ, ◌==◌, Bool, true, false, not, ◌&&◌, ◌||◌, List, [], ◌∷◌, ◌++◌, Option, Some, None, ◌⊎◌, refl, sym, ap, ◌∙◌, subst, ⊎_elim, eqb-true, cond}
 use Rattle.std.proofs.lemmas.List.Elements.{Contains-push_cases}
 use Rattle.std.specs.List.{Contains, list_any, list_all, slice_get}
 use Rattle.std.specs.List.Sorted.{IsStrictlySortedBy}
 use Rattle.std.specs.Map.{keys_of, values_of}
-use Rattle.std.proofs.lemmas.Bool.{and_parts, and_from, or_left, or_right, not-true, false_from_ne_true, true≢false, eq-eqb}
+use Rattle.std.proofs.lemmas.Bool.{and_parts, and_from, not-true, false_from_ne_true, true≢false, eq-eqb}
 use Rattle.std.proofs.lemmas.Bool.Decides.{same_from_decides}
 use Rattle.std.proofs.lemmas.Map.Made.{Contains-values_of}
 use Rattle.std.proofs.lemmas.Slice.Eq.{bytes_eq-Decides}
@@ -12,7 +12,7 @@ use Rattle.std.specs.Option.{option_map_or}
 use Rattle.std.specs.Ordering.{nat_cmp}
 use Rattle.std.specs.Str.{bytes_eq}
 use Rattle.ip_ranges.specs.declared.family.Family.{Family}
-use Rattle.ip_ranges.specs.Values.{AddressValue, has_address, same_address}
+use Rattle.ip_ranges.specs.Values.{AddressValue, has_address}
 use Rattle.ip_ranges.proofs.AddressLaws.{has_address-is, has_address-from}
 use Rattle.kube_model.specs.declared.key.Key.{Key}
 use Rattle.kube_model.specs.declared.port.Port.{Port}
@@ -27,7 +27,7 @@ use Rattle.alloc_book.specs.declared.slot.Slot.TheVariants.{Any, OfPort}
 use Rattle.alloc_book.specs.Alike.{are_alike}
 use Rattle.alloc_book.specs.Claims.{ClaimValue}
 use Rattle.alloc_book.specs.Holders.{AddressHoldersValue, is_mixed, mixed_of}
-use Rattle.alloc_book.specs.Index.{numbers_at, HasIt, AreUniform, is_like_first}
+use Rattle.alloc_book.specs.Index.{numbers_at, HasIt, AreUniform, is_like, is_like_first, are_like_first}
 use Rattle.alloc_book.specs.Reading.{yields}
 use Rattle.alloc_book.specs.Search.{leaves}
 use Rattle.alloc_book.proofs.TermLaws.{backend-same, backend-itself}
@@ -153,6 +153,21 @@ like-first h items (n ∷ rest) terms a sorted uniform listed unmixed first p ha
     by_number q false is has_q here =
         alike-through p.1.terms q.1.terms terms
         (uniform a unmixed p q has has_q (λ same. true≢false (sym (eq-eqb p.0 q.0 same) ∙ sym is))) here
+
+-- the claims of an address are alike, where those of its numbers are alike with the first
+pub like-each : (h : AddressHoldersValue) (items : List (ℕ × ClaimValue)) (numbers : List ℕ) (a : AddressValue) → IsStrictlySortedBy nat_cmp (keys_of items)
+    → ((p : ℕ × ClaimValue) → HasIt items a p → Contains numbers p.0) → are_like_first items numbers ≡ true
+    → (p q : ℕ × ClaimValue) → HasIt items a p → HasIt items a q → are_alike p.1.terms q.1.terms ≡ true
+like-each h items [] a sorted listed first p q has_p has_q = absurd (contains-none p.0 (listed p has_p))
+like-each h items (n ∷ numbers) a sorted listed first p q has_p has_q = by (under items n) refl first
+  where
+    by : (found : Option ClaimValue) → found ≡ under items n → option_map_or (λ (c : ClaimValue). list_all (is_like c.terms items) (n ∷ numbers)) found false ≡ true
+        → are_alike p.1.terms q.1.terms ≡ true
+    by None is e = absurd (true≢false (sym e))
+    by (Some c) is e =
+        let of : (r : ℕ × ClaimValue) → HasIt items a r → are_alike r.1.terms c.terms ≡ true =
+        λ r has. ap (like c.terms) (sym (found-of items r sorted has.0)) ∙ all-contains (is_like c.terms items) (n ∷ numbers) r.0 e (listed r has) in
+        alike-through p.1.terms c.terms q.1.terms (of p has_p) (alike-flip q.1.terms c.terms (of q has_q))
 
 -- ---- where the claims on an address are alike with the terms, those with a port of theirs decide
 not-neither : (b : Bool) → not (b && false) ≡ true

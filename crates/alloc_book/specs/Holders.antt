@@ -1,5 +1,5 @@
 -- Who has the addresses: by each address the numbers of the claims that have it.
-use Rattle.std.specs.Prelude.{◌≡◌, ◌≢◌, ◌≤◌, ◌<◌, ℕ, Bool, true, List, []}
+use Rattle.std.specs.Prelude.{◌≡◌, ◌≤◌, ◌<◌, ℕ, Bool, true, List, []}
 use Rattle.std.specs.List.{Contains}
 use Rattle.std.specs.Map.{lookup}
 use Rattle.std.specs.Option.{unwrap_or}
@@ -14,6 +14,7 @@ use Rattle.number_sets.specs.Runs.{RunsValue, has}
 use Rattle.numbered_items.specs.Index.{IndexValue, numbers_under, room_under}
 use Rattle.sharing_terms.specs.declared.terms.Terms.{Terms}
 use Rattle.alloc_book.specs.declared.slot.Slot.{Slot}
+use Rattle.alloc_book.specs.Groups.{group_of}
 use Rattle.alloc_book.specs.Slots.{same_slot}
 
 -- The claims that are listed in one slot at the addresses of one family, by their numbers.
@@ -24,7 +25,7 @@ pub record ClaimantsValue : Type 0 where
 -- Who has the addresses of one family, by their numbers.
 pub record HoldersValue : Type 0 where
   pub slots : List (Slot × ClaimantsValue)  -- the claims in each slot
-  pub shared : List (List ℕ × BTreeSet ℕ)  -- the addresses that are known by each sharing key
+  pub shared : List (List ℕ × BTreeSet ℕ)  -- the addresses that are known by each group
   pub mixed : RunsValue  -- the addresses at which claims may differ in sharing key or backend
 
 -- Who has the addresses of both families.
@@ -48,9 +49,9 @@ no_claimants = record { claims = []; room = 0 }
 abbrev pub in_slot_at : HoldersValue → Slot → ClaimantsValue
 in_slot_at h slot = unwrap_or (lookup (same_slot slot) h.slots) no_claimants
 
--- the address is known by the sharing key
+-- the address is known by the group
 abbrev pub is_known_at : HoldersValue → List ℕ → ℕ → Bool
-is_known_at h key n = in_group name_cmp h.shared key n
+is_known_at h group n = in_group name_cmp h.shared group n
 
 -- the one of the family
 abbrev pub of_family : AddressHoldersValue → Family → HoldersValue
@@ -73,9 +74,9 @@ claim_room h slot a = claim_room_at (in_slot h slot a.family) a.number
 abbrev pub address_room : AddressHoldersValue → Slot → Family → ℕ
 address_room h slot family = (in_slot h slot family).room
 
--- the address is known by the sharing key
+-- the address is known by the group
 abbrev pub is_known : AddressHoldersValue → List ℕ → AddressValue → Bool
-is_known h key a = is_known_at (of_family h a.family) key a.number
+is_known h group a = is_known_at (of_family h a.family) group a.number
 
 -- the addresses of the family at which claims may differ in sharing key or backend
 abbrev pub mixed_of : AddressHoldersValue → Family → RunsValue
@@ -98,6 +99,6 @@ pub record HasRoomAt (h : AddressHoldersValue) (more : ℕ) (slot : Slot) (addre
 abbrev pub CanBeMixed : AddressHoldersValue → ℕ → List AddressValue → Type 0
 CanBeMixed h more addresses = (a : AddressValue) → Contains addresses a → more ≤ mixed_room h a.family
 
--- each of the addresses is known by the sharing key of the terms, where they have one
+-- each of the addresses is known by the group of the terms
 abbrev pub AreKnown : AddressHoldersValue → Terms → List AddressValue → Type 0
-AreKnown h terms addresses = terms.key ≢ [] → (a : AddressValue) → Contains addresses a → is_known h terms.key a ≡ true
+AreKnown h terms addresses = (a : AddressValue) → Contains addresses a → is_known h (group_of terms) a ≡ true

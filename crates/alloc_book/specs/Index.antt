@@ -1,6 +1,6 @@
 -- The claims under their numbers, and by what each is found.
-use Rattle.std.specs.Prelude.{◌≡◌, ◌≢◌, ◌≤◌, ◌<◌, ◌-◌, ℕ, length, Bool, true, false, ◌==◌, ◌&&◌, not, if◌then◌else◌, find, List, [], ◌∷◌, ◌++◌, filter, Option, Some, None}
-use Rattle.std.specs.List.{Contains, list_any, slice_get}
+use Rattle.std.specs.Prelude.{◌≡◌, ◌≢◌, ◌⊎◌, ◌≤◌, ◌<◌, ◌-◌, ℕ, length, Bool, true, false, ◌==◌, ◌&&◌, not, if◌then◌else◌, find, List, [], ◌∷◌, ◌++◌, filter, Option, Some, None}
+use Rattle.std.specs.List.{Contains, list_all, list_any, slice_get}
 use Rattle.std.specs.Map.{lookup, keys_of, values_of}
 use Rattle.std.specs.Option.{option_and_then, option_map_or}
 use Rattle.std.specs.Str.{bytes_eq}
@@ -8,14 +8,14 @@ use Rattle.ip_ranges.specs.declared.family.Family.{Family}
 use Rattle.ip_ranges.specs.Values.{AddressValue, has_address, is_buggy}
 use Rattle.kube_model.specs.declared.key.Key.{Key}
 use Rattle.kube_model.specs.Keys.{key_cmp, same_key}
-use Rattle.mlb_base.specs.Items.{is_nil}
 use Rattle.numbered_items.specs.Index.{IndexValue, numbers_under}
 use Rattle.sharing_terms.specs.declared.terms.Terms.{Terms}
 use Rattle.pool_config.specs.declared.compiled.CompiledPool.{CompiledPool}
 use Rattle.kube_model.specs.declared.port.Port.{Port}
 use Rattle.alloc_book.specs.declared.slot.Slot.{Slot}
-use Rattle.alloc_book.specs.declared.slot.Slot.TheVariants.{OfPort}
+use Rattle.alloc_book.specs.declared.slot.Slot.TheVariants.{Any, OfPort}
 use Rattle.alloc_book.specs.Alike.{are_alike}
+use Rattle.alloc_book.specs.Groups.{group_of}
 use Rattle.alloc_book.specs.Slots.{occupies}
 use Rattle.alloc_book.specs.Book.{AreAssigned, BookRoom}
 use Rattle.alloc_book.specs.Holders.{AddressHoldersValue, claims_having, is_known, is_mixed}
@@ -47,9 +47,9 @@ abbrev pub numbers_at : Slot → AddressValue → List (ℕ × ClaimValue) → L
 numbers_at slot a [] = []
 numbers_at slot a (p ∷ items) = numbered_at slot a p ++ numbers_at slot a items
 
--- the terms are those of this sharing key, which isn't empty
-abbrev pub is_marked : List ℕ → Terms → Bool
-is_marked key terms = bytes_eq terms.key key && not (is_nil key)
+-- the terms are of this group
+abbrev pub is_grouped : List ℕ → Terms → Bool
+is_grouped group terms = bytes_eq (group_of terms) group
 
 -- a claim has the address
 abbrev pub is_held : List ClaimValue → AddressValue → Bool
@@ -59,9 +59,9 @@ is_held claims a = list_any (λ c. has_address c.holding.addresses a) claims
 abbrev pub is_own : Key → List ClaimValue → AddressValue → Bool
 is_own key claims a = list_any (λ c. same_key c.key key && has_address c.holding.addresses a) claims
 
--- a claim under this sharing key has the address
+-- a claim of this group has the address
 abbrev pub is_shared : List ℕ → List ClaimValue → AddressValue → Bool
-is_shared key claims a = list_any (λ c. is_marked key c.terms && has_address c.holding.addresses a) claims
+is_shared group claims a = list_any (λ c. is_grouped group c.terms && has_address c.holding.addresses a) claims
 
 -- a claim that is listed in the slot has the address
 abbrev pub is_taken : Slot → List ClaimValue → AddressValue → Bool
@@ -71,9 +71,9 @@ is_taken slot claims a = list_any (λ c. occupies slot c && has_address c.holdin
 abbrev pub is_barred : List Port → List ClaimValue → AddressValue → Bool
 is_barred ports claims a = list_any (λ port. is_taken (OfPort port) claims a) ports
 
--- a claim under this sharing key has the address, and none of the key does
+-- a claim of this group has the address, and none of the key does
 abbrev pub is_offered : Key → List ℕ → List ClaimValue → AddressValue → Bool
-is_offered key share claims a = is_shared share claims a && not (is_own key claims a)
+is_offered key group claims a = is_shared group claims a && not (is_own key claims a)
 
 -- no claim has the address, and the pool doesn't avoid it
 abbrev pub is_free : List ClaimValue → CompiledPool → AddressValue → Bool
@@ -84,9 +84,9 @@ abbrev pub Covers : (ℕ → Bool) → (ℕ → Bool) → ℕ → ℕ → Option
 Covers candidate test low high (Some n) = (low ≤ n) × (n ≤ high) × (test n ≡ true) × ((m : ℕ) → low ≤ m → m < n → candidate m ≡ true → test m ≡ false)
 Covers candidate test low high None = (m : ℕ) → low ≤ m → m ≤ high → candidate m ≡ true → test m ≡ false
 
--- each address that a claim has under a sharing key is known by that key; others may be too
+-- each address that a claim of a group has is known by that group; others may be too
 abbrev pub AreShared : AddressHoldersValue → List ClaimValue → Type 0
-AreShared h claims = (key : List ℕ) (a : AddressValue) → is_shared key claims a ≡ true → is_known h key a ≡ true
+AreShared h claims = (group : List ℕ) (a : AddressValue) → is_shared group claims a ≡ true → is_known h group a ≡ true
 
 -- the claim of the number has the address
 abbrev pub HasIt : List (ℕ × ClaimValue) → AddressValue → ℕ × ClaimValue → Type 0
@@ -105,9 +105,9 @@ pub record IsIndexed (items : List (ℕ × ClaimValue)) (by_key : IndexValue Key
   pub shared : AreShared h (values_of items)
   pub uniform : AreUniform h items
 
--- no address of the family that a claim has under the sharing key has a number from low on, below high
+-- no address of the family that a claim of the group has has a number from low on, below high
 abbrev pub NoneShared : Family → List ℕ → List ClaimValue → ℕ → ℕ → Type 0
-NoneShared family key claims low high = (n : ℕ) → low ≤ n → n < high → is_shared key claims (address_of family n) ≡ false
+NoneShared family group claims low high = (n : ℕ) → low ≤ n → n < high → is_shared group claims (address_of family n) ≡ false
 
 -- each address of the family with a number from low on, below high, has a claim with one of the ports
 abbrev pub AreBarred : List Port → List ClaimValue → Family → ℕ → ℕ → Type 0
@@ -121,6 +121,19 @@ ends_with n numbers = option_map_or (λ m. m == n) (slice_get numbers (length nu
 abbrev pub is_like_first : Terms → List (ℕ × ClaimValue) → List ℕ → Bool
 is_like_first terms items [] = true
 is_like_first terms items (n ∷ numbers) = option_map_or (λ c. are_alike c.terms terms) (lookup (λ m. m == n) items) false
+
+-- the claim of the number is alike with the terms
+abbrev pub is_like : Terms → List (ℕ × ClaimValue) → ℕ → Bool
+is_like terms items n = option_map_or (λ c. are_alike c.terms terms) (lookup (λ m. m == n) items) false
+
+-- the claims of the numbers are alike with the first of them
+abbrev pub are_like_first : List (ℕ × ClaimValue) → List ℕ → Bool
+are_like_first items [] = true
+are_like_first items (n ∷ numbers) = option_map_or (λ c. list_all (is_like c.terms items) (n ∷ numbers)) (lookup (λ m. m == n) items) false
+
+-- at the address fewer than two claims are listed, or such as are alike
+abbrev pub AreAlikeAt : AddressHoldersValue → List (ℕ × ClaimValue) → AddressValue → Type 0
+AreAlikeAt h items a = (length (claims_having h Any a) < 2) ⊎ (are_like_first items (claims_having h Any a) ≡ true)
 
 -- An index of claims as the book sees it.
 pub record ClaimIndexValue : Type 0 where

@@ -7,6 +7,7 @@ pub mod Chosen
 pub mod Claims
 pub mod First
 pub mod Granted
+pub mod Groups
 pub mod Holders
 pub mod Index
 pub mod Laws

@@ -1,20 +1,14 @@
 -- What is left of a claim in the index once it was removed.
-use Rattle.std.specs.Prelude.{ℕ, Bool, false, ◌==◌, not, List, filter, Option, Some, None, if◌then◌else◌}
+use Rattle.std.specs.Prelude.{ℕ, Bool, false, ◌==◌, not, List, filter, if◌then◌else◌}
 use Rattle.std.specs.Map.{lookup}
-use Rattle.std.specs.Option.{option_map}
-use Rattle.std.specs.Str.{bytes_eq}
+use Rattle.std.specs.Option.{option_map_or}
 use Rattle.ip_ranges.specs.Values.{AddressValue, has_address}
-use Rattle.sharing_terms.specs.declared.terms.Terms.{Terms}
 use Rattle.alloc_book.specs.Claims.{ClaimValue}
+use Rattle.alloc_book.specs.Index.{is_grouped}
 
--- the terms are those of this sharing key
-abbrev pub has_sharing_key : List ℕ → Option Terms → Bool
-has_sharing_key key None = false
-has_sharing_key key (Some terms) = bytes_eq terms.key key
-
--- the claim of that number has terms of this sharing key
-abbrev pub is_marked_at : List ℕ → List (ℕ × ClaimValue) → ℕ → Bool
-is_marked_at key items n = has_sharing_key key (option_map (λ c. c.terms) (lookup (λ m. m == n) items))
+-- the claim of that number is of this group
+abbrev pub is_grouped_at : List ℕ → List (ℕ × ClaimValue) → ℕ → Bool
+is_grouped_at group items n = option_map_or (λ c. is_grouped group c.terms) (lookup (λ m. m == n) items) false
 
 -- the other numbers
 abbrev pub all_but : ℕ → List ℕ → List ℕ

@@ -80,28 +80,28 @@ impl AddressHolders {
         }
     }
 
-    /// The address is known by the sharing key. Where there is no memory all stays.
-    pub(crate) fn share(&mut self, key: Text, address: &Address) -> Result<(), NoMemory>
+    /// The address is known by the group. Where there is no memory all stays.
+    pub(crate) fn share(&mut self, group: Text, address: &Address) -> Result<(), NoMemory>
         ensures slots { in_slot self.new ≡ in_slot self.old }
-        ensures ok { OnOk result (is_known self.new ≡ (λ k a. (bytes_eq key k && same_address address.now a) || is_known self.old k a)) }
+        ensures ok { OnOk result (is_known self.new ≡ (λ k a. (bytes_eq group k && same_address address.now a) || is_known self.old k a)) }
         ensures err { OnErr result (is_known self.new ≡ is_known self.old) }
         ensures mixed { mixed_of self.new ≡ mixed_of self.old }
     {
         match address.family {
-            Family::V4 => self.v4.share(key, address.number),
-            Family::V6 => self.v6.share(key, address.number),
+            Family::V4 => self.v4.share(group, address.number),
+            Family::V6 => self.v6.share(group, address.number),
         }
     }
 
-    /// The address isn't known by the sharing key. It takes no memory.
-    pub(crate) fn unshare(&mut self, key: &Text, address: &Address)
+    /// The address isn't known by the group. It takes no memory.
+    pub(crate) fn unshare(&mut self, group: &Text, address: &Address)
         ensures slots { in_slot self.new ≡ in_slot self.old }
-        ensures shared { is_known self.new ≡ (λ k a. not (bytes_eq key.now k && same_address address.now a) && is_known self.old k a) }
+        ensures shared { is_known self.new ≡ (λ k a. not (bytes_eq group.now k && same_address address.now a) && is_known self.old k a) }
         ensures mixed { mixed_of self.new ≡ mixed_of self.old }
     {
         match address.family {
-            Family::V4 => self.v4.unshare(key, address.number),
-            Family::V6 => self.v6.unshare(key, address.number),
+            Family::V4 => self.v4.unshare(group, address.number),
+            Family::V6 => self.v6.unshare(group, address.number),
         }
     }
 
@@ -200,20 +200,20 @@ impl AddressHolders {
         }
     }
 
-    /// The least number from low to high of an address of the family that is known by the sharing key.
+    /// The least number from low to high of an address of the family that is known by the group.
     pub(crate) fn first_shared(
         &self,
         family: Family,
-        key: &Text,
+        group: &Text,
         low: u128,
         high: u128,
     ) -> Option<u128>
-        ensures some { IfSome result (λ n. IsLeastIn (λ m. is_known self.now key.now (address_of family m)) low high n) }
-        ensures none { IfNone result (NonePasses (λ m. is_known self.now key.now (address_of family m)) low high) }
+        ensures some { IfSome result (λ n. IsLeastIn (λ m. is_known self.now group.now (address_of family m)) low high n) }
+        ensures none { IfNone result (NonePasses (λ m. is_known self.now group.now (address_of family m)) low high) }
     {
         match family {
-            Family::V4 => self.v4.first_shared(key, low, high),
-            Family::V6 => self.v6.first_shared(key, low, high),
+            Family::V4 => self.v4.first_shared(group, low, high),
+            Family::V6 => self.v6.first_shared(group, low, high),
         }
     }
 }

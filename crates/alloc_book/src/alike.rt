@@ -5,7 +5,7 @@ ghost use Rattle.std.specs.Map.{keys_of};
 ghost use Rattle.std.specs.Ordering.{nat_cmp};
 ghost use Rattle.mlb_base.specs.Items.{is_nil};
 ghost use Rattle.alloc_book.specs.Alike.{are_alike, same_terms};
-ghost use Rattle.alloc_book.specs.Index.{is_like_first};
+ghost use Rattle.alloc_book.specs.Index.{is_like, is_like_first, are_like_first};
 
 use crate::claims::Claim;
 use numbered_items::NumberedList;
@@ -20,6 +20,30 @@ pub(crate) fn is_like_first(claims: &NumberedList<Claim>, numbers: &[u64], terms
         return true;
     };
     match claims.get(*number) {
+        Some(claim) => are_alike(claim.terms(), terms),
+        None => false,
+    }
+}
+
+/// Whether the claims of the numbers are alike with the first of them.
+pub(crate) fn are_like_first(claims: &NumberedList<Claim>, numbers: &[u64]) -> bool
+    ensures { result ≡ are_like_first claims.now.items numbers.now }
+{
+    let Some(number) = numbers.first() else {
+        return true;
+    };
+    let Some(first) = claims.get(*number) else {
+        return false;
+    };
+    let terms = first.terms();
+    numbers.iter().all(|other| is_like(claims, *other, terms))
+}
+
+/// Whether the claim of that number is alike with the terms.
+fn is_like(claims: &NumberedList<Claim>, number: u64, terms: &Terms) -> bool
+    ensures { result ≡ is_like terms.now claims.now.items number }
+{
+    match claims.get(number) {
         Some(claim) => are_alike(claim.terms(), terms),
         None => false,
     }

@@ -24,6 +24,7 @@ ghost use Rattle.alloc_book.specs.Usable.{IsUsable, IsUsableOf};
 use crate::choice::{Choice, Loss};
 use crate::choosing::choose;
 use crate::claims::Claim;
+use crate::grouped::GroupedTerms;
 use crate::index::ClaimIndex;
 use crate::search::{least_usable, usable};
 use ip_ranges::{Address, Family};
@@ -278,7 +279,13 @@ impl Book {
 
     /// Whether a service of this key and these terms may use the address of the pool: it lies in the pool, isn't one that the
     /// pool avoids, and each claim of another key that has it may share by the claim's own terms. It takes no memory.
-    pub fn usable(&self, pool: &CompiledPool, key: &Key, terms: &Terms, address: &Address) -> bool
+    pub fn usable(
+        &self,
+        pool: &CompiledPool,
+        key: &Key,
+        terms: &GroupedTerms,
+        address: &Address,
+    ) -> bool
         ensures { IsTrue result ↔ IsUsable (holders self.now.claims) key.now terms.now pool.now address.now }
     {
         usable(self, pool, key, terms, address)
@@ -290,7 +297,7 @@ impl Book {
         &self,
         pool: &CompiledPool,
         key: &Key,
-        terms: &Terms,
+        terms: &GroupedTerms,
         family: Family,
     ) -> Option<Address>
         ensures least { IfSome result (IsLeast (holders self.now.claims) key.now terms.now pool.now family) }

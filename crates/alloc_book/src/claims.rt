@@ -4,8 +4,11 @@ ghost use Rattle.std.specs.Option.{option_map};
 ghost use Rattle.sharing_terms.specs.Ports.{AreAscending};
 ghost use Rattle.sharing_terms.specs.Spelled.{recorded_terms};
 ghost use Rattle.alloc_book.specs.Claims.{ClaimValue, terms_under};
+ghost use Rattle.alloc_book.specs.Groups.{group_of};
 
+use crate::grouped::GroupedTerms;
 use ip_ranges::Address;
+use kube_labels::Text;
 use kube_model::{Key, Port, Record};
 use mlb_base::{NoMemory, TryCopy};
 use sharing_terms::{Terms, read_mark};
@@ -17,7 +20,7 @@ use std::marker::Model;
 pub struct Claim {
     key: Key,
     holding: Record,
-    terms: Terms,
+    terms: GroupedTerms,
 }
 
 impl Model for Claim {
@@ -45,7 +48,7 @@ impl Claim {
         Ok(Claim {
             key: key.copy()?,
             holding: holding.copy()?,
-            terms,
+            terms: GroupedTerms::of(alloc, terms)?,
         })
     }
 
@@ -60,7 +63,7 @@ impl Claim {
         Ok(Some(Claim {
             key: key.copy()?,
             holding: holding.copy()?,
-            terms,
+            terms: GroupedTerms::of(alloc, terms)?,
         }))
     }
 
@@ -82,7 +85,14 @@ impl Claim {
     pub(crate) fn terms(&self) -> &Terms
         ensures { result.now ≡ self.now.terms }
     {
-        &self.terms
+        self.terms.terms()
+    }
+
+    /// What it has in common with those with which it may share.
+    pub(crate) fn group(&self) -> &Text
+        ensures { result.now ≡ group_of self.now.terms }
+    {
+        self.terms.group()
     }
 
     /// The ports of the terms.
@@ -90,7 +100,7 @@ impl Claim {
         ensures listed { result.now ≡ self.now.terms.ports }
         ensures ascending { AreAscending result.now }
     {
-        self.terms.ports.as_slice()
+        self.terms().ports.as_slice()
     }
 
     /// The addresses that it has, or may have.

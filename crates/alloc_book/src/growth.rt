@@ -1,5 +1,5 @@
 //! A claim gets room at its addresses, and is listed there.
-ghost use Rattle.std.specs.Prelude.{◌≡◌, ◌≢◌, ◌≤◌, ℕ, List, ◌++◌, [], true, false, length, OnOk};
+ghost use Rattle.std.specs.Prelude.{◌≡◌, ◌≤◌, ℕ, List, ◌++◌, true, false, length, OnOk};
 ghost use Rattle.std.specs.List.{Contains};
 ghost use Rattle.ip_ranges.specs.declared.family.Family.{Family};
 ghost use Rattle.ip_ranges.specs.Values.{AddressValue};
@@ -70,22 +70,19 @@ fn reserve_each(
     Ok(())
 }
 
-/// The addresses are known by the sharing key, where it isn't empty.
+/// The addresses are known by the group.
 pub(crate) fn share_each(
     holders: &mut AddressHolders,
-    key: &Text,
+    group: &Text,
     addresses: &[Address],
 ) -> Result<(), NoMemory>
     ensures slots { in_slot holders.new ≡ in_slot holders.old }
     ensures kept { (k : List ℕ) (a : AddressValue) → is_known holders.old k a ≡ true → is_known holders.new k a ≡ true }
-    ensures known { OnOk result (key.now ≢ [] → (a : AddressValue) → Contains addresses.now a → is_known holders.new key.now a ≡ true) }
+    ensures known { OnOk result ((a : AddressValue) → Contains addresses.now a → is_known holders.new group.now a ≡ true) }
     ensures mixed { mixed_of holders.new ≡ mixed_of holders.old }
 {
-    if key.as_str().is_empty() {
-        return Ok(());
-    }
     for address in addresses {
-        holders.share(key.copy()?, address)?;
+        holders.share(group.copy()?, address)?;
     }
     Ok(())
 }

@@ -17,7 +17,7 @@ use std::alloc::Global;
 use std::collections::BTreeMap;
 use std::marker::Model;
 
-/// Who has the addresses of one family: in each slot the claims by their addresses, the addresses by sharing key, and those at which
+/// Who has the addresses of one family: in each slot the claims by their addresses, the addresses by group, and those at which
 /// claims may differ in sharing key or backend, which are mixed. A slot in which no claim is listed any more is kept.
 #[derive(Drop)]
 pub(crate) struct Holders {
@@ -78,23 +78,23 @@ impl Holders {
         self.mixed.reserve(more)
     }
 
-    /// The address is known by the sharing key.
-    pub(crate) fn share(&mut self, key: Text, number: u128) -> Result<(), NoMemory>
+    /// The address is known by the group.
+    pub(crate) fn share(&mut self, group: Text, number: u128) -> Result<(), NoMemory>
         ensures slots { in_slot_at self.new ≡ in_slot_at self.old }
-        ensures ok { OnOk result (is_known_at self.new ≡ (λ k n. (bytes_eq key k && (n == number)) || is_known_at self.old k n)) }
+        ensures ok { OnOk result (is_known_at self.new ≡ (λ k n. (bytes_eq group k && (n == number)) || is_known_at self.old k n)) }
         ensures err { OnErr result (is_known_at self.new ≡ is_known_at self.old) }
         ensures mixed { self.new.mixed ≡ self.old.mixed }
     {
-        self.shared.insert(key, number)
+        self.shared.insert(group, number)
     }
 
-    /// The address isn't known by the sharing key. It takes no memory.
-    pub(crate) fn unshare(&mut self, key: &Text, number: u128)
+    /// The address isn't known by the group. It takes no memory.
+    pub(crate) fn unshare(&mut self, group: &Text, number: u128)
         ensures slots { in_slot_at self.new ≡ in_slot_at self.old }
-        ensures shared { is_known_at self.new ≡ (λ k n. not (bytes_eq key.now k && (n == number)) && is_known_at self.old k n) }
+        ensures shared { is_known_at self.new ≡ (λ k n. not (bytes_eq group.now k && (n == number)) && is_known_at self.old k n) }
         ensures mixed { self.new.mixed ≡ self.old.mixed }
     {
-        self.shared.remove(key, number);
+        self.shared.remove(group, number);
     }
 
     /// The address is mixed. There is room for it, so it takes no memory.
@@ -178,11 +178,11 @@ impl Holders {
         }
     }
 
-    /// The least address from low to high that is known by the sharing key.
-    pub(crate) fn first_shared(&self, key: &Text, low: u128, high: u128) -> Option<u128>
-        ensures some { IfSome result (λ n. IsLeastIn (is_known_at self.now key.now) low high n) }
-        ensures none { IfNone result (NonePasses (is_known_at self.now key.now) low high) }
+    /// The least address from low to high that is known by the group.
+    pub(crate) fn first_shared(&self, group: &Text, low: u128, high: u128) -> Option<u128>
+        ensures some { IfSome result (λ n. IsLeastIn (is_known_at self.now group.now) low high n) }
+        ensures none { IfNone result (NonePasses (is_known_at self.now group.now) low high) }
     {
-        self.shared.first(key, low, high)
+        self.shared.first(group, low, high)
     }
 }

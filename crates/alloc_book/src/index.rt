@@ -71,7 +71,7 @@ impl ClaimIndex {
         self.claims.reserve()?;
         self.by_key.reserve(claim.key().copy()?, 1)?;
         reserve_claim(&mut self.holders, claim)?;
-        share_each(&mut self.holders, &claim.terms().key, claim.addresses())?;
+        share_each(&mut self.holders, claim.group(), claim.addresses())?;
         Ok(())
     }
 
@@ -100,11 +100,11 @@ impl ClaimIndex {
         };
         self.by_key.remove(claim.key(), number);
         remove_claim(&mut self.holders, &claim, number);
-        unmix_each(&mut self.holders, claim.addresses());
+        unmix_each(&self.claims, &mut self.holders, &claim);
         unshare_each(
             &self.claims,
             &mut self.holders,
-            &claim.terms().key,
+            claim.group(),
             claim.addresses(),
         );
         drop(claim);
@@ -240,19 +240,18 @@ impl ClaimIndex {
         self.holders.first_unheld(slot, family, low, high)
     }
 
-    /// A number from low to high before which no address of the family has a claim under the sharing key; `None` where none up to
-    /// high has. Under the empty key no claim has one.
+    /// A number from low to high before which no address of the family has a claim of the group; `None` where none up to high has.
     pub(crate) fn first_shared(
         &self,
         family: Family,
-        key: &Text,
+        group: &Text,
         low: u128,
         high: u128,
     ) -> Option<u128>
-        ensures some { IfSome result (λ n. (low ≤ n) × (n ≤ high) × NoneShared family key.now (values_of self.now.items) low n) }
-        ensures none { IfNone result (NoneShared family key.now (values_of self.now.items) low (high + 1)) }
+        ensures some { IfSome result (λ n. (low ≤ n) × (n ≤ high) × NoneShared family group.now (values_of self.now.items) low n) }
+        ensures none { IfNone result (NoneShared family group.now (values_of self.now.items) low (high + 1)) }
     {
-        self.holders.first_shared(family, key, low, high)
+        self.holders.first_shared(family, group, low, high)
     }
 }
 

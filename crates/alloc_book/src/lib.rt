@@ -8,6 +8,7 @@ mod choice;
 mod choosing;
 mod claimants;
 mod claims;
+mod grouped;
 mod growth;
 mod holders;
 mod index;
@@ -21,6 +22,7 @@ mod slot;
 pub use booking::{Book, Listing};
 pub use choice::{Choice, Loss};
 pub use claims::Claim;
+pub use grouped::GroupedTerms;
 pub use laws::{
     chosen_by_same, chosen_is_granted, chosen_is_one, claims_are_kept, pending_stays,
     terms_are_recorded,

@@ -4,17 +4,18 @@ ghost use Rattle.sharing_terms.specs.Marked.{AreTerms};
 ghost use Rattle.sharing_terms.specs.Marks.{mark_of};
 ghost use Rattle.sharing_terms.specs.Terms.{terms_of};
 
+use crate::grouped::GroupedTerms;
 use kube_labels::Text;
 use kube_model::Service;
 use mlb_base::NoMemory;
-use sharing_terms::{Terms, mark_text, terms_of};
+use sharing_terms::{mark_text, terms_of};
 use std::alloc::Global;
 use std::marker::Model;
 
 /// Terms, with their mark. Contracts see the terms.
 #[derive(Drop)]
 pub(crate) struct MarkedTerms {
-    terms: Terms,
+    terms: GroupedTerms,
     mark: Text,
 }
 
@@ -41,10 +42,13 @@ impl MarkedTerms {
             drop(terms);
             return Err(NoMemory);
         };
-        Ok(MarkedTerms { terms, mark })
+        Ok(MarkedTerms {
+            terms: GroupedTerms::of(alloc, terms)?,
+            mark,
+        })
     }
 
-    pub(crate) fn terms(&self) -> &Terms
+    pub(crate) fn terms(&self) -> &GroupedTerms
         ensures { result.now ≡ self.now }
     {
         &self.terms

@@ -7,6 +7,7 @@ ghost use Rattle.ip_ranges.specs.Values.{AddressValue, has_address, is_buggy, sa
 ghost use Rattle.sharing_terms.specs.declared.terms.Terms.{Terms};
 ghost use Rattle.sharing_terms.specs.Marks.{mark_of};
 ghost use Rattle.alloc_book.specs.Asking.{asking};
+ghost use Rattle.alloc_book.specs.Groups.{group_of};
 ghost use Rattle.alloc_book.specs.Index.{is_own, is_offered, is_free, AreBarred, Covers};
 ghost use Rattle.number_sets.specs.Least.{IsLeastIn, NonePasses};
 ghost use Rattle.alloc_book.specs.Search.{usable, address_of, numbered, least_between, least_in, least_usable, least_each, first_pool, first_of, first_option};
@@ -15,6 +16,7 @@ ghost use Rattle.alloc_book.specs.Least.{IsLeast};
 ghost use Rattle.alloc_book.specs.Usable.{is_in, IsUsable, IsUsableOf};
 
 use crate::booking::Book;
+use crate::grouped::GroupedTerms;
 use crate::index::ClaimIndex;
 use crate::marked::MarkedTerms;
 use crate::requests::alone_of;
@@ -23,7 +25,6 @@ use ip_ranges::{Address, AddressList, Family, Span, is_buggy};
 use kube_model::{Key, Port, Record, Service};
 use mlb_base::{NoMemory, TryCopy};
 use pool_config::CompiledPool;
-use sharing_terms::Terms;
 use std::alloc::Global;
 
 pub(crate) fn has_address(addresses: &[Address], address: &Address) -> bool
@@ -43,7 +44,13 @@ pub(crate) fn is_in(pool: &CompiledPool, address: &Address) -> bool
 
 /// Whether a service of this key and these terms may use the address: it lies in the pool, isn't one that the pool avoids,
 /// and each claim of another key leaves it or shares it. It takes no memory.
-pub fn usable(book: &Book, pool: &CompiledPool, key: &Key, terms: &Terms, address: &Address) -> bool
+pub fn usable(
+    book: &Book,
+    pool: &CompiledPool,
+    key: &Key,
+    terms: &GroupedTerms,
+    address: &Address,
+) -> bool
     ensures value { result ≡ usable book.now.claims key.now terms.now pool.now address.now }
     ensures meaning { IsTrue result ↔ IsUsable (holders book.now.claims) key.now terms.now pool.now address.now }
 {
@@ -54,14 +61,14 @@ pub(crate) fn may_use(
     book: &Book,
     pool: &CompiledPool,
     key: &Key,
-    terms: &Terms,
+    terms: &GroupedTerms,
     address: &Address,
 ) -> bool
     ensures { result ≡ usable book.now.claims key.now terms.now pool.now address.now }
 {
     is_in(pool, address)
         && !is_avoided(pool, address)
-        && book.index().all_leave(key, terms, address)
+        && book.index().all_leave(key, terms.terms(), address)
 }
 
 fn is_avoided(pool: &CompiledPool, address: &Address) -> bool
@@ -100,7 +107,7 @@ fn usable_number(
     book: &Book,
     pool: &CompiledPool,
     key: &Key,
-    terms: &Terms,
+    terms: &GroupedTerms,
     family: Family,
     low: u128,
     high: u128,
@@ -120,7 +127,7 @@ fn least_among(
     book: &Book,
     pool: &CompiledPool,
     key: &Key,
-    terms: &Terms,
+    terms: &GroupedTerms,
     family: Family,
     low: u128,
     high: u128,
@@ -143,7 +150,7 @@ fn least_own(
     book: &Book,
     pool: &CompiledPool,
     key: &Key,
-    terms: &Terms,
+    terms: &GroupedTerms,
     family: Family,
     low: u128,
     high: u128,
@@ -183,28 +190,28 @@ fn first_left(
     Some(left)
 }
 
-/// A number from low to high of an address that may be used, before which there is none that may be used, that a claim has under the
-/// sharing key, and that the key doesn't have. Runs of addresses with a claim on one port of the terms are passed over at once, port by
+/// A number from low to high of an address that may be used, before which there is none that may be used, that a claim of the terms'
+/// group has, and that the key doesn't have. Runs of addresses with a claim on one port of the terms are passed over at once, port by
 /// port; what is left is tested one by one.
 fn least_shared(
     book: &Book,
     pool: &CompiledPool,
     key: &Key,
-    terms: &Terms,
+    terms: &GroupedTerms,
     family: Family,
     low: u128,
     high: u128,
 ) -> Option<u128>
     requires { high < 2 ^ width_of family }
-    ensures { Covers (numbered (is_offered key.now terms.now.key book.now.claims) family) (numbered (usable book.now.claims key.now terms.now pool.now) family) low high result }
+    ensures { Covers (numbered (is_offered key.now (group_of terms.now) book.now.claims) family) (numbered (usable book.now.claims key.now terms.now pool.now) family) low high result }
 {
-    if terms.key.as_str().is_empty() {
+    if terms.terms().key.as_str().is_empty() {
         return None;
     }
     let index = book.index();
-    let ports = terms.ports.as_slice();
+    let ports = terms.terms().ports.as_slice();
     let mut from = low;
-    while let Some(shared) = index.first_shared(family, &terms.key, from, high) {
+    while let Some(shared) = index.first_shared(family, terms.group(), from, high) {
         let number = first_left(index, ports, family, shared, high)?;
         if may_use(book, pool, key, terms, &Address { family, number }) {
             return Some(number);
@@ -218,12 +225,12 @@ fn least_shared(
 }
 
 /// The least address of the range, which is one of the pool's, that may be used: the least of those that no claim has, of those that
-/// the key has already, and of those that are shared under its sharing key.
+/// the key has already, and of those that a claim of its group has.
 fn least_number(
     book: &Book,
     pool: &CompiledPool,
     key: &Key,
-    terms: &Terms,
+    terms: &GroupedTerms,
     family: Family,
     span: &Span,
 ) -> Option<Address>
@@ -245,7 +252,7 @@ fn least_in(
     book: &Book,
     pool: &CompiledPool,
     key: &Key,
-    terms: &Terms,
+    terms: &GroupedTerms,
     family: Family,
     span: &Span,
 ) -> Option<Address>
@@ -263,7 +270,7 @@ fn least_listed(
     book: &Book,
     pool: &CompiledPool,
     key: &Key,
-    terms: &Terms,
+    terms: &GroupedTerms,
     family: Family,
 ) -> Option<Address>
     ensures { result ≡ least_usable book.now.claims key.now terms.now pool.now family }
@@ -283,7 +290,7 @@ pub fn least_usable(
     book: &Book,
     pool: &CompiledPool,
     key: &Key,
-    terms: &Terms,
+    terms: &GroupedTerms,
     family: Family,
 ) -> Option<Address>
     ensures value { result ≡ least_usable book.now.claims key.now terms.now pool.now family }

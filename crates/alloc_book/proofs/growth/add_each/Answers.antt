@@ -2,7 +2,7 @@ use Rattle.std.proofs.Common.{◌≡◌, ◌++◌, ◌+◌, take, sym, ap, subst
 use Rattle.ip_ranges.specs.Values.{AddressValue}
 use Rattle.alloc_book.specs.Holders.{AddressHoldersValue, in_slot, claims_having, is_known, mixed_of}
 use Rattle.alloc_book.specs.Index.{numbered, ends_with}
-use Rattle.alloc_book.proofs.IndexGrowth.{HasRoomFrom, room-here, room-from, room-next, room-still, listed-none, listed-next, listed-still, listed-all, ended, not-ended}
+use Rattle.alloc_book.proofs.IndexGrowth.{HasRoomFrom, room-here, room-next, room-still, listed-next, listed-still, listed-all, ended, not-ended}
 use Rattle.alloc_book.proofs.growth.add_each.Goals as goal
 use Rattle.alloc_book.proofs.growth.add_each.Goals.{then-not-ends_with, else-not-ends_with}
 

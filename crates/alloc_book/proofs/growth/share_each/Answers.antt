@@ -12,6 +12,6 @@ loop-address-preserved c = record {
   slots = c.share.ensures.slots ∙ c.loop-address.invariant.slots;
   mixed = c.share.ensures.mixed ∙ c.loop-address.invariant.mixed;
   kept = λ k a known. known-more (is_known c.loop-address.holders) (is_known c.share.new.self) c.in_ok-copy.field-0 c.address-item.result c.in_ok-share.ensures.ok k a (c.loop-address.invariant.kept k a known);
-  known = known-first (is_known c.loop-address.holders) (is_known c.share.new.self) c.args.key.now c.in_ok-copy.field-0 c.args.addresses.now c.loop-address.address-index c.address-item.result
+  known = known-first (is_known c.loop-address.holders) (is_known c.share.new.self) c.args.group.now c.in_ok-copy.field-0 c.args.addresses.now c.loop-address.address-index c.address-item.result
       c.loop-address-test.true c.address-item.is c.in_ok-copy.ensures c.in_ok-share.ensures.ok c.loop-address.invariant.known;
 }

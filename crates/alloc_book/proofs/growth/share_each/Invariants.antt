@@ -9,6 +9,6 @@ invariant-loop-address l =
     record {
       slots : in_slot l.holders ≡ in_slot l.fn.holders;
       kept : (k : List ℕ) (a : AddressValue) → is_known l.fn.holders k a ≡ true → is_known l.holders k a ≡ true;
-      known : (a : AddressValue) → Contains (take l.address-index l.addresses) a → is_known l.holders l.key a ≡ true;
+      known : (a : AddressValue) → Contains (take l.address-index l.addresses) a → is_known l.holders l.group a ≡ true;
       mixed : mixed_of l.holders ≡ mixed_of l.fn.holders;
     }

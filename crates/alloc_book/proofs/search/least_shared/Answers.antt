@@ -1,16 +1,15 @@
-use Rattle.std.proofs.Common.{true, ◌≡◌, ◌+◌, sym, ◌∙◌, arith, eqb, length, subst, List, ℕ}
-use Rattle.std.proofs.lemmas.Bool.{and_parts}
-use Rattle.alloc_book.specs.Index.{is_shared}
+use Rattle.std.proofs.Common.{true, ◌≡◌, ◌+◌, sym, ◌∙◌, arith, eqb, length, ap, List, ℕ}
+use Rattle.sharing_terms.specs.declared.terms.Terms.{Terms}
+use Rattle.alloc_book.specs.Groups.{group_of}
 use Rattle.alloc_book.specs.Search.{address_of}
-use Rattle.alloc_book.proofs.Candidates.{none-shared_in, barred-in, shared-more, left-more, left-next, no-key}
+use Rattle.alloc_book.proofs.Candidates.{none-shared_in, barred-in, shared-more, left-more, left-next, keyless-unusable}
 use Rattle.alloc_book.proofs.search.least_shared.Goals as goal
 
 pub returns-then-is_empty : goal.returns-then-is_empty
 returns-then-is_empty c =
     let empty : eqb (length c.args.terms.now.key) 0 ≡ true =
-    subst (λ (key : List ℕ). eqb (length key) 0 ≡ true) c.as_str.ensures (sym c.is_empty.ensures ∙ c.if-is_empty.true) in
-    λ m from upto offered. absurd (no-key c.args.terms.now.key c.args.book.now.claims (address_of c.args.family m) empty
-    (and_parts (is_shared c.args.terms.now.key c.args.book.now.claims (address_of c.args.family m)) _ offered).0)
+    ap (λ (t : Terms). eqb (length t.key) 0) (sym c.terms.ensures) ∙ ap (λ (key : List ℕ). eqb (length key) 0) (sym c.as_str.ensures) ∙ sym c.is_empty.ensures ∙ c.if-is_empty.true in
+    λ m from upto offered. keyless-unusable c.args.book.now.claims c.args.key.now c.args.terms.now c.args.pool.now (address_of c.args.family m) empty offered
 
 pub first_left-requires : goal.first_left-requires
 first_left-requires c = c.in-Some.ensures.some.1
@@ -22,8 +21,8 @@ returns-in_err-number c =
     let found = c.in-Some.ensures.some in
     let none =
     left-more claims c.args.key.now c.args.terms.now c.args.pool.now c.args.family c.args.low c.loop-shared.from c.in-Some.shared (c.args.high + 1) c.loop-shared.invariant.before
-    (none-shared_in _ claims c.args.family c.args.terms.now.key c.loop-shared.from c.in-Some.shared c.index-index.ensures.claims found.2)
-    (barred-in c.as_slice-ports.result.now c.args.terms.now.ports _ claims c.args.family c.in-Some.shared (c.args.high + 1) c.as_slice-ports.ensures.listed c.index-index.ensures.claims c.in_err-number.ensures.none) in
+    (none-shared_in _ claims c.args.family c.group.result.now (group_of c.args.terms.now) c.loop-shared.from c.in-Some.shared c.index-index.ensures.claims c.group.ensures found.2)
+    (barred-in c.as_slice-ports.result.now c.args.terms.now.ports _ claims c.args.family c.in-Some.shared (c.args.high + 1) (c.as_slice-ports.ensures.listed ∙ ap (λ (t : Terms). t.ports) c.terms-2.ensures) c.index-index.ensures.claims c.in_err-number.ensures.none) in
     rw c.from_residual.ensures (λ m from upto. none m from (omega (arith, upto)))
 
 pub loop-shared-preserved : goal.loop-shared-preserved
@@ -35,8 +34,8 @@ loop-shared-preserved c =
       begun = omega (arith, c.loop-shared.invariant.begun, found.0, left.0);
       before =
           left-next claims c.args.key.now c.args.terms.now c.args.pool.now c.args.family c.args.low c.loop-shared.from c.in-Some.shared c.in_ok-number.number c.loop-shared.invariant.before
-          (none-shared_in _ claims c.args.family c.args.terms.now.key c.loop-shared.from c.in-Some.shared c.index-index.ensures.claims found.2)
-          (barred-in c.as_slice-ports.result.now c.args.terms.now.ports _ claims c.args.family c.in-Some.shared c.in_ok-number.number c.as_slice-ports.ensures.listed c.index-index.ensures.claims left.2)
+          (none-shared_in _ claims c.args.family c.group.result.now (group_of c.args.terms.now) c.loop-shared.from c.in-Some.shared c.index-index.ensures.claims c.group.ensures found.2)
+          (barred-in c.as_slice-ports.result.now c.args.terms.now.ports _ claims c.args.family c.in-Some.shared c.in_ok-number.number (c.as_slice-ports.ensures.listed ∙ ap (λ (t : Terms). t.ports) c.terms-2.ensures) c.index-index.ensures.claims left.2)
           (sym c.may_use.ensures ∙ c.if-may_use.false);
     }
 
@@ -49,8 +48,8 @@ returns-then-may_use c =
       left.1,
       sym c.may_use.ensures ∙ c.if-may_use.true,
       left-more claims c.args.key.now c.args.terms.now c.args.pool.now c.args.family c.args.low c.loop-shared.from c.in-Some.shared c.in_ok-number.number c.loop-shared.invariant.before
-          (none-shared_in _ claims c.args.family c.args.terms.now.key c.loop-shared.from c.in-Some.shared c.index-index.ensures.claims found.2)
-          (barred-in c.as_slice-ports.result.now c.args.terms.now.ports _ claims c.args.family c.in-Some.shared c.in_ok-number.number c.as_slice-ports.ensures.listed c.index-index.ensures.claims left.2),
+          (none-shared_in _ claims c.args.family c.group.result.now (group_of c.args.terms.now) c.loop-shared.from c.in-Some.shared c.index-index.ensures.claims c.group.ensures found.2)
+          (barred-in c.as_slice-ports.result.now c.args.terms.now.ports _ claims c.args.family c.in-Some.shared c.in_ok-number.number (c.as_slice-ports.ensures.listed ∙ ap (λ (t : Terms). t.ports) c.terms-2.ensures) c.index-index.ensures.claims left.2),
     )
 
 pub returns-then-number-high : goal.returns-then-number-high
@@ -61,8 +60,8 @@ returns-then-number-high c =
     let last : c.in_ok-number.number ≡ c.args.high = c.if-number-high.true in
     let none =
     left-next claims c.args.key.now c.args.terms.now c.args.pool.now c.args.family c.args.low c.loop-shared.from c.in-Some.shared c.in_ok-number.number c.loop-shared.invariant.before
-    (none-shared_in _ claims c.args.family c.args.terms.now.key c.loop-shared.from c.in-Some.shared c.index-index.ensures.claims found.2)
-    (barred-in c.as_slice-ports.result.now c.args.terms.now.ports _ claims c.args.family c.in-Some.shared c.in_ok-number.number c.as_slice-ports.ensures.listed c.index-index.ensures.claims left.2)
+    (none-shared_in _ claims c.args.family c.group.result.now (group_of c.args.terms.now) c.loop-shared.from c.in-Some.shared c.index-index.ensures.claims c.group.ensures found.2)
+    (barred-in c.as_slice-ports.result.now c.args.terms.now.ports _ claims c.args.family c.in-Some.shared c.in_ok-number.number (c.as_slice-ports.ensures.listed ∙ ap (λ (t : Terms). t.ports) c.terms-2.ensures) c.index-index.ensures.claims left.2)
     (sym c.may_use.ensures ∙ c.if-may_use.false) in
     λ m from upto. none m from (omega (arith, upto, last))
 
@@ -70,5 +69,5 @@ pub returns : goal.returns
 returns c =
     let none =
     shared-more c.args.book.now.claims c.args.key.now c.args.terms.now c.args.pool.now c.args.family c.args.low c.loop-shared.from (c.args.high + 1) c.loop-shared.invariant.before
-    (none-shared_in _ c.args.book.now.claims c.args.family c.args.terms.now.key c.loop-shared.from (c.args.high + 1) c.index-index.ensures.claims c.in_default.ensures.none) in
+    (none-shared_in _ c.args.book.now.claims c.args.family c.group.result.now (group_of c.args.terms.now) c.loop-shared.from (c.args.high + 1) c.index-index.ensures.claims c.group.ensures c.in_default.ensures.none) in
     λ m from upto. none m from (omega (arith, upto))

@@ -18,12 +18,12 @@ returns-in-V6-clause-mixed c = rw (← c.self.view_is) (same-mixed_of c.self.ins
 pub returns-in-V4-clause-ok : goal.returns-in-V4-clause-ok
 returns-in-V4-clause-ok c =
     rw (← c.self.view_is, ← c.address.view_is)
-    (on_ok_weaker _ (known-v4 (λ b x. b || x) (λ x. refl) c.self.inside.v4 c.self.inside.v6 c.share.new.self c.args.key c.address.inside.family c.address.inside.number c.in-V4.is) c.share.ensures.ok)
+    (on_ok_weaker _ (known-v4 (λ b x. b || x) (λ x. refl) c.self.inside.v4 c.self.inside.v6 c.share.new.self c.args.group c.address.inside.family c.address.inside.number c.in-V4.is) c.share.ensures.ok)
 
 pub returns-in-V6-clause-ok : goal.returns-in-V6-clause-ok
 returns-in-V6-clause-ok c =
     rw (← c.self.view_is, ← c.address.view_is)
-    (on_ok_weaker _ (known-v6 (λ b x. b || x) (λ x. refl) c.self.inside.v4 c.self.inside.v6 c.share-in-V6.new.self c.args.key c.address.inside.family c.address.inside.number c.in-V6.is) c.share-in-V6.ensures.ok)
+    (on_ok_weaker _ (known-v6 (λ b x. b || x) (λ x. refl) c.self.inside.v4 c.self.inside.v6 c.share-in-V6.new.self c.args.group c.address.inside.family c.address.inside.number c.in-V6.is) c.share-in-V6.ensures.ok)
 
 pub returns-in-V4-clause-err : goal.returns-in-V4-clause-err
 returns-in-V4-clause-err c =

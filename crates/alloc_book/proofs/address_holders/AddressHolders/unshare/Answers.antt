@@ -17,9 +17,9 @@ returns-in-V6-clause-mixed c = rw (← c.self.view_is) (same-mixed_of c.self.ins
 pub returns-in-V4-clause-shared : goal.returns-in-V4-clause-shared
 returns-in-V4-clause-shared c =
     rw (← c.self.view_is, ← c.address.view_is)
-    (known-v4 (λ b x. not b && x) (λ x. refl) c.self.inside.v4 c.self.inside.v6 c.unshare.new.self c.args.key.now c.address.inside.family c.address.inside.number c.in-V4.is c.unshare.ensures.shared)
+    (known-v4 (λ b x. not b && x) (λ x. refl) c.self.inside.v4 c.self.inside.v6 c.unshare.new.self c.args.group.now c.address.inside.family c.address.inside.number c.in-V4.is c.unshare.ensures.shared)
 
 pub returns-in-V6-clause-shared : goal.returns-in-V6-clause-shared
 returns-in-V6-clause-shared c =
     rw (← c.self.view_is, ← c.address.view_is)
-    (known-v6 (λ b x. not b && x) (λ x. refl) c.self.inside.v4 c.self.inside.v6 c.unshare-in-V6.new.self c.args.key.now c.address.inside.family c.address.inside.number c.in-V6.is c.unshare-in-V6.ensures.shared)
+    (known-v6 (λ b x. not b && x) (λ x. refl) c.self.inside.v4 c.self.inside.v6 c.unshare-in-V6.new.self c.args.group.now c.address.inside.family c.address.inside.number c.in-V6.is c.unshare-in-V6.ensures.shared)

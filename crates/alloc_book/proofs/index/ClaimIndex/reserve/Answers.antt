@@ -37,4 +37,4 @@ returns-clause-room c =
     room-claim c.reserve.new.self.room c.reserve-2.new.self c.reserve_claim.new.holders c.share_each.new.holders c.args.claim.now c.in_ok-copy.field-0
     c.in_ok-reserve.ensures.room c.in_ok-reserve-2.ensures.room (c.in_ok-copy.ensures ∙ ap (λ (k : Key). k) c.key.ensures)
     c.in_ok-reserve_claim.ensures.room c.in_ok-reserve_claim.ensures.mixed_room c.share_each.ensures.slots c.share_each.ensures.mixed
-    (known-claim c.share_each.new.holders c.args.claim.now c.terms.result.now c.addresses.result.now c.terms.ensures c.in_ok-share_each.ensures.known c.addresses.ensures)
+    (known-claim c.share_each.new.holders c.args.claim.now c.group.result.now c.addresses.result.now c.group.ensures c.in_ok-share_each.ensures.known c.addresses.ensures)

@@ -18,6 +18,7 @@ use Rattle.bgp_updates.specs.declared.route.Terms.{Terms}
 use Rattle.bgp_updates.specs.Received.{same_prefix}
 use Rattle.bgp_updates.specs.Tables.{HasFew, before}
 use Rattle.bgp_routes.specs.Contribution.{IsContribution}
+use Rattle.bgp_routes.specs.Determined.{Ascends}
 use Rattle.bgp_routes.specs.Laws.{HasCommunity}
 use Rattle.bgp_routes.specs.Routes.{contributions, routes_of}
 use Rattle.bgp_routes.specs.Uniting.{united, united_terms, with_contribution, with_contributions}
@@ -40,9 +41,6 @@ has-at P (y ∷ xs) x (inl here) holds = inl (subst P (sym here) holds)
 has-at P (y ∷ xs) x (inr later) holds = inr (has-at P xs x later holds)
 
 -- ---- the communities of a route ascend
-abbrev Ascends : PrefixValue × Terms → Type 0
-Ascends route = IsStrictlySortedBy nat_cmp route.1.communities
-
 no-numbers : IsStrictlySortedBy nat_cmp []
 unfolding IsStrictlySortedBy
 no-numbers = tt
@@ -70,7 +68,7 @@ module _ (v : ViewValue) (node : List ℕ) (peer : CompiledPeer) (limited : HasF
       let config = limited adv.config adv.in_force in
       subst Ascends (sym by.is) (each-of (λ a. IsStrictlySortedBy nat_cmp a.communities) adv.config.bgp by.advertisement config.ascend adv.there)
 
-  routes-ascend : AllByRecursion Ascends (routes_of v node peer)
+  pub routes-ascend : AllByRecursion Ascends (routes_of v node peer)
   routes-ascend =
       all-ascend (contributions v node peer) [] tt
       (all-from Ascends (contributions v node peer) (λ c there. contribution-ascends c ((contributions-listed v node peer c).0 there)))

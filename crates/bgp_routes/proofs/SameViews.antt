@@ -11,12 +11,14 @@ use Rattle.speaker_view.specs.ViewValue.{ViewValue}
 use Rattle.bgp_updates.specs.declared.route.Terms.{Terms}
 use Rattle.bgp_updates.specs.Tables.{Ascend}
 use Rattle.bgp_routes.specs.Contribution.{IsContribution}
-use Rattle.bgp_routes.specs.Kept.{CommunitiesAscend, DiffersAt, SameViewsKeepTables, kept_for, HeldTable, peers_in, peers_of, table_at}
+use Rattle.bgp_routes.specs.Few.{HasFewInForce}
+use Rattle.bgp_routes.specs.Kept.{AreKeptBut, CommunitiesAscend, DiffersAt, SameViewsKeepTables, kept_for, HeldTable, peers_in, peers_of, table_at}
 use Rattle.bgp_routes.specs.Laws.{AreRoutes, HasCommunity, IsGreatest, IsRoute}
 use Rattle.bgp_routes.specs.Routes.{contributions, routes_of}
 use Rattle.bgp_routes.specs.Uniting.{with_contribution, with_contributions}
 use Rattle.bgp_routes.proofs.Determined.{one-table}
 use Rattle.bgp_routes.proofs.Elements.{routes-unite}
+use Rattle.bgp_routes.proofs.Few.{routes-ascend}
 use Rattle.bgp_routes.proofs.Placing.{OfV4, all-keys, ascend-with}
 use Rattle.bgp_routes.proofs.Stated.{contributions-v4}
 
@@ -110,3 +112,14 @@ module _ (u v : ViewValue) (node : List ℕ) (differs : DiffersAt u v node []) (
 
 pub same-views : SameViewsKeepTables
 same-views u v node differs first second = same-kept u v node differs first second
+
+-- with few communities in force, nothing changes where nothing is listed
+module _ (v : ViewValue) (node : List ℕ) (limited : HasFewInForce v) where
+  limited-at : (u : ViewValue) → DiffersAt u v node [] → HasFewInForce u
+  limited-at u differs config in_force = limited config (sym differs.config ∙ in_force)
+
+  pub nothing-listed : (tables : List HeldTable) → AreKeptBut v node [] tables → tables ≡ kept_for v node
+  nothing-listed tables are =
+      let u = are.0 in
+      let differs : DiffersAt u v node [] = are.2 in
+      are.1 ∙ same-views u v node differs (λ peer. routes-ascend u node peer (limited-at u differs)) (λ peer. routes-ascend v node peer limited)

@@ -1,10 +1,12 @@
 //! The routes of a node for all peers, kept from event to event.
-ghost use Rattle.std.specs.Prelude.{◌≡◌, [], IfOk, OnOk, OnErr};
+ghost use Rattle.std.specs.Prelude.{◌≡◌, [], All, IfOk, IfSome, OnOk, OnErr};
 ghost use Rattle.std.specs.Option.{option_map};
-ghost use Rattle.bgp_routes.specs.Kept.{is_named, is_table_of, kept_for, peers_of, table_at, table_found};
+ghost use Rattle.bgp_updates.specs.Tables.{HasFew};
+ghost use Rattle.bgp_routes.specs.Kept.{AreKeptBut, is_named, is_table_of, kept_for, peers_of, table_at, table_found};
 
 use crate::announced::routes;
 use bgp_updates::RouteTable;
+use ip_ranges::AddressList;
 use kube_labels::Text;
 use mlb_base::{NoMemory, TryCopy};
 use pool_config::CompiledPeer;
@@ -32,11 +34,15 @@ struct PeerTable {
 }
 
 impl Model for PeerTable {
+    ghost use Rattle.std.specs.Prelude.{All};
+    ghost use Rattle.bgp_updates.specs.Tables.{HasFew};
     ghost use Rattle.bgp_routes.specs.Kept.{HeldTable};
 
     ghost Value = { HeldTable };
 
     ghost view = { λ t. record { name = t.name; my_asn = t.my_asn; peer_asn = t.peer_asn; routes = t.routes } };
+
+    ghost invariant = { λ t. All HasFew t.routes };
 }
 
 impl Model for KeptRoutes {
@@ -71,9 +77,26 @@ impl KeptRoutes {
         Ok(())
     }
 
+    /// Makes the tables right for the view, where they are right for one that differs from it at these addresses at most. Where there is
+    /// no such address, nothing is listed.
+    pub fn renew(&mut self, view: &View, addresses: &AddressList) -> Result<(), NoMemory>
+        requires { AreKeptBut view.now self.old.node addresses.now self.old.tables }
+        ensures node { self.new.node ≡ self.old.node }
+        ensures ok { OnOk result (self.new.tables ≡ kept_for view.now self.old.node) }
+        ensures err { OnErr result (self.new.tables ≡ []) }
+    {
+        // The communities of a configuration in force ascend, so where all contributes as before, the tables are the same.
+        let _known = view.config();
+        if addresses.is_empty() {
+            return Ok(());
+        }
+        self.rebuild(view)
+    }
+
     /// The table of the peer of this name, and `None` exactly where no such peer is held. It takes no memory.
     pub fn table(&self, name: &str) -> Option<&RouteTable>
-        ensures { option_map (λ t. t.now) result ≡ table_found (is_named name.now) self.now.tables }
+        ensures table { option_map (λ t. t.now) result ≡ table_found (is_named name.now) self.now.tables }
+        ensures few { IfSome result (λ t. All HasFew t.now) }
     {
         let held = self.tables.iter().find(|table| table.is_named(name))?;
         Some(held.routes())
@@ -81,7 +104,8 @@ impl KeptRoutes {
 
     /// The table of the peer, and `None` exactly where no peer of its name with its AS numbers is held. It takes no memory.
     pub fn table_of(&self, peer: &CompiledPeer) -> Option<&RouteTable>
-        ensures { option_map (λ t. t.now) result ≡ table_found (is_table_of peer.now) self.now.tables }
+        ensures table { option_map (λ t. t.now) result ≡ table_found (is_table_of peer.now) self.now.tables }
+        ensures few { IfSome result (λ t. All HasFew t.now) }
     {
         let held = self.tables.iter().find(|table| table.is_of(peer))?;
         Some(held.routes())
@@ -102,7 +126,8 @@ impl PeerTable {
     }
 
     fn routes(&self) -> &RouteTable
-        ensures { result.now ≡ self.now.routes }
+        ensures routes { result.now ≡ self.now.routes }
+        ensures few { All HasFew result.now }
     {
         &self.routes
     }

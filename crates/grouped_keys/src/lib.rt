@@ -1,0 +1,6 @@
+//! Sets of keys by group.
+#![tactic(auto)]
+
+mod grouped;
+
+pub use grouped::GroupedKeys;

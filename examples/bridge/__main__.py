@@ -31,6 +31,8 @@ def words():
     parser = argparse.ArgumentParser(prog="bridge", description="A bridge between a program and a cluster (docs/BRIDGE.md).", allow_abbrev=False)
     common = argparse.ArgumentParser(add_help=False, allow_abbrev=False)
     common.add_argument("--program", required=True, help="the built program")
+    common.add_argument("--admit", metavar="PROGRAM",
+                        help="the built mlb_admit, which tells of each line ahead whether it would end the program; such a one is kept from it")
     common.add_argument("--server", default="http://127.0.0.1:8001", help="the API server (%(default)s)")
     common.add_argument("--namespace", default="metallb-system", help="the namespace of MetalLB's resources (%(default)s)")
     common.add_argument("--lb-class", help="the class of the services that are handled")
@@ -54,8 +56,9 @@ def words():
     each.add_argument("--bgp-retry", type=float, default=5.0, help="seconds before a session is opened anew (%(default)s)")
     each.add_argument("--lease-seconds", type=float, default=9.0, help="how long a node counts as a member after its lease was renewed (%(default)s)")
     options = parser.parse_args()
-    if not os.access(options.program, os.X_OK):
-        parser.error(f"no program {options.program}")
+    for program in filter(None, (options.program, options.admit)):
+        if not os.access(program, os.X_OK):
+            parser.error(f"no program {program}")
     if not options.server.startswith("http://"):
         parser.error("the API server is asked without TLS: http://..")
     return options

@@ -5,6 +5,7 @@ import contextlib
 from api import Api, Broken, NotSent
 from common import tell, together
 from programs import Ended, forever, started
+from reading import reading
 from watches import SERVICE_PATHS, Watches, config_paths
 
 PATCH = "application/merge-patch+json"
@@ -79,16 +80,24 @@ async def hear(program, puts):
     await asyncio.Future()
 
 
+def has_addresses(event):
+    return bool((event["object"].get("status") or {}).get("loadBalancer", {}).get("ingress"))
+
+
 async def run_once(options, api, puts):
-    """The program from its start to its end, and whether it took anything."""
+    """The program from its start to its end, and whether it took anything. A service that has addresses is shown in any case: were it kept back, another
+    one could be given them. So one that can't be read stops the controller."""
     command = [options.program] + ([f"--lb-class={options.lb_class}"] if options.lb_class else [])
-    async with started(command, ["config", "service"], options) as program:
+    async with reading(options.admit) as reader, started(command, ["config", "service"], options) as program:
         lanes = program.lanes
         paths = {"config": config_paths(options.namespace), "service": SERVICE_PATHS}
 
+        async def fault_of(event, line):
+            return None if has_addresses(event) else await reader.fault_of(event, line)
+
         async def give():
             await program.open()
-            await together(*(Watches(api, lane, paths[name], puts.until_quiet).keep() for name, lane in lanes.items()))
+            await together(*(Watches(api, lane, paths[name], fault_of, puts.until_quiet).keep() for name, lane in lanes.items()))
 
         with contextlib.suppress(Ended, ConnectionError):
             await together(program.until_ended(), hear(program, puts), give())

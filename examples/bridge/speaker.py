@@ -10,6 +10,7 @@ from members import Members
 from neighbors import Neighbors
 from peers import Peers
 from programs import Ended, forever, started
+from reading import reading
 from watches import SERVICE_PATHS, SPEAKER_PATHS, Watches, config_paths
 
 LEAVE_WAIT = 10.0  # seconds for the own Lease's deletion
@@ -72,9 +73,9 @@ async def run_once(options, api, members, links):
     """The program from its start to its end, and whether it took anything."""
     identifier = options.next_hop and (options.router_id or options.next_hop)
     neighbors, peers = Neighbors(links), Peers(options.node_name, identifier, options.bgp_retry)
-    async with started(command_of(options, links), ["watch", "frame"], options) as program:
+    async with reading(options.admit) as reader, started(command_of(options, links), ["watch", "frame"], options) as program:
         watch, frame = program.lanes["watch"], program.lanes["frame"]
-        watches = Watches(api, watch, config_paths(options.namespace) | SERVICE_PATHS | SPEAKER_PATHS, note=peers.note)
+        watches = Watches(api, watch, config_paths(options.namespace) | SERVICE_PATHS | SPEAKER_PATHS, reader.fault_of, note=peers.note)
 
         async def give():
             await program.open()

@@ -5,13 +5,14 @@ import json
 
 from api import Broken, NotSent, Refused
 from common import tell, together
+from reading import read
 
 FIRST = "watch=1&sendInitialEvents=true&resourceVersionMatch=NotOlderThan&allowWatchBookmarks=true"
 NEXT = "watch=1&resourceVersion={}&allowWatchBookmarks=true"
 ERROR = b'{"type":"ERROR","object":{}}\n'
 PAUSE = 0.1  # seconds before a watch that broke is asked for again
 LONG_PAUSE = 2.0  # and before one that the server refused
-AWAITED_TOLD = 15.0  # seconds until it is told which lists are awaited, and again
+AWAITED_TOLD = 15.0  # seconds until it is told which lists are awaited and what is kept back, and again
 
 
 class Expired(Exception):
@@ -35,41 +36,38 @@ HOLD_NOTHING_BACK = ("IPAddressPool", "Service", "EndpointSlice")
 SPEAKER_PATHS = {"Node": "/api/v1/nodes", "EndpointSlice": "/apis/discovery.k8s.io/v1/endpointslices"}
 
 
-def read(line):
-    """The event of a line, and the line to give: without `metadata.managedFields`, which no program reads, and which may make it too long."""
-    event = json.loads(line)
-    if event["object"].get("metadata", {}).pop("managedFields", None) is not None:
-        line = json.dumps(event, separators=(",", ":")).encode() + b"\n"
-    return event, line
-
-
 def ends_list(event):
     annotations = event["object"].get("metadata", {}).get("annotations") or {}
     return event["type"] == "BOOKMARK" and annotations.get("k8s.io/initial-events-end") == "true"
 
 
+def key_of(event):
+    metadata = event["object"]["metadata"]
+    return metadata.get("namespace"), metadata.get("name")
+
+
 def hold(held, event, line):
     """Takes a line of a list that hasn't ended into those that are held back: the last one of each object that is there."""
-    metadata = event["object"]["metadata"]
-    key = metadata.get("namespace"), metadata.get("name")
     if event["type"] == "DELETED":
-        held.pop(key, None)
+        held.pop(key_of(event), None)
     elif event["type"] != "BOOKMARK":
-        held[key] = line
+        held[key_of(event)] = line
 
 
 class Watches:
-    """`until_quiet` waits until no request of a put is out. `note` is told of each line's number and event ahead of its being given."""
+    """`until_quiet` waits until no request of a put is out. `fault_of` tells of a line why it would end the program, or nothing: such a line is kept from
+    it. `note` is told of each line's number and event ahead of its being given."""
 
-    def __init__(self, api, lane, paths, until_quiet=None, note=lambda number, event: None):
-        self.api, self.lane, self.paths, self.until_quiet, self.note = api, lane, paths, until_quiet, note
-        self.lists = {kind: asyncio.Event() for kind in paths}
+    def __init__(self, api, lane, paths, fault_of, until_quiet=None, note=lambda number, event: None):
+        self.api, self.lane, self.paths, self.fault_of, self.until_quiet, self.note = api, lane, paths, fault_of, until_quiet, note
+        self.lists, self.kept = {kind: asyncio.Event() for kind in paths}, {}
 
     async def keep(self):
         """Gives the lane its watches' lines. Where one expires all end; once the program has taken note of that, all begin anew."""
         while True:
             for ended in self.lists.values():
                 ended.clear()
+            self.kept.clear()
             with contextlib.suppress(Expired):
                 await self.follow_all()
             self.note(self.lane.given + 1, {"type": "ERROR"})
@@ -81,9 +79,11 @@ class Watches:
         await together(self.tell_awaited(), *(self.follow(kind, path) for kind, path in self.paths.items()))
 
     async def tell_awaited(self):
-        """Tells which first lists haven't ended, as long as there are such."""
+        """Tells what is kept from the program, and which first lists haven't ended, as long as there are such."""
         while True:
             await asyncio.sleep(AWAITED_TOLD)
+            for text in self.kept.values():
+                tell(text)
             if awaited := [kind for kind, ended in self.lists.items() if not ended.is_set()]:
                 tell(f"{self.lane.name} lane: no end yet of the lists of {', '.join(awaited)}")
 
@@ -100,7 +100,8 @@ class Watches:
                         if event["type"] == "ERROR":
                             raise Expired()
                         told = None
-                        await self.pass_on(kind, event, line, held)
+                        if not await self.keep_back(kind, event, line, held):
+                            await self.pass_on(kind, event, line, held)
                         version = event["object"]["metadata"]["resourceVersion"]
             except (NotSent, Broken):
                 pass
@@ -112,6 +113,17 @@ class Watches:
                     tell(f"no watch of {path}: {fault}")
                 told = fault.status
             await asyncio.sleep(pause)
+
+    async def keep_back(self, kind, event, line, held):
+        """Keeps a line that would end the program from it, and tells so, once more for as long as the object stands so."""
+        fault, key = await self.fault_of(event, line), (kind, *key_of(event))
+        self.kept.pop(key, None)
+        if not fault:
+            return False
+        held.pop(key_of(event), None)
+        self.kept[key] = f"{kind} {'/'.join(filter(None, key_of(event)))} is kept from the program: {fault}"
+        tell(self.kept[key])
+        return True
 
     async def pass_on(self, kind, event, line, held):
         """Gives one line, or holds it back with the others of a list that hasn't ended: the server may show changes in it, and each object is to be given

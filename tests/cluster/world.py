@@ -122,6 +122,21 @@ class Bridge:
                 os.kill(pid, signal.SIGKILL)
 
 
+class Calls:
+    """Has the watches send bookmarks: at once where the programs took note of the last ones or something changed, else ever less often, so that a program
+    that is slow catches up."""
+
+    def __init__(self, server):
+        self.server, self.known, self.at, self.pause = server, None, 0.0, FIRST_PAUSE
+
+    def call(self, turns, latest):
+        now, is_known = time.monotonic(), self.known == (turns, latest)
+        if not is_known or now > self.at:
+            self.pause = 2 * self.pause if is_known else FIRST_PAUSE
+            self.known, self.at = (turns, latest), now + self.pause
+            self.server.call()
+
+
 class Plague(Faults):
     """Faults of requests and watches, and stops of the controller at the worst moments of its puts."""
 
@@ -197,9 +212,9 @@ class World:
     def last_edits(self):
         """Once the controller was shown all, services alone are edited, and replies are lost. Nothing wakes behind it who isn't woken as an address comes
         free."""
-        until = time.monotonic() + self.patience
-        while not self.judge.faults and not self.bridge.turns(self.store.latest_versions()) and time.monotonic() < until:
-            self.server.call()
+        until, calls = time.monotonic() + self.patience, Calls(self.server)
+        while not self.judge.faults and not self.bridge.turns(latest := self.store.latest_versions()) and time.monotonic() < until:
+            calls.call(0, latest)
             time.sleep(SHORTEST_PAUSE)
         self.faults.puts = 0.2
         for _ in range(self.random.randrange(LAST_EDITS)):
@@ -221,17 +236,14 @@ class World:
         """Waits until nothing is left to be done; what is wrong. Of what is left that counts as wrong which stays while the programs take note, over and
         over, that nothing comes any more: how fast they are doesn't matter."""
         begun, since, left, stays, looked = time.monotonic(), (0.0, 0), [], set(), 0
-        called, call_at, pause, slow_at = None, 0.0, FIRST_PAUSE, begun + SLOW
+        calls, slow_at = Calls(self.server), begun + SLOW
         while not self.judge.faults:
             now, latest = time.monotonic(), self.store.latest_versions()
             if now > slow_at:
                 self.slow()
                 slow_at = now + SLOW
             turns = min(bridge.turns(latest) for bridge in self.bridges())
-            if called != (turns, latest) or now > call_at:  # a program that is slow is called ever less often, so that it catches up
-                pause = 2 * pause if called == (turns, latest) else FIRST_PAUSE
-                called, call_at = (turns, latest), now + pause
-                self.server.call()
+            calls.call(turns, latest)
             if not turns or turns != looked:
                 left = self.left(turns > 0)
                 if not left:

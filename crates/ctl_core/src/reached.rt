@@ -1,6 +1,7 @@
 //! The core as others use it: each of its states is one that a run leads to.
-ghost use Rattle.std.specs.Prelude.{◌≡◌, ◌↔◌, ◌⊎◌, ◌<◌, length, None, true, IsErrOf, IfOk, IfErr, OnOk, OnErr, IsSome, IsTrue};
+ghost use Rattle.std.specs.Prelude.{◌≡◌, ◌↔◌, ◌⊎◌, ◌+◌, ◌<◌, length, None, true, IsErrOf, IfOk, IfErr, OnOk, OnErr, IsSome, IsTrue};
 ghost use Rattle.std.specs.Option.{option_copied};
+ghost use Rattle.object_cache.specs.Limits.{most_services};
 ghost use Rattle.core_laws.specs.Quiet.{IsQuiet};
 ghost use Rattle.core_rules.specs.Core.{fresh, is_ready, record_of, is_settled};
 ghost use Rattle.core_rules.specs.Replied.{core_reply};
@@ -85,8 +86,8 @@ impl Core {
         requires { self.old.out ≡ None }
         ensures note { IfOk result (λ note. note ≡ core_note self.old event) }
         ensures ok { OnOk result (self.new ≡ core_take self.old event) }
-        ensures limit { IsErrOf result (TakeFault.Limit 65537) ↔ (limits self.old event ≡ true) }
-        ensures faults { IfErr result (λ fault. (fault ≡ TakeFault.Limit 65537) ⊎ (fault ≡ TakeFault.NoMemory)) }
+        ensures limit { IsErrOf result (TakeFault.Limit (most_services + 1)) ↔ (limits self.old event ≡ true) }
+        ensures faults { IfErr result (λ fault. (fault ≡ TakeFault.Limit (most_services + 1)) ⊎ (fault ≡ TakeFault.NoMemory)) }
         ensures err { OnErr result (self.new ≡ self.old) }
         ensures quiet { IsQuiet self.new }
     {

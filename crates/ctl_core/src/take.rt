@@ -1,5 +1,5 @@
 //! Events that are taken.
-ghost use Rattle.std.specs.Prelude.{◌≡◌, ◌↔◌, ◌⊎◌, ◌++◌, ◌&&◌, ◌||◌, [], if◌then◌else◌, not, is_some, None, true, IsErrOf, OnOk, OnErr, IfOk, IfErr};
+ghost use Rattle.std.specs.Prelude.{◌≡◌, ◌↔◌, ◌⊎◌, ◌+◌, ◌++◌, ◌&&◌, ◌||◌, [], if◌then◌else◌, not, is_some, None, true, IsErrOf, OnOk, OnErr, IfOk, IfErr};
 ghost use Rattle.kube_model.specs.declared.event.Event.TheVariants.{Changed as ChangedEvent, Deleted as DeletedEvent, ListEnd as ListEndEvent};
 ghost use Rattle.kube_model.specs.Keys.{key_cmp};
 ghost use Rattle.object_history.specs.Observations.{Watched, WatchExpired};
@@ -43,13 +43,15 @@ impl CoreState {
         requires reached { IsReached self.old }
         ensures note { IfOk result (λ note. note ≡ core_note self.old event) }
         ensures ok { OnOk result (self.new ≡ core_take self.old event) }
-        ensures limit { IsErrOf result (TakeFault.Limit 65537) ↔ (limits self.old event ≡ true) }
-        ensures faults { IfErr result (λ fault. (fault ≡ TakeFault.Limit 65537) ⊎ (fault ≡ TakeFault.NoMemory)) }
+        ensures limit { IsErrOf result (TakeFault.Limit (most_services + 1)) ↔ (limits self.old event ≡ true) }
+        ensures faults { IfErr result (λ fault. (fault ≡ TakeFault.Limit (most_services + 1)) ⊎ (fault ≡ TakeFault.NoMemory)) }
         ensures err { OnErr result (self.new ≡ self.old) }
     {
         if self.limits(&event) {
             drop(event);
-            return Err(TakeFault::Limit { count: 65_537 });
+            return Err(TakeFault::Limit {
+                count: MOST_SERVICES + 1,
+            });
         }
         match self.apply(event) {
             Ok(note) => Ok(note),

@@ -1,5 +1,5 @@
 -- Which statuses a run over two lanes may have.
-use Rattle.std.proofs.Common.{◌≡◌, ◌≢◌, ◌⊎◌, inl, inr, ℕ, Bool, true, false, List, [], Option, Some, None, is_some, refl, sym, subst}
+use Rattle.std.proofs.Common.{◌≡◌, ◌≢◌, ◌⊎◌, inl, inr, ℕ, ◌+◌, Bool, true, false, List, [], Option, Some, None, is_some, refl, sym, subst}
 use Rattle.core_rules.specs.Core.{State}
 use Rattle.kube_model.specs.declared.put.Put.{Put}
 use Rattle.kube_model.specs.declared.status.LaneName.{LaneName}
@@ -25,6 +25,7 @@ use Rattle.line_run.specs.declared.halt.Refusal.TheVariants.{Stopped, Halted}
 use Rattle.line_run.specs.Ended.{status_of_end, status_of_halt, status_of_refusal}
 use Rattle.line_run.specs.Machine.{Stops}
 use Rattle.line_run.specs.Steps.{Refuses}
+use Rattle.object_cache.specs.Limits.{most_services}
 use Rattle.mlb_controller.specs.Causes.{items_past, not_a_reply}
 use Rattle.mlb_controller.specs.LaneClauses.{CanEndLanes, IsWatched}
 use Rattle.mlb_controller.specs.Lanes.{belongs_to, lane_rules, name_of}
@@ -98,7 +99,7 @@ module _ (start : State) (first first' second second' : SourceView) (before afte
     where
       item_fair : ((lane_rules.take at_item.state at_item.item ≡ Stops status) × Grows at_item.mid.written after.written [])
           ⊎ ((halt : Halt) × (status ≡ status_of_halt halt) × HaltsItem halt lane_rules at_item.state at_item.item at_item.mid.written after.written at_item.mid.faults after.faults) → CanEndLanes status
-      item_fair (inl (stops, wrote)) = fair status (statuses.Limit whats.Services 65537) (items_past at_item.state at_item.item status stops) refl
+      item_fair (inl (stops, wrote)) = fair status (statuses.Limit whats.Services (most_services + 1)) (items_past at_item.state at_item.item status stops) refl
       item_fair (inr (halt, is, halts)) = fair status (status_of_halt halt) is (halt_fair halt)
   ends_fair (inr (inl at_reply)) = reading_fair at_reply.state status at_reply.mid after at_reply.stops
   ends_fair (inr (inr (inl behind))) = reading_fair behind.all.state status behind.mid after behind.stops

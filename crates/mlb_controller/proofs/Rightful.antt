@@ -1,5 +1,5 @@
 -- What the lines of a stream lead to is a run of the core, so its transcript is sound, and a run that is done leaves nothing waiting.
-use Rattle.std.proofs.Common.{◌≡◌, ℕ, Bool, true, false, cond, List, [], ◌∷◌, ◌++◌, Option, Some, None, Result, Ok, Err, inl, inr, is_some, refl, ap}
+use Rattle.std.proofs.Common.{◌≡◌, ℕ, ◌+◌, Bool, true, false, cond, List, [], ◌∷◌, ◌++◌, Option, Some, None, Result, Ok, Err, inl, inr, is_some, refl, ap}
 use Rattle.kube_model.specs.declared.event.Event.{Event}
 use Rattle.kube_model.specs.declared.event.EventFault.{EventFault}
 use Rattle.kube_model.specs.declared.put.Put.{Put}
@@ -24,6 +24,7 @@ use Rattle.line_run.specs.RunOutput.{WritesOnly, StopsAs}
 use Rattle.mlb_edge.specs.declared.lines.Line.{Line}
 use Rattle.mlb_edge.specs.InputLines.{Ending, Whole, LongLine, LongInput, input_of}
 use Rattle.service_texts.proofs.EventTerms.{events_show_terms, events_show_families}
+use Rattle.object_cache.specs.Limits.{most_services}
 use Rattle.mlb_controller.specs.Causes.{line_causes}
 use Rattle.mlb_controller.specs.Stream.{goes_by, arrival, event_step, reply_step, step_where, controller_rules, end_of}
 use Rattle.mlb_controller.specs.Sound.{WritesSound, RunsSound, IsSafeThroughout, RunsSafe, LeavesNothing, EndsQuiet}
@@ -39,7 +40,7 @@ module _ (class : Option (List ℕ)) where
       let same : d.entries ≡ entries = cc in
       rw (← core, ← same) leads
 
-  within_goes : (b : Bool) (s : State) (bytes : List ℕ) (event : Event) → s.out ≡ None → event_of_line bytes ≡ Ok event → GoesOn s (cond b (Stops (Limit whats.Services 65537)) (goes_by (taking s event)))
+  within_goes : (b : Bool) (s : State) (bytes : List ℕ) (event : Event) → s.out ≡ None → event_of_line bytes ≡ Ok event → GoesOn s (cond b (Stops (Limit whats.Services (most_services + 1))) (goes_by (taking s event)))
   within_goes true s bytes event none reads next entries told e leads = absurd (cc)
   within_goes false s bytes event none reads next entries told e leads =
       by_driven (taking s event) next entries told e (events_go_on class told s event leads none (events_show_terms bytes event reads) (events_show_families bytes event reads))

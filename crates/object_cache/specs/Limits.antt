@@ -16,7 +16,7 @@ use Rattle.object_history.specs.Cache.{Cached, cached}
 
 -- the most services that are held
 abbrev pub most_services : ℕ
-most_services = 65536
+most_services = 262144
 
 -- the most nodes that are held
 abbrev pub most_nodes : ℕ

@@ -5,7 +5,7 @@ ghost use Rattle.object_cache.specs.Limits.{passes};
 use versioned_map::VersionedMap;
 
 /// The most services that are held.
-pub const MOST_SERVICES: u64 = 65_536;
+pub const MOST_SERVICES: u64 = 262_144;
 
 /// The most nodes that are held.
 pub const MOST_NODES: u64 = 1_024;

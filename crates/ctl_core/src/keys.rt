@@ -11,6 +11,7 @@ ghost use Rattle.core_rules.specs.Keys.{own_key, is_free};
 ghost use Rattle.core_rules.specs.Take.{is_unlisted, listed_keys};
 ghost use Rattle.ctl_core.specs.Waiting.{lacks_record, lacks_with, others_where};
 
+use crate::awaiting::{AwaitingKeys, awaits};
 use crate::listing::Listed;
 use crate::waiting::WaitingKeys;
 use key_queue::KeyQueue;
@@ -23,7 +24,7 @@ use versioned_map::VersionedMap;
 /// The held services.
 pub(crate) type Services = VersionedMap<Key, Service>;
 
-/// Keys that are queued, or that await a newer event.
+/// Keys that are queued.
 pub(crate) type Keys = KeyQueue<Key>;
 
 fn has_key(keys: &Keys, key: &Key) -> bool
@@ -33,10 +34,10 @@ fn has_key(keys: &Keys, key: &Key) -> bool
 }
 
 /// Whether the key is neither queued nor awaiting.
-pub(crate) fn is_free(queue: &Keys, awaiting: &Keys, key: &Key) -> bool
+pub(crate) fn is_free(queue: &Keys, awaiting: &AwaitingKeys, key: &Key) -> bool
     ensures { result ≡ is_free queue.now awaiting.now key.now }
 {
-    !has_key(queue, key) && !has_key(awaiting, key)
+    !has_key(queue, key) && !awaits(awaiting, key)
 }
 
 pub(crate) fn drop_key(keys: &mut Keys, key: &Key)
@@ -71,7 +72,13 @@ fn own_key(alloc: Global, key: &Key, queue: &Keys) -> Result<Vec<Key>, NoMemory>
     Ok(keys)
 }
 
-fn is_free_with(queue: &Keys, awaiting: &Keys, assigned: bool, key: &Key, service: &Service) -> bool
+fn is_free_with(
+    queue: &Keys,
+    awaiting: &AwaitingKeys,
+    assigned: bool,
+    key: &Key,
+    service: &Service,
+) -> bool
     ensures { result ≡ is_free_with queue.now awaiting.now assigned key.now service.now }
 {
     let is_asked = service.holding.is_assigned() == assigned;
@@ -82,7 +89,7 @@ fn free_with(
     alloc: Global,
     assigned: bool,
     queue: &Keys,
-    awaiting: &Keys,
+    awaiting: &AwaitingKeys,
     services: &Services,
 ) -> Result<Vec<Key>, NoMemory>
     ensures { IfOk result (λ keys. keys.items ≡ passing (is_free_with queue.now awaiting.now assigned) services.now) }
@@ -101,7 +108,7 @@ fn free_with(
 pub(crate) fn all_free(
     alloc: Global,
     queue: &Keys,
-    awaiting: &Keys,
+    awaiting: &AwaitingKeys,
     services: &Services,
 ) -> Result<Vec<Key>, NoMemory>
     ensures { IfOk result (λ keys. keys.items ≡ all_free queue.now awaiting.now services.now) }
@@ -116,7 +123,7 @@ fn free_listed_with(
     alloc: Global,
     assigned: bool,
     queue: &Keys,
-    awaiting: &Keys,
+    awaiting: &AwaitingKeys,
     services: &Services,
 ) -> Result<Vec<Key>, NoMemory>
     ensures { IfOk result (λ keys. keys.items ≡ passing (is_free_with queue.now awaiting.now assigned) (listed services.now)) }
@@ -134,7 +141,7 @@ fn free_listed_with(
 fn all_free_listed(
     alloc: Global,
     queue: &Keys,
-    awaiting: &Keys,
+    awaiting: &AwaitingKeys,
     services: &Services,
 ) -> Result<Vec<Key>, NoMemory>
     ensures { IfOk result (λ keys. keys.items ≡ all_free queue.now awaiting.now (listed services.now)) }
@@ -203,7 +210,7 @@ pub(crate) fn listed_and_free(
     is_ready: bool,
     is_lost: bool,
     queue: &Keys,
-    awaiting: &Keys,
+    awaiting: &AwaitingKeys,
     services: &Services,
     waiting: &WaitingKeys,
 ) -> Result<Vec<Key>, NoMemory>

@@ -2,6 +2,7 @@
 //! decide on.
 #![tactic(auto)]
 
+mod awaiting;
 mod claims;
 mod keys;
 mod listing;

@@ -10,6 +10,7 @@ ghost use Rattle.core_laws.specs.Queue.{AreApart, NoneAmong};
 ghost use Rattle.ctl_core.specs.Reached.{IsReached};
 ghost use Rattle.ctl_core.specs.Waiting.{lacks_with};
 
+use crate::awaiting::await_newer;
 use crate::claims::{doubt, loses};
 use crate::keys::{Keys, Services, lacks_with};
 use crate::room::{append_new, push_new, reserved_claim};
@@ -95,7 +96,7 @@ impl CoreState {
             ..
         } = put;
         drop(holding);
-        let Ok(()) = push_new(&mut self.awaiting, awaited) else {
+        let Ok(()) = await_newer(&mut self.awaiting, awaited) else {
             drop(key);
             return Err(NoMemory);
         };

@@ -3,6 +3,7 @@ ghost use Rattle.std.specs.Prelude.{◌≡◌, ◌↔◌, ◌<◌, length, IfOk,
 ghost use Rattle.std.specs.Option.{option_copied};
 ghost use Rattle.core_rules.specs.Core.{fresh, is_ready, record_of, is_settled};
 
+use crate::awaiting::AwaitingKeys;
 use crate::keys::{Keys, is_free};
 use crate::waiting::WaitingKeys;
 use alloc_book::Book;
@@ -21,7 +22,7 @@ pub(crate) struct CoreState {
     pub(crate) cache: ObjectCache,
     pub(crate) book: Book,
     pub(crate) queue: Keys,
-    pub(crate) awaiting: Keys,
+    pub(crate) awaiting: AwaitingKeys,
     /// While the core is ready, the services that a release of an address would queue.
     pub(crate) waiting: WaitingKeys,
     pub(crate) out: Option<Put>,
@@ -57,7 +58,7 @@ impl CoreState {
             cache: ObjectCache::new(alloc),
             book: Book::new(alloc),
             queue: Keys::new(alloc),
-            awaiting: Keys::new(alloc),
+            awaiting: AwaitingKeys::new(alloc),
             waiting: WaitingKeys::new(alloc),
             out: None,
         })

@@ -16,6 +16,7 @@ ghost use Rattle.ctl_core.specs.Holding.{IsPrepared, held_service};
 ghost use Rattle.ctl_core.specs.Reached.{IsReached};
 ghost use Rattle.ctl_core.specs.Waking.{may_wake, ends_config};
 
+use crate::awaiting::{keep_awaiting, stop_awaiting};
 use crate::claims::{have_claims, keep_listed_claims, loses, shown_claim};
 use crate::keys::{Keys, all_free, drop_key, keep_listed, listed_and_free, own_and_waiting};
 use crate::room::{append_new, truncate_unless};
@@ -254,7 +255,7 @@ impl CoreState {
         } = prepared;
         drop(more);
         self.book.settle_prepared(claim);
-        drop_key(&mut self.awaiting, &key);
+        stop_awaiting(&mut self.awaiting, &key);
         self.waiting.release(is_lost, &key);
         drop(key);
         Ok(())
@@ -312,7 +313,7 @@ impl CoreState {
         let applied = queue_and_apply(&mut self.queue, &mut self.cache, &more, event)?;
         drop(applied);
         self.book.drop_name(&gone);
-        drop_key(&mut self.awaiting, &gone);
+        stop_awaiting(&mut self.awaiting, &gone);
         drop_key(&mut self.queue, &gone);
         self.waiting.release(is_lost, &gone);
         Ok(TakeNote::Quiet)
@@ -354,7 +355,7 @@ impl CoreState {
         let applied = queue_and_apply(&mut self.queue, &mut self.cache, &more, event)?;
         drop(applied);
         keep_listed_claims(&mut self.book, self.cache.services());
-        keep_listed(&mut self.awaiting, self.cache.services());
+        keep_awaiting(&mut self.awaiting, self.cache.services());
         keep_listed(&mut self.queue, self.cache.services());
         self.waiting.keep_listed(is_lost, self.cache.services());
         Ok(TakeNote::Quiet)

@@ -23,8 +23,8 @@ pub trait KeyTest<K> {
 
 /// A queue of distinct keys, which contracts see as the list of its keys, the front first.
 ///
-/// Keys are found by their hashes: whether a key is in the queue, a key to the back and the key at the front take about the same time
-/// however many keys there are. To take the first key of a hash set moves all behind it, so the keys at the front are kept in
+/// Keys are found by their hashes. Their seed is fixed, so whoever chooses keys can choose such that collide, and a key is then looked
+/// for among all of these. To take the first key of a hash set moves all behind it, so the keys at the front are kept in
 /// reverse, in a set whose last key leaves. Where none is left there, the keys behind are turned over, each once on its way through.
 #[derive(Drop)]
 pub struct KeyQueue<K: Eq + Hash> {

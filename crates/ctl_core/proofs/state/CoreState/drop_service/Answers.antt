@@ -34,7 +34,7 @@ invariant_of-self-2 c =
     let lost_is = rw (← c.self.view_is) at c.gives_up-is_lost.ensures in
     let state_is = service-dropped s _ c.in_ok-gone.gone c.args.key c.deref.result.now _ _ _ _ c.in_ok-gone.ensures
     (c.deref.ensures.value ∙ c.in_ok-more.ensures.keys ∙ dropped-others s i.waiting reached c.self.invariant c.in_ok-more.ensures.ordered c.gives_up-is_lost.result c.args.key lost_is)
-    c.in_ok-applied.ensures.cache c.in_ok-applied.ensures.queue c.drop_name.ensures.claims c.drop_key.ensures c.drop_key-2.ensures in
+    c.in_ok-applied.ensures.cache c.in_ok-applied.ensures.queue c.drop_name.ensures.claims c.stop_awaiting.ensures c.drop_key.ensures in
     subst (λ (t : State). WaitIn t c.release.new.self) (sym state_is)
     (dropped-wait s c.in_ok-gone.gone c.args.key c.gives_up-is_lost.result i.waiting c.release.new.self reached c.self.invariant c.in_ok-gone.ensures lost_is c.release.ensures)
 
@@ -46,5 +46,5 @@ returns-clause-ok c =
     let lost_is = rw (← c.self.view_is) at c.gives_up-is_lost.ensures in
     let state_is = service-dropped s _ c.in_ok-gone.gone c.args.key c.deref.result.now _ _ _ _ c.in_ok-gone.ensures
     (c.deref.ensures.value ∙ c.in_ok-more.ensures.keys ∙ dropped-others s i.waiting reached c.self.invariant c.in_ok-more.ensures.ordered c.gives_up-is_lost.result c.args.key lost_is)
-    c.in_ok-applied.ensures.cache c.in_ok-applied.ensures.queue c.drop_name.ensures.claims c.drop_key.ensures c.drop_key-2.ensures in
+    c.in_ok-applied.ensures.cache c.in_ok-applied.ensures.queue c.drop_name.ensures.claims c.stop_awaiting.ensures c.drop_key.ensures in
     rw (← c.self.view_is) state_is

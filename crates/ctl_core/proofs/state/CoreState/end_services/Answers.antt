@@ -35,12 +35,12 @@ invariant_of-self-2 c =
     let more_is = rw (← c.self.view_is) at (c.deref.ensures.value ∙ c.in_ok-more.ensures) in
     let state_is = services-listed s c.queue_and_apply.new.cache c.deref.result.now _ _ _ _ more_is c.in_ok-applied.ensures.cache c.in_ok-applied.ensures.queue
     (c.keep_listed_claims.ensures ∙ ap (λ es. listed_claims es s.claims) c.services-2.ensures)
-    (c.keep_listed.ensures ∙ ap (λ es. listed_keys es s.awaiting) c.services-3.ensures)
-    (c.keep_listed-2.ensures ∙ ap (λ es. listed_keys es c.queue_and_apply.new.queue) c.services-4.ensures) in
+    (c.keep_awaiting.ensures ∙ ap (λ es. listed_keys es s.awaiting) c.services-3.ensures)
+    (c.keep_listed.ensures ∙ ap (λ es. listed_keys es c.queue_and_apply.new.queue) c.services-4.ensures) in
     let lost_is = c.have_claims-is_lost.ensures ∙ ap (λ es. have_claims es s.claims) c.services.ensures in
-    subst (λ (t : State). WaitIn t c.keep_listed-3.new.self) (sym state_is)
-    (listed-wait s c.services-5.result.now c.have_claims-is_lost.result i.waiting c.keep_listed-3.new.self reached c.self.invariant
-    (c.services-5.ensures ∙ ap (λ (held : Cached). held.services) c.in_ok-applied.ensures.cache) lost_is c.keep_listed-3.ensures)
+    subst (λ (t : State). WaitIn t c.keep_listed-2.new.self) (sym state_is)
+    (listed-wait s c.services-5.result.now c.have_claims-is_lost.result i.waiting c.keep_listed-2.new.self reached c.self.invariant
+    (c.services-5.ensures ∙ ap (λ (held : Cached). held.services) c.in_ok-applied.ensures.cache) lost_is c.keep_listed-2.ensures)
 
 pub returns-clause-ok : goal.returns-clause-ok
 returns-clause-ok c =
@@ -50,6 +50,6 @@ returns-clause-ok c =
     let more_is = rw (← c.self.view_is) at (c.deref.ensures.value ∙ c.in_ok-more.ensures) in
     let state_is = services-listed s c.queue_and_apply.new.cache c.deref.result.now _ _ _ _ more_is c.in_ok-applied.ensures.cache c.in_ok-applied.ensures.queue
     (c.keep_listed_claims.ensures ∙ ap (λ es. listed_claims es s.claims) c.services-2.ensures)
-    (c.keep_listed.ensures ∙ ap (λ es. listed_keys es s.awaiting) c.services-3.ensures)
-    (c.keep_listed-2.ensures ∙ ap (λ es. listed_keys es c.queue_and_apply.new.queue) c.services-4.ensures) in
+    (c.keep_awaiting.ensures ∙ ap (λ es. listed_keys es s.awaiting) c.services-3.ensures)
+    (c.keep_listed.ensures ∙ ap (λ es. listed_keys es c.queue_and_apply.new.queue) c.services-4.ensures) in
     rw (← c.self.view_is) state_is

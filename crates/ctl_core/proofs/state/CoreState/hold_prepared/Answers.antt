@@ -39,7 +39,7 @@ invariant_of-self-2 c =
     let more_is = c.deref.ensures.value ∙ prepared.more_is in
     let state_is = prepared-held s c.args.version c.args.service c.args.prepared _ c.deref.result.now _ _ _ prepared c.deref.ensures.value
     c.in-Ok-queue_and_apply.ensures.cache c.in-Ok-queue_and_apply.ensures.queue
-    (c.settle_prepared.ensures.claims ∙ ap (settled c.args.prepared.claim.key c.args.prepared.claim.holding c.args.prepared.claim.terms) c.reserve.ensures.claims) c.drop_key.ensures in
+    (c.settle_prepared.ensures.claims ∙ ap (settled c.args.prepared.claim.key c.args.prepared.claim.holding c.args.prepared.claim.terms) c.reserve.ensures.claims) c.stop_awaiting.ensures in
     subst (λ (t : State). WaitIn t c.release.new.self) (sym state_is)
     (held-wait s c.args.version c.args.service c.args.prepared.key c.args.prepared.is_lost i.waiting c.release.new.self reached c.self.invariant prepared.key_is prepared.lost_is c.release.ensures)
 
@@ -53,5 +53,5 @@ returns-clause-ok c =
     let more_is = c.deref.ensures.value ∙ prepared.more_is in
     let state_is = prepared-held s c.args.version c.args.service c.args.prepared _ c.deref.result.now _ _ _ prepared c.deref.ensures.value
     c.in-Ok-queue_and_apply.ensures.cache c.in-Ok-queue_and_apply.ensures.queue
-    (c.settle_prepared.ensures.claims ∙ ap (settled c.args.prepared.claim.key c.args.prepared.claim.holding c.args.prepared.claim.terms) c.reserve.ensures.claims) c.drop_key.ensures in
+    (c.settle_prepared.ensures.claims ∙ ap (settled c.args.prepared.claim.key c.args.prepared.claim.holding c.args.prepared.claim.terms) c.reserve.ensures.claims) c.stop_awaiting.ensures in
     rw (← c.self.view_is) state_is

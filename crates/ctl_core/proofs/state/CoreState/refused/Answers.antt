@@ -9,8 +9,8 @@ use Rattle.ctl_core.proofs.Reaches.{reached-orderly}
 use Rattle.ctl_core.proofs.WaitingTurns.{waiting-refused}
 use Rattle.ctl_core.proofs.state.CoreState.refused.Goals as goal
 
-pub push_new-requires : goal.push_new-requires
-push_new-requires c =
+pub await_newer-requires : goal.await_newer-requires
+await_newer-requires c =
     let i = c.self.inside in
     let s : State = record { class = i.class; held = i.cache; claims = i.book.claims; queue = i.queue; awaiting = i.awaiting; out = i.out } in
     let reached : IsReached s = rw (← c.self.view_is) at c.requires.reached in
@@ -20,6 +20,6 @@ push_new-requires c =
 pub invariant_of-self-2 : goal.invariant_of-self-2
 invariant_of-self-2 c =
     let i = c.self.inside in
-    subst (λ (keys : List Key). AreWaiting i.class i.cache i.queue keys c.remove.new.self) (sym c.in-Ok-push_new.ensures.ok)
+    subst (λ (keys : List Key). AreWaiting i.class i.cache i.queue keys c.remove.new.self) (sym c.in-Ok-await_newer.ensures.ok)
     (waiting-refused i.class i.cache i.queue i.awaiting c.args.put.key i.waiting c.remove.new.self c.self.invariant
     (λ k. c.remove.ensures k ∙ ap (λ (x : Key). not (same_key x k) && contains key_cmp i.waiting k) c.in-Ok.ensures))

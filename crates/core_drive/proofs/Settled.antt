@@ -1,28 +1,20 @@
 -- Where nothing is left waiting that could be served, each settled service has its own.
-use Rattle.std.proofs.Common.{◌≡◌, ◌≢◌, ℕ, false, List, [], ◌∷◌, Option, None}
+use Rattle.std.proofs.Common.{◌≢◌, ℕ, List, [], ◌∷◌, Option}
 use Rattle.ip_ranges.specs.declared.family.Family.{Family}
-use Rattle.kube_model.specs.declared.key.Key.{Key}
-use Rattle.kube_model.specs.declared.service.Service.{Service}
 use Rattle.kube_model.specs.Families.{AreFamilies}
-use Rattle.versioned_map.specs.declared.map.Versioned.{Versioned}
 use Rattle.object_history.specs.Kinds.{service_resource}
-use Rattle.object_history.specs.LookBack.{IsLastShown}
 use Rattle.object_history.proofs.Seen.{is-last_shown}
-use Rattle.alloc_book.specs.Asking.{Offer}
-use Rattle.core_rules.specs.Core.{State}
 use Rattle.core_rules.specs.Run.{Entry as CoreEntry, observed, claims_shown}
-use Rattle.core_laws.specs.Puts.{IsReadyBy}
 use Rattle.core_laws.specs.Quiet.{MeetsRow}
 use Rattle.core_laws.specs.QuietShown.{IsQuietAsShown, offer_shown}
 use Rattle.core_laws.specs.Shown.{HoldsOfShown}
-use Rattle.core_laws.specs.Waits.{awaits_shown}
 use Rattle.core_laws.proofs.Keyed.{observed-all, shown-holds}
 use Rattle.core_laws.proofs.Settled.{offers_are_for_services, held_are_served, others_are_bare}
 use Rattle.core_laws.proofs.Waiting.{waits_in_vain}
-use Rattle.core_drive.specs.Drive.{Entry, behind}
+use Rattle.core_drive.specs.Drive.{behind}
 use Rattle.core_drive.specs.Laws.{DrivesAreSettled}
-use Rattle.core_drive.specs.Settled.{HasItsOwn, AllHaveTheirOwn}
-use Rattle.core_drive.specs.Sound.{LeadsTo, HasFamilies}
+use Rattle.core_drive.specs.Settled.{AllHaveTheirOwn}
+use Rattle.core_drive.specs.Sound.{HasFamilies}
 use Rattle.core_drive.proofs.Goes.{drives_are_quiet}
 
 some-family : (families : List Family) → AreFamilies families → families ≢ []

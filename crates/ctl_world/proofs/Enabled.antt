@@ -119,8 +119,8 @@ enabled (Take group) w kept e =
     (is-there w.core parts.0, is-filled (lane_of group w) (not-true (is_nil (lane_of group w)) parts.1))
 enabled (Turns outcome) w kept e = turns-there w.core e
 enabled (Crash applied) w kept e = is-there w.core e
-enabled Restart w kept e = isn't-there w.core (not-true (is_some w.core) e)
-enabled (Expire group) w kept e =
+enabled (Restart order) w kept e = isn't-there w.core (not-true (is_some w.core) e)
+enabled (Expire group order) w kept e =
     let parts = both (is_some w.core) (has_lane group) e in
     (is-there w.core parts.0, lanes-there group parts.1)
 
@@ -136,8 +136,8 @@ disabled (Edits edit) w kept e = no-edits edit w kept e
 disabled (Take group) w kept e = λ is. is.1 (isn't-filled (lane_of group w) (not-false (is_nil (lane_of group w)) (down-then w.core _ e is.0)))
 disabled (Turns outcome) w kept e = λ is. is.0 (no-turns w.core e is.1)
 disabled (Crash applied) w kept e = λ is. is (isn't-there w.core e)
-disabled Restart w kept e = λ is. true≢false (sym (not-false (is_some w.core) e) ∙ ap is_some is)
-disabled (Expire group) w kept e = λ is. is.1 (no-lanes group (down-then w.core (has_lane group) e is.0))
+disabled (Restart order) w kept e = λ is. true≢false (sym (not-false (is_some w.core) e) ∙ ap is_some is)
+disabled (Expire group order) w kept e = λ is. is.1 (no-lanes group (down-then w.core (has_lane group) e is.0))
 
 -- ---- limits
 
@@ -146,5 +146,5 @@ used-up (Edits edit) w e = same-version w.store.counter most_versions e
 used-up (Take group) w e = absurd (true≢false (sym e))
 used-up (Turns outcome) w e = same-version w.store.counter most_versions e
 used-up (Crash applied) w e = let parts = both applied (eqb w.store.counter most_versions) e in (parts.0, same-version w.store.counter most_versions parts.1)
-used-up Restart w e = absurd (true≢false (sym e))
-used-up (Expire group) w e = absurd (true≢false (sym e))
+used-up (Restart order) w e = absurd (true≢false (sym e))
+used-up (Expire group order) w e = absurd (true≢false (sym e))

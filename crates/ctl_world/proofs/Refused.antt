@@ -51,8 +51,8 @@ module _ (old new : WorldValue) where
   want-step (Take group) there is = inl is
   want-step (Turns outcome) there either = crashed-step there.0 either
   want-step (Crash applied) there either = crashed-step there either
-  want-step Restart there is = inl is
-  want-step (Expire group) there is = inl is
+  want-step (Restart order) there is = inl is
+  want-step (Expire group order) there is = inl is
 
   left-step : (step : Step) (fault : StepFault) → Leaves fault step old new → IsStepped old new
   left-step step faults.NotEnabled left = inl left.1

@@ -16,8 +16,8 @@ IsAfterWant (Edits edit) old new = new ≡ old
 IsAfterWant (Take group) old new = new ≡ old
 IsAfterWant (Turns outcome) old new = IsSameOrCrashed old new
 IsAfterWant (Crash applied) old new = IsSameOrCrashed old new
-IsAfterWant Restart old new = new ≡ old
-IsAfterWant (Expire group) old new = new ≡ old
+IsAfterWant (Restart order) old new = new ≡ old
+IsAfterWant (Expire group order) old new = new ≡ old
 
 -- the step takes an event
 abbrev pub IsTake : Step → Type 0
@@ -25,8 +25,8 @@ IsTake (Edits edit) = ⊥
 IsTake (Take group) = ⊤
 IsTake (Turns outcome) = ⊥
 IsTake (Crash applied) = ⊥
-IsTake Restart = ⊥
-IsTake (Expire group) = ⊥
+IsTake (Restart order) = ⊥
+IsTake (Expire group order) = ⊥
 
 -- when a step is refused so, and what it leaves
 abbrev pub Leaves : StepFault → Step → WorldValue → WorldValue → Type 0

@@ -40,8 +40,8 @@ is_enabled (Edits edit) w = may_edit edit w.store
 is_enabled (Take group) w = is_some w.core && has_event group w
 is_enabled (Turns outcome) w = has_turn w.core
 is_enabled (Crash applied) w = is_some w.core
-is_enabled Restart w = not (is_some w.core)
-is_enabled (Expire group) w = is_some w.core && has_lane group
+is_enabled (Restart order) w = not (is_some w.core)
+is_enabled (Expire group order) w = is_some w.core && has_lane group
 
 -- whether the step would take a version
 abbrev pub takes_version : Step → Bool
@@ -49,8 +49,8 @@ takes_version (Edits edit) = true
 takes_version (Take group) = false
 takes_version (Turns outcome) = true
 takes_version (Crash applied) = applied
-takes_version Restart = false
-takes_version (Expire group) = false
+takes_version (Restart order) = false
+takes_version (Expire group order) = false
 
 -- whether it would, and every version has been given
 abbrev pub is_used_up : Step → WorldValue → Bool

@@ -1,7 +1,7 @@
 //! What is still to be shown of a group, oldest first.
-ghost use Rattle.std.specs.Prelude.{◌≡◌, ◌<◌, ◌++◌, IfOk, OnOk, option_to_list};
+ghost use Rattle.std.specs.Prelude.{◌≡◌, ◌<◌, ◌++◌, [], reverse, IfOk, OnOk, option_to_list};
 ghost use Rattle.std.specs.VecDeque.{deque_capacity, deque_len};
-ghost use Rattle.world_rules.specs.World.{as_shown, listing};
+ghost use Rattle.world_rules.specs.World.{as_shown, in_order, listing};
 ghost use Rattle.ctl_world.specs.Listed.{shown_in, listed};
 
 use kube_model::{Event, Group};
@@ -9,6 +9,7 @@ use mlb_base::{NoMemory, TryCopy};
 use status_store::{Store, Stored};
 use std::alloc::Global;
 use std::collections::VecDeque;
+use world_rules::ListOrder;
 
 /// The object as it is stored.
 pub(crate) fn as_shown(stored: &Stored) -> Result<Event, NoMemory>
@@ -50,17 +51,58 @@ fn push_all_shown(
     Ok(())
 }
 
-/// The list of the group: each stored object of it, by kind and then by key, and the end of the list.
+/// Puts what is stored here first, as it is shown, where it is of the group.
+fn push_first(lane: &mut VecDeque<Event>, stored: &Stored, group: Group) -> Result<(), NoMemory>
+    ensures { OnOk result (lane.new.items ≡ shown_in group stored.now ++ lane.old.items) }
+{
+    if is_of_group(group, stored) {
+        lane.push_front(as_shown(stored)?)?;
+    }
+    Ok(())
+}
+
+/// Puts each of the objects, as it is shown, that is of the group ahead of those before it.
+fn push_all_first(
+    lane: &mut VecDeque<Event>,
+    objects: &[Stored],
+    group: Group,
+) -> Result<(), NoMemory>
+    ensures { OnOk result (lane.new.items ≡ reverse (listed group objects.now) ++ lane.old.items) }
+{
+    for stored in objects {
+        push_first(lane, stored, group)?;
+    }
+    Ok(())
+}
+
+/// The objects of the group, as they are shown, in this order, into an empty lane.
+fn push_in_order(
+    lane: &mut VecDeque<Event>,
+    objects: &[Stored],
+    group: Group,
+    order: ListOrder,
+) -> Result<(), NoMemory>
+    requires { lane.old.items ≡ [] }
+    ensures { OnOk result (lane.new.items ≡ in_order order (listed group objects.now)) }
+{
+    match order {
+        ListOrder::Ascending => push_all_shown(lane, objects, group),
+        ListOrder::Descending => push_all_first(lane, objects, group),
+    }
+}
+
+/// The list of the group: each stored object of it, by kind and then by key or the other way round, and the end of the list.
 pub(crate) fn listing(
     alloc: Global,
     store: &Store,
     group: Group,
+    order: ListOrder,
 ) -> Result<VecDeque<Event>, NoMemory>
-    ensures { IfOk result (λ lane. lane.items ≡ listing group store.now) }
+    ensures { IfOk result (λ lane. lane.items ≡ listing order group store.now) }
 {
     let mut lane = VecDeque::new(alloc);
     let objects = store.list().as_slice();
-    let Ok(()) = push_all_shown(&mut lane, objects, group) else {
+    let Ok(()) = push_in_order(&mut lane, objects, group, order) else {
         drop(lane);
         return Err(NoMemory);
     };

@@ -16,4 +16,4 @@ pub use starts::StartFault;
 pub use status_store::{Edit, Outcome, Store};
 pub use terms::has_terms;
 pub use world::World;
-pub use world_rules::{Step, StepFault};
+pub use world_rules::{ListOrder, Step, StepFault};

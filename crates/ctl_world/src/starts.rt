@@ -20,6 +20,7 @@ use std::alloc::Global;
 use std::collections::VecDeque;
 use std::mem;
 use thiserror::Error;
+use world_rules::ListOrder;
 
 /// Why a world isn't begun.
 #[derive(Debug, Drop, Error)]
@@ -51,7 +52,8 @@ impl WorldState {
     ) -> Result<WorldState, NoMemory>
         ensures { IfOk result (λ w. w ≡ started class store) }
     {
-        let Ok((config_lane, service_lane, core)) = begun(alloc, &store, &class) else {
+        let begun = begun(alloc, &store, &class, ListOrder::Ascending);
+        let Ok((config_lane, service_lane, core)) = begun else {
             drop(store);
             drop(class);
             return Err(NoMemory);
@@ -66,13 +68,13 @@ impl WorldState {
         })
     }
 
-    /// The controller is started again, knows nothing, and is going to be shown the lists of what is stored.
-    pub(crate) fn restart(&mut self) -> Result<(), NoMemory>
+    /// The controller is started again, knows nothing, and is going to be shown the lists of what is stored, in this order.
+    pub(crate) fn restart(&mut self, order: ListOrder) -> Result<(), NoMemory>
         requires { self.old.core ≡ None }
-        ensures ok { OnOk result (self.new ≡ restarted None self.old) }
+        ensures ok { OnOk result (self.new ≡ restarted order None self.old) }
         ensures err { OnErr result (self.new ≡ self.old) }
     {
-        let (config_lane, service_lane, core) = begun(self.alloc, &self.store, &self.class)?;
+        let (config_lane, service_lane, core) = begun(self.alloc, &self.store, &self.class, order)?;
         drop(mem::replace(&mut self.config_lane, config_lane));
         drop(mem::replace(&mut self.service_lane, service_lane));
         drop(self.core.replace(core));
@@ -85,17 +87,18 @@ fn begun(
     alloc: Global,
     store: &Store,
     class: &Option<Text>,
+    order: ListOrder,
 ) -> Result<(VecDeque<Event>, VecDeque<Event>, Core), NoMemory>
-    ensures config_lane { IfOk result (λ b. b.0.items ≡ listing groups.Config store.now) }
-    ensures service_lane { IfOk result (λ b. b.1.items ≡ listing groups.Service store.now) }
+    ensures config_lane { IfOk result (λ b. b.0.items ≡ listing order groups.Config store.now) }
+    ensures service_lane { IfOk result (λ b. b.1.items ≡ listing order groups.Service store.now) }
     ensures core { IfOk result (λ b. b.2 ≡ fresh class.now) }
 {
     let core = Core::new(alloc, class.copy()?)?;
-    let Ok(config_lane) = listing(alloc, store, Group::Config) else {
+    let Ok(config_lane) = listing(alloc, store, Group::Config, order) else {
         drop(core);
         return Err(NoMemory);
     };
-    let Ok(service_lane) = listing(alloc, store, Group::Service) else {
+    let Ok(service_lane) = listing(alloc, store, Group::Service, order) else {
         drop(core);
         drop(config_lane);
         return Err(NoMemory);

@@ -48,8 +48,8 @@ impl WorldState {
             Step::Take { group } => self.core.is_some() && self.has_event(*group),
             Step::Turn { .. } => self.has_turn(),
             Step::Crash { .. } => self.core.is_some(),
-            Step::Restart => self.core.is_none(),
-            Step::Expire { group } => self.core.is_some() && has_lane(*group),
+            Step::Restart { .. } => self.core.is_none(),
+            Step::Expire { group, .. } => self.core.is_some() && has_lane(*group),
         }
     }
 
@@ -116,6 +116,6 @@ fn takes_version(step: &Step) -> bool
     match step {
         Step::Edit { .. } | Step::Turn { .. } => true,
         Step::Crash { applied } => *applied,
-        Step::Take { .. } | Step::Restart | Step::Expire { .. } => false,
+        Step::Take { .. } | Step::Restart { .. } | Step::Expire { .. } => false,
     }
 }

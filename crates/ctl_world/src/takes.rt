@@ -15,7 +15,7 @@ use status_store::Store;
 use std::alloc::Global;
 use std::collections::VecDeque;
 use std::mem;
-use world_rules::StepFault;
+use world_rules::{ListOrder, StepFault};
 
 impl WorldState {
     /// The controller takes the next event of the lane, if there is one.
@@ -34,11 +34,11 @@ impl WorldState {
         }
     }
 
-    /// The watch of the lane expires: what was pending in it is lost, and the list is going to be shown anew.
-    pub(crate) fn expire(&mut self, group: Group) -> Result<(), NoMemory>
+    /// The watch of the lane expires: what was pending in it is lost, and the list is going to be shown anew, in this order.
+    pub(crate) fn expire(&mut self, group: Group, order: ListOrder) -> Result<(), NoMemory>
         requires out { HasNoneOut self.old.core }
         requires lane { group ≢ groups.Endpoint }
-        ensures ok { OnOk result (self.new ≡ after_expiry group self.old) }
+        ensures ok { OnOk result (self.new ≡ after_expiry group order self.old) }
         ensures err { OnErr result (self.new ≡ self.old) }
     {
         match group {
@@ -46,6 +46,7 @@ impl WorldState {
                 self.alloc,
                 &self.store,
                 group,
+                order,
                 &mut self.core,
                 &mut self.config_lane,
             ),
@@ -53,6 +54,7 @@ impl WorldState {
                 self.alloc,
                 &self.store,
                 group,
+                order,
                 &mut self.core,
                 &mut self.service_lane,
             ),
@@ -107,19 +109,20 @@ fn relist(
     alloc: Global,
     store: &Store,
     group: Group,
+    order: ListOrder,
     core: &mut Option<Core>,
     lane: &mut VecDeque<Event>,
 ) -> Result<(), NoMemory>
     requires { HasNoneOut core.old }
     ensures core { OnOk result (core.new ≡ lapsed group core.old) }
-    ensures lane { OnOk result (lane.new.items ≡ listed_anew group group store.now core.old lane.old.items) }
+    ensures lane { OnOk result (lane.new.items ≡ listed_anew order group group store.now core.old lane.old.items) }
     ensures err_core { OnErr result (core.new ≡ core.old) }
     ensures err_lane { OnErr result (lane.new.items ≡ lane.old.items) }
 {
     let Some(core) = core else {
         return Ok(());
     };
-    let list = listing(alloc, store, group)?;
+    let list = listing(alloc, store, group, order)?;
     core.take_expired(group);
     drop(mem::replace(lane, list));
     Ok(())

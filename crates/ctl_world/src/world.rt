@@ -173,8 +173,8 @@ impl WorldState {
             Step::Take { group } => self.take(group),
             Step::Turn { outcome } => Ok(self.turn(outcome)?),
             Step::Crash { applied } => Ok(self.crash(applied)?),
-            Step::Restart => Ok(self.restart()?),
-            Step::Expire { group } => Ok(self.expire(group)?),
+            Step::Restart { order } => Ok(self.restart(order)?),
+            Step::Expire { group, order } => Ok(self.expire(group, order)?),
         }
     }
 }

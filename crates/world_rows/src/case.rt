@@ -3,7 +3,7 @@
 use crate::crashes::crash_lines;
 use crate::steps::{make, recorded_world, world_of};
 use crate::stored::{held_text, store_text};
-use ctl_world::{StartFault, World};
+use ctl_world::{ListOrder, StartFault, World};
 use kube_labels::Text;
 use kube_model::Key;
 use mlb_base::NoMemory;
@@ -30,7 +30,7 @@ fn step_name(line: &str) -> &str {
 }
 
 fn step_text(alloc: Global, world: &mut World, line: &str) -> Result<String, NoMemory> {
-    match make(alloc, world, line)? {
+    match make(alloc, world, line, ListOrder::Ascending)? {
         None => Ok(String::new(alloc)),
         Some(fault) => Ok(format!(in alloc; "{}: {fault}\n", step_name(line))?),
     }

@@ -1,9 +1,9 @@
-//! What is stored after a crash at each place of a history, once the controller has gone on until nothing is left to do.
+//! What is stored right behind a crash at each place of a history, and once the controller has gone on until nothing is left to do.
 
 use crate::judged::waits_in_vain;
 use crate::steps::{make, world_of};
 use crate::stored::store_text;
-use ctl_world::{Outcome, Step, StepFault, World};
+use ctl_world::{ListOrder, Outcome, Step, StepFault, World};
 use kube_labels::Text;
 use kube_model::Group;
 use mlb_base::NoMemory;
@@ -59,49 +59,101 @@ fn finish(world: &mut World) -> Result<(), StepFault> {
     Err(StepFault::Limit)
 }
 
+/// How a controller is stopped and started anew.
+#[derive(Clone, Copy)]
+struct Crash {
+    applied: bool,
+    order: ListOrder,
+}
+
 /// Each step of the history is made.
-fn make_all(alloc: Global, world: &mut World, history: &[Text]) -> Result<(), StepFault> {
+fn make_all(
+    alloc: Global,
+    world: &mut World,
+    history: &[Text],
+    order: ListOrder,
+) -> Result<(), StepFault> {
     for line in history {
-        if let Some(fault) = make(alloc, world, line.as_str())? {
+        if let Some(fault) = make(alloc, world, line.as_str(), order)? {
             return Err(fault);
         }
     }
     Ok(())
 }
 
-/// Makes the steps of the history and then the crash, and goes on; false where the controller is down there.
+/// The steps of the history and then the crash; what is stored there is answered, and none where the controller is down.
+fn make_and_crash(
+    alloc: Global,
+    world: &mut World,
+    history: &[Text],
+    crash: Crash,
+) -> Result<Option<String>, StepFault> {
+    make_all(alloc, world, history, crash.order)?;
+    let applied = crash.applied;
+    if !was_made(world.step(Step::Crash { applied }))? {
+        return Ok(None);
+    }
+    Ok(Some(store_text(alloc, world.store())?))
+}
+
+/// What is stored, with the word `waits` where a service waits that could have an address.
+fn judged_text(alloc: Global, world: &World) -> Result<String, NoMemory> {
+    let stored = store_text(alloc, world.store())?;
+    let word = if waits_in_vain(world.store()) {
+        " waits"
+    } else {
+        ""
+    };
+    Ok(format!(in alloc; "{stored}{word}")?)
+}
+
+/// The controller is started and goes on; what is stored then is answered.
+fn start_and_finish(
+    alloc: Global,
+    world: &mut World,
+    order: ListOrder,
+) -> Result<String, StepFault> {
+    world.step(Step::Restart { order })?;
+    finish(world)?;
+    Ok(judged_text(alloc, world)?)
+}
+
+fn named(stored: &str) -> &str {
+    if stored.is_empty() {
+        " nothing"
+    } else {
+        stored
+    }
+}
+
+fn then_text(alloc: Global, behind: &str, end: &str) -> Result<String, NoMemory> {
+    let behind = named(behind);
+    let end = named(end);
+    Ok(format!(in alloc; "{behind}, then{end}")?)
+}
+
+/// What is stored behind the crash, and in the end; none where the controller is down there.
 fn crash_and_finish(
     alloc: Global,
     world: &mut World,
     history: &[Text],
-    applied: bool,
-) -> Result<bool, StepFault> {
-    make_all(alloc, world, history)?;
-    if !was_made(world.step(Step::Crash { applied }))? {
-        return Ok(false);
-    }
-    world.step(Step::Restart)?;
-    finish(world)?;
-    Ok(true)
+    crash: Crash,
+) -> Result<Option<String>, StepFault> {
+    let Some(behind) = make_and_crash(alloc, world, history, crash)? else {
+        return Ok(None);
+    };
+    let end = start_and_finish(alloc, world, crash.order)?;
+    Ok(Some(then_text(alloc, behind.as_str(), end.as_str())?))
 }
 
-/// What is stored, or the fault of a step in between.
+/// What is to be told of the crash, or the fault of a step.
 fn outcome_text(
     alloc: Global,
-    world: &World,
-    crashed: Result<bool, StepFault>,
+    outcome: Result<Option<String>, StepFault>,
 ) -> Result<Option<String>, NoMemory> {
-    match crashed {
-        Ok(false) => Ok(None),
-        Ok(true) => {
-            let stored = store_text(alloc, world.store())?;
-            let word = if waits_in_vain(world.store()) {
-                " waits"
-            } else {
-                ""
-            };
-            Ok(Some(format!(in alloc; "{stored}{word}")?))
-        }
+    match outcome {
+        Ok(text) => Ok(text),
+        Err(StepFault::NoMemory) => Err(NoMemory),
         Err(fault) => Ok(Some(format!(in alloc; " {fault}")?)),
     }
 }
@@ -110,38 +162,58 @@ fn line_of(
     alloc: Global,
     world: &mut World,
     history: &[Text],
-    applied: bool,
+    crash: Crash,
 ) -> Result<String, NoMemory> {
-    let crashed = crash_and_finish(alloc, world, history, applied);
-    let Some(text) = outcome_text(alloc, world, crashed)? else {
+    let outcome = crash_and_finish(alloc, world, history, crash);
+    let Some(text) = outcome_text(alloc, outcome)? else {
         return Ok(String::new(alloc));
     };
-    let word = if applied { " applied" } else { "" };
-    Ok(format!(in alloc; "crash{word} after {} lines:{text}\n", history.len())?)
+    let applied = if crash.applied { " applied" } else { "" };
+    let order = match crash.order {
+        ListOrder::Ascending => "",
+        ListOrder::Descending => ", lists descending",
+    };
+    Ok(format!(in alloc;
+        "crash{applied} after {} lines{order}:{text}\n",
+        history.len()
+    )?)
 }
 
-/// The line of a crash behind the first so many lines of the history, where the controller is up there.
+/// The line of a crash behind the history, where the controller is up there.
 fn crash_line(
     alloc: Global,
     objects: &[Text],
     history: &[Text],
-    applied: bool,
+    crash: Crash,
 ) -> Result<String, NoMemory> {
     let mut world = world_of(alloc, objects)?;
-    let line = line_of(alloc, &mut world, history, applied);
+    let line = line_of(alloc, &mut world, history, crash);
     drop(world);
     line
 }
 
-/// A line for each place of the history and each kind of crash.
+/// A line for each place of the history and each kind of crash, where lists have this order.
+fn push_lines(
+    alloc: Global,
+    text: &mut String,
+    objects: &[Text],
+    history: &[Text],
+    order: ListOrder,
+) -> Result<(), NoMemory> {
+    for count in 0..=history.len() {
+        for applied in [false, true] {
+            let crash = Crash { applied, order };
+            let line = crash_line(alloc, objects, &history[..count], crash)?;
+            text.push_str(line.as_str())?;
+        }
+    }
+    Ok(())
+}
+
+/// A line for each place of the history, each kind of crash and each order of lists.
 pub fn crash_lines(alloc: Global, objects: &[Text], history: &[Text]) -> Result<String, NoMemory> {
     let mut text = String::new(alloc);
-    for count in 0..=history.len() {
-        let front = &history[..count];
-        let lost = crash_line(alloc, objects, front, false)?;
-        text.push_str(lost.as_str())?;
-        let applied = crash_line(alloc, objects, front, true)?;
-        text.push_str(applied.as_str())?;
-    }
+    push_lines(alloc, &mut text, objects, history, ListOrder::Ascending)?;
+    push_lines(alloc, &mut text, objects, history, ListOrder::Descending)?;
     Ok(text)
 }

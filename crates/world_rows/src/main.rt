@@ -1,11 +1,12 @@
 //! Makes the steps of worlds, and writes what they leave. A line that begins with `#` is written as it stands, and begins a world
 //! anew. The event lines that follow are the objects that it begins with, up to the line `begin`, or `begin with records` where the
 //! services have the records that the lines show. From there an event line is an edit, one behind the word `reset` sets its object with
-//! its own record, and the words of a step are that step, as `take config`, `turn lost applied` or `crash`; `show` writes what is stored,
-//! `held NAME` what the controller holds of a service of the namespace `default`, and `crashes` makes the steps up to each place anew,
-//! stops the controller there, once with its put applied and once without, starts it again, has it go on until it has nothing left to
-//! do, and writes what is stored then, with the word `waits` where a service has no address while one of a pool is free. No class is
-//! configured.
+//! its own record, and the words of a step are that step, as `take config`, `turn lost applied` or `crash`. The list behind `restart` or
+//! `expire service` is in the store's order, and the other way round with the word `descending`. `show` writes what is stored, `held NAME`
+//! what the controller holds of a service of the namespace `default`, and `crashes` makes the steps up to each place anew, stops the
+//! controller there, once with its put applied and once without, writes what is stored there, starts it again, has it go on until it has
+//! nothing left to do, and writes what is stored then, with the word `waits` where a service has no address while one of a pool is free;
+//! a step that isn't made ends the line with its fault. All this is done once more with each list in the other order. No class is configured.
 #![tactic(auto)]
 
 mod case;

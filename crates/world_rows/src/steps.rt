@@ -1,6 +1,6 @@
 //! The steps that the lines say.
 
-use ctl_world::{Edit, Outcome, StartFault, Step, StepFault, World};
+use ctl_world::{Edit, ListOrder, Outcome, StartFault, Step, StepFault, World};
 use kube_events::read_event;
 use kube_labels::Text;
 use kube_model::{Event, EventFault, Group, Object};
@@ -65,32 +65,36 @@ fn outcome_of(word: &str) -> Option<Outcome> {
     }
 }
 
-fn controller_step(line: &str) -> Option<Step> {
+/// The step that the words say, if they say one. Lists have this order.
+fn ordered_step(line: &str, order: ListOrder) -> Option<Step> {
+    if let Some(word) = line.strip_prefix("expire ") {
+        return group_of(word).map(|group| Step::Expire { group, order });
+    }
     match line {
         "crash" => Some(Step::Crash { applied: false }),
         "crash applied" => Some(Step::Crash { applied: true }),
-        "restart" => Some(Step::Restart),
+        "restart" => Some(Step::Restart { order }),
         _ => None,
     }
 }
 
-/// The step that the words say, if they say one.
-fn worded_step(line: &str) -> Option<Step> {
+/// The step that the words say, if they say one. Lists have this order, and the other one where the words say so.
+fn worded_step(line: &str, order: ListOrder) -> Option<Step> {
     if let Some(outcome) = outcome_of(line) {
         return Some(Step::Turn { outcome });
     }
     if let Some(word) = line.strip_prefix("take ") {
         return group_of(word).map(|group| Step::Take { group });
     }
-    if let Some(word) = line.strip_prefix("expire ") {
-        return group_of(word).map(|group| Step::Expire { group });
+    match line.strip_suffix(" descending") {
+        Some(line) => ordered_step(line, ListOrder::Descending),
+        None => ordered_step(line, order),
     }
-    controller_step(line)
 }
 
 /// The step that the line says, if it says one.
-pub fn step_of(alloc: Global, line: &str) -> Result<Option<Step>, NoMemory> {
-    match worded_step(line) {
+fn step_of(alloc: Global, line: &str, order: ListOrder) -> Result<Option<Step>, NoMemory> {
+    match worded_step(line, order) {
         None => edit_step(alloc, line),
         step => Ok(step),
     }
@@ -145,9 +149,15 @@ pub fn recorded_world(alloc: Global, lines: &[Text]) -> Result<World, StartFault
     World::with_records(alloc, objects_of(alloc, lines)?, None)
 }
 
-/// Makes the step that the line says; one that isn't made is answered with its fault.
-pub fn make(alloc: Global, world: &mut World, line: &str) -> Result<Option<StepFault>, NoMemory> {
-    match step_of(alloc, line)? {
+/// Makes the step that the line says; one that isn't made is answered with its fault. Where the line says nothing of it, a list has this
+/// order.
+pub fn make(
+    alloc: Global,
+    world: &mut World,
+    line: &str,
+    order: ListOrder,
+) -> Result<Option<StepFault>, NoMemory> {
+    match step_of(alloc, line, order)? {
         None => Ok(None),
         Some(step) => match world.step(step) {
             Ok(()) => Ok(None),

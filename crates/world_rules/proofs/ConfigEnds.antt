@@ -16,8 +16,9 @@ use Rattle.status_store.specs.Changes.{StoreValue}
 use Rattle.core_rules.specs.Core.{State}
 use Rattle.core_rules.specs.Take.{core_take}
 use Rattle.world_rules.specs.Good.{IsOfGroup, ends_config, NoneEnds, OneEnds, ConfigEnds}
-use Rattle.world_rules.specs.World.{as_shown, is_of_group, listing, shown_edit, to_lane}
-use Rattle.world_rules.proofs.Lanes.{all-append}
+use Rattle.world_rules.specs.declared.step.ListOrder.{ListOrder}
+use Rattle.world_rules.specs.World.{as_shown, is_of_group, in_order, listing, shown_edit, to_lane}
+use Rattle.world_rules.proofs.Lanes.{all-append, all-ordered}
 
 -- ---- more events
 one-append : (lane more : List Event) → OneEnds lane → NoneEnds more → OneEnds (lane ++ more)
@@ -121,14 +122,20 @@ config-unended s (Frame interface bytes) of = absurd of
 config-unended s Ignored of = absurd of
 
 -- ---- the list
-one-listed : (objects : List Stored) → OneEnds (map as_shown objects ++ ends_config ∷ [])
-one-listed [] = inl (refl, tt)
-one-listed (held ∷ more) = inr (λ no. absurd (cc no), one-listed more)
+none-shown : (objects : List Stored) → NoneEnds (map as_shown objects)
+none-shown [] = tt
+none-shown (held ∷ more) = (λ no. absurd (cc no), none-shown more)
 
-pub ends-listing : (store : StoreValue) → ConfigEnds false (listing groups.Config store)
-ends-listing store = one-listed (filter (is_of_group groups.Config) store.objects)
+one-behind : (lane : List Event) → NoneEnds lane → OneEnds (lane ++ ends_config ∷ [])
+one-behind [] none = inl (refl, tt)
+one-behind (event ∷ lane) none = inr (none.0, one-behind lane none.1)
+
+pub ends-listing : (order : ListOrder) (store : StoreValue) → ConfigEnds false (listing order groups.Config store)
+ends-listing order store =
+    let shown = map as_shown (filter (is_of_group groups.Config) store.objects) in
+    one-behind (in_order order shown) (all-ordered (λ (event : Event). event ≢ ends_config) order shown (none-shown (filter (is_of_group groups.Config) store.objects)))
 
 -- where the watch of a list has expired, that list is shown anew
-pub ends-expired : (b ended : Bool) (store : StoreValue) (lane : List Event) → ConfigEnds ended lane → ConfigEnds (cond b false ended) (cond b (listing groups.Config store) lane)
-ends-expired true ended store lane ends = ends-listing store
-ends-expired false ended store lane ends = ends
+pub ends-expired : (b ended : Bool) (order : ListOrder) (store : StoreValue) (lane : List Event) → ConfigEnds ended lane → ConfigEnds (cond b false ended) (cond b (listing order groups.Config store) lane)
+ends-expired true ended order store lane ends = ends-listing order store
+ends-expired false ended order store lane ends = ends

@@ -25,7 +25,7 @@ use Rattle.core_rules.proofs.Runs.{core_holds_what_was_observed, took-out, heard
 use Rattle.core_laws.proofs.Expired.{expired_is_both}
 use Rattle.core_laws.proofs.Puts.{idle-queue}
 use Rattle.core_laws.specs.Shared.{AllShowTerms}
-use Rattle.world_rules.specs.Moves.{Move, Sets, Deletes, Tells, Takes, Turns, Stops, Starts, ConfigLapses, ServicesLapse, entries_taken, entries_put, entries_turned, entries_of, run_along, after_move, after_moves, begun}
+use Rattle.world_rules.specs.Moves.{Move, Sets, Deletes, Tells, Takes, Turns, Stops, Starts, ConfigLapses, ServicesLapse, EndsLater, entries_taken, entries_put, entries_turned, entries_of, run_along, after_move, after_moves, begun}
 use Rattle.world_rules.specs.Explaining.{Act, Shown, Lapsed, Decided, Answered, shown_of, acts_of_event, acts_of_turn, acts_of_entry, acts_of, answered, puts_of_entry, puts_of, IsRunning, IsExplained, RunsAreSafeInWorlds}
 use Rattle.world_rules.specs.Good.{IsGood}
 use Rattle.world_rules.proofs.Worlds.{starts_are_good, good-moves, safe-along}
@@ -276,6 +276,7 @@ module _ (class : Option (List ℕ)) where
       record { class_is = g.class_is; is = rw g.core (g.none, g.is); core = rw g.core refl; none = rw g.core g.none }
   move-through (ServicesLapse list) w run r g =
       record { class_is = g.class_is; is = rw g.core (g.none, g.is); core = rw g.core refl; none = rw g.core g.none }
+  move-through (EndsLater before event behind) w run r g = record { class_is = g.class_is; is = g.is; core = g.core; none = g.none }
 
   moves-through : (moves : List Move) (w : WorldValue) (run : List Entry) → AllByRecursion IsRunning moves → GoesThrough w run → GoesThrough (after_moves moves w) (run_along moves w run)
   moves-through [] w run all g = g

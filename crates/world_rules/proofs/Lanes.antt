@@ -1,5 +1,6 @@
 -- What is pending: what it is for each service, and whose list it is of.
-use Rattle.std.proofs.Common.{◌≡◌, ℕ, ◌≤◌, Bool, true, false, cond, List, [], ◌∷◌, ◌++◌, map, filter, Option, Some, None, option_map, is_eq, Less, ◌⊎◌, inl, inr, refl, sym, ap, subst, ◌∙◌, append-nil, append_assoc, arith}
+use Rattle.std.proofs.Common.{◌≡◌, ℕ, ◌≤◌, Bool, true, false, cond, List, [], ◌∷◌, ◌++◌, map, filter, reverse, Option, Some, None, option_map, is_eq, Less, ◌⊎◌, inl, inr, refl, sym, ap, subst, ◌∙◌, append-nil, append_assoc, arith}
+use Rattle.std.proofs.lemmas.Grind.{reverse_onto}
 use Rattle.std.specs.List.{AllByRecursion}
 use Rattle.std.specs.List.Sorted.{IsStrictlySortedBy}
 use Rattle.kube_model.specs.declared.event.Event.{Event}
@@ -23,7 +24,9 @@ use Rattle.status_store.specs.Changes.{StoreValue}
 use Rattle.world_rules.specs.Sight.{Shown, News, Shows, End, IsBehind, IsTracked, version_at}
 use Rattle.world_rules.specs.Safe.{HasTerms}
 use Rattle.world_rules.specs.Moves.{InAnyOrder, IsListOf}
-use Rattle.world_rules.specs.World.{as_shown, is_of_group, listing, to_lane}
+use Rattle.world_rules.specs.declared.step.ListOrder.{ListOrder}
+use Rattle.world_rules.specs.declared.step.ListOrder.TheVariants.{Ascending, Descending}
+use Rattle.world_rules.specs.World.{as_shown, is_of_group, in_order, listing, to_lane}
 use Rattle.world_rules.specs.Good.{stored_as, stored_of, news_of, news_in, IsOfGroup, ShowsTerms}
 use Rattle.world_rules.proofs.Tracking.{listed_news}
 
@@ -31,6 +34,14 @@ use Rattle.world_rules.proofs.Tracking.{listed_news}
 pub all-append : {X : Type 0} (P : X → Type 0) (xs ys : List X) → AllByRecursion P xs → AllByRecursion P ys → AllByRecursion P (xs ++ ys)
 all-append P [] ys all more = more
 all-append P (x ∷ xs) ys all more = (all.0, all-append P xs ys all.1 more)
+
+pub all-first : {X : Type 0} (P : X → Type 0) (xs ys : List X) → AllByRecursion P (xs ++ ys) → AllByRecursion P xs
+all-first P [] ys all = tt
+all-first P (x ∷ xs) ys all = (all.0, all-first P xs ys all.1)
+
+pub all-behind : {X : Type 0} (P : X → Type 0) (xs ys : List X) → AllByRecursion P (xs ++ ys) → AllByRecursion P ys
+all-behind P [] ys all = all
+all-behind P (x ∷ xs) ys all = all-behind P xs ys all.1
 
 -- one list or the other
 pub all-either : {X : Type 0} (b : Bool) (P : X → Type 0) (xs ys : List X) → AllByRecursion P xs → AllByRecursion P ys → AllByRecursion P (cond b xs ys)
@@ -122,12 +133,31 @@ ended_list : (found : Option Stored) → one_news found ++ End ∷ [] ≡ listed
 ended_list None = refl
 ended_list (Some held) = refl
 
--- the list of the services shows each as it is stored, and ends
-pub news-listing : (store : StoreValue) (key : Key) → IsAscending store.objects → news_in key (listing groups.Service store) ≡ listed_news (stored_of store key)
-news-listing store key s =
-    news_in-push key (shows_each store.objects) (ListEnd groups.Service)
-    ∙ ap (λ (ns : List News). ns ++ End ∷ []) (news-shown store.objects key s)
-    ∙ ended_list (stored_at store.objects (service_at key))
+-- ---- lists in any order
+all-beside : {X : Type 0} (P : X → Type 0) (xs ys : List X) (x : X) → P x → AllByRecursion P (xs ++ ys) → AllByRecursion P (xs ++ x ∷ ys)
+all-beside P [] ys x px all = (px, all)
+all-beside P (z ∷ xs) ys x px all = (all.0, all-beside P xs ys x px all.1)
+
+pub all-any : (P : Event → Type 0) (events lane : List Event) → InAnyOrder events lane → AllByRecursion P events → AllByRecursion P lane
+all-any P [] lane is all = subst (AllByRecursion P) (sym is) tt
+all-any P (event ∷ more) lane is all =
+    subst (AllByRecursion P) (sym is.2) (all-beside P is.0 is.1 event all.0 (all-any P more (is.0 ++ is.1) is.3 all.1))
+
+-- the orders of a list are such
+same-order : (events : List Event) → InAnyOrder events events
+same-order [] = refl
+same-order (event ∷ more) = ([], more, refl, same-order more)
+
+back-order : (events : List Event) → InAnyOrder events (reverse events)
+back-order [] = refl
+back-order (event ∷ more) = (reverse more, [], reverse_onto more event [], subst (InAnyOrder more) (sym (append-nil (reverse more))) (back-order more))
+
+any-ordered : (order : ListOrder) (events : List Event) → InAnyOrder events (in_order order events)
+any-ordered Ascending events = same-order events
+any-ordered Descending events = back-order events
+
+pub all-ordered : (P : Event → Type 0) (order : ListOrder) (events : List Event) → AllByRecursion P events → AllByRecursion P (in_order order events)
+all-ordered P order events all = all-any P events (in_order order events) (any-ordered order events) all
 
 -- ---- whose list it is of
 of_by : (b : Bool) (group : Group) (held : Stored) (rest : List Stored) → b ≡ is_of_group group held
@@ -139,9 +169,10 @@ of-each : (group : Group) (held : List Stored) → AllByRecursion (IsOfGroup gro
 of-each group [] = tt
 of-each group (held ∷ more) = of_by (is_of_group group held) group held (filter (is_of_group group) more) refl (of-each group more)
 
-pub of-listing : (group : Group) (store : StoreValue) → AllByRecursion (IsOfGroup group) (listing group store)
-of-listing group store =
-    all-append (IsOfGroup group) (map as_shown (filter (is_of_group group) store.objects)) (ListEnd group ∷ []) (of-each group store.objects) (refl, tt)
+pub of-listing : (order : ListOrder) (group : Group) (store : StoreValue) → AllByRecursion (IsOfGroup group) (listing order group store)
+of-listing order group store =
+    let shown = map as_shown (filter (is_of_group group) store.objects) in
+    all-append (IsOfGroup group) (in_order order shown) (ListEnd group ∷ []) (all-ordered (IsOfGroup group) order shown (of-each group store.objects)) (refl, tt)
 
 typed_by : (b : Bool) (held : Stored) (rest : List Stored) → HasTerms held.object
     → AllByRecursion ShowsTerms (map as_shown rest) → AllByRecursion ShowsTerms (map as_shown (cond b (held ∷ rest) rest))
@@ -152,9 +183,11 @@ typed-each : (group : Group) (held : List Stored) → AllByRecursion (λ (x : St
 typed-each group [] all = tt
 typed-each group (held ∷ more) all = typed_by (is_of_group group held) held (filter (is_of_group group) more) all.0 (typed-each group more all.1)
 
-pub typed-listing : (group : Group) (store : StoreValue) → AllByRecursion (λ (x : Stored). HasTerms x.object) store.objects → AllByRecursion ShowsTerms (listing group store)
-typed-listing group store all =
-    all-append ShowsTerms (map as_shown (filter (is_of_group group) store.objects)) (ListEnd group ∷ []) (typed-each group store.objects all) (tt, tt)
+pub typed-listing : (order : ListOrder) (group : Group) (store : StoreValue) → AllByRecursion (λ (x : Stored). HasTerms x.object) store.objects
+    → AllByRecursion ShowsTerms (listing order group store)
+typed-listing order group store all =
+    let shown = map as_shown (filter (is_of_group group) store.objects) in
+    all-append ShowsTerms (in_order order shown) (ListEnd group ∷ []) (all-ordered ShowsTerms order shown (typed-each group store.objects all)) (tt, tt)
 
 to_by : (b : Bool) (lane group : Group) (events : List Event) → (b ≡ true → group ≡ lane) → AllByRecursion (IsOfGroup group) events → AllByRecursion (IsOfGroup lane) (cond b events [])
 to_by true lane group events same all = subst (λ g. AllByRecursion (IsOfGroup g) events) (same refl) all
@@ -167,16 +200,7 @@ of-lane lane group events all = to_by (same_group group lane) lane group events 
 pub all-lane : (P : Event → Type 0) (lane group : Group) (events : List Event) → AllByRecursion P events → AllByRecursion P (to_lane lane group events)
 all-lane P lane group events all = all-either (same_group group lane) P events [] all tt
 
--- ---- lists in any order
-all-beside : {X : Type 0} (P : X → Type 0) (xs ys : List X) (x : X) → P x → AllByRecursion P (xs ++ ys) → AllByRecursion P (xs ++ x ∷ ys)
-all-beside P [] ys x px all = (px, all)
-all-beside P (z ∷ xs) ys x px all = (all.0, all-beside P xs ys x px all.1)
-
-pub all-any : (P : Event → Type 0) (events lane : List Event) → InAnyOrder events lane → AllByRecursion P events → AllByRecursion P lane
-all-any P [] lane is all = subst (AllByRecursion P) (sym is) tt
-all-any P (event ∷ more) lane is all =
-    subst (AllByRecursion P) (sym is.2) (all-beside P is.0 is.1 event all.0 (all-any P more (is.0 ++ is.1) is.3 all.1))
-
+-- ---- the news of a list in any order
 -- at most one piece of news
 abbrev AtMostOne : List News → Type 0
 AtMostOne ns = (ns ≡ []) ⊎ ((n : News) × (ns ≡ n ∷ []))
@@ -227,10 +251,6 @@ of-list store list listed =
     (all-append (IsOfGroup groups.Service) listed.0 (ListEnd groups.Service ∷ [])
     (all-any (IsOfGroup groups.Service) (shows_each store.objects) listed.0 listed.2 (of-each groups.Service store.objects)) (refl, tt))
 
--- the store's order is one
-same-order : (events : List Event) → InAnyOrder events events
-same-order [] = refl
-same-order (event ∷ more) = ([], more, refl, same-order more)
-
-pub listing-list : (store : StoreValue) → IsListOf store (listing groups.Service store)
-listing-list store = (shows_each store.objects, refl, same-order (shows_each store.objects))
+-- and so each list that `World` gives is one
+pub listing-list : (order : ListOrder) (store : StoreValue) → IsListOf store (listing order groups.Service store)
+listing-list order store = (in_order order (shows_each store.objects), refl, any-ordered order (shows_each store.objects))

@@ -1,6 +1,7 @@
 pub mod Sights
 pub mod Tracking
 pub mod Lanes
+pub mod Later
 pub mod ConfigEnds
 pub mod Storing
 pub mod Edits

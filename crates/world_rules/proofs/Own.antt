@@ -37,6 +37,8 @@ use Rattle.core_laws.specs.Shown.{OfConcern}
 use Rattle.core_laws.specs.Shared.{AllShowTerms}
 use Rattle.sharing_terms.specs.Marked.{AreTerms}
 use Rattle.sharing_terms.specs.Terms.{terms_of}
+use Rattle.world_rules.specs.declared.step.ListOrder.{ListOrder}
+use Rattle.world_rules.specs.declared.step.ListOrder.TheVariants.{Ascending}
 use Rattle.world_rules.specs.declared.step.Step.TheVariants.{Edit as Edits, Take, Turn as Turns, Crash, Restart, Expire}
 use Rattle.world_rules.specs.Good.{IsOfGroup, ShowsTerms, ConfigEnds, IsFollowed, IsGood, IsOwn}
 use Rattle.world_rules.specs.Laws.{StartsAreOwn, StepsAreMoves, StepsKeepOwn, StoresHaveTerms}
@@ -84,26 +86,27 @@ config_taken class store [] services c up some all = absurd (some refl)
 config_taken class store (event ∷ lane) services None up some all = absurd (up refl)
 config_taken class store (event ∷ lane) services (Some s) up some all = (Tells event, record { may = all.0; typed = (config-typed event all.0, tt); leads = refl })
 
-restart_leads : (c : Option State) (w : WorldValue) → but_config (restarted c w) ≡ but_config (after_start c (listing groups.Service w.store) w)
-restart_leads None w = refl
-restart_leads (Some s) w = refl
+restart_leads : (order : ListOrder) (c : Option State) (w : WorldValue) → but_config (restarted order c w) ≡ but_config (after_start c (listing order groups.Service w.store) w)
+restart_leads order None w = refl
+restart_leads order (Some s) w = refl
 
 -- the world after the watch of a list has expired, where the controller is so
-abbrev expired_by : Group → Option State → WorldValue → WorldValue
-expired_by group c w = record w {
-  config_lane = listed_anew groups.Config group w.store c w.config_lane;
-  service_lane = listed_anew groups.Service group w.store c w.service_lane;
+abbrev expired_by : Group → ListOrder → Option State → WorldValue → WorldValue
+expired_by group order c w = record w {
+  config_lane = listed_anew order groups.Config group w.store c w.config_lane;
+  service_lane = listed_anew order groups.Service group w.store c w.service_lane;
   core = lapsed group c;
 }
 
-config_leads : (c : Option State) (w : WorldValue) → (let v : WorldValue = record w { core = lapsed groups.Config c } in but_config (expired_by groups.Config c w) ≡ but_config v)
-config_leads None w = refl
-config_leads (Some s) w = refl
+config_leads : (order : ListOrder) (c : Option State) (w : WorldValue)
+    → (let v : WorldValue = record w { core = lapsed groups.Config c } in but_config (expired_by groups.Config order c w) ≡ but_config v)
+config_leads order None w = refl
+config_leads order (Some s) w = refl
 
-services_lead : (c : Option State) (w : WorldValue)
-    → (let v : WorldValue = record w { service_lane = relisted c (listing groups.Service w.store) w.service_lane; core = lapsed groups.Service c } in but_config (expired_by groups.Service c w) ≡ but_config v)
-services_lead None w = refl
-services_lead (Some s) w = refl
+services_lead : (order : ListOrder) (c : Option State) (w : WorldValue)
+    → (let v : WorldValue = record w { service_lane = relisted c (listing order groups.Service w.store) w.service_lane; core = lapsed groups.Service c } in but_config (expired_by groups.Service order c w) ≡ but_config v)
+services_lead order None w = refl
+services_lead order (Some s) w = refl
 
 -- an object has its own record
 own-record : (object : Object) → with_record (record_of object) object ≡ object
@@ -143,11 +146,14 @@ steps_are_moves w (Take groups.Service) enabled own = (Takes, record { may = tt;
 steps_are_moves w (Take groups.Endpoint) enabled own = absurd (enabled.1 refl)
 steps_are_moves w (Turns outcome) enabled own = (Makes outcome, record { may = tt; typed = turned-typed w.core outcome w.store; leads = refl })
 steps_are_moves w (Crash applied) enabled own = (Stops applied, record { may = tt; typed = tt; leads = refl })
-steps_are_moves w Restart enabled own = (Starts (listing groups.Service w.store), record { may = listing-list w.store; typed = tt; leads = restart_leads w.core w })
-steps_are_moves w (Expire groups.Config) enabled own = (ConfigLapses, record { may = tt; typed = lapsed-typed w.core groups.Config; leads = config_leads w.core w })
-steps_are_moves w (Expire groups.Service) enabled own =
-    (ServicesLapse (listing groups.Service w.store), record { may = listing-list w.store; typed = lapsed-typed w.core groups.Service; leads = services_lead w.core w })
-steps_are_moves w (Expire groups.Endpoint) enabled own = absurd (enabled.1 refl)
+steps_are_moves w (Restart order) enabled own =
+    (Starts (listing order groups.Service w.store), record { may = listing-list order w.store; typed = tt; leads = restart_leads order w.core w })
+steps_are_moves w (Expire groups.Config order) enabled own = (ConfigLapses, record { may = tt; typed = lapsed-typed w.core groups.Config; leads = config_leads order w.core w })
+steps_are_moves w (Expire groups.Service order) enabled own = (
+  ServicesLapse (listing order groups.Service w.store),
+  record { may = listing-list order w.store; typed = lapsed-typed w.core groups.Service; leads = services_lead order w.core w },
+)
+steps_are_moves w (Expire groups.Endpoint order) enabled own = absurd (enabled.1 refl)
 
 -- ---- an edit
 typed-edited : (edit : Edit) (store : StoreValue) → SetsTerms edit → AreTyped store.objects → AreTyped (edited edit store).objects
@@ -278,31 +284,31 @@ own-crash : (applied : Bool) (w : WorldValue) → IsOwn w → IsOwn (after_crash
 own-crash applied w own = record { stored_typed = reached_typed (next_put w.core) applied w.store own.stored_typed; pending_typed = tt; config = tt; config_ends = tt }
 
 -- ---- lists
-restart_own : (c : Option State) (w : WorldValue) → IsOwn w → IsOwn (restarted c w)
-restart_own None w own = record {
+restart_own : (order : ListOrder) (c : Option State) (w : WorldValue) → IsOwn w → IsOwn (restarted order c w)
+restart_own order None w own = record {
   stored_typed = own.stored_typed;
-  pending_typed = typed-listing groups.Service w.store own.stored_typed;
-  config = of-listing groups.Config w.store;
-  config_ends = ends-listing w.store;
+  pending_typed = typed-listing order groups.Service w.store own.stored_typed;
+  config = of-listing order groups.Config w.store;
+  config_ends = ends-listing order w.store;
 }
-restart_own (Some s) w own = own
+restart_own order (Some s) w own = own
 
-anew-all : (P : Event → Type 0) (lane group : Group) (store : StoreValue) (c : Option State) (pending : List Event) → AllByRecursion P (listing lane store) → AllByRecursion P pending
-    → AllByRecursion P (listed_anew lane group store c pending)
-anew-all P lane group store None pending list all = all
-anew-all P lane group store (Some s) pending list all = all-either (same_group group lane) P (listing lane store) pending list all
+anew-all : (P : Event → Type 0) (order : ListOrder) (lane group : Group) (store : StoreValue) (c : Option State) (pending : List Event) → AllByRecursion P (listing order lane store) → AllByRecursion P pending
+    → AllByRecursion P (listed_anew order lane group store c pending)
+anew-all P order lane group store None pending list all = all
+anew-all P order lane group store (Some s) pending list all = all-either (same_group group lane) P (listing order lane store) pending list all
 
-expiry_ends : (c : Option State) (group : Group) (store : StoreValue) (lane : List Event) → IfSome c (λ s. ConfigEnds s.held.config_ended lane)
-    → IfSome (lapsed group c) (λ s. ConfigEnds s.held.config_ended (listed_anew groups.Config group store c lane))
-expiry_ends None group store lane ends = tt
-expiry_ends (Some s) group store lane ends = ends-expired (same_group group groups.Config) s.held.config_ended store lane ends
+expiry_ends : (order : ListOrder) (c : Option State) (group : Group) (store : StoreValue) (lane : List Event) → IfSome c (λ s. ConfigEnds s.held.config_ended lane)
+    → IfSome (lapsed group c) (λ s. ConfigEnds s.held.config_ended (listed_anew order groups.Config group store c lane))
+expiry_ends order None group store lane ends = tt
+expiry_ends order (Some s) group store lane ends = ends-expired (same_group group groups.Config) s.held.config_ended order store lane ends
 
-own-expiry : (group : Group) (w : WorldValue) → IsOwn w → IsOwn (after_expiry group w)
-own-expiry group w own = record {
+own-expiry : (group : Group) (order : ListOrder) (w : WorldValue) → IsOwn w → IsOwn (after_expiry group order w)
+own-expiry group order w own = record {
   stored_typed = own.stored_typed;
-  pending_typed = anew-all ShowsTerms groups.Service group w.store w.core w.service_lane (typed-listing groups.Service w.store own.stored_typed) own.pending_typed;
-  config = anew-all (IsOfGroup groups.Config) groups.Config group w.store w.core w.config_lane (of-listing groups.Config w.store) own.config;
-  config_ends = expiry_ends w.core group w.store w.config_lane own.config_ends;
+  pending_typed = anew-all ShowsTerms order groups.Service group w.store w.core w.service_lane (typed-listing order groups.Service w.store own.stored_typed) own.pending_typed;
+  config = anew-all (IsOfGroup groups.Config) order groups.Config group w.store w.core w.config_lane (of-listing order groups.Config w.store) own.config;
+  config_ends = expiry_ends order w.core group w.store w.config_lane own.config_ends;
 }
 
 pub steps_keep_own : StepsKeepOwn
@@ -310,15 +316,20 @@ steps_keep_own w (Edits edit) t good own = own-edit edit w t own
 steps_keep_own w (Take group) t good own = own-take group w good own
 steps_keep_own w (Turns outcome) t good own = turning_own w.core w outcome own.config_ends own
 steps_keep_own w (Crash applied) t good own = own-crash applied w own
-steps_keep_own w Restart t good own = restart_own w.core w own
-steps_keep_own w (Expire group) t good own = own-expiry group w own
+steps_keep_own w (Restart order) t good own = restart_own order w.core w own
+steps_keep_own w (Expire group order) t good own = own-expiry group order w own
 
 -- ---- beginnings
 pub starts_are_own : StartsAreOwn
 starts_are_own class store good typed =
-    let list = listing groups.Service store in (
-      good-else (begun class store list) (listing groups.Config store) (starts_are_good class store list good (listing-list store)),
-      record { stored_typed = typed; pending_typed = typed-listing groups.Service store typed; config = of-listing groups.Config store; config_ends = ends-listing store },
+    let list = listing Ascending groups.Service store in (
+      good-else (begun class store list) (listing Ascending groups.Config store) (starts_are_good class store list good (listing-list Ascending store)),
+      record {
+        stored_typed = typed;
+        pending_typed = typed-listing Ascending groups.Service store typed;
+        config = of-listing Ascending groups.Config store;
+        config_ends = ends-listing Ascending store;
+      },
     )
 
 typed-new : (held : List Object) (store : StoreValue) → AllByRecursion HasTerms held → AreTyped store.objects → AreTyped (store_of held store).objects

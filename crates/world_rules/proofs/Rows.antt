@@ -27,7 +27,7 @@ ends-has_end (End ∷ more) e = refl
 older-kept : (a b : ℕ) → leb a b ≡ true → a ≤ b
 older-kept a b e = grind (arith, nat_tests)
 
-newer-taken : (a b : ℕ) → leb a b ≡ false → b < a
+pub newer-taken : (a b : ℕ) → leb a b ≡ false → b < a
 newer-taken a b e = grind (arith, nat_tests)
 
 shows-held : (b : Bool) (h : Option Shown) (x : Shown) → b ≡ leb x.version (version_at h) → (version_at h ≤ version_at (cond b h (Some x))) × (x.version ≤ version_at (cond b h (Some x)))

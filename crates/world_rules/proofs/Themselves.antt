@@ -11,7 +11,7 @@ use Rattle.core_rules.specs.Core.{State}
 use Rattle.core_rules.specs.Turn.{core_turn, put_in}
 use Rattle.core_rules.specs.Run.{Entry, Turned}
 use Rattle.world_rules.specs.Explaining.{WorldsExplainThemselves, acts_of, answered}
-use Rattle.world_rules.specs.Moves.{Move, Sets, Deletes, Tells, Takes, Turns, Stops, Starts, ConfigLapses, ServicesLapse, after_move, entries_taken, entries_put, entries_turned, entries_lapsed, entries_of, run_along, begun}
+use Rattle.world_rules.specs.Moves.{Move, Sets, Deletes, Tells, Takes, Turns, Stops, Starts, ConfigLapses, ServicesLapse, EndsLater, after_move, entries_taken, entries_put, entries_turned, entries_lapsed, entries_of, run_along, begun}
 use Rattle.world_rules.specs.World.{WorldValue}
 
 -- each put of the run has its reply
@@ -46,6 +46,7 @@ move-whole (Stops applied) w earlier whole = whole
 move-whole (Starts list) w earlier whole = whole
 move-whole ConfigLapses w earlier whole = lapsed-whole w.core groups.Config earlier whole
 move-whole (ServicesLapse list) w earlier whole = lapsed-whole w.core groups.Service earlier whole
+move-whole (EndsLater before event behind) w earlier whole = whole
 
 run-whole : (moves : List Move) (w : WorldValue) (earlier : List Entry) → IsWhole earlier → IsWhole (run_along moves w earlier)
 run-whole [] w earlier whole = whole

@@ -54,7 +54,7 @@ EndsOnce-gone true (End ∷ more) e = absurd e
 EndsOnce-gone false (End ∷ more) e = EndsOnce-gone true more e
 
 -- a stored service without an address is claimed by nothing
-IsClaimed-bare : (s : Option Shown) (claims : List Record) → IsBare s → IsClaimed s claims
+pub IsClaimed-bare : (s : Option Shown) (claims : List Record) → IsBare s → IsClaimed s claims
 IsClaimed-bare None claims bare = tt
 IsClaimed-bare (Some x) claims bare = λ has. absurd (true≢false (sym has ∙ bare))
 
@@ -76,7 +76,7 @@ WillBeClaimed-more x y last (Gone ∷ more) h claims e ends w = WillBeClaimed-mo
 WillBeClaimed-more x y last (End ∷ more) h claims e ends w = IsClaimed-same x y claims e w
 
 -- a claim of the record that is shown is one of what is stored, where they agree
-IsClaimed-shown : (s : Option Shown) (r : Record) → Agrees s r → IsClaimed s (claimed_by r)
+pub IsClaimed-shown : (s : Option Shown) (r : Record) → Agrees s r → IsClaimed s (claimed_by r)
 IsClaimed-shown None r a = tt
 IsClaimed-shown (Some x) r a = λ has. let e : r ≡ x.holding = a has in rw (e, has) (contains-first x.holding [])
 

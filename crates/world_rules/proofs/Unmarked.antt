@@ -17,7 +17,7 @@ use Rattle.status_store.specs.Changes.{StoreValue, IsKept, edited, empty_store, 
 use Rattle.status_store.proofs.ChangeLaws.{kept-with_stored}
 use Rattle.core_rules.specs.Core.{State}
 use Rattle.core_rules.specs.Turn.{core_turn, after_turn, put_in}
-use Rattle.world_rules.specs.Moves.{Move, Sets, Deletes, Tells, Takes, Turns, Stops, Starts, ConfigLapses, ServicesLapse, IsMove, after_move, after_start}
+use Rattle.world_rules.specs.Moves.{Move, Sets, Deletes, Tells, Takes, Turns, Stops, Starts, ConfigLapses, ServicesLapse, EndsLater, IsMove, after_move, after_start}
 use Rattle.world_rules.specs.Good.{IsGood, IsFollowed}
 use Rattle.world_rules.specs.Laws.{RecordsAreGood, UnmarkedStay}
 use Rattle.world_rules.specs.World.{WorldValue, with_object, records_store, turned, after_turning, next_put, reached}
@@ -84,6 +84,7 @@ move-unmarked (Stops applied) w may good = crashed_by w.core applied w good.up
 move-unmarked (Starts list) w may good = start_by w.core list w
 move-unmarked ConfigLapses w may good = same-records (record_at w.store)
 move-unmarked (ServicesLapse list) w may good = same-records (record_at w.store)
+move-unmarked (EndsLater before event behind) w may good = same-records (record_at w.store)
 
 pub unmarked_stay : UnmarkedStay
 unmarked_stay old new move step good key r is unmarked has =

@@ -16,13 +16,15 @@ use Rattle.core_rules.specs.Take.{core_expired}
 use Rattle.core_rules.specs.Run.{Entry, Expired}
 use Rattle.core_laws.specs.Shared.{AllShowTerms}
 use Rattle.world_rules.specs.Sight.{version_at, IsBehind}
-use Rattle.world_rules.specs.Moves.{Move, Sets, Deletes, Tells, Takes, Turns, Stops, Starts, ConfigLapses, ServicesLapse, IsMove, IsListOf, AreMoves, entries_of, run_along, after_move, after_moves, after_start, relisted, but_config, begun}
+use Rattle.world_rules.specs.Moves.{Move, Sets, Deletes, Tells, Takes, Turns, Stops, Starts, ConfigLapses, ServicesLapse, EndsLater, IsMove, IsListOf, AreMoves, entries_of, run_along, after_move, after_moves, after_start, relisted, but_config, begun}
 use Rattle.world_rules.specs.World.{WorldValue, lapsed}
 use Rattle.world_rules.specs.Good.{held_as, stored_of, held_of, news_in, IsTrackedIn, IsFollowed, IsGoodStore, IsGood}
-use Rattle.world_rules.specs.Laws.{AreSafeAlong, StartsAreGood, StepsKeepGood, WorldsAreSafe}
+use Rattle.world_rules.specs.Laws.{IsSafeWorld, AreSafeAlong, StartsAreGood, StepsKeepGood, WorldsAreSafe}
 use Rattle.world_rules.proofs.Tracking.{tracked-fresh, tracked-expired, unversion}
 use Rattle.world_rules.proofs.Lanes.{tracked-as, counted-at, news-list, of-list}
 use Rattle.world_rules.proofs.Edits.{good-set, good-deleted}
+use Rattle.world_rules.proofs.Later.{good-late}
+use Rattle.world_rules.proofs.Places.{worlds_are_in_order}
 use Rattle.world_rules.proofs.Takes.{same-tracked, good-take, good-tell}
 use Rattle.world_rules.proofs.Turns.{good-turn, good-crash}
 
@@ -104,6 +106,7 @@ good-move (Stops applied) w may typed good = good-crash applied w good
 good-move (Starts list) w may typed good = start_by w.core list w may good
 good-move ConfigLapses w may typed good = record { stored = good.stored; up = config_by w.core w good.up }
 good-move (ServicesLapse list) w may typed good = record { stored = good.stored; up = services_by w.core list w good.stored may good.up }
+good-move (EndsLater before event behind) w may typed good = good-late before event behind w may good
 
 -- nothing of it is about the lane of the configuration
 followed-else : (w : WorldValue) (lane : List Event) (c : Option State) → IfSome c (IsFollowed w) → (let v : WorldValue = record w { config_lane = lane } in IfSome c (IsFollowed v))
@@ -145,11 +148,14 @@ good-moves (move ∷ moves) w earlier may typed good =
     let here = terms-first (entries_of move w) earlier (terms-before moves (after_move move w) (entries_of move w ++ earlier) typed) in
     good-moves moves (after_move move w) (entries_of move w ++ earlier) may.1 typed (good-move move w may.0 here good)
 
+safe-world : (w : WorldValue) → IsGood w → IsSafeWorld w
+safe-world w good = record { safe = good.stored.safe; kept = good.stored.kept; ordered = worlds_are_in_order w good }
+
 pub safe-along : (moves : List Move) (w : WorldValue) (earlier : List Entry) → AreMoves moves w → AllShowTerms (run_along moves w earlier) → IsGood w → AreSafeAlong moves w
-safe-along [] w earlier may typed good = good.stored.safe
+safe-along [] w earlier may typed good = safe-world w good
 safe-along (move ∷ moves) w earlier may typed good =
     let here = terms-first (entries_of move w) earlier (terms-before moves (after_move move w) (entries_of move w ++ earlier) typed) in
-    (good.stored.safe, safe-along moves (after_move move w) (entries_of move w ++ earlier) may.1 typed (good-move move w may.0 here good))
+    (safe-world w good, safe-along moves (after_move move w) (entries_of move w ++ earlier) may.1 typed (good-move move w may.0 here good))
 
 pub worlds_are_safe : WorldsAreSafe
 worlds_are_safe class store list moves good listed may typed = safe-along moves (begun class store list) [] may typed (starts_are_good class store list good listed)

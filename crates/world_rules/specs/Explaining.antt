@@ -17,7 +17,7 @@ use Rattle.core_rules.specs.Turn.{core_turn, after_turn, put_in}
 use Rattle.core_laws.specs.Shared.{AllShowTerms}
 use Rattle.core_rules.specs.Run.{Entry, Took, Expired, Turned, Heard, core_after, put_out, IsRun}
 use Rattle.world_rules.specs.Good.{IsGoodStore}
-use Rattle.world_rules.specs.Moves.{Move, Sets, Deletes, Tells, Takes, Turns, Stops, Starts, ConfigLapses, ServicesLapse, IsListOf, AreMoves, after_moves, run_along, begun}
+use Rattle.world_rules.specs.Moves.{Move, Sets, Deletes, Tells, Takes, Turns, Stops, Starts, ConfigLapses, ServicesLapse, EndsLater, IsListOf, AreMoves, after_moves, run_along, begun}
 use Rattle.world_rules.specs.Safe.{IsSafe}
 use Rattle.world_rules.specs.Laws.{AreSafeAlong}
 use Rattle.world_rules.specs.World.{WorldValue}
@@ -103,6 +103,7 @@ IsRunning (Stops applied) = ⊥
 IsRunning (Starts list) = ⊥
 IsRunning ConfigLapses = ⊤
 IsRunning (ServicesLapse list) = ⊤
+IsRunning (EndsLater before event behind) = ⊤
 
 -- A world explains a run of a core: a controller was started over a store that is safe, and was going to be shown a list of its services;
 -- moves were made; and what was shown and answered, and how often a turn was made, is what the run has, but for a last put that has no

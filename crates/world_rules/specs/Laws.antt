@@ -7,7 +7,7 @@ use Rattle.kube_model.specs.declared.object.Object.{Object}
 use Rattle.kube_model.specs.declared.record.Record.{Record}
 use Rattle.kube_model.specs.Records.{is_assigned}
 use Rattle.core_laws.specs.Shared.{AllShowTerms}
-use Rattle.status_store.specs.Changes.{StoreValue, empty_store}
+use Rattle.status_store.specs.Changes.{StoreValue, IsKept, empty_store}
 use Rattle.world_rules.specs.declared.step.Step.{Step}
 use Rattle.world_rules.specs.Good.{IsGood, IsGoodStore, IsOwn}
 use Rattle.world_rules.specs.Invariant.{ConfigEndsOnce, IsInOrder}
@@ -23,10 +23,16 @@ StartsAreGood = (class : Option (List ℕ)) (store : StoreValue) (list : List Ev
 abbrev pub StepsKeepGood : Type 0
 StepsKeepGood = (old new : WorldValue) (move : Move) → IsStep old move new → IsGood old → IsGood new
 
--- the store is safe before and behind each of the moves
+-- The store is safe, stands in its order, and has no version past its counter; and while the controller is up, all rows hold.
+pub record IsSafeWorld (w : WorldValue) : Type 0 where
+  pub safe : IsSafe w.store
+  pub kept : IsKept w.store
+  pub ordered : IfSome w.core (IsInOrder w)
+
+-- so it is before and behind each of the moves
 abbrev pub AreSafeAlong : List Move → WorldValue → Type 0
-AreSafeAlong [] w = IsSafe w.store
-AreSafeAlong (move ∷ moves) w = IsSafe w.store × AreSafeAlong moves (after_move move w)
+AreSafeAlong [] w = IsSafeWorld w
+AreSafeAlong (move ∷ moves) w = IsSafeWorld w × AreSafeAlong moves (after_move move w)
 
 -- so it is whatever moves are made behind a start over a safe store, where services are shown terms that there can be
 abbrev pub WorldsAreSafe : Type 0

@@ -1,5 +1,5 @@
 -- What may happen in a cluster. It is wider than what `World` does in all that an API server and its watches are free in: records that are
--- emptied, lists in any order, and whatever is shown of the configuration.
+-- emptied, lists in any order, changes shown ahead of a list's end, and whatever is shown of the configuration.
 use Rattle.std.specs.Prelude.{◌≡◌, ◌+◌, ℕ, Bool, true, List, [], ◌∷◌, ◌++◌, map, filter, Option, Some, None, ⊤}
 use Rattle.std.specs.Option.{option_map}
 use Rattle.kube_model.specs.declared.event.Event.{Event}
@@ -37,6 +37,7 @@ pub data Move : Type 0 where
   Starts : (list : List Event) → Move  -- it is started anew, and is going to be shown this list of the services
   ConfigLapses : Move  -- the watch of the configuration expires
   ServicesLapse : (list : List Event) → Move  -- that of the services does, and this list is going to be shown
+  EndsLater : (before : List Event) (event : Event) (behind : List Event) → Move  -- a change is going to be shown ahead of the list's end
 
 -- ---- which moves there are
 
@@ -52,7 +53,8 @@ IsListOf store list =
     (shown : List Event) × (list ≡ shown ++ ListEnd groups.Service ∷ []) × InAnyOrder (map as_shown (filter (is_of_group groups.Service) store.objects)) shown
 
 -- Where it has an address, the record of a service that is set is the one that is stored. Of the configuration the controller may be
--- shown whatever is of it, pending or not, in any order and as often as may be.
+-- shown whatever is of it, pending or not, in any order and as often as may be. The end of a list of services, which stands behind what was
+-- listed, may come later than changes that were made since.
 abbrev pub IsMove : Move → WorldValue → Type 0
 IsMove (Sets object holding) w = is_assigned holding ≡ true → holding ≡ kept_record (stored_at w.store.objects (place_of object))
 IsMove (Deletes kind key) w = ⊤
@@ -63,6 +65,7 @@ IsMove (Stops applied) w = ⊤
 IsMove (Starts list) w = IsListOf w.store list
 IsMove ConfigLapses w = ⊤
 IsMove (ServicesLapse list) w = IsListOf w.store list
+IsMove (EndsLater before event behind) w = w.service_lane ≡ before ++ ListEnd groups.Service ∷ event ∷ behind
 
 -- ---- what each makes of a world
 
@@ -99,6 +102,7 @@ after_move (Stops applied) w = after_crash applied w
 after_move (Starts list) w = after_start w.core list w
 after_move ConfigLapses w = record w { core = lapsed groups.Config w.core }
 after_move (ServicesLapse list) w = record w { service_lane = relisted w.core list w.service_lane; core = lapsed groups.Service w.core }
+after_move (EndsLater before event behind) w = record w { service_lane = before ++ event ∷ ListEnd groups.Service ∷ behind }
 
 -- ---- what each is to the core, the newest first
 
@@ -133,6 +137,7 @@ entries_of (Stops applied) w = []
 entries_of (Starts list) w = []
 entries_of ConfigLapses w = entries_lapsed w.core groups.Config
 entries_of (ServicesLapse list) w = entries_lapsed w.core groups.Service
+entries_of (EndsLater before event behind) w = []
 
 -- ---- the relation, and lists of moves
 

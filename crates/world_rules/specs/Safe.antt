@@ -60,5 +60,5 @@ StepsTerms (Edits edit) = SetsTerms edit
 StepsTerms (Take group) = ⊤
 StepsTerms (Turns outcome) = ⊤
 StepsTerms (Crash applied) = ⊤
-StepsTerms Restart = ⊤
-StepsTerms (Expire group) = ⊤
+StepsTerms (Restart order) = ⊤
+StepsTerms (Expire group order) = ⊤

@@ -1,5 +1,5 @@
 -- The world of a controller: a store that others edit, what of it is still to be shown, and a core that may stop.
-use Rattle.std.specs.Prelude.{◌≡◌, ◌≢◌, ◌+◌, ℕ, Bool, true, false, if◌then◌else◌, List, [], ◌∷◌, ◌++◌, map, filter, Option, Some, None, is_some, IfSome, IsTrue, ⊤}
+use Rattle.std.specs.Prelude.{◌≡◌, ◌≢◌, ◌+◌, ℕ, Bool, true, false, if◌then◌else◌, List, [], ◌∷◌, ◌++◌, map, filter, reverse, Option, Some, None, is_some, IfSome, IsTrue, ⊤}
 use Rattle.kube_model.specs.declared.event.Event.{Event}
 use Rattle.kube_model.specs.declared.event.Event.TheVariants.{Changed, Deleted, ListEnd}
 use Rattle.kube_model.specs.declared.event.Group.{Group}
@@ -22,6 +22,8 @@ use Rattle.core_rules.specs.Core.{State, fresh}
 use Rattle.core_rules.specs.Take.{core_take, core_expired, limits}
 use Rattle.core_rules.specs.Turn.{core_turn, after_turn, put_in}
 use Rattle.core_rules.specs.Replied.{core_reply}
+use Rattle.world_rules.specs.declared.step.ListOrder.{ListOrder}
+use Rattle.world_rules.specs.declared.step.ListOrder.TheVariants.{Ascending, Descending}
 use Rattle.world_rules.specs.declared.step.Step.{Step}
 use Rattle.world_rules.specs.declared.step.Step.TheVariants.{Edit as Edits, Take, Turn as Turns, Crash, Restart, Expire}
 
@@ -48,9 +50,14 @@ as_shown held = Changed held.version held.object
 abbrev pub is_of_group : Group → Stored → Bool
 is_of_group group held = same_group (group_of (kind_of held.object)) group
 
--- the list of the group: each stored object of it, by kind and then by key, and the end of the list
-abbrev pub listing : Group → StoreValue → List Event
-listing group store = map as_shown (filter (is_of_group group) store.objects) ++ ListEnd group ∷ []
+-- in the order of a list: as they stand, or the other way round
+abbrev pub in_order : ListOrder → List Event → List Event
+in_order Ascending events = events
+in_order Descending events = reverse events
+
+-- the list of the group: each stored object of it, by kind and then by key or the other way round, and the end of the list
+abbrev pub listing : ListOrder → Group → StoreValue → List Event
+listing order group store = in_order order (map as_shown (filter (is_of_group group) store.objects)) ++ ListEnd group ∷ []
 
 -- what an edit has shown: the object as it is stored then, or that it was deleted
 abbrev pub shown_edit : Edit → StoreValue → List Event
@@ -146,11 +153,11 @@ after_crash applied w = record w {
 }
 
 -- the controller is started, knows nothing, and is going to be shown the lists of what is stored
-abbrev pub restarted : Option State → WorldValue → WorldValue
-restarted (Some s) w = w
-restarted None w = record w {
-  config_lane = listing groups.Config w.store;
-  service_lane = listing groups.Service w.store;
+abbrev pub restarted : ListOrder → Option State → WorldValue → WorldValue
+restarted order (Some s) w = w
+restarted order None w = record w {
+  config_lane = listing order groups.Config w.store;
+  service_lane = listing order groups.Service w.store;
   core = Some (fresh w.class);
 }
 
@@ -160,15 +167,15 @@ lapsed group None = None
 lapsed group (Some s) = Some (core_expired s group)
 
 -- the list of the group in place of what was pending
-abbrev pub listed_anew : Group → Group → StoreValue → Option State → List Event → List Event
-listed_anew lane group store None pending = pending
-listed_anew lane group store (Some s) pending = if same_group group lane then listing lane store else pending
+abbrev pub listed_anew : ListOrder → Group → Group → StoreValue → Option State → List Event → List Event
+listed_anew order lane group store None pending = pending
+listed_anew order lane group store (Some s) pending = if same_group group lane then listing order lane store else pending
 
 -- the watch of a lane expires: what was pending in it is lost, and the list is going to be shown anew
-abbrev pub after_expiry : Group → WorldValue → WorldValue
-after_expiry group w = record w {
-  config_lane = listed_anew groups.Config group w.store w.core w.config_lane;
-  service_lane = listed_anew groups.Service group w.store w.core w.service_lane;
+abbrev pub after_expiry : Group → ListOrder → WorldValue → WorldValue
+after_expiry group order w = record w {
+  config_lane = listed_anew order groups.Config group w.store w.core w.config_lane;
+  service_lane = listed_anew order groups.Service group w.store w.core w.service_lane;
   core = lapsed group w.core;
 }
 
@@ -178,8 +185,8 @@ world_step (Edits edit) w = after_edit edit w
 world_step (Take group) w = after_take group w
 world_step (Turns outcome) w = after_turning w.core outcome w
 world_step (Crash applied) w = after_crash applied w
-world_step Restart w = restarted w.core w
-world_step (Expire group) w = after_expiry group w
+world_step (Restart order) w = restarted order w.core w
+world_step (Expire group order) w = after_expiry group order w
 
 -- ---- which steps there are
 
@@ -204,8 +211,8 @@ IsEnabled (Edits edit) w = ¬ (DeletesNothing edit w.store.objects) × ResetsBar
 IsEnabled (Take group) w = IsUp w × (lane_of group w ≢ [])
 IsEnabled (Turns outcome) w = IsUp w × IfSome w.core (λ s. core_turn s ≢ Idle)
 IsEnabled (Crash applied) w = IsUp w
-IsEnabled Restart w = w.core ≡ None
-IsEnabled (Expire group) w = IsUp w × HasLane group
+IsEnabled (Restart order) w = w.core ≡ None
+IsEnabled (Expire group order) w = IsUp w × HasLane group
 
 -- the greatest version that there is
 abbrev pub most_versions : ℕ
@@ -227,8 +234,8 @@ IsLimited (Edits edit) w = AreUsedUp w
 IsLimited (Take group) w = PassesLimit w.core (lane_of group w)
 IsLimited (Turns outcome) w = AreUsedUp w
 IsLimited (Crash applied) w = IsTrue applied × AreUsedUp w
-IsLimited Restart w = ⊥
-IsLimited (Expire group) w = ⊥
+IsLimited (Restart order) w = ⊥
+IsLimited (Expire group order) w = ⊥
 
 -- ---- beginnings, and lists of steps
 
@@ -249,13 +256,13 @@ abbrev pub records_store : List Object → StoreValue → StoreValue
 records_store [] store = store
 records_store (object ∷ more) store = records_store more (with_object object store)
 
--- a controller that was just started over a store
+-- a controller that was just started over a store, and is going to be shown its lists in the store's order
 abbrev pub started : Option (List ℕ) → StoreValue → WorldValue
 started class store = record {
   class = class;
   store = store;
-  config_lane = listing groups.Config store;
-  service_lane = listing groups.Service store;
+  config_lane = listing Ascending groups.Config store;
+  service_lane = listing Ascending groups.Service store;
   core = Some (fresh class);
 }
 

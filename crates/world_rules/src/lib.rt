@@ -8,4 +8,4 @@ pub use laws::{
     runs_are_safe_in_worlds, safe_without_clash, steps_are_moves, worlds_are_in_order,
     worlds_are_safe, worlds_explain_themselves,
 };
-pub use step::{Step, StepFault};
+pub use step::{ListOrder, Step, StepFault};

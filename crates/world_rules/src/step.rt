@@ -16,10 +16,19 @@ pub enum Step {
     Turn { outcome: Outcome },
     /// The controller stops. The put that its next turn would want has reached the store, if it is applied.
     Crash { applied: bool },
-    /// The controller is started anew, and is shown the lists of what is stored.
-    Restart,
-    /// The watch of a lane expires: what was pending in it is lost, and the list of what is stored is shown anew.
-    Expire { group: Group },
+    /// The controller is started anew, and is shown the lists of what is stored, in this order.
+    Restart { order: ListOrder },
+    /// The watch of a lane expires: what was pending in it is lost, and the list of what is stored is shown anew, in this order.
+    Expire { group: Group, order: ListOrder },
+}
+
+/// In which order a list shows what is stored. An API server owes none.
+#[derive(Clone, Copy, Debug, PartialEq, Eq)]
+pub enum ListOrder {
+    /// By kind, and then by namespace and name.
+    Ascending,
+    /// The other way round.
+    Descending,
 }
 
 /// Why a step isn't made.

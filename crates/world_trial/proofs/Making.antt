@@ -28,8 +28,8 @@ limited (Crash applied) w = (
   λ e. let parts = and_parts applied _ e in (parts.0, eqb-true w.store.counter most_versions parts.1),
   λ is. and_from applied _ is.0 (eq-eqb w.store.counter most_versions is.1),
 )
-limited Restart w = (λ e. absurd (true≢false (sym e)), λ is. absurd is)
-limited (Expire group) w = (λ e. absurd (true≢false (sym e)), λ is. absurd is)
+limited (Restart order) w = (λ e. absurd (true≢false (sym e)), λ is. absurd is)
+limited (Expire group order) w = (λ e. absurd (true≢false (sym e)), λ is. absurd is)
 
 both-are : (a b : Bool) → a ≡ true → b ≡ false → a && not b ≡ true
 both-are a b is isn't = rw (is, isn't) refl

@@ -23,6 +23,7 @@ use Rattle.status_store.specs.Changes.{StoreValue, with_record, kept_record, set
 use Rattle.status_store.specs.Objects.{is_of, stored_at, with_stored, without_stored}
 use Rattle.status_store.specs.Places.{Place, place_of, place_cmp, service_at}
 use Rattle.world_rules.specs.declared.step.Step.{Step}
+use Rattle.world_rules.specs.declared.step.ListOrder.{ListOrder}
 use Rattle.world_rules.specs.declared.step.Step.TheVariants.{Edit as Edits, Take, Turn, Crash, Restart, Expire}
 use Rattle.world_rules.specs.World.{WorldValue, after_take, after_turning, turned, next_put, reached, restarted, world_step}
 use Rattle.world_trial.specs.Begun.{first_world}
@@ -118,17 +119,17 @@ ours-reached : (put : Option Put) (applied : Bool) (store : StoreValue) → AreO
 ours-reached None applied store all = all
 ours-reached (Some put) applied store all = ours-put put (Lost applied) store all
 
-ours-restart : (core : Option State) (w : WorldValue) → OursIn w → OursIn (restarted core w)
-ours-restart None w all = all
-ours-restart (Some s) w all = all
+ours-restart : (order : ListOrder) (core : Option State) (w : WorldValue) → OursIn w → OursIn (restarted order core w)
+ours-restart order None w all = all
+ours-restart order (Some s) w all = all
 
 ours-step : (step : Step) (w : WorldValue) → Sets IsOurs step → OursIn w → OursIn (world_step step w)
 ours-step (Edits edit) w sets all = ours-edited edit w.store sets all
 ours-step (Take group) w sets all = ours-take group w all
 ours-step (Turn outcome) w sets all = ours-turn w.core outcome w all
 ours-step (Crash applied) w sets all = ours-reached (next_put w.core) applied w.store all
-ours-step Restart w sets all = ours-restart w.core w all
-ours-step (Expire group) w sets all = all
+ours-step (Restart order) w sets all = ours-restart order w.core w all
+ours-step (Expire group order) w sets all = all
 
 ours-service : (y z : ℕ) → y < 48 → IsOurs (objects.Service (service_of y z))
 unfolding service_of

@@ -77,8 +77,8 @@ typed (Edits edit) t = edit-typed edit t
 typed (Take group) t = tt
 typed (Turn outcome) t = tt
 typed (Crash applied) t = tt
-typed Restart t = tt
-typed (Expire group) t = tt
+typed (Restart order) t = tt
+typed (Expire group order) t = tt
 
 -- ---- worlds
 

@@ -21,8 +21,8 @@ Sets P (Edits edit) = EditSets P edit
 Sets P (Take group) = ⊤
 Sets P (Turn outcome) = ⊤
 Sets P (Crash applied) = ⊤
-Sets P Restart = ⊤
-Sets P (Expire group) = ⊤
+Sets P (Restart order) = ⊤
+Sets P (Expire group order) = ⊤
 
 module _ (P : Object → Type 0) (services : (y z : ℕ) → y < 48 → P (objects.Service (service_of y z))) where
   abbrev May : Option Step → Type 0

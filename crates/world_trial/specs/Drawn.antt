@@ -7,6 +7,7 @@ use Rattle.status_store.specs.declared.change.Edit.{Edit}
 use Rattle.status_store.specs.declared.change.Edit.TheVariants.{Set, Delete}
 use Rattle.status_store.specs.declared.change.Outcome.TheVariants.{Delivered, Lost}
 use Rattle.world_rules.specs.declared.step.Step.{Step}
+use Rattle.world_rules.specs.declared.step.ListOrder.TheVariants.{Ascending}
 use Rattle.world_rules.specs.declared.step.Step.TheVariants.{Edit as Edits, Take, Turn, Crash, Restart}
 use Rattle.world_trial.specs.Services.{numbered, service_of}
 
@@ -29,7 +30,7 @@ step_up k z =
 
 -- one that is down is started, or nothing happens
 abbrev pub step_down : ℕ → Option Step
-step_down k = if nat_lt k 9 then None else Some Restart
+step_down k = if nat_lt k 9 then None else Some (Restart Ascending)
 
 -- the service of the number y is edited, in the form z; or the controller does something
 abbrev pub step_by : ℕ → ℕ → ℕ → Bool → Option Step

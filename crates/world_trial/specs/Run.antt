@@ -25,8 +25,8 @@ is_limited (Edit edit) w = is_used_up (Edit edit) w
 is_limited (Take group) w = passes_limit w.core (lane_of group w)
 is_limited (Turn outcome) w = is_used_up (Turn outcome) w
 is_limited (Crash applied) w = is_used_up (Crash applied) w
-is_limited Restart w = false
-is_limited (Expire group) w = false
+is_limited (Restart order) w = false
+is_limited (Expire group order) w = false
 
 -- whether there is such a step, and it passes no limit
 unfoldable pub is_made : Step → WorldValue → Bool
@@ -46,8 +46,8 @@ step_puts (Edit edit) w = 0
 step_puts (Take group) w = 0
 step_puts (Turn outcome) w = next_puts w
 step_puts (Crash applied) w = if applied then next_puts w else 0
-step_puts Restart w = 0
-step_puts (Expire group) w = 0
+step_puts (Restart order) w = 0
+step_puts (Expire group order) w = 0
 
 -- ---- draws
 

@@ -3,7 +3,7 @@ ghost use Rattle.std.specs.Prelude.{◌≡◌, IfOk};
 ghost use Rattle.world_trial.specs.Drawn.{edit_of, crash_of, step_up, step_down, step_by, step_of};
 
 use crate::service::{numbered, service_of};
-use ctl_world::{Edit, Outcome, Step};
+use ctl_world::{Edit, ListOrder, Outcome, Step};
 use kube_model::{Group, Kind, Object};
 use mlb_base::NoMemory;
 use std::alloc::Global;
@@ -61,7 +61,11 @@ fn step_up(k: u64, z: u64) -> Option<Step>
 fn step_down(k: u64) -> Option<Step>
     ensures { result ≡ step_down k }
 {
-    if k < 9 { None } else { Some(Step::Restart) }
+    if k < 9 {
+        return None;
+    }
+    let order = ListOrder::Ascending;
+    Some(Step::Restart { order })
 }
 
 fn step_by(alloc: Global, k: u64, y: u64, z: u64, is_up: bool) -> Result<Option<Step>, NoMemory>

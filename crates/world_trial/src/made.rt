@@ -58,7 +58,7 @@ fn step_puts(world: &World, step: &Step) -> Result<u64, NoMemory>
     match step {
         Step::Turn { .. } => next_puts(world),
         Step::Crash { applied } => { if *applied { next_puts(world) } else { Ok(0) } }
-        Step::Edit { .. } | Step::Take { .. } | Step::Restart | Step::Expire { .. } => Ok(0),
+        Step::Edit { .. } | Step::Take { .. } | Step::Restart { .. } | Step::Expire { .. } => Ok(0),
     }
 }
 

@@ -1,11 +1,2 @@
-pub mod Addresses
-pub mod Asked
-pub mod Kept
+pub mod Differences
 pub mod Listed
-pub mod Objects
-pub mod Recording
-pub mod Services
-pub mod Slices
-pub mod Standing
-pub mod Untouched
-pub mod Updates

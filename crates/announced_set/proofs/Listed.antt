@@ -15,7 +15,7 @@ use Rattle.l2_elect.specs.Election.{IsAnnouncer, announces_of}
 use Rattle.l2_elect.proofs.Filters.{Contains-filter, filter-Contains}
 use Rattle.l2_elect.proofs.Least.{announces-announcer, announcer-announces}
 use Rattle.announced_set.specs.Announced.{address_cmp, announced_of, announced_with, announced_by, AllAreAnnounced}
-use Rattle.announced_set.proofs.Addresses.{address_total, address_exact}
+use Rattle.speaker_view.proofs.AddressOrder.{address_total, address_exact}
 
 -- ---- items of lists
 in-contains : (xs : List AddressValue) (a : AddressValue) → IsIn xs a → Contains xs a

@@ -1,27 +1,13 @@
 -- The addresses that a node announces, as a list.
 use Rattle.std.specs.Prelude.{◌↔◌, ℕ, List, [], filter, fold, Contains}
-use Rattle.std.specs.Ordering.{nat_cmp, ordering_then}
 use Rattle.std.specs.List.Sorted.{IsStrictlySortedBy}
-use Rattle.std.specs.declared.cmp.Ordering.{Ordering}
-use Rattle.std.specs.declared.cmp.Ordering.TheVariants.{Less, Equal, Greater}
-use Rattle.ip_ranges.specs.declared.family.Family.{Family}
-use Rattle.ip_ranges.specs.declared.family.Family.TheVariants.{V4, V6}
 use Rattle.ip_ranges.specs.Values.{AddressValue}
 use Rattle.kube_model.specs.declared.service.Service.{Service}
 use Rattle.pool_config.specs.KeySets.{keys_with}
+pub use Rattle.speaker_view.specs.Addresses.{address_cmp}
 use Rattle.speaker_view.specs.Held.{objects_of}
 use Rattle.speaker_view.specs.ViewValue.{ViewValue}
 use Rattle.l2_elect.specs.Election.{IsAnnouncer, announces_of}
-
-abbrev pub family_cmp : Family → Family → Ordering
-family_cmp V4 V4 = Equal
-family_cmp V4 V6 = Less
-family_cmp V6 V4 = Greater
-family_cmp V6 V6 = Equal
-
--- IPv4 before IPv6, each family by number
-abbrev pub address_cmp : AddressValue → AddressValue → Ordering
-address_cmp a b = ordering_then (family_cmp a.family b.family) (nat_cmp a.number b.number)
 
 -- those of the addresses that the node announces
 abbrev pub announced_of : ViewValue → List ℕ → List AddressValue → List AddressValue

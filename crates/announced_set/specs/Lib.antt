@@ -1,4 +1,2 @@
 pub mod Announced
 pub mod Changes
-pub mod Recorded
-pub mod Touched

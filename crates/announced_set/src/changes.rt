@@ -1,17 +1,18 @@
 //! How what a node announces changes.
-ghost use Rattle.std.specs.Prelude.{◌≡◌, true, false, if◌then◌else◌, IfOk, OnOk};
+ghost use Rattle.std.specs.Prelude.{◌≡◌, ◌++◌, true, if◌then◌else◌, IfOk, OnOk};
 ghost use Rattle.std.specs.List.Sorted.{IsStrictlySortedBy};
-ghost use Rattle.std.specs.Option.{option_map};
+ghost use Rattle.std.specs.Map.{keys_of};
 ghost use Rattle.ip_ranges.specs.Values.{AddressValue, has_address, same_address};
-ghost use Rattle.announced_set.specs.Announced.{address_cmp, announced_by};
-ghost use Rattle.announced_set.specs.Changes.{AreAdded, AreUntouched, AreUpdated, StandsBut, difference, is_announced, is_withdrawn};
+ghost use Rattle.speaker_view.specs.Endpoints.{recorded_addresses};
+ghost use Rattle.l2_elect.specs.Kept.{AreKeptBut, AreKeptFor, AreRightBut};
+ghost use Rattle.announced_set.specs.Announced.{address_cmp};
+ghost use Rattle.announced_set.specs.Changes.{AreComeSince, AreWithdrawn, difference, held_among, is_held};
 
-use crate::listing::announced;
-use ip_ranges::Address;
+use ip_ranges::{Address, AddressList};
 use kube_labels::Text;
-use l2_elect::announces;
+use l2_elect::Announcers;
 use mlb_base::NoMemory;
-use speaker_view::View;
+use speaker_view::{View, ViewChange};
 use std::alloc::Global;
 use std::collections::BTreeSet;
 
@@ -22,44 +23,121 @@ pub struct AddressChanges {
     pub announced: BTreeSet<Address>,
 }
 
-/// Makes the addresses those that the node announces by the view, where they are so already at each address but the touched ones; of
-/// these alone it is asked, unless they are `None`, which are all. After an error nothing is known of them.
-pub fn update_announced(
+/// Makes the announcers those of the view, where they are so already but for what the change may have changed, and tells what that
+/// changes of what the node announces. The election is held for the addresses that the change lists alone, unless it may change all.
+/// After an error nothing is known of the announcers.
+pub fn renew_announcers(
     alloc: Global,
-    addresses: &mut BTreeSet<Address>,
+    announcers: &mut Announcers,
     view: &View,
     node: &Text,
-    touched: Option<&[Address]>,
+    change: &ViewChange,
 ) -> Result<AddressChanges, NoMemory>
-    requires { AreUntouched (option_map (λ t. t.now) touched) addresses.old.keys view.now node.now }
-    ensures addresses { OnOk result (addresses.new.keys ≡ announced_by view.now node.now) }
-    ensures withdrawn { IfOk result (λ changes. changes.withdrawn.keys ≡ difference addresses.old.keys addresses.new.keys) }
-    ensures announced { IfOk result (λ changes. changes.announced.keys ≡ difference addresses.new.keys addresses.old.keys) }
+    requires { AreRightBut change.now announcers.old view.now }
+    ensures announcers { OnOk result (AreKeptFor announcers.new view.now) }
+    ensures withdrawn { IfOk result (λ changes. AreWithdrawn announcers.old view.now node.now changes.withdrawn.keys) }
+    ensures announced { IfOk result (λ changes. AreComeSince announcers.old view.now node.now changes.announced.keys) }
 {
-    match touched {
-        Some(touched) => update_touched(alloc, addresses, view, node, touched),
-        None => update_all(alloc, addresses, view, node),
+    if change.all {
+        return renew_all(alloc, announcers, view, node);
     }
+    renew_at(alloc, announcers, view, node, &change.addresses)
 }
 
-/// Makes the addresses those that the node announces, whatever they were.
-fn update_all(
+fn renew_all(
     alloc: Global,
-    addresses: &mut BTreeSet<Address>,
+    announcers: &mut Announcers,
     view: &View,
     node: &Text,
 ) -> Result<AddressChanges, NoMemory>
-    ensures addresses { OnOk result (addresses.new.keys ≡ announced_by view.now node.now) }
-    ensures withdrawn { IfOk result (λ changes. changes.withdrawn.keys ≡ difference addresses.old.keys addresses.new.keys) }
-    ensures announced { IfOk result (λ changes. changes.announced.keys ≡ difference addresses.new.keys addresses.old.keys) }
+    ensures announcers { OnOk result (AreKeptFor announcers.new view.now) }
+    ensures withdrawn { IfOk result (λ changes. AreWithdrawn announcers.old view.now node.now changes.withdrawn.keys) }
+    ensures announced { IfOk result (λ changes. AreComeSince announcers.old view.now node.now changes.announced.keys) }
 {
-    let after = announced(alloc, view, node)?;
-    let changes = AddressChanges {
-        withdrawn: difference(alloc, addresses, &after)?,
-        announced: difference(alloc, &after, addresses)?,
-    };
-    *addresses = after;
-    Ok(changes)
+    let addresses = all_addresses(announcers, view)?;
+    renew_at(alloc, announcers, view, node, &addresses)
+}
+
+/// The addresses that services record, and those for which an announcer is held.
+fn all_addresses(announcers: &Announcers, view: &View) -> Result<AddressList, NoMemory>
+    ensures { IfOk result (λ addresses. addresses ≡ recorded_addresses view.now ++ keys_of announcers.now) }
+{
+    let mut addresses = view.addresses()?;
+    for address in announcers.addresses() {
+        addresses.push(*address)?;
+    }
+    Ok(addresses)
+}
+
+/// The same, where they are right but at these addresses.
+fn renew_at(
+    alloc: Global,
+    announcers: &mut Announcers,
+    view: &View,
+    node: &Text,
+    addresses: &AddressList,
+) -> Result<AddressChanges, NoMemory>
+    requires { AreKeptBut addresses.now announcers.old view.now }
+    ensures announcers { OnOk result (AreKeptFor announcers.new view.now) }
+    ensures withdrawn { IfOk result (λ changes. AreWithdrawn announcers.old view.now node.now changes.withdrawn.keys) }
+    ensures announced { IfOk result (λ changes. AreComeSince announcers.old view.now node.now changes.announced.keys) }
+{
+    let before = held_by(alloc, announcers, node, addresses)?;
+    announcers.renew(view, addresses)?;
+    let after = held_by(alloc, announcers, node, addresses)?;
+    changes_between(alloc, &before, &after)
+}
+
+fn changes_between(
+    alloc: Global,
+    before: &BTreeSet<Address>,
+    after: &BTreeSet<Address>,
+) -> Result<AddressChanges, NoMemory>
+    ensures withdrawn { IfOk result (λ changes. changes.withdrawn.keys ≡ difference before.now.keys after.now.keys) }
+    ensures announced { IfOk result (λ changes. changes.announced.keys ≡ difference after.now.keys before.now.keys) }
+{
+    Ok(AddressChanges {
+        withdrawn: difference(alloc, before, after)?,
+        announced: difference(alloc, after, before)?,
+    })
+}
+
+/// Those of the addresses whose announcer is the node, as it is held.
+fn held_by(
+    alloc: Global,
+    announcers: &Announcers,
+    node: &Text,
+    addresses: &AddressList,
+) -> Result<BTreeSet<Address>, NoMemory>
+    ensures { IfOk result (λ found. found.keys ≡ held_among announcers.now node.now addresses.now) }
+{
+    held_among(alloc, announcers, node, addresses.as_slice())
+}
+
+fn held_among(
+    alloc: Global,
+    announcers: &Announcers,
+    node: &Text,
+    addresses: &[Address],
+) -> Result<BTreeSet<Address>, NoMemory>
+    ensures { IfOk result (λ found. found.keys ≡ held_among announcers.now node.now addresses.now) }
+{
+    let mut found = BTreeSet::new(alloc);
+    for address in addresses {
+        if is_held(announcers, node, address) {
+            found.insert(*address)?;
+        }
+    }
+    Ok(found)
+}
+
+fn is_held(announcers: &Announcers, node: &Text, address: &Address) -> bool
+    ensures { result ≡ is_held announcers.now node.now address.now }
+{
+    match announcers.of(address) {
+        Some(name) => name == node,
+        None => false,
+    }
 }
 
 /// The addresses that aren't among the others.
@@ -79,79 +157,12 @@ fn difference(
     Ok(found)
 }
 
-/// Makes the addresses those that the node announces, where they are so but at the touched ones.
-fn update_touched(
-    alloc: Global,
-    addresses: &mut BTreeSet<Address>,
-    view: &View,
-    node: &Text,
-    touched: &[Address],
-) -> Result<AddressChanges, NoMemory>
-    requires { StandsBut touched.now addresses.old.keys view.now node.now }
-    ensures addresses { OnOk result (addresses.new.keys ≡ announced_by view.now node.now) }
-    ensures withdrawn { IfOk result (λ changes. changes.withdrawn.keys ≡ difference addresses.old.keys addresses.new.keys) }
-    ensures announced { IfOk result (λ changes. changes.announced.keys ≡ difference addresses.new.keys addresses.old.keys) }
-{
-    let mut changes = AddressChanges {
-        withdrawn: BTreeSet::new(alloc),
-        announced: BTreeSet::new(alloc),
-    };
-    ascend(addresses);
-    for address in touched {
-        update_at(addresses, &mut changes, view, node, address)?;
-    }
-    ascend(addresses);
-    ascend(&changes.withdrawn);
-    ascend(&changes.announced);
-    Ok(changes)
-}
-
-/// Has the address among the addresses exactly where the node announces it, and notes where that is a change.
-fn update_at(
-    addresses: &mut BTreeSet<Address>,
-    changes: &mut AddressChanges,
-    view: &View,
-    node: &Text,
-    address: &Address,
-) -> Result<(), NoMemory>
-    ensures addresses { OnOk result (AreUpdated (λ a. same_address a address.now) view.now node.now addresses.old.keys addresses.new.keys) }
-    ensures withdrawn { OnOk result (
-        AreAdded (λ a. same_address a address.now) (is_withdrawn view.now node.now addresses.old.keys) changes.old.withdrawn.keys changes.new.withdrawn.keys) }
-    ensures announced { OnOk result (
-        AreAdded (λ a. same_address a address.now) (is_announced view.now node.now addresses.old.keys) changes.old.announced.keys changes.new.announced.keys) }
-{
-    let was = contains(addresses, address);
-    let is = announces(view, node.as_str(), address);
-    if was == is {
-        return Ok(());
-    }
-    if is {
-        insert(addresses, address)?;
-        return insert(&mut changes.announced, address);
-    }
-    remove(addresses, address);
-    insert(&mut changes.withdrawn, address)
-}
-
-fn contains(addresses: &BTreeSet<Address>, address: &Address) -> bool
-    ensures { result ≡ has_address addresses.now.keys address.now }
-{
-    addresses.contains(address)
-}
-
 fn insert(addresses: &mut BTreeSet<Address>, address: &Address) -> Result<(), NoMemory>
     ensures { OnOk result ((a : AddressValue)
         → has_address addresses.new.keys a ≡ (if same_address a address.now then true else has_address addresses.old.keys a)) }
 {
     addresses.insert(*address)?;
     Ok(())
-}
-
-fn remove(addresses: &mut BTreeSet<Address>, address: &Address)
-    ensures { (a : AddressValue)
-        → has_address addresses.new.keys a ≡ (if same_address a address.now then false else has_address addresses.old.keys a) }
-{
-    addresses.remove(address);
 }
 
 /// A set has its addresses in their order, whatever was done to it.

@@ -7,3 +7,4 @@ pub mod Placing
 pub mod Same
 pub mod SameViews
 pub mod Stated
+pub mod Stays

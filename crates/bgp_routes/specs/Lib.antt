@@ -5,4 +5,5 @@ pub mod Kept
 pub mod Laws
 pub mod Placed
 pub mod Routes
+pub mod Stays
 pub mod Uniting

@@ -16,7 +16,7 @@ use kube_labels::Text;
 use kube_model::Service;
 use mlb_base::{NoMemory, TryCopy};
 use pool_config::{CompiledBgp, CompiledPeer, CompiledPool, Config};
-use speaker_view::{ServiceSlices, View};
+use speaker_view::View;
 use std::alloc::Global;
 
 /// The routes that the node announces to the peer.
@@ -60,24 +60,21 @@ fn united_routes(
     let Some(config) = view.config() else {
         return Ok(routes);
     };
-    let slices = view.service_slices(alloc)?;
-    add_services(&mut routes, view, &slices, node, peer, config)?;
+    add_services(&mut routes, view, node, peer, config)?;
     Ok(routes)
 }
 
 fn add_services(
     routes: &mut UnitedRoutes,
     view: &View,
-    slices: &ServiceSlices<'_>,
     node: &Text,
     peer: &CompiledPeer,
     config: &Config,
 ) -> Result<(), NoMemory>
-    requires { slices.now ≡ objects_of view.now.held.slices }
     ensures { OnOk result (routes.new ≡ with_each (of_service view.now node.now peer.now config.now) routes.old (objects_of view.now.held.services)) }
 {
     for (_, held) in view.services().iter() {
-        add_service(routes, view, slices, node, peer, config, &held.object)?;
+        add_service(routes, view, node, peer, config, &held.object)?;
     }
     Ok(())
 }
@@ -86,16 +83,14 @@ fn add_services(
 fn add_service(
     routes: &mut UnitedRoutes,
     view: &View,
-    slices: &ServiceSlices<'_>,
     node: &Text,
     peer: &CompiledPeer,
     config: &Config,
     service: &Service,
 ) -> Result<(), NoMemory>
-    requires { slices.now ≡ objects_of view.now.held.slices }
     ensures { OnOk result (routes.new ≡ with_contributions routes.old (of_service view.now node.now peer.now config.now service.now)) }
 {
-    if !view.can_announce_by(slices, service, node) {
+    if !view.can_announce(service, node) {
         return Ok(());
     }
     add_addresses(

@@ -2,6 +2,7 @@
 ghost use Rattle.bgp_routes.specs.Determined.{TablesAreDetermined};
 ghost use Rattle.bgp_routes.specs.Kept.{SameViewsKeepTables};
 ghost use Rattle.bgp_routes.specs.Laws.{ContributionsAreListed, RoutesAreStated, RoutesUniteContributions};
+ghost use Rattle.bgp_routes.specs.Stays.{ContributionsStay};
 
 /// The table of a node for a peer says of each prefix what all contributions of the prefix do, united.
 pub fn routes_are_stated()
@@ -29,4 +30,9 @@ pub fn tables_are_determined()
 /// routes for all peers are the same.
 pub fn same_views_keep_tables()
     ensures { SameViewsKeepTables }
+{}
+
+/// Where an event leaves all that decides who may announce an address, the same is contributed for it, of every node and to every peer.
+pub fn contributions_stay()
+    ensures { ContributionsStay }
 {}

@@ -9,6 +9,6 @@ mod uniting;
 pub use announced::routes;
 pub use kept::KeptRoutes;
 pub use laws::{
-    contributions_are_listed, routes_are_stated, routes_unite_contributions,
+    contributions_are_listed, contributions_stay, routes_are_stated, routes_unite_contributions,
     same_views_keep_tables, tables_are_determined,
 };

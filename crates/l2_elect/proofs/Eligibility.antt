@@ -11,10 +11,10 @@ use Rattle.pool_config.specs.declared.compiled.CompiledPool.{CompiledPool}
 use Rattle.pool_config.specs.Choice.{Chooses, Selects, chooses, selects}
 use Rattle.pool_config.proofs.Tests.{chooses-Decides, selects-Decides}
 use Rattle.speaker_view.specs.Held.{objects_of}
-use Rattle.speaker_view.specs.Endpoints.{can_announce, node_labels}
+use Rattle.speaker_view.specs.Endpoints.{announced_from, can_announce, node_labels}
 use Rattle.speaker_view.proofs.Serving.{can_announce-Decides}
 use Rattle.speaker_view.specs.ViewValue.{ViewValue}
-use Rattle.l2_elect.specs.Eligible.{advertises, is_advertised, is_recorded, is_eligible, IsAdvertised, IsRecorded, IsEligible}
+use Rattle.l2_elect.specs.Eligible.{advertises, is_advertised, is_eligible, IsAdvertised, IsRecorded, IsEligible}
 use Rattle.l2_elect.proofs.Filters.{Contains-filter, filter-Contains}
 use Rattle.l2_elect.proofs.Passing.{passing, passes-where}
 
@@ -37,14 +37,14 @@ module _ (v : ViewValue) (address : AddressValue) (node : List ℕ) where
   abbrev recorded_by : Service → Bool
   recorded_by service = has_address service.holding.addresses address && can_announce v service node
 
-  recorded-means : is_recorded v node address ≡ true → IsRecorded v address node
+  recorded-means : announced_from v address node ≡ true → IsRecorded v address node
   recorded-means e =
       let found = any-found recorded_by (objects_of v.held.services) e in
       let service : Service = found.0 in
       let both = and_parts (has_address service.holding.addresses address) (can_announce v service node) found.2 in
       record { service = service; held = found.1; recorded = has_address-is service.holding.addresses address both.0; announces = (can_announce-Decides v service node).0 both.1 }
 
-  means-recorded : IsRecorded v address node → is_recorded v node address ≡ true
+  means-recorded : IsRecorded v address node → announced_from v address node ≡ true
   means-recorded r =
       any-contains recorded_by (objects_of v.held.services) r.service r.held
       (and_from (has_address r.service.holding.addresses address) (can_announce v r.service node) (has_address-from r.service.holding.addresses address r.recorded) ((can_announce-Decides v r.service node).1 r.announces))
@@ -53,10 +53,10 @@ module _ (v : ViewValue) (address : AddressValue) (node : List ℕ) where
   pub eligible-member : IsEligible v address node → Contains (filter (is_eligible v address) v.members) node
   eligible-member e =
       Contains-filter (is_eligible v address) v.members node e.member
-      (and_from (is_advertised v node address) (is_recorded v node address) (means-advertised e.advertised) (means-recorded e.recorded))
+      (and_from (is_advertised v node address) (announced_from v address node) (means-advertised e.advertised) (means-recorded e.recorded))
 
   pub member-eligible : Contains (filter (is_eligible v address) v.members) node → IsEligible v address node
   member-eligible there =
       let passed = filter-Contains (is_eligible v address) v.members node there in
-      let both = and_parts (is_advertised v node address) (is_recorded v node address) passed.1 in
+      let both = and_parts (is_advertised v node address) (announced_from v address node) passed.1 in
       record { member = passed.0; advertised = advertised-means both.0; recorded = recorded-means both.1 }

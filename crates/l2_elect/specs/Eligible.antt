@@ -1,15 +1,16 @@
 -- Which nodes are eligible for an address.
-use Rattle.std.specs.Prelude.{◌≡◌, ℕ, Bool, false, ◌&&◌, List, filter, Option, Some, None, Contains}
+use Rattle.std.specs.Prelude.{◌≡◌, ◌↔◌, ℕ, Bool, false, ◌&&◌, List, Option, Some, None, Contains}
 use Rattle.std.specs.List.{list_any}
-use Rattle.ip_ranges.specs.Values.{AddressValue, has_address}
+use Rattle.ip_ranges.specs.Values.{AddressValue}
 use Rattle.kube_model.specs.declared.service.Service.{Service}
 use Rattle.pool_config.specs.declared.compiled.CompiledL2.{CompiledL2}
 use Rattle.pool_config.specs.declared.compiled.CompiledPool.{CompiledPool}
 use Rattle.pool_config.specs.Choice.{Chooses, Selects, chooses, selects}
 use Rattle.pool_config.specs.ConfigValue.{ConfigValue}
 use Rattle.pool_config.specs.PoolOf.{pool_with}
+use Rattle.speaker_view.specs.Change.{StaysAt}
 use Rattle.speaker_view.specs.Held.{objects_of}
-use Rattle.speaker_view.specs.Endpoints.{CanAnnounce, can_announce, node_labels}
+use Rattle.speaker_view.specs.Endpoints.{CanAnnounce, announced_from, node_labels}
 use Rattle.speaker_view.specs.ViewValue.{ViewValue}
 
 -- The L2Advertisement is one of the configuration in force; it chooses the pool that has the address (`spec.ipAddressPools`,
@@ -58,20 +59,10 @@ passes_in test address (Some config) = passes_for test config.l2 (pool_with conf
 abbrev pub is_advertised : ViewValue → List ℕ → AddressValue → Bool
 is_advertised v node address = passes_in (advertises v node) address v.held.config
 
-abbrev pub recorded_in : ViewValue → List Service → List ℕ → AddressValue → Bool
-recorded_in v services node address = list_any (λ service. has_address service.holding.addresses address && can_announce v service node) services
-
-abbrev pub is_recorded : ViewValue → List ℕ → AddressValue → Bool
-is_recorded v node address = recorded_in v (objects_of v.held.services) node address
-
 abbrev pub is_eligible : ViewValue → AddressValue → List ℕ → Bool
-is_eligible v address node = is_advertised v node address && is_recorded v node address
+is_eligible v address node = is_advertised v node address && announced_from v address node
 
--- ---- the same by the services that record the address
--- those of the services that do
-abbrev pub recording : List Service → AddressValue → List Service
-recording services address = filter (λ service. has_address service.holding.addresses address) services
-
--- one of the services can be announced from the node
-abbrev pub can_some_announce : ViewValue → List Service → List ℕ → Bool
-can_some_announce v services node = list_any (λ service. can_announce v service node) services
+-- ---- laws
+-- where all stays that decides who may announce an address, the same nodes are eligible for it
+abbrev pub EligibleNodesStay : Type 0
+EligibleNodesStay = (v w : ViewValue) (address : AddressValue) → StaysAt v w address → (node : List ℕ) → IsEligible w address node ↔ IsEligible v address node

@@ -1,18 +1,15 @@
 //! The election.
-ghost use Rattle.std.specs.Prelude.{◌≡◌, ◌↔◌, ℕ, List, map, IsTrue, IfNone, Some};
+ghost use Rattle.std.specs.Prelude.{◌≡◌, ◌↔◌, ℕ, List, IsTrue, IfNone, Some};
 ghost use Rattle.std.specs.Option.{option_copied, option_map, ForSome};
 ghost use Rattle.ip_ranges.specs.AddressText.{canonical_text};
-ghost use Rattle.speaker_view.specs.Held.{objects_of};
-ghost use Rattle.l2_elect.specs.Eligible.{IsEligible, recording};
+ghost use Rattle.l2_elect.specs.Eligible.{IsEligible};
 ghost use Rattle.l2_elect.specs.Election.{announcer_of, announces_of, digest_of, elected, better, is_named, IsAnnouncer};
-ghost use Rattle.l2_elect.specs.Recorders.{AreRecorders};
 
-use crate::eligible::{Recorders, is_eligible};
+use crate::eligible::is_eligible;
 use ip_ranges::{Address, write_address};
 use kube_labels::Text;
-use kube_model::Service;
 use sha2::{Digest, Sha256};
-use speaker_view::{ServiceSlices, View};
+use speaker_view::View;
 use std::cmp::Ordering;
 
 /// A node and its digest.
@@ -32,40 +29,25 @@ pub fn announcer<'a>(view: &'a View, address: &Address) -> Option<&'a Text>
     first(view, address)
 }
 
-/// The announcer of the address, with all held services gone through.
+/// The announcer of the address, by its text. One that no service records costs a look-up.
 pub(crate) fn first<'a>(view: &'a View, address: &Address) -> Option<&'a Text>
     ensures { option_copied result ≡ announcer_of view.now address.now }
 {
-    first_by(view, None, address)
-}
-
-/// The announcer of the address, by its text.
-fn first_by<'a>(
-    view: &'a View,
-    recorders: Option<&Recorders<'_, '_, '_>>,
-    address: &Address,
-) -> Option<&'a Text>
-    requires { ForSome recorders (AreRecorders view.now address.now) }
-    ensures { option_copied result ≡ announcer_of view.now address.now }
-{
+    if !view.is_recorded(address) {
+        return None;
+    }
     let mut buffer = [0; 39];
     let length = write_address(address, &mut buffer);
-    elected(view, recorders, address, &buffer[..length])
+    elected(view, address, &buffer[..length])
 }
 
 /// The best of the eligible members, where the address has this text.
-fn elected<'a>(
-    view: &'a View,
-    recorders: Option<&Recorders<'_, '_, '_>>,
-    address: &Address,
-    text: &[u8],
-) -> Option<&'a Text>
-    requires { ForSome recorders (AreRecorders view.now address.now) }
+fn elected<'a>(view: &'a View, address: &Address, text: &[u8]) -> Option<&'a Text>
     ensures { option_copied result ≡ elected view.now address.now text.now }
 {
     let mut best: Option<Candidate<'a>> = None;
     for node in view.members().as_slice() {
-        if is_eligible(view, recorders, node, address) {
+        if is_eligible(view, node, address) {
             best = Some(better(best, node, text));
         }
     }
@@ -118,23 +100,6 @@ pub fn announces(view: &View, node: &str, address: &Address) -> bool
     ensures meaning { IsTrue result ↔ IsAnnouncer view.now address.now node.now }
 {
     is_named(node, first(view, address))
-}
-
-/// What `announces` answers, where these of the held services record the address, and no others, and the slices are the view's. It
-/// looks at these services and their slices alone, and takes no memory.
-pub fn announces_among<'a>(
-    view: &View,
-    slices: &'a ServiceSlices<'_>,
-    services: &'a [&Service],
-    node: &str,
-    address: &Address,
-) -> bool
-    requires services { map (λ s. s.now) services.now ≡ recording (objects_of view.now.held.services) address.now }
-    requires slices { slices.now ≡ objects_of view.now.held.slices }
-    ensures { result ≡ announces_of view.now node.now address.now }
-{
-    let recorders = Recorders { services, slices };
-    is_named(node, first_by(view, Some(&recorders), address))
 }
 
 fn is_named(node: &str, announcer: Option<&Text>) -> bool

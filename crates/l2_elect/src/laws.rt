@@ -1,5 +1,6 @@
 //! What holds of every view and address.
 ghost use Rattle.l2_elect.specs.Election.{OneAnnounces, OnlyAnEligibleNodeAnnounces};
+ghost use Rattle.l2_elect.specs.Eligible.{EligibleNodesStay};
 
 /// Where a node is eligible, exactly one announces, by every speaker whose view is this one.
 pub fn one_announces()
@@ -9,4 +10,9 @@ pub fn one_announces()
 /// Where no node is eligible, none announces.
 pub fn only_an_eligible_node_announces()
     ensures { OnlyAnEligibleNodeAnnounces }
+{}
+
+/// Where an event leaves all that decides who may announce an address, the same nodes are eligible for it.
+pub fn eligible_nodes_stay()
+    ensures { EligibleNodesStay }
 {}

@@ -1,11 +1,13 @@
 //! Which node announces an address: of those that are eligible, the one of the least hash.
 #![tactic(auto)]
 
+mod announcers;
 mod election;
 mod eligible;
 mod laws;
 mod listening;
 
-pub use election::{announcer, announces, announces_among};
-pub use laws::{one_announces, only_an_eligible_node_announces};
-pub use listening::listens;
+pub use announcers::Announcers;
+pub use election::{announcer, announces};
+pub use laws::{eligible_nodes_stay, one_announces, only_an_eligible_node_announces};
+pub use listening::{listens, listens_known};

@@ -4,8 +4,10 @@ ghost use Rattle.std.specs.Option.{option_copied};
 ghost use Rattle.std.specs.List.{list_any};
 ghost use Rattle.kube_labels.specs.Names.{has_text};
 ghost use Rattle.l2_elect.specs.Election.{is_named};
+ghost use Rattle.l2_elect.specs.Kept.{AreKnown};
 ghost use Rattle.l2_elect.specs.Listening.{names_interface, listens_by, is_listened, listens_of, Listens};
 
+use crate::announcers::Announcers;
 use crate::election::first;
 use crate::eligible::advertises;
 use ip_ranges::Address;
@@ -20,6 +22,24 @@ pub fn listens(view: &View, node: &str, interface: &str, address: &Address) -> b
     ensures meaning { IsTrue result ↔ Listens view.now node.now interface.now address.now }
 {
     listens_as(view, node, first(view, address), interface, address)
+}
+
+/// The same, by the announcers of the view where they are known: then no election is held. It takes no memory.
+pub fn listens_known(
+    view: &View,
+    announcers: Option<&Announcers>,
+    node: &str,
+    interface: &str,
+    address: &Address,
+) -> bool
+    requires { AreKnown (option_copied announcers) view.now }
+    ensures value { result ≡ listens_of view.now node.now interface.now address.now }
+    ensures meaning { IsTrue result ↔ Listens view.now node.now interface.now address.now }
+{
+    match announcers {
+        Some(announcers) => { listens_as(view, node, announcers.of(address), interface, address) }
+        None => listens(view, node, interface, address),
+    }
 }
 
 /// Whether the announcer has the node's name, and listens.

@@ -1,6 +1,5 @@
 -- What a line is to a view, and what is written of it.
 use Rattle.std.proofs.Common.{◌≡◌, ◌↔◌, ℕ, suc, ◌+◌, ◌<◌, List, ◌∷◌, ◌++◌, length, get_or, drop, drop-cons, add-one, Option, Some, None, Result, Ok, Err, refl, sym, ap, ◌∙◌}
-use Rattle.ip_ranges.specs.Values.{AddressValue}
 use Rattle.kube_events.specs.Event.{event_of_line}
 use Rattle.kube_model.specs.declared.event.Event.{Event}
 use Rattle.kube_model.specs.declared.event.Event.TheVariants.{Changed, Deleted, ListEnd, Expired, Members, Frame, Ignored}
@@ -8,6 +7,14 @@ use Rattle.kube_model.specs.declared.object.Kind.{Kind}
 use Rattle.object_cache.specs.declared.change.TakeNote.{TakeNote}
 use Rattle.object_cache.specs.declared.change.ApplyFault.{ApplyFault}
 use Rattle.object_cache.specs.declared.change.ApplyFault.TheVariants.{Limit}
+use Rattle.std.specs.Prelude.{IfOk, map}
+use Rattle.std.specs.List.{flat_map}
+use Rattle.ip_ranges.specs.Values.{AddressValue}
+use Rattle.l2_elect.specs.Kept.{AreKeptFor}
+use Rattle.announced_set.specs.Changes.{AreComeSince, AreWithdrawn}
+use Rattle.mlb_speaker.specs.declared.entries.Entry.TheVariants.{Noted}
+use Rattle.mlb_speaker.specs.Sends.{announcement}
+use Rattle.speaker_view.specs.declared.change.ViewChange.{ViewChange}
 use Rattle.speaker_view.specs.ViewValue.{ViewValue}
 use Rattle.speaker_view.specs.View.{view_after, note_by, limit_by}
 use Rattle.mlb_edge.specs.declared.lines.Line.{Line}
@@ -19,22 +26,25 @@ use Rattle.line_run.specs.Text.{Halts}
 use Rattle.mlb_speaker.specs.declared.entries.Entry.{Entry}
 use Rattle.mlb_speaker.specs.declared.station.Station.{Station}
 use Rattle.announced_set.specs.Announced.{announced_by}
-use Rattle.mlb_speaker.specs.Entries.{entries_for, entry_text}
+use Rattle.mlb_speaker.specs.Entries.{entries_for, entry_text, withdrawn}
 use Rattle.mlb_speaker.specs.declared.peers.PeerTable.{PeerTable}
 use Rattle.mlb_speaker.specs.PeerTables.{tables_of, updates_with}
 use Rattle.mlb_speaker.specs.Updates.{update_entries}
 use Rattle.mlb_speaker.proofs.Tables.{kept-tables}
 use Rattle.mlb_speaker.specs.Stream.{SpeakerState, Received, state_of, frame_in, changes_of, step_by, speaker_rules}
 
-abbrev noted : TakeNote → Result TakeNote ApplyFault
+abbrev Note : Type 0
+Note = TakeNote × ViewChange
+
+abbrev noted : Note → Result Note ApplyFault
 noted note = Ok note
 
 -- a note was told, so no limit was met
-pub no_limit : (note : TakeNote) (o : Option (Kind × ℕ)) → ((kind : Kind) (count : ℕ) → (noted note ≡ Err (Limit kind count)) ↔ (o ≡ Some (kind, count))) → o ≡ None
+pub no_limit : (note : Note) (o : Option (Kind × ℕ)) → ((kind : Kind) (count : ℕ) → (noted note ≡ Err (Limit kind count)) ↔ (o ≡ Some (kind, count))) → o ≡ None
 no_limit note None h = refl
 no_limit note (Some p) h = let wrong : noted note ≡ Err (Limit p.0 p.1) = (h p.0 p.1).1 refl in absurd (cc)
 
-abbrev refused : ApplyFault → Result TakeNote ApplyFault
+abbrev refused : ApplyFault → Result Note ApplyFault
 refused fault = Err fault
 
 abbrev unmade : ApplyFault → Result (List Entry) ApplyFault
@@ -44,15 +54,23 @@ unmade fault = Err fault
 pub handed_on : (fault told : ApplyFault) → unmade fault ≡ unmade told → refused fault ≡ refused told
 handed_on fault told e = let same : fault ≡ told = cc in ap refused same
 
+-- what is told where addresses are withdrawn and announced, of whichever view the announcers were
+pub entries-told : {E : Type 0} (r : Result (List Entry) E) (station : Station) (note : TakeNote) (held : List (AddressValue × List ℕ)) (v' : ViewValue) (gone come : List AddressValue)
+    → AreWithdrawn held v' station.node gone → AreComeSince held v' station.node come
+    → IfOk r (λ entries. entries ≡ Noted note ∷ map withdrawn gone ++ flat_map (announcement v' station) come)
+    → IfOk r (λ entries. (was : ViewValue) → AreKeptFor held was → entries ≡ entries_for v' station note (announced_by was station.node) (announced_by v' station.node))
+entries-told (Ok entries) station note held v' gone come w a is =
+    λ was kept. is ∙ (λ i. Noted note ∷ map withdrawn (w was kept i) ++ flat_map (announcement v' station) (a was kept i))
+entries-told (Err e) station note held v' gone come w a is = tt
+
 module _ (v : ViewValue) (station : Station) (event : Event) where
   -- what is told is what the views before and after it say
-  pub changes-are : (note : TakeNote) (before : List AddressValue) (tables : List PeerTable) (v' : ViewValue) (entries : List Entry)
-      → entries ≡ entries_for v' station note before (announced_by v' station.node) ++ updates_with tables v' station.node station.next_hop
-      → before ≡ announced_by v station.node → tables ≡ tables_of v station → v' ≡ view_after event v → note ≡ note_by v event → entries ≡ changes_of (state_of v station) event
-  changes-are note before tables v' entries is b t w n =
+  pub changes-are : (note : TakeNote) (tables : List PeerTable) (v' : ViewValue) (entries : List Entry)
+      → entries ≡ entries_for v' station note (announced_by v station.node) (announced_by v' station.node) ++ updates_with tables v' station.node station.next_hop
+      → tables ≡ tables_of v station → v' ≡ view_after event v → note ≡ note_by v event → entries ≡ changes_of (state_of v station) event
+  changes-are note tables v' entries is t w n =
       is
-      ∙ ap (λ (m : TakeNote). entries_for v' station m before (announced_by v' station.node) ++ updates_with tables v' station.node station.next_hop) n
-      ∙ ap (λ (xs : List AddressValue). entries_for v' station (note_by v event) xs (announced_by v' station.node) ++ updates_with tables v' station.node station.next_hop) b
+      ∙ ap (λ (m : TakeNote). entries_for v' station m (announced_by v station.node) (announced_by v' station.node) ++ updates_with tables v' station.node station.next_hop) n
       ∙ ap (λ (ts : List PeerTable). entries_for v' station (note_by v event) (announced_by v station.node) (announced_by v' station.node) ++ updates_with ts v' station.node station.next_hop) t
       ∙ ap (λ (es : List Entry). entries_for v' station (note_by v event) (announced_by v station.node) (announced_by v' station.node) ++ es) (kept-tables v v' station.node station.next_hop)
       ∙ ap (λ (u : ViewValue). entries_for u station (note_by v event) (announced_by v station.node) (announced_by u station.node) ++ update_entries v u station) w

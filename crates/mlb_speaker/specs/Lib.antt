@@ -2,7 +2,6 @@ pub mod Causes
 pub mod Clauses
 pub mod Entries
 pub mod Heard
-pub mod Known
 pub mod LaneClauses
 pub mod LaneLaws
 pub mod Lanes

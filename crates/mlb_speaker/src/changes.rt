@@ -1,36 +1,31 @@
 //! What an event changes.
-ghost use Rattle.std.specs.Prelude.{◌≡◌, ◌++◌, ◌∷◌, ℕ, map, None, Some, OnOk, IfOk, IsErrOf};
-ghost use Rattle.std.specs.List.{flat_map};
+ghost use Rattle.std.specs.Prelude.{◌≡◌, ◌++◌, ℕ, None, Some, OnOk, IfOk, IsErrOf};
 ghost use Rattle.std.specs.Option.{option_map};
 ghost use Rattle.kube_model.specs.declared.object.Kind.{Kind};
 ghost use Rattle.speaker_view.specs.View.{limit_by};
+ghost use Rattle.speaker_view.specs.ViewValue.{ViewValue};
+ghost use Rattle.l2_elect.specs.Kept.{AreKeptFor, AreKnown, AreRightBut};
 ghost use Rattle.announced_set.specs.Announced.{announced_by};
-ghost use Rattle.announced_set.specs.Changes.{AreUntouched};
-ghost use Rattle.announced_set.specs.Touched.{touched_by};
 ghost use Rattle.mlb_speaker.specs.Entries.{entries_for};
 ghost use Rattle.mlb_speaker.specs.PeerTables.{tables_of, updates_with};
-ghost use Rattle.mlb_speaker.specs.Known.{AreKnown};
 ghost use Rattle.mlb_speaker.specs.Stream.{changes_of, state_after};
 
 use crate::entries::{Entry, entries_for};
 use crate::peers::{PeerTable, push_updates, tables_of};
 use crate::speaker::Speaker;
 use crate::station::Station;
-use announced_set::{announced, touched_addresses, update_announced};
-use ip_ranges::Address;
+use announced_set::renew_announcers;
 use kube_model::Event;
+use l2_elect::Announcers;
 use mlb_base::{NoMemory, Sequence};
 use object_cache::{ApplyFault, TakeNote};
-use speaker_view::View;
+use speaker_view::{View, ViewChange};
 use std::alloc::Global;
-use std::collections::BTreeSet;
 
-/// What stands before an event: the addresses that the node announces, those of them and of others that the event may touch, and the
-/// routes of the peers.
+/// What stands before an event: who announces each address, and the routes of the peers.
 #[derive(Drop)]
 struct Standing {
-    addresses: BTreeSet<Address>,
-    touched: Option<Vec<Address>>,
+    announcers: Announcers,
     tables: Sequence<PeerTable>,
 }
 
@@ -47,69 +42,72 @@ impl Speaker {
         ensures limit { (kind : Kind) (count : ℕ)
             → IsErrOf result (ApplyFault.Limit kind count) → limit_by self.old.view event ≡ Some (kind, count) }
     {
-        // While the view changes, nothing is known of what the node announces by it.
-        let known = self.announced.take();
-        let mut before = match stands_before(alloc, known, &self.view, &self.station, &event) {
+        // While the view changes, nobody is known to announce by it.
+        let known = self.announcers.take();
+        let mut before = match stands_before(alloc, known, &self.view, &self.station) {
             Ok(before) => before,
             Err(NoMemory) => {
                 drop(event);
                 return Err(ApplyFault::NoMemory);
             }
         };
-        let note = match self.view.apply(event) {
-            Ok(note) => note,
+        let (note, change) = match self.view.apply_noting(event) {
+            Ok(noted) => noted,
             Err(fault) => {
                 drop(before);
                 return Err(fault);
             }
         };
-        let Ok(entries) = told_since(alloc, &self.view, &self.station, note, &mut before) else {
+        let Ok(entries) = told_since(alloc, &self.view, &self.station, note, &change, &mut before)
+        else {
+            drop(change);
             drop(before);
             return Err(ApplyFault::NoMemory);
         };
-        let Standing {
-            addresses,
-            touched,
-            tables,
-        } = before;
-        drop(touched);
+        drop(change);
+        let Standing { announcers, tables } = before;
         drop(tables);
-        drop(self.announced.replace(addresses));
+        drop(self.announcers.replace(announcers));
         Ok(entries)
     }
 }
 
-/// What stands before the event, where these are known to be the addresses that the node announces.
+/// What stands before an event, where these are known to be the announcers by the view.
 fn stands_before(
     alloc: Global,
-    known: Option<BTreeSet<Address>>,
+    known: Option<Announcers>,
     view: &View,
     station: &Station,
-    event: &Event,
 ) -> Result<Standing, NoMemory>
-    requires { AreKnown (option_map (λ a. a.keys) known) view.now station.now.node }
-    ensures addresses { IfOk result (λ s. s.addresses.keys ≡ announced_by view.now station.now.node) }
-    ensures touched { IfOk result (λ s. option_map (λ t. t.items) s.touched ≡ touched_by view.now event.now) }
+    requires { AreKnown known view.now }
+    ensures announcers { IfOk result (λ s. AreKeptFor s.announcers view.now) }
     ensures tables { IfOk result (λ s. s.tables ≡ tables_of view.now station.now) }
 {
-    let addresses = match known {
-        Some(addresses) => addresses,
-        None => announced(alloc, view, &station.node)?,
+    let announcers = match known {
+        Some(announcers) => announcers,
+        None => elected(alloc, view)?,
     };
-    let Ok(touched) = touched_addresses(alloc, view, event) else {
-        drop(addresses);
-        return Err(NoMemory);
-    };
-    let Ok(tables) = tables_of(alloc, view, station) else {
-        drop(addresses);
-        drop(touched);
-        return Err(NoMemory);
-    };
-    Ok(Standing {
-        addresses,
-        touched,
-        tables,
-    })
+    match tables_of(alloc, view, station) {
+        Ok(tables) => Ok(Standing { announcers, tables }),
+        Err(refused) => {
+            drop(announcers);
+            Err(refused)
+        }
+    }
+}
+
+/// The announcers by the view.
+fn elected(alloc: Global, view: &View) -> Result<Announcers, NoMemory>
+    ensures { IfOk result (λ announcers. AreKeptFor announcers view.now) }
+{
+    let mut announcers = Announcers::new(alloc);
+    match announcers.rebuild(view) {
+        Ok(()) => Ok(announcers),
+        Err(refused) => {
+            drop(announcers);
+            Err(refused)
+        }
+    }
 }
 
 /// What is told where this stood before, and the view is this one now.
@@ -118,15 +116,23 @@ fn told_since(
     view: &View,
     station: &Station,
     note: TakeNote,
+    change: &ViewChange,
     before: &mut Standing,
 ) -> Result<Sequence<Entry>, NoMemory>
-    requires { AreUntouched (option_map (λ t. t.items) before.old.touched) before.old.addresses.keys view.now station.now.node }
-    ensures entries { IfOk result (λ entries. entries
-        ≡ entries_for view.now station.now note before.old.addresses.keys (announced_by view.now station.now.node)
+    requires { AreRightBut change.now before.old.announcers view.now }
+    ensures entries { IfOk result (λ entries. (was : ViewValue) → AreKeptFor before.old.announcers was → entries
+        ≡ entries_for view.now station.now note (announced_by was station.now.node) (announced_by view.now station.now.node)
         ++ updates_with before.old.tables view.now station.now.node station.now.next_hop) }
-    ensures addresses { OnOk result (before.new.addresses.keys ≡ announced_by view.now station.now.node) }
+    ensures announcers { OnOk result (AreKeptFor before.new.announcers view.now) }
 {
-    let mut entries = changed_entries(alloc, view, station, note, before)?;
+    let mut entries = changed_entries(
+        alloc,
+        view,
+        station,
+        note,
+        change,
+        &mut before.announcers,
+    )?;
     let tables = before.tables.as_slice();
     let Ok(()) = push_updates(alloc, &mut entries, view, station, tables) else {
         drop(entries);
@@ -141,28 +147,22 @@ fn changed_entries(
     view: &View,
     station: &Station,
     note: TakeNote,
-    before: &mut Standing,
+    change: &ViewChange,
+    announcers: &mut Announcers,
 ) -> Result<Sequence<Entry>, NoMemory>
-    requires { AreUntouched (option_map (λ t. t.items) before.old.touched) before.old.addresses.keys view.now station.now.node }
-    ensures entries { IfOk result (λ entries. entries
-        ≡ entries_for view.now station.now note before.old.addresses.keys (announced_by view.now station.now.node)) }
-    ensures addresses { OnOk result (before.new.addresses.keys ≡ announced_by view.now station.now.node) }
-    ensures tables { OnOk result (before.new.tables ≡ before.old.tables) }
+    requires { AreRightBut change.now announcers.old view.now }
+    ensures entries { IfOk result (λ entries. (was : ViewValue) → AreKeptFor announcers.old was
+        → entries ≡ entries_for view.now station.now note (announced_by was station.now.node) (announced_by view.now station.now.node)) }
+    ensures announcers { OnOk result (AreKeptFor announcers.new view.now) }
 {
-    let changes = match update_announced(
-        alloc,
-        &mut before.addresses,
-        view,
-        &station.node,
-        before.touched.as_deref(),
-    ) {
+    let changes = match renew_announcers(alloc, announcers, view, &station.node, change) {
         Ok(changes) => changes,
         Err(refused) => {
             drop(note);
             return Err(refused);
         }
     };
-    let entries = entries_for(alloc, view, station, note, &changes);
+    let entries = entries_for(alloc, view, announcers, station, note, &changes);
     drop(changes);
     entries
 }

@@ -1,6 +1,7 @@
 //! What is told of an event.
 ghost use Rattle.std.specs.Prelude.{◌≡◌, ◌++◌, ◌∷◌, map, IfOk, OnOk};
 ghost use Rattle.std.specs.List.{flat_map};
+ghost use Rattle.l2_elect.specs.Kept.{AreKeptFor};
 ghost use Rattle.mlb_speaker.specs.Entries.{withdrawn};
 ghost use Rattle.mlb_speaker.specs.Sends.{announcement};
 
@@ -9,6 +10,7 @@ use crate::station::Station;
 use announced_set::AddressChanges;
 use ip_ranges::Address;
 use kube_labels::Text;
+use l2_elect::Announcers;
 use mlb_base::{ByteList, NoMemory, Sequence};
 use object_cache::TakeNote;
 use speaker_view::View;
@@ -34,17 +36,26 @@ pub enum Entry {
 pub(crate) fn entries_for(
     alloc: Global,
     view: &View,
+    announcers: &Announcers,
     station: &Station,
     note: TakeNote,
     changes: &AddressChanges,
 ) -> Result<Sequence<Entry>, NoMemory>
+    requires { AreKeptFor announcers.now view.now }
     ensures { IfOk result (λ entries. entries
         ≡ Entry.Noted note ∷ map withdrawn changes.now.withdrawn.keys ++ flat_map (announcement view.now station.now) changes.now.announced.keys) }
 {
     let mut entries = Sequence::new(alloc);
     entries.push(Entry::Noted { note })?;
     push_withdrawals(&mut entries, &changes.withdrawn)?;
-    push_announcements(alloc, &mut entries, view, station, &changes.announced)?;
+    push_announcements(
+        alloc,
+        &mut entries,
+        view,
+        announcers,
+        station,
+        &changes.announced,
+    )?;
     Ok(entries)
 }
 
@@ -64,13 +75,15 @@ fn push_announcements(
     alloc: Global,
     entries: &mut Sequence<Entry>,
     view: &View,
+    announcers: &Announcers,
     station: &Station,
     addresses: &BTreeSet<Address>,
 ) -> Result<(), NoMemory>
+    requires { AreKeptFor announcers.now view.now }
     ensures { OnOk result (entries.new ≡ entries.old ++ flat_map (announcement view.now station.now) addresses.now.keys) }
 {
     for address in addresses {
-        push_announcement(alloc, entries, view, station, address)?;
+        push_announcement(alloc, entries, view, announcers, station, address)?;
     }
     Ok(())
 }
@@ -80,11 +93,13 @@ fn push_announcement(
     alloc: Global,
     entries: &mut Sequence<Entry>,
     view: &View,
+    announcers: &Announcers,
     station: &Station,
     address: &Address,
 ) -> Result<(), NoMemory>
+    requires { AreKeptFor announcers.now view.now }
     ensures { OnOk result (entries.new ≡ entries.old ++ announcement view.now station.now address.now) }
 {
     entries.push(Entry::Announced { address: *address })?;
-    push_all_unasked(alloc, entries, view, station, address)
+    push_all_unasked(alloc, entries, view, announcers, station, address)
 }

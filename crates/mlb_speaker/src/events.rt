@@ -1,8 +1,9 @@
 //! One event: it is applied to the view, and what comes of it is told.
 ghost use Rattle.std.specs.Prelude.{◌≡◌, ℕ, None, Some, OnOk, IfOk, IfErr, IsErrOf};
-ghost use Rattle.std.specs.Option.{option_map};
+ghost use Rattle.std.specs.Option.{option_copied, option_map};
 ghost use Rattle.kube_model.specs.declared.object.Kind.{Kind};
 ghost use Rattle.speaker_view.specs.View.{limit_by};
+ghost use Rattle.l2_elect.specs.Kept.{AreKnown};
 ghost use Rattle.line_run.specs.Machine.{Goes};
 ghost use Rattle.mlb_speaker.specs.Seen.{received_seen};
 ghost use Rattle.mlb_speaker.specs.Sends.{answers};
@@ -14,6 +15,7 @@ use crate::speaker::Speaker;
 use crate::station::Station;
 use kube_labels::Text;
 use kube_model::{Event, Kind, Status, What};
+use l2_elect::Announcers;
 use line_run::{Halt, Refusal};
 use mlb_base::{ByteList, NoMemory, Sequence};
 use object_cache::ApplyFault;
@@ -55,7 +57,13 @@ fn entries_by(
     ensures limit { (kind : Kind) (count : ℕ)
         → IsErrOf result (ApplyFault.Limit kind count) → limit_by speaker.old.view event ≡ Some (kind, count) }
 {
-    match answers_to(alloc, &speaker.view, &speaker.station, &event) {
+    match answers_to(
+        alloc,
+        &speaker.view,
+        speaker.announcers.as_ref(),
+        &speaker.station,
+        &event,
+    ) {
         Ok(None) => speaker.changes_by(alloc, event),
         Ok(Some(entries)) => {
             drop(event);
@@ -72,16 +80,18 @@ fn entries_by(
 fn answers_to(
     alloc: Global,
     view: &View,
+    announcers: Option<&Announcers>,
     station: &Station,
     event: &Event,
 ) -> Result<Option<Sequence<Entry>>, NoMemory>
+    requires { AreKnown (option_copied announcers) view.now }
     ensures { IfOk result (λ entries. entries ≡ option_map (λ r. answers view.now station.now r.interface r.frame) (frame_in event.now)) }
 {
     let Some(received) = frame_in(event) else {
         return Ok(None);
     };
     let frame = received.frame.as_slice();
-    let entries = answers(alloc, view, station, received.interface, frame)?;
+    let entries = answers(alloc, view, announcers, station, received.interface, frame)?;
     Ok(Some(entries))
 }
 

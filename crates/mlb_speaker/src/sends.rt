@@ -1,6 +1,8 @@
 //! The frames that are sent.
 ghost use Rattle.std.specs.Prelude.{◌≡◌, ◌++◌, ◌∷◌, [], IfOk, OnOk};
 ghost use Rattle.mlb_speaker.specs.declared.entries.Entry.TheVariants as told;
+ghost use Rattle.std.specs.Option.{option_copied};
+ghost use Rattle.l2_elect.specs.Kept.{AreKeptFor, AreKnown};
 ghost use Rattle.l2_elect.specs.Listening.{listens_of};
 ghost use Rattle.mlb_speaker.specs.Sends.{unasked_by, unasked, answer_on, sent_on, answers};
 
@@ -8,9 +10,9 @@ use crate::entries::Entry;
 use crate::station::{Interface, Station};
 use ip_ranges::{Address, Family};
 use kube_labels::Text;
-use l2_elect::listens;
+use l2_elect::{Announcers, listens_known};
 use mlb_base::{ByteList, NoMemory, Sequence, TryCopy};
-use neigh_frames::{arp_answer, ndp_answer, unasked_arp, unasked_ndp};
+use neigh_frames::{arp_answer_known, ndp_answer_known, unasked_arp, unasked_ndp};
 use speaker_view::View;
 use std::alloc::Global;
 
@@ -58,24 +60,34 @@ pub(crate) fn push_all_unasked(
     alloc: Global,
     entries: &mut Sequence<Entry>,
     view: &View,
+    announcers: &Announcers,
     station: &Station,
     address: &Address,
 ) -> Result<(), NoMemory>
+    requires { AreKeptFor announcers.now view.now }
     ensures { OnOk result (entries.new ≡ entries.old ++ unasked view.now station.now address.now) }
 {
     for interface in station.interfaces.as_slice() {
-        if is_listening(view, station, interface, address) {
+        if is_listening(view, announcers, station, interface, address) {
             push_unasked(alloc, entries, interface, address)?;
         }
     }
     Ok(())
 }
 
-fn is_listening(view: &View, station: &Station, interface: &Interface, address: &Address) -> bool
+fn is_listening(
+    view: &View,
+    announcers: &Announcers,
+    station: &Station,
+    interface: &Interface,
+    address: &Address,
+) -> bool
+    requires { AreKeptFor announcers.now view.now }
     ensures { result ≡ listens_of view.now station.now.node interface.now.name address.now }
 {
-    listens(
+    listens_known(
         view,
+        Some(announcers),
         station.node.as_str(),
         interface.name.as_str(),
         address,
@@ -86,15 +98,25 @@ fn is_listening(view: &View, station: &Station, interface: &Interface, address: 
 pub(crate) fn answers(
     alloc: Global,
     view: &View,
+    announcers: Option<&Announcers>,
     station: &Station,
     interface: &Text,
     frame: &[u8],
 ) -> Result<Sequence<Entry>, NoMemory>
+    requires { AreKnown (option_copied announcers) view.now }
     ensures { IfOk result (λ entries. entries ≡ answers view.now station.now interface.now frame.now) }
 {
     let mut entries = Sequence::new(alloc);
     if let Some(interface) = station.interface(interface) {
-        push_answer(alloc, &mut entries, view, &station.node, interface, frame)?;
+        push_answer(
+            alloc,
+            &mut entries,
+            view,
+            announcers,
+            &station.node,
+            interface,
+            frame,
+        )?;
     }
     Ok(entries)
 }
@@ -104,17 +126,20 @@ fn push_answer(
     alloc: Global,
     entries: &mut Sequence<Entry>,
     view: &View,
+    announcers: Option<&Announcers>,
     node: &Text,
     interface: &Interface,
     frame: &[u8],
 ) -> Result<(), NoMemory>
+    requires { AreKnown (option_copied announcers) view.now }
     ensures { OnOk result (entries.new ≡ entries.old ++ sent_on interface.now (answer_on view.now node.now interface.now frame.now)) }
 {
+    let node = node.as_str();
     let name = interface.name.as_str();
-    if let Some(answer) = arp_answer(view, node.as_str(), name, &interface.mac, frame) {
+    if let Some(answer) = arp_answer_known(view, announcers, node, name, &interface.mac, frame) {
         return push_sent(alloc, entries, interface, &answer);
     }
-    if let Some(answer) = ndp_answer(view, node.as_str(), name, &interface.mac, frame) {
+    if let Some(answer) = ndp_answer_known(view, announcers, node, name, &interface.mac, frame) {
         return push_sent(alloc, entries, interface, &answer);
     }
     Ok(())

@@ -6,16 +6,15 @@ ghost use Rattle.mlb_speaker.specs.Stream.{first_state};
 
 use crate::line::drive_line;
 use crate::station::Station;
-use ip_ranges::Address;
 use kube_labels::Text;
 use kube_model::Status;
+use l2_elect::Announcers;
 use line_run::{Machine, Refusal};
 use mlb_base::NoMemory;
 use mlb_edge::{Line, Sink};
 use speaker_view::View;
 use speaker_words::SpeakerWords;
 use std::alloc::Global;
-use std::collections::BTreeSet;
 use std::marker::Model;
 
 /// Applies lines to a view, and tells what its node announces.
@@ -23,20 +22,19 @@ use std::marker::Model;
 pub(crate) struct Speaker {
     pub(crate) view: View,
     pub(crate) station: Station,
-    // what the node announces by the view, once it is known: an event of a service or slice changes it at few addresses
-    pub(crate) announced: Option<BTreeSet<Address>>,
+    // who announces each address by the view, once it is known: most events change it at few addresses
+    pub(crate) announcers: Option<Announcers>,
 }
 
 impl Model for Speaker {
-    ghost use Rattle.std.specs.Option.{option_map};
-    ghost use Rattle.mlb_speaker.specs.Known.{AreKnown};
+    ghost use Rattle.l2_elect.specs.Kept.{AreKnown};
     ghost use Rattle.mlb_speaker.specs.Stream.{SpeakerState, state_of};
 
     ghost Value = { SpeakerState };
 
     ghost view = { λ s. state_of s.view s.station };
 
-    ghost invariant = { λ s. AreKnown (option_map (λ a. a.keys) s.announced) s.view s.station.node };
+    ghost invariant = { λ s. AreKnown s.announcers s.view };
 }
 
 impl Speaker {
@@ -49,7 +47,7 @@ impl Speaker {
         Ok(Speaker {
             view: View::new(alloc, class),
             station,
-            announced: None,
+            announcers: None,
         })
     }
 }

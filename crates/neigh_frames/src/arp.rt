@@ -1,12 +1,14 @@
 //! ARP for IPv4 over Ethernet.
 ghost use Rattle.std.specs.Prelude.{◌≡◌, ◌↔◌, ◌≤◌, ℕ, List, Some, length};
+ghost use Rattle.std.specs.Option.{option_copied};
+ghost use Rattle.l2_elect.specs.Kept.{AreKnown};
 ghost use Rattle.l2_elect.specs.Listening.{listens_of};
 ghost use Rattle.ip_ranges.specs.declared.family.Family.TheVariants.{V4};
 ghost use Rattle.neigh_frames.specs.Arp.{IsArpAnswer, is_arp_request, arp_answer_of, arp_reply, unasked_arp_of, address_at};
 
 use crate::filling::Filling;
 use ip_ranges::{Address, Family};
-use l2_elect::listens;
+use l2_elect::{Announcers, listens_known};
 use speaker_view::View;
 
 /// The EtherType, and the packet up to its operation, a request.
@@ -30,22 +32,40 @@ pub fn arp_answer(
     ensures value { result ≡ arp_answer_of (listens_of view.now node.now interface.now) mac.now frame.now }
     ensures meaning { (answer : List ℕ) → (result ≡ Some answer) ↔ IsArpAnswer view.now node.now interface.now mac.now frame.now answer }
 {
-    answer_if_asked(view, node, interface, mac, frame)
+    answer_if_asked(view, None, node, interface, mac, frame)
 }
 
-fn answer_if_asked(
+/// The same, by the announcers of the view where they are known: then no election is held. It takes no memory.
+pub fn arp_answer_known(
     view: &View,
+    announcers: Option<&Announcers>,
     node: &str,
     interface: &str,
     mac: &[u8; 6],
     frame: &[u8],
 ) -> Option<[u8; 42]>
+    requires { AreKnown (option_copied announcers) view.now }
+    ensures value { result ≡ arp_answer_of (listens_of view.now node.now interface.now) mac.now frame.now }
+    ensures meaning { (answer : List ℕ) → (result ≡ Some answer) ↔ IsArpAnswer view.now node.now interface.now mac.now frame.now answer }
+{
+    answer_if_asked(view, announcers, node, interface, mac, frame)
+}
+
+fn answer_if_asked(
+    view: &View,
+    announcers: Option<&Announcers>,
+    node: &str,
+    interface: &str,
+    mac: &[u8; 6],
+    frame: &[u8],
+) -> Option<[u8; 42]>
+    requires { AreKnown (option_copied announcers) view.now }
     ensures { result ≡ arp_answer_of (listens_of view.now node.now interface.now) mac.now frame.now }
 {
     if !is_request(frame) {
         return None;
     }
-    if !listens(view, node, interface, &target(frame)) {
+    if !listens_known(view, announcers, node, interface, &target(frame)) {
         return None;
     }
     Some(reply(mac, &frame[38..42], &frame[22..28], &frame[28..32]))

@@ -10,5 +10,5 @@ mod ndp;
 mod options;
 mod solicitation;
 
-pub use arp::{arp_answer, unasked_arp};
-pub use ndp::{ndp_answer, unasked_ndp};
+pub use arp::{arp_answer, arp_answer_known, unasked_arp};
+pub use ndp::{ndp_answer, ndp_answer_known, unasked_ndp};

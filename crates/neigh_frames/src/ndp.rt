@@ -1,6 +1,8 @@
 //! Neighbor Discovery for IPv6.
 ghost use Rattle.std.specs.Prelude.{◌≡◌, ◌↔◌, ◌+◌, ◌≤◌, ℕ, List, Some, IfSome, IsTrue, length};
 ghost use Rattle.ip_ranges.specs.declared.family.Family.TheVariants.{V6};
+ghost use Rattle.std.specs.Option.{option_copied};
+ghost use Rattle.l2_elect.specs.Kept.{AreKnown};
 ghost use Rattle.l2_elect.specs.Listening.{listens_of};
 ghost use Rattle.neigh_frames.specs.Solicitation.{HasRightChecksum, payload_length};
 ghost use Rattle.neigh_frames.specs.Advertisement.{unasked_ndp_of};
@@ -10,7 +12,7 @@ use crate::advertisement::{reply_to, to_all_nodes};
 use crate::options::{Sender, sender_of};
 use crate::solicitation::{has_message, has_valid_source, is_solicitation, payload_length};
 use ip_ranges::{Address, Family};
-use l2_elect::listens;
+use l2_elect::{Announcers, listens_known};
 use speaker_view::View;
 
 const OVERRIDE: u8 = 0x20;
@@ -31,20 +33,39 @@ pub fn ndp_answer(
     ensures meaning { (answer : List ℕ) → (result ≡ Some answer) ↔ IsNdpAnswer view.now node.now interface.now mac.now frame.now answer }
     ensures checksum { IfSome result HasRightChecksum }
 {
-    answer_if_asked(view, node, interface, mac, frame)
+    answer_if_asked(view, None, node, interface, mac, frame)
 }
 
-fn answer_if_asked(
+/// The same, by the announcers of the view where they are known: then no election is held. It takes no memory.
+pub fn ndp_answer_known(
     view: &View,
+    announcers: Option<&Announcers>,
     node: &str,
     interface: &str,
     mac: &[u8; 6],
     frame: &[u8],
 ) -> Option<[u8; 86]>
+    requires { AreKnown (option_copied announcers) view.now }
+    ensures value { result ≡ ndp_answer_of (listens_of view.now node.now interface.now) mac.now frame.now }
+    ensures meaning { (answer : List ℕ) → (result ≡ Some answer) ↔ IsNdpAnswer view.now node.now interface.now mac.now frame.now answer }
+    ensures checksum { IfSome result HasRightChecksum }
+{
+    answer_if_asked(view, announcers, node, interface, mac, frame)
+}
+
+fn answer_if_asked(
+    view: &View,
+    announcers: Option<&Announcers>,
+    node: &str,
+    interface: &str,
+    mac: &[u8; 6],
+    frame: &[u8],
+) -> Option<[u8; 86]>
+    requires { AreKnown (option_copied announcers) view.now }
     ensures value { result ≡ ndp_answer_of (listens_of view.now node.now interface.now) mac.now frame.now }
     ensures checksum { IfSome result HasRightChecksum }
 {
-    if !is_asked(view, node, interface, frame) {
+    if !is_asked(view, announcers, node, interface, frame) {
         return None;
     }
     answer(mac, frame)
@@ -67,14 +88,21 @@ fn number_of(address: &Address) -> u128
 }
 
 /// Whether the frame asks for an address that is listened to.
-fn is_asked(view: &View, node: &str, interface: &str, frame: &[u8]) -> bool
+fn is_asked(
+    view: &View,
+    announcers: Option<&Announcers>,
+    node: &str,
+    interface: &str,
+    frame: &[u8],
+) -> bool
+    requires { AreKnown (option_copied announcers) view.now }
     ensures value { result ≡ is_asked (listens_of view.now node.now interface.now) frame.now }
     ensures long { IsTrue result → 24 ≤ payload_length frame.now }
     ensures whole { IsTrue result → 54 + payload_length frame.now ≤ length frame.now }
 {
     has_message(frame)
         && is_solicitation(frame)
-        && listens(view, node, interface, &ipv6(&frame[62..78]))
+        && listens_known(view, announcers, node, interface, &ipv6(&frame[62..78]))
 }
 
 fn ipv6(bytes: &[u8]) -> Address

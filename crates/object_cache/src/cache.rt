@@ -108,6 +108,13 @@ impl ObjectCache {
         self.namespaces.get(name)
     }
 
+    /// The held nodes, by name.
+    pub fn nodes(&self) -> &VersionedMap<Text, Node>
+        ensures { result.now ≡ self.now.nodes }
+    {
+        &self.nodes
+    }
+
     /// The held node of the name.
     pub fn node(&self, name: &Text) -> Option<&Node>
         ensures { option_copied result ≡ object_at name_cmp self.now.nodes name.now }

@@ -27,10 +27,10 @@ limit-ok a note passed h kind count = (
   λ e. let wrong : Ok a ≡ limit kind count = (h kind count).1 e in absurd (cc),
 )
 
-pub limit-err : (fault : ApplyFault) (passed : Option (Kind × ℕ)) → TellsLimit {T = Applied} (Err fault) passed → TellsLimit {T = TakeNote} (Err fault) passed
-limit-err fault passed h kind count = (
+pub limit-err : {A B : Type 0} (fault : ApplyFault) (passed : Option (Kind × ℕ)) → TellsLimit {T = A} (Err fault) passed → TellsLimit {T = B} (Err fault) passed
+limit-err {A} {B} fault passed h kind count = (
   λ e. let same : fault ≡ Limit kind count = cc in (h kind count).0 (cc),
-  λ e. let there : Err fault ≡ limit {T = Applied} kind count = (h kind count).1 e in let same : fault ≡ Limit kind count = cc in (cc),
+  λ e. let there : Err fault ≡ limit {T = A} kind count = (h kind count).1 e in let same : fault ≡ Limit kind count = cc in (cc),
 )
 
 -- the same of what is seen of a view

@@ -1,4 +1,10 @@
+pub mod AddressOrder
 pub mod Applying
-pub mod Grouping
+pub mod Covering
+pub mod Indexed
+pub mod KeyLookups
+pub mod Objects
+pub mod Owning
 pub mod Serving
 pub mod Shown
+pub mod Staying

@@ -1,7 +1,8 @@
 -- From which nodes a service's addresses can be announced.
 use Rattle.std.specs.Prelude.{◌≡◌, ℕ, Bool, true, false, ◌&&◌, not, is_some, codes, List, [], Option, Some, None, Contains}
-use Rattle.std.specs.List.{list_any}
+use Rattle.std.specs.List.{flat_map, list_any}
 use Rattle.std.specs.Str.{bytes_eq}
+use Rattle.ip_ranges.specs.Values.{AddressValue, has_address}
 use Rattle.kube_labels.specs.Names.{name_cmp}
 use Rattle.kube_labels.specs.Pairs.{value_of}
 use Rattle.kube_model.specs.declared.key.Key.{Key}
@@ -12,7 +13,9 @@ use Rattle.kube_model.specs.declared.service.Service.{Service}
 use Rattle.kube_model.specs.declared.slice.Endpoint.{Endpoint}
 use Rattle.kube_model.specs.declared.slice.EndpointSlice.{EndpointSlice}
 use Rattle.kube_model.specs.Service.{is_handled}
+use Rattle.pool_config.specs.KeySets.{keys_with}
 use Rattle.versioned_map.specs.Entries.{object_at}
+use Rattle.speaker_view.specs.Addresses.{address_cmp}
 use Rattle.speaker_view.specs.Held.{objects_of}
 use Rattle.speaker_view.specs.ViewValue.{ViewValue}
 
@@ -83,3 +86,15 @@ allows_balancers labels = not (is_some (value_of exclude_label labels))
 
 abbrev pub can_announce : ViewValue → Service → List ℕ → Bool
 can_announce v service node = (is_handled v.class service && endpoint_for v service node) && allows_balancers (node_labels v node)
+
+-- some held service that records the address can be announced from the node
+abbrev pub announced_from : ViewValue → AddressValue → List ℕ → Bool
+announced_from v a node = list_any (λ service. has_address service.holding.addresses a && can_announce v service node) (objects_of v.held.services)
+
+-- some held service records the address
+abbrev pub is_recorded_in : ViewValue → AddressValue → Bool
+is_recorded_in v a = list_any (λ service. has_address service.holding.addresses a) (objects_of v.held.services)
+
+-- those that held services record, each put in its place, once
+abbrev pub recorded_addresses : ViewValue → List AddressValue
+recorded_addresses v = keys_with address_cmp [] (flat_map (λ service. service.holding.addresses) (objects_of v.held.services))

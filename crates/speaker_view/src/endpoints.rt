@@ -2,12 +2,10 @@
 ghost use Rattle.std.specs.Prelude.{◌≡◌};
 ghost use Rattle.std.specs.Option.{option_copied};
 ghost use Rattle.std.specs.List.{list_any};
-ghost use Rattle.speaker_view.specs.Held.{objects_of};
-ghost use Rattle.speaker_view.specs.Endpoints.{reaches, serves_from, is_slice_of, slice_serves, some_serves};
+ghost use Rattle.speaker_view.specs.Endpoints.{reaches, serves_from, is_slice_of, slice_serves};
 
 use kube_labels::Text;
 use kube_model::{Endpoint, EndpointSlice, Key, Policy};
-use versioned_map::VersionedMap;
 
 /// Whether the policy lets the node's traffic go to an endpoint on that node, if any is named.
 fn reaches(policy: Policy, node: &Text, at: Option<&Text>) -> bool
@@ -37,31 +35,14 @@ pub(crate) fn one_serves(policy: Policy, node: &Text, endpoints: &[Endpoint]) ->
 }
 
 /// Whether the slice is one of the service's: of its namespace, and with its name in the label `kubernetes.io/service-name`.
-pub fn is_slice_of(key: &Key, slice: &EndpointSlice) -> bool
+pub(crate) fn is_slice_of(key: &Key, slice: &EndpointSlice) -> bool
     ensures { result ≡ is_slice_of key.now slice.now }
 {
     slice.key.namespace == key.namespace && slice.service == key.name
 }
 
-fn slice_serves(key: &Key, policy: Policy, node: &Text, slice: &EndpointSlice) -> bool
+pub(crate) fn slice_serves(key: &Key, policy: Policy, node: &Text, slice: &EndpointSlice) -> bool
     ensures { result ≡ slice_serves key.now policy node.now slice.now }
 {
     is_slice_of(key, slice) && one_serves(policy, node, slice.endpoints.as_slice())
-}
-
-/// Whether some slice of the service has an endpoint that serves the node.
-pub(crate) fn some_serves(
-    slices: &VersionedMap<Key, EndpointSlice>,
-    key: &Key,
-    policy: Policy,
-    node: &Text,
-) -> bool
-    ensures { result ≡ some_serves (objects_of slices.now) key.now policy node.now }
-{
-    for (_, held) in slices.iter() {
-        if slice_serves(key, policy, node, &held.object) {
-            return true;
-        }
-    }
-    false
 }

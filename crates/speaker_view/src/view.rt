@@ -1,25 +1,37 @@
 //! The view of a speaker.
-ghost use Rattle.std.specs.Prelude.{◌≡◌, ◌↔◌, ℕ, Some, IfOk, OnOk, OnErr, IsErrOf, IsTrue};
+ghost use Rattle.std.specs.Prelude.{◌≡◌, ◌↔◌, ◌&&◌, ℕ, [], filter, Some, None, IfOk, OnOk, OnErr, IsErrOf, IsTrue};
 ghost use Rattle.std.specs.Option.{option_copied};
-ghost use Rattle.kube_model.specs.declared.object.Kind.{Kind};
+ghost use Rattle.kube_model.specs.declared.object.Kind.{Kind as KindValue};
 ghost use Rattle.pool_config.specs.ConfigValue.{ConfigValue, IsConfig};
 ghost use Rattle.object_history.specs.Observations.{Watched};
 ghost use Rattle.object_history.specs.Cache.{cached_after};
 ghost use Rattle.object_cache.specs.Change.{applied};
 ghost use Rattle.object_cache.specs.Limits.{limit_of};
+ghost use Rattle.std.specs.List.{list_any};
+ghost use Rattle.ip_ranges.specs.Values.{has_address};
+ghost use Rattle.kube_model.specs.Keys.{key_cmp};
+ghost use Rattle.kube_model.specs.declared.slice.EndpointSlice.{EndpointSlice as SliceValue};
+ghost use Rattle.pool_config.specs.KeySets.{keys_with};
+ghost use Rattle.versioned_map.specs.Entries.{object_at};
+ghost use Rattle.speaker_view.specs.Addresses.{address_cmp};
+ghost use Rattle.speaker_view.specs.Change.{OthersStay, change_of, recorded_at, served_by};
+ghost use Rattle.speaker_view.specs.Grouped.{service_of};
 ghost use Rattle.kube_model.specs.Service.{is_handled};
-ghost use Rattle.speaker_view.specs.Endpoints.{endpoint_for, can_announce, node_labels, allows_balancers, HasEndpoint, CanAnnounce};
-ghost use Rattle.speaker_view.specs.Held.{objects_of};
+ghost use Rattle.speaker_view.specs.Endpoints.{announced_from, endpoint_for, can_announce, node_labels, allows_balancers, is_recorded_in, recorded_addresses, HasEndpoint, CanAnnounce};
+ghost use Rattle.speaker_view.specs.Index.{Covers, HasShown, passes};
 ghost use Rattle.speaker_view.specs.View.{fresh, view_after, note_by, limit_by};
 
-use crate::endpoints::some_serves;
-use crate::service_slices::ServiceSlices;
+use crate::change::{ViewChange, changes_all, listed, listed_addresses, reaches_all};
+use crate::index::{Index, Stale, one_records, records};
+use ip_ranges::{Address, AddressList};
 use kube_labels::{Labels, Text, TextList};
-use kube_model::{EndpointSlice, Event, Key, Service};
+use kube_model::{EndpointSlice, Event, Key, Kind, Node, Service};
 use mlb_base::NoMemory;
 use object_cache::{Applied, ApplyFault, ObjectCache, TakeNote};
 use pool_config::Config;
 use std::alloc::Global;
+use std::collections::BTreeSet;
+use std::collections::btree_map::Keys;
 use std::marker::Model;
 use versioned_map::VersionedMap;
 
@@ -31,17 +43,20 @@ pub struct View {
     cache: ObjectCache,
     members: TextList,
     no_labels: Labels,
+    index: Index,
+    alloc: Global,
 }
 
 impl Model for View {
     ghost use Rattle.std.specs.Prelude.{◌≡◌, []};
+    ghost use Rattle.speaker_view.specs.Index.{Covers};
     ghost use Rattle.speaker_view.specs.ViewValue.{ViewValue};
 
     ghost Value = { ViewValue };
 
     ghost view = { λ v. record { class = v.class; held = v.cache; members = v.members } };
 
-    ghost invariant = { λ v. v.no_labels ≡ [] };
+    ghost invariant = { λ v. (v.no_labels ≡ []) × Covers v.index v.cache };
 }
 
 impl View {
@@ -55,6 +70,8 @@ impl View {
             cache: ObjectCache::new(alloc),
             members: TextList::new(alloc),
             no_labels: Labels::new(alloc),
+            index: Index::new(alloc),
+            alloc,
         }
     }
 
@@ -63,7 +80,7 @@ impl View {
     pub fn apply(&mut self, event: Event) -> Result<TakeNote, ApplyFault>
         ensures note { IfOk result (λ note. note ≡ note_by self.old event) }
         ensures ok { OnOk result (self.new ≡ view_after event self.old) }
-        ensures limit { (kind : Kind) (count : ℕ)
+        ensures limit { (kind : KindValue) (count : ℕ)
             → IsErrOf result (ApplyFault.Limit kind count) ↔ (limit_by self.old event ≡ Some (kind, count)) }
         ensures err { OnErr result (self.new ≡ self.old) }
     {
@@ -72,8 +89,62 @@ impl View {
                 self.members = names;
                 Ok(TakeNote::Quiet)
             }
-            event => apply_to(&mut self.cache, event),
+            event => apply_to(self.alloc, &mut self.cache, &mut self.index, event),
         }
+    }
+
+    /// Applies an event, as `apply` does, and tells what it changes of what nodes announce.
+    pub fn apply_noting(&mut self, event: Event) -> Result<(TakeNote, ViewChange), ApplyFault>
+        ensures note { IfOk result (λ noted. noted.0 ≡ note_by self.old event) }
+        ensures change { IfOk result (λ noted. noted.1 ≡ change_of self.old event) }
+        ensures ok { OnOk result (self.new ≡ view_after event self.old) }
+        ensures stay { IfOk result (λ noted. OthersStay self.old self.new noted.1) }
+        ensures limit { (kind : KindValue) (count : ℕ)
+            → IsErrOf result (ApplyFault.Limit kind count) ↔ (limit_by self.old event ≡ Some (kind, count)) }
+        ensures err { OnErr result (self.new ≡ self.old) }
+    {
+        if let Some((kind, count)) = self.limit_of(&event) {
+            drop(event);
+            return Err(ApplyFault::Limit { kind, count });
+        }
+        self.apply_below(event)
+    }
+
+    /// Applies an event that passes no limit.
+    fn apply_below(&mut self, event: Event) -> Result<(TakeNote, ViewChange), ApplyFault>
+        requires { limit_by self.old event ≡ None }
+        ensures note { IfOk result (λ noted. noted.0 ≡ note_by self.old event) }
+        ensures change { IfOk result (λ noted. noted.1 ≡ change_of self.old event) }
+        ensures ok { OnOk result (self.new ≡ view_after event self.old) }
+        ensures stay { IfOk result (λ noted. OthersStay self.old self.new noted.1) }
+        ensures limit { (kind : KindValue) (count : ℕ)
+            → IsErrOf result (ApplyFault.Limit kind count) ↔ (limit_by self.old event ≡ Some (kind, count)) }
+        ensures err { OnErr result (self.new ≡ self.old) }
+    {
+        let reaches_all = reaches_all(self, &event);
+        let addresses = match listed_addresses(self.alloc, self, &event) {
+            Ok(addresses) => addresses,
+            Err(NoMemory) => {
+                drop(event);
+                return Err(ApplyFault::NoMemory);
+            }
+        };
+        match self.apply(event) {
+            Ok(note) => {
+                let all = changes_all(&note, reaches_all);
+                Ok((note, ViewChange { all, addresses }))
+            }
+            Err(fault) => {
+                drop(addresses);
+                Err(fault)
+            }
+        }
+    }
+
+    fn limit_of(&self, event: &Event) -> Option<(Kind, u64)>
+        ensures { result ≡ limit_by self.now event.now }
+    {
+        self.cache.limit_of(event)
     }
 
     /// The configuration in force.
@@ -103,11 +174,63 @@ impl View {
         }
     }
 
+    /// The held nodes, by name.
+    pub(crate) fn nodes(&self) -> &VersionedMap<Text, Node>
+        ensures { result.now ≡ self.now.held.nodes }
+    {
+        self.cache.nodes()
+    }
+
+    /// The held service of the key. An endpoint slice is of no other than the one that is held under the key of its service.
+    pub fn service(&self, key: &Key) -> Option<&Service>
+        ensures object { option_copied result ≡ object_at key_cmp self.now.held.services key.now }
+        ensures served { (slice : SliceValue) → service_of slice ≡ key.now → served_by self.now (Some slice) ≡ recorded_at self.now key.now }
+    {
+        let _ascending = self.cache.services().len();
+        self.cache.service(key)
+    }
+
     /// The held services, by key.
     pub fn services(&self) -> &VersionedMap<Key, Service>
         ensures { result.now ≡ self.now.held.services }
     {
         self.cache.services()
+    }
+
+    /// The addresses that held services record, each once, ascending: IPv4 before IPv6.
+    pub fn addresses(&self) -> Result<AddressList, NoMemory>
+        ensures { IfOk result (λ addresses. addresses ≡ recorded_addresses self.now) }
+    {
+        let _ascending = self.cache.services().len();
+        let recorded = self.recorded_among(self.index.addresses())?;
+        listed(self.alloc, &recorded)
+    }
+
+    /// Those of the addresses that held services record.
+    fn recorded_among(
+        &self,
+        addresses: Keys<'_, Address, BTreeSet<Key>>,
+    ) -> Result<BTreeSet<Address>, NoMemory>
+        ensures { IfOk result (λ found. found.keys ≡ keys_with address_cmp [] (filter (is_recorded_in self.now) addresses.entry)) }
+    {
+        let mut found = BTreeSet::new(self.alloc);
+        for address in addresses {
+            if self.is_recorded(address) {
+                found.insert(*address)?;
+            }
+        }
+        Ok(found)
+    }
+
+    /// Whether some held service records the address. It looks at these services alone, and takes no memory.
+    pub fn is_recorded(&self, address: &Address) -> bool
+        ensures { result ≡ is_recorded_in self.now address.now }
+    {
+        let _ascending = self.cache.services().len();
+        match self.index.recorders(address) {
+            None => false,
+            Some(keys) => one_records(&self.cache, keys, address),
+        }
     }
 
     /// The held endpoint slices, by key.
@@ -129,7 +252,8 @@ impl View {
     fn serves_from(&self, service: &Service, node: &Text) -> bool
         ensures { result ≡ endpoint_for self.now service.now node.now }
     {
-        some_serves(self.cache.slices(), &service.key, service.policy, node)
+        self.index
+            .serves(&self.cache, &service.key, service.policy, node)
     }
 
     /// Whether the node may announce the service's addresses: the service is of the speaker's class, it has an endpoint for the
@@ -147,26 +271,39 @@ impl View {
         self.handles(service) && self.serves_from(service, node) && self.lets_balance(node)
     }
 
-    /// The held endpoint slices, by the service that they are of, in the time that sorting takes. `NoMemory` may come at any time.
-    pub fn service_slices(&self, alloc: Global) -> Result<ServiceSlices<'_>, NoMemory>
-        ensures { IfOk result (λ slices. slices ≡ objects_of self.now.held.slices) }
+    /// Whether some held service that records the address can be announced from the node. It looks at these services and their
+    /// endpoint slices alone, and takes no memory.
+    pub fn is_announced_from(&self, address: &Address, node: &Text) -> bool
+        ensures { result ≡ announced_from self.now address.now node.now }
     {
-        ServiceSlices::new(alloc, self.cache.slices())
+        let _ascending = self.cache.services().len();
+        match self.index.recorders(address) {
+            None => false,
+            Some(keys) => self.announces_one(keys, address, node),
+        }
     }
 
-    /// What `can_announce` answers, by the slices of this view, of which it looks at the service's alone. It takes no memory.
-    pub fn can_announce_by(
-        &self,
-        slices: &ServiceSlices<'_>,
-        service: &Service,
-        node: &Text,
-    ) -> bool
-        requires { slices.now ≡ objects_of self.now.held.slices }
-        ensures value { result ≡ can_announce self.now service.now node.now }
+    /// Whether a service of one of these keys is held, records the address and can be announced from the node.
+    fn announces_one(&self, keys: &BTreeSet<Key>, address: &Address, node: &Text) -> bool
+        ensures { result ≡ list_any (λ key. passes (λ service. has_address service.holding.addresses address.now && can_announce self.now service node.now)
+            (object_at key_cmp self.now.held.services key)) keys.now.keys }
     {
-        self.handles(service)
-            && slices.serves(&service.key, service.policy, node)
-            && self.lets_balance(node)
+        for key in keys {
+            if self.announces_at(key, address, node) {
+                return true;
+            }
+        }
+        false
+    }
+
+    fn announces_at(&self, key: &Key, address: &Address, node: &Text) -> bool
+        ensures { result ≡ passes (λ service. has_address service.holding.addresses address.now && can_announce self.now service node.now)
+            (object_at key_cmp self.now.held.services key.now) }
+    {
+        match self.cache.service(key) {
+            None => false,
+            Some(service) => records(service, address) && self.announces_from(service, node),
+        }
     }
 
     /// Whether the service is of the speaker's class.
@@ -185,13 +322,81 @@ impl View {
 }
 
 /// Applies an event to what is held.
-fn apply_to(cache: &mut ObjectCache, event: Event) -> Result<TakeNote, ApplyFault>
+fn apply_to(
+    alloc: Global,
+    cache: &mut ObjectCache,
+    index: &mut Index,
+    event: Event,
+) -> Result<TakeNote, ApplyFault>
+    requires { Covers index.old cache.old }
     ensures note { IfOk result (λ note. note ≡ (applied cache.old event).note) }
     ensures ok { OnOk result (cache.new ≡ cached_after (Watched event) cache.old) }
-    ensures limit { (kind : Kind) (count : ℕ)
+    ensures limit { (kind : KindValue) (count : ℕ)
         → IsErrOf result (ApplyFault.Limit kind count) ↔ (limit_of cache.old event ≡ Some (kind, count)) }
     ensures err { OnErr result (cache.new ≡ cache.old) }
+    ensures covers { Covers index.new cache.new }
 {
+    if let Some((kind, count)) = cache.limit_of(&event) {
+        drop(event);
+        return Err(ApplyFault::Limit { kind, count });
+    }
+    let stale = match prepared(alloc, cache, index, &event) {
+        Ok(stale) => stale,
+        Err(NoMemory) => {
+            drop(event);
+            return Err(ApplyFault::NoMemory);
+        }
+    };
+    match apply_within(cache, index, event) {
+        Ok(note) => {
+            index.forget(cache, &stale);
+            Ok(note)
+        }
+        Err(fault) => {
+            drop(stale);
+            Err(fault)
+        }
+    }
+}
+
+/// Makes place for what the event shows. What it may leave behind.
+fn prepared(
+    alloc: Global,
+    cache: &ObjectCache,
+    index: &mut Index,
+    event: &Event,
+) -> Result<Stale, NoMemory>
+    requires { Covers index.old cache.now }
+    ensures covers { Covers index.new cache.now }
+    ensures has { OnOk result (HasShown index.new event.now) }
+{
+    let stale = Stale::by(alloc, cache, event)?;
+    match index.add_shown(event) {
+        Ok(()) => Ok(stale),
+        Err(refused) => {
+            drop(stale);
+            Err(refused)
+        }
+    }
+}
+
+/// Applies an event for whose object there is place.
+fn apply_within(
+    cache: &mut ObjectCache,
+    index: &Index,
+    event: Event,
+) -> Result<TakeNote, ApplyFault>
+    requires covers { Covers index.now cache.old }
+    requires has { HasShown index.now event }
+    ensures note { IfOk result (λ note. note ≡ (applied cache.old event).note) }
+    ensures ok { OnOk result (cache.new ≡ cached_after (Watched event) cache.old) }
+    ensures limit { (kind : KindValue) (count : ℕ)
+        → IsErrOf result (ApplyFault.Limit kind count) ↔ (limit_of cache.old event ≡ Some (kind, count)) }
+    ensures err { OnErr result (cache.new ≡ cache.old) }
+    ensures covers { Covers index.now cache.new }
+{
+    let _ascending = cache.services().len();
+    let _ascend = cache.slices().len();
     match cache.apply(event) {
         Ok(applied) => Ok(note_in(applied)),
         Err(fault) => Err(fault),

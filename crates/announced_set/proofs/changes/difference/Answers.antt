@@ -1,5 +1,5 @@
 use Rattle.std.proofs.Common.{◌≡◌, [], rules}
-use Rattle.announced_set.proofs.Updates.{found-all}
+use Rattle.announced_set.proofs.Differences.{found-all}
 use Rattle.announced_set.proofs.changes.difference.Goals as goal
 
 pub returns : goal.returns

@@ -1,5 +1,5 @@
 use Rattle.std.proofs.Common.{true}
-use Rattle.announced_set.proofs.Addresses.{has-updated}
+use Rattle.speaker_view.proofs.AddressOrder.{has-updated}
 use Rattle.announced_set.proofs.changes.insert.Goals as goal
 
 pub returns : goal.returns

@@ -1,0 +1,8 @@
+use Rattle.std.proofs.Common.{Some}
+use Rattle.l2_elect.proofs.Keeping.{held-now}
+use Rattle.l2_elect.proofs.announcers.Announcers.put.Goals as goal
+
+pub returns : goal.returns
+returns c =
+    rw (← c.self.view_is, ← c.in_ok-node.ensures)
+    (held-now c.self.inside.names.entries c.insert.new.self.entries (Some c.in_ok-node.node) c.args.address.now c.in_ok-insert.ensures.updates.0)

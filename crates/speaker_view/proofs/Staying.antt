@@ -1,0 +1,248 @@
+-- At an address that an event doesn't list, all stays that decides who may announce it.
+use Rattle.std.proofs.Common.{◌≡◌, ℕ, Bool, true, false, cond, ◌&&◌, leb, not, List, [], ◌∷◌, Option, Some, None, ◌++◌, inl, inr, Contains, filter, Result, Ok, Err, refl, sym, ap, ◌∙◌, subst}
+use Rattle.std.proofs.lemmas.Bool.{or_parts, true≢false}
+use Rattle.std.proofs.lemmas.List.Elements.{Contains-append_left, Contains-append_right}
+use Rattle.std.specs.List.{flat_map, list_any}
+use Rattle.std.specs.BTreeMap.{insert_entry}
+use Rattle.mlb_base.proofs.Among.{contains-none, contains-cons, contains-first, contains-later}
+use Rattle.ip_ranges.specs.Values.{AddressValue, has_address}
+use Rattle.ip_ranges.proofs.AddressLaws.{has_address-is, has_address-from}
+use Rattle.kube_labels.specs.Names.{name_cmp}
+use Rattle.kube_model.specs.Keys.{key_cmp}
+use Rattle.kube_model.specs.Service.{is_handled}
+use Rattle.kube_model.specs.declared.config_fault.ConfigFault.{ConfigFault}
+use Rattle.kube_model.specs.declared.event.Event.{Event}
+use Rattle.kube_model.specs.declared.event.Event.TheVariants.{Changed, Deleted, ListEnd, Expired, Members, Frame, Ignored}
+use Rattle.kube_model.specs.declared.key.Key.{Key}
+use Rattle.kube_model.specs.declared.node.Node.{Node}
+use Rattle.kube_model.specs.declared.object.Kind.TheVariants as kinds
+use Rattle.kube_model.specs.declared.object.Object.TheVariants as objects
+use Rattle.kube_model.specs.declared.service.Service.{Service}
+use Rattle.kube_model.specs.declared.slice.EndpointSlice.{EndpointSlice}
+use Rattle.object_cache.specs.Change.{note_in, note_of}
+use Rattle.object_history.specs.Cache.{compiles, in_force, objects_after}
+use Rattle.object_history.specs.Observations.{Watched}
+use Rattle.pool_config.specs.Compile.{compiled}
+use Rattle.pool_config.specs.ConfigValue.{ConfigValue}
+use Rattle.pool_config.specs.declared.object_set.ObjectSet.{ObjectSet}
+use Rattle.versioned_map.specs.declared.map.Versioned.{Versioned}
+use Rattle.versioned_map.specs.Entries.{object_at, version_at}
+use Rattle.speaker_view.specs.declared.change.ViewChange.{ViewChange}
+use Rattle.speaker_view.specs.Change.{changed_addresses, change_of, is_accepted, recorded_at, recorded_by, reaches_all, served_at, served_by, shown_addresses, OthersStay, UnchangedAddressesStay}
+use Rattle.speaker_view.specs.Endpoints.{allows_balancers, announced_from, can_announce, endpoint_for, is_slice_of, labels_of, node_labels, slice_serves}
+use Rattle.speaker_view.specs.Held.{objects_of}
+use Rattle.speaker_view.specs.View.{note_by, view_after}
+use Rattle.speaker_view.specs.ViewValue.{ViewValue}
+use Rattle.speaker_view.proofs.AddressOrder.{has-distinct}
+use Rattle.speaker_view.proofs.Objects.{Fails, any-inserted, any-removed, any-each, objects_of-expired, object_at-expired}
+
+isnt_true : (b : Bool) → ¬ (b ≡ true) → b ≡ false
+isnt_true true never = absurd (never refl)
+isnt_true false never = refl
+
+hasnt_address : (addresses : List AddressValue) (a : AddressValue) → ¬ (Contains addresses a) → has_address addresses a ≡ false
+hasnt_address addresses a none = isnt_true (has_address addresses a) (λ e. none (has_address-is addresses a e))
+
+Contains-flat_map : {X A : Type 0} (f : X → List A) (xs : List X) (x : X) (y : A) → Contains xs x → Contains (f x) y → Contains (flat_map f xs) y
+Contains-flat_map f [] x y there of_it = absurd (contains-none x there)
+Contains-flat_map f (z ∷ zs) x y there of_it = elim (contains-cons z zs x there) [
+  | inl here ↦ Contains-append_left (f z) (flat_map f zs) y (subst (λ u. Contains (f u) y) (sym here) of_it)
+  | inr later ↦ Contains-append_right (f z) (flat_map f zs) y (Contains-flat_map f zs x y later of_it)
+]
+
+-- an item of the list that passes is one of those that do
+first-by : {X : Type 0} (b : Bool) (y : X) (zs : List X) (x : X) → y ≡ x → b ≡ true → Contains (cond b (y ∷ zs) zs) x
+first-by true y zs x is e = subst (λ u. Contains (y ∷ zs) u) is (contains-first y zs)
+first-by false y zs x is e = absurd (true≢false (sym e))
+
+behind-by : {X : Type 0} (b : Bool) (y : X) (zs : List X) (x : X) → Contains zs x → Contains (cond b (y ∷ zs) zs) x
+behind-by true y zs x there = contains-later y zs x there
+behind-by false y zs x there = there
+
+Contains-passing : {X : Type 0} (p : X → Bool) (xs : List X) (x : X) → Contains xs x → p x ≡ true → Contains (filter p xs) x
+Contains-passing p [] x there h = absurd (contains-none x there)
+Contains-passing p (y ∷ ys) x there h = elim (contains-cons y ys x there) [
+  | inl here ↦ first-by (p y) y (filter p ys) x here (ap p here ∙ h)
+  | inr later ↦ behind-by (p y) y (filter p ys) x (Contains-passing p ys x later h)
+]
+
+-- a configuration that isn't accepted leaves the one in force
+config-stays : (b : Bool) (objects : ObjectSet) (before : Option ConfigValue) (r : Result ConfigValue ConfigFault) → r ≡ compiled objects → is_accepted (note_of b objects) ≡ false
+    → cond b (in_force before r) before ≡ before
+config-stays true objects before (Ok config) is e =
+    let accepted : is_accepted (note_of true objects) ≡ true = ap (λ (x : Result ConfigValue ConfigFault). is_accepted (note_in x)) (sym is) in
+    absurd (true≢false (sym accepted ∙ e))
+config-stays true objects before (Err fault) is e = refl
+config-stays false objects before r is e = refl
+
+-- what isn't newer is passed over
+passed-over : {X : Type 0} (passed : Bool) (before after : X) → not passed ≡ false → cond passed before after ≡ before
+passed-over true before after e = refl
+passed-over false before after e = absurd (true≢false e)
+
+module _ (v : ViewValue) where
+  members-stay : (event : Event) → reaches_all v event ≡ false → (view_after event v).members ≡ v.members
+  members-stay (Changed version object) e = refl
+  members-stay (Deleted kind key) e = refl
+  members-stay (ListEnd group) e = refl
+  members-stay Expired e = refl
+  members-stay (Members names) e = absurd (true≢false e)
+  members-stay (Frame interface bytes) e = refl
+  members-stay Ignored e = refl
+
+  labels-stay : (event : Event) → reaches_all v event ≡ false → (node : List ℕ) → node_labels (view_after event v) node ≡ node_labels v node
+  labels-stay (Changed version (objects.Node shown)) e node =
+      let held : Versioned Node = record { version = version; object = shown } in
+      ap (λ nodes. labels_of (object_at name_cmp nodes node))
+      (passed-over (leb version (version_at name_cmp v.held.nodes shown.name)) v.held.nodes (insert_entry name_cmp v.held.nodes shown.name held) e)
+  labels-stay (Changed version (objects.Service service)) e node = refl
+  labels-stay (Changed version (objects.Slice slice)) e node = refl
+  labels-stay (Changed version (objects.Pool pool)) e node = refl
+  labels-stay (Changed version (objects.L2 adv)) e node = refl
+  labels-stay (Changed version (objects.Bgp adv)) e node = refl
+  labels-stay (Changed version (objects.Peer peer)) e node = refl
+  labels-stay (Changed version (objects.Community community)) e node = refl
+  labels-stay (Changed version (objects.Namespace namespace)) e node = refl
+  labels-stay (Deleted kinds.Node key) e node = absurd (true≢false e)
+  labels-stay (Deleted kinds.Service key) e node = refl
+  labels-stay (Deleted kinds.Slice key) e node = refl
+  labels-stay (Deleted kinds.Pool key) e node = refl
+  labels-stay (Deleted kinds.L2 key) e node = refl
+  labels-stay (Deleted kinds.Bgp key) e node = refl
+  labels-stay (Deleted kinds.Peer key) e node = refl
+  labels-stay (Deleted kinds.Community key) e node = refl
+  labels-stay (Deleted kinds.Namespace key) e node = refl
+  labels-stay (ListEnd group) e node = absurd (true≢false e)
+  labels-stay Expired e node = ap labels_of (object_at-expired name_cmp v.held.nodes node)
+  labels-stay (Members names) e node = absurd (true≢false e)
+  labels-stay (Frame interface bytes) e node = refl
+  labels-stay Ignored e node = refl
+
+  module _ (a : AddressValue) (node : List ℕ) where
+    -- the service has the address, and can be announced from the node
+    abbrev announces : Service → Bool
+    announces service = has_address service.holding.addresses a && can_announce v service node
+
+    fails : (service : Service) → ¬ (Contains service.holding.addresses a) → announces service ≡ false
+    fails service none = rw (hasnt_address service.holding.addresses a none) refl
+
+    fails_held : (held : Option Service) → ¬ (Contains (recorded_by held) a) → Fails announces held
+    fails_held None none = tt
+    fails_held (Some service) none = fails service none
+
+    service-shown : (passed : Bool) (version : ℕ) (service : Service) → ¬ (Contains (cond (not passed) (recorded_at v service.key ++ service.holding.addresses) []) a)
+        → list_any announces (objects_of (cond passed v.held.services (insert_entry key_cmp v.held.services service.key (record { version = version; object = service })))) ≡ announced_from v a node
+    service-shown true version service none = refl
+    service-shown false version service none =
+        let before = recorded_at v service.key in
+        let after = service.holding.addresses in
+        any-inserted key_cmp announces v.held.services service.key (record { version = version; object = service })
+        (fails service (λ there. none (Contains-append_right before after a there)))
+        (fails_held (object_at key_cmp v.held.services service.key) (λ there. none (Contains-append_left before after a there)))
+
+    -- a service that records the address isn't one of the slice's, where it is none of those that the slice's services record
+    module _ (service : Service) (held : Contains (objects_of v.held.services) service) (recorded : has_address service.holding.addresses a ≡ true) where
+      apart : (slice : EndpointSlice) → ¬ (Contains (served_by v (Some slice)) a) → is_slice_of service.key slice ≡ false
+      apart slice none =
+          let services = objects_of v.held.services in
+          let of_slice : Service → Bool = λ s. is_slice_of s.key slice in
+          let addresses : Service → List AddressValue = λ s. s.holding.addresses in
+          isnt_true (is_slice_of service.key slice) (λ e.
+          none (Contains-flat_map addresses (filter of_slice services) service a (Contains-passing of_slice services service held e) (has_address-is service.holding.addresses a recorded)))
+
+      serves_not : (slice : EndpointSlice) → ¬ (Contains (served_by v (Some slice)) a) → slice_serves service.key service.policy node slice ≡ false
+      serves_not slice none = rw (apart slice none) refl
+
+      held_not : (slice : Option EndpointSlice) → ¬ (Contains (served_by v slice) a) → Fails (slice_serves service.key service.policy node) slice
+      held_not None none = tt
+      held_not (Some slice) none = serves_not slice none
+
+    -- the service's endpoints are the same, so it can be announced from the node as before
+    same_where : (w : ViewValue) (service : Service) (has : Bool) → can_announce w service node ≡ ((is_handled v.class service && endpoint_for w service node) && allows_balancers (node_labels v node))
+        → (has ≡ true → endpoint_for w service node ≡ endpoint_for v service node) → (has && can_announce w service node) ≡ (has && can_announce v service node)
+    same_where w service true is same =
+        let endpoints = same refl in
+        is ∙ (λ i. (is_handled v.class service && endpoints i) && allows_balancers (node_labels v node))
+    same_where w service false is same = refl
+
+    slices-shown : (passed : Bool) (version : ℕ) (slice : EndpointSlice) (service : Service) → Contains (objects_of v.held.services) service → has_address service.holding.addresses a ≡ true
+        → ¬ (Contains (cond (not passed) (served_at v slice.key ++ served_by v (Some slice)) []) a)
+        → list_any (slice_serves service.key service.policy node) (objects_of (cond passed v.held.slices (insert_entry key_cmp v.held.slices slice.key (record { version = version; object = slice })))) ≡ endpoint_for v service node
+    slices-shown true version slice service held recorded none = refl
+    slices-shown false version slice service held recorded none =
+        let before = served_at v slice.key in
+        let after = served_by v (Some slice) in
+        any-inserted key_cmp (slice_serves service.key service.policy node) v.held.slices slice.key (record { version = version; object = slice })
+        (serves_not service held recorded slice (λ there. none (Contains-append_right before after a there)))
+        (held_not service held recorded (object_at key_cmp v.held.slices slice.key) (λ there. none (Contains-append_left before after a there)))
+
+    slice-shown : (version : ℕ) (slice : EndpointSlice) → ¬ (Contains (shown_addresses v version (objects.Slice slice)) a)
+        → announced_from (view_after (Changed version (objects.Slice slice)) v) a node ≡ announced_from v a node
+    slice-shown version slice none =
+        let w = view_after (Changed version (objects.Slice slice)) v in
+        any-each (λ (s : Service). has_address s.holding.addresses a && can_announce w s node) announces (objects_of v.held.services) (λ service held.
+        same_where w service (has_address service.holding.addresses a) refl (λ recorded.
+        slices-shown (leb version (version_at key_cmp v.held.slices slice.key)) version slice service held recorded none))
+
+    slice-deleted : (key : Key) → ¬ (Contains (served_at v key) a) → announced_from (view_after (Deleted kinds.Slice key) v) a node ≡ announced_from v a node
+    slice-deleted key none =
+        let w = view_after (Deleted kinds.Slice key) v in
+        any-each (λ (s : Service). has_address s.holding.addresses a && can_announce w s node) announces (objects_of v.held.services) (λ service held.
+        same_where w service (has_address service.holding.addresses a) refl (λ recorded.
+        any-removed key_cmp (slice_serves service.key service.policy node) v.held.slices key (held_not service held recorded (object_at key_cmp v.held.slices key) none)))
+
+    expired-stays : announced_from (view_after Expired v) a node ≡ announced_from v a node
+    expired-stays =
+        let labels = ap labels_of (object_at-expired name_cmp v.held.nodes node) in
+        let services = objects_of-expired v.held.services in
+        let slices = objects_of-expired v.held.slices in
+        λ i. list_any
+        (λ (s : Service). has_address s.holding.addresses a && ((is_handled v.class s && list_any (slice_serves s.key s.policy node) (slices i)) && allows_balancers (labels i)))
+        (services i)
+
+    announced-stays : (event : Event) → reaches_all v event ≡ false → ¬ (Contains (changed_addresses v event) a) → announced_from (view_after event v) a node ≡ announced_from v a node
+    announced-stays (Changed version (objects.Service service)) e none = service-shown (leb version (version_at key_cmp v.held.services service.key)) version service none
+    announced-stays (Changed version (objects.Slice slice)) e none = slice-shown version slice none
+    announced-stays (Changed version (objects.Node shown)) e none =
+        let labels = labels-stay (Changed version (objects.Node shown)) e node in
+        λ i. list_any (λ (s : Service). has_address s.holding.addresses a && ((is_handled v.class s && endpoint_for v s node) && allows_balancers (labels i))) (objects_of v.held.services)
+    announced-stays (Changed version (objects.Pool pool)) e none = refl
+    announced-stays (Changed version (objects.L2 adv)) e none = refl
+    announced-stays (Changed version (objects.Bgp adv)) e none = refl
+    announced-stays (Changed version (objects.Peer peer)) e none = refl
+    announced-stays (Changed version (objects.Community community)) e none = refl
+    announced-stays (Changed version (objects.Namespace namespace)) e none = refl
+    announced-stays (Deleted kinds.Service key) e none = any-removed key_cmp announces v.held.services key (fails_held (object_at key_cmp v.held.services key) none)
+    announced-stays (Deleted kinds.Slice key) e none = slice-deleted key none
+    announced-stays (Deleted kinds.Node key) e none = absurd (true≢false e)
+    announced-stays (Deleted kinds.Pool key) e none = refl
+    announced-stays (Deleted kinds.L2 key) e none = refl
+    announced-stays (Deleted kinds.Bgp key) e none = refl
+    announced-stays (Deleted kinds.Peer key) e none = refl
+    announced-stays (Deleted kinds.Community key) e none = refl
+    announced-stays (Deleted kinds.Namespace key) e none = refl
+    announced-stays (ListEnd group) e none = absurd (true≢false e)
+    announced-stays Expired e none = expired-stays
+    announced-stays (Members names) e none = absurd (true≢false e)
+    announced-stays (Frame interface bytes) e none = refl
+    announced-stays Ignored e none = refl
+
+pub unchanged_addresses_stay : UnchangedAddressesStay
+unchanged_addresses_stay v event e a unlisted =
+    let parts = or_parts (is_accepted (note_by v event)) (reaches_all v event) e in
+    let held = objects_after (Watched event) v.held.objects in
+    let none : ¬ (Contains (changed_addresses v event) a) = λ there.
+    unlisted (has_address-is (change_of v event).addresses a (has-distinct (changed_addresses v event) a ∙ has_address-from (changed_addresses v event) a there)) in
+    record {
+      class = refl;
+      members = members-stay v event parts.1;
+      config = config-stays (compiles v.held.objects v.held.config_ended (Watched event)) held v.held.config (compiled held) refl parts.0;
+      labels = labels-stay v event parts.1;
+      announced = λ node. announced-stays v a node event parts.1 none;
+    }
+
+-- so it is where the change is that of the event
+pub others-stay : (v w : ViewValue) (event : Event) (change : ViewChange) → w ≡ view_after event v → change ≡ change_of v event → OthersStay v w change
+others-stay v w event change after is =
+    subst (λ (u : ViewValue). OthersStay v u change) (sym after)
+    (subst (λ (c : ViewChange). OthersStay v (view_after event v) c) (sym is) (unchanged_addresses_stay v event))

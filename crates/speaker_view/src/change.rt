@@ -1,0 +1,261 @@
+//! What an event changes of what nodes announce.
+ghost use Rattle.std.specs.Prelude.{◌≡◌, ◌++◌, ◌||◌, [], if◌then◌else◌, Some, IfOk, OnOk};
+ghost use Rattle.kube_labels.specs.Names.{name_cmp};
+ghost use Rattle.kube_model.specs.Keys.{key_cmp};
+ghost use Rattle.pool_config.specs.KeySets.{keys_with};
+ghost use Rattle.versioned_map.specs.Entries.{is_newer};
+ghost use Rattle.speaker_view.specs.Addresses.{address_cmp};
+ghost use Rattle.speaker_view.specs.Change.{changed_addresses, deleted_addresses, is_accepted, is_node, reaches_all, recorded_at, served_at, served_by, shown_addresses, is_node_shown};
+
+use crate::index::service_of;
+use crate::view::View;
+use ip_ranges::{Address, AddressList};
+use kube_model::{EndpointSlice, Event, Key, Kind, Node, Object, Service};
+use mlb_base::NoMemory;
+use object_cache::TakeNote;
+use std::alloc::Global;
+use std::collections::BTreeSet;
+
+/// What an event changes of what nodes announce.
+#[derive(Drop)]
+pub struct ViewChange {
+    /// It may change what is announced at any address: a configuration was accepted, a list ended, or the members were told, or
+    /// a node was shown or deleted.
+    pub all: bool,
+    /// Else the addresses at which it may, each once, ascending, IPv4 before IPv6: those that a service records that was shown or
+    /// deleted, before and after, and those of the services of an endpoint slice.
+    pub addresses: AddressList,
+}
+
+/// Whether it may change all: a configuration was accepted, or the event reaches all.
+pub(crate) fn changes_all(note: &TakeNote, reaches_all: bool) -> bool
+    ensures { result ≡ (is_accepted note.now || reaches_all) }
+{
+    is_accepted(note) || reaches_all
+}
+
+/// Whether a configuration was accepted.
+fn is_accepted(note: &TakeNote) -> bool
+    ensures { result ≡ is_accepted note.now }
+{
+    match note {
+        TakeNote::Accepted => true,
+        TakeNote::Quiet | TakeNote::Refused { .. } => false,
+    }
+}
+
+/// Whether the event ends a list, tells the members, or shows or deletes a node and isn't passed over.
+pub(crate) fn reaches_all(view: &View, event: &Event) -> bool
+    ensures { result ≡ reaches_all view.now event.now }
+{
+    match event {
+        Event::Changed { version, object } => is_node_shown(view, *version, object),
+        Event::Deleted { kind, .. } => is_node(*kind),
+        Event::ListEnd { .. } | Event::Members { .. } => true,
+        Event::Expired | Event::Frame { .. } | Event::Ignored => false,
+    }
+}
+
+fn is_node(kind: Kind) -> bool
+    ensures { result ≡ is_node kind }
+{
+    match kind {
+        Kind::Node => true,
+        Kind::Service
+        | Kind::Slice
+        | Kind::Pool
+        | Kind::L2
+        | Kind::Bgp
+        | Kind::Peer
+        | Kind::Community
+        | Kind::Namespace => false,
+    }
+}
+
+fn is_node_shown(view: &View, version: u64, object: &Object) -> bool
+    ensures { result ≡ is_node_shown view.now version object.now }
+{
+    match object {
+        Object::Node(node) => is_newer(view, version, node),
+        Object::Service(_)
+        | Object::Slice(_)
+        | Object::Pool(_)
+        | Object::L2(_)
+        | Object::Bgp(_)
+        | Object::Peer(_)
+        | Object::Community(_)
+        | Object::Namespace(_) => false,
+    }
+}
+
+/// Whether the node is newer than what is held of it.
+fn is_newer(view: &View, version: u64, node: &Node) -> bool
+    ensures { result ≡ is_newer name_cmp view.now.held.nodes node.now.name version }
+{
+    version > view.nodes().version_of(&node.name)
+}
+
+/// The addresses at which the event may change what is announced, each once, ascending.
+pub(crate) fn listed_addresses(
+    alloc: Global,
+    view: &View,
+    event: &Event,
+) -> Result<AddressList, NoMemory>
+    ensures { IfOk result (λ found. found ≡ keys_with address_cmp [] (changed_addresses view.now event.now)) }
+{
+    let found = changed_addresses(alloc, view, event)?;
+    let distinct = distinct(alloc, found.as_slice())?;
+    listed(alloc, &distinct)
+}
+
+/// The addresses of the set, as a list.
+pub(crate) fn listed(alloc: Global, addresses: &BTreeSet<Address>) -> Result<AddressList, NoMemory>
+    ensures { IfOk result (λ list. list ≡ addresses.now.keys) }
+{
+    let mut list = AddressList::new(alloc);
+    for address in addresses {
+        list.push(*address)?;
+    }
+    Ok(list)
+}
+
+/// The addresses, each once.
+fn distinct(alloc: Global, addresses: &[Address]) -> Result<BTreeSet<Address>, NoMemory>
+    ensures { IfOk result (λ distinct. distinct.keys ≡ keys_with address_cmp [] addresses.now) }
+{
+    let mut distinct = BTreeSet::new(alloc);
+    for address in addresses {
+        distinct.insert(*address)?;
+    }
+    Ok(distinct)
+}
+
+/// The addresses at which the event may change what is announced, where it is applied and doesn't change all.
+pub(crate) fn changed_addresses(
+    alloc: Global,
+    view: &View,
+    event: &Event,
+) -> Result<Vec<Address>, NoMemory>
+    ensures { IfOk result (λ found. found.items ≡ changed_addresses view.now event.now) }
+{
+    match event {
+        Event::Changed { version, object } => shown_addresses(alloc, view, *version, object),
+        Event::Deleted { kind, key } => deleted_addresses(alloc, view, *kind, key),
+        Event::ListEnd { .. }
+        | Event::Expired
+        | Event::Members { .. }
+        | Event::Frame { .. }
+        | Event::Ignored => Ok(Vec::new(alloc)),
+    }
+}
+
+fn shown_addresses(
+    alloc: Global,
+    view: &View,
+    version: u64,
+    object: &Object,
+) -> Result<Vec<Address>, NoMemory>
+    ensures { IfOk result (λ found. found.items ≡ shown_addresses view.now version object.now) }
+{
+    match object {
+        Object::Service(service) => shown_service(alloc, view, version, service),
+        Object::Slice(slice) => shown_slice(alloc, view, version, slice),
+        Object::Pool(_)
+        | Object::L2(_)
+        | Object::Bgp(_)
+        | Object::Peer(_)
+        | Object::Community(_)
+        | Object::Namespace(_)
+        | Object::Node(_) => Ok(Vec::new(alloc)),
+    }
+}
+
+/// Those that a service records, as it was held and as it is shown, where it is newer.
+fn shown_service(
+    alloc: Global,
+    view: &View,
+    version: u64,
+    service: &Service,
+) -> Result<Vec<Address>, NoMemory>
+    ensures { IfOk result (λ found. found.items ≡ (if is_newer key_cmp view.now.held.services service.now.key version
+        then recorded_at view.now service.now.key ++ service.now.holding.addresses else [])) }
+{
+    if version <= view.services().version_of(&service.key) {
+        return Ok(Vec::new(alloc));
+    }
+    let mut found = recorded_at(alloc, view, &service.key)?;
+    found.extend_from_slice(service.holding.addresses.as_slice())?;
+    Ok(found)
+}
+
+/// Those of the services of a slice, as it was held and as it is shown, where it is newer.
+fn shown_slice(
+    alloc: Global,
+    view: &View,
+    version: u64,
+    slice: &EndpointSlice,
+) -> Result<Vec<Address>, NoMemory>
+    ensures { IfOk result (λ found. found.items ≡ (if is_newer key_cmp view.now.held.slices slice.now.key version
+        then served_at view.now slice.now.key ++ served_by view.now (Some slice.now) else [])) }
+{
+    if version <= view.slices().version_of(&slice.key) {
+        return Ok(Vec::new(alloc));
+    }
+    let mut found = served_at(alloc, view, &slice.key)?;
+    push_served(&mut found, view, slice)?;
+    Ok(found)
+}
+
+fn deleted_addresses(
+    alloc: Global,
+    view: &View,
+    kind: Kind,
+    key: &Key,
+) -> Result<Vec<Address>, NoMemory>
+    ensures { IfOk result (λ found. found.items ≡ deleted_addresses view.now kind key.now) }
+{
+    match kind {
+        Kind::Service => recorded_at(alloc, view, key),
+        Kind::Slice => served_at(alloc, view, key),
+        Kind::Pool
+        | Kind::L2
+        | Kind::Bgp
+        | Kind::Peer
+        | Kind::Community
+        | Kind::Namespace
+        | Kind::Node => Ok(Vec::new(alloc)),
+    }
+}
+
+/// Those that the held service of this key records.
+fn recorded_at(alloc: Global, view: &View, key: &Key) -> Result<Vec<Address>, NoMemory>
+    ensures { IfOk result (λ found. found.items ≡ recorded_at view.now key.now) }
+{
+    let mut found = Vec::new(alloc);
+    if let Some(service) = view.services().get(key) {
+        found.extend_from_slice(service.holding.addresses.as_slice())?;
+    }
+    Ok(found)
+}
+
+/// Those of the service of the held slice of this key.
+fn served_at(alloc: Global, view: &View, key: &Key) -> Result<Vec<Address>, NoMemory>
+    ensures { IfOk result (λ found. found.items ≡ served_at view.now key.now) }
+{
+    let mut found = Vec::new(alloc);
+    if let Some(slice) = view.slices().get(key) {
+        push_served(&mut found, view, slice)?;
+    }
+    Ok(found)
+}
+
+/// Adds those of the service that the slice is of, which is held under its own key.
+fn push_served(found: &mut Vec<Address>, view: &View, slice: &EndpointSlice) -> Result<(), NoMemory>
+    ensures { OnOk result (found.new.items ≡ found.old.items ++ served_by view.now (Some slice.now)) }
+{
+    let key = service_of(slice)?;
+    if let Some(service) = view.service(&key) {
+        found.extend_from_slice(service.holding.addresses.as_slice())?;
+    }
+    Ok(())
+}

@@ -1,0 +1,361 @@
+//! Which held services record an address, and which held endpoint slices are of a service, by their keys.
+ghost use Rattle.std.specs.Prelude.{◌≡◌, ◌&&◌, ◌||◌, not, true, false, OnOk, IfOk};
+ghost use Rattle.std.specs.Option.{option_copied};
+ghost use Rattle.std.specs.List.{list_any};
+ghost use Rattle.std.specs.Map.{keys_of};
+ghost use Rattle.ip_ranges.specs.Values.{AddressValue, has_address, same_address};
+ghost use Rattle.kube_model.specs.Keys.{key_cmp, same_key};
+ghost use Rattle.kube_model.specs.declared.key.Key.{Key as KeyValue};
+ghost use Rattle.versioned_map.specs.Entries.{object_at};
+ghost use Rattle.object_history.specs.Cache.{nothing};
+ghost use Rattle.grouped_keys.specs.Grouped.{is_in};
+ghost use Rattle.speaker_view.specs.Endpoints.{is_slice_of, slice_serves, some_serves};
+ghost use Rattle.speaker_view.specs.Grouped.{service_of};
+ghost use Rattle.speaker_view.specs.Held.{objects_of};
+ghost use Rattle.speaker_view.specs.Index.{Covers, Grows, HasObject, HasShown, IsUnderAll, is_of_in, is_recorder, is_slice, passes, records_in};
+
+use crate::endpoints::{is_slice_of, slice_serves};
+use grouped_keys::GroupedKeys;
+use ip_ranges::Address;
+use kube_labels::Text;
+use kube_model::{EndpointSlice, Event, Group, Key, Kind, Object, Policy, Service};
+use mlb_base::{NoMemory, TryCopy};
+use object_cache::ObjectCache;
+use std::alloc::Global;
+use std::collections::BTreeSet;
+use std::collections::btree_map::Keys;
+use versioned_map::VersionedMap;
+
+/// Which held services record an address, and which held endpoint slices are of a service, by their keys. Keys of others may stand
+/// there too: what is found by one is looked at before it counts.
+#[derive(Drop)]
+pub(crate) struct Index {
+    recorders: GroupedKeys<Address, Key>,
+    slices: GroupedKeys<Key, Key>,
+}
+
+/// A key that stands in a group.
+#[derive(Drop)]
+struct Place<G> {
+    group: G,
+    key: Key,
+}
+
+/// Keys that may not be needed any more where an event was applied.
+#[derive(Drop)]
+pub(crate) struct Stale {
+    recorders: Vec<Place<Address>>,
+    slices: Vec<Place<Key>>,
+}
+
+impl Index {
+    /// No key stands anywhere. This takes no memory.
+    pub(crate) fn new(alloc: Global) -> Index
+        ensures { Covers result nothing }
+    {
+        Index {
+            recorders: GroupedKeys::new(alloc),
+            slices: GroupedKeys::new(alloc),
+        }
+    }
+
+    /// The keys that stand under the address.
+    pub(crate) fn recorders(&self, address: &Address) -> Option<&BTreeSet<Key>>
+        ensures { (key : KeyValue) → is_in key_cmp (option_copied result) key ≡ is_recorder self.now address.now key }
+    {
+        self.recorders.keys(address)
+    }
+
+    /// The addresses under which keys stand.
+    pub(crate) fn addresses(&self) -> Keys<'_, Address, BTreeSet<Key>>
+        ensures { result ≡ keys_of self.now.recorders }
+    {
+        self.recorders.groups()
+    }
+
+    /// Whether some slice of the service has an endpoint that serves the node. It looks at the slices of the service alone.
+    pub(crate) fn serves(&self, cache: &ObjectCache, key: &Key, policy: Policy, node: &Text) -> bool
+        requires { Covers self.now cache.now }
+        ensures { result ≡ some_serves (objects_of cache.now.slices) key.now policy node.now }
+    {
+        let _ascending = cache.slices().len();
+        match self.slices.keys(key) {
+            None => false,
+            Some(keys) => any_serves(cache, keys, key, policy, node),
+        }
+    }
+
+    /// Makes place for the object that the event shows.
+    pub(crate) fn add_shown(&mut self, event: &Event) -> Result<(), NoMemory>
+        ensures grows { Grows self.old self.new }
+        ensures has { OnOk result (HasShown self.new event.now) }
+    {
+        match event {
+            Event::Changed { object, .. } => self.add_object(object),
+            Event::Deleted { .. }
+            | Event::ListEnd { .. }
+            | Event::Expired
+            | Event::Members { .. }
+            | Event::Frame { .. }
+            | Event::Ignored => Ok(()),
+        }
+    }
+
+    fn add_object(&mut self, object: &Object) -> Result<(), NoMemory>
+        ensures grows { Grows self.old self.new }
+        ensures has { OnOk result (HasObject self.new object.now) }
+    {
+        match object {
+            Object::Service(service) => self.add_service(service),
+            Object::Slice(slice) => self.add_slice(slice),
+            Object::Pool(_)
+            | Object::L2(_)
+            | Object::Bgp(_)
+            | Object::Peer(_)
+            | Object::Community(_)
+            | Object::Namespace(_)
+            | Object::Node(_) => Ok(()),
+        }
+    }
+
+    /// The service's key comes under each address that it records.
+    fn add_service(&mut self, service: &Service) -> Result<(), NoMemory>
+        ensures grows { Grows self.old self.new }
+        ensures has { OnOk result (IsUnderAll self.new service.now.key service.now) }
+    {
+        let addresses = service.holding.addresses.as_slice();
+        for address in addresses {
+            self.add_recorder(address, &service.key)?;
+        }
+        Ok(())
+    }
+
+    fn add_recorder(&mut self, address: &Address, key: &Key) -> Result<(), NoMemory>
+        ensures grows { Grows self.old self.new }
+        ensures has { OnOk result (is_recorder self.new address.now key.now ≡ true) }
+    {
+        let key = key.copy()?;
+        self.recorders.insert(*address, key)
+    }
+
+    /// The endpoint slice's key comes under its service.
+    fn add_slice(&mut self, slice: &EndpointSlice) -> Result<(), NoMemory>
+        ensures grows { Grows self.old self.new }
+        ensures has { OnOk result (is_slice self.new (service_of slice.now) slice.now.key ≡ true) }
+    {
+        let service = service_of(slice)?;
+        let key = slice.key.copy()?;
+        self.slices.insert(service, key)
+    }
+
+    /// Takes out those of the keys that aren't needed for what is held. This takes no memory.
+    pub(crate) fn forget(&mut self, cache: &ObjectCache, stale: &Stale)
+        requires { Covers self.old cache.now }
+        ensures { Covers self.new cache.now }
+    {
+        for place in stale.recorders.as_slice() {
+            self.forget_recorder(cache, &place.group, &place.key);
+        }
+        for place in stale.slices.as_slice() {
+            self.forget_slice(cache, &place.group, &place.key);
+        }
+    }
+
+    fn forget_recorder(&mut self, cache: &ObjectCache, address: &Address, key: &Key)
+        requires { Covers self.old cache.now }
+        ensures { Covers self.new cache.now }
+    {
+        if records_at(cache, key, address) {
+            return;
+        }
+        self.recorders.remove(address, key);
+    }
+
+    fn forget_slice(&mut self, cache: &ObjectCache, service: &Key, key: &Key)
+        requires { Covers self.old cache.now }
+        ensures { Covers self.new cache.now }
+    {
+        if is_of_at(cache, key, service) {
+            return;
+        }
+        self.slices.remove(service, key);
+    }
+}
+
+/// The key of the service that the slice is of.
+pub(crate) fn service_of(slice: &EndpointSlice) -> Result<Key, NoMemory>
+    ensures { IfOk result (λ key. key ≡ service_of slice.now) }
+{
+    Ok(Key {
+        namespace: slice.key.namespace.copy()?,
+        name: slice.service.copy()?,
+    })
+}
+
+/// Whether a service of this key is held and records the address.
+fn records_at(cache: &ObjectCache, key: &Key, address: &Address) -> bool
+    ensures { result ≡ records_in (object_at key_cmp cache.now.services key.now) address.now }
+{
+    match cache.service(key) {
+        None => false,
+        Some(service) => records(service, address),
+    }
+}
+
+/// Whether a service of one of these keys is held and records the address.
+pub(crate) fn one_records(cache: &ObjectCache, keys: &BTreeSet<Key>, address: &Address) -> bool
+    ensures { result ≡ list_any (λ key. records_in (object_at key_cmp cache.now.services key) address.now) keys.now.keys }
+{
+    for key in keys {
+        if records_at(cache, key, address) {
+            return true;
+        }
+    }
+    false
+}
+
+/// Whether the address is one of those that the service records.
+pub(crate) fn records(service: &Service, address: &Address) -> bool
+    ensures { result ≡ has_address service.now.holding.addresses address.now }
+{
+    service.holding.addresses.as_slice().contains(address)
+}
+
+/// Whether an endpoint slice of this key is held and is one of the service's.
+fn is_of_at(cache: &ObjectCache, key: &Key, service: &Key) -> bool
+    ensures { result ≡ is_of_in (object_at key_cmp cache.now.slices key.now) service.now }
+{
+    match cache.slices().get(key) {
+        None => false,
+        Some(slice) => is_slice_of(service, slice),
+    }
+}
+
+/// Whether a slice of one of these keys is held, is one of the service's and serves the node.
+fn any_serves(
+    cache: &ObjectCache,
+    keys: &BTreeSet<Key>,
+    service: &Key,
+    policy: Policy,
+    node: &Text,
+) -> bool
+    ensures { result ≡ list_any (λ key. passes (slice_serves service.now policy node.now) (object_at key_cmp cache.now.slices key)) keys.now.keys }
+{
+    for key in keys {
+        if serves_at(cache, key, service, policy, node) {
+            return true;
+        }
+    }
+    false
+}
+
+fn serves_at(cache: &ObjectCache, key: &Key, service: &Key, policy: Policy, node: &Text) -> bool
+    ensures { result ≡ passes (slice_serves service.now policy node.now) (object_at key_cmp cache.now.slices key.now) }
+{
+    match cache.slices().get(key) {
+        None => false,
+        Some(slice) => slice_serves(service, policy, node, slice),
+    }
+}
+
+impl Stale {
+    /// The keys that may not be needed any more where the event is applied.
+    pub(crate) fn by(alloc: Global, cache: &ObjectCache, event: &Event) -> Result<Stale, NoMemory> {
+        let mut stale = Stale {
+            recorders: Vec::new(alloc),
+            slices: Vec::new(alloc),
+        };
+        match event {
+            Event::Changed { object, .. } => stale.add_replaced(cache, object)?,
+            Event::Deleted { kind, key } => stale.add_deleted(cache, *kind, key)?,
+            Event::ListEnd { group } => stale.add_unlisted(cache, *group)?,
+            Event::Expired | Event::Members { .. } | Event::Frame { .. } | Event::Ignored => {}
+        }
+        Ok(stale)
+    }
+
+    fn add_replaced(&mut self, cache: &ObjectCache, object: &Object) -> Result<(), NoMemory> {
+        match object {
+            Object::Service(service) => self.add_deleted(cache, Kind::Service, &service.key),
+            Object::Slice(slice) => self.add_deleted(cache, Kind::Slice, &slice.key),
+            Object::Pool(_)
+            | Object::L2(_)
+            | Object::Bgp(_)
+            | Object::Peer(_)
+            | Object::Community(_)
+            | Object::Namespace(_)
+            | Object::Node(_) => Ok(()),
+        }
+    }
+
+    fn add_deleted(&mut self, cache: &ObjectCache, kind: Kind, key: &Key) -> Result<(), NoMemory> {
+        match kind {
+            Kind::Service => match cache.service(key) {
+                Some(service) => self.add_service(service),
+                None => Ok(()),
+            },
+            Kind::Slice => match cache.slices().get(key) {
+                Some(slice) => self.add_slice(slice),
+                None => Ok(()),
+            },
+            Kind::Pool
+            | Kind::L2
+            | Kind::Bgp
+            | Kind::Peer
+            | Kind::Community
+            | Kind::Namespace
+            | Kind::Node => Ok(()),
+        }
+    }
+
+    /// What isn't listed is dropped at the end of the list.
+    fn add_unlisted(&mut self, cache: &ObjectCache, group: Group) -> Result<(), NoMemory> {
+        match group {
+            Group::Config => Ok(()),
+            Group::Service => self.add_unlisted_services(cache.services()),
+            Group::Endpoint => self.add_unlisted_slices(cache.slices()),
+        }
+    }
+
+    fn add_unlisted_services(
+        &mut self,
+        services: &VersionedMap<Key, Service>,
+    ) -> Result<(), NoMemory> {
+        for (_, held) in services.iter() {
+            if held.version == 0 {
+                self.add_service(&held.object)?;
+            }
+        }
+        Ok(())
+    }
+
+    fn add_unlisted_slices(
+        &mut self,
+        slices: &VersionedMap<Key, EndpointSlice>,
+    ) -> Result<(), NoMemory> {
+        for (_, held) in slices.iter() {
+            if held.version == 0 {
+                self.add_slice(&held.object)?;
+            }
+        }
+        Ok(())
+    }
+
+    fn add_service(&mut self, service: &Service) -> Result<(), NoMemory> {
+        for address in service.holding.addresses.as_slice() {
+            let key = service.key.copy()?;
+            self.recorders.push(Place {
+                group: *address,
+                key,
+            })?;
+        }
+        Ok(())
+    }
+
+    fn add_slice(&mut self, slice: &EndpointSlice) -> Result<(), NoMemory> {
+        let group = service_of(slice)?;
+        let key = slice.key.copy()?;
+        self.slices.push(Place { group, key })?;
+        Ok(())
+    }
+}

@@ -97,30 +97,33 @@ class Users:
 
     def want_taken(self):
         """A service asks for the address that another one has."""
-        kind, name = BY_NAME["Service"], self.random.choice(NAMES)
         with self.store.lock:
-            holders = self.holders()
-            if not holders:
-                return
-            address, = record_of(self.random.choice(list(holders.values()))).addresses
-            key = self.random.choice(list(SPACES)), name
-            thing = copy.deepcopy(self.store.objects[kind].get(key)) or self.service(name)
-            thing["metadata"].setdefault("annotations", {})[ADDRESSES] = printed(address)
-            if "resourceVersion" in thing["metadata"]:
-                self.store.update(kind, key, thing)
-            else:
-                self.store.create(kind, key[0], thing)
+            holders = list(self.holders().values())
+            if holders:
+                self.want(self.random.choice(holders))
+
+    def want(self, holder):
+        kind, key = BY_NAME["Service"], (self.random.choice(list(SPACES)), self.random.choice(NAMES))
+        address, = record_of(holder).addresses
+        thing = copy.deepcopy(self.store.objects[kind].get(key)) or self.service(key[1])
+        thing["metadata"].setdefault("annotations", {})[ADDRESSES] = printed(address)
+        if "resourceVersion" in thing["metadata"]:
+            self.store.update(kind, key, thing)
+        else:
+            self.store.create(kind, key[0], thing)
 
     def give_up(self):
-        """A service that has an address asks for what it can't have, so that the controller takes the address away."""
+        """A service that has an address asks for what it can't have, so that the controller takes the address away; in half of the cases others ask for it
+        before."""
         with self.store.lock:
-            holders = self.holders()
-            if not holders:
-                return
-            key = self.random.choice(list(holders))
-            name, value = self.random.choice([(POOL, "p9"), (ADDRESSES, "203.0.113.1"), (ADDRESSES, "x")])
-            holders[key]["metadata"].setdefault("annotations", {})[name] = value
-            self.store.update(BY_NAME["Service"], key, holders[key])
+            key = self.random.choice(list(self.holders()) or [None])
+            for _ in range(self.random.choice([0, 0, 2, 3]) if key else 0):
+                self.want(self.holders()[key])
+            thing = self.holders().get(key)
+            if thing:
+                name, value = self.random.choice([(POOL, "p9"), (ADDRESSES, "203.0.113.1"), (ADDRESSES, "x")])
+                thing["metadata"].setdefault("annotations", {})[name] = value
+                self.store.update(BY_NAME["Service"], key, thing)
 
     def service(self, name):
         thing = {"metadata": {"name": name}, "spec": {"type": "LoadBalancer", "selector": {"app": "web"}, "ports": self.ports()}}

@@ -125,14 +125,7 @@ fn told_since(
         ++ updates_with before.old.tables view.now station.now.node station.now.next_hop) }
     ensures announcers { OnOk result (AreKeptFor before.new.announcers view.now) }
 {
-    let mut entries = changed_entries(
-        alloc,
-        view,
-        station,
-        note,
-        change,
-        &mut before.announcers,
-    )?;
+    let mut entries = changed_entries(alloc, view, station, note, change, &mut before.announcers)?;
     let tables = before.tables.as_slice();
     let Ok(()) = push_updates(alloc, &mut entries, view, station, tables) else {
         drop(entries);

@@ -5,6 +5,6 @@ use Rattle.mlb_speaker.proofs.changes.told_since.Goals as goal
 
 pub returns-clause-entries : goal.returns-clause-entries
 returns-clause-entries c =
-    λ was kept. rw (← c.as_slice.ensures)
+    λ was kept. rw (← c.as_slice-tables.ensures)
     (c.in-Ok.ensures
-    ∙ ap (λ (es : List Entry). es ++ updates_with c.as_slice.result.now c.args.view.now c.args.station.now.node c.args.station.now.next_hop) (c.in_ok-entries.ensures.entries was kept))
+    ∙ ap (λ (es : List Entry). es ++ updates_with c.as_slice-tables.result.now c.args.view.now c.args.station.now.node c.args.station.now.next_hop) (c.in_ok-entries.ensures.entries was kept))

@@ -81,7 +81,8 @@ fn make_all(
     Ok(())
 }
 
-/// The steps of the history and then the crash; what is stored there is answered, and none where the controller is down.
+/// The steps of the history and then the crash; what is stored there is answered, with the word `waits` where a service waits then, and none where
+/// the controller is down.
 fn make_and_crash(
     alloc: Global,
     world: &mut World,
@@ -93,7 +94,7 @@ fn make_and_crash(
     if !was_made(world.step(Step::Crash { applied }))? {
         return Ok(None);
     }
-    Ok(Some(store_text(alloc, world.store())?))
+    Ok(Some(judged_text(alloc, world)?))
 }
 
 /// What is stored, with the word `waits` where a service waits that could have an address.

@@ -14,7 +14,7 @@ use crate::lane_machine::LaneMachine;
 use crate::opened::run_opened;
 use kube_model::{LaneName, Status};
 use lane_mail::Lane;
-use lane_run::{Lanes, PacedWait, WatchedFiles};
+use lane_run::{Lanes, MailWait, PacedWait, WatchedFiles};
 use line_run::PacedSource;
 use mlb_edge::{LineReader, OpenEnd, Sink};
 use std::alloc::Global;
@@ -29,7 +29,7 @@ use std::thread::Threads;
 /// is taken all the same.
 pub fn run_lane_files<
     M: LaneMachine + Lanes + Drop + Send,
-    R: Threads + PacedWait + Sync,
+    R: Threads + PacedWait<K> + MailWait + Sync,
     F: WatchedFiles,
     I: PacedSource<K> + Send,
     K: Sink + Send,
@@ -56,13 +56,14 @@ pub fn run_lane_files<
         (outside r (source_view (I.left i) (I.name i) (I.faults i)) (K.written o) (K.faults o))) }
 
     // The next item may be waited for where just the text of all items taken before stands written, with all replies to them heard. Nothing
-    // else is known of when it may, so nothing is held back while a lane is waited for.
-    requires waits { MayBeAwaited R.may_wait rt.now (AnswersAll M.rules (M.state machine)
+    // else is known of when it may, and it can be waited for beside a sink of this type alone, so nothing is held back of `out` while a lane is
+    // waited for.
+    requires waits { MayBeAwaited R.may_wait rt.now K.written (AnswersAll M.rules (M.state machine)
         (outside unread (source_view (I.left input.old) (I.name input.old) (I.faults input.old))
         (K.written out.old) (K.faults out.old))) }
 
     // What the lanes still send may be dropped where the machine stopped at the last item taken, or at a reply behind it, and nowhere else.
-    requires drops { MayBeAwaited R.may_drop rt.now (HasStopped M.rules (M.state machine)
+    requires drops { MayBeAwaited R.may_drop rt.now K.written (HasStopped M.rules (M.state machine)
         (outside unread (source_view (I.left input.old) (I.name input.old) (I.faults input.old))
         (K.written out.old) (K.faults out.old))) }
 

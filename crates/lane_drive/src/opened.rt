@@ -13,7 +13,7 @@ use crate::lane_machine::LaneMachine;
 use crate::replies::Replies;
 use crate::status::{are_known, status_of_lanes};
 use kube_model::Status;
-use lane_run::{LaneRun, Lanes, PacedWait, WatchedSource, run_lanes};
+use lane_run::{LaneRun, Lanes, MailWait, PacedWait, WatchedSource, run_lanes};
 use line_run::PacedSource;
 use mlb_edge::{LineReader, Sink};
 use std::alloc::Global;
@@ -23,7 +23,7 @@ use std::thread::Threads;
 /// are replies, the input is at its end then.
 pub(crate) fn run_opened<
     M: LaneMachine + Lanes + Drop + Send,
-    R: Threads + PacedWait + Sync,
+    R: Threads + PacedWait<K> + MailWait + Sync,
     S: WatchedSource + Send,
     I: PacedSource<K> + Send,
     K: Sink + Send,
@@ -45,10 +45,10 @@ pub(crate) fn run_opened<
         (outside reader.old (source_view (I.left input.old) (I.name input.old) (I.faults input.old))
         (K.written out.old) (K.faults out.old))
         (outside r (source_view (I.left i) (I.name i) (I.faults i)) (K.written o) (K.faults o))) }
-    requires waits { MayBeAwaited R.may_wait rt.now (AnswersAll M.rules (M.state machine)
+    requires waits { MayBeAwaited R.may_wait rt.now K.written (AnswersAll M.rules (M.state machine)
         (outside reader.old (source_view (I.left input.old) (I.name input.old) (I.faults input.old))
         (K.written out.old) (K.faults out.old))) }
-    requires drops { MayBeAwaited R.may_drop rt.now (HasStopped M.rules (M.state machine)
+    requires drops { MayBeAwaited R.may_drop rt.now K.written (HasStopped M.rules (M.state machine)
         (outside reader.old (source_view (I.left input.old) (I.name input.old) (I.faults input.old))
         (K.written out.old) (K.faults out.old))) }
     ensures ended { EndsSo M.belongs M.rules (M.state machine)

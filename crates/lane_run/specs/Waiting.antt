@@ -2,6 +2,6 @@
 use Rattle.std.specs.Prelude.{ℕ, List, Option}
 use Rattle.lane_mail.specs.declared.item.Item.{Item}
 
--- it may be waited for, or dropped, wherever this is so of the items that were taken and of what stands written
-abbrev pub MayBeAwaited : {R : Type 0} → (R → List Item → Option (List ℕ) → Type 0) → R → (List Item → Option (List ℕ) → Type 0) → Type 0
-MayBeAwaited may_wait rt Where = (items : List Item) (written : Option (List ℕ)) → Where items written → may_wait rt items written
+-- it may be waited for, or dropped, wherever this is so of the items that were taken and of what the sink tells as written
+abbrev pub MayBeAwaited : {R K : Type 0} → (R → List Item → K → Type 0) → R → (written : K → Option (List ℕ)) → (List Item → Option (List ℕ) → Type 0) → Type 0
+MayBeAwaited {R} {K} may_wait rt written Where = (items : List Item) (out : K) → Where items (written out) → may_wait rt items out

@@ -22,7 +22,7 @@ pub use lane_end::LaneEnd;
 pub use lane_run::LaneRun;
 pub use lanes::Lanes;
 pub use laws::lanes_stop_first;
-pub use paced::PacedWait;
+pub use paced::{MailWait, PacedWait};
 pub use reconciler::Reconciler;
 pub use running::run_lanes;
 pub use watched::{WatchPass, WatchedFiles, WatchedSource};

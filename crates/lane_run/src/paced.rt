@@ -1,5 +1,5 @@
 //! Waiting for lanes, only at times.
-ghost use Rattle.std.specs.Prelude.{◌≡◌, ◌^◌, ◌<◌, ◌≤◌, ◌↔◌, ◌++◌, ◌∷◌, [], ⊤, ℕ, List, Option, length, OnOk, IfErr};
+ghost use Rattle.std.specs.Prelude.{◌≡◌, ◌^◌, ◌<◌, ◌≤◌, ◌↔◌, ◌++◌, ◌∷◌, [], ⊤, List, length, OnOk, IfErr};
 ghost use Rattle.lane_mail.specs.Lanes.{items_of};
 ghost use Rattle.lane_mail.specs.Merges.{IsMerge};
 ghost use Rattle.lane_mail.specs.Values.{HasAll, sent_more};
@@ -11,35 +11,39 @@ use lane_mail::{InboxPass, Item, LaneDone, LanePass, Lists, Mail, PutBack, Taken
 use mlb_edge::Sink;
 use std::sync::Wait;
 
-/// May wait for lanes, and for the next item of a mail only at times, as a live bridge, which sends the next event once it has seen
-/// what those before came to.
+/// May wait for the next item of a mail only at times, as a live bridge, which sends the next event once it has seen what those before
+/// came to.
 ///
-/// It isn't a `Wait`, so nothing else can be waited for by it. A run over any such runtime therefore shows, at each call that may wait
-/// for an item, that it may be waited for, and where it drops what the lanes send that this may be dropped.
-pub trait PacedWait {
-    /// The next item may be waited for when these were taken, and this stands written, where the sink tells it.
-    ghost may_wait: { Self → List Item → Option (List ℕ) → Type 0 };
+/// It isn't a `Wait`, and an item can be waited for only beside the sink itself. What is generic over the runtime and its sink has no other
+/// sink of that type than its own. So it shows, at each call that may wait for an item, that it may be waited for when its own sink stands so,
+/// and where it drops what the lanes send that this may be dropped.
+pub trait PacedWait<K: Sink> {
+    /// The next item may be waited for when these were taken, and this is the sink.
+    ghost may_wait: { Self → List Item → K → Type 0 };
 
-    /// What the lanes still send may be dropped when these were taken, and this stands written, where the sink tells it.
-    ghost may_drop: { Self → List Item → Option (List ℕ) → Type 0 };
+    /// What the lanes still send may be dropped when these were taken, and this is the sink.
+    ghost may_drop: { Self → List Item → K → Type 0 };
 
     /// The next item, as `Mail::take` gives it. `out` is the sink that the items taken before are answered to.
-    fn take_next<K: Sink>(&self, mail: &Mail, inbox: &mut InboxPass, out: &K) -> Taken
+    fn take_next(&self, mail: &Mail, inbox: &mut InboxPass, out: &K) -> Taken
         requires mail { inbox.old.mail ≡ mail.now }
-        requires paced { may_wait self.now inbox.old.taken (K.written out.now) }
+        requires paced { may_wait self.now inbox.old.taken out.now }
         ensures mail { inbox.new.mail ≡ inbox.old.mail }
         ensures item { (item : Item) → result ≡ Taken.Item item → inbox.new.taken ≡ inbox.old.taken ++ item ∷ [] }
         ensures few { (item : Item) → result ≡ Taken.Item item → length inbox.new.taken ≤ 2 ^ 62 }
         ensures ended { (result ≡ Taken.AllEnded) ↔ ((inbox.new.taken ≡ inbox.old.taken) × HasAll inbox.new) };
 
     /// Takes all that the lanes still send, and drops it unseen. `out` is the sink that the items taken before are answered to.
-    fn drop_rest<K: Sink>(&self, mail: &Mail, inbox: &mut InboxPass, out: &K)
+    fn drop_rest(&self, mail: &Mail, inbox: &mut InboxPass, out: &K)
         requires mail { inbox.old.mail ≡ mail.now }
-        requires paced { may_drop self.now inbox.old.taken (K.written out.now) }
+        requires paced { may_drop self.now inbox.old.taken out.now }
         ensures mail { inbox.new.mail ≡ inbox.old.mail }
         ensures taken { IsBeginning inbox.old.taken inbox.new.taken }
         ensures ended { HasAll inbox.new };
+}
 
+/// The other calls of a mail. They may wait too, but give none of its items while the lanes go on.
+pub trait MailWait {
     /// `Mail::put`.
     fn put(&self, mail: &Mail, pass: &mut LanePass, item: Item) -> Result<(), PutBack>
         requires mail { pass.old.mail ≡ mail.now }
@@ -63,17 +67,17 @@ pub trait PacedWait {
         ensures merge { IsMerge inbox.taken first.sent second.sent };
 }
 
-/// What is a `Wait` may wait, and drop, at any time.
-impl<R: Wait> PacedWait for R {
+/// What is a `Wait` may wait, and drop, at any time, beside any sink.
+impl<R: Wait, K: Sink> PacedWait<K> for R {
     ghost may_wait = { λ _ _ _. ⊤ };
 
     ghost may_drop = { λ _ _ _. ⊤ };
 
-    fn take_next<K: Sink>(&self, mail: &Mail, inbox: &mut InboxPass, _out: &K) -> Taken {
+    fn take_next(&self, mail: &Mail, inbox: &mut InboxPass, _out: &K) -> Taken {
         mail.take(self, inbox)
     }
 
-    fn drop_rest<K: Sink>(&self, mail: &Mail, inbox: &mut InboxPass, _out: &K) {
+    fn drop_rest(&self, mail: &Mail, inbox: &mut InboxPass, _out: &K) {
         for _ in self.forever() {
             match mail.take(self, inbox) {
                 Taken::Item(item) => drop(item),
@@ -82,7 +86,10 @@ impl<R: Wait> PacedWait for R {
         }
         unreachable!()
     }
+}
 
+/// What is a `Wait` is one for mails.
+impl<R: Wait> MailWait for R {
     fn put(&self, mail: &Mail, pass: &mut LanePass, item: Item) -> Result<(), PutBack> {
         mail.put(self, pass, item)
     }

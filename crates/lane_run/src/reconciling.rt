@@ -15,7 +15,7 @@ use std::alloc::Global;
 
 /// Takes from the mail until both lanes have ended. Each item drives the reconciler before the next is waited for, up to the first that it
 /// refuses; what the lanes send behind that one is dropped.
-pub(crate) fn reconcile<M: Reconciler, R: PacedWait, I: PacedSource<K>, K: Sink>(
+pub(crate) fn reconcile<M: Reconciler, R: PacedWait<K>, I: PacedSource<K>, K: Sink>(
     rt: &R,
     alloc: Global,
     mail: &Mail,
@@ -31,10 +31,10 @@ pub(crate) fn reconcile<M: Reconciler, R: PacedWait, I: PacedSource<K>, K: Sink>
         (outside reader.old (source_view (I.left input.old) (I.name input.old) (I.faults input.old))
         (K.written out.old) (K.faults out.old))
         (outside r (source_view (I.left i) (I.name i) (I.faults i)) (K.written o) (K.faults o))) }
-    requires waits { MayBeAwaited R.may_wait rt.now (HasDriven M.Drives (M.state machine.old)
+    requires waits { MayBeAwaited R.may_wait rt.now K.written (HasDriven M.Drives (M.state machine.old)
         (outside reader.old (source_view (I.left input.old) (I.name input.old) (I.faults input.old))
         (K.written out.old) (K.faults out.old))) }
-    requires drops { MayBeAwaited R.may_drop rt.now (HasRefused M.Drives M.Refuses (M.state machine.old)
+    requires drops { MayBeAwaited R.may_drop rt.now K.written (HasRefused M.Drives M.Refuses (M.state machine.old)
         (outside reader.old (source_view (I.left input.old) (I.name input.old) (I.faults input.old))
         (K.written out.old) (K.faults out.old))) }
     ensures name { I.name input.new ≡ I.name input.old }

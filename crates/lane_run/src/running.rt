@@ -8,7 +8,7 @@ ghost use Rattle.line_run.specs.Answered.{MayBeAsked};
 
 use crate::lane_run::LaneRun;
 use crate::lanes::Lanes;
-use crate::paced::PacedWait;
+use crate::paced::{MailWait, PacedWait};
 use crate::reconciler::Reconciler;
 use crate::threads::run_threads;
 use crate::watched::WatchedSource;
@@ -28,7 +28,7 @@ use std::thread::Threads;
 pub fn run_lanes<
     L: Lanes + Send,
     M: Reconciler + Send,
-    R: Threads + PacedWait + Sync,
+    R: Threads + PacedWait<K> + MailWait + Sync,
     S: WatchedSource + Send,
     I: PacedSource<K> + Send,
     K: Sink + Send,
@@ -49,12 +49,12 @@ pub fn run_lanes<
         (outside r (source_view (I.left i) (I.name i) (I.faults i)) (K.written o) (K.faults o))) }
 
     // Behind each item that it took it waits for the next only where it was driven by all of them and what they came to stands written.
-    requires waits { MayBeAwaited R.may_wait rt.now (HasDriven M.Drives (M.state machine.old)
+    requires waits { MayBeAwaited R.may_wait rt.now K.written (HasDriven M.Drives (M.state machine.old)
         (outside reader.old (source_view (I.left input.old) (I.name input.old) (I.faults input.old))
         (K.written out.old) (K.faults out.old))) }
 
     // What the lanes still send is dropped only where it refused the last item that it took, and what it wrote of that stands written.
-    requires drops { MayBeAwaited R.may_drop rt.now (HasRefused M.Drives M.Refuses (M.state machine.old)
+    requires drops { MayBeAwaited R.may_drop rt.now K.written (HasRefused M.Drives M.Refuses (M.state machine.old)
         (outside reader.old (source_view (I.left input.old) (I.name input.old) (I.faults input.old))
         (K.written out.old) (K.faults out.old))) }
 

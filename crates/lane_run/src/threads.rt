@@ -10,7 +10,7 @@ ghost use Rattle.line_run.specs.Answered.{MayBeAsked};
 
 use crate::lane_end::LaneEnd;
 use crate::lanes::Lanes;
-use crate::paced::PacedWait;
+use crate::paced::{MailWait, PacedWait};
 use crate::reconciler::Reconciler;
 use crate::reconciling::reconcile;
 use crate::watched::{WatchPass, WatchedSource};
@@ -29,7 +29,7 @@ pub(crate) type Watch = (LaneDone, LaneEnd);
 pub(crate) fn run_threads<
     L: Lanes + Send,
     M: Reconciler + Send,
-    R: Threads + PacedWait + Sync,
+    R: Threads + PacedWait<K> + MailWait + Sync,
     S: WatchedSource + Send,
     I: PacedSource<K> + Send,
     K: Sink + Send,
@@ -54,10 +54,10 @@ pub(crate) fn run_threads<
         (outside reader.old (source_view (I.left input.old) (I.name input.old) (I.faults input.old))
         (K.written out.old) (K.faults out.old))
         (outside r (source_view (I.left i) (I.name i) (I.faults i)) (K.written o) (K.faults o))) }
-    requires waits { MayBeAwaited R.may_wait rt.now (HasDriven M.Drives (M.state machine.old)
+    requires waits { MayBeAwaited R.may_wait rt.now K.written (HasDriven M.Drives (M.state machine.old)
         (outside reader.old (source_view (I.left input.old) (I.name input.old) (I.faults input.old))
         (K.written out.old) (K.faults out.old))) }
-    requires drops { MayBeAwaited R.may_drop rt.now (HasRefused M.Drives M.Refuses (M.state machine.old)
+    requires drops { MayBeAwaited R.may_drop rt.now K.written (HasRefused M.Drives M.Refuses (M.state machine.old)
         (outside reader.old (source_view (I.left input.old) (I.name input.old) (I.faults input.old))
         (K.written out.old) (K.faults out.old))) }
     ensures name { I.name input.new ≡ I.name input.old }
@@ -89,10 +89,10 @@ pub(crate) fn run_threads<
                 (outside reader.now (source_view (I.left input.now) (I.name input.now) (I.faults input.now))
                 (K.written out.now) (K.faults out.now))
                 (outside r (source_view (I.left i) (I.name i) (I.faults i)) (K.written o) (K.faults o))) }
-            requires waits { MayBeAwaited R.may_wait rt.now (HasDriven M.Drives (M.state machine.now)
+            requires waits { MayBeAwaited R.may_wait rt.now K.written (HasDriven M.Drives (M.state machine.now)
                 (outside reader.now (source_view (I.left input.now) (I.name input.now) (I.faults input.now))
                 (K.written out.now) (K.faults out.now))) }
-            requires drops { MayBeAwaited R.may_drop rt.now (HasRefused M.Drives M.Refuses (M.state machine.now)
+            requires drops { MayBeAwaited R.may_drop rt.now K.written (HasRefused M.Drives M.Refuses (M.state machine.now)
                 (outside reader.now (source_view (I.left input.now) (I.name input.now) (I.faults input.now))
                 (K.written out.now) (K.faults out.now))) }
             ensures name { I.name input.exit.now ≡ I.name input.entry.now }

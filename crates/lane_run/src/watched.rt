@@ -6,7 +6,7 @@ ghost use Rattle.mlb_edge.specs.Failed.{CountsFault, IsOpened, with_failed, with
 
 use crate::lane_end::LaneEnd;
 use crate::lanes::Lanes;
-use crate::paced::PacedWait;
+use crate::paced::MailWait;
 use crate::watching::watch;
 use lane_mail::{Lane, LaneDone, LanePass, Mail};
 use mlb_base::NoMemory;
@@ -48,7 +48,7 @@ pub trait WatchedSource {
     ghost safe: { Self → Bool };
 
     /// Sends the events of its lines until it ends or something stops it, and then puts the lane's end mark.
-    fn watch<L: Lanes, R: PacedWait>(
+    fn watch<L: Lanes, R: MailWait>(
         &mut self,
         rt: &R,
         alloc: Global,
@@ -73,7 +73,7 @@ impl<S: Source> WatchedSource for S {
 
     ghost safe = { S.safe };
 
-    fn watch<L: Lanes, R: PacedWait>(
+    fn watch<L: Lanes, R: MailWait>(
         &mut self,
         rt: &R,
         alloc: Global,

@@ -9,14 +9,14 @@ ghost use Rattle.lane_run.specs.Views.{lane_view};
 use crate::lane_end::{LaneEnd, end_of};
 use crate::lanes::Lanes;
 use crate::line_items::item_of_line;
-use crate::paced::PacedWait;
+use crate::paced::MailWait;
 use crate::watched::WatchPass;
 use lane_mail::{Item, Lane, LaneDone, LanePass, Mail};
 use mlb_edge::{LineReader, Source};
 use std::alloc::Global;
 
 /// Sends the item, and answers whether there was memory for it.
-fn put_item<R: PacedWait>(rt: &R, mail: &Mail, pass: &mut LanePass, item: Item) -> bool
+fn put_item<R: MailWait>(rt: &R, mail: &Mail, pass: &mut LanePass, item: Item) -> bool
     requires mail { pass.old.mail ≡ mail.now }
     requires lane { item.lane ≡ pass.old.lane }
     requires room { length pass.old.sent < 2 ^ 61 }
@@ -33,7 +33,7 @@ fn put_item<R: PacedWait>(rt: &R, mail: &Mail, pass: &mut LanePass, item: Item) 
 }
 
 /// Reads one line and sends its event. `Some` says how the lane ended, and then nothing was sent.
-fn send_next<L: Lanes, R: PacedWait, S: Source>(
+fn send_next<L: Lanes, R: MailWait, S: Source>(
     rt: &R,
     alloc: Global,
     lane: Lane,
@@ -75,7 +75,7 @@ fn send_next<L: Lanes, R: PacedWait, S: Source>(
 }
 
 /// Sends the events of the lines, one after the other, until the lane ends.
-fn send_lines<L: Lanes, R: PacedWait, S: Source>(
+fn send_lines<L: Lanes, R: MailWait, S: Source>(
     rt: &R,
     alloc: Global,
     lane: Lane,
@@ -103,7 +103,7 @@ fn send_lines<L: Lanes, R: PacedWait, S: Source>(
 }
 
 /// Sends the events of the source, with a reader of its own.
-fn send_source<L: Lanes, R: PacedWait, S: Source>(
+fn send_source<L: Lanes, R: MailWait, S: Source>(
     rt: &R,
     alloc: Global,
     lane: Lane,
@@ -129,7 +129,7 @@ fn send_source<L: Lanes, R: PacedWait, S: Source>(
 
 /// Sends the events of the source's lines until the input ends or something stops it, and then puts the
 /// lane's end mark. The lane's pass is used up.
-pub(crate) fn watch<L: Lanes, R: PacedWait, S: Source>(
+pub(crate) fn watch<L: Lanes, R: MailWait, S: Source>(
     rt: &R,
     alloc: Global,
     lane: Lane,

@@ -36,12 +36,12 @@ LanesMayAsk bytes safe name left reads may_read written writes input out class f
     (outside reader (source_view (left source) (name source) (reads source)) (written out') (writes out')))
 
 -- the next item may be waited for wherever just the text of all items taken before stands written, with all replies to them heard
-abbrev pub LanesMayWait : {R : Type 0} → (R → List Item → Option (List ℕ) → Type 0) → R → (replies : SourceView) (written : Option (List ℕ)) (writes : ℕ) → Option (List ℕ) → LaneNames → Type 0
-LanesMayWait may_wait rt replies written writes class files = MayBeAwaited may_wait rt (AnswersAll lane_rules (fresh class) (outside lanes.unread replies written writes))
+abbrev pub LanesMayWait : {R K : Type 0} → (R → List Item → K → Type 0) → R → (replies : SourceView) (written : K → Option (List ℕ)) (writes : K → ℕ) → K → Option (List ℕ) → LaneNames → Type 0
+LanesMayWait may_wait rt replies written writes out class files = MayBeAwaited may_wait rt written (AnswersAll lane_rules (fresh class) (outside lanes.unread replies (written out) (writes out)))
 
 -- what the files still give may be dropped wherever the run stopped at the last item taken, or at a reply behind it
-abbrev pub LanesMayDrop : {R : Type 0} → (R → List Item → Option (List ℕ) → Type 0) → R → (replies : SourceView) (written : Option (List ℕ)) (writes : ℕ) → Option (List ℕ) → LaneNames → Type 0
-LanesMayDrop may_drop rt replies written writes class files = MayBeAwaited may_drop rt (HasStopped lane_rules (fresh class) (outside lanes.unread replies written writes))
+abbrev pub LanesMayDrop : {R K : Type 0} → (R → List Item → K → Type 0) → R → (replies : SourceView) (written : K → Option (List ℕ)) (writes : K → ℕ) → K → Option (List ℕ) → LaneNames → Type 0
+LanesMayDrop may_drop rt replies written writes out class files = MayBeAwaited may_drop rt written (HasStopped lane_rules (fresh class) (outside lanes.unread replies (written out) (writes out)))
 
 -- how the run ended, once both files are open
 abbrev pub LanesEnd : (List ℕ → Option (List ℕ)) → (List ℕ → Bool) → (files files' : FilesView) (replies replies' : SourceView) (before after : Option (List ℕ)) (writes writes' : ℕ) → Status → Option (List ℕ) → LaneNames → Type 0

@@ -12,7 +12,7 @@ use crate::controller::Controller;
 use command_options::LaneFiles;
 use kube_model::Status;
 use lane_drive::run_lane_files;
-use lane_run::{PacedWait, WatchedFiles};
+use lane_run::{MailWait, PacedWait, WatchedFiles};
 use line_run::PacedSource;
 use mlb_edge::Sink;
 use std::alloc::Global;
@@ -21,7 +21,7 @@ use std::thread::Threads;
 /// The run over two files, that of the configuration and that of the services, for the services of the class. The lines of the input are the
 /// replies to its puts.
 pub(crate) fn lanes_controller<
-    R: Threads + PacedWait + Sync,
+    R: Threads + PacedWait<K> + MailWait + Sync,
     F: WatchedFiles,
     S: PacedSource<K> + Send,
     K: Sink + Send,
@@ -37,10 +37,10 @@ pub(crate) fn lanes_controller<
     requires live { LanesMayAsk (F.bytes files.old) (F.safe files.old) S.name S.left S.faults S.may_read K.written K.faults input.old out.old
         (option_map (λ c. c.now) class) (lane_seen lanes) }
     requires waits { LanesMayWait R.may_wait rt.now
-        (source_view (S.left input.old) (S.name input.old) (S.faults input.old)) (K.written out.old) (K.faults out.old)
+        (source_view (S.left input.old) (S.name input.old) (S.faults input.old)) K.written K.faults out.old
         (option_map (λ c. c.now) class) (lane_seen lanes) }
     requires drops { LanesMayDrop R.may_drop rt.now
-        (source_view (S.left input.old) (S.name input.old) (S.faults input.old)) (K.written out.old) (K.faults out.old)
+        (source_view (S.left input.old) (S.name input.old) (S.faults input.old)) K.written K.faults out.old
         (option_map (λ c. c.now) class) (lane_seen lanes) }
     ensures ended { LanesEnd (F.bytes files.old) (F.safe files.old)
         (files_view (F.failed_opens files.old) (F.failed_reads files.old))

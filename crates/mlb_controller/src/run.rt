@@ -16,7 +16,7 @@ use crate::lane_files::lanes_controller;
 use crate::stream::stream_controller;
 use controller_words::{Asked, LaneFiles, controller_words};
 use kube_model::Status;
-use lane_run::{PacedWait, WatchedFiles};
+use lane_run::{MailWait, PacedWait, WatchedFiles};
 use line_run::PacedSource;
 use mlb_edge::Sink;
 use std::alloc::Global;
@@ -24,7 +24,7 @@ use std::thread::Threads;
 
 /// All that the program does: the run over one stream, where no file is opened, or that over two lane files, where the words name them.
 pub fn run_controller<
-    R: Threads + PacedWait + Sync,
+    R: Threads + PacedWait<K> + MailWait + Sync,
     F: WatchedFiles,
     S: PacedSource<K> + Send,
     K: Sink + Send,
@@ -38,15 +38,15 @@ pub fn run_controller<
         input.old out.old) }
 
     // The next event of the files may be waited for where just the text of all that were taken before stands written, with the replies to
-    // their puts heard. Nothing else is known of when it may, and the files can only be watched, so what is taken of them is waited for so:
-    // nothing is held back meanwhile. What is a `Wait` may wait at any time, and meets this.
+    // their puts heard. Nothing else is known of when it may, it can be waited for beside a sink of this type alone, and the files can only be
+    // watched: so nothing is held back of `out` meanwhile. What is a `Wait` may wait at any time, and meets this.
     requires lanes_wait { OverLanes words.now (LanesMayWait R.may_wait rt.now
-        (source_view (S.left input.old) (S.name input.old) (S.faults input.old)) (K.written out.old) (K.faults out.old)) }
+        (source_view (S.left input.old) (S.name input.old) (S.faults input.old)) K.written K.faults out.old) }
 
     // What the files still give may be dropped where the run stopped at the last event taken, or at the reply to its put, and what it wrote of
     // that stands written; and nowhere else.
     requires lanes_drop { OverLanes words.now (LanesMayDrop R.may_drop rt.now
-        (source_view (S.left input.old) (S.name input.old) (S.faults input.old)) (K.written out.old) (K.faults out.old)) }
+        (source_view (S.left input.old) (S.name input.old) (S.faults input.old)) K.written K.faults out.old) }
 
     ensures no_file { AskNoLanes (texts_of words.now) → files.new ≡ files.old }
     ensures can_end { AskNoLanes (texts_of words.now) → CanEnd result }

@@ -29,12 +29,12 @@ abbrev pub opened : (List ℕ → Option (List ℕ)) → (List ℕ → Bool) →
 opened bytes safe file = lane_view (bytes file) (Some file) 0 (safe file)
 
 -- the next item may be waited for wherever just the text of all items taken before stands written
-abbrev pub LanesMayWait : {Z R : Type 0} → List (String Z) → (R → List Item → Option (List ℕ) → Type 0) → R → (input : SourceView) (written : Option (List ℕ)) (faults : ℕ) → Type 0
-LanesMayWait words may_wait rt input written faults = OverLanes words (λ files. MayBeAwaited may_wait rt (AnswersAll lane_rules (begun_by words) (outside drive.unread input written faults)))
+abbrev pub LanesMayWait : {Z R K : Type 0} → List (String Z) → (R → List Item → K → Type 0) → R → (input : SourceView) → (K → Option (List ℕ)) → (K → ℕ) → K → Type 0
+LanesMayWait words may_wait rt input written faults out = OverLanes words (λ files. MayBeAwaited may_wait rt written (AnswersAll lane_rules (begun_by words) (outside drive.unread input (written out) (faults out))))
 
 -- what the files still give may be dropped wherever the run stopped at the last item taken
-abbrev pub LanesMayDrop : {Z R : Type 0} → List (String Z) → (R → List Item → Option (List ℕ) → Type 0) → R → (input : SourceView) (written : Option (List ℕ)) (faults : ℕ) → Type 0
-LanesMayDrop words may_drop rt input written faults = OverLanes words (λ files. MayBeAwaited may_drop rt (HasStopped lane_rules (begun_by words) (outside drive.unread input written faults)))
+abbrev pub LanesMayDrop : {Z R K : Type 0} → List (String Z) → (R → List Item → K → Type 0) → R → (input : SourceView) → (K → Option (List ℕ)) → (K → ℕ) → K → Type 0
+LanesMayDrop words may_drop rt input written faults out = OverLanes words (λ files. MayBeAwaited may_drop rt written (HasStopped lane_rules (begun_by words) (outside drive.unread input (written out) (faults out))))
 
 -- how the run ended, once both files are open
 abbrev pub EndsLanes : {Z K : Type 0} → List (String Z) → Status → (List ℕ → Option (List ℕ)) → (List ℕ → Bool) → (seen seen' : FilesView) (input input' : SourceView) → (K → Option (List ℕ)) → (K → ℕ) → K → K → Type 0

@@ -13,7 +13,7 @@ use crate::speaker::Speaker;
 use crate::stream::stream_speaker;
 use kube_model::Status;
 use lane_drive::run_lane_files;
-use lane_run::{PacedWait, WatchedFiles};
+use lane_run::{MailWait, PacedWait, WatchedFiles};
 use line_run::PacedSource;
 use mlb_edge::Sink;
 use speaker_words::speaker_words;
@@ -23,7 +23,7 @@ use std::thread::Threads;
 /// All that the program does: where the words name two lane files, the run over these, which doesn't read the input; else the run over one
 /// stream, which opens no file.
 pub fn run_speaker<
-    R: Threads + PacedWait + Sync,
+    R: Threads + PacedWait<K> + MailWait + Sync,
     F: WatchedFiles,
     S: PacedSource<K> + Send,
     K: Sink + Send,
@@ -33,15 +33,15 @@ pub fn run_speaker<
     requires live { MayAskAnswered words.now S.name S.left S.may_read K.written input.old out.old }
 
     // Over two files the next event may be waited for where just the text of all that were taken before stands written. Nothing else is known
-    // of when it may, and the files can only be watched, so what is taken of them is waited for so: nothing is held back meanwhile. What is a
-    // `Wait` may wait at any time.
+    // of when it may, it can be waited for beside a sink of this type alone, and the files can only be watched: so nothing is held back of `out`
+    // meanwhile. What is a `Wait` may wait at any time.
     requires lanes_wait { LanesMayWait words.now R.may_wait rt.now
-        (source_view (S.left input.old) (S.name input.old) (S.faults input.old)) (K.written out.old) (K.faults out.old) }
+        (source_view (S.left input.old) (S.name input.old) (S.faults input.old)) K.written K.faults out.old }
 
     // What the files still give may be dropped where the run stopped at the last event taken, and what it wrote of that stands written; and
     // nowhere else.
     requires lanes_drop { LanesMayDrop words.now R.may_drop rt.now
-        (source_view (S.left input.old) (S.name input.old) (S.faults input.old)) (K.written out.old) (K.faults out.old) }
+        (source_view (S.left input.old) (S.name input.old) (S.faults input.old)) K.written K.faults out.old }
 
     ensures no_file { InStream words.now (files.new ≡ files.old) }
     ensures can_end { InStream words.now (CanEnd result) }

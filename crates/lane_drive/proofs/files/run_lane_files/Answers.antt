@@ -17,21 +17,21 @@ run_opened-status-requires-clause-live g c = λ _ _ i r o name more.
     (outside r (source_view (g.I.PacedSource.left i) (g.I.PacedSource.name i) (g.I.PacedSource.faults i)) (g.K.Sink.written o) (g.K.Sink.faults o))) more)
 
 pub run_opened-status-requires-clause-waits : goal.run_opened-status-requires-clause-waits
-run_opened-status-requires-clause-waits g c = λ _ _ items written answers.
-    c.requires.waits items written
+run_opened-status-requires-clause-waits g c = λ _ _ items out answers.
+    c.requires.waits items out
     (subst
     (λ (reader : Reading). AnswersAll g.M.LaneMachine.rules (g.M.LaneMachine.state c.args.machine)
     (outside reader (source_view (g.I.PacedSource.left c.args.input.now) (g.I.PacedSource.name c.args.input.now) (g.I.PacedSource.faults c.args.input.now)) (g.K.Sink.written c.args.out.now) (g.K.Sink.faults c.args.out.now))
-    items written)
+    items (g.K.Sink.written out))
     c.in-Ok.ensures answers)
 
 pub run_opened-status-requires-clause-drops : goal.run_opened-status-requires-clause-drops
-run_opened-status-requires-clause-drops g c = λ _ _ items written stopped.
-    c.requires.drops items written
+run_opened-status-requires-clause-drops g c = λ _ _ items out stopped.
+    c.requires.drops items out
     (subst
     (λ (reader : Reading). HasStopped g.M.LaneMachine.rules (g.M.LaneMachine.state c.args.machine)
     (outside reader (source_view (g.I.PacedSource.left c.args.input.now) (g.I.PacedSource.name c.args.input.now) (g.I.PacedSource.faults c.args.input.now)) (g.K.Sink.written c.args.out.now) (g.K.Sink.faults c.args.out.now))
-    items written)
+    items (g.K.Sink.written out))
     c.in-Ok.ensures stopped)
 
 pub returns-in_default-clause-ended : goal.returns-in_default-clause-ended

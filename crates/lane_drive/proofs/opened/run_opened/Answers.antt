@@ -9,12 +9,12 @@ run_lanes-ran-requires-clause-live g c = λ _ _ i r o name asks.
     c.requires.live i r o name (inl (awaits_in g.M.LaneMachine.rules (g.M.LaneMachine.state c.args.machine) _ _ c.requires.quiet asks))
 
 pub run_lanes-ran-requires-clause-waits : goal.run_lanes-ran-requires-clause-waits
-run_lanes-ran-requires-clause-waits g c = λ _ _ items written has.
-    c.requires.waits items written (answers_in g.M.LaneMachine.rules (g.M.LaneMachine.state c.args.machine) _ items written c.requires.quiet has)
+run_lanes-ran-requires-clause-waits g c = λ _ _ items out has.
+    c.requires.waits items out (answers_in g.M.LaneMachine.rules (g.M.LaneMachine.state c.args.machine) _ items (g.K.Sink.written out) c.requires.quiet has)
 
 pub run_lanes-ran-requires-clause-drops : goal.run_lanes-ran-requires-clause-drops
-run_lanes-ran-requires-clause-drops g c = λ _ _ items written has.
-    c.requires.drops items written (stopped_in g.M.LaneMachine.rules (g.M.LaneMachine.state c.args.machine) _ items written c.requires.quiet has)
+run_lanes-ran-requires-clause-drops g c = λ _ _ items out has.
+    c.requires.drops items out (stopped_in g.M.LaneMachine.rules (g.M.LaneMachine.state c.args.machine) _ items (g.K.Sink.written out) c.requires.quiet has)
 
 pub returns-in_default-clause-ended : goal.returns-in_default-clause-ended
 returns-in_default-clause-ended g c =

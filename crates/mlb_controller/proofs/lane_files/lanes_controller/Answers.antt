@@ -36,19 +36,19 @@ run_lane_files-requires-clause-live g c = λ _ _ i r o name more.
     c.in-Ok.ensures more)
 
 pub run_lane_files-requires-clause-waits : goal.run_lane_files-requires-clause-waits
-run_lane_files-requires-clause-waits g c = λ _ _ items written answers.
-    c.requires.waits items written
+run_lane_files-requires-clause-waits g c = λ _ _ items out answers.
+    c.requires.waits items out
     (subst
     (λ s. AnswersAll lane_rules s
-    (outside unread (source_view (g.S.PacedSource.left c.args.input.now) (g.S.PacedSource.name c.args.input.now) (g.S.PacedSource.faults c.args.input.now)) (g.K.Sink.written c.args.out.now) (g.K.Sink.faults c.args.out.now)) items written)
+    (outside unread (source_view (g.S.PacedSource.left c.args.input.now) (g.S.PacedSource.name c.args.input.now) (g.S.PacedSource.faults c.args.input.now)) (g.K.Sink.written c.args.out.now) (g.K.Sink.faults c.args.out.now)) items (g.K.Sink.written out))
     c.in-Ok.ensures answers)
 
 pub run_lane_files-requires-clause-drops : goal.run_lane_files-requires-clause-drops
-run_lane_files-requires-clause-drops g c = λ _ _ items written stopped.
-    c.requires.drops items written
+run_lane_files-requires-clause-drops g c = λ _ _ items out stopped.
+    c.requires.drops items out
     (subst
     (λ s. HasStopped lane_rules s
-    (outside unread (source_view (g.S.PacedSource.left c.args.input.now) (g.S.PacedSource.name c.args.input.now) (g.S.PacedSource.faults c.args.input.now)) (g.K.Sink.written c.args.out.now) (g.K.Sink.faults c.args.out.now)) items written)
+    (outside unread (source_view (g.S.PacedSource.left c.args.input.now) (g.S.PacedSource.name c.args.input.now) (g.S.PacedSource.faults c.args.input.now)) (g.K.Sink.written c.args.out.now) (g.K.Sink.faults c.args.out.now)) items (g.K.Sink.written out))
     c.in-Ok.ensures stopped)
 
 pub returns-clause-can_end : goal.returns-clause-can_end

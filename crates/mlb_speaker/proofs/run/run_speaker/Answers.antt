@@ -22,20 +22,20 @@ pub run_lane_files-requires-clause-live : goal.run_lane_files-requires-clause-li
 run_lane_files-requires-clause-live g c = λ _ _ i r o name more. absurd (asks_never _ _ _ _ _ more)
 
 pub run_lane_files-requires-clause-waits : goal.run_lane_files-requires-clause-waits
-run_lane_files-requires-clause-waits g c = λ _ _ items written answers.
+run_lane_files-requires-clause-waits g c = λ _ _ items out answers.
     (let before = outside unread (source_view (g.S.PacedSource.left c.args.input.now) (g.S.PacedSource.name c.args.input.now) (g.S.PacedSource.faults c.args.input.now))
     (g.K.Sink.written c.args.out.now) (g.K.Sink.faults c.args.out.now) in
     let begun = named-begun (texts_of c.args.words.now) (said_seen c.in-Some.said) c.in-Some.ensures.said in
-    c.requires.lanes_wait (lane_seen c.in-Some-lanes.lanes) (begun.1 ∙ ap (option_map lane_seen) c.in-Some-lanes.is) items written
-    (subst (λ (s : SpeakerState). AnswersAll lane_rules s before items written) (c.in-Ok.ensures ∙ sym begun.0) answers))
+    c.requires.lanes_wait (lane_seen c.in-Some-lanes.lanes) (begun.1 ∙ ap (option_map lane_seen) c.in-Some-lanes.is) items out
+    (subst (λ (s : SpeakerState). AnswersAll lane_rules s before items (g.K.Sink.written out)) (c.in-Ok.ensures ∙ sym begun.0) answers))
 
 pub run_lane_files-requires-clause-drops : goal.run_lane_files-requires-clause-drops
-run_lane_files-requires-clause-drops g c = λ _ _ items written stopped.
+run_lane_files-requires-clause-drops g c = λ _ _ items out stopped.
     (let before = outside unread (source_view (g.S.PacedSource.left c.args.input.now) (g.S.PacedSource.name c.args.input.now) (g.S.PacedSource.faults c.args.input.now))
     (g.K.Sink.written c.args.out.now) (g.K.Sink.faults c.args.out.now) in
     let begun = named-begun (texts_of c.args.words.now) (said_seen c.in-Some.said) c.in-Some.ensures.said in
-    c.requires.lanes_drop (lane_seen c.in-Some-lanes.lanes) (begun.1 ∙ ap (option_map lane_seen) c.in-Some-lanes.is) items written
-    (subst (λ (s : SpeakerState). HasStopped lane_rules s before items written) (c.in-Ok.ensures ∙ sym begun.0) stopped))
+    c.requires.lanes_drop (lane_seen c.in-Some-lanes.lanes) (begun.1 ∙ ap (option_map lane_seen) c.in-Some-lanes.is) items out
+    (subst (λ (s : SpeakerState). HasStopped lane_rules s before items (g.K.Sink.written out)) (c.in-Ok.ensures ∙ sym begun.0) stopped))
 
 pub returns-in_default-clause-told : goal.returns-in_default-clause-told
 returns-in_default-clause-told g c = told_by (texts_of c.args.words.now)

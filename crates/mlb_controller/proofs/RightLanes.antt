@@ -4,11 +4,12 @@ use Rattle.std.proofs.lemmas.List.{append-nil}
 use Rattle.std.specs.List.{AllByRecursion}
 use Rattle.core_drive.proofs.Goes.{begins_fresh, lapses_go_on, drives_are_sound}
 use Rattle.core_drive.specs.Drive.{Entry, lapsing}
-use Rattle.core_drive.specs.Sound.{LeadsTo}
+use Rattle.core_drive.specs.Sound.{IsSound, LeadsTo}
 use Rattle.core_rules.specs.Core.{State, fresh}
 use Rattle.kube_events.specs.Event.{event_of_line}
 use Rattle.kube_model.specs.declared.event.Event.{Event}
 use Rattle.kube_model.specs.declared.event.Event.TheVariants.{Changed, Deleted, ListEnd, Expired, Members, Frame, Ignored}
+use Rattle.kube_model.specs.declared.event.Group.TheVariants as groups
 use Rattle.lane_drive.proofs.ReadItems.{items_are_read}
 use Rattle.lane_drive.specs.Clauses.{OnlyWrites, TakesWhole}
 use Rattle.lane_drive.specs.Drive.{Told, AreHeard, AreTaken, IsTaken, entries_of}
@@ -20,8 +21,9 @@ use Rattle.lane_mail.specs.declared.lane.Lane.{Lane}
 use Rattle.lane_mail.specs.declared.lane.Lane.TheVariants.{First, Second}
 use Rattle.lane_run.specs.Watched.{Begins, StopsAs}
 use Rattle.lane_run.specs.declared.lane_end.LaneEnd.TheVariants.{Done}
-use Rattle.mlb_controller.specs.LaneClauses.{TellsSound, LeavesServed}
+use Rattle.mlb_controller.specs.LaneClauses.{TellsSound, LanesAreWatches, LeavesServed}
 use Rattle.mlb_controller.specs.Lanes.{belongs_to, lane_arrival, lane_group, lane_rules}
+use Rattle.mlb_controller.specs.Sound.{IsSafeThroughout}
 use Rattle.mlb_controller.proofs.Rightful.{GoesOn, by_driven, arrival_goes, where_goes, safe_led, led_quiet}
 use Rattle.mlb_controller.proofs.Turning.{none_from}
 use Rattle.mlb_edge.specs.declared.lines.Line.{Line}
@@ -68,10 +70,17 @@ module _ (class : Option (List ℕ)) where
   lanes_lead first second items replies t told begin taken =
       taken_leads items replies (fresh class) t told [] (items_are_read belongs_to first second items begin) taken (begins_fresh class)
 
+  -- so what is told of them is sound and safe
+  pub any_sound : (first second : Option (List ℕ)) (items : List Item) (replies : List Line) (t : State) (told : List (Told Entry)) → AreBeginnings belongs_to first second items
+      → AreTaken lane_rules items replies (fresh class) t told → IsSound class (entries_of told) × IsSafeThroughout class (entries_of told)
+  any_sound first second items replies t told begin taken =
+      let led = lanes_lead first second items replies t told begin taken in
+      (drives_are_sound class (entries_of told) t led, safe_led class (entries_of told) t led)
+
   pub lanes_sound : (first second replies before after : Option (List ℕ)) → OnlyWrites belongs_to lane_rules (fresh class) first second replies before after → TellsSound first second replies before after class
   lanes_sound first second replies before after only =
-      let led = lanes_lead first second only.items only.replies only.state only.told only.begin only.taken in
-      record { written = only; sound = drives_are_sound class (entries_of only.told) only.state led; safe = safe_led class (entries_of only.told) only.state led }
+      let (sound, safe) = any_sound first second only.items only.replies only.state only.told only.begin only.taken in
+      record { written = only; sound = sound; safe = safe }
 
   -- all that a lane carries is a beginning of it
   all_begins : (lane : Lane) (left : Option (List ℕ)) (items : List Item) → StopsAs belongs_to lane left items Done → Begins belongs_to lane left items
@@ -84,3 +93,12 @@ module _ (class : Option (List ℕ)) where
       record { firsts = all_begins First first (items_of First whole.items) whole.firsts; seconds = all_begins Second second (items_of Second whole.items) whole.seconds } in
       let led = lanes_lead first second whole.items whole.heard whole.state whole.told begin whole.taken in
       record { whole = whole; quiet = led_quiet class (entries_of whole.told) whole.state led (none_from whole.state.out whole.quiet) }
+
+-- of two groups a lane carries the one that it is the watch of
+pub lanes_watch : LanesAreWatches
+lanes_watch First groups.Config other = (λ e. refl, λ e. refl)
+lanes_watch First groups.Service other = (λ e. absurd (cc), λ e. absurd (cc))
+lanes_watch First groups.Endpoint other = absurd (other refl)
+lanes_watch Second groups.Config other = (λ e. absurd (cc), λ e. absurd (cc))
+lanes_watch Second groups.Service other = (λ e. refl, λ e. refl)
+lanes_watch Second groups.Endpoint other = absurd (other refl)

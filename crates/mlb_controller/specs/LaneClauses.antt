@@ -1,9 +1,12 @@
 -- What the controller owes where the words ask for a run over two lanes. Each definition is of the class and the files that they name.
-use Rattle.std.specs.Prelude.{◌≡◌, ◌⊎◌, ℕ, Bool, ⊤, List, String, Option, Some}
+use Rattle.std.specs.Prelude.{◌≡◌, ◌≢◌, ◌⊎◌, ◌↔◌, ℕ, Bool, true, ⊤, List, String, Option, Some}
 use Rattle.command_options.specs.Lanes.{LaneNames}
 use Rattle.command_options.specs.Options.{texts_of}
+use Rattle.core_drive.specs.Drive.{Entry}
 use Rattle.core_drive.specs.Sound.{IsSound}
-use Rattle.core_rules.specs.Core.{fresh}
+use Rattle.core_rules.specs.Core.{State, fresh}
+use Rattle.kube_model.specs.declared.event.Group.{Group}
+use Rattle.kube_model.specs.declared.event.Group.TheVariants as groups
 use Rattle.kube_model.specs.declared.status.LaneName.{LaneName}
 use Rattle.kube_model.specs.declared.status.LaneName.TheVariants as names
 use Rattle.kube_model.specs.declared.status.Status.{Status}
@@ -11,16 +14,19 @@ use Rattle.kube_model.specs.declared.status.Status.TheVariants.{Done, Usage, Ope
 use Rattle.lane_drive.specs.Asking.{AnswersAll, AsksMore, HasStopped}
 use Rattle.lane_drive.specs.Clauses as lanes
 use Rattle.lane_drive.specs.Complete as can_be_done
-use Rattle.lane_drive.specs.Drive.{entries_of}
+use Rattle.lane_drive.specs.Drive.{Told, AreTaken, entries_of}
 use Rattle.lane_drive.specs.Files.{FilesView}
+use Rattle.lane_drive.specs.Stops.{AreBeginnings}
 use Rattle.lane_mail.specs.declared.item.Item.{Item}
+use Rattle.lane_mail.specs.declared.lane.Lane.{Lane}
 use Rattle.lane_run.specs.Views.{SourceView, lane_view, outside, source_view}
 use Rattle.lane_run.specs.Waiting.{MayBeAwaited}
 use Rattle.line_run.specs.Answered.{MayBeAsked}
 use Rattle.line_run.specs.Clauses.{CanPass}
 use Rattle.mlb_edge.specs.Reading.{Reading}
+use Rattle.mlb_edge.specs.declared.lines.Line.{Line}
 use Rattle.mlb_controller.specs.Asked.{AskLanes}
-use Rattle.mlb_controller.specs.Lanes.{belongs_to, lane_rules, name_of}
+use Rattle.mlb_controller.specs.Lanes.{belongs_to, carries, lane_group, lane_rules, name_of}
 use Rattle.mlb_controller.specs.Sound.{IsSafeThroughout, LeavesNothing}
 use Rattle.mlb_controller.specs.Stream.{IsCause}
 
@@ -64,6 +70,17 @@ pub record TellsSound (first second replies before after class : Option (List �
 -- so it is however the run ends
 abbrev pub LanesSound : (List ℕ → Option (List ℕ)) → (replies before after : Option (List ℕ)) → Option (List ℕ) → LaneNames → Type 0
 LanesSound bytes replies before after class files = TellsSound (bytes files.first) (bytes files.second) replies before after class
+
+-- whatever items are taken from the start, of each lane a beginning of what some file carries, and with whatever replies: what is told of them is
+-- sound, and safe in every world that explains it
+abbrev pub LanesAreSound : Option (List ℕ) → LaneNames → Type 0
+LanesAreSound class files = (first second : Option (List ℕ)) (items : List Item) (replies : List Line) (t : State) (told : List (Told Entry))
+    → AreBeginnings belongs_to first second items → AreTaken lane_rules items replies (fresh class) t told
+    → IsSound class (entries_of told) × IsSafeThroughout class (entries_of told)
+
+-- of the configuration and the services a lane carries just that which it is the watch of
+abbrev pub LanesAreWatches : Type 0
+LanesAreWatches = (lane : Lane) (group : Group) → group ≢ groups.Endpoint → (carries lane (Some group) ≡ true) ↔ (lane_group lane ≡ group)
 
 -- All that both files carry was taken, nothing is left waiting that could be served, and each settled service has its own.
 pub record LeavesServed (first second left left' before after class : Option (List ℕ)) : Type 0 where

@@ -9,7 +9,7 @@ ghost use Rattle.line_run.specs.Clauses.{AtReadFault, AtWriteFault};
 ghost use Rattle.command_options.specs.Options.{texts_of};
 ghost use Rattle.controller_words.specs.Words.{AreKnown};
 ghost use Rattle.mlb_controller.specs.Asked.{AskLanes, AskNoLanes};
-ghost use Rattle.mlb_controller.specs.LaneClauses.{OverLanes, LanesMayAsk, LanesMayWait, LanesMayDrop, LanesEnd, LanesComplete, LanesDone, LanesSound, LanesQuiet, LaneCanEnd, LaneOpenFault, LaneReadFault, LaneOthers};
+ghost use Rattle.mlb_controller.specs.LaneClauses.{OverLanes, LanesMayAsk, LanesMayWait, LanesMayDrop, LanesEnd, LanesComplete, LanesDone, LanesSound, LanesAreSound, LanesAreWatches, LanesQuiet, LaneCanEnd, LaneOpenFault, LaneReadFault, LaneOthers};
 ghost use Rattle.mlb_controller.specs.Clauses.{MayAskAnswered, CanEnd, AtEnd, AtDone, AtNoReply, AtBadLine, AtBadReply, AtServiceLimit, AtLongLine, AtTooLong, AfterRead, AfterWrite, AtNoMemory, WritesSound, RunsSound, RunsSafe, EndsQuiet, HandlesNamed, IsExact, IsComplete, WritesTrial, LeavesInput, TrialIsSafe};
 
 use crate::lane_files::lanes_controller;
@@ -121,6 +121,13 @@ pub fn run_controller<
     // However it ends, and in whatever order the events of both came, a beginning of the text of what was taken was written. That is sound, as
     // a run over one stream is, and in every world that explains it services recorded with one address share it by the terms of their marks.
     ensures lanes_sound { OverLanes words.now (LanesSound (F.bytes files.old) (S.left input.old) (K.written out.old) (K.written out.new)) }
+
+    // However far a run has come when it is stopped from outside: what is told of any items that were taken, with any replies, is sound and safe
+    // so. That just their text stands written wherever more is waited for is what `lanes_wait` and `lanes_live` ask.
+    ensures lanes_any { OverLanes words.now LanesAreSound }
+
+    // The group whose list is begun anew where a lane's watch has expired is that of the configuration and the services which the lane carries.
+    ensures lane_groups { LanesAreWatches }
 
     // Where all can be taken in whatever order it comes, with a reply to each put and no line behind the last, and no count of faults rises,
     // it is done, but for want of memory.

@@ -2,6 +2,7 @@ use Rattle.command_options.specs.Options.{texts_of}
 use Rattle.mlb_controller.specs.Asked.{class_of}
 use Rattle.mlb_controller.proofs.Asking.{class-named, lanes_no_run, lanes_no_trial, one_lanes, trial-safe}
 use Rattle.mlb_controller.proofs.Rightful.{sound_where_told, safe_where_told}
+use Rattle.mlb_controller.proofs.RightLanes.{any_sound, lanes_watch}
 use Rattle.mlb_controller.proofs.run.run_controller.Goals as goal
 
 -- ---- when the input may be asked for more
@@ -34,6 +35,12 @@ returns-in-None-clause-lanes_complete g c = λ class files say. absurd (c.in-Non
 
 pub returns-in-None-clause-lanes_sound : goal.returns-in-None-clause-lanes_sound
 returns-in-None-clause-lanes_sound g c = λ class files say. absurd (c.in-None.ensures.none class files say)
+
+pub returns-in-None-clause-lanes_any : goal.returns-in-None-clause-lanes_any
+returns-in-None-clause-lanes_any g c = λ class files say. any_sound class
+
+pub returns-in-None-clause-lane_groups : goal.returns-in-None-clause-lane_groups
+returns-in-None-clause-lane_groups g c = lanes_watch
 
 -- ---- a run over two lanes: neither one over one stream nor a trial is asked for
 
@@ -118,6 +125,12 @@ pub returns-in-Some-clause-lanes_sound : goal.returns-in-Some-clause-lanes_sound
 returns-in-Some-clause-lanes_sound g c = λ class files say.
     let one = one_lanes (texts_of c.args.words.now) _ class _ files c.in-Some.ensures.some say in
     rw (← one.0, ← one.1) c.lanes_controller.ensures.sound
+
+pub returns-in-Some-clause-lanes_any : goal.returns-in-Some-clause-lanes_any
+returns-in-Some-clause-lanes_any g c = λ class files say. any_sound class
+
+pub returns-in-Some-clause-lane_groups : goal.returns-in-Some-clause-lane_groups
+returns-in-Some-clause-lane_groups g c = lanes_watch
 
 pub returns-in-Some-clause-lanes_complete : goal.returns-in-Some-clause-lanes_complete
 returns-in-Some-clause-lanes_complete g c = λ class files say.

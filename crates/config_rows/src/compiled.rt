@@ -6,7 +6,7 @@ use anyhow::Result;
 use ip_ranges::{Address, Family, Span, print_address};
 use mlb_base::NoMemory;
 use pool_config::{
-    CompileFault, CompiledBgp, CompiledL2, CompiledPool, Config, ObjectSet, compile,
+    CompileFault, CompiledBgp, CompiledL2, CompiledPool, Config, LargeCommunity, ObjectSet, compile,
 };
 use std::alloc::Global;
 
@@ -96,11 +96,24 @@ fn print_l2(rt: &impl Print, advertisement: &CompiledL2, config: &Config) -> Res
     Ok(())
 }
 
-/// The advertisement's name, the numbers of its communities, and the names of the pools that it chooses.
+fn print_large(rt: &impl Print, large: &LargeCommunity) -> Result<()> {
+    let LargeCommunity {
+        global,
+        first,
+        second,
+    } = large;
+    print!(rt; " large:{global}:{first}:{second}")?;
+    Ok(())
+}
+
+/// The advertisement's name, the numbers of its communities and its large communities, and the names of the pools that it chooses.
 fn print_bgp(rt: &impl Print, advertisement: &CompiledBgp, config: &Config) -> Result<()> {
     print!(rt; "bgp {}", advertisement.name)?;
     for number in advertisement.communities.as_slice() {
         print!(rt; " {number}")?;
+    }
+    for large in advertisement.large.as_slice() {
+        print_large(rt, large)?;
     }
     print!(rt; " chooses")?;
     for pool in config.pools.as_slice() {

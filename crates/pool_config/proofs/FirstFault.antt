@@ -9,7 +9,7 @@ use Rattle.pool_config.specs.declared.compile_objects.CompileFault.{CompileFault
 use Rattle.pool_config.specs.declared.compile_objects.CompileFault.TheVariants.{Refused}
 use Rattle.pool_config.specs.Compile.{compiled, compiled_unless}
 use Rattle.pool_config.specs.ConfigValue.{ConfigValue}
-use Rattle.pool_config.specs.Faults.{Row, ManyPools, ManyEntries, ManyTexts, BadEntry, NoEntry, Overlap, PoolSelector, L2Selector, BgpSelector, PeerSelector, Aggregation, PrefClash, UnknownCommunity, BadValue, BadText, TwiceNamed, UnknownPeer, rows, fault_at, FaultAt, FaultyItem, FaultyPair, IsFirstOf, IsFirstFault, NoFaultAt, HasNoFault}
+use Rattle.pool_config.specs.Faults.{Row, ManyPools, ManyEntries, ManyTexts, ManyLarge, BadEntry, NoEntry, Overlap, PoolSelector, L2Selector, BgpSelector, PeerSelector, Aggregation, PrefClash, UnknownCommunity, BadValue, BadText, TwiceNamed, UnknownPeer, rows, fault_at, FaultAt, FaultyItem, FaultyPair, IsFirstOf, IsFirstFault, NoFaultAt, HasNoFault}
 use Rattle.pool_config.specs.Lists.{lists_of}
 use Rattle.pool_config.specs.Objects.{Objects, objects_of}
 use Rattle.pool_config.specs.Search.{found_at, found_among, first_fault}
@@ -53,20 +53,21 @@ none_has : (o : Objects) → All (NoFaultAt o) rows → HasNoFault o
 none_has o all ManyPools = all 0 ManyPools (omega arith)
 none_has o all ManyEntries = all 1 ManyPools (omega arith)
 none_has o all ManyTexts = all 2 ManyPools (omega arith)
-none_has o all BadEntry = all 3 ManyPools (omega arith)
-none_has o all NoEntry = all 4 ManyPools (omega arith)
-none_has o all Overlap = all 5 ManyPools (omega arith)
-none_has o all PoolSelector = all 6 ManyPools (omega arith)
-none_has o all L2Selector = all 7 ManyPools (omega arith)
-none_has o all BgpSelector = all 8 ManyPools (omega arith)
-none_has o all PeerSelector = all 9 ManyPools (omega arith)
-none_has o all Aggregation = all 10 ManyPools (omega arith)
-none_has o all PrefClash = all 11 ManyPools (omega arith)
-none_has o all UnknownCommunity = all 12 ManyPools (omega arith)
-none_has o all BadValue = all 13 ManyPools (omega arith)
-none_has o all BadText = all 14 ManyPools (omega arith)
-none_has o all TwiceNamed = all 15 ManyPools (omega arith)
-none_has o all UnknownPeer = all 16 ManyPools (omega arith)
+none_has o all ManyLarge = all 3 ManyPools (omega arith)
+none_has o all BadEntry = all 4 ManyPools (omega arith)
+none_has o all NoEntry = all 5 ManyPools (omega arith)
+none_has o all Overlap = all 6 ManyPools (omega arith)
+none_has o all PoolSelector = all 7 ManyPools (omega arith)
+none_has o all L2Selector = all 8 ManyPools (omega arith)
+none_has o all BgpSelector = all 9 ManyPools (omega arith)
+none_has o all PeerSelector = all 10 ManyPools (omega arith)
+none_has o all Aggregation = all 11 ManyPools (omega arith)
+none_has o all PrefClash = all 12 ManyPools (omega arith)
+none_has o all UnknownCommunity = all 13 ManyPools (omega arith)
+none_has o all BadValue = all 14 ManyPools (omega arith)
+none_has o all BadText = all 15 ManyPools (omega arith)
+none_has o all TwiceNamed = all 16 ManyPools (omega arith)
+none_has o all UnknownPeer = all 17 ManyPools (omega arith)
 
 -- what is found among all conditions
 abbrev Settled : Objects → Option ConfigFault → Type 0
@@ -91,6 +92,7 @@ names : (o : Objects) (row : Row) (i j : ℕ) (m n : List ℕ) → FaultAt o row
 names o ManyPools i j m n h k = item_names _ _ _ _ i j m n h k
 names o ManyEntries i j m n h k = item_names _ _ _ _ i j m n h k
 names o ManyTexts i j m n h k = item_names _ _ _ _ i j m n h k
+names o ManyLarge i j m n h k = item_names _ _ _ _ i j m n h k
 names o BadEntry i j m n h k = item_names _ _ _ _ i j m n h k
 names o NoEntry i j m n h k = item_names _ _ _ _ i j m n h k
 names o Overlap i j m n h k = pair_names _ _ _ i j m n h k

@@ -1,5 +1,6 @@
 -- The items of lists, by their places, and lists some item of which is so.
-use Rattle.std.proofs.Common.{◌≡◌, ℕ, zero, suc, List, [], ◌∷◌, ◌++◌, ◌<◌, inl, inr, length, arith, Option, Some, None, refl, sym, ◌∙◌, ap, subst}
+use Rattle.std.proofs.Common.{◌≡◌, ℕ, zero, suc, Bool, true, false, cond, filter, List, [], ◌∷◌, ◌++◌, ◌<◌, inl, inr, length, arith, Option, Some, None, refl, sym, ◌∙◌, ap, subst}
+use Rattle.std.proofs.lemmas.Bool.{false≢true}
 use Rattle.std.specs.List.{filter_map, cons_option}
 use Rattle.mlb_base.specs.Items.{ItemAt, Has, IsIn}
 
@@ -27,7 +28,17 @@ has_map P Q f [] h = absurd h
 has_map P Q f (x ∷ xs) (inl here) = inl (f x here)
 has_map P Q f (x ∷ xs) (inr later) = inr (has_map P Q f xs later)
 
--- what a filter gives
+-- what a filter keeps, and what one that reads gives
+pub in_filter : {A : Type 0} (p : A → Bool) (xs : List A) (x : A) → IsIn xs x → p x ≡ true → IsIn (filter p xs) x
+in_filter p [] x none passes = absurd none
+in_filter {A} p (y ∷ xs) x among passes = go (p y) refl (in_filter p xs x) among
+  where
+    go : (b : Bool) → p y ≡ b → (IsIn xs x → p x ≡ true → IsIn (filter p xs) x) → IsIn (y ∷ xs) x → IsIn (cond b (y ∷ filter p xs) (filter p xs)) x
+    go true e rest (inl here) = inl here
+    go true e rest (inr later) = inr (rest later passes)
+    go false e rest (inl here) = absurd (false≢true (sym e ∙ ap p here ∙ passes))
+    go false e rest (inr later) = rest later passes
+
 pub in_filter_map : {X Y : Type 0} (f : X → Option Y) (xs : List X) (y : Y) → IsIn (filter_map f xs) y → Has (λ x. f x ≡ Some y) xs
 in_filter_map f [] y h = absurd h
 in_filter_map {X} {Y} f (x ∷ xs) y h = go (f x) refl (in_filter_map f xs y) h

@@ -8,6 +8,7 @@ pub mod Halves
 pub mod ItemLaws
 pub mod KeySets
 pub mod KnownClashes
+pub mod LargeTexts
 pub mod Limits
 pub mod Names
 pub mod NumberTexts

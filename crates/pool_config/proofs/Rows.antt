@@ -16,15 +16,17 @@ use Rattle.kube_model.specs.declared.peer.BgpPeer.{BgpPeer}
 use Rattle.kube_model.specs.declared.community.CommunityList.{CommunityList}
 use Rattle.pool_config.specs.declared.compiled.CompiledPool.{CompiledPool}
 use Rattle.pool_config.specs.declared.compiled.CompiledBgp.{CompiledBgp}
-use Rattle.pool_config.specs.Faults.{Row, ManyPools, ManyEntries, ManyTexts, BadEntry, NoEntry, Overlap, PoolSelector, L2Selector, BgpSelector, PeerSelector, Aggregation, PrefClash, UnknownCommunity, BadValue, BadText, TwiceNamed, UnknownPeer, key_of, FaultAt, IsBadEntry, IsBadSelector, allocation_selectors, AggregatesTooFar, Clash, ChoosesPool, length_for, IsTooShort, HaveEqualLength, IsCommunityName, IsNoNumber, IsUnknownText, IsBadText}
+use Rattle.pool_config.specs.Faults.{Row, ManyPools, ManyEntries, ManyTexts, ManyLarge, BadEntry, NoEntry, Overlap, PoolSelector, L2Selector, BgpSelector, PeerSelector, Aggregation, PrefClash, UnknownCommunity, BadValue, BadText, TwiceNamed, UnknownPeer, key_of, FaultAt, IsBadEntry, IsBadSelector, allocation_selectors, AggregatesTooFar, Clash, ChoosesPool, length_for, IsTooShort, HaveEqualLength, IsCommunityName, IsNoCommunity, IsUnknownText, IsBadText, all_with_large}
 use Rattle.pool_config.specs.Lists.{lists_of, named_value}
+use Rattle.pool_config.specs.Large.{large_of}
 use Rattle.pool_config.specs.Numbers.{has_colon, number_of}
 use Rattle.pool_config.specs.Objects.{Objects}
 use Rattle.kube_labels.specs.Names.{name_cmp}
 use Rattle.mlb_base.specs.Items.{Has, IsIn}
-use Rattle.pool_config.specs.Search.{found_at, clash, aggregates_too_far, has_many_entries, has_bad_entry, has_no_entry, has_bad_selector, has_bad_allocation, has_bad_in_l2, has_bad_in_bgp, has_bad_in_peer, is_bad_selector, is_bad_entry, is_unknown, has_bad_value, is_bad_text, is_unknown_peer, is_too_short, chooses_pool, has_equal_length}
+use Rattle.pool_config.specs.Search.{found_at, clash, aggregates_too_far, has_many_entries, has_bad_entry, has_no_entry, has_bad_selector, has_bad_allocation, has_bad_in_l2, has_bad_in_bgp, has_bad_in_peer, is_bad_selector, is_bad_entry, is_unknown, is_no_community, has_bad_value, is_bad_text, is_unknown_peer, is_too_short, chooses_pool, has_equal_length}
 use Rattle.pool_config.proofs.Firsts.{Finds, finds_item, finds_named, finds_pair}
 use Rattle.pool_config.proofs.Limits.{finds_at, finds_past}
+use Rattle.pool_config.proofs.LargeTexts.{no_large-Decides}
 use Rattle.pool_config.proofs.NumberTexts.{no_number-Decides}
 use Rattle.pool_config.proofs.Repeats.{finds_repeat}
 use Rattle.pool_config.proofs.Shared.{finds_overlap}
@@ -87,11 +89,15 @@ unknown communities t = Decides-and _ _ (Decides-not _ (Decides-itself (has_colo
 unknown_peer : (peers : List (List ℕ × BgpPeer)) (t : List ℕ) → Decides (is_unknown_peer peers t) (¬ IsIn (map key_of peers) t)
 unknown_peer peers t = Decides-none (lookup (is_at (name_cmp t)) peers) (Decides-at _ _ (is_some-lookup (is_at (name_cmp t)) peers) (held-Decides name_cmp-total name_cmp-exact (keys_of peers) t))
 
+no_community : (text : List ℕ) → Decides (is_no_community text) (IsNoCommunity text)
+no_community text = Decides-and (is_none (number_of text)) (is_none (large_of text)) (no_number-Decides text) (no_large-Decides text)
+
 -- each condition's first fault is what is found for it
 pub finds : (o : Objects) (row : Row) → Finds (FaultAt o row) (found_at o row)
 finds o ManyPools = finds_at 1024 o.pools
 finds o ManyEntries = finds_named has_many_entries (λ pool. 64 < length pool.entries) (λ pool. Decides-ltb 64 (length pool.entries)) o.pools
 finds o ManyTexts = finds_past 512 o.bgps
+finds o ManyLarge = finds_past 128 (all_with_large o)
 finds o BadEntry = finds_named has_bad_entry (λ pool. Has IsBadEntry pool.entries) bad_entry o.pools
 finds o NoEntry = finds_named has_no_entry (λ pool. pool.entries ≡ []) (λ pool. Decides-empty pool.entries) o.pools
 finds o Overlap = finds_overlap o.pools
@@ -105,11 +111,11 @@ finds o UnknownCommunity =
     finds_named (λ adv. list_any (is_unknown o.communities) adv.communities) (λ adv. Has (IsUnknownText o.communities) adv.communities)
     (λ adv. Decides-has (is_unknown o.communities) (IsUnknownText o.communities) (unknown o.communities) adv.communities) o.bgps
 finds o BadValue =
-    finds_named has_bad_value (λ c. Has (λ v. IsNoNumber v.1) c.values)
-    (λ c. Decides-has (λ v. is_none (number_of v.1)) (λ v. IsNoNumber v.1) (λ v. no_number-Decides v.1) c.values) o.communities
+    finds_named has_bad_value (λ c. Has (λ v. IsNoCommunity v.1) c.values)
+    (λ c. Decides-has (λ v. is_no_community v.1) (λ v. IsNoCommunity v.1) (λ v. no_community v.1) c.values) o.communities
 finds o BadText =
     finds_named (λ adv. list_any is_bad_text adv.communities) (λ adv. Has IsBadText adv.communities)
-    (λ adv. Decides-has is_bad_text IsBadText (λ text. Decides-and _ _ (Decides-itself (has_colon text)) (no_number-Decides text)) adv.communities) o.bgps
+    (λ adv. Decides-has is_bad_text IsBadText (λ text. Decides-and _ _ (Decides-itself (has_colon text)) (no_community text)) adv.communities) o.bgps
 finds o TwiceNamed = finds_repeat o.communities
 finds o UnknownPeer =
     finds_named (λ adv. list_any (is_unknown_peer o.peers) adv.peers) (λ adv. Has (λ peer. ¬ IsIn (map key_of o.peers) peer) adv.peers)

@@ -3,12 +3,14 @@ use Rattle.std.specs.Prelude.{ℕ, ◌<◌, ◌≤◌, List, length, map}
 use Rattle.std.specs.List.{AllByRecursion, flat_map}
 use Rattle.std.specs.List.Sorted.{IsStrictlySortedBy}
 use Rattle.std.specs.Ordering.{nat_cmp}
+use Rattle.std.specs.declared.cmp.Ordering.{Ordering}
 use Rattle.ip_ranges.specs.Values.{AddressValue, SpanValue, Holds}
 use Rattle.pool_config.specs.declared.compiled.CompiledPool.{CompiledPool}
 use Rattle.pool_config.specs.declared.compiled.CompiledL2.{CompiledL2}
 use Rattle.pool_config.specs.declared.compiled.CompiledBgp.{CompiledBgp}
 use Rattle.pool_config.specs.declared.compiled.CompiledPeer.{CompiledPeer}
 use Rattle.kube_labels.specs.Names.{name_cmp}
+use Rattle.large_numbers.specs.Large.{large_cmp}
 use Rattle.mlb_base.specs.Items.{ItemAt, Has, IsIn}
 
 pub record ConfigValue : Type 0 where
@@ -35,21 +37,21 @@ AreApart spans =
 abbrev pub Ascend : List (List ℕ) → Type 0
 Ascend names = IsStrictlySortedBy name_cmp names
 
--- an advertisement of the configuration has the number among its communities
-abbrev pub HasNumber : ConfigValue → ℕ → Type 0
-HasNumber c n = Has (λ adv. IsIn adv.communities n) c.bgp
+-- an advertisement of the configuration has the value among those that are read of it
+abbrev pub HasValue : {K : Type 0} → (CompiledBgp → List K) → ConfigValue → K → Type 0
+HasValue values c k = Has (λ adv. IsIn (values adv) k) c.bgp
 
--- numbers that ascend and that its advertisements have are at most 512
-abbrev pub HasFewNumbers : ConfigValue → Type 0
-HasFewNumbers c =
-    (numbers : List ℕ) → IsStrictlySortedBy nat_cmp numbers → AllByRecursion (HasNumber c) numbers → length numbers ≤ 512
+-- those of each advertisement ascend, and those of all are at most so many, each counted once: as many as any of them that ascend
+pub record HasAtMost {K : Type 0} (limit : ℕ) (R : K → K → Ordering) (values : CompiledBgp → List K) (c : ConfigValue) : Type 0 where
+  pub ascend : AllByRecursion (λ adv. IsStrictlySortedBy R (values adv)) c.bgp
+  pub few : (ks : List K) → IsStrictlySortedBy R ks → AllByRecursion (HasValue values c) ks → length ks ≤ limit
 
--- the communities of each advertisement ascend, and those of all are so few
+-- at most 512 communities (RFC 1997), and at most 128 large ones (RFC 8092)
 pub record HasFewCommunities (c : ConfigValue) : Type 0 where
-  pub ascend : AllByRecursion (λ adv. IsStrictlySortedBy nat_cmp adv.communities) c.bgp
-  pub few : HasFewNumbers c
+  pub numbers : HasAtMost 512 nat_cmp (λ adv. adv.communities) c
+  pub large : HasAtMost 128 large_cmp (λ adv. adv.large) c
 
--- in each list the names ascend, no two spans, of one pool or of two, overlap, and there are at most 512 communities
+-- in each list the names ascend, no two spans, of one pool or of two, overlap, and there are few communities
 pub record IsConfig (c : ConfigValue) : Type 0 where
   pub pools : Ascend (map (λ p. p.name) c.pools)
   pub l2 : Ascend (map (λ a. a.name) c.l2)

@@ -1,6 +1,7 @@
 -- What is wrong with the objects of a configuration, and which fault comes first.
-use Rattle.std.specs.Prelude.{◌≡◌, ◌≢◌, ℕ, suc, ◌<◌, ◌⊎◌, List, [], ◌∷◌, ◌++◌, length, map, Option, Some, None, All, IsTrue, IsErr}
-use Rattle.std.specs.List.{flat_map}
+use Rattle.std.specs.Prelude.{◌≡◌, ◌≢◌, ℕ, suc, ◌<◌, Bool, ◌&&◌, ◌||◌, ◌⊎◌, List, [], ◌∷◌, ◌++◌, length, map, filter, Option, Some, None, All, IsTrue, IsErr}
+use Rattle.std.specs.List.{flat_map, list_any}
+use Rattle.std.specs.Str.{bytes_eq}
 use Rattle.ip_ranges.specs.declared.family.Family.{Family}
 use Rattle.ip_ranges.specs.declared.family.Family.TheVariants.{V4, V6}
 use Rattle.ip_ranges.specs.Values.{SpanValue}
@@ -21,6 +22,8 @@ use Rattle.pool_config.specs.declared.compiled.CompiledBgp.{CompiledBgp}
 use Rattle.pool_config.specs.Choice.{Chooses}
 use Rattle.pool_config.specs.ConfigValue.{placed_spans, Overlaps}
 use Rattle.pool_config.specs.Lists.{lists_of}
+use Rattle.large_numbers.specs.declared.numbers.LargeCommunity.{LargeCommunity}
+use Rattle.pool_config.specs.Large.{IsLargeText, begins_large}
 use Rattle.pool_config.specs.Numbers.{IsNumberText, has_colon}
 use Rattle.pool_config.specs.Objects.{Objects}
 use Rattle.mlb_base.specs.Items.{ItemAt, Has, IsIn}
@@ -30,6 +33,7 @@ pub data Row : Type 0 where
   ManyPools : Row  -- there are more than 1024 pools
   ManyEntries : Row  -- a pool has more than 64 entries
   ManyTexts : Row  -- the advertisements have more than 512 distinct community texts
+  ManyLarge : Row  -- they have more than 128 distinct texts of large communities
   BadEntry : Row  -- an entry can't be read
   NoEntry : Row  -- a pool has no entry
   Overlap : Row  -- two entries, of one pool or of two, overlap
@@ -40,21 +44,22 @@ pub data Row : Type 0 where
   Aggregation : Row  -- an advertisement chooses a pool with an entry whose least length is greater than the advertisement's
   PrefClash : Row  -- two advertisements give one route two preferences
   UnknownCommunity : Row  -- a community text without a colon is no name of a community
-  BadValue : Row  -- a community's value isn't `A:B`
-  BadText : Row  -- a community text with a colon isn't `A:B`
+  BadValue : Row  -- a community's value is neither `A:B` nor `large:A:B:C`
+  BadText : Row  -- a community text with a colon is neither
   TwiceNamed : Row  -- two communities have one name
   UnknownPeer : Row  -- an advertisement names a peer that isn't there
 
 -- in this order
 abbrev pub rows : List Row
 rows =
-    ManyPools ∷ ManyEntries ∷ ManyTexts ∷ BadEntry ∷ NoEntry ∷ Overlap ∷ PoolSelector ∷ L2Selector ∷ BgpSelector ∷ PeerSelector
+    ManyPools ∷ ManyEntries ∷ ManyTexts ∷ ManyLarge ∷ BadEntry ∷ NoEntry ∷ Overlap ∷ PoolSelector ∷ L2Selector ∷ BgpSelector ∷ PeerSelector
     ∷ Aggregation ∷ PrefClash ∷ UnknownCommunity ∷ BadValue ∷ BadText ∷ TwiceNamed ∷ UnknownPeer ∷ []
 
 abbrev pub cause_of : Row → Cause
 cause_of ManyPools = causes.Limit
 cause_of ManyEntries = causes.Limit
 cause_of ManyTexts = causes.Limit
+cause_of ManyLarge = causes.Limit
 cause_of BadEntry = causes.EntryUnreadable
 cause_of NoEntry = causes.EmptyPool
 cause_of Overlap = causes.Overlap
@@ -75,6 +80,7 @@ abbrev pub kind_of : Row → Kind
 kind_of ManyPools = kinds.Pool
 kind_of ManyEntries = kinds.Pool
 kind_of ManyTexts = kinds.Bgp
+kind_of ManyLarge = kinds.Bgp
 kind_of BadEntry = kinds.Pool
 kind_of NoEntry = kinds.Pool
 kind_of Overlap = kinds.Pool
@@ -140,6 +146,21 @@ HasText bgps count text = (i : ℕ) × (adv : List ℕ × BgpAdv) × (i < count)
 abbrev pub HaveMore : ℕ → List (List ℕ × BgpAdv) → ℕ → Type 0
 HaveMore limit bgps count = (texts : List (List ℕ)) × Differ texts × All (HasText bgps count) texts × (limit < length texts)
 
+-- the text is a name that has, in some list, a value which begins as a large community
+abbrev pub is_large_name : List (List ℕ × CommunityList) → List ℕ → Bool
+is_large_name communities text = list_any (λ c. list_any (λ v. bytes_eq v.0 text && begins_large v.1) c.1.values) communities
+
+-- the text begins so, or is such a name
+abbrev pub counts_as_large : List (List ℕ × CommunityList) → List ℕ → Bool
+counts_as_large communities text = begins_large text || is_large_name communities text
+
+-- the advertisement with those of its texts alone that are of large communities
+abbrev pub with_large : List (List ℕ × CommunityList) → List ℕ × BgpAdv → List ℕ × BgpAdv
+with_large communities e = (e.0, record e.1 { communities = filter (counts_as_large communities) e.1.communities })
+
+abbrev pub all_with_large : Objects → List (List ℕ × BgpAdv)
+all_with_large o = map (with_large o.communities) o.bgps
+
 -- the length that the advertisement has for a family
 abbrev pub length_for : CompiledBgp → Family → ℕ
 length_for adv V4 = adv.length
@@ -178,13 +199,21 @@ IsCommunityName communities text = Has (λ c. Has (λ v. v.0 ≡ text) c.1.value
 abbrev pub IsNoNumber : List ℕ → Type 0
 IsNoNumber text = (n : ℕ) → ¬ IsNumberText text n
 
+-- the text isn't `large:A:B:C`
+abbrev pub IsNoLarge : List ℕ → Type 0
+IsNoLarge text = (c : LargeCommunity) → ¬ IsLargeText text c
+
+-- the text is neither
+abbrev pub IsNoCommunity : List ℕ → Type 0
+IsNoCommunity text = IsNoNumber text × IsNoLarge text
+
 -- the text has no colon and is no community's name
 abbrev pub IsUnknownText : List (List ℕ × CommunityList) → List ℕ → Type 0
 IsUnknownText communities text = (¬ IsTrue (has_colon text)) × ¬ IsCommunityName communities text
 
--- the text has a colon and isn't `A:B`
+-- the text has a colon, and is neither `A:B` nor `large:A:B:C`
 abbrev pub IsBadText : List ℕ → Type 0
-IsBadText text = IsTrue (has_colon text) × IsNoNumber text
+IsBadText text = IsTrue (has_colon text) × IsNoCommunity text
 
 -- an entry before the place has the name of this one
 abbrev pub StoodBefore : List (List ℕ × List ℕ) → ℕ → List ℕ × List ℕ → Type 0
@@ -197,6 +226,7 @@ abbrev pub FaultAt : Objects → Row → ℕ → ℕ → List ℕ → Type 0
 FaultAt o ManyPools i j name = FaultyItem key_of (λ _. i ≡ 1024) o.pools i j name
 FaultAt o ManyEntries i j name = FaultyItem key_of (λ e. 64 < length e.1.entries) o.pools i j name
 FaultAt o ManyTexts i j name = FaultyItem key_of (λ _. HaveMore 512 o.bgps (suc i)) o.bgps i j name
+FaultAt o ManyLarge i j name = FaultyItem key_of (λ _. HaveMore 128 (all_with_large o) (suc i)) (all_with_large o) i j name
 FaultAt o BadEntry i j name = FaultyItem key_of (λ e. Has IsBadEntry e.1.entries) o.pools i j name
 FaultAt o NoEntry i j name = FaultyItem key_of (λ e. e.1.entries ≡ []) o.pools i j name
 FaultAt o Overlap i j name =
@@ -216,7 +246,7 @@ FaultAt o PrefClash i j name =
 FaultAt o UnknownCommunity i j name =
     FaultyItem key_of (λ e. Has (IsUnknownText o.communities) e.1.communities) o.bgps i j name
 FaultAt o BadValue i j name =
-    FaultyItem key_of (λ c. Has (λ v. IsNoNumber v.1) c.1.values) o.communities i j name
+    FaultyItem key_of (λ c. Has (λ v. IsNoCommunity v.1) c.1.values) o.communities i j name
 FaultAt o BadText i j name = FaultyItem key_of (λ e. Has IsBadText e.1.communities) o.bgps i j name
 FaultAt o TwiceNamed i j name =
     let entries = community_entries o.communities in

@@ -3,7 +3,7 @@ use Rattle.std.specs.Prelude.{◌≡◌, ◌↔◌, ◌⊎◌, ℕ, List, map, I
 use Rattle.std.specs.List.Sorted.{IsStrictlySortedBy}
 use Rattle.std.specs.Map.{keys_of}
 use Rattle.std.specs.Ordering.{is_eq, nat_cmp}
-use Rattle.std.specs.List.{filter_map, AllByRecursion}
+use Rattle.std.specs.List.{AllByRecursion}
 use Rattle.ip_ranges.specs.EntryText.{entry_of}
 use Rattle.kube_labels.specs.Selectors.{selector_of}
 use Rattle.kube_model.specs.declared.pool.Pool.{Pool}
@@ -24,7 +24,10 @@ use Rattle.pool_config.specs.declared.object_set.ObjectSet.{ObjectSet}
 use Rattle.pool_config.specs.Compile.{compiled}
 use Rattle.pool_config.specs.ConfigValue.{ConfigValue, Ascend}
 use Rattle.pool_config.specs.Faults.{HasNoFault, IsFirstFault}
-use Rattle.pool_config.specs.Lists.{lists_of, spans_of, selectors_of, number_in, numbers_in, named_value}
+use Rattle.large_numbers.specs.declared.numbers.LargeCommunity.{LargeCommunity}
+use Rattle.large_numbers.specs.Large.{large_cmp}
+use Rattle.pool_config.specs.Large.{IsLargeText, large_of}
+use Rattle.pool_config.specs.Lists.{lists_of, spans_of, selectors_of, number_in, numbers_in, large_in, larges_in, named_value}
 use Rattle.pool_config.specs.Numbers.{IsNumberText, number_of, has_colon}
 use Rattle.pool_config.specs.Objects.{Objects, objects_of, no_objects, set_put, set_shown, set_without, set_expired, set_listed}
 use Rattle.kube_labels.specs.Names.{name_cmp}
@@ -108,6 +111,11 @@ pub record NamesAreKept : Type 0 where
 abbrev pub AreRead : List SelectorText → Type 0
 AreRead texts = map (λ t. selector_of t.labels t.expressions) texts ≡ map Ok (selectors_of texts)
 
+-- the text stands for a number or for a large community
+abbrev pub IsReadText : List (List ℕ × CommunityList) → List ℕ → Type 0
+IsReadText communities text =
+    ((n : ℕ) × (number_in communities text ≡ Some n)) ⊎ ((c : LargeCommunity) × (large_in communities text ≡ Some c))
+
 -- nothing of the objects is left out of their lists: every entry, every selector and every community is read
 pub record IsReadWhole (o : Objects) : Type 0 where
   pub entries : (i : ℕ) (e : List ℕ × Pool) → ItemAt o.pools i e → map entry_of e.1.entries ≡ map Ok (spans_of e.1.entries)
@@ -116,8 +124,7 @@ pub record IsReadWhole (o : Objects) : Type 0 where
   pub l2s : (i : ℕ) (e : List ℕ × L2Adv) → ItemAt o.l2s i e → AreRead e.1.pool_selectors × AreRead e.1.node_selectors
   pub bgps : (i : ℕ) (e : List ℕ × BgpAdv) → ItemAt o.bgps i e → AreRead e.1.pool_selectors × AreRead e.1.node_selectors
   pub peers : (i : ℕ) (e : List ℕ × BgpPeer) → ItemAt o.peers i e → AreRead e.1.node_selectors
-  pub communities : (i : ℕ) (e : List ℕ × BgpAdv) → ItemAt o.bgps i e
-      → map (number_in o.communities) e.1.communities ≡ map Some (filter_map (number_in o.communities) e.1.communities)
+  pub communities : (i : ℕ) (e : List ℕ × BgpAdv) → ItemAt o.bgps i e → AllByRecursion (IsReadText o.communities) e.1.communities
 
 abbrev pub AcceptedAreReadWhole : Type 0
 AcceptedAreReadWhole = (o : Objects) → HasNoFault o → IsReadWhole o
@@ -138,6 +145,25 @@ StandsFor communities text n =
 pub record AreNumbersOf (communities : List (List ℕ × CommunityList)) (texts : List (List ℕ)) (numbers : List ℕ) : Type 0 where
   pub ascending : IsStrictlySortedBy nat_cmp numbers
   pub exact : (n : ℕ) → IsIn numbers n ↔ Has (λ text. StandsFor communities text n) texts
+
+-- the same of large communities
+abbrev pub LargeTextsAreRead : Type 0
+LargeTextsAreRead = (text : List ℕ) (c : LargeCommunity) → (large_of text ≡ Some c) ↔ IsLargeText text c
+
+abbrev pub StandsForLarge : List (List ℕ × CommunityList) → List ℕ → LargeCommunity → Type 0
+StandsForLarge communities text c =
+    IsLargeText text c
+    ⊎ ((¬ IsTrue (has_colon text))
+    × ((value : List ℕ) × (named_value communities text ≡ Some value) × IsLargeText value c))
+
+pub record AreLargesOf (communities : List (List ℕ × CommunityList)) (texts : List (List ℕ)) (larges : List LargeCommunity) : Type 0 where
+  pub ascending : IsStrictlySortedBy large_cmp larges
+  pub exact : (c : LargeCommunity) → IsIn larges c ↔ Has (λ text. StandsForLarge communities text c) texts
+
+abbrev pub LargesAreRead : Type 0
+LargesAreRead =
+    (communities : List (List ℕ × CommunityList)) (texts : List (List ℕ))
+    → AreLargesOf communities texts (larges_in communities texts)
 
 abbrev pub CommunitiesAreRead : Type 0
 CommunitiesAreRead =

@@ -5,6 +5,7 @@ pub mod Compile
 pub mod ConfigValue
 pub mod Faults
 pub mod KeySets
+pub mod Large
 pub mod Laws
 pub mod Lists
 pub mod Meeting

@@ -18,11 +18,14 @@ is_colon c = c == 58
 abbrev pub has_colon : List ℕ → Bool
 has_colon text = list_any is_colon text
 
--- a decimal number below 65536 without sign or leading zeros
-abbrev pub half_of : List ℕ → Option ℕ
-half_of text =
+-- a decimal number below the limit, without sign or leading zeros
+abbrev pub number_below : ℕ → List ℕ → Option ℕ
+number_below limit text =
     if is_padded text then None
-    else (if (all_ascii_digits text && nat_lt 0 (length text)) && nat_lt (digits_value 10 text) 65536 then Some (digits_value 10 text) else None)
+    else (if (all_ascii_digits text && nat_lt 0 (length text)) && nat_lt (digits_value 10 text) limit then Some (digits_value 10 text) else None)
+
+abbrev pub half_of : List ℕ → Option ℕ
+half_of text = number_below 65536 text
 
 abbrev pub joined : Option ℕ → Option ℕ → Option ℕ
 joined None b = None

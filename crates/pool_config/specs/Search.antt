@@ -21,9 +21,10 @@ use Rattle.pool_config.specs.declared.compile_objects.CompileFault.TheVariants.{
 use Rattle.pool_config.specs.declared.compiled.CompiledPool.{CompiledPool}
 use Rattle.pool_config.specs.declared.compiled.CompiledBgp.{CompiledBgp}
 use Rattle.pool_config.specs.Choice.{chooses}
-pub use Rattle.pool_config.specs.Faults.{Row, ManyPools, ManyEntries, ManyTexts, BadEntry, NoEntry, Overlap, PoolSelector, L2Selector, BgpSelector, PeerSelector, Aggregation, PrefClash, UnknownCommunity, BadValue, BadText, TwiceNamed, UnknownPeer, rows, fault_at, allocation_selectors, length_for, key_of}
+pub use Rattle.pool_config.specs.Faults.{Row, ManyPools, ManyEntries, ManyTexts, ManyLarge, BadEntry, NoEntry, Overlap, PoolSelector, L2Selector, BgpSelector, PeerSelector, Aggregation, PrefClash, UnknownCommunity, BadValue, BadText, TwiceNamed, UnknownPeer, rows, fault_at, allocation_selectors, length_for, key_of, all_with_large}
 use Rattle.pool_config.specs.ConfigValue.{placed_spans}
 use Rattle.pool_config.specs.Lists.{lists_of, named_value}
+use Rattle.pool_config.specs.Large.{large_of}
 use Rattle.pool_config.specs.Numbers.{has_colon, number_of}
 use Rattle.pool_config.specs.Objects.{Objects}
 use Rattle.kube_labels.specs.Names.{name_cmp}
@@ -104,11 +105,15 @@ clash pools a b =
 abbrev pub is_unknown : List (List ℕ × CommunityList) → List ℕ → Bool
 is_unknown communities text = not (has_colon text) && is_none (named_value communities text)
 
+-- neither a number nor a large community
+abbrev pub is_no_community : List ℕ → Bool
+is_no_community text = is_none (number_of text) && is_none (large_of text)
+
 abbrev pub has_bad_value : CommunityList → Bool
-has_bad_value c = list_any (λ v. is_none (number_of v.1)) c.values
+has_bad_value c = list_any (λ v. is_no_community v.1) c.values
 
 abbrev pub is_bad_text : List ℕ → Bool
-is_bad_text text = has_colon text && is_none (number_of text)
+is_bad_text text = has_colon text && is_no_community text
 
 -- whether a name of the pairs is held, or stands twice among them
 abbrev pub repeats : List (List ℕ) → List (List ℕ × List ℕ) → Bool
@@ -129,7 +134,7 @@ is_unknown_peer peers name = is_none (lookup (is_at (name_cmp name)) peers)
 
 -- the rows, stage by stage: the pools by themselves, their entries, selectors, advertisements, names
 abbrev pub pool_rows : List Row
-pool_rows = ManyPools ∷ ManyEntries ∷ ManyTexts ∷ BadEntry ∷ NoEntry ∷ []
+pool_rows = ManyPools ∷ ManyEntries ∷ ManyTexts ∷ ManyLarge ∷ BadEntry ∷ NoEntry ∷ []
 
 abbrev pub overlap_rows : List Row
 overlap_rows = Overlap ∷ []
@@ -148,6 +153,7 @@ abbrev pub found_at : Objects → Row → Option (List ℕ)
 found_at o ManyPools = name_at 1024 o.pools
 found_at o ManyEntries = first_name has_many_entries o.pools
 found_at o ManyTexts = first_past 512 [] o.bgps
+found_at o ManyLarge = first_past 128 [] (all_with_large o)
 found_at o BadEntry = first_name has_bad_entry o.pools
 found_at o NoEntry = first_name has_no_entry o.pools
 found_at o Overlap = first_pair key_of meet (placed_spans (lists_of o).pools)

@@ -1,5 +1,5 @@
 //! The communities of advertisements, and what is wrong with them.
-ghost use Rattle.std.specs.Prelude.{◌≡◌, [], IfOk, OnOk};
+ghost use Rattle.std.specs.Prelude.{◌≡◌, ◌&&◌, [], map, filter, IfOk, OnOk};
 ghost use Rattle.std.specs.Option.{option_copied};
 ghost use Rattle.std.specs.Bool.{OnFalse};
 ghost use Rattle.std.specs.Map.{lookup};
@@ -8,12 +8,16 @@ ghost use Rattle.std.specs.List.{list_any, filter_map};
 ghost use Rattle.pool_config.specs.Objects.{named};
 ghost use Rattle.kube_labels.specs.Names.{name_cmp};
 ghost use Rattle.pool_config.specs.KeySets.{keys_with};
-ghost use Rattle.pool_config.specs.Lists.{named_value, number_in, numbers_in};
-ghost use Rattle.pool_config.specs.Search.{first_name, first_past, is_unknown, is_bad_text, has_bad_value, repeats, names_with, first_repeat};
+ghost use Rattle.pool_config.specs.Faults.{is_large_name, counts_as_large, with_large};
+ghost use Rattle.pool_config.specs.Large.{begins_large};
+ghost use Rattle.pool_config.specs.Lists.{named_value, number_in, numbers_in, large_in, larges_in};
+ghost use Rattle.pool_config.specs.Search.{first_name, first_past, is_unknown, is_no_community, is_bad_text, has_bad_value, repeats, names_with, first_repeat};
 
+use crate::large::{begins_large, read_large};
 use crate::numbers::{CommunityNumbers, has_colon, numbers_from, read_number};
 use kube_labels::Text;
 use kube_model::{BgpAdv, CommunityList};
+use large_numbers::{LargeCommunity, LargeNumbers, larges_from};
 use mlb_base::{NoMemory, TryCopy};
 use std::alloc::Global;
 use std::collections::BTreeSet;
@@ -21,6 +25,9 @@ use versioned_map::VersionedMap;
 
 /// The most distinct community texts of all advertisements.
 const MOST_TEXTS: usize = 512;
+
+/// The most of them that are of large communities.
+const MOST_LARGE: usize = 128;
 
 /// The value of a community's name, in the first list that has it.
 fn named_value<'a>(
@@ -59,6 +66,36 @@ fn number_in(communities: &VersionedMap<Text, CommunityList>, text: &Text) -> Op
         Some(value) => read_number(value.as_str()),
         None => None,
     }
+}
+
+/// The large community that an advertisement's community stands for.
+fn large_in(communities: &VersionedMap<Text, CommunityList>, text: &Text) -> Option<LargeCommunity>
+    ensures { result ≡ large_in (named communities.now) text.now }
+{
+    if has_colon(text.as_str()) {
+        return read_large(text.as_str());
+    }
+    match named_value(communities, text) {
+        Some(value) => read_large(value.as_str()),
+        None => None,
+    }
+}
+
+/// The large communities of an advertisement, ascending, each once.
+pub(crate) fn read_larges(
+    alloc: Global,
+    communities: &VersionedMap<Text, CommunityList>,
+    texts: &[Text],
+) -> Result<LargeNumbers, NoMemory>
+    ensures { IfOk result (λ numbers. numbers ≡ larges_in (named communities.now) texts.now) }
+{
+    let mut numbers = BTreeSet::new(alloc);
+    for text in texts {
+        if let Some(number) = large_in(communities, text) {
+            let _is_new = numbers.insert(number)?;
+        }
+    }
+    larges_from(alloc, &numbers)
 }
 
 /// The numbers of an advertisement's communities, ascending, each once.
@@ -104,6 +141,68 @@ fn add_texts(held: &mut BTreeSet<Text>, texts: &[Text]) -> Result<(), NoMemory>
     Ok(())
 }
 
+/// The first advertisement with which there are more texts of large communities than there may be.
+pub(crate) fn bgp_of_many_large<'a>(
+    alloc: Global,
+    communities: &VersionedMap<Text, CommunityList>,
+    bgps: &'a VersionedMap<Text, BgpAdv>,
+) -> Result<Option<&'a Text>, NoMemory>
+    ensures { IfOk result (λ found. option_copied found ≡ first_past 128 [] (map (with_large (named communities.now)) (named bgps.now))) }
+{
+    let mut texts = BTreeSet::new(alloc);
+    for (name, held) in bgps.iter() {
+        add_large_texts(communities, &mut texts, held.object.communities.as_slice())?;
+        if texts.len() > MOST_LARGE {
+            return Ok(Some(name));
+        }
+    }
+    Ok(None)
+}
+
+fn add_large_texts(
+    communities: &VersionedMap<Text, CommunityList>,
+    held: &mut BTreeSet<Text>,
+    texts: &[Text],
+) -> Result<(), NoMemory>
+    ensures { OnOk result (held.new.keys ≡ keys_with name_cmp held.old.keys (filter (counts_as_large (named communities.now)) texts.now)) }
+{
+    for text in texts {
+        if counts_as_large(communities, text) {
+            let _is_new = held.insert(text.copy()?)?;
+        }
+    }
+    Ok(())
+}
+
+/// Whether the text begins as a large community's, or is a name with a value that does.
+fn counts_as_large(communities: &VersionedMap<Text, CommunityList>, text: &Text) -> bool
+    ensures { result ≡ counts_as_large (named communities.now) text.now }
+{
+    begins_large(text.as_str()) || is_large_name(communities, text)
+}
+
+fn is_large_name(communities: &VersionedMap<Text, CommunityList>, name: &Text) -> bool
+    ensures { result ≡ is_large_name (named communities.now) name.now }
+{
+    for (_, held) in communities.iter() {
+        if has_large(held.object.values.as_slice(), name) {
+            return true;
+        }
+    }
+    false
+}
+
+fn has_large(values: &[(Text, Text)], name: &Text) -> bool
+    ensures { result ≡ list_any (λ v. bytes_eq v.0 name.now && begins_large v.1) values.now }
+{
+    for (known, value) in values {
+        if known == name && begins_large(value.as_str()) {
+            return true;
+        }
+    }
+    false
+}
+
 /// The first advertisement with a text that has no colon and is no name.
 pub(crate) fn bgp_of_unknown<'a>(
     communities: &VersionedMap<Text, CommunityList>,
@@ -130,7 +229,14 @@ fn has_unknown(communities: &VersionedMap<Text, CommunityList>, texts: &[Text]) 
     false
 }
 
-/// The first list of communities with a value that isn't `A:B`.
+/// Whether the text is neither a number nor a large community.
+fn is_no_community(text: &Text) -> bool
+    ensures { result ≡ is_no_community text.now }
+{
+    read_number(text.as_str()).is_none() && read_large(text.as_str()).is_none()
+}
+
+/// The first list of communities with a value that is neither `A:B` nor `large:A:B:C`.
 pub(crate) fn list_of_bad_value(communities: &VersionedMap<Text, CommunityList>) -> Option<&Text>
     ensures { option_copied result ≡ first_name has_bad_value (named communities.now) }
 {
@@ -146,14 +252,14 @@ fn has_bad_value(list: &CommunityList) -> bool
     ensures { result ≡ has_bad_value list.now }
 {
     for (_, value) in list.values.as_slice() {
-        if read_number(value.as_str()).is_none() {
+        if is_no_community(value) {
             return true;
         }
     }
     false
 }
 
-/// The first advertisement with a text that has a colon and isn't `A:B`.
+/// The first advertisement with a text that has a colon, and is neither `A:B` nor `large:A:B:C`.
 pub(crate) fn bgp_of_bad_text(bgps: &VersionedMap<Text, BgpAdv>) -> Option<&Text>
     ensures { option_copied result ≡ first_name (λ adv. list_any is_bad_text adv.communities) (named bgps.now) }
 {
@@ -169,7 +275,7 @@ fn has_bad_text(texts: &[Text]) -> bool
     ensures { result ≡ list_any is_bad_text texts.now }
 {
     for text in texts {
-        if has_colon(text.as_str()) && read_number(text.as_str()).is_none() {
+        if has_colon(text.as_str()) && is_no_community(text) {
             return true;
         }
     }

@@ -12,7 +12,8 @@ ghost use Rattle.pool_config.specs.Search.{found_among, Refuses, pool_rows, over
 use crate::advertised::{bgp_of_unknown_peer, bgp_too_far};
 use crate::clashes::clashing_bgp;
 use crate::communities::{
-    bgp_of_bad_text, bgp_of_many_texts, bgp_of_unknown, list_of_bad_value, list_of_repeat,
+    bgp_of_bad_text, bgp_of_many_large, bgp_of_many_texts, bgp_of_unknown, list_of_bad_value,
+    list_of_repeat,
 };
 use crate::compiled::{CompiledBgp, CompiledPool};
 use crate::config::Config;
@@ -88,6 +89,11 @@ fn check_pools(alloc: Global, objects: &ObjectSet) -> Result<(), CompileFault>
         Cause::Limit,
         Kind::Bgp,
         bgp_of_many_texts(alloc, &objects.bgps)?,
+    )?;
+    check(
+        Cause::Limit,
+        Kind::Bgp,
+        bgp_of_many_large(alloc, &objects.communities, &objects.bgps)?,
     )?;
     check(
         Cause::EntryUnreadable,

@@ -7,6 +7,7 @@ use crate::numbers::CommunityNumbers;
 use ip_ranges::SpanList;
 use kube_labels::{Labels, SelectorList, Text, TextList};
 use kube_model::{LengthV4, LengthV6};
+use large_numbers::LargeNumbers;
 use mlb_base::Sequence;
 
 /// An IPAddressPool (MetalLB), with its entries and selectors read.
@@ -59,6 +60,8 @@ pub struct CompiledBgp {
     pub local_pref: u32,
     /// COMMUNITIES (RFC 1997).
     pub communities: CommunityNumbers,
+    /// LARGE_COMMUNITY (RFC 8092).
+    pub large: LargeNumbers,
     /// Names of pools, which needn't be there.
     pub pools: TextList,
     pub pool_selectors: SelectorList,

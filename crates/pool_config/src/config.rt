@@ -6,7 +6,7 @@ use std::alloc::Global;
 use std::marker::Model;
 
 /// A configuration that can be in force. The names in each list ascend by their bytes, so that no two are the same, no two spans
-/// overlap, of one pool or of two, and the advertisements have at most 512 communities, each counted once.
+/// overlap, of one pool or of two, and the advertisements have at most 512 communities and at most 128 large ones, each counted once.
 #[derive(Drop)]
 pub struct Config {
     pub pools: PoolList,

@@ -1,5 +1,5 @@
 //! What holds of each set of objects, apart from the code.
-ghost use Rattle.pool_config.specs.Laws.{AcceptedAreReadWhole, AllAreCompiledRight, CommunitiesAreRead, NamesAreKept, NumbersAreRead, RemovesTakeOut, SetsPutInPlace};
+ghost use Rattle.pool_config.specs.Laws.{AcceptedAreReadWhole, AllAreCompiledRight, CommunitiesAreRead, LargesAreRead, LargeTextsAreRead, NamesAreKept, NumbersAreRead, RemovesTakeOut, SetsPutInPlace};
 
 /// A set is compiled to a fault exactly where that is its first one, and else to its lists.
 pub fn objects_are_compiled()
@@ -20,6 +20,13 @@ pub fn numbers_are_read()
 /// stand for.
 pub fn communities_are_read()
     ensures { CommunitiesAreRead }
+{}
+
+/// The texts that are large communities are those of the form `large:A:B:C`, and those of an advertisement ascend, each once, and are
+/// exactly those that its texts stand for.
+pub fn larges_are_read()
+    ensures texts { LargeTextsAreRead }
+    ensures lists { LargesAreRead }
 {}
 
 /// Where there is no fault, every entry, every selector and every community is read.

@@ -9,6 +9,7 @@ mod communities;
 mod compile_objects;
 mod compiled;
 mod config;
+mod large;
 mod laws;
 mod numbers;
 mod object_set;
@@ -25,9 +26,11 @@ pub use compiled::{
     PeerList, PoolList,
 };
 pub use config::Config;
+pub use large::read_large;
+pub use large_numbers::{LargeCommunity, LargeNumbers};
 pub use laws::{
-    accepted_are_read_whole, communities_are_read, names_are_kept, numbers_are_read,
-    objects_are_compiled, removes_take_out, sets_put_in_place,
+    accepted_are_read_whole, communities_are_read, larges_are_read, names_are_kept,
+    numbers_are_read, objects_are_compiled, removes_take_out, sets_put_in_place,
 };
 pub use numbers::{CommunityNumbers, numbers_from, read_number};
 pub use object_set::ObjectSet;

@@ -92,7 +92,7 @@ fn read_half(text: &str) -> Option<u16>
 }
 
 /// Whether the text begins with a plus, or with a zero before others.
-fn is_padded(text: &[u8]) -> bool
+pub(crate) fn is_padded(text: &[u8]) -> bool
     ensures { result ≡ is_padded text.now }
 {
     match text {

@@ -11,3 +11,4 @@ pub mod PrefixWalk
 pub mod ReadAgain
 pub mod ReceivedAgain
 pub mod Spelled
+pub mod Wide

@@ -1,19 +1,21 @@
 -- The joined octets of the messages between two tables give the new one.
 use Rattle.std.proofs.Common.{◌≡◌, ℕ, zero, suc, ◌<◌, ◌≤◌, List, [], ◌∷◌, ◌++◌, length, map, Option, Some, None, refl, sym, subst, ◌∙◌, ap, arith, length-append, inl, inr}
-use Rattle.std.proofs.lemmas.List.{append-nil, map-append}
+use Rattle.std.proofs.lemmas.List.{append-nil}
 use Rattle.std.proofs.lemmas.List.Elements.{recursion_from_All}
 use Rattle.std.specs.List.{AllByRecursion}
 use Rattle.std.specs.Option.{option_and_then, option_map}
+use Rattle.ip_ranges.specs.declared.family.Family.{Family}
+use Rattle.ip_ranges.specs.declared.family.Family.TheVariants.{V4, V6}
 use Rattle.ip_ranges.specs.Values.{PrefixValue}
 use Rattle.bgp_updates.specs.declared.route.Terms.{Terms}
 use Rattle.bgp_updates.specs.declared.route.Peering.{Peering}
-use Rattle.bgp_updates.specs.Between.{messages_between, octets_with, update_octets}
-use Rattle.bgp_updates.specs.Laws.{updates_between}
-use Rattle.bgp_updates.specs.Message.{attributes_of, prefixes_bytes}
-use Rattle.bgp_updates.specs.Tables.{HasFew, IsTable}
+use Rattle.bgp_updates.specs.Between.{messages_between, messages_for, octets_with, update_octets}
+use Rattle.bgp_updates.specs.Laws.{updates_between, updates_for}
+use Rattle.bgp_updates.specs.Message.{announce_message, message_of, prefixes_bytes, unreach_attribute, withdraw_message}
+use Rattle.bgp_updates.specs.Tables.{HasFew, IsTable, of_family}
 use Rattle.bgp_updates.specs.Received.{Update, after, received, terms_at}
-use Rattle.bgp_updates.proofs.ReceivedLaws.{messages-give}
-use Rattle.bgp_updates.proofs.Sizes.{length-message, messages-fit}
+use Rattle.bgp_updates.proofs.ReceivedLaws.{messages-give, received-append}
+use Rattle.bgp_updates.proofs.Sizes.{IsShort, length-message, messages-fit}
 use Rattle.bgp_updates.proofs.Spelling.{messages-spell}
 use Rattle.bgp_reading.specs.declared.parts.UpdateParts.{UpdateParts}
 use Rattle.bgp_reading.specs.Joined.{after_parts, behind_first, first_message, received_bytes, received_within}
@@ -21,8 +23,9 @@ use Rattle.bgp_reading.specs.Laws.{CanBeTold, MessagesAreOfSender, MessagesSayOn
 use Rattle.bgp_reading.specs.Places.{short_at}
 use Rattle.bgp_reading.specs.Reading.{announced_parts, update_of, withdrawn_parts}
 use Rattle.bgp_reading.specs.Update.{IsMessageOf}
+use Rattle.bgp_reading.proofs.AttributesAgain.{attributes_with}
 use Rattle.bgp_reading.proofs.Formed.{Formed, IsFormed, updates-formed}
-use Rattle.bgp_reading.proofs.Messages.{front-at, joined-size, rest-at}
+use Rattle.bgp_reading.proofs.Messages.{announce-spelled, behind_of, front-at, joined-size, rest-at, withdraw-spelled_v4, withdraw-spelled_v6}
 use Rattle.bgp_reading.proofs.ReadAgain.{announced-again, messages-are-read, withdrawn-again}
 
 pub one-thing : MessagesSayOneThing
@@ -30,49 +33,104 @@ one-thing a b bytes is_a is_b = same a b (sym (messages-are-read a bytes is_a) �
   same : (x y : UpdateParts) → Some x ≡ Some y → x ≡ y
   same x y e = cc
 
--- a message's octets, whatever follows them, are cut off and read as what it says
-record IsSent (peering : Peering) (update : Update) : Type 0 where
-  parts : UpdateParts
-  says : (table : PrefixValue → Option Terms) → after_parts table parts ≡ after table update
-  some : 0 < length (update_octets peering update)
-  size : (rest : List ℕ) → short_at 16 (update_octets peering update ++ rest) ≡ length (update_octets peering update)
-  read : update_of (update_octets peering update) ≡ Some parts
+-- a message's octets, whatever follows them, are cut off and read as what it says, and are one message of the sender
+pub record IsSent (peering : Peering) (message : List ℕ) (update : Update) : Type 0 where
+  pub parts : UpdateParts
+  pub says : (table : PrefixValue → Option Terms) → after_parts table parts ≡ after table update
+  pub names : parts.withdrawn ++ parts.announced ≡ update.withdrawn ++ update.announced
+  pub some : 0 < length message
+  pub size : (rest : List ℕ) → short_at 16 (message ++ rest) ≡ length message
+  pub read : update_of message ≡ Some parts
+  pub of_sender : IsMessageOf peering message
 
-sent-by : (peering : Peering) (withdrawn announced : List PrefixValue) (terms : Option Terms) → IsFormed peering withdrawn announced terms → length (octets_with peering withdrawn announced terms) ≤ 4096
-    → IsSent peering (record { withdrawn = withdrawn; announced = announced; terms = terms })
-sent-by peering withdrawn [] None are short = record {
-  parts = withdrawn_parts withdrawn;
-  says = λ table. refl;
-  some = omega (arith, length-message (prefixes_bytes withdrawn) [] []);
-  size = λ rest. joined-size (prefixes_bytes withdrawn) [] [] rest short;
-  read = withdrawn-again withdrawn are short;
-}
-sent-by peering withdrawn (p ∷ announced) None are short = absurd are
-sent-by peering [] announced (Some terms) are short = record {
-  parts = announced_parts terms announced;
-  says = λ table. refl;
-  some = omega (arith, length-message [] (attributes_of peering terms) (prefixes_bytes announced));
-  size = λ rest. joined-size [] (attributes_of peering terms) (prefixes_bytes announced) rest short;
-  read = announced-again peering terms announced are.0.0 are.0.1 are.1 short;
-}
-sent-by peering (p ∷ withdrawn) announced (Some terms) are short = absurd are
+-- its octets are some, as many as it says
+abbrev IsSized : List ℕ → Type 0
+IsSized message = (0 < length message) × ((rest : List ℕ) → short_at 16 (message ++ rest) ≡ length message)
 
--- so it is one message of the sender
-message-of : (peering : Peering) (withdrawn announced : List PrefixValue) (terms : Option Terms) → IsFormed peering withdrawn announced terms → length (octets_with peering withdrawn announced terms) ≤ 4096
-    → IsMessageOf peering (octets_with peering withdrawn announced terms)
-message-of peering withdrawn [] None are short = record { form = inl (withdrawn, are, refl); short = short }
-message-of peering withdrawn (p ∷ announced) None are short = absurd are
-message-of peering [] announced (Some terms) are short = record { form = inr (terms, announced, are.0.0, are.0.1, are.1, refl); short = short }
-message-of peering (p ∷ withdrawn) announced (Some terms) are short = absurd are
+sized-by : (message w a n : List ℕ) → message ≡ message_of w a n → length message ≤ 4096 → IsSized message
+sized-by message w a n is =
+    subst (λ (m : List ℕ). length m ≤ 4096 → IsSized m) (sym is) (λ short. (omega (arith, length-message w a n), λ rest. joined-size w a n rest short))
 
-messages-of : (peering : Peering) (updates : List Update) → AllByRecursion (Formed peering) updates → AllByRecursion (λ m. length m ≤ 4096) (map (update_octets peering) updates)
-    → AllByRecursion (IsMessageOf peering) (map (update_octets peering) updates)
-messages-of peering [] are short = tt
-messages-of peering (update ∷ updates) are short = (message-of peering update.withdrawn update.announced update.terms are.0 short.0, messages-of peering updates are.1 short.1)
+withdrawn-sized : (family : Family) (prefixes : List PrefixValue) → length (withdraw_message family prefixes) ≤ 4096 → IsSized (withdraw_message family prefixes)
+withdrawn-sized V4 prefixes short = sized-by (withdraw_message V4 prefixes) (prefixes_bytes prefixes) [] [] (withdraw-spelled_v4 prefixes) short
+withdrawn-sized V6 prefixes short = sized-by (withdraw_message V6 prefixes) [] (unreach_attribute (prefixes_bytes prefixes)) [] (withdraw-spelled_v6 prefixes) short
 
-all-sent : (peering : Peering) (updates : List Update) → AllByRecursion (Formed peering) updates → AllByRecursion (λ m. length m ≤ 4096) (map (update_octets peering) updates) → AllByRecursion (IsSent peering) updates
-all-sent peering [] are short = tt
-all-sent peering (update ∷ updates) are short = (sent-by peering update.withdrawn update.announced update.terms are.0 short.0, all-sent peering updates are.1 short.1)
+announced-sized : (family : Family) (peering : Peering) (terms : Terms) (prefixes : List PrefixValue) → length (announce_message family peering terms prefixes) ≤ 4096 → IsSized (announce_message family peering terms prefixes)
+announced-sized family peering terms prefixes short =
+    sized-by (announce_message family peering terms prefixes) [] (attributes_with family peering terms (prefixes_bytes prefixes)) (behind_of family (prefixes_bytes prefixes)) (announce-spelled family peering terms prefixes) short
+
+sent-by : (family : Family) (peering : Peering) (withdrawn announced : List PrefixValue) (terms : Option Terms) → IsFormed family peering withdrawn announced terms → length (octets_with family peering withdrawn announced terms) ≤ 4096
+    → IsSent peering (octets_with family peering withdrawn announced terms) (record { withdrawn = withdrawn; announced = announced; terms = terms })
+sent-by family peering withdrawn [] None are short =
+    let sized = withdrawn-sized family withdrawn short in
+    record {
+      parts = withdrawn_parts withdrawn;
+      says = λ table. refl;
+      names = refl;
+      some = sized.0;
+      size = sized.1;
+      read = withdrawn-again family withdrawn are short;
+      of_sender = record { form = inl (family, withdrawn, are, refl); short = short };
+    }
+sent-by family peering withdrawn (p ∷ announced) None are short = absurd are
+sent-by family peering [] announced (Some terms) are short =
+    let sized = announced-sized family peering terms announced short in
+    record {
+      parts = announced_parts terms announced;
+      says = λ table. refl;
+      names = refl;
+      some = sized.0;
+      size = sized.1;
+      read = announced-again family peering terms announced are.0.0 are.0.1 are.1 short;
+      of_sender = record { form = inr (family, terms, announced, are.0.0, are.0.1, are.1, refl); short = short };
+    }
+sent-by family peering (p ∷ withdrawn) announced (Some terms) are short = absurd are
+
+-- each message is sent as what it says
+abbrev pub AreSent : Peering → List (List ℕ) → List Update → Type 0
+AreSent peering [] [] = Unit {0}
+AreSent peering [] (update ∷ updates) = ⊥
+AreSent peering (message ∷ messages) [] = ⊥
+AreSent peering (message ∷ messages) (update ∷ updates) = IsSent peering message update × AreSent peering messages updates
+
+sent-append : (peering : Peering) (ms : List (List ℕ)) (us : List Update) (more : List (List ℕ)) (later : List Update) → AreSent peering ms us → AreSent peering more later → AreSent peering (ms ++ more) (us ++ later)
+sent-append peering [] [] more later first second = second
+sent-append peering [] (u ∷ us) more later first second = absurd first
+sent-append peering (m ∷ ms) [] more later first second = absurd first
+sent-append peering (m ∷ ms) (u ∷ us) more later first second = (first.0, sent-append peering ms us more later first.1 second)
+
+sent-octets : (family : Family) (peering : Peering) (updates : List Update) → AllByRecursion (Formed family peering) updates → AllByRecursion IsShort (map (update_octets family peering) updates)
+    → AreSent peering (map (update_octets family peering) updates) updates
+sent-octets family peering [] are short = tt
+sent-octets family peering (update ∷ updates) are short =
+    (sent-by family peering update.withdrawn update.announced update.terms are.0 short.0, sent-octets family peering updates are.1 short.1)
+
+all-first : {X : Type 0} (P : X → Type 0) (xs ys : List X) → AllByRecursion P (xs ++ ys) → AllByRecursion P xs
+all-first P [] ys all = tt
+all-first P (x ∷ xs) ys all = (all.0, all-first P xs ys all.1)
+
+all-second : {X : Type 0} (P : X → Type 0) (xs ys : List X) → AllByRecursion P (xs ++ ys) → AllByRecursion P ys
+all-second P [] ys all = all
+all-second P (x ∷ xs) ys all = all-second P xs ys all.1
+
+-- the messages of a family
+sent-for : (family : Family) (peering : Peering) (old new : List (PrefixValue × Terms)) → AllByRecursion (Formed family peering) (updates_for family peering old new) → AllByRecursion IsShort (messages_for family peering old new)
+    → AreSent peering (messages_for family peering old new) (updates_for family peering old new)
+sent-for family peering old new formed short =
+    let spelled = messages-spell family peering old new in
+    let octets : AllByRecursion IsShort (map (update_octets family peering) (updates_for family peering old new)) = subst (AllByRecursion IsShort) spelled short in
+    subst (λ (ms : List (List ℕ)). AreSent peering ms (updates_for family peering old new)) (sym spelled) (sent-octets family peering (updates_for family peering old new) formed octets)
+
+-- the messages between two tables
+pub sent-between : (peering : Peering) (old new : List (PrefixValue × Terms)) → IsTable old → CanBeTold peering new → AreSent peering (messages_between peering old new) (updates_between peering old new)
+sent-between peering old new old_table is =
+    let first = messages_for V4 peering (of_family V4 old) (of_family V4 new) in
+    let second = messages_for V6 peering (of_family V6 old) (of_family V6 new) in
+    let short : AllByRecursion IsShort (first ++ second) = recursion_from_All IsShort (first ++ second) (messages-fit peering old new old_table is.table is.few) in
+    let few = recursion_from_All HasFew new is.few in
+    sent-append peering first (updates_for V4 peering (of_family V4 old) (of_family V4 new)) second (updates_for V6 peering (of_family V6 old) (of_family V6 new))
+    (sent-for V4 peering (of_family V4 old) (of_family V4 new) (updates-formed V4 peering old new old_table is.table few is.of_peer is.typed) (all-first IsShort first second short))
+    (sent-for V6 peering (of_family V6 old) (of_family V6 new) (updates-formed V6 peering old new old_table is.table few is.of_peer is.typed) (all-second IsShort first second short))
 
 -- the first message, cut off and read
 received-first : (most : ℕ) (table : PrefixValue → Option Terms) (message rest : List ℕ) (parts : UpdateParts) → 0 < length message → short_at 16 (message ++ rest) ≡ length message → update_of message ≡ Some parts
@@ -86,70 +144,41 @@ received-first most table (octet ∷ message) rest parts some size read =
     ∙ ap (option_and_then (λ parts. received_within most (after_parts table parts) (behind_first bytes))) read
     ∙ ap (received_within most (after_parts table parts)) back
 
-received-all : (peering : Peering) (updates : List Update) (table : PrefixValue → Option Terms) (most : ℕ) → AllByRecursion (IsSent peering) updates → length (joined (map (update_octets peering) updates)) ≤ most
-    → received_within most table (joined (map (update_octets peering) updates)) ≡ Some (received table updates)
-received-all peering [] table most are few = refl
-received-all peering (update ∷ updates) table zero are few =
-    let message = update_octets peering update in
+received-all : (peering : Peering) (messages : List (List ℕ)) (updates : List Update) (table : PrefixValue → Option Terms) (most : ℕ) → AreSent peering messages updates → length (joined messages) ≤ most
+    → received_within most table (joined messages) ≡ Some (received table updates)
+received-all peering [] [] table most are few = refl
+received-all peering [] (update ∷ updates) table most are few = absurd are
+received-all peering (message ∷ messages) [] table most are few = absurd are
+received-all peering (message ∷ messages) (update ∷ updates) table zero are few =
     let some = are.0.some in
-    absurd (omega (arith, few, some, length-append (update_octets peering update) (joined (map (update_octets peering) updates))))
-received-all peering (update ∷ updates) table (suc most) are few =
-    let message = update_octets peering update in
-    let rest = joined (map (update_octets peering) updates) in
+    absurd (omega (arith, few, some, length-append message (joined messages)))
+received-all peering (message ∷ messages) (update ∷ updates) table (suc most) are few =
     let some = are.0.some in
-    let left : length rest ≤ most = omega (arith, few, some, length-append (update_octets peering update) (joined (map (update_octets peering) updates))) in
-    received-first most table message rest are.0.parts are.0.some (are.0.size rest) are.0.read
-    ∙ ap (λ t. received_within most t rest) (are.0.says table)
-    ∙ received-all peering updates (after table update) most are.1 left
-
--- what the messages between two tables say, each of which is cut off and read
-record AreSent (peering : Peering) (old new : List (PrefixValue × Terms)) : Type 0 where
-  spelled : messages_between peering old new ≡ map (update_octets peering) (updates_between peering old new)
-  sent : AllByRecursion (IsSent peering) (updates_between peering old new)
-  messages : AllByRecursion (IsMessageOf peering) (messages_between peering old new)
-
-are-sent : (peering : Peering) (old new : List (PrefixValue × Terms)) → IsTable old → CanBeTold peering new → AreSent peering old new
-are-sent peering old new old_table is =
-    let updates = updates_between peering old new in
-    let spelled = messages-spell peering old new in
-    let short : AllByRecursion (λ m. length m ≤ 4096) (map (update_octets peering) updates) =
-    rw spelled at (recursion_from_All (λ m. length m ≤ 4096) (messages_between peering old new) (messages-fit peering old new old_table is.table is.few)) in
-    let formed = updates-formed peering old new old_table is.table (recursion_from_All HasFew new is.few) is.of_peer is.typed in
-    record {
-      spelled = spelled;
-      sent = all-sent peering updates formed short;
-      messages = subst (AllByRecursion (IsMessageOf peering)) (sym spelled) (messages-of peering updates formed short);
-    }
+    let left : length (joined messages) ≤ most = omega (arith, few, some, length-append message (joined messages)) in
+    received-first most table message (joined messages) are.0.parts are.0.some (are.0.size (joined messages)) are.0.read
+    ∙ ap (λ t. received_within most t (joined messages)) (are.0.says table)
+    ∙ received-all peering messages updates (after table update) most are.1 left
 
 -- what the messages over some tables say
 abbrev updates_over : Peering → List (PrefixValue × Terms) → List (List (PrefixValue × Terms)) → List Update
 updates_over peering old [] = []
 updates_over peering old (new ∷ later) = updates_between peering old new ++ updates_over peering new later
 
-all-append : {X : Type 0} (P : X → Type 0) (xs ys : List X) → AllByRecursion P xs → AllByRecursion P ys → AllByRecursion P (xs ++ ys)
-all-append P [] ys a b = b
-all-append P (x ∷ xs) ys a b = (a.0, all-append P xs ys a.1 b)
-
-over-spelled : (peering : Peering) (old : List (PrefixValue × Terms)) (tables : List (List (PrefixValue × Terms))) → messages_over peering old tables ≡ map (update_octets peering) (updates_over peering old tables)
-over-spelled peering old [] = refl
-over-spelled peering old (new ∷ later) =
-    ap (λ ms. ms ++ messages_over peering new later) (messages-spell peering old new)
-    ∙ ap (λ ms. map (update_octets peering) (updates_between peering old new) ++ ms) (over-spelled peering new later)
-    ∙ sym (map-append (update_octets peering) (updates_between peering old new) (updates_over peering new later))
-
-over-sent : (peering : Peering) (old : List (PrefixValue × Terms)) (tables : List (List (PrefixValue × Terms))) → IsTable old → AllByRecursion (CanBeTold peering) tables → AllByRecursion (IsSent peering) (updates_over peering old tables)
+over-sent : (peering : Peering) (old : List (PrefixValue × Terms)) (tables : List (List (PrefixValue × Terms))) → IsTable old → AllByRecursion (CanBeTold peering) tables
+    → AreSent peering (messages_over peering old tables) (updates_over peering old tables)
 over-sent peering old [] table all = tt
 over-sent peering old (new ∷ later) table all =
-    all-append (IsSent peering) (updates_between peering old new) (updates_over peering new later) (are-sent peering old new table all.0).sent (over-sent peering new later all.0.table all.1)
+    sent-append peering (messages_between peering old new) (updates_between peering old new) (messages_over peering new later) (updates_over peering new later)
+    (sent-between peering old new table all.0) (over-sent peering new later all.0.table all.1)
+
+pub sent-of : (peering : Peering) (messages : List (List ℕ)) (updates : List Update) → AreSent peering messages updates → AllByRecursion (IsMessageOf peering) messages
+sent-of peering [] [] are = tt
+sent-of peering [] (update ∷ updates) are = absurd are
+sent-of peering (message ∷ messages) [] are = absurd are
+sent-of peering (message ∷ messages) (update ∷ updates) are = (are.0.of_sender, sent-of peering messages updates are.1)
 
 pub of-sender : MessagesAreOfSender
-of-sender peering old [] table all = tt
-of-sender peering old (new ∷ later) table all =
-    all-append (IsMessageOf peering) (messages_between peering old new) (messages_over peering new later) (are-sent peering old new table all.0).messages (of-sender peering new later all.0.table all.1)
-
-received-append : (table : PrefixValue → Option Terms) (xs ys : List Update) → received table (xs ++ ys) ≡ received (received table xs) ys
-received-append table [] ys = refl
-received-append table (x ∷ xs) ys = received-append (after table x) xs ys
+of-sender peering old tables table all = sent-of peering (messages_over peering old tables) (updates_over peering old tables) (over-sent peering old tables table all)
 
 over-received : (peering : Peering) (old : List (PrefixValue × Terms)) (tables : List (List (PrefixValue × Terms))) → AllByRecursion (CanBeTold peering) tables
     → received (terms_at old) (updates_over peering old tables) ≡ terms_at (last_table old tables)
@@ -162,10 +191,9 @@ over-received peering old (new ∷ later) all =
 
 pub tables-received : TablesAreReceived
 tables-received peering old tables old_table all p =
+    let messages = messages_over peering old tables in
     let updates = updates_over peering old tables in
-    let messages = map (update_octets peering) updates in
-    ap (λ ms. option_map (λ table. table p) (received_within (length (joined ms)) (terms_at old) (joined ms))) (over-spelled peering old tables)
-    ∙ ap (option_map (λ table. table p)) (received-all peering updates (terms_at old) (length (joined messages)) (over-sent peering old tables old_table all) (omega arith))
+    ap (option_map (λ table. table p)) (received-all peering messages updates (terms_at old) (length (joined messages)) (over-sent peering old tables old_table all) (omega arith))
     ∙ ap (λ table. Some (table p)) (over-received peering old tables all)
 
 pub updates-received : UpdatesAreReceived

@@ -1,4 +1,4 @@
-//! UPDATE messages of BGP, read (RFC 4271, section 4.3).
+//! UPDATE messages of BGP for IPv4 and for IPv6, read (RFC 4271, section 4.3; RFC 4760; RFC 8092).
 #![tactic(auto)]
 
 mod attributes;

@@ -1,6 +1,6 @@
 //! Octets at a place, of which those past the end count as 0.
 ghost use Rattle.std.specs.Prelude.{◌≡◌, ◌≤◌, take, drop, slice_index};
-ghost use Rattle.bgp_reading.specs.Places.{number_at, short_at};
+ghost use Rattle.bgp_reading.specs.Places.{number_at, short_at, wide_in};
 
 /// The octet at the place.
 pub(crate) fn octet(bytes: &[u8], place: usize) -> u8
@@ -28,6 +28,18 @@ pub(crate) fn number_at(bytes: &[u8], place: usize) -> u32
         octet(bytes, place + 2),
         octet(bytes, place + 3),
     ])
+}
+
+/// The number in the first sixteen octets.
+#[tactic(auto, unfolding(crate::specs::Places::wide_in))]
+pub(crate) fn wide_in(bytes: &[u8]) -> u128
+    ensures { result ≡ wide_in bytes.now }
+{
+    let mut octets = [0; 16];
+    for place in 0..16 {
+        octets[place] = octet(bytes, place);
+    }
+    u128::from_be_bytes(octets)
 }
 
 /// The first so many octets.

@@ -1,87 +1,74 @@
 //! Parts, written again and compared.
-ghost use Rattle.std.specs.Prelude.{◌≡◌, ◌==◌, ◌+◌, ◌*◌, ◌≤◌, [], All, IfOk, length};
+ghost use Rattle.std.specs.Prelude.{◌≡◌, ◌*◌, ◌≤◌, All, IfOk, length};
 ghost use Rattle.std.specs.Str.{bytes_eq};
-ghost use Rattle.bgp_updates.specs.Message.{Fits, message_of};
+ghost use Rattle.bgp_updates.specs.Message.{Fits, part_message, part_size};
 ghost use Rattle.bgp_reading.specs.Reading.{are_announced, are_withdrawn};
 
 use crate::prefixes::are_prefixes;
-use bgp_updates::{Peering, Terms, attribute_octets, message_octets, prefix_octets};
-use ip_ranges::Prefix;
+use bgp_updates::{
+    Part, Peering, Terms, announced_part, part_octets, prefix_octets, withdrawn_part,
+};
+use ip_ranges::{Family, Prefix};
 use mlb_base::NoMemory;
 use std::alloc::Global;
 
-/// Whether the octets are a message that withdraws the prefixes.
+/// Whether the octets are a message that withdraws the prefixes of the family.
 #[tactic(auto, unfolding(crate::specs::Reading::are_withdrawn))]
 pub(crate) fn are_withdrawn(
     alloc: Global,
+    family: Family,
     bytes: &[u8],
     prefixes: &[Prefix],
 ) -> Result<bool, NoMemory>
     requires short { length bytes.now ≤ 4096 }
     requires fits { All Fits prefixes.now }
-    ensures { IfOk result (λ b. b ≡ are_withdrawn bytes.now prefixes.now) }
+    ensures { IfOk result (λ b. b ≡ are_withdrawn family bytes.now prefixes.now) }
 {
     if !are_prefixes(prefixes) {
         return Ok(false);
     }
-    let withdrawn = prefix_octets(alloc, prefixes)?;
-    is_message(alloc, bytes, withdrawn.as_slice(), &[], &[])
+    is_message(alloc, bytes, &withdrawn_part(family), prefixes)
 }
 
-/// Whether the octets are the sender's message that announces the prefixes with these terms.
+/// Whether the octets are the sender's message that announces the prefixes of the family with these terms.
 #[tactic(auto, unfolding(crate::specs::Reading::are_announced))]
 pub(crate) fn are_announced(
     alloc: Global,
+    family: Family,
     bytes: &[u8],
     sender: &Peering,
     terms: &Terms,
     prefixes: &[Prefix],
 ) -> Result<bool, NoMemory>
     requires short { length bytes.now ≤ 4096 }
-    requires few { 4 * length terms.now.communities ≤ 4096 }
+    requires communities { 4 * length terms.now.communities ≤ 4096 }
+    requires large { 12 * length terms.now.large ≤ 4096 }
     requires fits { All Fits prefixes.now }
-    ensures { IfOk result (λ b. b ≡ are_announced bytes.now sender.now terms.now prefixes.now) }
+    ensures { IfOk result (λ b. b ≡ are_announced family bytes.now sender.now terms.now prefixes.now) }
 {
     if !are_prefixes(prefixes) {
         return Ok(false);
     }
-    let attributes = attribute_octets(alloc, sender, terms)?;
-    let announced = prefix_octets(alloc, prefixes)?;
-    is_message(
-        alloc,
-        bytes,
-        &[],
-        attributes.as_slice(),
-        announced.as_slice(),
-    )
+    let part = announced_part(alloc, family, sender, terms)?;
+    is_message(alloc, bytes, &part, prefixes)
 }
 
-/// Whether the octets are the message of three parts.
+/// Whether the octets are the message that tells of the prefixes so.
 fn is_message(
     alloc: Global,
     bytes: &[u8],
-    withdrawn: &[u8],
-    attributes: &[u8],
-    announced: &[u8],
+    part: &Part,
+    prefixes: &[Prefix],
 ) -> Result<bool, NoMemory>
-    requires { length bytes.now ≤ 4096 }
-    ensures { IfOk result (λ b. b ≡ bytes_eq (message_of withdrawn.now attributes.now announced.now) bytes.now) }
+    requires short { length bytes.now ≤ 4096 }
+    requires part { part_size part.now ≤ 9000 }
+    requires fits { All Fits prefixes.now }
+    ensures { IfOk result (λ b. b ≡ bytes_eq (part_message part.now prefixes.now) bytes.now) }
 {
-    if !has_size(bytes, withdrawn, attributes, announced) {
+    let told = prefix_octets(alloc, prefixes)?;
+    if told.len() > bytes.len() {
         return Ok(false);
     }
-    let message = message_octets(alloc, withdrawn, attributes, announced)?;
+    let message = part_octets(alloc, part, told.as_slice())?;
     Ok(message.as_slice() == bytes)
-}
-
-/// Whether the octets are as many as those of the message of three parts.
-fn has_size(bytes: &[u8], withdrawn: &[u8], attributes: &[u8], announced: &[u8]) -> bool
-    requires { length bytes.now ≤ 4096 }
-    ensures { result ≡ (length bytes.now == 23 + length withdrawn.now + length attributes.now + length announced.now) }
-{
-    let size = bytes.len();
-    if withdrawn.len() > size || attributes.len() > size || announced.len() > size {
-        return false;
-    }
-    size == 23 + withdrawn.len() + attributes.len() + announced.len()
 }

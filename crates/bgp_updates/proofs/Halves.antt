@@ -8,7 +8,9 @@ use Rattle.std.proofs.lemmas.Bool.Decides.{nat_tests}
 use Rattle.ip_ranges.specs.Values.{PrefixValue}
 use Rattle.bgp_updates.specs.declared.route.Terms.{Terms}
 use Rattle.bgp_updates.specs.Received.{same_prefix, terms_at}
-use Rattle.bgp_updates.specs.Tables.{Ascend, before}
+use Rattle.ip_ranges.specs.declared.family.Family.{Family}
+use Rattle.ip_ranges.specs.declared.family.Family.TheVariants.{V4, V6}
+use Rattle.bgp_updates.specs.Tables.{Ascend, before, families_before, numbers_before}
 use Rattle.bgp_updates.proofs.ReceivedLaws.{before-other, both_true, none-same, not_true, or_parts, same_prefix-is}
 
 -- whether the route's prefix comes before this one
@@ -23,11 +25,39 @@ AreHalves p table at = IsPartitionPoint (λ route. is_below p route ≡ true) (�
 abbrev pub terms_for : PrefixValue → PrefixValue × Terms → Option Terms
 terms_for p route = cond (same_prefix p route.0) (Some route.1) None
 
+numbers-before-before : (a b c l m n : ℕ) → numbers_before a b l m ≡ true → numbers_before b c m n ≡ true → numbers_before a c l n ≡ true
+numbers-before-before a b c l m n first second = grind (arith, nat_tests)
+
+numbers-not_before : (a b c l m n : ℕ) → numbers_before a b l m ≡ true → numbers_before a c l n ≡ false → numbers_before c b n m ≡ true
+numbers-not_before a b c l m n first other = grind (arith, nat_tests)
+
+families-before-before : (f g h : Family) (x y z : Bool) → (x ≡ true → y ≡ true → z ≡ true) → families_before f g x ≡ true → families_before g h y ≡ true → families_before f h z ≡ true
+families-before-before V4 V4 V4 x y z by first second = by first second
+families-before-before V4 V4 V6 x y z by first second = refl
+families-before-before V4 V6 V4 x y z by first second = absurd (let h : false ≡ true = second in cc)
+families-before-before V4 V6 V6 x y z by first second = refl
+families-before-before V6 V4 h x y z by first second = absurd (let h : false ≡ true = first in cc)
+families-before-before V6 V6 V4 x y z by first second = absurd (let h : false ≡ true = second in cc)
+families-before-before V6 V6 V6 x y z by first second = by first second
+
+families-not_before : (f g h : Family) (x y z : Bool) → (x ≡ true → y ≡ false → z ≡ true) → families_before f g x ≡ true → families_before f h y ≡ false → families_before h g z ≡ true
+families-not_before V4 V4 V4 x y z by first other = by first other
+families-not_before V4 V4 V6 x y z by first other = absurd (let h : true ≡ false = other in cc)
+families-not_before V4 V6 V4 x y z by first other = refl
+families-not_before V4 V6 V6 x y z by first other = absurd (let h : true ≡ false = other in cc)
+families-not_before V6 V4 h x y z by first other = absurd (let h : false ≡ true = first in cc)
+families-not_before V6 V6 V4 x y z by first other = refl
+families-not_before V6 V6 V6 x y z by first other = by first other
+
 pub before-before : (p q r : PrefixValue) → before p q ≡ true → before q r ≡ true → before p r ≡ true
-before-before p q r first second = grind (arith, nat_tests)
+before-before p q r first second =
+    families-before-before p.family q.family r.family (numbers_before p.number q.number p.length q.length) (numbers_before q.number r.number q.length r.length) (numbers_before p.number r.number p.length r.length)
+    (numbers-before-before p.number q.number r.number p.length q.length r.length) first second
 
 not_before : (p q r : PrefixValue) → before p q ≡ true → before p r ≡ false → before r q ≡ true
-not_before p q r first other = grind (arith, nat_tests)
+not_before p q r first other =
+    families-not_before p.family q.family r.family (numbers_before p.number q.number p.length q.length) (numbers_before p.number r.number p.length r.length) (numbers_before r.number q.number r.length q.length)
+    (numbers-not_before p.number q.number r.number p.length q.length r.length) first other
 
 before-each : (p r : PrefixValue) (prefixes : List PrefixValue) → before p r ≡ false → list_all (before p) prefixes ≡ true → list_all (before r) prefixes ≡ true
 before-each p r [] other all = refl

@@ -4,17 +4,20 @@ use Rattle.std.proofs.lemmas.Bool.Decides.{nat_tests}
 use Rattle.std.proofs.lemmas.Map.Text.{is_eq-slice_cmp}
 use Rattle.std.proofs.lemmas.Result.{on_ok_weaker}
 use Rattle.std.specs.BTreeMap.{is_at}
-use Rattle.std.specs.Cmp.Lexicographic.{slice_cmp}
+use Rattle.std.specs.Cmp.Lexicographic.{pointwise, slice_cmp}
 use Rattle.std.specs.Map.{lookup}
 use Rattle.std.specs.Option.{option_cmp, option_map, option_or}
 use Rattle.std.specs.Ordering.{nat_cmp, ordering_then}
 use Rattle.std.specs.Result.{OnOk}
+use Rattle.std.specs.Str.{bytes_eq}
 use Rattle.ip_ranges.specs.Values.{PrefixValue}
+use Rattle.large_numbers.specs.Large.{large_cmp}
+use Rattle.large_numbers.specs.declared.numbers.LargeCommunity.{LargeCommunity}
 use Rattle.bgp_updates.specs.declared.grouping.TermsKey.{TermsKey}
 use Rattle.bgp_updates.specs.declared.route.Group.{Group}
 use Rattle.bgp_updates.specs.declared.route.Terms.{Terms}
 use Rattle.bgp_updates.specs.GroupPlaces.{ArePlaces, key_cmp, place_of, terms_in, with_prefix}
-use Rattle.bgp_updates.specs.Received.{same_preference, same_terms, with_route}
+use Rattle.bgp_updates.specs.Received.{same_large, same_preference, same_terms, with_route}
 use Rattle.bgp_updates.proofs.ReceivedLaws.{same_terms-is}
 
 -- ---- the group at a place
@@ -108,11 +111,31 @@ eq-preferences None (Some b) = refl
 eq-preferences (Some a) None = refl
 eq-preferences (Some a) (Some b) = eq-numbers a b
 
+and_assoc : (a b c : Bool) → (a && b) && c ≡ a && (b && c)
+and_assoc true b c = refl
+and_assoc false b c = refl
+
+eq-larges : (c d : LargeCommunity) → is_eq (large_cmp c d) ≡ same_large c d
+eq-larges c d =
+    eq-then (nat_cmp c.global d.global) (ordering_then (nat_cmp c.first d.first) (nat_cmp c.second d.second))
+    ∙ ap (λ s. is_eq (nat_cmp c.global d.global) && s) (eq-then (nat_cmp c.first d.first) (nat_cmp c.second d.second))
+    ∙ rw (eq-numbers c.global d.global, eq-numbers c.first d.first, eq-numbers c.second d.second) (sym (and_assoc (c.global == d.global) (c.first == d.first) (c.second == d.second)))
+
+eq-large_lists : (xs ys : List LargeCommunity) → is_eq (slice_cmp large_cmp xs ys) ≡ pointwise same_large xs ys
+eq-large_lists [] [] = refl
+eq-large_lists [] (d ∷ ys) = refl
+eq-large_lists (c ∷ xs) [] = refl
+eq-large_lists (c ∷ xs) (d ∷ ys) =
+    eq-then (large_cmp c d) (slice_cmp large_cmp xs ys) ∙ rw (eq-larges c d, eq-large_lists xs ys) refl
+
 same-keys : (a b : TermsKey) → is_eq (key_cmp a b) ≡ same_terms (terms_in a) (terms_in b)
 same-keys a b =
-    eq-then (option_cmp nat_cmp a.preference b.preference) (slice_cmp nat_cmp a.communities.items b.communities.items)
-    ∙ ap (λ s. s && is_eq (slice_cmp nat_cmp a.communities.items b.communities.items)) (eq-preferences a.preference b.preference)
-    ∙ ap (λ s. same_preference a.preference b.preference && s) (is_eq-slice_cmp a.communities.items b.communities.items)
+    let preferences = option_cmp nat_cmp a.preference b.preference in
+    let communities = slice_cmp nat_cmp a.communities.items b.communities.items in
+    let larges = slice_cmp large_cmp a.large.items b.large.items in
+    eq-then preferences (ordering_then communities larges) ∙ ap (λ s. is_eq preferences && s) (eq-then communities larges)
+    ∙ rw (eq-preferences a.preference b.preference, is_eq-slice_cmp a.communities.items b.communities.items, eq-large_lists a.large.items b.large.items)
+    (sym (and_assoc (same_preference a.preference b.preference) (bytes_eq a.communities.items b.communities.items) (pointwise same_large a.large.items b.large.items)))
 
 module _ (before after : List (TermsKey × ℕ)) (groups : List Group) (group : Group) (key : TermsKey) (are : ArePlaces before groups) (own : terms_in key ≡ group.terms)
     (absent : lookup (is_at (key_cmp key)) before ≡ None)

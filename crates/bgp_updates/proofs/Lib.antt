@@ -1,8 +1,12 @@
 pub mod Packing
 pub mod ReceivedLaws
+pub mod Families
 pub mod Halves
 pub mod Joining
 pub mod SmallGroups
 pub mod Spelling
 pub mod Once
+pub mod Cuts
+pub mod Parts
 pub mod Sizes
+pub mod OneFamily

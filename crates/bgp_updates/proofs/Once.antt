@@ -1,18 +1,21 @@
 -- Each prefix stands in one message, once, and only where its routes differ.
-use Rattle.std.proofs.Common.{◌≡◌, ℕ, Bool, true, false, cond, ◌||◌, not, ◌+◌, ◌-◌, ◌≤◌, nat_le, is_none, is_some, List, [], ◌∷◌, ◌++◌, length, Option, Some, None, refl, sym, ◌∙◌, ap, arith}
+use Rattle.std.proofs.Common.{◌≡◌, ℕ, Bool, true, false, cond, ◌||◌, not, ◌+◌, ◌-◌, ◌≤◌, nat_le, is_none, is_some, List, [], ◌∷◌, ◌++◌, Option, Some, None, refl, sym, ◌∙◌, ap, arith}
 use Rattle.std.specs.List.{list_any}
 use Rattle.std.specs.Map.{keys_of}
 use Rattle.std.proofs.lemmas.Map.Made.{is_some-lookup}
 use Rattle.std.proofs.lemmas.Slice.Eq.{bytes_eq-Decides}
 use Rattle.std.proofs.lemmas.Bool.Decides.{nat_tests}
-use Rattle.ip_ranges.specs.Values.{PrefixValue}
+use Rattle.ip_ranges.specs.Values.{PrefixValue, same_family}
 use Rattle.bgp_updates.specs.declared.route.Terms.{Terms}
 use Rattle.bgp_updates.specs.declared.route.Group.{Group}
 use Rattle.bgp_updates.specs.declared.route.Peering.{Peering}
-use Rattle.bgp_updates.specs.Message.{attributes_of, octets, in_messages, packed, with_first}
+use Rattle.ip_ranges.specs.declared.family.Family.{Family}
+use Rattle.ip_ranges.specs.declared.family.Family.TheVariants.{V4, V6}
+use Rattle.bgp_updates.specs.Message.{announced_part, octets, in_messages, packed, room_of, with_first, withdrawn_part}
 use Rattle.bgp_updates.specs.Received.{Update, AreDistinct, announcements, changed, gone, groups_from, same_prefix, same_preference, same_terms, stands_as, terms_at, withdrawals, with_route}
-use Rattle.bgp_updates.specs.Laws.{NamedPrefixesDiffer, PrefixesStandOnce, count, names_prefix, prefixes_of, updates_between}
-use Rattle.bgp_updates.proofs.ReceivedLaws.{by_bool, changed-at, distinct, filter-distinct, gone-at, in_parts, or_parts, same_prefix-is, unless_same}
+use Rattle.bgp_updates.specs.Laws.{NamedPrefixesDiffer, PrefixesStandOnce, count, names_prefix, prefixes_of, updates_between, updates_for}
+use Rattle.bgp_updates.specs.Tables.{of_family}
+use Rattle.bgp_updates.proofs.ReceivedLaws.{by_bool, changed-at, distinct, family-at, family-distinct, filter-absent, filter-distinct, gone-at, same_larges-Decides, in_parts, or_parts, same_prefix-is, unless_same}
 
 abbrev pub one : PrefixValue → PrefixValue → ℕ
 one p q = cond (same_prefix p q) 1 0
@@ -84,16 +87,26 @@ count-groups_from p same groups (route ∷ routes) =
     count-groups_from p same (with_route same groups route) routes
     ∙ ap (λ n. n + count p (keys_of routes)) (count-with_route p same groups route) ∙ omega arith
 
--- all messages name what is gone and what is changed
-counted : (peering : Peering) (old new : List (PrefixValue × Terms)) (p : PrefixValue)
-    → count p (prefixes_of (updates_between peering old new)) ≡ count p (keys_of (gone old new)) + count p (keys_of (changed same_terms old new))
-counted peering old new p =
-    let room : Terms → ℕ = λ terms. 4073 - length (attributes_of peering terms) in
-    let parts = in_messages 4073 (keys_of (gone old new)) in
+-- the messages of a family name what is gone and what is changed
+abbrev pub differing : PrefixValue → List (PrefixValue × Terms) → List (PrefixValue × Terms) → ℕ
+differing p old new = count p (keys_of (gone old new)) + count p (keys_of (changed same_terms old new))
+
+counted-for : (family : Family) (peering : Peering) (old new : List (PrefixValue × Terms)) (p : PrefixValue) → count p (prefixes_of (updates_for family peering old new)) ≡ differing p old new
+counted-for family peering old new p =
+    let most = room_of (withdrawn_part family) in
+    let room : Terms → ℕ = λ terms. room_of (announced_part family peering terms) in
+    let parts = in_messages most (keys_of (gone old new)) in
     let groups = groups_from same_terms [] (changed same_terms old new) in
     count-updates p (withdrawals parts) (in_parts room groups)
-    ∙ ap (λ n. n + count p (prefixes_of (in_parts room groups))) (count-withdrawals p parts ∙ count-in_messages p 4073 (keys_of (gone old new)))
+    ∙ ap (λ n. n + count p (prefixes_of (in_parts room groups))) (count-withdrawals p parts ∙ count-in_messages p most (keys_of (gone old new)))
     ∙ ap (λ n. count p (keys_of (gone old new)) + n) (count-in_parts p room groups ∙ count-groups_from p same_terms [] (changed same_terms old new) ∙ omega arith)
+
+-- and all messages those of both
+counted : (peering : Peering) (old new : List (PrefixValue × Terms)) (p : PrefixValue)
+    → count p (prefixes_of (updates_between peering old new)) ≡ differing p (of_family V4 old) (of_family V4 new) + differing p (of_family V6 old) (of_family V6 new)
+counted peering old new p =
+    count-updates p (updates_for V4 peering (of_family V4 old) (of_family V4 new)) (updates_for V6 peering (of_family V6 old) (of_family V6 new))
+    ∙ omega (arith, counted-for V4 peering (of_family V4 old) (of_family V4 new) p, counted-for V6 peering (of_family V6 old) (of_family V6 new) p)
 
 count-none : (p : PrefixValue) (prefixes : List PrefixValue) → list_any (same_prefix p) prefixes ≡ false → count p prefixes ≡ 0
 count-none p [] none = refl
@@ -120,16 +133,41 @@ changed-any : (old new : List (PrefixValue × Terms)) (p : PrefixValue) → AreD
 changed-any old new p are =
     sym (is_some-lookup (same_prefix p) (changed same_terms old new)) ∙ ap is_some (changed-at same_terms old new p are)
 
-pub stand-once : PrefixesStandOnce
-stand-once peering old new old_table new_table p =
-    let are = distinct new new_table.1 in
-    let gone_once = count-distinct p (gone old new) (filter-distinct (λ route. is_none (terms_at new route.0)) old (distinct old old_table.1)) in
+once-for : (old new : List (PrefixValue × Terms)) (p : PrefixValue) → AreDistinct old → AreDistinct new → differing p old new ≤ 1
+once-for old new p old_are are =
+    let gone_once = count-distinct p (gone old new) (filter-distinct (λ route. is_none (terms_at new route.0)) old old_are) in
     let changed_once = count-distinct p (changed same_terms old new) (filter-distinct (λ route. not (stands_as same_terms (terms_at old route.0) route.1)) new are) in
-    by_bool (count p (prefixes_of (updates_between peering old new)) ≤ 1) (list_any (same_prefix p) (keys_of (gone old new)))
+    by_bool (differing p old new ≤ 1) (list_any (same_prefix p) (keys_of (gone old new)))
     (λ there.
     let none = changed-any old new p are ∙ apart same_terms (terms_at old p) (terms_at new p) (sym (gone-at old new p) ∙ there) in
-    omega (arith, counted peering old new p, gone_once, count-none p (keys_of (changed same_terms old new)) none))
-    (λ none. omega (arith, counted peering old new p, changed_once, count-none p (keys_of (gone old new)) none))
+    omega (arith, gone_once, count-none p (keys_of (changed same_terms old new)) none))
+    (λ none. omega (arith, changed_once, count-none p (keys_of (gone old new)) none))
+
+-- ---- a family has no prefix of the other
+absent-for : (family : Family) (routes : List (PrefixValue × Terms)) (p : PrefixValue) → same_family p.family family ≡ false → list_any (same_prefix p) (keys_of (of_family family routes)) ≡ false
+absent-for family routes p other =
+    sym (is_some-lookup (same_prefix p) (of_family family routes)) ∙ ap is_some (family-at family routes p ∙ ap (λ b. cond b (terms_at routes p) None) other)
+
+none-for : (family : Family) (old new : List (PrefixValue × Terms)) (p : PrefixValue) → same_family p.family family ≡ false → differing p (of_family family old) (of_family family new) ≡ 0
+none-for family old new p other =
+    let no_gone = count-none p (keys_of (gone (of_family family old) (of_family family new))) (filter-absent p (λ route. is_none (terms_at (of_family family new) route.0)) (of_family family old) (absent-for family old p other)) in
+    let no_changed = count-none p (keys_of (changed same_terms (of_family family old) (of_family family new)))
+    (filter-absent p (λ route. not (stands_as same_terms (terms_at (of_family family old) route.0) route.1)) (of_family family new) (absent-for family new p other)) in
+    omega (arith, no_gone, no_changed)
+
+pub either : (f : Family) → same_family f V4 ≡ true → same_family f V6 ≡ false
+either V4 e = refl
+either V6 e = absurd (cc)
+
+pub stand-once : PrefixesStandOnce
+stand-once peering old new old_table new_table p =
+    let old_are = distinct old old_table.1 in
+    let are = distinct new new_table.1 in
+    let first = once-for (of_family V4 old) (of_family V4 new) p (family-distinct V4 old old_are) (family-distinct V4 new are) in
+    let second = once-for (of_family V6 old) (of_family V6 new) p (family-distinct V6 old old_are) (family-distinct V6 new are) in
+    by_bool (count p (prefixes_of (updates_between peering old new)) ≤ 1) (same_family p.family V4)
+    (λ v4. omega (arith, counted peering old new p, first, none-for V6 old new p (either p.family v4)))
+    (λ v6. omega (arith, counted peering old new p, second, none-for V4 old new p v6))
 
 -- ---- only where the routes differ
 
@@ -164,8 +202,9 @@ same_preference-itself : (x : Option ℕ) → same_preference x x ≡ true
 same_preference-itself None = refl
 same_preference-itself (Some x) = grind (arith, nat_tests)
 
-same_terms-itself : (t : Terms) → same_terms t t ≡ true
-same_terms-itself t = rw (same_preference-itself t.preference) ((bytes_eq-Decides t.communities t.communities).1 refl)
+pub same_terms-itself : (t : Terms) → same_terms t t ≡ true
+same_terms-itself t =
+    rw (same_preference-itself t.preference, (bytes_eq-Decides t.communities t.communities).1 refl) ((same_larges-Decides t.large t.large).1 refl)
 
 some-is : (s t : Terms) → Some s ≡ Some t → s ≡ t
 some-is s t e = cc
@@ -178,12 +217,22 @@ differ-changed (Some s) (Some t) h e =
     let none : is_some (unless_same same_terms (Some s) (Some t)) ≡ false = rw alike refl in
     cc
 
-pub named-differ : NamedPrefixesDiffer
-named-differ peering old new table p there equal =
-    let are = distinct new table.1 in
-    let some = named-counted p (updates_between peering old new) there in
+differ-for : (old new : List (PrefixValue × Terms)) (p : PrefixValue) → AreDistinct new → 1 ≤ differing p old new → terms_at old p ≡ terms_at new p → ⊥
+differ-for old new p are some equal =
     by_bool ⊥ (list_any (same_prefix p) (keys_of (gone old new)))
     (λ h. differ-gone (terms_at old p) (terms_at new p) (sym (gone-at old new p) ∙ h) equal)
     (λ none. by_bool ⊥ (list_any (same_prefix p) (keys_of (changed same_terms old new)))
     (λ h. differ-changed (terms_at old p) (terms_at new p) (sym (changed-any old new p are) ∙ h) equal)
-    (λ no. absurd (omega (arith, some, counted peering old new p, count-none p (keys_of (gone old new)) none, count-none p (keys_of (changed same_terms old new)) no))))
+    (λ no. absurd (omega (arith, some, count-none p (keys_of (gone old new)) none, count-none p (keys_of (changed same_terms old new)) no))))
+
+-- equal routes of a prefix are equal among those of a family
+equal-for : (family : Family) (old new : List (PrefixValue × Terms)) (p : PrefixValue) → terms_at old p ≡ terms_at new p → terms_at (of_family family old) p ≡ terms_at (of_family family new) p
+equal-for family old new p equal = family-at family old p ∙ ap (λ t. cond (same_family p.family family) t None) equal ∙ sym (family-at family new p)
+
+pub named-differ : NamedPrefixesDiffer
+named-differ peering old new table p there equal =
+    let are = distinct new table.1 in
+    let some = named-counted p (updates_between peering old new) there in
+    by_bool ⊥ (same_family p.family V4)
+    (λ v4. differ-for (of_family V4 old) (of_family V4 new) p (family-distinct V4 new are) (omega (arith, some, counted peering old new p, none-for V6 old new p (either p.family v4))) (equal-for V4 old new p equal))
+    (λ v6. differ-for (of_family V6 old) (of_family V6 new) p (family-distinct V6 new are) (omega (arith, some, counted peering old new p, none-for V4 old new p v6)) (equal-for V6 old new p equal))

@@ -12,14 +12,16 @@ use Rattle.ip_ranges.specs.declared.family.Family.TheVariants.{V4, V6}
 use Rattle.bgp_updates.specs.declared.route.Terms.{Terms}
 use Rattle.bgp_updates.specs.declared.route.Group.{Group}
 use Rattle.std.specs.Str.{bytes_eq}
-use Rattle.std.proofs.lemmas.Slice.Eq.{bytes_eq-Decides}
-use Rattle.std.proofs.Common.{arith}
+use Rattle.std.proofs.lemmas.Slice.Eq.{bytes_eq-Decides, slice_eq-Decides}
+use Rattle.std.specs.Cmp.Lexicographic.{pointwise}
+use Rattle.large_numbers.specs.declared.numbers.LargeCommunity.{LargeCommunity}
+use Rattle.std.proofs.Common.{arith, eq-eqb, Decides}
 use Rattle.std.proofs.lemmas.Bool.Decides.{nat_tests}
 use Rattle.std.specs.List.{list_all}
-use Rattle.bgp_updates.specs.Tables.{Ascend, before}
-use Rattle.bgp_updates.specs.Laws.{MessagesGiveTheTable}
-use Rattle.bgp_updates.specs.Message.{attributes_of, octets, in_messages, packed, with_first}
-use Rattle.bgp_updates.specs.Received.{same_preference, same_terms, same_prefix, Update, after, received, terms_at, with_route, groups_from, gone, changed, stands_as, withdrawals, announcements, AreDistinct, UpdatesGiveTheTable}
+use Rattle.bgp_updates.specs.Tables.{Ascend, before, families_before, numbers_before, of_family}
+use Rattle.bgp_updates.specs.Laws.{MessagesGiveTheTable, updates_for}
+use Rattle.bgp_updates.specs.Message.{announced_part, octets, in_messages, packed, room_of, with_first, withdrawn_part}
+use Rattle.bgp_updates.specs.Received.{same_large, same_preference, same_terms, updates_of, same_prefix, Update, after, received, terms_at, with_route, groups_from, gone, changed, stands_as, withdrawals, announcements, AreDistinct, UpdatesGiveTheTable}
 
 pub both_true : (a b : Bool) → (a && b) ≡ true → (a ≡ true) × (b ≡ true)
 both_true true b h = (refl, h)
@@ -50,6 +52,13 @@ same_prefix-is p q h =
     let with_number : ℕ → PrefixValue = λ n. record { family = q.family; number = n; length = p.length } in
     let with_length : ℕ → PrefixValue = λ n. record { family = q.family; number = q.number; length = n } in
     ap with_family families ∙ ap with_number numbers ∙ ap with_length lengths
+
+same_family-itself : (f : Family) → same_family f f ≡ true
+same_family-itself V4 = refl
+same_family-itself V6 = refl
+
+pub same_prefix-itself : (p : PrefixValue) → same_prefix p p ≡ true
+same_prefix-itself p = rw (same_family-itself p.family, eq-eqb p.number p.number refl, eq-eqb p.length p.length refl) refl
 
 -- ---- parts in messages
 
@@ -269,18 +278,26 @@ finish same sound (Some s) (Some t) =
     (λ e. rw e (ap Some (sound s t e)))
     (λ e. rw e refl)
 
-pub updates-give : UpdatesGiveTheTable
-updates-give same sound room old new distinct p =
-    let parts = in_messages 4073 (keys_of (gone old new)) in
+-- what the messages between two tables make of the terms at a prefix of any table
+abbrev pub made_of : (Terms → Terms → Bool) → Option Terms → Option Terms → Option Terms → Option Terms
+made_of same there wanted at = option_or (unless_same same there wanted) (cond (is_some (cond (is_none wanted) there None)) None at)
+
+pub updates-make : (same : Terms → Terms → Bool) → ((s t : Terms) → same s t ≡ true → s ≡ t) → (most : ℕ) (room : Terms → ℕ) (table : PrefixValue → Option Terms) (old new : List (PrefixValue × Terms)) → AreDistinct new
+    → (p : PrefixValue) → received table (updates_of same most room old new) p ≡ made_of same (terms_at old p) (terms_at new p) (table p)
+updates-make same sound most room table old new distinct p =
+    let parts = in_messages most (keys_of (gone old new)) in
     let groups = groups_from same [] (changed same old new) in
-    let withdrawn = received (terms_at old) (withdrawals parts) in
-    ap (λ f. f p) (received-append (terms_at old) (withdrawals parts) (in_parts room groups))
+    let withdrawn = received table (withdrawals parts) in
+    ap (λ f. f p) (received-append table (withdrawals parts) (in_parts room groups))
     ∙ received-groups room withdrawn groups p
     ∙ found-groups same sound [] (changed same old new) p (withdrawn p) (filter-distinct (λ route. not (stands_as same (terms_at old route.0) route.1)) new distinct) (λ there. cc)
     ∙ ap (λ t. option_or t (withdrawn p)) (changed-at same old new p distinct)
-    ∙ ap (option_or (unless_same same (terms_at old p) (terms_at new p))) (received-withdrawals (terms_at old) parts p
-    ∙ ap (λ b. cond b None (terms_at old p)) (any_part-in_messages p 4073 (keys_of (gone old new)) ∙ gone-at old new p))
-    ∙ finish same sound (terms_at old p) (terms_at new p)
+    ∙ ap (option_or (unless_same same (terms_at old p) (terms_at new p))) (received-withdrawals table parts p
+    ∙ ap (λ b. cond b None (table p)) (any_part-in_messages p most (keys_of (gone old new)) ∙ gone-at old new p))
+
+pub updates-give : UpdatesGiveTheTable
+updates-give same sound most room old new distinct p =
+    updates-make same sound most room (terms_at old) old new distinct p ∙ finish same sound (terms_at old p) (terms_at new p)
 
 pub same_preference-is : (x y : Option ℕ) → same_preference x y ≡ true → x ≡ y
 same_preference-is None None h = refl
@@ -288,20 +305,47 @@ same_preference-is None (Some y) h = cc
 same_preference-is (Some x) None h = cc
 same_preference-is (Some x) (Some y) h = ap Some (eqb-true x y h)
 
+same_large-is : (c d : LargeCommunity) → same_large c d ≡ true → c ≡ d
+same_large-is c d h =
+    let parts = both_true ((c.global == d.global) && (c.first == d.first)) (c.second == d.second) h in
+    let front = both_true (c.global == d.global) (c.first == d.first) parts.0 in
+    let with_global : ℕ → LargeCommunity = λ n. record { global = n; first = c.first; second = c.second } in
+    let with_first : ℕ → LargeCommunity = λ n. record { global = d.global; first = n; second = c.second } in
+    let with_second : ℕ → LargeCommunity = λ n. record { global = d.global; first = d.first; second = n } in
+    ap with_global (eqb-true c.global d.global front.0) ∙ ap with_first (eqb-true c.first d.first front.1) ∙ ap with_second (eqb-true c.second d.second parts.1)
+
+same_large-itself : (c : LargeCommunity) → same_large c c ≡ true
+same_large-itself c = rw (eq-eqb c.global c.global refl, eq-eqb c.first c.first refl, eq-eqb c.second c.second refl) refl
+
+pub same_larges-Decides : (xs ys : List LargeCommunity) → Decides (pointwise same_large xs ys) (xs ≡ ys)
+same_larges-Decides xs ys = slice_eq-Decides {E = same_large} (λ c d. (same_large-is c d, λ e. ap (same_large c) (sym e) ∙ same_large-itself c)) xs ys (pointwise same_large xs ys) refl
+
 -- Terms that are found the same are the same.
 pub same_terms-is : (s t : Terms) → same_terms s t ≡ true → s ≡ t
 same_terms-is s t h =
-    let parts = both_true (same_preference s.preference t.preference) (bytes_eq s.communities t.communities) h in
-    ap (λ p. record s { preference = p }) (same_preference-is s.preference t.preference parts.0)
-    ∙ ap (λ c. record { preference = t.preference; communities = c }) ((bytes_eq-Decides s.communities t.communities).0 parts.1)
+    let parts = both_true (same_preference s.preference t.preference && bytes_eq s.communities t.communities) (pointwise same_large s.large t.large) h in
+    let front = both_true (same_preference s.preference t.preference) (bytes_eq s.communities t.communities) parts.0 in
+    let with_preference : Option ℕ → Terms = λ p. record { preference = p; communities = s.communities; large = s.large } in
+    let with_communities : List ℕ → Terms = λ c. record { preference = t.preference; communities = c; large = s.large } in
+    let with_large : List LargeCommunity → Terms = λ l. record { preference = t.preference; communities = t.communities; large = l } in
+    ap with_preference (same_preference-is s.preference t.preference front.0)
+    ∙ ap with_communities ((bytes_eq-Decides s.communities t.communities).0 front.1)
+    ∙ ap with_large ((same_larges-Decides s.large t.large).0 parts.1)
 
 -- ---- ascending prefixes are distinct
+
+pub before-itself : (f : Family) (b : Bool) → families_before f f b ≡ true → b ≡ true
+before-itself V4 b e = e
+before-itself V6 b e = e
+
+none-before-itself : (number length : ℕ) → numbers_before number number length length ≡ true → ⊥
+none-before-itself number length e = absurd (grind (arith, nat_tests))
 
 pub before-other : (p q : PrefixValue) → before p q ≡ true → same_prefix p q ≡ true → ⊥
 before-other p q first same =
     let is = same_prefix-is p q same in
     let itself : before q q ≡ true = ap (λ r. before r q) (sym is) ∙ first in
-    absurd (grind (arith, nat_tests))
+    none-before-itself q.number q.length (before-itself q.family (numbers_before q.number q.number q.length q.length) itself)
 
 pub none-same : (p : PrefixValue) (prefixes : List PrefixValue) → list_all (before p) prefixes ≡ true → list_any (same_prefix p) prefixes ≡ false
 none-same p [] all = refl
@@ -314,5 +358,29 @@ pub distinct : (routes : List (PrefixValue × Terms)) → Ascend (keys_of routes
 distinct [] ascend = tt
 distinct (route ∷ routes) ascend = (none-same route.0 (keys_of routes) ascend.0, distinct routes ascend.1)
 
+-- ---- the routes of a family
+-- what a table has of them at a prefix
+pub family-at : (family : Family) (routes : List (PrefixValue × Terms)) (p : PrefixValue) → terms_at (of_family family routes) p ≡ cond (same_family p.family family) (terms_at routes p) None
+family-at family routes p =
+    lookup-filter-keys (same_prefix p) (λ q. same_family q.family family) (same_family p.family family) (λ q is. ap (λ r. same_family r.family family) (sym (same_prefix-is p q is))) routes
+
+pub family-distinct : (family : Family) (routes : List (PrefixValue × Terms)) → AreDistinct routes → AreDistinct (of_family family routes)
+family-distinct family routes are = filter-distinct (λ route. same_family route.0.family family) routes are
+
+-- the messages of one family leave the other's routes
+both-made : (same : Terms → Terms → Bool) → ((s t : Terms) → same s t ≡ true → s ≡ t) → (f : Family) (there wanted : Option Terms)
+    → made_of same (cond (same_family f V6) there None) (cond (same_family f V6) wanted None) (made_of same (cond (same_family f V4) there None) (cond (same_family f V4) wanted None) there) ≡ wanted
+both-made same sound V4 there wanted = finish same sound there wanted
+both-made same sound V6 there wanted = finish same sound there wanted
+
 pub messages-give : MessagesGiveTheTable
-messages-give peering old new table p = updates-give same_terms same_terms-is (λ terms. 4073 - length (attributes_of peering terms)) old new (distinct new table.1) p
+messages-give peering old new table p =
+    let are = distinct new table.1 in
+    let first = updates_for V4 peering (of_family V4 old) (of_family V4 new) in
+    let second = updates_for V6 peering (of_family V6 old) (of_family V6 new) in
+    let room : Family → Terms → ℕ = λ family terms. room_of (announced_part family peering terms) in
+    ap (λ f. f p) (received-append (terms_at old) first second)
+    ∙ updates-make same_terms same_terms-is (room_of (withdrawn_part V6)) (room V6) (received (terms_at old) first) (of_family V6 old) (of_family V6 new) (family-distinct V6 new are) p
+    ∙ ap (made_of same_terms (terms_at (of_family V6 old) p) (terms_at (of_family V6 new) p))
+    (updates-make same_terms same_terms-is (room_of (withdrawn_part V4)) (room V4) (terms_at old) (of_family V4 old) (of_family V4 new) (family-distinct V4 new are) p)
+    ∙ rw (family-at V6 old p, family-at V6 new p, family-at V4 old p, family-at V4 new p) (both-made same_terms same_terms-is p.family (terms_at old p) (terms_at new p))

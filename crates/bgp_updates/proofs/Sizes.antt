@@ -1,19 +1,26 @@
 -- No message has more than 4,096 octets.
-use Rattle.std.proofs.Common.{◌≡◌, ℕ, ◌+◌, ◌-◌, ◌≤◌, List, [], ◌∷◌, ◌++◌, length, map, All, Result, Ok, Err, IfOk, sym, subst, arith, length-append}
+use Rattle.std.proofs.Common.{◌≡◌, ℕ, true, false, cond, nat_le, ◌+◌, ◌-◌, ◌≤◌, List, [], ◌∷◌, ◌++◌, length, map, All, Result, Ok, Err, IfOk, sym, subst, arith, length-append}
 use Rattle.std.proofs.lemmas.Bool.{le-leb, lt-leb}
 use Rattle.std.proofs.lemmas.List.Elements.{All-from_recursion, recursion_from_All}
 use Rattle.std.specs.List.{AllByRecursion, flat_map}
 use Rattle.std.specs.Map.{keys_of}
-use Rattle.std.specs.Int.{w16, to_be_bytes}
+use Rattle.std.specs.Int.{w16, w128, to_be_bytes}
+use Rattle.ip_ranges.specs.declared.family.Family.{Family}
+use Rattle.ip_ranges.specs.declared.family.Family.TheVariants.{V4, V6}
 use Rattle.ip_ranges.specs.Values.{PrefixValue}
+use Rattle.bgp_updates.specs.declared.part.Part.{Part}
+use Rattle.bgp_updates.specs.declared.part.Part.TheVariants.{Withdrawn, Unreached, Announced, Reached}
+use Rattle.bgp_updates.specs.declared.route.Terms.{Terms}
+use Rattle.bgp_updates.specs.Tables.{HasFew, IsTable, of_family}
 use Rattle.bgp_updates.specs.declared.route.Group.{Group}
 use Rattle.bgp_updates.specs.declared.route.Peering.{Peering}
-use Rattle.bgp_updates.specs.Message.{Fits, attributes_of, in_messages, message_of, octets, packed, part_message, part_messages, prefix_bytes, prefixes_bytes, with_first}
-use Rattle.bgp_updates.specs.Between.{IsGroup, group_messages, messages_between}
+use Rattle.bgp_updates.specs.Message.{Fits, announced_part, attribute, in_messages, message_of, octets, packed, part_bytes, part_message, part_messages, part_size, prefix_bytes, prefixes_bytes, reach_attribute, room_of, unreach_attribute, with_first, withdrawn_part}
+use Rattle.bgp_updates.specs.Between.{IsGroup, group_messages, messages_between, messages_for}
 use Rattle.bgp_updates.specs.Received.{changed, gone, groups_from, same_terms}
 use Rattle.bgp_updates.specs.Laws.{MessagesFit}
-use Rattle.bgp_updates.proofs.Packing.{by_test, length-prefix_bytes}
-use Rattle.bgp_updates.proofs.SmallGroups.{length-attributes_of, short-gone, small-changed}
+use Rattle.bgp_updates.proofs.Packing.{by_test, length-prefix_bytes, small_octets}
+use Rattle.bgp_updates.proofs.Families.{family-few, family-table}
+use Rattle.bgp_updates.proofs.SmallGroups.{short-gone, size-announced, size-withdrawn, small-changed}
 
 -- the part's octets are so many at most
 abbrev pub Within : ℕ → List PrefixValue → Type 0
@@ -32,16 +39,16 @@ all-sized : (room : ℕ) (parts : List (List PrefixValue)) → Sized room room p
 all-sized room [] sized = tt
 all-sized room (first ∷ more) sized = sized
 
-sized-packed : (room left : ℕ) (prefixes : List PrefixValue) → 5 ≤ room → AllByRecursion Fits prefixes → Sized room left (packed room left prefixes)
+sized-packed : (room left : ℕ) (prefixes : List PrefixValue) → 17 ≤ room → AllByRecursion Fits prefixes → Sized room left (packed room left prefixes)
 sized-packed room left [] wide fit = (omega arith, tt)
 sized-packed room left (p ∷ rest) wide fit =
-    let short = fit.0.0 in
+    let short = small_octets p fit.0.0 in
     by_test (Sized room left (packed room left (p ∷ rest))) (1 + octets p) left
     (λ fits. rw (le-leb (1 + octets p) left fits) (sized-with_first room left p (packed room (left - (1 + octets p)) rest) fits (sized-packed room (left - (1 + octets p)) rest wide fit.1)))
     (λ full. rw (lt-leb (1 + octets p) left full)
     (omega arith, all-sized room (with_first p (packed room (room - (1 + octets p)) rest)) (sized-with_first room room p (packed room (room - (1 + octets p)) rest) (omega (arith, short)) (sized-packed room (room - (1 + octets p)) rest wide fit.1))))
 
-sized-in_messages : (room : ℕ) (prefixes : List PrefixValue) → 5 ≤ room → AllByRecursion Fits prefixes → AllByRecursion (Within room) (in_messages room prefixes)
+pub sized-in_messages : (room : ℕ) (prefixes : List PrefixValue) → 17 ≤ room → AllByRecursion Fits prefixes → AllByRecursion (Within room) (in_messages room prefixes)
 unfolding in_messages
 sized-in_messages room [] wide fit = tt
 sized-in_messages room (p ∷ rest) wide fit = all-sized room (packed room room (p ∷ rest)) (sized-packed room room (p ∷ rest) wide fit)
@@ -54,36 +61,58 @@ length-message w a n =
     let size = to_be_bytes w16 (length a) in
     omega (arith, length-append ((w ++ size) ++ a) n, length-append (w ++ size) a, length-append w size)
 
-short-part : (attributes : List ℕ) (part : List PrefixValue) → length attributes ≤ 4000 → Within (4073 - length attributes) part → IsShort (part_message attributes part)
-short-part [] part few within = omega (arith, length-message (prefixes_bytes part) [] [])
-short-part (byte ∷ attributes) part few within = omega (arith, length-message [] (byte ∷ attributes) (prefixes_bytes part))
+pub length-attribute : (flags kind : ℕ) (value : List ℕ) → length (attribute flags kind value) ≤ 4 + length value
+length-attribute flags kind value =
+    elim (nat_le (length value) 255) as (λ v. length (cond v ((flags ∷ kind ∷ length value ∷ []) ++ value) (((flags + 0x10) ∷ kind ∷ []) ++ to_be_bytes w16 (length value) ++ value)) ≤ 4 + length value) [
+      | true ↦ omega arith
+      | false ↦ omega arith
+    ]
 
-short-parts : (attributes : List ℕ) (parts : List (List PrefixValue)) → length attributes ≤ 4000 → AllByRecursion (Within (4073 - length attributes)) parts → AllByRecursion IsShort (map (part_message attributes) parts)
-short-parts attributes [] few sized = tt
-short-parts attributes (part ∷ parts) few sized = (short-part attributes part few sized.0, short-parts attributes parts few sized.1)
+length-three : (a b c : List ℕ) → length (a ++ b ++ c) ≡ length a + length b + length c
+length-three a b c = omega (arith, length-append (a ++ b) c, length-append a b)
 
-short-messages : (attributes : List ℕ) (prefixes : List PrefixValue) → length attributes ≤ 4000 → All Fits prefixes → AllByRecursion IsShort (part_messages attributes prefixes)
-short-messages attributes prefixes few fit =
-    short-parts attributes (in_messages (4073 - length attributes) prefixes) few (sized-in_messages (4073 - length attributes) prefixes (omega arith) (recursion_from_All Fits prefixes fit))
+short-part : (part : Part) (prefixes : List PrefixValue) → part_size part ≤ 4000 → Within (room_of part) prefixes → IsShort (part_message part prefixes)
+unfolding part_bytes
+short-part Withdrawn prefixes few within = omega (arith, length-message (prefixes_bytes prefixes) [] [])
+short-part Unreached prefixes few within =
+    omega (arith, length-message [] (unreach_attribute (prefixes_bytes prefixes)) [], length-attribute 0x80 15 ((0 ∷ 2 ∷ 1 ∷ []) ++ prefixes_bytes prefixes))
+short-part (Announced attributes) prefixes few within = omega (arith, length-message [] attributes (prefixes_bytes prefixes))
+short-part (Reached front hop back) prefixes few within =
+    let bytes = prefixes_bytes prefixes in
+    omega (arith, length-message [] (front ++ reach_attribute hop bytes ++ back) [], length-three front (reach_attribute hop bytes) back, length-attribute 0x80 14 ((0 ∷ 2 ∷ 1 ∷ 16 ∷ []) ++ to_be_bytes w128 hop ++ (0 ∷ []) ++ bytes))
+
+short-parts : (part : Part) (parts : List (List PrefixValue)) → part_size part ≤ 4000 → AllByRecursion (Within (room_of part)) parts → AllByRecursion IsShort (map (part_message part) parts)
+short-parts part [] few sized = tt
+short-parts part (prefixes ∷ parts) few sized = (short-part part prefixes few sized.0, short-parts part parts few sized.1)
+
+short-messages : (part : Part) (prefixes : List PrefixValue) → part_size part ≤ 4000 → All Fits prefixes → AllByRecursion IsShort (part_messages part prefixes)
+short-messages part prefixes few fit =
+    short-parts part (in_messages (room_of part) prefixes) few (sized-in_messages (room_of part) prefixes (omega arith) (recursion_from_All Fits prefixes fit))
 
 short-append : (a b : List (List ℕ)) → AllByRecursion IsShort a → AllByRecursion IsShort b → AllByRecursion IsShort (a ++ b)
 short-append [] b first second = second
 short-append (m ∷ a) b first second = (first.0, short-append a b first.1 second)
 
-short-groups : (peering : Peering) (groups : List Group) → AllByRecursion IsGroup groups → AllByRecursion IsShort (flat_map (group_messages peering) groups)
-short-groups peering [] are = tt
-short-groups peering (group ∷ groups) are =
-    short-append (group_messages peering group) (flat_map (group_messages peering) groups)
-    (short-messages (attributes_of peering group.terms) group.prefixes (length-attributes_of peering group.terms are.0.few) are.0.short)
-    (short-groups peering groups are.1)
+short-groups : (family : Family) (peering : Peering) (groups : List Group) → AllByRecursion IsGroup groups → AllByRecursion IsShort (flat_map (group_messages family peering) groups)
+short-groups family peering [] are = tt
+short-groups family peering (group ∷ groups) are =
+    short-append (group_messages family peering group) (flat_map (group_messages family peering) groups)
+    (short-messages (announced_part family peering group.terms) group.prefixes (size-announced family peering group.terms are.0.few) are.0.short)
+    (short-groups family peering groups are.1)
+
+short-for : (family : Family) (peering : Peering) (old new : List (PrefixValue × Terms)) → IsTable old → IsTable new → All HasFew new → AllByRecursion IsShort (messages_for family peering old new)
+short-for family peering old new old_table new_table few =
+    let groups = groups_from same_terms [] (changed same_terms old new) in
+    short-append (part_messages (withdrawn_part family) (keys_of (gone old new))) (flat_map (group_messages family peering) groups)
+    (short-messages (withdrawn_part family) (keys_of (gone old new)) (size-withdrawn family) (short-gone old new old_table))
+    (short-groups family peering groups (recursion_from_All IsGroup groups (small-changed old new new_table few)))
 
 pub messages-fit : MessagesFit
 messages-fit peering old new old_table new_table few =
-    let groups = groups_from same_terms [] (changed same_terms old new) in
     All-from_recursion IsShort (messages_between peering old new) (
-    short-append (part_messages [] (keys_of (gone old new))) (flat_map (group_messages peering) groups)
-    (short-messages [] (keys_of (gone old new)) (omega arith) (short-gone old new old_table))
-    (short-groups peering groups (recursion_from_All IsGroup groups (small-changed old new new_table few)))
+    short-append (messages_for V4 peering (of_family V4 old) (of_family V4 new)) (messages_for V6 peering (of_family V6 old) (of_family V6 new))
+    (short-for V4 peering (of_family V4 old) (of_family V4 new) (family-table V4 old old_table) (family-table V4 new new_table) (family-few V4 new few))
+    (short-for V6 peering (of_family V6 old) (of_family V6 new) (family-table V6 old old_table) (family-table V6 new new_table) (family-few V6 new few))
     )
 
 -- The same of what is answered.

@@ -7,6 +7,7 @@ use Rattle.std.specs.Option.{option_cmp, option_map}
 use Rattle.std.specs.Ordering.{nat_cmp, ordering_then}
 use Rattle.std.specs.declared.cmp.Ordering.{Ordering}
 use Rattle.ip_ranges.specs.Values.{PrefixValue}
+use Rattle.large_numbers.specs.Large.{large_cmp}
 use Rattle.bgp_updates.specs.declared.grouping.TermsKey.{TermsKey}
 use Rattle.bgp_updates.specs.declared.route.Group.{Group}
 use Rattle.bgp_updates.specs.declared.route.Terms.{Terms}
@@ -14,11 +15,13 @@ use Rattle.bgp_updates.specs.Received.{same_terms}
 
 -- the terms that a key is of
 abbrev pub terms_in : TermsKey → Terms
-terms_in key = record { preference = key.preference; communities = key.communities.items }
+terms_in key = record { preference = key.preference; communities = key.communities.items; large = key.large.items }
 
--- keys ascend by preference, then by communities
+-- keys ascend by preference, then by communities, then by large communities
 abbrev pub key_cmp : TermsKey → TermsKey → Ordering
-key_cmp a b = ordering_then (option_cmp nat_cmp a.preference b.preference) (slice_cmp nat_cmp a.communities.items b.communities.items)
+key_cmp a b =
+    ordering_then (option_cmp nat_cmp a.preference b.preference)
+    (ordering_then (slice_cmp nat_cmp a.communities.items b.communities.items) (slice_cmp large_cmp a.large.items b.large.items))
 
 -- the place of the first group of the terms
 abbrev pub place_of : List Group → Terms → Option ℕ

@@ -7,6 +7,8 @@ use Rattle.bgp_updates.specs.declared.route.Terms.{Terms}
 use Rattle.bgp_updates.specs.declared.route.Group.{Group}
 use Rattle.bgp_updates.specs.Message.{in_messages}
 use Rattle.std.specs.Str.{bytes_eq}
+use Rattle.std.specs.Cmp.Lexicographic.{pointwise}
+use Rattle.large_numbers.specs.declared.numbers.LargeCommunity.{LargeCommunity}
 
 -- whether the prefixes are one
 abbrev pub same_prefix : PrefixValue → PrefixValue → Bool
@@ -19,9 +21,13 @@ same_preference None (Some y) = false
 same_preference (Some x) None = false
 same_preference (Some x) (Some y) = x == y
 
+-- whether the large communities are one
+abbrev pub same_large : LargeCommunity → LargeCommunity → Bool
+same_large c d = (c.global == d.global) && (c.first == d.first) && (c.second == d.second)
+
 -- whether the terms are equal
 abbrev pub same_terms : Terms → Terms → Bool
-same_terms s t = same_preference s.preference t.preference && bytes_eq s.communities t.communities
+same_terms s t = same_preference s.preference t.preference && bytes_eq s.communities t.communities && pointwise same_large s.large t.large
 
 -- what a message says
 pub record Update : Type 0 where
@@ -79,10 +85,11 @@ withdrawals parts = map (λ prefixes. record { withdrawn = prefixes; announced =
 abbrev pub announcements : Terms → List (List PrefixValue) → List Update
 announcements terms parts = map (λ prefixes. record { withdrawn = []; announced = prefixes; terms = Some terms }) parts
 
--- What the messages between two tables say; `room` is how many octets the attributes of terms leave for prefixes.
-abbrev pub updates_of : (Terms → Terms → Bool) → (Terms → ℕ) → List (PrefixValue × Terms) → List (PrefixValue × Terms) → List Update
-updates_of same room old new =
-    withdrawals (in_messages 4073 (keys_of (gone old new)))
+-- What the messages between two tables say; `most` is how many octets prefixes may have that are withdrawn, and `room` how many those
+-- that are announced with terms.
+abbrev pub updates_of : (Terms → Terms → Bool) → ℕ → (Terms → ℕ) → List (PrefixValue × Terms) → List (PrefixValue × Terms) → List Update
+updates_of same most room old new =
+    withdrawals (in_messages most (keys_of (gone old new)))
     ++ flat_map (λ group. announcements group.terms (in_messages (room group.terms) group.prefixes)) (groups_from same [] (changed same old new))
 
 -- No prefix stands twice.
@@ -92,5 +99,5 @@ AreDistinct (route ∷ routes) = (list_any (same_prefix route.0) (keys_of routes
 
 -- After the messages the table is the new one, whatever test of equal terms and whatever rooms.
 abbrev pub UpdatesGiveTheTable : Type 0
-UpdatesGiveTheTable = (same : Terms → Terms → Bool) → ((s t : Terms) → same s t ≡ true → s ≡ t) → (room : Terms → ℕ) (old new : List (PrefixValue × Terms)) → AreDistinct new
-    → (p : PrefixValue) → received (terms_at old) (updates_of same room old new) p ≡ terms_at new p
+UpdatesGiveTheTable = (same : Terms → Terms → Bool) → ((s t : Terms) → same s t ≡ true → s ≡ t) → (most : ℕ) (room : Terms → ℕ) (old new : List (PrefixValue × Terms)) → AreDistinct new
+    → (p : PrefixValue) → received (terms_at old) (updates_of same most room old new) p ≡ terms_at new p

@@ -1,17 +1,16 @@
 //! The routes that differ, in groups.
-ghost use Rattle.std.specs.Prelude.{◌≡◌, ◌<◌, ◌&&◌, ◌∷◌, [], length, IfOk, OnOk};
+ghost use Rattle.std.specs.Prelude.{◌≡◌, ◌<◌, ◌∷◌, [], length, IfOk, OnOk};
 ghost use Rattle.std.specs.BTreeMap.{is_at};
 ghost use Rattle.std.specs.Map.{lookup};
-ghost use Rattle.std.specs.Str.{bytes_eq};
 ghost use Rattle.bgp_updates.specs.GroupPlaces.{ArePlaces, key_cmp, terms_in, with_prefix};
-ghost use Rattle.bgp_updates.specs.Received.{changed, groups_from, same_preference, same_terms, stands_as, terms_at, with_route};
+ghost use Rattle.bgp_updates.specs.Received.{changed, groups_from, same_terms, stands_as, terms_at, with_route};
 ghost use Rattle.bgp_updates.specs.Tables.{IsTable};
 
 use crate::finding::route_at;
 use crate::route::{Group, Route, Terms};
 use ip_ranges::Prefix;
+use large_numbers::LargeCommunity;
 use mlb_base::{NoMemory, Sequence, TryCopy};
-use pool_config::CommunityNumbers;
 use std::alloc::Global;
 use std::collections::BTreeMap;
 
@@ -20,6 +19,7 @@ use std::collections::BTreeMap;
 pub(crate) struct TermsKey {
     preference: Option<u32>,
     communities: Vec<u32>,
+    large: Vec<LargeCommunity>,
 }
 
 /// The routes of the new table that the old one doesn't have equally, in groups. A route finds its group in the logarithm of the number
@@ -42,10 +42,13 @@ pub(crate) fn changed_groups(
     Ok(groups)
 }
 
-fn same_terms(p: Option<u32>, c: &CommunityNumbers, q: Option<u32>, d: &CommunityNumbers) -> bool
-    ensures { result ≡ (same_preference p q && bytes_eq c.now d.now) }
+/// Whether the routes have the same terms.
+fn same_terms(r: &Route, s: &Route) -> bool
+    ensures { result ≡ same_terms r.now.1 s.now.1 }
 {
-    p == q && c.as_slice() == d.as_slice()
+    r.preference == s.preference
+        && r.communities.as_slice() == s.communities.as_slice()
+        && r.large.as_slice() == s.large.as_slice()
 }
 
 fn stands(table: &[Route], route: &Route) -> bool
@@ -53,12 +56,7 @@ fn stands(table: &[Route], route: &Route) -> bool
     ensures { result ≡ stands_as same_terms (terms_at table.now route.now.0) route.now.1 }
 {
     match route_at(table, &route.prefix) {
-        Some(there) => same_terms(
-            there.preference,
-            &there.communities,
-            route.preference,
-            &route.communities,
-        ),
+        Some(there) => same_terms(there, route),
         None => false,
     }
 }
@@ -114,6 +112,7 @@ fn key_of(alloc: Global, route: &Route) -> Result<TermsKey, NoMemory>
     Ok(TermsKey {
         preference: route.preference,
         communities: Vec::from_slice(alloc, route.communities.as_slice())?,
+        large: Vec::from_slice(alloc, route.large.as_slice())?,
     })
 }
 
@@ -133,5 +132,6 @@ fn terms_of(route: &Route) -> Result<Terms, NoMemory>
     Ok(Terms {
         preference: route.preference,
         communities: route.communities.copy()?,
+        large: route.large.copy()?,
     })
 }

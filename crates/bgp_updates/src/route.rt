@@ -1,5 +1,6 @@
 //! Routes and tables of them.
 use ip_ranges::{Prefix, PrefixList};
+use large_numbers::LargeNumbers;
 use mlb_base::{ByteList, Sequence};
 use pool_config::CommunityNumbers;
 use std::alloc::Global;
@@ -12,6 +13,8 @@ pub struct Terms {
     pub preference: Option<u32>,
     /// COMMUNITIES (RFC 1997), ascending.
     pub communities: CommunityNumbers,
+    /// LARGE_COMMUNITY (RFC 8092), ascending.
+    pub large: LargeNumbers,
 }
 
 /// A route, which contracts see as its prefix and its terms.
@@ -22,6 +25,8 @@ pub struct Route {
     pub preference: Option<u32>,
     /// COMMUNITIES (RFC 1997), ascending.
     pub communities: CommunityNumbers,
+    /// LARGE_COMMUNITY (RFC 8092), ascending.
+    pub large: LargeNumbers,
 }
 
 impl Model for Route {
@@ -30,10 +35,10 @@ impl Model for Route {
 
     ghost Value = { PrefixValue × Terms };
 
-    ghost view = { λ r. (r.prefix, record { preference = r.preference; communities = r.communities }) };
+    ghost view = { λ r. (r.prefix, record { preference = r.preference; communities = r.communities; large = r.large }) };
 }
 
-/// Routes of IPv4 prefixes, which ascend by number and then by length, one route a prefix.
+/// Routes of prefixes, IPv4 first, which ascend by number and then by length, one route a prefix.
 #[derive(Drop)]
 pub struct RouteTable {
     routes: Sequence<Route>,
@@ -98,6 +103,8 @@ pub struct Peering {
     pub own: Option<u32>,
     /// The IPv4 address of the next hop.
     pub next_hop: u32,
+    /// The IPv6 address of the next hop, of IPv6 routes.
+    pub next_hop_v6: u128,
 }
 
 /// A list of messages.

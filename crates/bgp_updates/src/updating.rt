@@ -1,59 +1,79 @@
 //! The messages between two tables.
-ghost use Rattle.std.specs.Prelude.{◌≡◌, ◌++◌, ◌≤◌, [], All, IfOk, OnOk, is_some, length};
+ghost use Rattle.std.specs.Prelude.{◌≡◌, ◌==◌, if◌then◌else◌, ◌++◌, ◌≤◌, [], None, Some, All, IfOk, OnOk, is_some, length};
 ghost use Rattle.std.specs.List.{flat_map};
 ghost use Rattle.std.specs.Map.{keys_of};
+ghost use Rattle.std.specs.Option.{option_copied};
 ghost use Rattle.ip_ranges.specs.declared.family.Family.TheVariants.{V4};
-ghost use Rattle.bgp_updates.specs.Between.{group_messages, messages_between, peering_of, IsGroup};
-ghost use Rattle.bgp_updates.specs.Message.{part_messages};
+ghost use Rattle.bgp_updates.specs.Between.{group_messages, messages_between, messages_for, number_of_hop, peering_of, HasHops, IsGroup};
+ghost use Rattle.bgp_updates.specs.Message.{part_messages, withdrawn_part};
 ghost use Rattle.bgp_updates.specs.Received.{changed, gone, groups_from, same_terms, terms_at};
 ghost use Rattle.bgp_updates.specs.Tables.{HasFew, IsTable};
 
-use crate::finding::route_at;
+use crate::finding::{by_family, route_at};
 use crate::grouping::changed_groups;
 use crate::pack::put_messages;
 use crate::route::{Group, MessageList, Peering, Route, RouteTable};
-use crate::writing::attribute_octets;
-use ip_ranges::{Address, Prefix};
+use crate::writing::{announced_part, withdrawn_part};
+use ip_ranges::{Address, Family, Prefix};
 use mlb_base::{NoMemory, Sequence};
 use pool_config::CompiledPeer;
 use std::alloc::Global;
 
-/// The UPDATE messages that make the new table of the old one, for a peer with this IPv4 next hop (RFC 4271, section 3.1).
+/// The UPDATE messages that make the new table of the old one, for a peer with this IPv4 next hop, and this IPv6 one (RFC 4271, section 3.1;
+/// RFC 4760).
 ///
-/// First come the prefixes that have a route in the old table alone, ascending, as withdrawn routes. Then come the routes of the new
-/// table that the old one doesn't have equally, in groups of equal preference and equal communities: the groups in the order of their
-/// least prefix, the prefixes of a group ascending. A message has as many prefixes as fit in 4,096 octets. `NoMemory` may come at any
-/// time.
+/// Of each family, IPv4 first, come the prefixes that have a route in the old table alone, ascending, as withdrawn routes. Then come the
+/// routes of the new table that the old one doesn't have equally, in groups of equal preference, equal communities and equal large
+/// communities: the groups in the order of their least prefix, the prefixes of a group ascending. A message has as many prefixes as fit in
+/// 4,096 octets. The IPv6 next hop is there where the new table has an IPv6 route, so that none is told without its own. `NoMemory` may
+/// come at any time.
 pub fn updates(
     alloc: Global,
     old: &RouteTable,
     new: &RouteTable,
     peer: &CompiledPeer,
     next_hop: &Address,
+    next_hop_v6: Option<&Address>,
 ) -> Result<MessageList, NoMemory>
     requires hop { next_hop.now.family ≡ V4 }
+    requires hop_v6 { HasHops (option_copied next_hop_v6) new.now }
     requires few { All HasFew new.now }
-    ensures messages { IfOk result (λ messages. messages ≡ messages_between (peering_of peer.now next_hop.now) old.now new.now) }
+    ensures messages { IfOk result (λ messages. messages ≡ messages_between (peering_of peer.now next_hop.now (option_copied next_hop_v6.entry)) old.now new.now) }
     ensures fit { IfOk result (λ messages. All (λ message. length message ≤ 4096) messages) }
     ensures old { IsTable old.now }
     ensures new { IsTable new.now }
 {
-    let peering = peering_of(peer, next_hop);
+    let peering = peering_of(peer, next_hop, next_hop_v6);
     between(alloc, old.as_slice(), new.as_slice(), &peering)
 }
 
-fn peering_of(peer: &CompiledPeer, next_hop: &Address) -> Peering
+fn peering_of(peer: &CompiledPeer, next_hop: &Address, next_hop_v6: Option<&Address>) -> Peering
     requires hop { next_hop.now.family ≡ V4 }
-    ensures { result ≡ peering_of peer.now next_hop.now }
+    ensures { result ≡ peering_of peer.now next_hop.now (option_copied next_hop_v6.entry) }
 {
-    let own = if peer.my_asn == peer.peer_asn {
+    Peering {
+        own: own_of(peer),
+        next_hop: next_hop.number as u32,
+        next_hop_v6: number_of_hop(next_hop_v6),
+    }
+}
+
+fn own_of(peer: &CompiledPeer) -> Option<u32>
+    ensures { result ≡ (if peer.now.my_asn == peer.now.peer_asn then None else Some peer.now.my_asn) }
+{
+    if peer.my_asn == peer.peer_asn {
         None
     } else {
         Some(peer.my_asn)
-    };
-    Peering {
-        own,
-        next_hop: next_hop.number as u32,
+    }
+}
+
+fn number_of_hop(hop: Option<&Address>) -> u128
+    ensures { result ≡ number_of_hop (option_copied hop.entry) }
+{
+    match hop {
+        None => 0,
+        Some(hop) => hop.number,
     }
 }
 
@@ -69,24 +89,45 @@ fn between(
     ensures { IfOk result (λ messages. messages ≡ messages_between peering.now old.now new.now) }
 {
     let mut messages = Sequence::new(alloc);
-    put_withdrawals(alloc, &mut messages, old, new)?;
-    put_announcements(alloc, &mut messages, old, new, peering)?;
+    let (old_v4, old_v6) = by_family(old);
+    let (new_v4, new_v6) = by_family(new);
+    put_family(alloc, &mut messages, Family::V4, old_v4, new_v4, peering)?;
+    put_family(alloc, &mut messages, Family::V6, old_v6, new_v6, peering)?;
     Ok(messages)
+}
+
+/// Appends the messages of a family between its routes.
+fn put_family(
+    alloc: Global,
+    messages: &mut MessageList,
+    family: Family,
+    old: &[Route],
+    new: &[Route],
+    peering: &Peering,
+) -> Result<(), NoMemory>
+    requires old { IsTable old.now }
+    requires new { IsTable new.now }
+    requires few { All HasFew new.now }
+    ensures { OnOk result (messages.new ≡ messages.old ++ messages_for family peering.now old.now new.now) }
+{
+    put_withdrawals(alloc, messages, family, old, new)?;
+    put_announcements(alloc, messages, family, old, new, peering)
 }
 
 /// Appends the messages that withdraw what has a route in the old table alone.
 fn put_withdrawals(
     alloc: Global,
     messages: &mut MessageList,
+    family: Family,
     old: &[Route],
     new: &[Route],
 ) -> Result<(), NoMemory>
     requires old { IsTable old.now }
     requires new { IsTable new.now }
-    ensures { OnOk result (messages.new ≡ messages.old ++ part_messages [] (keys_of (gone old.now new.now))) }
+    ensures { OnOk result (messages.new ≡ messages.old ++ part_messages (withdrawn_part family) (keys_of (gone old.now new.now))) }
 {
     let gone = gone_prefixes(alloc, old, new)?;
-    put_messages(alloc, messages, &[], gone.as_slice())
+    put_messages(alloc, messages, &withdrawn_part(family), gone.as_slice())
 }
 
 fn gone_prefixes(alloc: Global, old: &[Route], new: &[Route]) -> Result<Vec<Prefix>, NoMemory>
@@ -113,6 +154,7 @@ fn is_there(table: &[Route], prefix: &Prefix) -> bool
 fn put_announcements(
     alloc: Global,
     messages: &mut MessageList,
+    family: Family,
     old: &[Route],
     new: &[Route],
     peering: &Peering,
@@ -120,29 +162,25 @@ fn put_announcements(
     requires old { IsTable old.now }
     requires new { IsTable new.now }
     requires few { All HasFew new.now }
-    ensures { OnOk result (messages.new ≡ messages.old ++ flat_map (group_messages peering.now) (groups_from same_terms [] (changed same_terms old.now new.now))) }
+    ensures { OnOk result (messages.new ≡ messages.old ++ flat_map (group_messages family peering.now) (groups_from same_terms [] (changed same_terms old.now new.now))) }
 {
     let groups = changed_groups(alloc, old, new)?;
-    put_groups(alloc, messages, peering, groups.as_slice())
+    put_groups(alloc, messages, family, peering, groups.as_slice())
 }
 
 fn put_groups(
     alloc: Global,
     messages: &mut MessageList,
+    family: Family,
     peering: &Peering,
     groups: &[Group],
 ) -> Result<(), NoMemory>
     requires { All IsGroup groups.now }
-    ensures { OnOk result (messages.new ≡ messages.old ++ flat_map (group_messages peering.now) groups.now) }
+    ensures { OnOk result (messages.new ≡ messages.old ++ flat_map (group_messages family peering.now) groups.now) }
 {
     for group in groups {
-        let attributes = attribute_octets(alloc, peering, &group.terms)?;
-        put_messages(
-            alloc,
-            messages,
-            attributes.as_slice(),
-            group.prefixes.as_slice(),
-        )?;
+        let part = announced_part(alloc, family, peering, &group.terms)?;
+        put_messages(alloc, messages, &part, group.prefixes.as_slice())?;
     }
     Ok(())
 }

@@ -1,16 +1,21 @@
 -- The attributes that are written, read in general.
-use Rattle.std.proofs.Common.{◌≡◌, ℕ, zero, suc, ◌*◌, ◌<◌, ◌≤◌, true, false, ◌==◌, nat_le, List, [], ◌∷◌, ◌++◌, length, Option, Some, None, refl, sym, ◌∙◌, ap, arith, unwrap_or}
+use Rattle.std.proofs.Common.{◌≡◌, ℕ, zero, suc, ◌+◌, ◌<◌, ◌≤◌, Bool, true, false, cond, ◌==◌, nat_le, List, [], ◌∷◌, ◌++◌, length, Option, Some, None, refl, sym, ◌∙◌, ap, subst, arith, append_assoc, length-append, unwrap_or}
 use Rattle.std.proofs.lemmas.Bool.Decides.{nat_tests}
 use Rattle.std.proofs.lemmas.List.{take_at, drop_at, append-nil}
-use Rattle.std.specs.Int.{w32, to_be_bytes}
-use Rattle.std.specs.List.{flat_map}
+use Rattle.std.specs.Int.{w16, w32, w128, to_be_bytes}
 use Rattle.std.specs.Option.{option_map}
+use Rattle.ip_ranges.specs.declared.family.Family.{Family}
+use Rattle.ip_ranges.specs.declared.family.Family.TheVariants.{V4, V6}
+use Rattle.ip_ranges.specs.Values.{PrefixValue}
+use Rattle.large_numbers.specs.declared.numbers.LargeCommunity.{LargeCommunity}
 use Rattle.bgp_updates.specs.declared.route.Terms.{Terms}
 use Rattle.bgp_updates.specs.declared.route.Peering.{Peering}
-use Rattle.bgp_updates.specs.Message.{attributes_of, communities_attribute}
+use Rattle.bgp_updates.specs.Between.{AreFew}
+use Rattle.bgp_updates.specs.Message.{attribute, communities_attribute, communities_bytes, front_of, hop_attribute, large_attribute, larges_bytes, optional_attribute, path_attribute, preference_attribute, prefixes_bytes, reach_attribute, unreach_attribute}
 use Rattle.bgp_updates.proofs.ReceivedLaws.{by_bool}
+use Rattle.bgp_updates.proofs.SmallGroups.{length-communities, length-larges}
 use Rattle.update_laws.specs.Attributes.{Attribute, attributes_in, attributes_within, is_extended, value_then}
-use Rattle.update_laws.specs.Laws.{attributes_told, communities}
+use Rattle.update_laws.specs.Laws.{as_path, attributes_told, communities, large_community, local_pref, mp_reach, mp_unreach, next_hop, optional, origin_incomplete}
 use Rattle.update_laws.proofs.Parts.{two}
 
 -- ---- an attribute in front
@@ -30,98 +35,146 @@ short-step : (most flags code : ℕ) (value rest : List ℕ) → is_extended fla
     → attributes_within (suc most) (flags ∷ code ∷ length value ∷ (value ++ rest)) ≡ option_map (with_attribute flags code value) (attributes_within most rest)
 short-step most flags code value rest short = rw short (value-front (attributes_within most) flags code value rest)
 
--- ---- COMMUNITIES
-length-numbers : (numbers : List ℕ) → length (flat_map (to_be_bytes w32) numbers) ≡ 4 * length numbers
-length-numbers [] = omega arith
-length-numbers (n ∷ numbers) = omega (arith, length-numbers numbers)
+-- ---- octets that are read as these attributes, in so many steps or more
+abbrev pub ReadsAs : ℕ → List ℕ → List Attribute → Type 0
+ReadsAs n octets told = (most : ℕ) → n ≤ most → attributes_within most octets ≡ Some told
 
-module _ (most n : ℕ) (numbers : List ℕ) where
-  abbrev value : List ℕ
-  value = flat_map (to_be_bytes w32) (n ∷ numbers)
+reads-none : ReadsAs 0 [] []
+reads-none zero enough = refl
+reads-none (suc most) enough = refl
 
-  abbrev size : ℕ
-  size = 4 * length (n ∷ numbers)
+reads-more : (n : ℕ) (octets : List ℕ) (told : List Attribute) → ReadsAs n octets told → ReadsAs (suc n) octets told
+reads-more n octets told reads most enough = reads most (omega (arith, enough))
 
-  some : (length (n ∷ numbers) == 0) ≡ false
-  some = grind (arith, nat_tests)
+reads-short : (n flags code : ℕ) (value rest : List ℕ) (told : List Attribute) → is_extended flags ≡ false → ReadsAs n rest told
+    → ReadsAs (suc n) (flags ∷ code ∷ length value ∷ (value ++ rest)) (with_attribute flags code value told)
+reads-short n flags code value rest told short reads zero enough = absurd (omega (arith, enough))
+reads-short n flags code value rest told short reads (suc most) enough =
+    short-step most flags code value rest short ∙ ap (option_map (with_attribute flags code value)) (reads most (omega (arith, enough)))
 
-  whole : (read : List ℕ → Option (List Attribute)) (flags : ℕ) → value_then read flags 8 size value ≡ option_map (with_attribute flags 8 value) (read [])
-  whole read flags =
-      ap (λ octets. value_then read flags 8 size octets) (sym (append-nil value))
-      ∙ ap (λ k. value_then read flags 8 k (value ++ [])) (sym (length-numbers (n ∷ numbers)))
-      ∙ value-front read flags 8 value []
+reads-attribute : (n flags code : ℕ) (value rest : List ℕ) (told : List Attribute) → is_extended flags ≡ false → is_extended (flags + 0x10) ≡ true → length value < 65536
+    → ReadsAs n rest told → ReadsAs (suc n) (attribute flags code value ++ rest) (optional flags code value ∷ told)
+reads-attribute n flags code value rest told one two_octets few reads zero enough = absurd (omega (arith, enough))
+reads-attribute n flags code value rest told one two_octets few reads (suc most) enough =
+    by_bool (attributes_within (suc most) (attribute flags code value ++ rest) ≡ Some (optional flags code value ∷ told)) (nat_le (length value) 255)
+    (λ short. rw short (short-step most flags code value rest one ∙ ap (option_map (with_attribute flags code value)) (reads most (omega (arith, enough)))))
+    (λ long. rw (long, two_octets) (
+    ap (λ k. value_then (attributes_within most) (flags + 0x10) code k (value ++ rest)) (two (length value) few)
+    ∙ value-front (attributes_within most) (flags + 0x10) code value rest
+    ∙ ap (option_map (with_attribute (flags + 0x10) code value)) (reads most (omega (arith, enough)))))
 
-  communities-read : size < 65536 → attributes_within (suc most) (communities_attribute (n ∷ numbers)) ≡ Some (communities (n ∷ numbers))
-  communities-read few =
-      by_bool (attributes_within (suc most) (communities_attribute (n ∷ numbers)) ≡ Some (communities (n ∷ numbers))) (nat_le (4 * length (n ∷ numbers)) 255)
-      (λ short. rw (some, short) (whole (attributes_within most) 0xc0))
-      (λ long. rw (some, long) (
-      ap (λ k. value_then (attributes_within most) 0xd0 8 k value) (two size few) ∙ whole (attributes_within most) 0xd0))
+not_zero : (n : ℕ) → 0 < n → (n == 0) ≡ false
+not_zero n some = grind (arith, nat_tests)
 
-all-communities : (most : ℕ) (numbers : List ℕ) → length numbers ≤ 512 → attributes_within (suc most) (communities_attribute numbers) ≡ Some (communities numbers)
-all-communities most [] few = refl
-all-communities most (n ∷ numbers) few = communities-read most n numbers (omega (arith, few))
+reads-optional : (n code : ℕ) (value rest : List ℕ) (told : List Attribute) → 0 < length value → length value < 65536
+    → ReadsAs n rest told → ReadsAs (suc n) (optional_attribute 0xc0 code value ++ rest) (optional 0xc0 code value ∷ told)
+reads-optional n code value rest told some few reads =
+    subst (λ (v : Bool). ReadsAs (suc n) (cond v [] (attribute 0xc0 code value) ++ rest) (optional 0xc0 code value ∷ told)) (sym (not_zero (length value) some))
+    (reads-attribute n 0xc0 code value rest told refl refl few reads)
 
--- ---- all attributes
-outside-read : (most own hop : ℕ) (preference : Option ℕ) (numbers : List ℕ) → length numbers ≤ 512
-    → attributes_within (suc (suc (suc (suc most)))) (attributes_of (record { own = Some own; next_hop = hop }) (record { preference = preference; communities = numbers }))
-    ≡ Some (attributes_told (record { own = Some own; next_hop = hop }) (record { preference = preference; communities = numbers }))
-outside-read most own hop preference numbers few =
-    let rest : List ℕ = communities_attribute numbers in
-    let behind_hop : List ℕ = to_be_bytes w32 hop ++ rest in
-    let behind_path : List ℕ = 0x40 ∷ 3 ∷ 4 ∷ behind_hop in
-    short-step (suc (suc (suc most))) 0x40 1 (2 ∷ []) (0x40 ∷ 2 ∷ 6 ∷ 2 ∷ 1 ∷ (to_be_bytes w32 own ++ behind_path)) refl
-    ∙ ap (option_map (with_attribute 0x40 1 (2 ∷ []))) (
-    short-step (suc (suc most)) 0x40 2 (2 ∷ 1 ∷ to_be_bytes w32 own) behind_path refl
-    ∙ ap (option_map (with_attribute 0x40 2 (2 ∷ 1 ∷ to_be_bytes w32 own))) (
-    short-step (suc most) 0x40 3 (to_be_bytes w32 hop) rest refl
-    ∙ ap (option_map (with_attribute 0x40 3 (to_be_bytes w32 hop))) (all-communities most numbers few)))
+-- ---- communities
+reads-communities : (n : ℕ) (numbers : List ℕ) (rest : List ℕ) (told : List Attribute) → length numbers ≤ 512
+    → ReadsAs n rest told → ReadsAs (suc n) (communities_attribute numbers ++ rest) (communities numbers ++ told)
+reads-communities n [] rest told few reads = reads-more n rest told reads
+reads-communities n (number ∷ numbers) rest told few reads =
+    let count = length-communities (number ∷ numbers) in
+    reads-optional n 8 (communities_bytes (number ∷ numbers)) rest told (omega (arith, count)) (omega (arith, count, few)) reads
 
-inside-read : (most hop : ℕ) (preference : Option ℕ) (numbers : List ℕ) → length numbers ≤ 512
-    → attributes_within (suc (suc (suc (suc (suc most))))) (attributes_of (record { own = None; next_hop = hop }) (record { preference = preference; communities = numbers }))
-    ≡ Some (attributes_told (record { own = None; next_hop = hop }) (record { preference = preference; communities = numbers }))
-inside-read most hop preference numbers few =
-    let rest : List ℕ = communities_attribute numbers in
-    let told : List ℕ = to_be_bytes w32 (unwrap_or preference 0) in
-    let behind_hop : List ℕ = 0x40 ∷ 5 ∷ 4 ∷ (told ++ rest) in
-    let behind_path : List ℕ = 0x40 ∷ 3 ∷ 4 ∷ (to_be_bytes w32 hop ++ behind_hop) in
-    short-step (suc (suc (suc (suc most)))) 0x40 1 (2 ∷ []) (0x40 ∷ 2 ∷ 0 ∷ behind_path) refl
-    ∙ ap (option_map (with_attribute 0x40 1 (2 ∷ []))) (
-    short-step (suc (suc (suc most))) 0x40 2 [] behind_path refl
-    ∙ ap (option_map (with_attribute 0x40 2 [])) (
-    short-step (suc (suc most)) 0x40 3 (to_be_bytes w32 hop) behind_hop refl
-    ∙ ap (option_map (with_attribute 0x40 3 (to_be_bytes w32 hop))) (
-    short-step (suc most) 0x40 5 told rest refl
-    ∙ ap (option_map (with_attribute 0x40 5 told)) (all-communities most numbers few))))
+reads-larges : (numbers : List LargeCommunity) → length numbers ≤ 128 → ReadsAs 1 (large_attribute numbers) (large_community numbers)
+reads-larges [] few = reads-more 0 [] [] reads-none
+reads-larges (number ∷ numbers) few =
+    let count = length-larges (number ∷ numbers) in
+    subst (λ octets. ReadsAs 1 octets (large_community (number ∷ numbers))) (append-nil (large_attribute (number ∷ numbers)))
+    (reads-optional 0 32 (larges_bytes (number ∷ numbers)) [] [] (omega (arith, count)) (omega (arith, count, few)) reads-none)
 
--- a number of at least so many is so many and some
-abbrev Beyond : ℕ → Type 0
-Beyond n = (k : ℕ) × (n ≡ suc (suc (suc (suc (suc k)))))
+-- ---- the attributes of what announces
+reads-preference : (n : ℕ) (own preference : Option ℕ) (rest : List ℕ) (told : List Attribute)
+    → ReadsAs n rest told → ReadsAs (suc n) (preference_attribute own preference ++ rest) (local_pref own preference ++ told)
+reads-preference n None preference rest told reads = reads-short n 0x40 5 (to_be_bytes w32 (unwrap_or preference 0)) rest told refl reads
+reads-preference n (Some own) preference rest told reads = reads-more n rest told reads
 
-beyond : (n : ℕ) → 5 ≤ n → Beyond n
-beyond zero few = absurd (omega arith)
-beyond (suc zero) few = absurd (omega arith)
-beyond (suc (suc zero)) few = absurd (omega arith)
-beyond (suc (suc (suc zero))) few = absurd (omega arith)
-beyond (suc (suc (suc (suc zero)))) few = absurd (omega arith)
-beyond (suc (suc (suc (suc (suc k))))) few = (k, refl)
+-- behind ORIGIN and AS_PATH
+reads-behind : (n : ℕ) (own : Option ℕ) (rest : List ℕ) (told : List Attribute) → ReadsAs n rest told
+    → ReadsAs (suc (suc n)) ((0x40 ∷ 1 ∷ 1 ∷ 2 ∷ []) ++ (path_attribute own ++ rest)) (origin_incomplete ∷ as_path own ∷ told)
+reads-behind n None rest told reads =
+    reads-short (suc n) 0x40 1 (2 ∷ []) (path_attribute None ++ rest) (as_path None ∷ told) refl (reads-short n 0x40 2 [] rest told refl reads)
+reads-behind n (Some own) rest told reads =
+    reads-short (suc n) 0x40 1 (2 ∷ []) (path_attribute (Some own) ++ rest) (as_path (Some own) ∷ told) refl
+    (reads-short n 0x40 2 (2 ∷ 1 ∷ to_be_bytes w32 own) rest told refl reads)
 
-read-by : (own preference : Option ℕ) (hop k : ℕ) (numbers : List ℕ) → length numbers ≤ 512
-    → attributes_within (suc (suc (suc (suc (suc k))))) (attributes_of (record { own = own; next_hop = hop }) (record { preference = preference; communities = numbers }))
-    ≡ Some (attributes_told (record { own = own; next_hop = hop }) (record { preference = preference; communities = numbers }))
-read-by None preference hop k numbers few = inside-read k hop preference numbers few
-read-by (Some own) preference hop k numbers few = outside-read (suc k) own hop preference numbers few
+reads-hop : (n hop : ℕ) (family : Family) (rest : List ℕ) (told : List Attribute)
+    → ReadsAs n rest told → ReadsAs (suc n) (hop_attribute family hop ++ rest) (next_hop family hop ++ told)
+reads-hop n hop V4 rest told reads = reads-short n 0x40 3 (to_be_bytes w32 hop) rest told refl reads
+reads-hop n hop V6 rest told reads = reads-more n rest told reads
 
-pub attributes-some : (peering : Peering) (terms : Terms) → 14 ≤ length (attributes_of peering terms)
-attributes-some peering terms = some-by peering.own terms.preference peering.next_hop terms.communities
+-- COMMUNITIES are followed by what is of the family
+reads-front : (n : ℕ) (family : Family) (peering : Peering) (terms : Terms) (rest : List ℕ) (told : List Attribute) → length terms.communities ≤ 512
+    → ReadsAs n rest told
+    → ReadsAs (5 + n) (front_of family peering terms ++ rest)
+    (origin_incomplete ∷ as_path peering.own ∷ (next_hop family peering.next_hop ++ (local_pref peering.own terms.preference ++ (communities terms.communities ++ told))))
+reads-front n family peering terms rest told few reads =
+    let origin : List ℕ = 0x40 ∷ 1 ∷ 1 ∷ 2 ∷ [] in
+    let path : List ℕ = path_attribute peering.own in
+    let hop : List ℕ = hop_attribute family peering.next_hop in
+    let preference : List ℕ = preference_attribute peering.own terms.preference in
+    let numbers : List ℕ = communities_attribute terms.communities in
+    let shape : front_of family peering terms ++ rest ≡ origin ++ (path ++ (hop ++ (preference ++ (numbers ++ rest)))) =
+    append_assoc (((origin ++ path) ++ hop) ++ preference) numbers rest
+    ∙ append_assoc ((origin ++ path) ++ hop) preference (numbers ++ rest)
+    ∙ append_assoc (origin ++ path) hop (preference ++ (numbers ++ rest))
+    ∙ append_assoc origin path (hop ++ (preference ++ (numbers ++ rest))) in
+    let last : ReadsAs (suc n) (numbers ++ rest) (communities terms.communities ++ told) = reads-communities n terms.communities rest told few reads in
+    let third = reads-preference (suc n) peering.own terms.preference (numbers ++ rest) (communities terms.communities ++ told) last in
+    let second = reads-hop (suc (suc n)) peering.next_hop family (preference ++ (numbers ++ rest)) (local_pref peering.own terms.preference ++ (communities terms.communities ++ told)) third in
+    let first = reads-behind (suc (suc (suc n))) peering.own (hop ++ (preference ++ (numbers ++ rest))) (next_hop family peering.next_hop ++ (local_pref peering.own terms.preference ++ (communities terms.communities ++ told))) second in
+    λ most enough. ap (attributes_within most) shape ∙ first most (omega (arith, enough))
+
+-- what is read in so many steps as the octets are is what the octets are
+pub read-whole : (n : ℕ) (octets : List ℕ) (told : List Attribute) → ReadsAs n octets told → n ≤ length octets → attributes_in octets ≡ Some told
+read-whole n octets told reads enough = reads (length octets) enough
+
+long-front : (family : Family) (peering : Peering) (terms : Terms) → 7 ≤ length (front_of family peering terms)
+long-front family peering terms = by_own peering.own terms.preference family peering.next_hop terms.communities
   where
-    some-by : (own preference : Option ℕ) (hop : ℕ) (numbers : List ℕ)
-        → 14 ≤ length (attributes_of (record { own = own; next_hop = hop }) (record { preference = preference; communities = numbers }))
-    some-by None preference hop numbers = omega arith
-    some-by (Some own) preference hop numbers = omega arith
+    by_own : (own preference : Option ℕ) (family : Family) (hop : ℕ) (numbers : List ℕ)
+        → 7 ≤ length ((0x40 ∷ 1 ∷ 1 ∷ 2 ∷ []) ++ path_attribute own ++ hop_attribute family hop ++ preference_attribute own preference ++ communities_attribute numbers)
+    by_own None preference family hop numbers = omega arith
+    by_own (Some own) preference family hop numbers = omega arith
 
-pub attributes-read : (peering : Peering) (terms : Terms) → length terms.communities ≤ 512 → attributes_in (attributes_of peering terms) ≡ Some (attributes_told peering terms)
-attributes-read peering terms few =
-    let octets : List ℕ = attributes_of peering terms in
-    let more : Beyond (length octets) = beyond (length octets) (omega (arith, attributes-some peering terms)) in
-    ap (λ n. attributes_within n octets) more.1 ∙ read-by peering.own terms.preference peering.next_hop more.0 terms.communities few
+pub read-v4 : (peering : Peering) (terms : Terms) (withdrawn announced : List PrefixValue) → AreFew terms
+    → attributes_in (front_of V4 peering terms ++ large_attribute terms.large) ≡ Some (attributes_told V4 peering withdrawn announced (Some terms))
+read-v4 peering terms withdrawn announced few =
+    read-whole 6 (front_of V4 peering terms ++ large_attribute terms.large) (attributes_told V4 peering withdrawn announced (Some terms))
+    (reads-front 1 V4 peering terms (large_attribute terms.large) (large_community terms.large) few.0 (reads-larges terms.large few.1))
+    (omega (arith, long-front V4 peering terms, length-append (front_of V4 peering terms) (large_attribute terms.large)))
+
+pub read-v6 : (peering : Peering) (terms : Terms) (withdrawn announced : List PrefixValue) → AreFew terms → length (prefixes_bytes announced) ≤ 4096
+    → attributes_in (front_of V6 peering terms ++ reach_attribute peering.next_hop_v6 (prefixes_bytes announced) ++ large_attribute terms.large)
+    ≡ Some (attributes_told V6 peering withdrawn announced (Some terms))
+read-v6 peering terms withdrawn announced few small =
+    let bytes : List ℕ = prefixes_bytes announced in
+    let value : List ℕ = (0 ∷ 2 ∷ 1 ∷ 16 ∷ []) ++ to_be_bytes w128 peering.next_hop_v6 ++ (0 ∷ []) ++ bytes in
+    let reach : List ℕ = reach_attribute peering.next_hop_v6 bytes in
+    let front : List ℕ = front_of V6 peering terms in
+    let large : List ℕ = large_attribute terms.large in
+    ap attributes_in (append_assoc front reach large)
+    ∙ read-whole 7 (front ++ (reach ++ large)) (attributes_told V6 peering withdrawn announced (Some terms))
+    (reads-front 2 V6 peering terms (reach ++ large) (mp_reach V6 peering.next_hop_v6 announced ++ large_community terms.large) few.0
+    (reads-attribute 1 0x80 14 value large (large_community terms.large) refl refl (omega (arith, small)) (reads-larges terms.large few.1)))
+    (omega (arith, long-front V6 peering terms, length-append front (reach ++ large)))
+
+-- ---- the attribute of what withdraws
+long-attribute : (flags code : ℕ) (value : List ℕ) → 1 ≤ length (attribute flags code value)
+long-attribute flags code value =
+    elim (nat_le (length value) 255) as (λ v. 1 ≤ length (cond v ((flags ∷ code ∷ length value ∷ []) ++ value) (((flags + 0x10) ∷ code ∷ []) ++ to_be_bytes w16 (length value) ++ value))) [
+      | true ↦ omega arith
+      | false ↦ omega arith
+    ]
+
+pub read-unreached : (withdrawn : List PrefixValue) → length (prefixes_bytes withdrawn) ≤ 4096 → attributes_in (unreach_attribute (prefixes_bytes withdrawn)) ≡ Some (mp_unreach V6 withdrawn)
+read-unreached withdrawn small =
+    let value : List ℕ = (0 ∷ 2 ∷ 1 ∷ []) ++ prefixes_bytes withdrawn in
+    let octets : List ℕ = unreach_attribute (prefixes_bytes withdrawn) in
+    ap attributes_in (sym (append-nil octets))
+    ∙ read-whole 1 (octets ++ []) (mp_unreach V6 withdrawn) (reads-attribute 0 0x80 15 value [] [] refl refl (omega (arith, small)) reads-none)
+    (omega (arith, long-attribute 0x80 15 value, length-append octets []))

@@ -1,105 +1,117 @@
--- Each message between two tables tells of the terms of a route.
-use Rattle.std.proofs.Common.{◌≡◌, ℕ, Bool, true, false, cond, not, ◌-◌, ◌<◌, ◌≤◌, List, [], ◌∷◌, ◌++◌, length, map, filter, Some, refl, sym, ◌∙◌, ap, subst, inl, inr, arith}
+-- Each message between two tables is read as what it says.
+use Rattle.std.proofs.Common.{ℕ, ◌+◌, ◌≤◌, List, [], ◌∷◌, ◌++◌, length, map, All, Some, None, ◌∙◌, ap, arith, length-append}
 use Rattle.std.proofs.lemmas.List.Elements.{recursion_from_All}
 use Rattle.std.specs.List.{AllByRecursion, flat_map}
+use Rattle.std.specs.Int.{w128, to_be_bytes}
 use Rattle.std.specs.Map.{keys_of}
+use Rattle.ip_ranges.specs.declared.family.Family.{Family}
+use Rattle.ip_ranges.specs.declared.family.Family.TheVariants.{V4, V6}
 use Rattle.ip_ranges.specs.Values.{PrefixValue}
-use Rattle.mlb_base.specs.Items.{IsIn}
 use Rattle.bgp_updates.specs.declared.route.Group.{Group}
 use Rattle.bgp_updates.specs.declared.route.Terms.{Terms}
 use Rattle.bgp_updates.specs.declared.route.Peering.{Peering}
-use Rattle.bgp_updates.specs.Between.{group_messages, messages_between}
-use Rattle.bgp_updates.specs.Message.{attributes_of, in_messages, message_of, part_bytes, part_message, part_messages, prefixes_bytes}
-use Rattle.bgp_updates.specs.Received.{changed, gone, groups_from, same_terms, stands_as, terms_at, with_route}
-use Rattle.bgp_updates.specs.Tables.{HasFew}
-use Rattle.bgp_updates.proofs.Sizes.{length-message, messages-fit}
-use Rattle.bgp_updates.proofs.SmallGroups.{length-attributes_of}
-use Rattle.update_laws.specs.Attributes.{attribute_octets, attributes_in}
-use Rattle.update_laws.specs.Laws.{MessagesTellAttributes, TellsAttributes, attributes_told}
-use Rattle.update_laws.proofs.Parts.{announce-attributes, withdraw-announced, withdraw-attributes}
-use Rattle.update_laws.proofs.Reading.{attributes-read, attributes-some}
+use Rattle.bgp_updates.specs.Between.{AreFew, IsGroup, messages_for, update_octets}
+use Rattle.bgp_updates.specs.Laws.{updates_for}
+use Rattle.bgp_updates.specs.Message.{Fits, announced_part, front_of, in_messages, large_attribute, part_bytes, prefixes_bytes, reach_attribute, room_of, unreach_attribute, withdrawn_part}
+use Rattle.bgp_updates.specs.Received.{Update, announcements, changed, gone, groups_from, same_terms, withdrawals}
+use Rattle.bgp_updates.specs.Tables.{HasFew, IsTable, of_family}
+use Rattle.bgp_updates.proofs.Families.{family-few, family-table}
+use Rattle.bgp_updates.proofs.Sizes.{Within, length-attribute, sized-in_messages}
+use Rattle.bgp_updates.proofs.SmallGroups.{short-gone, size-announced, size-withdrawn, small-changed}
+use Rattle.bgp_updates.proofs.Spelling.{messages-spell}
+use Rattle.update_laws.specs.Attributes.{attributes_in}
+use Rattle.update_laws.specs.Laws.{IsReadAs, MessagesAreRead, said}
+use Rattle.update_laws.proofs.Parts.{announce-announced, announce-attributes, announce-withdrawn, withdraw-announced, withdraw-attributes, withdraw-withdrawn}
+use Rattle.update_laws.proofs.Reading.{read-unreached, read-v4, read-v6}
 
--- ---- groups have the terms of routes of the table
-abbrev HasTermsOf : List (PrefixValue × Terms) → Group → Type 0
-HasTermsOf routes group = (route : PrefixValue × Terms) × IsIn routes route × (route.1 ≡ group.terms) × HasFew route
+-- ---- what withdraws
+withdrawal-read : (family : Family) (peering : Peering) (part : List PrefixValue) → Within (room_of (withdrawn_part family)) part
+    → IsReadAs family peering (record { withdrawn = part; announced = []; terms = None })
+unfolding part_bytes
+withdrawal-read V4 peering part within =
+    let bytes : List ℕ = prefixes_bytes part in
+    record {
+      withdrawn = withdraw-withdrawn bytes (omega (arith, within));
+      attributes = ap attributes_in (withdraw-attributes bytes (omega (arith, within)));
+      announced = withdraw-announced bytes (omega (arith, within));
+    }
+withdrawal-read V6 peering part within =
+    let bytes : List ℕ = prefixes_bytes part in
+    let attributes : List ℕ = unreach_attribute bytes in
+    let few = length-attribute 0x80 15 ((0 ∷ 2 ∷ 1 ∷ []) ++ bytes) in
+    record {
+      withdrawn = announce-withdrawn attributes [];
+      attributes = ap attributes_in (announce-attributes attributes [] (omega (arith, few, within))) ∙ read-unreached part (omega (arith, within));
+      announced = announce-announced attributes [] (omega (arith, few, within));
+    }
 
-abbrev IsFewIn : List (PrefixValue × Terms) → PrefixValue × Terms → Type 0
-IsFewIn routes route = IsIn routes route × HasFew route
+withdrawals-read : (family : Family) (peering : Peering) (parts : List (List PrefixValue)) → AllByRecursion (Within (room_of (withdrawn_part family))) parts
+    → AllByRecursion (IsReadAs family peering) (withdrawals parts)
+withdrawals-read family peering [] within = tt
+withdrawals-read family peering (part ∷ parts) within = (withdrawal-read family peering part within.0, withdrawals-read family peering parts within.1)
 
-terms-with_route : (all : List (PrefixValue × Terms)) (groups : List Group) (route : PrefixValue × Terms) → AllByRecursion (HasTermsOf all) groups → IsFewIn all route → AllByRecursion (HasTermsOf all) (with_route same_terms groups route)
-terms-with_route all [] route are is = ((route, is.0, refl, is.1), tt)
-terms-with_route all (group ∷ groups) route are is =
-    elim (same_terms group.terms route.1) as (λ v. AllByRecursion (HasTermsOf all) (cond v (record { terms = group.terms; prefixes = group.prefixes ++ route.0 ∷ [] } ∷ groups) (group ∷ with_route same_terms groups route))) [
-      | true ↦ (are.0, are.1)
-      | false ↦ (are.0, terms-with_route all groups route are.1 is)
-    ]
+-- ---- what announces
+length-reach : (hop : ℕ) (bytes : List ℕ) → length (reach_attribute hop bytes) ≤ 25 + length bytes
+length-reach hop bytes = omega (arith, length-attribute 0x80 14 ((0 ∷ 2 ∷ 1 ∷ 16 ∷ []) ++ to_be_bytes w128 hop ++ (0 ∷ []) ++ bytes))
 
-terms-groups : (all : List (PrefixValue × Terms)) (groups : List Group) (routes : List (PrefixValue × Terms)) → AllByRecursion (HasTermsOf all) groups → AllByRecursion (IsFewIn all) routes → AllByRecursion (HasTermsOf all) (groups_from same_terms groups routes)
-terms-groups all groups [] are have = are
-terms-groups all groups (route ∷ routes) are have = terms-groups all (with_route same_terms groups route) routes (terms-with_route all groups route are have.0) have.1
+announcement-read : (family : Family) (peering : Peering) (terms : Terms) (part : List PrefixValue) → AreFew terms → Within (room_of (announced_part family peering terms)) part
+    → IsReadAs family peering (record { withdrawn = []; announced = part; terms = Some terms })
+unfolding part_bytes
+announcement-read V4 peering terms part few within =
+    let attributes : List ℕ = front_of V4 peering terms ++ large_attribute terms.large in
+    let size = size-announced V4 peering terms few in
+    record {
+      withdrawn = announce-withdrawn attributes (prefixes_bytes part);
+      attributes = ap attributes_in (announce-attributes attributes (prefixes_bytes part) (omega (arith, size))) ∙ read-v4 peering terms [] part few;
+      announced = announce-announced attributes (prefixes_bytes part) (omega (arith, size));
+    }
+announcement-read V6 peering terms part few within =
+    let bytes : List ℕ = prefixes_bytes part in
+    let reach : List ℕ = reach_attribute peering.next_hop_v6 bytes in
+    let attributes : List ℕ = front_of V6 peering terms ++ reach ++ large_attribute terms.large in
+    let size = size-announced V6 peering terms few in
+    let small : length attributes ≤ 8192 = omega (arith, size, within, length-reach peering.next_hop_v6 bytes, length-append (front_of V6 peering terms ++ reach) (large_attribute terms.large), length-append (front_of V6 peering terms) reach) in
+    record {
+      withdrawn = announce-withdrawn attributes [];
+      attributes = ap attributes_in (announce-attributes attributes [] (omega (arith, small))) ∙ read-v6 peering terms [] part few (omega (arith, within));
+      announced = announce-announced attributes [] (omega (arith, small));
+    }
 
-filter-in : (all : List (PrefixValue × Terms)) (keep : PrefixValue × Terms → Bool) (routes : List (PrefixValue × Terms)) → AllByRecursion (IsFewIn all) routes → AllByRecursion (IsFewIn all) (filter keep routes)
-filter-in all keep [] are = tt
-filter-in all keep (route ∷ routes) are =
-    elim (keep route) as (λ v. AllByRecursion (IsFewIn all) (cond v (route ∷ filter keep routes) (filter keep routes))) [
-      | true ↦ (are.0, filter-in all keep routes are.1)
-      | false ↦ filter-in all keep routes are.1
-    ]
+announcements-read : (family : Family) (peering : Peering) (terms : Terms) (parts : List (List PrefixValue)) → AreFew terms → AllByRecursion (Within (room_of (announced_part family peering terms))) parts
+    → AllByRecursion (IsReadAs family peering) (announcements terms parts)
+announcements-read family peering terms [] few within = tt
+announcements-read family peering terms (part ∷ parts) few within = (announcement-read family peering terms part few within.0, announcements-read family peering terms parts few within.1)
 
-all-in : (all routes : List (PrefixValue × Terms)) → ((route : PrefixValue × Terms) → IsIn routes route → IsIn all route) → AllByRecursion HasFew routes → AllByRecursion (IsFewIn all) routes
-all-in all [] into few = tt
-all-in all (route ∷ routes) into few = ((into route (inl refl), few.0), all-in all routes (λ r there. into r (inr there)) few.1)
+-- ---- all messages of a family
+read-append : (family : Family) (peering : Peering) (a b : List Update) → AllByRecursion (IsReadAs family peering) a → AllByRecursion (IsReadAs family peering) b → AllByRecursion (IsReadAs family peering) (a ++ b)
+read-append family peering [] b first second = second
+read-append family peering (update ∷ a) b first second = (first.0, read-append family peering a b first.1 second)
 
--- ---- messages
-abbrev IsShort : List ℕ → Type 0
-IsShort message = length message ≤ 4096
+groups-read : (family : Family) (peering : Peering) (groups : List Group) → AllByRecursion IsGroup groups
+    → AllByRecursion (IsReadAs family peering) (flat_map (λ group. announcements group.terms (in_messages (room_of (announced_part family peering group.terms)) group.prefixes)) groups)
+groups-read family peering [] are = tt
+groups-read family peering (group ∷ groups) are =
+    let room : ℕ = room_of (announced_part family peering group.terms) in
+    let parts : List (List PrefixValue) = in_messages room group.prefixes in
+    let size = size-announced family peering group.terms are.0.few in
+    read-append family peering (announcements group.terms parts) (flat_map (λ group. announcements group.terms (in_messages (room_of (announced_part family peering group.terms)) group.prefixes)) groups)
+    (announcements-read family peering group.terms parts are.0.few (sized-in_messages room group.prefixes (omega (arith, size)) (recursion_from_All Fits group.prefixes are.0.short)))
+    (groups-read family peering groups are.1)
 
-withdraw-tells : (peering : Peering) (routes : List (PrefixValue × Terms)) (w : List ℕ) → IsShort (message_of w [] []) → TellsAttributes peering routes (message_of w [] [])
-withdraw-tells peering routes w short =
-    let few : length w < 65536 = omega (arith, short, length-message w [] []) in
-    inl (withdraw-attributes w few, withdraw-announced w few)
-
-withdrawals-tell : (peering : Peering) (routes : List (PrefixValue × Terms)) (parts : List (List PrefixValue)) → AllByRecursion IsShort (map (part_message []) parts) → AllByRecursion (TellsAttributes peering routes) (map (part_message []) parts)
-withdrawals-tell peering routes [] short = tt
-withdrawals-tell peering routes (part ∷ parts) short = (withdraw-tells peering routes (prefixes_bytes part) short.0, withdrawals-tell peering routes parts short.1)
-
-announce-part : (attributes n : List ℕ) → 14 ≤ length attributes → length attributes < 65536 → attribute_octets (part_bytes attributes n) ≡ attributes
-announce-part [] n some few = absurd (omega arith)
-announce-part (byte ∷ attributes) n some few = announce-attributes (byte ∷ attributes) n few
-
-announcements-tell : (peering : Peering) (routes : List (PrefixValue × Terms)) (group : Group) → HasTermsOf routes group → (parts : List (List PrefixValue)) → AllByRecursion (TellsAttributes peering routes) (map (part_message (attributes_of peering group.terms)) parts)
-announcements-tell peering routes group has [] = tt
-announcements-tell peering routes group has (part ∷ parts) =
-    let few : length group.terms.communities ≤ 512 = subst (λ (t : Terms). length t.communities ≤ 512) has.2 has.3 in
-    let attributes : List ℕ = attributes_of peering group.terms in
-    let octets : attribute_octets (part_message attributes part) ≡ attributes =
-    announce-part attributes (prefixes_bytes part) (attributes-some peering group.terms) (omega (arith, length-attributes_of peering group.terms few)) in (
-      inr (has.0, has.1, ap attributes_in octets ∙ attributes-read peering group.terms few ∙ ap (λ t. Some (attributes_told peering t)) (sym has.2)),
-      announcements-tell peering routes group has parts,
-    )
-
-tell-append : (peering : Peering) (routes : List (PrefixValue × Terms)) (a b : List (List ℕ)) → AllByRecursion (TellsAttributes peering routes) a → AllByRecursion (TellsAttributes peering routes) b → AllByRecursion (TellsAttributes peering routes) (a ++ b)
-tell-append peering routes [] b first second = second
-tell-append peering routes (m ∷ a) b first second = (first.0, tell-append peering routes a b first.1 second)
-
-groups-tell : (peering : Peering) (routes : List (PrefixValue × Terms)) (groups : List Group) → AllByRecursion (HasTermsOf routes) groups → AllByRecursion (TellsAttributes peering routes) (flat_map (group_messages peering) groups)
-groups-tell peering routes [] are = tt
-groups-tell peering routes (group ∷ groups) are =
-    tell-append peering routes (group_messages peering group) (flat_map (group_messages peering) groups)
-    (announcements-tell peering routes group are.0 (in_messages (4073 - length (attributes_of peering group.terms)) group.prefixes))
-    (groups-tell peering routes groups are.1)
-
-short-front : (a b : List (List ℕ)) → AllByRecursion IsShort (a ++ b) → AllByRecursion IsShort a
-short-front [] b all = tt
-short-front (m ∷ a) b all = (all.0, short-front a b all.1)
-
-pub messages-tell : MessagesTellAttributes
-messages-tell peering old new old_table new_table few =
-    let few_each : AllByRecursion HasFew new = recursion_from_All HasFew new few in
+updates-read : (family : Family) (peering : Peering) (old new : List (PrefixValue × Terms)) → IsTable old → IsTable new → All HasFew new → AllByRecursion (IsReadAs family peering) (updates_for family peering old new)
+updates-read family peering old new old_table new_table few =
+    let most : ℕ = room_of (withdrawn_part family) in
+    let gone_parts : List (List PrefixValue) = in_messages most (keys_of (gone old new)) in
     let groups : List Group = groups_from same_terms [] (changed same_terms old new) in
-    let withdrawn : List (List ℕ) = part_messages [] (keys_of (gone old new)) in
-    let short : AllByRecursion IsShort (messages_between peering old new) = recursion_from_All IsShort (messages_between peering old new) (messages-fit peering old new old_table new_table few) in
-    tell-append peering new withdrawn (flat_map (group_messages peering) groups)
-    (withdrawals-tell peering new (in_messages 4073 (keys_of (gone old new))) (short-front withdrawn (flat_map (group_messages peering) groups) short))
-    (groups-tell peering new groups (terms-groups new [] (changed same_terms old new) tt
-    (filter-in new (λ route. not (stands_as same_terms (terms_at old route.0) route.1)) new (all-in new new (λ route there. there) few_each))))
+    read-append family peering (withdrawals gone_parts) (flat_map (λ group. announcements group.terms (in_messages (room_of (announced_part family peering group.terms)) group.prefixes)) groups)
+    (withdrawals-read family peering gone_parts (sized-in_messages most (keys_of (gone old new)) (omega (arith, size-withdrawn family)) (recursion_from_All Fits (keys_of (gone old new)) (short-gone old new old_table))))
+    (groups-read family peering groups (recursion_from_All IsGroup groups (small-changed old new new_table few)))
+
+pub messages-read : MessagesAreRead
+messages-read = record {
+  messages = λ peering old new.
+      ap (λ front. front ++ messages_for V6 peering (of_family V6 old) (of_family V6 new)) (messages-spell V4 peering (of_family V4 old) (of_family V4 new))
+      ∙ ap (λ back. map (update_octets V4 peering) (said V4 peering old new) ++ back) (messages-spell V6 peering (of_family V6 old) (of_family V6 new));
+  each = λ family peering old new old_table new_table few.
+      updates-read family peering (of_family family old) (of_family family new) (family-table family old old_table) (family-table family new new_table) (family-few family new few);
+}

@@ -52,6 +52,9 @@ two_octets octets place = slice_index octets place * 0x100 + slice_index octets 
 abbrev pub behind_withdrawn : List ℕ → List ℕ
 behind_withdrawn message = drop (two_octets message 19) (drop 21 message)
 
+unfoldable pub withdrawn_octets : List ℕ → List ℕ
+withdrawn_octets message = take (two_octets message 19) (drop 21 message)
+
 unfoldable pub attribute_octets : List ℕ → List ℕ
 attribute_octets message = take (two_octets (behind_withdrawn message) 0) (drop 2 (behind_withdrawn message))
 

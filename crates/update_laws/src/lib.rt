@@ -4,4 +4,7 @@
 
 mod laws;
 
-pub use laws::{messages_are_those_written_out, messages_tell_attributes};
+pub use laws::{
+    ipv6_messages_are_those_written_out, large_communities_are_those_written_out,
+    messages_are_read, messages_are_those_written_out,
+};

@@ -3,9 +3,9 @@ use Rattle.std.proofs.Common.{◌≡◌, Bool, true, List, [], ◌∷◌, ◌++�
 use Rattle.std.proofs.lemmas.Bool.{and_from, and_parts}
 use Rattle.std.specs.List.{AllByRecursion, list_all}
 use Rattle.std.specs.Map.{keys_of}
-use Rattle.ip_ranges.specs.Values.{PrefixValue}
+use Rattle.ip_ranges.specs.Values.{PrefixValue, IsPrefix}
 use Rattle.bgp_updates.specs.declared.route.Terms.{Terms}
-use Rattle.bgp_updates.specs.Tables.{Ascend, IsTable, IsV4, before}
+use Rattle.bgp_updates.specs.Tables.{Ascend, IsTable, before}
 
 all-keys : (P : PrefixValue → Type 0) (routes : List (PrefixValue × Terms)) (route : PrefixValue × Terms) → AllByRecursion P (keys_of routes) → P route.0 → AllByRecursion P (keys_of (routes ++ route ∷ []))
 all-keys P [] route all own = (own, tt)
@@ -23,5 +23,5 @@ ascend-keys (first ∷ routes) route ascend last =
     let both = and_parts (before first.0 route.0) (list_all (λ earlier. before earlier.0 route.0) routes) last in
     (test-keys (before first.0) routes route ascend.0 both.0, ascend-keys routes route ascend.1 both.1)
 
-pub table-stays : (routes : List (PrefixValue × Terms)) (route : PrefixValue × Terms) → IsTable routes → IsV4 route.0 → list_all (λ earlier. before earlier.0 route.0) routes ≡ true → IsTable (routes ++ route ∷ [])
-table-stays routes route table is last = (all-keys IsV4 routes route table.0 is, ascend-keys routes route table.1 last)
+pub table-stays : (routes : List (PrefixValue × Terms)) (route : PrefixValue × Terms) → IsTable routes → IsPrefix route.0 → list_all (λ earlier. before earlier.0 route.0) routes ≡ true → IsTable (routes ++ route ∷ [])
+table-stays routes route table is last = (all-keys IsPrefix routes route table.0 is, ascend-keys routes route table.1 last)

@@ -5,7 +5,7 @@ use mlb_base::NoMemory;
 use std::alloc::Global;
 use std::marker::Model;
 
-/// Routes of at most 512 communities, which are a table.
+/// Routes of at most 512 communities and 128 large ones, which are a table.
 #[derive(Drop)]
 pub struct Draft {
     routes: Vec<Route>,
@@ -27,7 +27,8 @@ impl Model for Draft {
 impl Draft {
     ghost use Rattle.std.specs.Prelude.{◌≡◌, [], All};
     ghost use Rattle.std.specs.List.{list_all};
-    ghost use Rattle.bgp_updates.specs.Tables.{before, HasFew, IsV4};
+    ghost use Rattle.ip_ranges.specs.Values.{IsPrefix};
+    ghost use Rattle.bgp_updates.specs.Tables.{before, HasFew};
 
     pub fn new(alloc: Global) -> Draft
         ensures { result ≡ [] }
@@ -48,7 +49,7 @@ impl Draft {
 
     /// Adds the route where it comes last, and answers whether it does.
     pub fn add(&mut self, route: Route) -> Result<bool, NoMemory>
-        requires prefix { IsV4 route.0 }
+        requires prefix { IsPrefix route.0 }
         requires few { HasFew route }
     {
         let comes_last = self.precedes(&route);

@@ -1,7 +1,8 @@
 //! Messages of many prefixes.
-ghost use Rattle.std.specs.Prelude.{◌≡◌, ◌<◌, ◌≤◌, IfOk, length};
-ghost use Rattle.ip_ranges.specs.declared.family.Family.TheVariants.{V4};
-ghost use Rattle.bgp_updates.specs.Tables.{HasFew, IsV4};
+ghost use Rattle.std.specs.Prelude.{◌≡◌, ◌<◌, ◌≤◌, IfOk, IfSome, length};
+ghost use Rattle.ip_ranges.specs.declared.family.Family.TheVariants.{V4, V6};
+ghost use Rattle.ip_ranges.specs.Values.{IsPrefix};
+ghost use Rattle.bgp_updates.specs.Tables.{HasFew};
 
 use crate::draft::Draft;
 use crate::tables::Tables;
@@ -10,6 +11,7 @@ use anyhow::{Result, bail};
 use bgp_reading::{UpdateFault, read_update};
 use bgp_updates::{MessageList, Route};
 use ip_ranges::{Address, Family, mask};
+use large_numbers::{LargeNumbers, larges_from};
 use mlb_base::NoMemory;
 use pool_config::{CommunityNumbers, numbers_from};
 use std::alloc::Global;
@@ -33,39 +35,70 @@ fn number_of(alloc: Global, number: u32) -> Result<CommunityNumbers, NoMemory>
     }
 }
 
-/// The route of the address at this place behind 10.0.0.0, with the community 0:GROUP.
-fn route_at(alloc: Global, place: u16, group: u16) -> Result<Route>
-    ensures prefix { IfOk result (λ route. IsV4 route.0) }
-    ensures few { IfOk result HasFew }
+/// No large communities.
+fn no_larges(alloc: Global) -> Result<LargeNumbers, NoMemory>
+    ensures { IfOk result (λ numbers. length numbers ≤ 128) }
 {
-    let address = Address {
-        family: Family::V4,
-        number: 0x0a00_0000 + u128::from(place),
-    };
-    Ok(Route {
-        prefix: mask(&address, 32),
-        preference: None,
-        communities: number_of(alloc, u32::from(group))?,
-    })
+    larges_from(alloc, &BTreeSet::new(alloc))
 }
 
-fn add_routes(alloc: Global, draft: &mut Draft, count: u16, groups: u16) -> Result<()>
+/// The address of the family at this place behind 10.0.0.0 or 2001:db8::.
+fn address_at(family: Family, place: u16) -> Address
+    ensures { result.family ≡ family }
+{
+    let first = match family {
+        Family::V4 => 0x0a00_0000,
+        Family::V6 => 0x2001_0db8_0000_0000_0000_0000_0000_0000,
+    };
+    Address {
+        family,
+        number: first + u128::from(place),
+    }
+}
+
+/// The route of the address at this place, with the community 0:GROUP.
+fn route_at(alloc: Global, family: Family, place: u16, group: u16) -> Result<Route>
+    ensures prefix { IfOk result (λ route. IsPrefix route.0) }
+    ensures few { IfOk result HasFew }
+{
+    let communities = number_of(alloc, u32::from(group))?;
+    match no_larges(alloc) {
+        Ok(large) => Ok(Route {
+            prefix: mask(&address_at(family, place), family.width()),
+            preference: None,
+            communities,
+            large,
+        }),
+        Err(fault) => {
+            drop(communities);
+            Err(fault)?
+        }
+    }
+}
+
+fn add_routes(
+    alloc: Global,
+    draft: &mut Draft,
+    family: Family,
+    count: u16,
+    groups: u16,
+) -> Result<()>
     requires { 0 < groups }
 {
     for place in 0..count {
-        let route = route_at(alloc, place, place % groups)?;
+        let route = route_at(alloc, family, place, place % groups)?;
         let _comes_last = draft.add(route)?;
     }
     Ok(())
 }
 
-/// No routes and so many, in so many groups.
-fn tables_of(alloc: Global, count: u16, groups: u16) -> Result<Tables> {
+/// No routes and so many of the family, in so many groups.
+fn tables_of(alloc: Global, family: Family, count: u16, groups: u16) -> Result<Tables> {
     if groups == 0 {
         bail!("no group");
     }
     let mut tables = Tables::new(alloc);
-    match add_routes(alloc, &mut tables.new, count, groups) {
+    match add_routes(alloc, &mut tables.new, family, count, groups) {
         Ok(()) => Ok(tables),
         Err(error) => {
             drop(tables);
@@ -107,6 +140,14 @@ fn show_messages(rt: &(impl Print + AllocGlobal), messages: &MessageList) -> Res
     Ok(())
 }
 
+/// IPv6 where there is a next hop of it.
+fn family_of(side: &Side) -> Family {
+    match side.next_hop_v6 {
+        None => Family::V4,
+        Some(_) => Family::V6,
+    }
+}
+
 /// Writes of each message how long it is and how many prefixes it announces, and then how many there are.
 pub fn show(
     rt: &(impl Print + AllocGlobal),
@@ -114,11 +155,12 @@ pub fn show(
     groups: &str,
     side: &Side,
 ) -> Result<()>
-    requires { side.now.next_hop.family ≡ V4 }
+    requires hop { side.now.next_hop.family ≡ V4 }
+    requires hop_v6 { IfSome side.now.next_hop_v6 (λ hop. hop.family ≡ V6) }
 {
     let prefixes = prefixes.parse::<u16>()?;
     let groups = groups.parse::<u16>()?;
-    let tables = tables_of(rt.alloc(), prefixes, groups)?;
+    let tables = tables_of(rt.alloc(), family_of(side), prefixes, groups)?;
     let messages = tables.messages(rt.alloc(), side)?;
     let shown = show_messages(rt, &messages);
     drop(messages);

@@ -1,6 +1,6 @@
 //! What is written of a line.
-ghost use Rattle.std.specs.Prelude.{◌≡◌};
-ghost use Rattle.ip_ranges.specs.declared.family.Family.TheVariants.{V4};
+ghost use Rattle.std.specs.Prelude.{◌≡◌, IfSome};
+ghost use Rattle.ip_ranges.specs.declared.family.Family.TheVariants.{V4, V6};
 
 use crate::draft::Draft;
 use crate::many;
@@ -10,6 +10,7 @@ use anyhow::{Result, bail};
 use bgp_reading::{UpdateFault, UpdateParts, read_update};
 use bgp_updates::MessageList;
 use ip_ranges::{Address, Prefix, print_address};
+use large_numbers::LargeCommunity;
 use std::alloc::Global;
 use std::mem;
 
@@ -62,6 +63,16 @@ fn show_communities(rt: &impl Print, numbers: &[u32]) -> Result<()> {
     Ok(())
 }
 
+fn show_larges(rt: &impl Print, numbers: &[LargeCommunity]) -> Result<()> {
+    if !numbers.is_empty() {
+        print!(rt; " large")?;
+    }
+    for number in numbers {
+        print!(rt; " {}:{}:{}", number.global, number.first, number.second)?;
+    }
+    Ok(())
+}
+
 fn show_parts(rt: &(impl Print + AllocGlobal), parts: &UpdateParts) -> Result<()> {
     print!(rt; "update")?;
     show_prefixes(rt, "withdrawn", parts.withdrawn.as_slice())?;
@@ -70,6 +81,7 @@ fn show_parts(rt: &(impl Print + AllocGlobal), parts: &UpdateParts) -> Result<()
         print!(rt; " preference {preference}")?;
     }
     show_communities(rt, parts.communities.as_slice())?;
+    show_larges(rt, parts.large.as_slice())?;
     println!(rt; "")?;
     Ok(())
 }
@@ -126,7 +138,8 @@ fn add(rt: &(impl Print + AllocGlobal), tables: &mut Tables, words: &[&str]) -> 
 
 /// Writes the messages between the tables, which are begun anew.
 fn update(rt: &(impl Print + AllocGlobal), tables: &mut Tables, side: &Side) -> Result<()>
-    requires { side.now.next_hop.family ≡ V4 }
+    requires hop { side.now.next_hop.family ≡ V4 }
+    requires hop_v6 { IfSome side.now.next_hop_v6 (λ hop. hop.family ≡ V6) }
 {
     let ended = mem::replace(tables, Tables::new(rt.alloc()));
     let messages = ended.messages(rt.alloc(), side)?;
@@ -142,20 +155,42 @@ fn answer_words(
 ) -> Result<()> {
     match words {
         ["read", digits] => read(rt, digits),
-        ["updates", my_asn, peer_asn, next_hop] => {
-            let side = side_of(rt.alloc(), my_asn, peer_asn, next_hop)?;
-            let updated = update(rt, tables, &side);
-            drop(side);
-            updated
+        ["updates", my_asn, peer_asn, hop] => {
+            let side = side_of(rt.alloc(), my_asn, peer_asn, hop, None)?;
+            update_side(rt, tables, side)
         }
-        ["many", count, groups, my_asn, peer_asn, next_hop] => {
-            let side = side_of(rt.alloc(), my_asn, peer_asn, next_hop)?;
-            let shown = many::show(rt, count, groups, &side);
-            drop(side);
-            shown
+        ["updates", my_asn, peer_asn, hop, hop_v6] => {
+            let side = side_of(rt.alloc(), my_asn, peer_asn, hop, Some(hop_v6))?;
+            update_side(rt, tables, side)
+        }
+        ["many", count, groups, my_asn, peer_asn, hop] => {
+            let side = side_of(rt.alloc(), my_asn, peer_asn, hop, None)?;
+            show_many(rt, count, groups, side)
+        }
+        ["many", count, groups, my_asn, peer_asn, hop, hop_v6] => {
+            let side = side_of(rt.alloc(), my_asn, peer_asn, hop, Some(hop_v6))?;
+            show_many(rt, count, groups, side)
         }
         route => add(rt, tables, route),
     }
+}
+
+fn update_side(rt: &(impl Print + AllocGlobal), tables: &mut Tables, side: Side) -> Result<()>
+    requires hop { side.next_hop.family ≡ V4 }
+    requires hop_v6 { IfSome side.next_hop_v6 (λ hop. hop.family ≡ V6) }
+{
+    let updated = update(rt, tables, &side);
+    drop(side);
+    updated
+}
+
+fn show_many(rt: &(impl Print + AllocGlobal), count: &str, groups: &str, side: Side) -> Result<()>
+    requires hop { side.next_hop.family ≡ V4 }
+    requires hop_v6 { IfSome side.next_hop_v6 (λ hop. hop.family ≡ V6) }
+{
+    let shown = many::show(rt, count, groups, &side);
+    drop(side);
+    shown
 }
 
 /// Writes what the line asks for.

@@ -7,7 +7,7 @@ use Rattle.bgp_reading.proofs.prefixes.read_prefixes.Goals as goal
 pub loop-rest-preserved : goal.loop-rest-preserved
 loop-rest-preserved c = (
   rw (c.in_ok-push.ensures.ok, c.prefix_in.ensures.value, c.front.ensures, c.behind-rest.ensures) (
-      read-next c.loop-rest.prefixes c.loop-rest.rest.now (omega arith) (omega arith) ∙ c.loop-rest.invariant.0
+      read-next c.args.family c.loop-rest.prefixes c.loop-rest.rest.now (omega arith) (omega arith) ∙ c.loop-rest.invariant.0
       ),
   rw c.in_ok-push.ensures.ok (All-push Fits c.loop-rest.prefixes c.prefix_in.result c.loop-rest.invariant.1 c.prefix_in.ensures.fits),
 )

@@ -1,11 +1,7 @@
-use Rattle.std.proofs.Common.{◌≡◌, true, IfOk, subst, ◌∙◌, rules}
-use Rattle.bgp_reading.specs.Reading.{are_prefixes}
-use Rattle.bgp_reading.proofs.Spelled.{announced-by}
+use Rattle.std.proofs.Common.{arith}
+use Rattle.bgp_updates.proofs.SmallGroups.{size-within}
 use Rattle.bgp_reading.proofs.spelling.are_announced.Goals as goal
 
-pub returns : goal.returns
-returns c =
-    let some : are_prefixes c.args.prefixes.now ≡ true = search rules in
-    let spelled = announced-by c.args.bytes.now c.args.sender.now c.args.terms.now c.args.prefixes.now c.as_slice.result.now c.as_slice-2.result.now some
-    (c.as_slice.ensures.value ∙ c.in_ok-attributes.ensures) (c.as_slice-2.ensures.value ∙ c.in_ok-announced.ensures) in
-    subst (λ s. IfOk c.is_message.result (λ b. b ≡ s)) spelled c.is_message.ensures
+pub is_message-requires-clause-part : goal.is_message-requires-clause-part
+is_message-requires-clause-part c =
+    rw c.in_ok-part.ensures (omega (arith, c.requires.communities, c.requires.large, size-within c.args.family c.args.sender.now c.args.terms.now))

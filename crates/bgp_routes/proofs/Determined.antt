@@ -1,20 +1,24 @@
 -- Two tables of the same routes are one.
-use Rattle.std.proofs.Common.{◌≡◌, ℕ, ◌≤◌, Bool, true, false, cond, ◌==◌, List, [], ◌∷◌, Option, Some, None, Less, inl, inr, refl, sym, ◌∙◌, ap, ap₂, subst, arith}
-use Rattle.std.proofs.lemmas.Bool.Decides.{nat_tests}
+use Rattle.std.proofs.Common.{◌≡◌, ◌↔◌, ℕ, ◌≤◌, Bool, true, false, cond, ◌==◌, List, [], ◌∷◌, Option, Some, None, Ordering, Less, Greater, inl, inr, refl, sym, ◌∙◌, ap, ap₂, subst, arith}
+use Rattle.std.proofs.lemmas.Cmp.{nat_cmp_total}
+use Rattle.std.specs.Cmp.{IsTotalOrder}
 use Rattle.std.specs.List.{AllByRecursion, list_all}
 use Rattle.std.specs.List.Sorted.{IsStrictlySortedBy}
 use Rattle.std.specs.Map.{keys_of}
-use Rattle.std.specs.Ordering.{nat_cmp}
+use Rattle.std.specs.Ordering.{ordering_reverse}
 use Rattle.ip_ranges.specs.Values.{PrefixValue}
+use Rattle.large_numbers.specs.declared.numbers.LargeCommunity.{LargeCommunity}
 use Rattle.mlb_base.specs.Items.{IsIn}
 use Rattle.pool_config.specs.declared.compiled.CompiledPeer.{CompiledPeer}
+use Rattle.pool_config.proofs.CommunitySets.{large_cmp-total}
 use Rattle.speaker_view.specs.ViewValue.{ViewValue}
 use Rattle.bgp_updates.specs.declared.route.Terms.{Terms}
 use Rattle.bgp_updates.specs.Tables.{Ascend, before}
-use Rattle.bgp_updates.proofs.ReceivedLaws.{both_true}
-use Rattle.bgp_routes.specs.Contribution.{IsContribution}
+use Rattle.bgp_updates.proofs.Halves.{before-before}
+use Rattle.bgp_updates.proofs.ReceivedLaws.{before-other, both_true}
 use Rattle.bgp_routes.specs.Determined.{Ascends, IsTableOf, TablesAreDetermined}
-use Rattle.bgp_routes.specs.Laws.{IsGreatest, IsRoute}
+use Rattle.bgp_routes.specs.Laws.{Contributes, HasCommunity, IsGreatest, IsRoute}
+use Rattle.bgp_routes.proofs.Elements.{same_prefix-itself}
 
 -- ---- lists that ascend, with the same items
 module _ {A : Type 0} (Before : A → A → Type 0) (apart : (x y : A) → Before x y → Before y x → ⊥) where
@@ -50,31 +54,28 @@ module _ {A : Type 0} (Before : A → A → Type 0) (apart : (x y : A) → Befor
       (λ z there. behind x z xs ys first.0 there (subst (λ w. IsIn (w ∷ ys) z) (sym one) (into z (inr there))))
       (λ z there. behind y z ys xs second.0 there (subst (λ w. IsIn (w ∷ xs) z) one (back z (inr there)))))
 
--- ---- numbers
-abbrev Lower : ℕ → ℕ → Type 0
-Lower m n = nat_cmp m n ≡ Less
+-- ---- keys
+module _ {K : Type 0} {R : K → K → Ordering} (o : IsTotalOrder R) where
+  abbrev Lower : K → K → Type 0
+  Lower x y = R x y ≡ Less
 
-lower-apart : (m n : ℕ) → Lower m n → Lower n m → ⊥
-lower-apart m n first second = grind (arith, nat_tests)
+  lower-apart : (x y : K) → Lower x y → Lower y x → ⊥
+  lower-apart x y first second = let turned : Less ≡ Greater = sym first ∙ o.antisymm x y ∙ ap ordering_reverse second in absurd (cc)
 
-numbers-ascend : (numbers : List ℕ) → IsStrictlySortedBy nat_cmp numbers → Ascending Lower lower-apart numbers
-unfolding IsStrictlySortedBy
-numbers-ascend [] sorted = tt
-numbers-ascend (n ∷ numbers) sorted = (sorted.0, numbers-ascend numbers sorted.1)
+  keys-ascend : (keys : List K) → IsStrictlySortedBy R keys → Ascending Lower lower-apart keys
+  unfolding IsStrictlySortedBy
+  keys-ascend [] sorted = tt
+  keys-ascend (k ∷ keys) sorted = (sorted.0, keys-ascend keys sorted.1)
 
-pub same-numbers-ascending : (a b : List ℕ) → IsStrictlySortedBy nat_cmp a → IsStrictlySortedBy nat_cmp b → ((n : ℕ) → IsIn a n → IsIn b n) → ((n : ℕ) → IsIn b n → IsIn a n) → a ≡ b
-same-numbers-ascending a b first second into back = same-items Lower lower-apart a b (numbers-ascend a first) (numbers-ascend b second) into back
+  pub same-keys-ascending : (a b : List K) → IsStrictlySortedBy R a → IsStrictlySortedBy R b → ((k : K) → IsIn a k → IsIn b k) → ((k : K) → IsIn b k → IsIn a k) → a ≡ b
+  same-keys-ascending a b first second into back = same-items Lower lower-apart a b (keys-ascend a first) (keys-ascend b second) into back
 
 -- ---- routes
-abbrev Earlier : PrefixValue × Terms → PrefixValue × Terms → Type 0
+abbrev pub Earlier : PrefixValue × Terms → PrefixValue × Terms → Type 0
 Earlier r s = before r.0 s.0 ≡ true
 
-earlier-apart : (r s : PrefixValue × Terms) → Earlier r s → Earlier s r → ⊥
-earlier-apart r s first second = by-numbers r.0.number s.0.number r.0.length s.0.length first second
-  where
-    by-numbers : (a b l m : ℕ) → before (record { family = r.0.family; number = a; length = l }) (record { family = s.0.family; number = b; length = m }) ≡ true
-        → before (record { family = s.0.family; number = b; length = m }) (record { family = r.0.family; number = a; length = l }) ≡ true → ⊥
-    by-numbers a b l m first second = grind (arith, nat_tests)
+pub earlier-apart : (r s : PrefixValue × Terms) → Earlier r s → Earlier s r → ⊥
+earlier-apart r s first second = before-other r.0 r.0 (before-before r.0 s.0 r.0 first second) (same_prefix-itself r.0)
 
 all-earlier : (r : PrefixValue × Terms) (routes : List (PrefixValue × Terms)) → list_all (before r.0) (keys_of routes) ≡ true → AllByRecursion (Earlier r) routes
 all-earlier r [] all = tt
@@ -82,22 +83,22 @@ all-earlier r (s ∷ routes) all =
     let parts = both_true (before r.0 s.0) (list_all (before r.0) (keys_of routes)) all in
     (parts.0, all-earlier r routes parts.1)
 
-routes-ascend : (routes : List (PrefixValue × Terms)) → Ascend (keys_of routes) → Ascending Earlier earlier-apart routes
+pub routes-ascend : (routes : List (PrefixValue × Terms)) → Ascend (keys_of routes) → Ascending Earlier earlier-apart routes
 routes-ascend [] ascend = tt
 routes-ascend (r ∷ routes) ascend = (all-earlier r routes ascend.0, routes-ascend routes ascend.1)
 
 -- ---- the terms of a prefix
-module _ (v : ViewValue) (node : List ℕ) (peer : CompiledPeer) where
+module _ (v : ViewValue) (node : List ℕ) (peer : CompiledPeer) (both : Bool) where
   told-both : (test : Bool) (m n k : ℕ) → cond test (Some m) None ≡ None → cond test (Some n) None ≡ Some k → ⊥
   told-both true m n k none some = absurd (cc)
   told-both false m n k none some = absurd (cc)
 
-  told-one : (s t : Terms) (p : PrefixValue) (k : ℕ) → IsContribution v node peer (p, s) → IsContribution v node peer (p, t) → s.preference ≡ None → t.preference ≡ Some k → ⊥
+  told-one : (s t : Terms) (p : PrefixValue) (k : ℕ) → Contributes v node peer both p s → Contributes v node peer both p t → s.preference ≡ None → t.preference ≡ Some k → ⊥
   told-one s t p k first second none some =
       told-both (peer.my_asn == peer.peer_asn) first.advertisement.local_pref second.advertisement.local_pref k
       (sym (ap (λ (c : PrefixValue × Terms). c.1.preference) first.is) ∙ none) (sym (ap (λ (c : PrefixValue × Terms). c.1.preference) second.is) ∙ some)
 
-  one-preference : (p : PrefixValue) (a b : Option ℕ) → IsGreatest v node peer p a → IsGreatest v node peer p b → a ≡ b
+  one-preference : (p : PrefixValue) (a b : Option ℕ) → IsGreatest v node peer both p a → IsGreatest v node peer both p b → a ≡ b
   one-preference p None None first second = refl
   one-preference p None (Some n) first second = absurd (told-one first.terms second.terms p n first.there second.there first.is second.is)
   one-preference p (Some m) None first second = absurd (told-one second.terms first.terms p m second.there first.there second.is first.is)
@@ -106,19 +107,28 @@ module _ (v : ViewValue) (node : List ℕ) (peer : CompiledPeer) where
       let down : m ≤ n = second.greatest first.terms m n first.there first.is refl in
       ap Some (omega (arith, up, down))
 
-  one-terms : (p : PrefixValue) (s t : Terms) → IsRoute v node peer (p, s) → IsRoute v node peer (p, t) → Ascends (p, s) → Ascends (p, t) → s ≡ t
+  -- communities of a kind that ascend and are those of all contributions
+  one-kind : {K : Type 0} {R : K → K → Ordering} → IsTotalOrder R → (kind : Terms → List K) (p : PrefixValue) (a b : List K)
+      → ((k : K) → IsIn a k ↔ HasCommunity kind v node peer both p k) → ((k : K) → IsIn b k ↔ HasCommunity kind v node peer both p k)
+      → IsStrictlySortedBy R a → IsStrictlySortedBy R b → a ≡ b
+  one-kind o kind p a b first second up down =
+      same-keys-ascending o a b up down (λ k there. (second k).1 ((first k).0 there)) (λ k there. (first k).1 ((second k).0 there))
+
+  one-terms : (p : PrefixValue) (s t : Terms) → IsRoute v node peer both (p, s) → IsRoute v node peer both (p, t) → Ascends (p, s) → Ascends (p, t) → s ≡ t
   one-terms p s t first second up down =
-      let communities : s.communities ≡ t.communities =
-      same-numbers-ascending s.communities t.communities up down
-      (λ n there. (second.communities n).1 ((first.communities n).0 there)) (λ n there. (first.communities n).1 ((second.communities n).0 there)) in
-      ap₂ (λ (a : Option ℕ) (ns : List ℕ). let made : Terms = record { preference = a; communities = ns } in made) (one-preference p s.preference t.preference first.preference second.preference) communities
+      let with_preference : Option ℕ → Terms = λ a. record { preference = a; communities = s.communities; large = s.large } in
+      let with_communities : List ℕ → Terms = λ ns. record { preference = t.preference; communities = ns; large = s.large } in
+      let with_large : List LargeCommunity → Terms = λ cs. record { preference = t.preference; communities = t.communities; large = cs } in
+      ap with_preference (one-preference p s.preference t.preference first.preference second.preference)
+      ∙ ap with_communities (one-kind nat_cmp_total (λ x. x.communities) p s.communities t.communities first.communities second.communities up.numbers down.numbers)
+      ∙ ap with_large (one-kind large_cmp-total (λ x. x.large) p s.large t.large first.large second.large up.large down.large)
 
   each-ascends : (routes : List (PrefixValue × Terms)) (r : PrefixValue × Terms) → AllByRecursion Ascends routes → IsIn routes r → Ascends r
   each-ascends [] r all none = absurd none
   each-ascends (s ∷ routes) r all (inl here) = subst Ascends here all.0
   each-ascends (s ∷ routes) r all (inr there) = each-ascends routes r all.1 there
 
-  into : (t t' : List (PrefixValue × Terms)) → IsTableOf v node peer t → IsTableOf v node peer t' → (r : PrefixValue × Terms) → IsIn t r → IsIn t' r
+  into : (t t' : List (PrefixValue × Terms)) → IsTableOf v node peer both t → IsTableOf v node peer both t' → (r : PrefixValue × Terms) → IsIn t r → IsIn t' r
   into t t' first second r there =
       let route = first.routes.routes r there in
       let found = second.routes.all (r.0, route.preference.terms) route.preference.there in
@@ -126,9 +136,9 @@ module _ (v : ViewValue) (node : List ℕ) (peer : CompiledPeer) where
       let same : r.1 ≡ found.0 = one-terms r.0 r.1 found.0 route other (each-ascends t r first.communities there) (each-ascends t' (r.0, found.0) second.communities found.1) in
       subst (λ s. IsIn t' (r.0, s)) (sym same) found.1
 
-  pub one-table : (t t' : List (PrefixValue × Terms)) → IsTableOf v node peer t → IsTableOf v node peer t' → t ≡ t'
+  pub one-table : (t t' : List (PrefixValue × Terms)) → IsTableOf v node peer both t → IsTableOf v node peer both t' → t ≡ t'
   one-table t t' first second =
       same-items Earlier earlier-apart t t' (routes-ascend t first.prefixes) (routes-ascend t' second.prefixes) (into t t' first second) (into t' t second first)
 
 pub tables-determined : TablesAreDetermined
-tables-determined v node peer t t' first second = one-table v node peer t t' first second
+tables-determined v node peer both t t' first second = one-table v node peer both t t' first second

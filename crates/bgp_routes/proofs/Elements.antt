@@ -1,22 +1,26 @@
 -- What the terms of a route tell: the communities and the greatest preference of all contributions of its prefix.
-use Rattle.std.proofs.Common.{◌≡◌, ℕ, ◌≤◌, ◌==◌, true, false, cond, List, [], ◌∷◌, ◌⊎◌, inl, inr, Option, Some, None, refl, sym, ◌∙◌, ap, subst, arith}
-use Rattle.std.specs.List.{list_any, AllByRecursion}
+use Rattle.std.proofs.Common.{◌≡◌, ℕ, ◌≤◌, ◌==◌, Bool, true, false, cond, List, [], ◌∷◌, ◌⊎◌, inl, inr, Option, Some, None, Ordering, refl, sym, ◌∙◌, ap, subst, arith}
+use Rattle.std.specs.Cmp.{IsTotalOrder}
+use Rattle.std.specs.List.{list_any}
 use Rattle.std.specs.Bool.{⊤}
 use Rattle.std.specs.Map.{keys_of}
 use Rattle.std.proofs.lemmas.Bool.{or_left, or_right, true≢false}
 use Rattle.std.proofs.lemmas.Bool.Decides.{nat_tests}
 use Rattle.std.proofs.lemmas.Cmp.{nat_cmp_total}
-use Rattle.std.proofs.lemmas.Map.Lookups.{exact_unsigned}
+use Rattle.std.proofs.lemmas.Map.Lookups.{CmpEqualImpliesEq, exact_unsigned}
 use Rattle.ip_ranges.specs.declared.family.Family.{Family}
 use Rattle.ip_ranges.specs.declared.family.Family.TheVariants.{V4, V6}
 use Rattle.ip_ranges.specs.Values.{PrefixValue, same_family}
+use Rattle.large_numbers.specs.declared.numbers.LargeCommunity.{LargeCommunity}
 use Rattle.mlb_base.specs.Items.{IsIn}
 use Rattle.pool_config.specs.declared.compiled.CompiledPeer.{CompiledPeer}
-use Rattle.pool_config.specs.Numbers.{ascending_with}
+use Rattle.pool_config.specs.KeySets.{keys_with}
+use Rattle.pool_config.proofs.CommunitySets.{large_cmp-exact, large_cmp-total}
 use Rattle.pool_config.proofs.KeySets.{in_keys, keys_in}
 use Rattle.speaker_view.specs.ViewValue.{ViewValue}
 use Rattle.bgp_updates.specs.declared.route.Terms.{Terms}
 use Rattle.bgp_updates.specs.Received.{AreDistinct, same_prefix, terms_at}
+use Rattle.bgp_updates.specs.Tables.{Ascend}
 use Rattle.bgp_updates.proofs.Packing.{by_test}
 use Rattle.bgp_updates.proofs.ReceivedLaws.{by_bool, distinct, same_prefix-is}
 use Rattle.bgp_routes.specs.Contribution.{IsContribution}
@@ -24,32 +28,33 @@ use Rattle.bgp_routes.specs.Laws.{HasCommunity, IsGreatest, IsRoute, RoutesUnite
 use Rattle.bgp_routes.specs.Routes.{contributions, routes_of}
 use Rattle.bgp_routes.specs.Uniting.{greater, united, united_terms, with_contribution, with_contributions}
 use Rattle.bgp_routes.proofs.Listing.{contributions-listed}
-use Rattle.bgp_routes.proofs.Placing.{OfV4, all-keys, ascend-with}
-use Rattle.bgp_routes.proofs.Stated.{Ordered, contributions-v4, routes-stated}
+use Rattle.bgp_routes.proofs.Placing.{ascend-with}
+use Rattle.bgp_routes.proofs.Stated.{routes-stated}
 
 -- ---- what united terms tell
 
-pub in_united : (a b : List ℕ) (n : ℕ) → IsIn (united a b) n → IsIn a n ⊎ IsIn b n
-in_united a b n there = elim (in_keys nat_cmp_total exact_unsigned (ascending_with [] a) b n there) [
-  | inl first ↦ elim (in_keys nat_cmp_total exact_unsigned [] a n first) [ inl none ↦ absurd none | inr one ↦ inl one ]
-  | inr second ↦ inr second
-]
+module _ {K : Type 0} {R : K → K → Ordering} (o : IsTotalOrder R) (exact : CmpEqualImpliesEq R) where
+  pub in_united : (a b : List K) (k : K) → IsIn (united R a b) k → IsIn a k ⊎ IsIn b k
+  in_united a b k there = elim (in_keys o exact (keys_with R [] a) b k there) [
+    | inl first ↦ elim (in_keys o exact [] a k first) [ inl none ↦ absurd none | inr one ↦ inl one ]
+    | inr second ↦ inr second
+  ]
 
-united_in : (a b : List ℕ) (n : ℕ) → IsIn a n ⊎ IsIn b n → IsIn (united a b) n
-united_in a b n (inl one) = keys_in nat_cmp_total exact_unsigned (ascending_with [] a) b n (inl (keys_in nat_cmp_total exact_unsigned [] a n (inr one)))
-united_in a b n (inr other) = keys_in nat_cmp_total exact_unsigned (ascending_with [] a) b n (inr other)
+  pub united_in : (a b : List K) (k : K) → IsIn a k ⊎ IsIn b k → IsIn (united R a b) k
+  united_in a b k (inl one) = keys_in o exact (keys_with R [] a) b k (inl (keys_in o exact [] a k (inr one)))
+  united_in a b k (inr other) = keys_in o exact (keys_with R [] a) b k (inr other)
 
 -- there is a preference, and it is at least this
-abbrev AtLeast : ℕ → Option ℕ → Type 0
+abbrev pub AtLeast : ℕ → Option ℕ → Type 0
 AtLeast m None = ⊥
 AtLeast m (Some x) = m ≤ x
 
-greater-to : (m : ℕ) (a b : Option ℕ) → AtLeast m (greater a b) → AtLeast m a ⊎ AtLeast m b
+pub greater-to : (m : ℕ) (a b : Option ℕ) → AtLeast m (greater a b) → AtLeast m a ⊎ AtLeast m b
 greater-to m None b h = inr h
 greater-to m (Some x) None h = inl h
 greater-to m (Some x) (Some y) h = by_test ((m ≤ x) ⊎ (m ≤ y)) m x (λ within. inl within) (λ over. inr (omega (arith, h, over)))
 
-greater-from : (m : ℕ) (a b : Option ℕ) → AtLeast m a ⊎ AtLeast m b → AtLeast m (greater a b)
+pub greater-from : (m : ℕ) (a b : Option ℕ) → AtLeast m a ⊎ AtLeast m b → AtLeast m (greater a b)
 greater-from m None b (inl none) = absurd none
 greater-from m None b (inr h) = h
 greater-from m (Some x) None (inl h) = h
@@ -59,11 +64,11 @@ greater-from m (Some x) (Some y) (inr h) = omega (arith, h)
 
 -- ---- what stated terms tell is what one of those before or of the contributions does
 
-abbrev There : (Terms → Type 0) → Option Terms → Type 0
+abbrev pub There : (Terms → Type 0) → Option Terms → Type 0
 There P None = ⊥
 There P (Some t) = P t
 
-record Told (P : Terms → Type 0) (p : PrefixValue) (cs : List (PrefixValue × Terms)) : Type 0 where
+pub record Told (P : Terms → Type 0) (p : PrefixValue) (cs : List (PrefixValue × Terms)) : Type 0 where
   pub terms : Terms
   pub there : IsIn cs (p, terms)
   pub tells : P terms
@@ -78,7 +83,7 @@ family-itself V6 = refl
 number-itself : (n : ℕ) → (n == n) ≡ true
 number-itself n = grind (arith, nat_tests)
 
-same_prefix-itself : (p : PrefixValue) → same_prefix p p ≡ true
+pub same_prefix-itself : (p : PrefixValue) → same_prefix p p ≡ true
 same_prefix-itself p = rw (family-itself p.family, number-itself p.number, number-itself p.length) refl
 
 module _ (P : Terms → Type 0) (split : (s t : Terms) → P (united_terms s t) → P s ⊎ P t) (join : (s t : Terms) → P s ⊎ P t → P (united_terms s t)) (p : PrefixValue) where
@@ -91,7 +96,7 @@ module _ (P : Terms → Type 0) (split : (s t : Terms) → P (united_terms s t) 
   joined-from None t (inr now) = now
   joined-from (Some s) t h = join s t h
 
-  stated-to : (found : Option Terms) (cs : List (PrefixValue × Terms)) → There P (stated p found cs) → There P found ⊎ Told P p cs
+  pub stated-to : (found : Option Terms) (cs : List (PrefixValue × Terms)) → There P (stated p found cs) → There P found ⊎ Told P p cs
   stated-to found [] h = inl h
   stated-to found (c ∷ more) h =
       by_bool (There P found ⊎ Told P p (c ∷ more)) (same_prefix p c.0)
@@ -120,7 +125,7 @@ module _ (P : Terms → Type 0) (split : (s t : Terms) → P (united_terms s t) 
     | inr later ↦ inr (record { terms = told.terms; there = later; tells = told.tells })
   ]
 
-  stated-from : (found : Option Terms) (cs : List (PrefixValue × Terms)) → There P found ⊎ Told P p cs → There P (stated p found cs)
+  pub stated-from : (found : Option Terms) (cs : List (PrefixValue × Terms)) → There P found ⊎ Told P p cs → There P (stated p found cs)
   stated-from found [] (inl h) = h
   stated-from found [] (inr told) = absurd told.there
   stated-from found (c ∷ more) h =
@@ -129,10 +134,10 @@ module _ (P : Terms → Type 0) (split : (s t : Terms) → P (united_terms s t) 
       (λ other. subst (λ b. There P (stated p (cond b (Some (joined found c.1)) found) more)) (sym other) (stated-from found more (other-first found c more other h)))
 
   -- of no terms before
-  tells-told : (cs : List (PrefixValue × Terms)) (terms : Terms) → stated p None cs ≡ Some terms → P terms → Told P p cs
+  pub tells-told : (cs : List (PrefixValue × Terms)) (terms : Terms) → stated p None cs ≡ Some terms → P terms → Told P p cs
   tells-told cs terms is tells = elim (stated-to None cs (subst (There P) (sym is) tells)) [ inl none ↦ absurd none | inr told ↦ told ]
 
-  told-tells : (cs : List (PrefixValue × Terms)) (terms : Terms) → stated p None cs ≡ Some terms → Told P p cs → P terms
+  pub told-tells : (cs : List (PrefixValue × Terms)) (terms : Terms) → stated p None cs ≡ Some terms → Told P p cs → P terms
   told-tells cs terms is told = subst (There P) is (stated-from None cs (inr told))
 
 -- ---- tables
@@ -143,7 +148,7 @@ any-key p (x ∷ routes) route (inl is) e =
     or_left (same_prefix p x.0) (list_any (same_prefix p) (keys_of routes)) (ap (same_prefix p) (ap (λ r. r.0) is ∙ sym e) ∙ same_prefix-itself p)
 any-key p (x ∷ routes) route (inr later) e = or_right (same_prefix p x.0) (list_any (same_prefix p) (keys_of routes)) (any-key p routes route later e)
 
-at-route : (routes : List (PrefixValue × Terms)) (route : PrefixValue × Terms) → AreDistinct routes → IsIn routes route → terms_at routes route.0 ≡ Some route.1
+pub at-route : (routes : List (PrefixValue × Terms)) (route : PrefixValue × Terms) → AreDistinct routes → IsIn routes route → terms_at routes route.0 ≡ Some route.1
 at-route [] route apart none = absurd none
 at-route (x ∷ routes) route apart (inl is) = subst (λ q. terms_at (x ∷ routes) q.0 ≡ Some q.1) is (rw (same_prefix-itself x.0) refl)
 at-route (x ∷ routes) route apart (inr later) =
@@ -154,7 +159,7 @@ at-route (x ∷ routes) route apart (inr later) =
 some-is : (s t : Terms) → Some s ≡ Some t → s ≡ t
 some-is s t e = cc
 
-at-in : (routes : List (PrefixValue × Terms)) (p : PrefixValue) (terms : Terms) → terms_at routes p ≡ Some terms → IsIn routes (p, terms)
+pub at-in : (routes : List (PrefixValue × Terms)) (p : PrefixValue) (terms : Terms) → terms_at routes p ≡ Some terms → IsIn routes (p, terms)
 at-in [] p terms e = absurd (cc)
 at-in (x ∷ routes) p terms e =
     by_bool (IsIn (x ∷ routes) (p, terms)) (same_prefix p x.0)
@@ -163,32 +168,44 @@ at-in (x ∷ routes) p terms e =
     inl (ap (λ (q : PrefixValue). (q, x.1)) (sym (same_prefix-is p x.0 own)) ∙ ap (λ (t : Terms). (p, t)) one))
     (λ other. inr (at-in routes p terms (subst (λ b. cond b (Some x.1) (terms_at routes p) ≡ Some terms) other e)))
 
-ordered-all : (routes contributed : List (PrefixValue × Terms)) → Ordered routes → AllByRecursion OfV4 (keys_of contributed) → Ordered (with_contributions routes contributed)
-ordered-all routes [] table are = table
-ordered-all routes (c ∷ more) table are =
-    ordered-all (with_contribution routes c) more (all-keys OfV4 routes c table.0 are.0, ascend-with routes c table.0 are.0 table.1) are.1
+pub ascend-all : (routes contributed : List (PrefixValue × Terms)) → Ascend (keys_of routes) → Ascend (keys_of (with_contributions routes contributed))
+ascend-all routes [] ascend = ascend
+ascend-all routes (c ∷ more) ascend = ascend-all (with_contribution routes c) more (ascend-with routes c ascend)
+
+-- ---- the two kinds of communities
+abbrev pub communities : Terms → List ℕ
+communities t = t.communities
+
+pub split-numbers : (s t : Terms) (n : ℕ) → IsIn (communities (united_terms s t)) n → IsIn (communities s) n ⊎ IsIn (communities t) n
+split-numbers s t n h = in_united nat_cmp_total exact_unsigned s.communities t.communities n h
+
+pub join-numbers : (s t : Terms) (n : ℕ) → IsIn (communities s) n ⊎ IsIn (communities t) n → IsIn (communities (united_terms s t)) n
+join-numbers s t n h = united_in nat_cmp_total exact_unsigned s.communities t.communities n h
+
+abbrev pub large : Terms → List LargeCommunity
+large t = t.large
+
+pub split-large : (s t : Terms) (c : LargeCommunity) → IsIn (large (united_terms s t)) c → IsIn (large s) c ⊎ IsIn (large t) c
+split-large s t c h = in_united large_cmp-total large_cmp-exact s.large t.large c h
+
+pub join-large : (s t : Terms) (c : LargeCommunity) → IsIn (large s) c ⊎ IsIn (large t) c → IsIn (large (united_terms s t)) c
+join-large s t c h = united_in large_cmp-total large_cmp-exact s.large t.large c h
 
 -- ---- the routes of a node for a peer
 
-some-there : (found : Option Terms) → There (λ t. ⊤) found → (terms : Terms) × (found ≡ Some terms)
+pub some-there : (found : Option Terms) → There (λ t. ⊤) found → (terms : Terms) × (found ≡ Some terms)
 some-there None none = absurd none
 some-there (Some terms) h = (terms, refl)
 
-module _ (v : ViewValue) (node : List ℕ) (peer : CompiledPeer) where
-  distinct-routes : AreDistinct (routes_of v node peer)
-  distinct-routes = distinct (routes_of v node peer) (ordered-all [] (contributions v node peer) (tt, tt) (contributions-v4 v node peer)).1
+pub prefixes-ascend : (v : ViewValue) (node : List ℕ) (peer : CompiledPeer) (both : Bool) → Ascend (keys_of (routes_of v node peer both))
+prefixes-ascend v node peer both = ascend-all [] (contributions v node peer both) tt
 
-  stated-at : (route : PrefixValue × Terms) → IsIn (routes_of v node peer) route → stated route.0 None (contributions v node peer) ≡ Some route.1
-  stated-at route there = sym (routes-stated v node peer route.0) ∙ at-route (routes_of v node peer) route distinct-routes there
+module _ (v : ViewValue) (node : List ℕ) (peer : CompiledPeer) (both : Bool) where
+  distinct-routes : AreDistinct (routes_of v node peer both)
+  distinct-routes = distinct (routes_of v node peer both) (prefixes-ascend v node peer both)
 
-  abbrev Has : ℕ → Terms → Type 0
-  Has n t = IsIn t.communities n
-
-  split-has : (n : ℕ) (s t : Terms) → Has n (united_terms s t) → Has n s ⊎ Has n t
-  split-has n s t h = in_united s.communities t.communities n h
-
-  join-has : (n : ℕ) (s t : Terms) → Has n s ⊎ Has n t → Has n (united_terms s t)
-  join-has n s t h = united_in s.communities t.communities n h
+  stated-at : (route : PrefixValue × Terms) → IsIn (routes_of v node peer both) route → stated route.0 None (contributions v node peer both) ≡ Some route.1
+  stated-at route there = sym (routes-stated v node peer both route.0) ∙ at-route (routes_of v node peer both) route distinct-routes there
 
   abbrev Reaches : ℕ → Terms → Type 0
   Reaches m t = AtLeast m t.preference
@@ -199,30 +216,36 @@ module _ (v : ViewValue) (node : List ℕ) (peer : CompiledPeer) where
   join-reaches : (m : ℕ) (s t : Terms) → Reaches m s ⊎ Reaches m t → Reaches m (united_terms s t)
   join-reaches m s t h = greater-from m s.preference t.preference h
 
-  module _ (route : PrefixValue × Terms) (there : IsIn (routes_of v node peer) route) where
+  module _ (route : PrefixValue × Terms) (there : IsIn (routes_of v node peer both) route) where
     abbrev all_of : List (PrefixValue × Terms)
-    all_of = contributions v node peer
+    all_of = contributions v node peer both
 
-    has-community : (n : ℕ) → IsIn route.1.communities n → HasCommunity v node peer route.0 n
-    has-community n has =
-        let told = tells-told (Has n) (split-has n) (join-has n) route.0 all_of route.1 (stated-at route there) has in
-        (told.terms, (contributions-listed v node peer (route.0, told.terms)).0 told.there, told.tells)
+    -- communities of a kind that uniting unites are those of all contributions
+    module _ {K : Type 0} (kind : Terms → List K) (split : (s t : Terms) (k : K) → IsIn (kind (united_terms s t)) k → IsIn (kind s) k ⊎ IsIn (kind t) k)
+        (join : (s t : Terms) (k : K) → IsIn (kind s) k ⊎ IsIn (kind t) k → IsIn (kind (united_terms s t)) k) (k : K) where
+      abbrev Has : Terms → Type 0
+      Has t = IsIn (kind t) k
 
-    community-has : (n : ℕ) → HasCommunity v node peer route.0 n → IsIn route.1.communities n
-    community-has n (terms, by, has) =
-        told-tells (Has n) (split-has n) (join-has n) route.0 all_of route.1 (stated-at route there)
-        (record { terms = terms; there = (contributions-listed v node peer (route.0, terms)).1 by; tells = has })
+      has-community : Has route.1 → HasCommunity kind v node peer both route.0 k
+      has-community has =
+          let told = tells-told Has (λ s t h. split s t k h) (λ s t h. join s t k h) route.0 all_of route.1 (stated-at route there) has in
+          (told.terms, (contributions-listed v node peer both (route.0, told.terms)).0 told.there, told.tells)
 
-    reached : (m : ℕ) (others : Terms) → IsContribution v node peer (route.0, others) → others.preference ≡ Some m → AtLeast m route.1.preference
+      community-has : HasCommunity kind v node peer both route.0 k → Has route.1
+      community-has (terms, by, has) =
+          told-tells Has (λ s t h. split s t k h) (λ s t h. join s t k h) route.0 all_of route.1 (stated-at route there)
+          (record { terms = terms; there = (contributions-listed v node peer both (route.0, terms)).1 by; tells = has })
+
+    reached : (m : ℕ) (others : Terms) → IsContribution v node peer both (route.0, others) → others.preference ≡ Some m → AtLeast m route.1.preference
     reached m others by is =
         told-tells (Reaches m) (split-reaches m) (join-reaches m) route.0 all_of route.1 (stated-at route there)
-        (record { terms = others; there = (contributions-listed v node peer (route.0, others)).1 by; tells = subst (AtLeast m) (sym is) (omega arith) })
+        (record { terms = others; there = (contributions-listed v node peer both (route.0, others)).1 by; tells = subst (AtLeast m) (sym is) (omega arith) })
 
-    none-greater : (others : Terms) (m n : ℕ) → IsContribution v node peer (route.0, others) → others.preference ≡ Some m → route.1.preference ≡ Some n → m ≤ n
+    none-greater : (others : Terms) (m n : ℕ) → IsContribution v node peer both (route.0, others) → others.preference ≡ Some m → route.1.preference ≡ Some n → m ≤ n
     none-greater others m n by is own = subst (AtLeast m) own (reached m others by is)
 
     -- the contribution whose preference is the route's
-    equal-by : (n x : ℕ) (others : Terms) → IsContribution v node peer (route.0, others) → route.1.preference ≡ Some n → others.preference ≡ Some x → n ≤ x → others.preference ≡ route.1.preference
+    equal-by : (n x : ℕ) (others : Terms) → IsContribution v node peer both (route.0, others) → route.1.preference ≡ Some n → others.preference ≡ Some x → n ≤ x → others.preference ≡ route.1.preference
     equal-by n x others by own is least =
         let most = none-greater others x n by is own in
         let one : x ≡ n = omega (arith, least, most) in
@@ -232,32 +255,33 @@ module _ (v : ViewValue) (node : List ℕ) (peer : CompiledPeer) where
     some-reaches n others None is none = absurd none
     some-reaches n others (Some x) is least = (x, is, least)
 
-    greatest-by : (preference : Option ℕ) → route.1.preference ≡ preference → IsGreatest v node peer route.0 route.1.preference
+    greatest-by : (preference : Option ℕ) → route.1.preference ≡ preference → IsGreatest v node peer both route.0 route.1.preference
     greatest-by (Some n) own =
         let told = tells-told (Reaches n) (split-reaches n) (join-reaches n) route.0 all_of route.1 (stated-at route there) (subst (AtLeast n) (sym own) (omega arith)) in
-        let by = (contributions-listed v node peer (route.0, told.terms)).0 told.there in
+        let by = (contributions-listed v node peer both (route.0, told.terms)).0 told.there in
         let some = some-reaches n told.terms told.terms.preference refl told.tells in
         record { terms = told.terms; there = by; is = equal-by n some.0 told.terms by own some.1 some.2; greatest = none-greater }
     greatest-by None own =
         let told = tells-told (λ t. ⊤) (λ s t h. inl tt) (λ s t h. tt) route.0 all_of route.1 (stated-at route there) tt in
-        let by = (contributions-listed v node peer (route.0, told.terms)).0 told.there in
+        let by = (contributions-listed v node peer both (route.0, told.terms)).0 told.there in
         record { terms = told.terms; there = by; is = none-by told.terms by told.terms.preference refl ∙ sym own; greatest = none-greater }
       where
-        none-by : (others : Terms) → IsContribution v node peer (route.0, others) → (preference : Option ℕ) → others.preference ≡ preference → others.preference ≡ None
+        none-by : (others : Terms) → IsContribution v node peer both (route.0, others) → (preference : Option ℕ) → others.preference ≡ preference → others.preference ≡ None
         none-by others by None is = is
         none-by others by (Some m) is = absurd (subst (AtLeast m) own (reached m others by is))
 
-    pub is-route : IsRoute v node peer route
+    pub is-route : IsRoute v node peer both route
     is-route = record {
-      communities = λ n. (has-community n, community-has n);
+      communities = λ n. (has-community communities split-numbers join-numbers n, community-has communities split-numbers join-numbers n);
+      large = λ c. (has-community large split-large join-large c, community-has large split-large join-large c);
       preference = greatest-by route.1.preference refl;
     }
 
-  has-route : (c : PrefixValue × Terms) → IsContribution v node peer c → (terms : Terms) × IsIn (routes_of v node peer) (c.0, terms)
+  has-route : (c : PrefixValue × Terms) → IsContribution v node peer both c → (terms : Terms) × IsIn (routes_of v node peer both) (c.0, terms)
   has-route c by =
-      let told : Told (λ t. ⊤) c.0 (contributions v node peer) = record { terms = c.1; there = (contributions-listed v node peer c).1 by; tells = tt } in
-      let some = some-there (stated c.0 None (contributions v node peer)) (stated-from (λ t. ⊤) (λ s t h. inl tt) (λ s t h. tt) c.0 None (contributions v node peer) (inr told)) in
-      (some.0, at-in (routes_of v node peer) c.0 some.0 (routes-stated v node peer c.0 ∙ some.1))
+      let told : Told (λ t. ⊤) c.0 (contributions v node peer both) = record { terms = c.1; there = (contributions-listed v node peer both c).1 by; tells = tt } in
+      let some = some-there (stated c.0 None (contributions v node peer both)) (stated-from (λ t. ⊤) (λ s t h. inl tt) (λ s t h. tt) c.0 None (contributions v node peer both) (inr told)) in
+      (some.0, at-in (routes_of v node peer both) c.0 some.0 (routes-stated v node peer both c.0 ∙ some.1))
 
 pub routes-unite : RoutesUniteContributions
-routes-unite v node peer = record { routes = is-route v node peer; all = has-route v node peer }
+routes-unite v node peer both = record { routes = is-route v node peer both; all = has-route v node peer both }

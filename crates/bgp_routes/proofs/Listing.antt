@@ -20,28 +20,28 @@ use Rattle.speaker_view.specs.Held.{objects_of}
 use Rattle.speaker_view.specs.ViewValue.{ViewValue}
 use Rattle.speaker_view.proofs.Serving.{can_announce-Decides}
 use Rattle.bgp_updates.specs.declared.route.Terms.{Terms}
-use Rattle.bgp_routes.specs.Contribution.{IsAdvertisedBy, IsContribution, contribution}
+use Rattle.bgp_routes.specs.Contribution.{Counts, IsAdvertisedBy, IsContribution, contribution}
 use Rattle.bgp_routes.specs.Laws.{ContributionsAreListed}
-use Rattle.bgp_routes.specs.Routes.{advertises, contributions, is_for, of_address, of_config, of_family, of_found, of_pool, of_service}
+use Rattle.bgp_routes.specs.Routes.{advertises, contributions, counts, is_for, of_address, of_config, of_found, of_pool, of_service}
 
 -- ---- items of lists that tests and cases make
 
-kept : {A : Type 0} (b : Bool) (x : A) (xs : List A) (c : A) → IsIn (cond b (x ∷ xs) xs) c → ((b ≡ true) × (x ≡ c)) ⊎ IsIn xs c
+pub kept : {A : Type 0} (b : Bool) (x : A) (xs : List A) (c : A) → IsIn (cond b (x ∷ xs) xs) c → ((b ≡ true) × (x ≡ c)) ⊎ IsIn xs c
 kept true x xs c (inl is) = inl (refl, is)
 kept true x xs c (inr later) = inr later
 kept false x xs c there = inr there
 
-keep : {A : Type 0} (b : Bool) (x : A) (xs : List A) (c : A) → ((b ≡ true) × (x ≡ c)) ⊎ IsIn xs c → IsIn (cond b (x ∷ xs) xs) c
+pub keep : {A : Type 0} (b : Bool) (x : A) (xs : List A) (c : A) → ((b ≡ true) × (x ≡ c)) ⊎ IsIn xs c → IsIn (cond b (x ∷ xs) xs) c
 keep true x xs c (inl own) = inl own.1
 keep true x xs c (inr later) = inr later
 keep false x xs c (inl own) = absurd (false≢true own.0)
 keep false x xs c (inr later) = later
 
-passed : {A : Type 0} (b : Bool) (xs : List A) (c : A) → IsIn (cond b xs []) c → (b ≡ true) × IsIn xs c
+pub passed : {A : Type 0} (b : Bool) (xs : List A) (c : A) → IsIn (cond b xs []) c → (b ≡ true) × IsIn xs c
 passed true xs c there = (refl, there)
 passed false xs c there = absurd there
 
-pass : {A : Type 0} (b : Bool) (xs : List A) (c : A) → b ≡ true → IsIn xs c → IsIn (cond b xs []) c
+pub pass : {A : Type 0} (b : Bool) (xs : List A) (c : A) → b ≡ true → IsIn xs c → IsIn (cond b xs []) c
 pass true xs c on there = there
 pass false xs c on there = absurd (false≢true on)
 
@@ -60,35 +60,30 @@ in_second [] b c there = there
 in_second (x ∷ a) b c there = inr (in_second a b c there)
 
 -- the item that something comes from
-record From {A B : Type 0} (f : A → List B) (xs : List A) (c : B) : Type 0 where
+pub record From {A B : Type 0} (f : A → List B) (xs : List A) (c : B) : Type 0 where
   pub item : A
   pub there : IsIn xs item
   pub own : IsIn (f item) c
 
-flat-from : {A B : Type 0} (f : A → List B) (xs : List A) (c : B) → IsIn (flat_map f xs) c → From f xs c
+pub flat-from : {A B : Type 0} (f : A → List B) (xs : List A) (c : B) → IsIn (flat_map f xs) c → From f xs c
 flat-from f [] c none = absurd none
 flat-from f (x ∷ xs) c there = elim (in_either (f x) (flat_map f xs) c there) [
   | inl own ↦ record { item = x; there = inl refl; own = own }
   | inr later ↦ (let rest = flat-from f xs c later in record { item = rest.item; there = inr rest.there; own = rest.own })
 ]
 
-flat-in : {A B : Type 0} (f : A → List B) (xs : List A) (x : A) (c : B) → IsIn xs x → IsIn (f x) c → IsIn (flat_map f xs) c
+pub flat-in : {A B : Type 0} (f : A → List B) (xs : List A) (x : A) (c : B) → IsIn xs x → IsIn (f x) c → IsIn (flat_map f xs) c
 flat-in f [] x c none own = absurd none
 flat-in f (y ∷ ys) x c (inl is) own = in_first (f y) (flat_map f ys) c (subst (λ z. IsIn (f z) c) (sym is) own)
 flat-in f (y ∷ ys) x c (inr later) own = in_second (f y) (flat_map f ys) c (flat-in f ys x c later own)
 
-of-v4 : {A : Type 0} (f : Family) (xs : List A) (c : A) → IsIn (of_family f xs) c → (f ≡ V4) × IsIn xs c
-of-v4 V4 xs c there = (refl, there)
-of-v4 V6 xs c none = absurd none
-
-v4-of : {A : Type 0} (f : Family) (xs : List A) (c : A) → f ≡ V4 → IsIn xs c → IsIn (of_family f xs) c
-v4-of V4 xs c is there = there
-v4-of V6 xs c is there = absurd (cc)
-
 -- ---- what contributes
+pub counts-Decides : (both : Bool) (f : Family) → Decides (counts both f) (Counts both f)
+counts-Decides both V4 = (λ e. inl refl, λ h. refl)
+counts-Decides both V6 = (λ e. inr e, λ h. elim h [ inl is ↦ absurd (cc) | inr e ↦ e ])
 
-module _ (v : ViewValue) (node : List ℕ) (peer : CompiledPeer) where
-  for-Decides : (adv : CompiledBgp) → Decides (is_for peer adv) ((adv.peers ≡ []) ⊎ IsIn adv.peers peer.name)
+module _ (v : ViewValue) (node : List ℕ) (peer : CompiledPeer) (both : Bool) where
+  pub for-Decides : (adv : CompiledBgp) → Decides (is_for peer adv) ((adv.peers ≡ []) ⊎ IsIn adv.peers peer.name)
   for-Decides adv = Decides-or (is_nil adv.peers) (has_text adv.peers peer.name) (Decides-nil adv.peers) (Decides-in adv.peers peer.name)
 
   abbrev Advertises : CompiledPool → CompiledBgp → Type 0
@@ -143,30 +138,30 @@ module _ (v : ViewValue) (node : List ℕ) (peer : CompiledPeer) where
       (by.adv, record { config = config; in_force = in_force; there = by.there; pool = found.pool; pool_is = found.pool_is; chosen = by.passes.0.0; selected = by.passes.0.1; named = by.passes.1 }, by.is)
 
   listed-config : (config : ConfigValue) (c : PrefixValue × Terms) → v.held.config ≡ Some config → Selects peer.node_selectors (node_labels v node)
-      → IsIn (flat_map (of_service v node peer config) (objects_of v.held.services)) c → IsContribution v node peer c
+      → IsIn (flat_map (of_service v node peer both config) (objects_of v.held.services)) c → IsContribution v node peer both c
   listed-config config c in_force peer_selects there =
-      let of = flat-from (of_service v node peer config) (objects_of v.held.services) c there in
+      let of = flat-from (of_service v node peer both config) (objects_of v.held.services) c there in
       let service = of.item in
-      let on = passed (can_announce v service node) (flat_map (of_address v node peer config) service.holding.addresses) c of.own in
-      let at = flat-from (of_address v node peer config) service.holding.addresses c on.1 in
+      let on = passed (can_announce v service node) (flat_map (of_address v node peer both config) service.holding.addresses) c of.own in
+      let at = flat-from (of_address v node peer both config) service.holding.addresses c on.1 in
       let address = at.item in
-      let v4 = of-v4 address.family (of_found v node peer address (pool_with config.pools address) config.bgp) c at.own in
-      let by = advertised config address c in_force (found-passing address (pool_with config.pools address) config.bgp c v4.1) in
+      let counted = passed (counts both address.family) (of_found v node peer address (pool_with config.pools address) config.bgp) c at.own in
+      let by = advertised config address c in_force (found-passing address (pool_with config.pools address) config.bgp c counted.1) in
       record {
         peer_selects = peer_selects;
         address = address;
-        announced = record { v4 = v4.0; service = service; held = of.there; recorded = at.there; announces = (can_announce-Decides v service node).0 on.0 };
+        announced = record { counts = (counts-Decides both address.family).0 counted.0; service = service; held = of.there; recorded = at.there; announces = (can_announce-Decides v service node).0 on.0 };
         advertisement = by.0;
         advertised = by.1;
         is = by.2;
       }
 
   listed-held : (config : Option ConfigValue) (c : PrefixValue × Terms) → v.held.config ≡ config → Selects peer.node_selectors (node_labels v node)
-      → IsIn (of_config v node peer config) c → IsContribution v node peer c
+      → IsIn (of_config v node peer both config) c → IsContribution v node peer both c
   listed-held None c in_force peer_selects none = absurd none
   listed-held (Some config) c in_force peer_selects there = listed-config config c in_force peer_selects there
 
-  contribution-listed : (c : PrefixValue × Terms) → IsContribution v node peer c → IsIn (contributions v node peer) c
+  contribution-listed : (c : PrefixValue × Terms) → IsContribution v node peer both c → IsIn (contributions v node peer both) c
   contribution-listed c by =
       let service = by.announced.service in
       let address = by.address in
@@ -175,21 +170,22 @@ module _ (v : ViewValue) (node : List ℕ) (peer : CompiledPeer) where
       let own : IsIn (of_found v node peer address (pool_with config.pools address) config.bgp) (contribution peer address adv) =
       subst (λ found. IsIn (of_found v node peer address found config.bgp) (contribution peer address adv)) (sym by.advertised.pool_is)
       (passing-pool address by.advertised.pool config.bgp adv by.advertised.there ((by.advertised.chosen, by.advertised.selected), by.advertised.named)) in
-      let of_one = v4-of address.family (of_found v node peer address (pool_with config.pools address) config.bgp) (contribution peer address adv) by.announced.v4 own in
-      let of_all = pass (can_announce v service node) (flat_map (of_address v node peer config) service.holding.addresses) (contribution peer address adv)
+      let of_one = pass (counts both address.family) (of_found v node peer address (pool_with config.pools address) config.bgp) (contribution peer address adv)
+      ((counts-Decides both address.family).1 by.announced.counts) own in
+      let of_all = pass (can_announce v service node) (flat_map (of_address v node peer both config) service.holding.addresses) (contribution peer address adv)
       ((can_announce-Decides v service node).1 by.announced.announces)
-      (flat-in (of_address v node peer config) service.holding.addresses address (contribution peer address adv) by.announced.recorded of_one) in
-      let of_config' : IsIn (of_config v node peer v.held.config) (contribution peer address adv) =
-      subst (λ held. IsIn (of_config v node peer held) (contribution peer address adv)) (sym by.advertised.in_force)
-      (flat-in (of_service v node peer config) (objects_of v.held.services) service (contribution peer address adv) by.announced.held of_all) in
-      subst (IsIn (contributions v node peer)) (sym by.is)
-      (pass (selects peer.node_selectors (node_labels v node)) (of_config v node peer v.held.config) (contribution peer address adv)
+      (flat-in (of_address v node peer both config) service.holding.addresses address (contribution peer address adv) by.announced.recorded of_one) in
+      let of_config' : IsIn (of_config v node peer both v.held.config) (contribution peer address adv) =
+      subst (λ held. IsIn (of_config v node peer both held) (contribution peer address adv)) (sym by.advertised.in_force)
+      (flat-in (of_service v node peer both config) (objects_of v.held.services) service (contribution peer address adv) by.announced.held of_all) in
+      subst (IsIn (contributions v node peer both)) (sym by.is)
+      (pass (selects peer.node_selectors (node_labels v node)) (of_config v node peer both v.held.config) (contribution peer address adv)
       ((selects-Decides peer.node_selectors (node_labels v node)).1 by.peer_selects) of_config')
 
 pub contributions-listed : ContributionsAreListed
-contributions-listed v node peer c = (
+contributions-listed v node peer both c = (
   λ there.
-      let on = passed (selects peer.node_selectors (node_labels v node)) (of_config v node peer v.held.config) c there in
-      listed-held v node peer v.held.config c refl ((selects-Decides peer.node_selectors (node_labels v node)).0 on.0) on.1,
-  λ by. contribution-listed v node peer c by,
+      let on = passed (selects peer.node_selectors (node_labels v node)) (of_config v node peer both v.held.config) c there in
+      listed-held v node peer both v.held.config c refl ((selects-Decides peer.node_selectors (node_labels v node)).0 on.0) on.1,
+  λ by. contribution-listed v node peer both c by,
 )

@@ -1,35 +1,51 @@
 -- A contribution finds its place.
-use Rattle.std.proofs.Common.{◌≡◌, ℕ, Bool, true, false, cond, ◌&&◌, ◌||◌, ◌==◌, nat_lt, List, [], ◌∷◌, Option, Some, None, Ordering, Less, Equal, Greater, is_eq, refl, sym, ap, ◌∙◌, subst, arith}
+use Rattle.std.proofs.Common.{◌≡◌, ℕ, Bool, true, false, cond, ◌&&◌, ◌==◌, List, [], ◌∷◌, Option, Some, None, Ordering, Less, Equal, Greater, is_eq, refl, sym, ap, ◌∙◌, subst, arith}
 use Rattle.std.proofs.lemmas.Bool.Decides.{nat_tests}
 use Rattle.std.proofs.lemmas.Map.{lookup-none}
 use Rattle.std.proofs.lemmas.Map.Entries.{none_below_head}
 use Rattle.std.proofs.lemmas.Map.Lookups.{CmpEqualImpliesEq, exact_pairs, exact_unsigned}
 use Rattle.std.specs.BTreeMap.{insert_entry, is_at}
 use Rattle.std.specs.Cmp.{IsTotalOrder, nat_cmp_total, on_total, then_total}
-use Rattle.std.specs.List.{AllByRecursion}
 use Rattle.std.specs.List.Sorted.{IsStrictlySortedBy}
 use Rattle.std.specs.Map.{lookup, keys_of, values_of}
 use Rattle.std.specs.Ordering.{match_ordering, nat_cmp, ordering_then}
-use Rattle.ip_ranges.specs.Values.{PrefixValue}
+use Rattle.ip_ranges.specs.declared.family.Family.{Family}
+use Rattle.ip_ranges.specs.declared.family.Family.TheVariants.{V4, V6}
+use Rattle.ip_ranges.specs.Values.{AddressValue, PrefixValue, IsPrefix, same_family}
+use Rattle.speaker_view.specs.Addresses.{address_cmp, family_cmp}
+use Rattle.speaker_view.proofs.AddressOrder.{address_exact, address_total}
 use Rattle.bgp_updates.specs.declared.route.Terms.{Terms}
 use Rattle.bgp_updates.specs.Received.{same_prefix}
-use Rattle.bgp_updates.specs.Tables.{IsTable, IsV4, before}
+use Rattle.bgp_updates.specs.Tables.{IsTable, before, families_before, numbers_before}
+use Rattle.bgp_routes.specs.contracts.uniting.PlaceOrd.TheImpl as derived
 use Rattle.bgp_routes.specs.declared.uniting.Place.{Place}
 use Rattle.bgp_routes.specs.Placed.{ArePlaced, place_cmp, place_of, united_with}
 use Rattle.bgp_routes.specs.Uniting.{with_contribution}
-use Rattle.bgp_routes.proofs.Placing.{OfV4, same-numbers, stays, v4-keys}
+use Rattle.bgp_routes.proofs.Placing.{stays}
 
 abbrev Entries : Type 0
 Entries = List (Place × (PrefixValue × Terms))
 
 -- ---- the order of places
-place_cmp-total : IsTotalOrder place_cmp
-place_cmp-total = then_total (on_total (λ (p : Place). p.number) nat_cmp_total) (on_total (λ (p : Place). p.length) nat_cmp_total)
+pub place_cmp-total : IsTotalOrder place_cmp
+place_cmp-total = then_total (on_total (λ (p : Place). p.first) address_total) (on_total (λ (p : Place). p.length) nat_cmp_total)
 
-place_cmp-exact : CmpEqualImpliesEq place_cmp
+pub place_cmp-exact : CmpEqualImpliesEq place_cmp
 place_cmp-exact a b e =
-    let at : ℕ × ℕ → Place = λ p. record { number = p.0; length = p.1 } in
-    ap at (exact_pairs nat_cmp nat_cmp exact_unsigned exact_unsigned (a.number, a.length) (b.number, b.length) e)
+    let at : AddressValue × ℕ → Place = λ p. record { first = p.0; length = p.1 } in
+    ap at (exact_pairs address_cmp nat_cmp address_exact exact_unsigned (a.first, a.length) (b.first, b.length) e)
+
+-- it is the one by which the code compares
+by_families : (f g : Family) (m n k l : ℕ)
+    → derived.cmp-value.it (place_of (record { family = f; number = m; length = k })) (place_of (record { family = g; number = n; length = l }))
+    ≡ place_cmp (place_of (record { family = f; number = m; length = k })) (place_of (record { family = g; number = n; length = l }))
+by_families V4 V4 m n k l = refl
+by_families V4 V6 m n k l = refl
+by_families V6 V4 m n k l = refl
+by_families V6 V6 m n k l = refl
+
+place_cmp-is : derived.cmp-value.it ≡ place_cmp
+place_cmp-is = λ i a b. by_families a.first.family b.first.family a.first.number b.first.number a.length b.length i
 
 -- what an order says by the two tests: whether the prefixes are one, and whether the first is before
 abbrev is_less : Ordering → Bool
@@ -38,15 +54,28 @@ is_less r = match_ordering r true false false
 numbers-same : (a b l m : ℕ) → ((a == b) && (l == m)) ≡ is_eq (ordering_then (nat_cmp a b) (nat_cmp l m))
 numbers-same a b l m = grind (arith, nat_tests)
 
-numbers-before : (a b l m : ℕ) → (nat_lt a b || ((a == b) && nat_lt l m)) ≡ is_less (ordering_then (nat_cmp a b) (nat_cmp l m))
-numbers-before a b l m = grind (arith, nat_tests)
+numbers-less : (a b l m : ℕ) → numbers_before a b l m ≡ is_less (ordering_then (nat_cmp a b) (nat_cmp l m))
+numbers-less a b l m = grind (arith, nat_tests)
 
-same-by-place : (p q : PrefixValue) → OfV4 p → OfV4 q → same_prefix p q ≡ is_eq (place_cmp (place_of p) (place_of q))
-same-by-place p q is are =
-    same-numbers p.family q.family p.number q.number p.length q.length is are ∙ numbers-same p.number q.number p.length q.length
+families-same : (f g : Family) (a b l m : ℕ)
+    → ((same_family f g && (a == b)) && (l == m)) ≡ is_eq (ordering_then (ordering_then (family_cmp f g) (nat_cmp a b)) (nat_cmp l m))
+families-same V4 V4 a b l m = numbers-same a b l m
+families-same V4 V6 a b l m = refl
+families-same V6 V4 a b l m = refl
+families-same V6 V6 a b l m = numbers-same a b l m
+
+families-before : (f g : Family) (a b l m : ℕ)
+    → families_before f g (numbers_before a b l m) ≡ is_less (ordering_then (ordering_then (family_cmp f g) (nat_cmp a b)) (nat_cmp l m))
+families-before V4 V4 a b l m = numbers-less a b l m
+families-before V4 V6 a b l m = refl
+families-before V6 V4 a b l m = refl
+families-before V6 V6 a b l m = numbers-less a b l m
+
+same-by-place : (p q : PrefixValue) → same_prefix p q ≡ is_eq (place_cmp (place_of p) (place_of q))
+same-by-place p q = families-same p.family q.family p.number q.number p.length q.length
 
 before-by-place : (p q : PrefixValue) → before p q ≡ is_less (place_cmp (place_of p) (place_of q))
-before-by-place p q = numbers-before p.number q.number p.length q.length
+before-by-place p q = families-before p.family q.family p.number q.number p.length q.length
 
 -- ---- the route that stands at the place
 found-by : (r : Ordering) (e : Place × (PrefixValue × Terms)) (rest : Option (PrefixValue × Terms)) (place : Place) (route : PrefixValue × Terms) → place_cmp place e.0 ≡ r → e.0 ≡ place_of e.1.0
@@ -99,40 +128,50 @@ finds Less v rest e = absurd (cc)
 finds Equal v rest e = refl
 finds Greater v rest e = absurd (cc)
 
-values-with : (entries : Entries) (c : PrefixValue × Terms) → OfV4 c.0 → ArePlaced entries → AllByRecursion OfV4 (keys_of (values_of entries)) → IsStrictlySortedBy place_cmp (keys_of entries)
+values-with : (entries : Entries) (c : PrefixValue × Terms) → ArePlaced entries → IsStrictlySortedBy place_cmp (keys_of entries)
     → values_of (insert_entry place_cmp entries (place_of c.0) (united_with (lookup (is_at (place_cmp (place_of c.0))) entries) c)) ≡ with_contribution (values_of entries) c
 unfolding IsStrictlySortedBy
-values-with [] c is placed are sorted = refl
-values-with (e ∷ entries) c is placed are sorted =
+values-with [] c placed sorted = refl
+values-with (e ∷ entries) c placed sorted =
     let place : Place = place_of c.0 in
     let found : Option (PrefixValue × Terms) = lookup (is_at (place_cmp place)) (e ∷ entries) in
     let rest : Option (PrefixValue × Terms) = lookup (is_at (place_cmp place)) entries in
     let at : place_cmp place (place_of e.1.0) ≡ place_cmp place e.0 = ap (place_cmp place) (sym placed.0) in
     values-by (place_cmp place e.0) e entries (insert_entry place_cmp entries place (united_with found c)) place c found
-    (same-by-place c.0 e.1.0 is are.0 ∙ ap is_eq at)
+    (same-by-place c.0 e.1.0 ∙ ap is_eq at)
     (before-by-place c.0 e.1.0 ∙ ap is_less at)
     (λ less. lookup-none (is_at (place_cmp place)) (e ∷ entries) (none_below_head place_cmp-total place e entries sorted less))
     (λ equal. finds (place_cmp place e.0) e.1 rest equal)
     (λ greater. ap (λ (f : Option (PrefixValue × Terms)). values_of (insert_entry place_cmp entries place (united_with f c))) (passes (place_cmp place e.0) e.1 rest greater)
-    ∙ values-with entries c is placed.1 are.1 sorted.1)
+    ∙ values-with entries c placed.1 sorted.1)
 
-module _ (entries after : Entries) (c made : PrefixValue × Terms) (place : Place) (is : IsV4 c.0) (placed : ArePlaced entries × IsTable (values_of entries)) (sorted : IsStrictlySortedBy place_cmp (keys_of entries))
-    (is_place : place ≡ place_of c.0) (is_made : made ≡ united_with (lookup (is_at (place_cmp place)) entries) c) (is_after : after ≡ insert_entry place_cmp entries place made) where
+-- The route that is made of the contribution is put at its place, by an order of places.
+pub record Puts (R : Place → Place → Ordering) (entries after : Entries) (c made : PrefixValue × Terms) (place : Place) : Type 0 where
+  pub sorted : IsStrictlySortedBy R (keys_of entries)
+  pub is_place : place ≡ place_of c.0
+  pub is_made : made ≡ united_with (lookup (is_at (R place)) entries) c
+  pub is_after : after ≡ insert_entry R entries place made
+
+module _ (entries after : Entries) (c made : PrefixValue × Terms) (place : Place) (is : IsPrefix c.0) (placed : ArePlaced entries × IsTable (values_of entries))
+    (put : Puts derived.cmp-value.it entries after c made place) where
+  puts : Puts place_cmp entries after c made place
+  puts = subst (λ (R : Place → Place → Ordering). Puts R entries after c made place) place_cmp-is put
+
   pub contribution-placed : values_of after ≡ with_contribution (values_of entries) c
   contribution-placed =
-      ap values_of is_after
-      ∙ ap (λ (m : PrefixValue × Terms). values_of (insert_entry place_cmp entries place m)) is_made
-      ∙ ap (λ (p : Place). values_of (insert_entry place_cmp entries p (united_with (lookup (is_at (place_cmp p)) entries) c))) is_place
-      ∙ values-with entries c is.v4 placed.0 (v4-keys (keys_of (values_of entries)) placed.1.0) sorted
+      ap values_of puts.is_after
+      ∙ ap (λ (m : PrefixValue × Terms). values_of (insert_entry place_cmp entries place m)) puts.is_made
+      ∙ ap (λ (p : Place). values_of (insert_entry place_cmp entries p (united_with (lookup (is_at (place_cmp p)) entries) c))) puts.is_place
+      ∙ values-with entries c placed.0 puts.sorted
 
   made-place : place ≡ place_of made.0
   made-place =
-      is_place
-      ∙ sym (united-place (lookup (is_at (place_cmp place)) entries) c (λ route found. found-place entries place route placed.0 found ∙ is_place))
-      ∙ ap (λ (m : PrefixValue × Terms). place_of m.0) (sym is_made)
+      puts.is_place
+      ∙ sym (united-place (lookup (is_at (place_cmp place)) entries) c (λ route found. found-place entries place route placed.0 found ∙ puts.is_place))
+      ∙ ap (λ (m : PrefixValue × Terms). place_of m.0) (sym puts.is_made)
 
   pub stays-placed : ArePlaced after × IsTable (values_of after)
   stays-placed = (
-    subst ArePlaced (sym is_after) (stay-placed entries place made made-place placed.0),
+    subst ArePlaced (sym puts.is_after) (stay-placed entries place made made-place placed.0),
     subst IsTable (sym contribution-placed) (stays (values_of entries) c placed.1 is),
   )

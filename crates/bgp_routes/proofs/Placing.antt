@@ -1,18 +1,16 @@
 -- A table stays one with a contribution, and contributions are united one after the other.
-use Rattle.std.proofs.Common.{◌≡◌, ℕ, zero, suc, ◌+◌, Bool, true, false, cond, ◌&&◌, ◌<◌, ◌==◌, List, [], ◌∷◌, ◌++◌, length, get_or, drop, refl, sym, ◌∙◌, ap, arith}
+use Rattle.std.proofs.Common.{◌≡◌, ℕ, Bool, true, false, cond, ◌&&◌, ◌==◌, List, [], ◌∷◌, ◌++◌, refl, sym, ◌∙◌, arith}
 use Rattle.std.specs.List.{list_all, AllByRecursion, flat_map}
 use Rattle.std.specs.Map.{keys_of}
-use Rattle.std.specs.Ordering.{nat_cmp}
-use Rattle.std.specs.BTreeSet.{insert_key}
+use Rattle.std.proofs.lemmas.Bool.{true≢false}
 use Rattle.std.proofs.lemmas.Bool.Decides.{nat_tests}
 use Rattle.ip_ranges.specs.declared.family.Family.{Family}
 use Rattle.ip_ranges.specs.declared.family.Family.TheVariants.{V4, V6}
-use Rattle.ip_ranges.specs.Values.{PrefixValue, same_family}
+use Rattle.ip_ranges.specs.Values.{PrefixValue, IsPrefix, same_family}
 use Rattle.bgp_updates.specs.declared.route.Terms.{Terms}
 use Rattle.bgp_updates.specs.Received.{same_prefix}
 use Rattle.bgp_routes.specs.Uniting.{united_terms, with_contribution, with_contributions, with_each}
-use Rattle.pool_config.specs.Numbers.{ascending_with}
-use Rattle.bgp_updates.specs.Tables.{Ascend, IsTable, IsV4, before}
+use Rattle.bgp_updates.specs.Tables.{Ascend, IsTable, before, families_before, numbers_before}
 use Rattle.bgp_updates.proofs.Halves.{before-before}
 use Rattle.bgp_updates.proofs.ReceivedLaws.{both_true, by_bool}
 
@@ -52,38 +50,30 @@ before-rest p q (r ∷ prefixes) first all =
     let parts = both_true (before q r) (list_all (before q) prefixes) all in
     and_true (before p r) (list_all (before p) prefixes) (before-before p q r first parts.0) (before-rest p q prefixes first parts.1)
 
-numbers-other : (a b l m : ℕ) → ((a == b) && (l == m)) ≡ false → before (record { family = V4; number = a; length = l }) (record { family = V4; number = b; length = m }) ≡ false
-    → before (record { family = V4; number = b; length = m }) (record { family = V4; number = a; length = l }) ≡ true
+numbers-other : (a b l m : ℕ) → ((a == b) && (l == m)) ≡ false → numbers_before a b l m ≡ false → numbers_before b a m l ≡ true
 numbers-other a b l m other late = grind (arith, nat_tests)
 
-pub same-numbers : (f g : Family) (a b l m : ℕ) → f ≡ V4 → g ≡ V4 → ((same_family f g && (a == b)) && (l == m)) ≡ ((a == b) && (l == m))
-same-numbers V4 V4 a b l m x y = refl
-same-numbers V4 V6 a b l m x y = absurd (cc)
-same-numbers V6 g a b l m x y = absurd (cc)
+other-by : (f g : Family) (a b l m : ℕ) → ((same_family f g && (a == b)) && (l == m)) ≡ false → families_before f g (numbers_before a b l m) ≡ false → families_before g f (numbers_before b a m l) ≡ true
+other-by V4 V4 a b l m other late = numbers-other a b l m other late
+other-by V4 V6 a b l m other late = absurd (true≢false late)
+other-by V6 V4 a b l m other late = refl
+other-by V6 V6 a b l m other late = numbers-other a b l m other late
 
--- as far as the order goes, the family is what matters
-abbrev pub OfV4 : PrefixValue → Type 0
-OfV4 p = p.family ≡ V4
+-- of two prefixes that aren't one, one is before the other
+other-way : (p q : PrefixValue) → same_prefix p q ≡ false → before p q ≡ false → before q p ≡ true
+other-way p q other late = other-by p.family q.family p.number q.number p.length q.length other late
 
-pub v4-keys : (prefixes : List PrefixValue) → AllByRecursion IsV4 prefixes → AllByRecursion OfV4 prefixes
-v4-keys [] all = tt
-v4-keys (p ∷ prefixes) all = (all.0.v4, v4-keys prefixes all.1)
-
-other-way : (p q : PrefixValue) → OfV4 p → OfV4 q → same_prefix p q ≡ false → before p q ≡ false → before q p ≡ true
-other-way p q is are other late =
-    numbers-other p.number q.number p.length q.length (sym (same-numbers p.family q.family p.number q.number p.length q.length is are) ∙ other) late
-
-pub ascend-with : (routes : List (PrefixValue × Terms)) (c : PrefixValue × Terms) → AllByRecursion OfV4 (keys_of routes) → OfV4 c.0 → Ascend (keys_of routes) → Ascend (keys_of (with_contribution routes c))
-ascend-with [] c all is ascend = (refl, tt)
-ascend-with (route ∷ routes) c all is ascend =
+pub ascend-with : (routes : List (PrefixValue × Terms)) (c : PrefixValue × Terms) → Ascend (keys_of routes) → Ascend (keys_of (with_contribution routes c))
+ascend-with [] c ascend = (refl, tt)
+ascend-with (route ∷ routes) c ascend =
     by_bool (Ascend (keys_of (with_contribution (route ∷ routes) c))) (same_prefix c.0 route.0)
     (λ own. rw own ascend)
     (λ other. by_bool (Ascend (keys_of (with_contribution (route ∷ routes) c))) (before c.0 route.0)
     (λ first. rw (other, first) (and_true (before c.0 route.0) (list_all (before c.0) (keys_of routes)) first (before-rest c.0 route.0 (keys_of routes) first ascend.0), ascend))
-    (λ late. rw (other, late) (before-all route.0 routes c ascend.0 (other-way c.0 route.0 is all.0 other late), ascend-with routes c all.1 is ascend.1)))
+    (λ late. rw (other, late) (before-all route.0 routes c ascend.0 (other-way c.0 route.0 other late), ascend-with routes c ascend.1)))
 
-pub stays : (routes : List (PrefixValue × Terms)) (c : PrefixValue × Terms) → IsTable routes → IsV4 c.0 → IsTable (with_contribution routes c)
-stays routes c table is = (all-keys IsV4 routes c table.0 is, ascend-with routes c (v4-keys (keys_of routes) table.0) is.v4 table.1)
+pub stays : (routes : List (PrefixValue × Terms)) (c : PrefixValue × Terms) → IsTable routes → IsPrefix c.0 → IsTable (with_contribution routes c)
+stays routes c table is = (all-keys IsPrefix routes c table.0 is, ascend-with routes c table.1)
 
 -- ---- one contribution behind the other
 
@@ -94,15 +84,3 @@ with-append routes (c ∷ a) b = with-append (with_contribution routes c) a b
 pub with_each_flat : {A : Type 0} (f : A → List (PrefixValue × Terms)) (routes : List (PrefixValue × Terms)) (xs : List A) → with_each f routes xs ≡ with_contributions routes (flat_map f xs)
 with_each_flat f routes [] = refl
 with_each_flat f routes (x ∷ more) = with_each_flat f (with_contributions routes (f x)) more ∙ sym (with-append routes (f x) (flat_map f more))
-
-pub next-number : (keys numbers : List ℕ) (index n : ℕ) → index < length numbers → n ≡ get_or numbers index 0
-    → ascending_with (insert_key nat_cmp keys n) (drop (suc index) numbers) ≡ ascending_with keys (drop index numbers)
-next-number keys [] index n there is = absurd (omega arith)
-next-number keys (m ∷ numbers) zero n there is = ap (λ k. ascending_with (insert_key nat_cmp keys k) numbers) is
-next-number keys (m ∷ numbers) (suc index) n there is = next-number keys numbers index n (omega arith) is
-
-pub number-after : (keys numbers : List ℕ) (index : ℕ) → index < length numbers
-    → ascending_with (insert_key nat_cmp keys (get_or numbers index 0)) (drop (index + 1) numbers) ≡ ascending_with keys (drop index numbers)
-number-after keys numbers index there =
-    let e : index + 1 ≡ suc index = omega arith in
-    ap (λ j. ascending_with (insert_key nat_cmp keys (get_or numbers index 0)) (drop j numbers)) e ∙ next-number keys numbers index (get_or numbers index 0) there refl

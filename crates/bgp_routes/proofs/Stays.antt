@@ -1,8 +1,7 @@
 -- Where all stays that decides who may announce an address, the same is contributed for it.
-use Rattle.std.proofs.Common.{◌≡◌, ◌↔◌, ℕ, Bool, true, ◌&&◌, List, [], ◌∷◌, inl, inr, refl, sym, ap, ◌∙◌, subst}
+use Rattle.std.proofs.Common.{◌≡◌, ℕ, Bool, true, ◌&&◌, List, [], ◌∷◌, inl, inr, refl, sym, ap, ◌∙◌, subst}
 use Rattle.std.proofs.lemmas.Bool.{and_from, and_parts, false≢true, or_cases, or_left, or_right}
 use Rattle.std.specs.List.{list_any}
-use Rattle.ip_ranges.specs.declared.family.Family.TheVariants.{V4}
 use Rattle.ip_ranges.specs.Values.{AddressValue, PrefixValue, has_address, same_address}
 use Rattle.ip_ranges.proofs.AddressLaws.{same_address-is, same_address-itself}
 use Rattle.kube_model.specs.declared.service.Service.{Service}
@@ -15,15 +14,15 @@ use Rattle.speaker_view.specs.Held.{objects_of}
 use Rattle.speaker_view.specs.ViewValue.{ViewValue}
 use Rattle.speaker_view.proofs.Serving.{can_announce-Decides}
 use Rattle.bgp_updates.specs.declared.route.Terms.{Terms}
-use Rattle.bgp_routes.specs.Contribution.{IsAnnounced, IsContribution}
+use Rattle.bgp_routes.specs.Contribution.{Counts, IsAnnounced}
 use Rattle.bgp_routes.specs.Stays.{ContributionsStay, IsContributionFor}
 
-any-in : {T : Type 0} (p : T → Bool) (xs : List T) (x : T) → IsIn xs x → p x ≡ true → list_any p xs ≡ true
+pub any-in : {T : Type 0} (p : T → Bool) (xs : List T) (x : T) → IsIn xs x → p x ≡ true → list_any p xs ≡ true
 any-in p [] x none h = absurd none
 any-in p (y ∷ ys) x (inl here) h = or_left (p y) (list_any p ys) (ap p here ∙ h)
 any-in p (y ∷ ys) x (inr later) h = or_right (p y) (list_any p ys) (any-in p ys x later h)
 
-in-any : {T : Type 0} (p : T → Bool) (xs : List T) → list_any p xs ≡ true → (x : T) × IsIn xs x × (p x ≡ true)
+pub in-any : {T : Type 0} (p : T → Bool) (xs : List T) → list_any p xs ≡ true → (x : T) × IsIn xs x × (p x ≡ true)
 in-any p [] e = absurd (false≢true e)
 in-any p (y ∷ ys) e = elim (or_cases (p y) (list_any p ys) e) [
   | inl here ↦ (y, inl refl, here)
@@ -31,24 +30,24 @@ in-any p (y ∷ ys) e = elim (or_cases (p y) (list_any p ys) e) [
 ]
 
 -- ---- an address is announced from a node where the test says so
-module _ (v : ViewValue) (node : List ℕ) (a : AddressValue) where
+module _ (v : ViewValue) (node : List ℕ) (both : Bool) (a : AddressValue) where
   abbrev announces : Service → Bool
   announces service = has_address service.holding.addresses a && can_announce v service node
 
-  from-announced : IsAnnounced v node a → announced_from v a node ≡ true
+  pub from-announced : IsAnnounced v node both a → announced_from v a node ≡ true
   from-announced h =
       let recorded : has_address h.service.holding.addresses a ≡ true = any-in (same_address a) h.service.holding.addresses a h.recorded (same_address-itself a) in
       any-in announces (objects_of v.held.services) h.service h.held
       (and_from (has_address h.service.holding.addresses a) (can_announce v h.service node) recorded ((can_announce-Decides v h.service node).1 h.announces))
 
-  to-announced : a.family ≡ V4 → announced_from v a node ≡ true → IsAnnounced v node a
-  to-announced v4 e =
+  pub to-announced : Counts both a.family → announced_from v a node ≡ true → IsAnnounced v node both a
+  to-announced counts e =
       let found = in-any announces (objects_of v.held.services) e in
       let service : Service = found.0 in
       let both = and_parts (has_address service.holding.addresses a) (can_announce v service node) found.2 in
       let recorded = in-any (same_address a) service.holding.addresses both.0 in
       record {
-        v4 = v4;
+        counts = counts;
         service = service;
         held = found.1;
         recorded = subst (λ (x : AddressValue). IsIn service.holding.addresses x) (sym (same_address-is a recorded.0 recorded.2)) recorded.1;
@@ -64,9 +63,9 @@ stays-back v w a stays = record {
   announced = λ node. sym (stays.announced node);
 }
 
-contributed-before : (v w : ViewValue) (a : AddressValue) → StaysAt v w a → (node : List ℕ) (peer : CompiledPeer) (c : PrefixValue × Terms)
-    → IsContributionFor w node peer a c → IsContributionFor v node peer a c
-contributed-before v w a stays node peer c x =
+contributed-before : (v w : ViewValue) (a : AddressValue) → StaysAt v w a → (node : List ℕ) (peer : CompiledPeer) (both : Bool) (c : PrefixValue × Terms)
+    → IsContributionFor w node peer both a c → IsContributionFor v node peer both a c
+contributed-before v w a stays node peer both c x =
     let now = x.contribution in
     let at = now.address in
     let here : StaysAt v w at = subst (λ (b : AddressValue). StaysAt v w b) (sym x.address_is) stays in
@@ -75,7 +74,7 @@ contributed-before v w a stays node peer c x =
       contribution = record {
         peer_selects = subst (Selects peer.node_selectors) labels now.peer_selects;
         address = at;
-        announced = to-announced v node at now.announced.v4 (sym (here.announced node) ∙ from-announced w node at now.announced);
+        announced = to-announced v node both at now.announced.counts (sym (here.announced node) ∙ from-announced w node both at now.announced);
         advertisement = now.advertisement;
         advertised = record {
           config = now.advertised.config;
@@ -93,5 +92,5 @@ contributed-before v w a stays node peer c x =
     }
 
 pub contributions_stay : ContributionsStay
-contributions_stay v w a stays node peer c =
-    (contributed-before v w a stays node peer c, contributed-before w v a (stays-back v w a stays) node peer c)
+contributions_stay v w a stays node peer both c =
+    (contributed-before v w a stays node peer both c, contributed-before w v a (stays-back v w a stays) node peer both c)

@@ -1,6 +1,7 @@
 -- What contributes to the routes of a node for a peer.
-use Rattle.std.specs.Prelude.{◌≡◌, ℕ, ◌==◌, if◌then◌else◌, List, [], Option, Some, None, ◌⊎◌}
-use Rattle.ip_ranges.specs.declared.family.Family.TheVariants.{V4}
+use Rattle.std.specs.Prelude.{◌≡◌, ℕ, Bool, true, ◌==◌, if◌then◌else◌, List, [], Option, Some, None, ◌⊎◌}
+use Rattle.ip_ranges.specs.declared.family.Family.{Family}
+use Rattle.ip_ranges.specs.declared.family.Family.TheVariants.{V4, V6}
 use Rattle.ip_ranges.specs.Values.{AddressValue, PrefixValue, masked}
 use Rattle.kube_model.specs.declared.service.Service.{Service}
 use Rattle.mlb_base.specs.Items.{IsIn}
@@ -15,9 +16,13 @@ use Rattle.speaker_view.specs.Held.{objects_of}
 use Rattle.speaker_view.specs.ViewValue.{ViewValue}
 use Rattle.bgp_updates.specs.declared.route.Terms.{Terms}
 
--- an IPv4 address that is recorded on some held service which can be announced from the node
-pub record IsAnnounced (v : ViewValue) (node : List ℕ) (address : AddressValue) : Type 0 where
-  pub v4 : address.family ≡ V4
+-- IPv4 counts always, IPv6 where both families do
+abbrev pub Counts : Bool → Family → Type 0
+Counts both family = (family ≡ V4) ⊎ (both ≡ true)
+
+-- an address of a family that counts, which is recorded on some held service that can be announced from the node
+pub record IsAnnounced (v : ViewValue) (node : List ℕ) (both : Bool) (address : AddressValue) : Type 0 where
+  pub counts : Counts both address.family
   pub service : Service
   pub held : IsIn (objects_of v.held.services) service
   pub recorded : IsIn service.holding.addresses address
@@ -39,17 +44,26 @@ pub record IsAdvertisedBy (v : ViewValue) (node : List ℕ) (peer : CompiledPeer
 abbrev pub told : CompiledPeer → ℕ → Option ℕ
 told peer preference = if peer.my_asn == peer.peer_asn then Some preference else None
 
--- what the advertisement contributes for the address: the address masked to `spec.aggregationLength`, with `spec.localPref` and the
--- communities
+-- that of the family, of one number for IPv4 and one for IPv6
+abbrev pub by_family : Family → ℕ → ℕ → ℕ
+by_family V4 four six = four
+by_family V6 four six = six
+
+-- how long the family's prefixes are: `spec.aggregationLength` of IPv4, `spec.aggregationLengthV6` of IPv6
+abbrev pub length_for : Family → CompiledBgp → ℕ
+length_for family adv = by_family family adv.length adv.length_v6
+
+-- what the advertisement contributes for the address: the address masked to its family's length, with `spec.localPref` and the communities,
+-- large ones too
 abbrev pub contribution : CompiledPeer → AddressValue → CompiledBgp → PrefixValue × Terms
 contribution peer address adv =
-    (masked address adv.length, record { preference = told peer adv.local_pref; communities = adv.communities })
+    (masked address (length_for address.family adv), record { preference = told peer adv.local_pref; communities = adv.communities; large = adv.large })
 
 -- The peer selects the node, and an advertisement contributes this for an address that is announced from the node.
-pub record IsContribution (v : ViewValue) (node : List ℕ) (peer : CompiledPeer) (c : PrefixValue × Terms) : Type 0 where
+pub record IsContribution (v : ViewValue) (node : List ℕ) (peer : CompiledPeer) (both : Bool) (c : PrefixValue × Terms) : Type 0 where
   pub peer_selects : Selects peer.node_selectors (node_labels v node)
   pub address : AddressValue
-  pub announced : IsAnnounced v node address
+  pub announced : IsAnnounced v node both address
   pub advertisement : CompiledBgp
   pub advertised : IsAdvertisedBy v node peer address advertisement
   pub is : c ≡ contribution peer address advertisement

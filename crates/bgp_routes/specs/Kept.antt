@@ -1,72 +1,34 @@
--- The routes of a node for all peers, as they are kept.
-use Rattle.std.specs.Prelude.{◌≡◌, ◌↔◌, ℕ, Bool, ◌&&◌, ◌==◌, List, [], map, find, Contains, Option, Some, None}
-use Rattle.std.specs.Option.{option_map}
-use Rattle.std.specs.Str.{bytes_eq}
-use Rattle.std.specs.List.{AllByRecursion}
-use Rattle.ip_ranges.specs.Values.{AddressValue, PrefixValue}
-use Rattle.pool_config.specs.ConfigValue.{ConfigValue}
-use Rattle.pool_config.specs.declared.compiled.CompiledPeer.{CompiledPeer}
-use Rattle.speaker_view.specs.Endpoints.{node_labels}
+-- What is kept of a node's routes for all peers.
+use Rattle.std.specs.Prelude.{◌≡◌, ℕ, Bool, false, List, [], None}
+use Rattle.std.specs.BTreeSet.{BTreeSet}
+use Rattle.ip_ranges.specs.Values.{AddressValue}
 use Rattle.speaker_view.specs.ViewValue.{ViewValue}
-use Rattle.bgp_updates.specs.declared.route.Terms.{Terms}
-use Rattle.bgp_routes.specs.Contribution.{IsAnnounced}
-use Rattle.bgp_routes.specs.Determined.{Ascends}
-use Rattle.bgp_routes.specs.Routes.{routes_of}
+use Rattle.bgp_routes.specs.declared.contributors.Aggregate.{Aggregate}
+use Rattle.bgp_routes.specs.Contributors.{contributes, has}
+use Rattle.bgp_routes.specs.Differ.{DiffersAt}
+use Rattle.bgp_routes.specs.Held.{HeldValue, held_for}
 
--- a peer's name, its AS numbers and its table
-pub record HeldTable : Type 0 where
-  pub name : List ℕ
-  pub my_asn : ℕ
-  pub peer_asn : ℕ
-  pub routes : List (PrefixValue × Terms)
-
--- the node, and the tables of peers
+-- the node, whether both families count, what is held of the configuration in force, and which addresses contribute to which prefixes by which advertisement
 pub record KeptValue : Type 0 where
   pub node : List ℕ
-  pub tables : List HeldTable
+  pub both : Bool
+  pub held : HeldValue
+  pub contributors : List (Aggregate × BTreeSet AddressValue)
 
--- the peers of a configuration in force, by name
-abbrev pub peers_in : Option ConfigValue → List CompiledPeer
-peers_in None = []
-peers_in (Some config) = config.peers
+-- All that is kept is right for the view.
+pub record AreKeptFor (v : ViewValue) (kept : KeptValue) : Type 0 where
+  pub held : kept.held ≡ held_for v kept.node
+  pub contributors : (g : Aggregate) (a : AddressValue) → has kept.contributors g a ≡ contributes v kept.node kept.both g a
 
-abbrev pub peers_of : ViewValue → List CompiledPeer
-peers_of v = peers_in v.held.config
+-- nothing is held
+pub record IsCleared (kept : KeptValue) : Type 0 where
+  pub held : kept.held ≡ record { advertisements = []; choices = []; peers = [] }
+  pub contributors : has kept.contributors ≡ (λ g a. false)
 
--- the peer's table by the view
-abbrev pub table_at : ViewValue → List ℕ → CompiledPeer → HeldTable
-table_at v node peer = record { name = peer.name; my_asn = peer.my_asn; peer_asn = peer.peer_asn; routes = routes_of v node peer }
+-- It is right for some view that differs from this one at these addresses at most.
+abbrev pub AreKeptBut : ViewValue → List AddressValue → KeptValue → Type 0
+AreKeptBut v addresses kept = (u : ViewValue) × AreKeptFor u kept × DiffersAt u v kept.node addresses
 
--- what is right for the view
-abbrev pub kept_for : ViewValue → List ℕ → List HeldTable
-kept_for v node = map (table_at v node) (peers_of v)
-
--- the table is that of the peer of a name
-abbrev pub is_named : List ℕ → HeldTable → Bool
-is_named name table = bytes_eq table.name name
-
--- the table is that of a peer of this name, with these AS numbers
-abbrev pub is_table_of : CompiledPeer → HeldTable → Bool
-is_table_of peer table = bytes_eq table.name peer.name && (table.my_asn == peer.my_asn) && (table.peer_asn == peer.peer_asn)
-
--- the first table that is so
-abbrev pub table_found : (HeldTable → Bool) → List HeldTable → Option (List (PrefixValue × Terms))
-table_found is tables = option_map (λ table. table.routes) (find is tables)
-
--- The views have the same configuration in force and the same labels of the node, and announce from it the same addresses but for these.
-pub record DiffersAt (u v : ViewValue) (node : List ℕ) (addresses : List AddressValue) : Type 0 where
-  pub config : u.held.config ≡ v.held.config
-  pub labels : node_labels u node ≡ node_labels v node
-  pub announced : (a : AddressValue) → ¬ (Contains addresses a) → IsAnnounced u node a ↔ IsAnnounced v node a
-
--- The tables are right for some view that differs at these addresses at most.
-abbrev pub AreKeptBut : ViewValue → List ℕ → List AddressValue → List HeldTable → Type 0
-AreKeptBut v node addresses tables = (u : ViewValue) × (tables ≡ kept_for u node) × DiffersAt u v node addresses
-
--- the communities of the node's routes ascend
-abbrev pub CommunitiesAscend : ViewValue → List ℕ → Type 0
-CommunitiesAscend v node = (peer : CompiledPeer) → AllByRecursion Ascends (routes_of v node peer)
-
--- Views that differ at no address have the same tables.
-abbrev pub SameViewsKeepTables : Type 0
-SameViewsKeepTables = (u v : ViewValue) (node : List ℕ) → DiffersAt u v node [] → CommunitiesAscend u node → CommunitiesAscend v node → kept_for u node ≡ kept_for v node
+-- No peer is held: so it is right for each view without a configuration in force.
+abbrev pub HoldsNone : KeptValue → Type 0
+HoldsNone kept = (v : ViewValue) → v.held.config ≡ None → AreKeptFor v kept

@@ -1,8 +1,14 @@
 pub mod Contribution
+pub mod Contributors
 pub mod Determined
+pub mod Differ
+pub mod Families
 pub mod Few
+pub mod Held
 pub mod Kept
 pub mod Laws
+pub mod Parts
+pub mod Peers
 pub mod Placed
 pub mod Routes
 pub mod Stays

@@ -4,17 +4,18 @@ use Rattle.std.specs.List.{AllByRecursion}
 use Rattle.std.specs.Ordering.{nat_cmp, ordering_then}
 use Rattle.std.specs.declared.cmp.Ordering.{Ordering}
 use Rattle.ip_ranges.specs.Values.{PrefixValue}
+use Rattle.speaker_view.specs.Addresses.{address_cmp}
 use Rattle.bgp_updates.specs.declared.route.Terms.{Terms}
 use Rattle.bgp_routes.specs.declared.uniting.Place.{Place}
 use Rattle.bgp_routes.specs.Uniting.{united_terms}
 
--- the place of the prefix among those of IPv4
+-- the place of the prefix
 abbrev pub place_of : PrefixValue → Place
-place_of p = record { number = p.number; length = p.length }
+place_of p = record { first = record { family = p.family; number = p.number }; length = p.length }
 
--- places ascend by number, then by length
+-- places ascend by the first address, IPv4 before IPv6, then by length
 abbrev pub place_cmp : Place → Place → Ordering
-place_cmp a b = ordering_then (nat_cmp a.number b.number) (nat_cmp a.length b.length)
+place_cmp a b = ordering_then (address_cmp a.first b.first) (nat_cmp a.length b.length)
 
 -- the contribution, united with the route that stands at its place, if any
 abbrev pub united_with : Option (PrefixValue × Terms) → PrefixValue × Terms → PrefixValue × Terms

@@ -1,5 +1,5 @@
 -- The routes of a node for a peer, as a function.
-use Rattle.std.specs.Prelude.{ℕ, Bool, ◌&&◌, ◌||◌, if◌then◌else◌, List, [], ◌∷◌, Option, Some, None}
+use Rattle.std.specs.Prelude.{ℕ, Bool, true, ◌&&◌, ◌||◌, if◌then◌else◌, List, [], ◌∷◌, Option, Some, None}
 use Rattle.std.specs.List.{flat_map}
 use Rattle.ip_ranges.specs.declared.family.Family.{Family}
 use Rattle.ip_ranges.specs.declared.family.Family.TheVariants.{V4, V6}
@@ -40,31 +40,31 @@ abbrev pub of_found : ViewValue → List ℕ → CompiledPeer → AddressValue �
 of_found v node peer address None bgp = []
 of_found v node peer address (Some pool) bgp = of_pool v node peer address pool bgp
 
--- an address of IPv6 contributes nothing
-abbrev pub of_family : {A : Type 0} → Family → List A → List A
-of_family V4 all = all
-of_family V6 all = []
+-- whether addresses of the family count
+abbrev pub counts : Bool → Family → Bool
+counts both V4 = true
+counts both V6 = both
 
--- what is contributed for an address
-abbrev pub of_address : ViewValue → List ℕ → CompiledPeer → ConfigValue → AddressValue → List (PrefixValue × Terms)
-of_address v node peer config address =
-    of_family address.family (of_found v node peer address (pool_with config.pools address) config.bgp)
+-- what is contributed for an address; nothing for one of a family that doesn't count
+abbrev pub of_address : ViewValue → List ℕ → CompiledPeer → Bool → ConfigValue → AddressValue → List (PrefixValue × Terms)
+of_address v node peer both config address =
+    if counts both address.family then of_found v node peer address (pool_with config.pools address) config.bgp else []
 
 -- for the addresses recorded on a service that can be announced from the node
-abbrev pub of_service : ViewValue → List ℕ → CompiledPeer → ConfigValue → Service → List (PrefixValue × Terms)
-of_service v node peer config service =
-    if can_announce v service node then flat_map (of_address v node peer config) service.holding.addresses else []
+abbrev pub of_service : ViewValue → List ℕ → CompiledPeer → Bool → ConfigValue → Service → List (PrefixValue × Terms)
+of_service v node peer both config service =
+    if can_announce v service node then flat_map (of_address v node peer both config) service.holding.addresses else []
 
 -- for all services, by the configuration in force
-abbrev pub of_config : ViewValue → List ℕ → CompiledPeer → Option ConfigValue → List (PrefixValue × Terms)
-of_config v node peer None = []
-of_config v node peer (Some config) = flat_map (of_service v node peer config) (objects_of v.held.services)
+abbrev pub of_config : ViewValue → List ℕ → CompiledPeer → Bool → Option ConfigValue → List (PrefixValue × Terms)
+of_config v node peer both None = []
+of_config v node peer both (Some config) = flat_map (of_service v node peer both config) (objects_of v.held.services)
 
 -- all that contributes to the table; nothing where the peer doesn't select the node
-abbrev pub contributions : ViewValue → List ℕ → CompiledPeer → List (PrefixValue × Terms)
-contributions v node peer =
-    if selects peer.node_selectors (node_labels v node) then of_config v node peer v.held.config else []
+abbrev pub contributions : ViewValue → List ℕ → CompiledPeer → Bool → List (PrefixValue × Terms)
+contributions v node peer both =
+    if selects peer.node_selectors (node_labels v node) then of_config v node peer both v.held.config else []
 
 -- all that contributes, united
-abbrev pub routes_of : ViewValue → List ℕ → CompiledPeer → List (PrefixValue × Terms)
-routes_of v node peer = with_contributions [] (contributions v node peer)
+abbrev pub routes_of : ViewValue → List ℕ → CompiledPeer → Bool → List (PrefixValue × Terms)
+routes_of v node peer both = with_contributions [] (contributions v node peer both)

@@ -1,5 +1,5 @@
 -- What an event leaves of what contributes to routes.
-use Rattle.std.specs.Prelude.{◌≡◌, ◌↔◌, ℕ, List}
+use Rattle.std.specs.Prelude.{◌≡◌, ◌↔◌, ℕ, Bool, List}
 use Rattle.ip_ranges.specs.Values.{AddressValue, PrefixValue}
 use Rattle.pool_config.specs.declared.compiled.CompiledPeer.{CompiledPeer}
 use Rattle.speaker_view.specs.Change.{StaysAt}
@@ -8,11 +8,11 @@ use Rattle.bgp_updates.specs.declared.route.Terms.{Terms}
 use Rattle.bgp_routes.specs.Contribution.{IsContribution}
 
 -- It is contributed for this address.
-pub record IsContributionFor (v : ViewValue) (node : List ℕ) (peer : CompiledPeer) (address : AddressValue) (c : PrefixValue × Terms) : Type 0 where
-  pub contribution : IsContribution v node peer c
+pub record IsContributionFor (v : ViewValue) (node : List ℕ) (peer : CompiledPeer) (both : Bool) (address : AddressValue) (c : PrefixValue × Terms) : Type 0 where
+  pub contribution : IsContribution v node peer both c
   pub address_is : contribution.address ≡ address
 
 -- where all stays that decides who may announce an address, the same is contributed for it, of every node and to every peer
 abbrev pub ContributionsStay : Type 0
-ContributionsStay = (v w : ViewValue) (address : AddressValue) → StaysAt v w address → (node : List ℕ) (peer : CompiledPeer) (c : PrefixValue × Terms)
-    → IsContributionFor w node peer address c ↔ IsContributionFor v node peer address c
+ContributionsStay = (v w : ViewValue) (address : AddressValue) → StaysAt v w address → (node : List ℕ) (peer : CompiledPeer) (both : Bool)
+    (c : PrefixValue × Terms) → IsContributionFor w node peer both address c ↔ IsContributionFor v node peer both address c

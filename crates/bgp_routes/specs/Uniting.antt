@@ -1,8 +1,11 @@
 -- Contributions, united to routes.
 use Rattle.std.specs.Prelude.{ℕ, ◌+◌, Bool, true, ◌&&◌, nat_le, if◌then◌else◌, max, List, [], ◌∷◌, Option, Some, None}
+use Rattle.std.specs.Ordering.{nat_cmp}
 use Rattle.std.specs.Str.{bytes_eq}
+use Rattle.std.specs.declared.cmp.Ordering.{Ordering}
 use Rattle.ip_ranges.specs.Values.{PrefixValue}
-use Rattle.pool_config.specs.Numbers.{ascending_with}
+use Rattle.large_numbers.specs.Large.{large_cmp}
+use Rattle.pool_config.specs.KeySets.{keys_with}
 use Rattle.bgp_updates.specs.declared.route.Terms.{Terms}
 use Rattle.bgp_updates.specs.Received.{same_prefix}
 use Rattle.bgp_updates.specs.Tables.{before}
@@ -13,9 +16,9 @@ greater None b = b
 greater (Some a) None = Some a
 greater (Some a) (Some b) = Some (max a b)
 
--- the numbers of both, ascending, each once
-abbrev pub united : List ℕ → List ℕ → List ℕ
-united a b = ascending_with (ascending_with [] a) b
+-- the keys of both, ascending, each once
+abbrev pub united : {K : Type 0} → (K → K → Ordering) → List K → List K → List K
+united cmp a b = keys_with cmp (keys_with cmp [] a) b
 
 -- the numbers ascend, the first of them not below this one
 abbrev pub ascend_from : ℕ → List ℕ → Bool
@@ -26,9 +29,13 @@ ascend_from low (n ∷ numbers) = nat_le low n && ascend_from (n + 1) numbers
 abbrev pub are_same : List ℕ → List ℕ → Bool
 are_same a b = bytes_eq a b && ascend_from 0 a
 
--- the greater preference and the communities of both
+-- the greater preference, and the communities of both, large ones too
 abbrev pub united_terms : Terms → Terms → Terms
-united_terms s t = record { preference = greater s.preference t.preference; communities = united s.communities t.communities }
+united_terms s t = record {
+  preference = greater s.preference t.preference;
+  communities = united nat_cmp s.communities t.communities;
+  large = united large_cmp s.large t.large;
+}
 
 -- A contribution is united with the route of its prefix, or is a route of its own in its place.
 abbrev pub with_contribution : List (PrefixValue × Terms) → PrefixValue × Terms → List (PrefixValue × Terms)

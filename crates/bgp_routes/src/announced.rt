@@ -1,12 +1,12 @@
 //! The routes of a node for a peer.
-ghost use Rattle.std.specs.Prelude.{◌≡◌, ◌||◌, All, IfOk, OnOk};
-ghost use Rattle.ip_ranges.specs.declared.family.Family.TheVariants.{V4};
+ghost use Rattle.std.specs.Prelude.{◌≡◌, ◌≤◌, ◌||◌, All, IfOk, OnOk};
+ghost use Rattle.ip_ranges.specs.Values.{IsPrefix, width_of};
 ghost use Rattle.kube_labels.specs.Names.{has_text};
 ghost use Rattle.speaker_view.specs.Held.{objects_of};
-ghost use Rattle.bgp_updates.specs.Tables.{HasFew, IsTable, IsV4};
-ghost use Rattle.bgp_routes.specs.Contribution.{contribution, told};
+ghost use Rattle.bgp_updates.specs.Tables.{HasFew, IsTable};
+ghost use Rattle.bgp_routes.specs.Contribution.{contribution, length_for, told};
 ghost use Rattle.bgp_routes.specs.Laws.{AreRoutes};
-ghost use Rattle.bgp_routes.specs.Routes.{advertises, is_for, of_address, of_pool, of_service, routes_of};
+ghost use Rattle.bgp_routes.specs.Routes.{advertises, counts, is_for, of_address, of_pool, of_service, routes_of};
 ghost use Rattle.bgp_routes.specs.Uniting.{with_contributions, with_each};
 
 use crate::uniting::UnitedRoutes;
@@ -21,24 +21,26 @@ use std::alloc::Global;
 
 /// The routes that the node announces to the peer.
 ///
-/// Each IPv4 address that is recorded on some service which can be announced from the node, and each BGPAdvertisement (MetalLB) of the
+/// Each address that is recorded on some service which can be announced from the node, and each BGPAdvertisement (MetalLB) of the
 /// configuration in force that chooses the address's pool, selects the node and names the peer or none, contributes the address masked
-/// to `aggregationLength`. A route's communities are those of all contributions of its prefix, and its preference is the greatest of
+/// to `aggregationLength`, or to `aggregationLengthV6` where it is of IPv6; but with `both` false addresses of IPv6 contribute nothing.
+/// A route's communities are those of all contributions of its prefix, and so are its large ones; its preference is the greatest of
 /// theirs for a peer of the same AS, else `None`. The table is empty where the peer doesn't select the node. No route has more than 512
-/// communities. `NoMemory` may come at any time.
+/// communities, nor more than 128 large ones. `NoMemory` may come at any time.
 pub fn routes(
     alloc: Global,
     view: &View,
     node: &str,
     peer: &CompiledPeer,
+    both: bool,
 ) -> Result<RouteTable, NoMemory>
-    ensures value { IfOk result (λ table. table ≡ routes_of view.now node.now peer.now) }
-    ensures meaning { IfOk result (λ table. AreRoutes view.now node.now peer.now table) }
+    ensures value { IfOk result (λ table. table ≡ routes_of view.now node.now peer.now both) }
+    ensures meaning { IfOk result (λ table. AreRoutes view.now node.now peer.now both table) }
     ensures table { IfOk result (λ table. IsTable table) }
     ensures few { IfOk result (λ table. All HasFew table) }
 {
     let node = Text::new(alloc, node)?;
-    let united = united_routes(alloc, view, &node, peer)?;
+    let united = united_routes(alloc, view, &node, peer, both)?;
     let routes = united.into_vec()?;
     Ok(RouteTable::from_vec(routes))
 }
@@ -49,8 +51,9 @@ fn united_routes(
     view: &View,
     node: &Text,
     peer: &CompiledPeer,
+    both: bool,
 ) -> Result<UnitedRoutes, NoMemory>
-    ensures value { IfOk result (λ routes. routes ≡ routes_of view.now node.now peer.now) }
+    ensures value { IfOk result (λ routes. routes ≡ routes_of view.now node.now peer.now both) }
     ensures few { IfOk result (λ routes. All HasFew routes) }
 {
     let mut routes = UnitedRoutes::new(alloc);
@@ -60,7 +63,7 @@ fn united_routes(
     let Some(config) = view.config() else {
         return Ok(routes);
     };
-    add_services(&mut routes, view, node, peer, config)?;
+    add_services(&mut routes, view, node, peer, both, config)?;
     Ok(routes)
 }
 
@@ -69,12 +72,13 @@ fn add_services(
     view: &View,
     node: &Text,
     peer: &CompiledPeer,
+    both: bool,
     config: &Config,
 ) -> Result<(), NoMemory>
-    ensures { OnOk result (routes.new ≡ with_each (of_service view.now node.now peer.now config.now) routes.old (objects_of view.now.held.services)) }
+    ensures { OnOk result (routes.new ≡ with_each (of_service view.now node.now peer.now both config.now) routes.old (objects_of view.now.held.services)) }
 {
     for (_, held) in view.services().iter() {
-        add_service(routes, view, node, peer, config, &held.object)?;
+        add_service(routes, view, node, peer, both, config, &held.object)?;
     }
     Ok(())
 }
@@ -85,10 +89,11 @@ fn add_service(
     view: &View,
     node: &Text,
     peer: &CompiledPeer,
+    both: bool,
     config: &Config,
     service: &Service,
 ) -> Result<(), NoMemory>
-    ensures { OnOk result (routes.new ≡ with_contributions routes.old (of_service view.now node.now peer.now config.now service.now)) }
+    ensures { OnOk result (routes.new ≡ with_contributions routes.old (of_service view.now node.now peer.now both config.now service.now)) }
 {
     if !view.can_announce(service, node) {
         return Ok(());
@@ -98,6 +103,7 @@ fn add_service(
         view,
         node,
         peer,
+        both,
         config,
         service.holding.addresses.as_slice(),
     )
@@ -108,13 +114,14 @@ fn add_addresses(
     view: &View,
     node: &Text,
     peer: &CompiledPeer,
+    both: bool,
     config: &Config,
     addresses: &[Address],
 ) -> Result<(), NoMemory>
-    ensures { OnOk result (routes.new ≡ with_each (of_address view.now node.now peer.now config.now) routes.old addresses.now) }
+    ensures { OnOk result (routes.new ≡ with_each (of_address view.now node.now peer.now both config.now) routes.old addresses.now) }
 {
     for address in addresses {
-        add_address(routes, view, node, peer, config, address)?;
+        add_address(routes, view, node, peer, both, config, address)?;
     }
     Ok(())
 }
@@ -124,25 +131,36 @@ fn add_address(
     view: &View,
     node: &Text,
     peer: &CompiledPeer,
+    both: bool,
     config: &Config,
     address: &Address,
 ) -> Result<(), NoMemory>
-    ensures { OnOk result (routes.new ≡ with_contributions routes.old (of_address view.now node.now peer.now config.now address.now)) }
+    ensures { OnOk result (routes.new ≡ with_contributions routes.old (of_address view.now node.now peer.now both config.now address.now)) }
 {
-    match address.family {
-        Family::V6 => Ok(()),
-        Family::V4 => match config.pool_with(address) {
-            None => Ok(()),
-            Some(pool) => add_pool(
-                routes,
-                view,
-                node,
-                peer,
-                address,
-                pool,
-                config.bgp.as_slice(),
-            ),
-        },
+    if !counts(both, address.family) {
+        return Ok(());
+    }
+    match config.pool_with(address) {
+        None => Ok(()),
+        Some(pool) => add_pool(
+            routes,
+            view,
+            node,
+            peer,
+            address,
+            pool,
+            config.bgp.as_slice(),
+        ),
+    }
+}
+
+/// Whether addresses of the family count.
+pub(crate) fn counts(both: bool, family: Family) -> bool
+    ensures { result ≡ counts both family }
+{
+    match family {
+        Family::V4 => true,
+        Family::V6 => both,
     }
 }
 
@@ -155,7 +173,6 @@ fn add_pool(
     pool: &CompiledPool,
     bgp: &[CompiledBgp],
 ) -> Result<(), NoMemory>
-    requires { address.now.family ≡ V4 }
     ensures { OnOk result (routes.new ≡ with_contributions routes.old (of_pool view.now node.now peer.now address.now pool.now bgp.now)) }
 {
     for advertisement in bgp {
@@ -181,7 +198,7 @@ fn advertises(
         && is_for(peer, advertisement)
 }
 
-fn is_for(peer: &CompiledPeer, advertisement: &CompiledBgp) -> bool
+pub(crate) fn is_for(peer: &CompiledPeer, advertisement: &CompiledBgp) -> bool
     ensures { result ≡ is_for peer.now advertisement.now }
 {
     advertisement.peers.is_empty() || has_text(advertisement.peers.as_slice(), peer.name.as_str())
@@ -208,15 +225,27 @@ fn contribution(
     address: &Address,
     advertisement: &CompiledBgp,
 ) -> Result<Route, NoMemory>
-    requires v4 { address.now.family ≡ V4 }
     ensures value { IfOk result (λ route. route ≡ contribution peer.now address.now advertisement.now) }
-    ensures prefix { IfOk result (λ route. IsV4 route.0) }
+    ensures prefix { IfOk result (λ route. IsPrefix route.0) }
 {
-    let prefix = mask(address, advertisement.length.bits());
+    let prefix = mask(address, length_for(address.family, advertisement));
     let communities = advertisement.communities.copy()?;
+    let large = advertisement.large.copy()?;
     Ok(Route {
         prefix,
         preference: told(peer, advertisement.local_pref),
         communities,
+        large,
     })
+}
+
+/// How long the family's prefixes are.
+fn length_for(family: Family, advertisement: &CompiledBgp) -> u8
+    ensures length { result ≡ length_for family advertisement.now }
+    ensures fits { result ≤ width_of family }
+{
+    match family {
+        Family::V4 => advertisement.length.bits(),
+        Family::V6 => advertisement.length_v6.bits(),
+    }
 }

@@ -1,48 +1,38 @@
 //! The routes of a node for all peers, kept from event to event.
-ghost use Rattle.std.specs.Prelude.{◌≡◌, [], All, IfOk, IfSome, OnOk, OnErr};
+ghost use Rattle.std.specs.Prelude.{◌≡◌, All, IfOk, IfSome, OnOk, OnErr};
 ghost use Rattle.std.specs.Option.{option_map};
+ghost use Rattle.speaker_view.specs.ViewValue.{ViewValue};
 ghost use Rattle.bgp_updates.specs.Tables.{HasFew};
-ghost use Rattle.bgp_routes.specs.Kept.{AreKeptBut, is_named, is_table_of, kept_for, peers_of, table_at, table_found};
+ghost use Rattle.bgp_routes.specs.Kept.{AreKeptBut, AreKeptFor, HoldsNone, IsCleared};
+ghost use Rattle.bgp_routes.specs.Parts.{part_of};
+ghost use Rattle.bgp_routes.specs.Peers.{table_found, tables_of};
 
-use crate::announced::routes;
+use crate::contributors::Contributors;
+use crate::held::Held;
+use crate::told::{all_told, part_told};
+use crate::touching::touch_all;
 use bgp_updates::RouteTable;
-use ip_ranges::AddressList;
+use ip_ranges::{Address, AddressList};
 use kube_labels::Text;
-use mlb_base::{NoMemory, TryCopy};
+use mlb_base::NoMemory;
 use pool_config::CompiledPeer;
 use speaker_view::View;
 use std::alloc::Global;
 use std::marker::Model;
 use std::mem;
 
-/// The tables of all peers of a view's configuration in force, with the routes that a node announces to each. Contracts see the peers'
-/// names, AS numbers and tables, by name. After `NoMemory` no peer is held, and `rebuild` makes it good.
+/// What a node announces to the peers of a view's configuration in force, kept from event to event.
+///
+/// For each prefix under each advertisement the addresses that contribute to it are held, so an event costs what it touches: for each
+/// address and each advertisement the logarithm of how many are held. A peer's table, or a part of one, is made of that. After `NoMemory`
+/// no peer is held, and `rebuild` makes it good.
 #[derive(Drop)]
 pub struct KeptRoutes {
     alloc: Global,
     node: Text,
-    tables: Vec<PeerTable>,
-}
-
-/// The table of a peer of this name with these AS numbers.
-#[derive(Drop)]
-struct PeerTable {
-    name: Text,
-    my_asn: u32,
-    peer_asn: u32,
-    routes: RouteTable,
-}
-
-impl Model for PeerTable {
-    ghost use Rattle.std.specs.Prelude.{All};
-    ghost use Rattle.bgp_updates.specs.Tables.{HasFew};
-    ghost use Rattle.bgp_routes.specs.Kept.{HeldTable};
-
-    ghost Value = { HeldTable };
-
-    ghost view = { λ t. record { name = t.name; my_asn = t.my_asn; peer_asn = t.peer_asn; routes = t.routes } };
-
-    ghost invariant = { λ t. All HasFew t.routes };
+    both: bool,
+    held: Held,
+    contributors: Contributors,
 }
 
 impl Model for KeptRoutes {
@@ -50,123 +40,145 @@ impl Model for KeptRoutes {
 
     ghost Value = { KeptValue };
 
-    ghost view = { λ k. record { node = k.node; tables = k.tables.items } };
+    ghost view = { λ k. record { node = k.node; both = k.both; held = k.held; contributors = k.contributors } };
 }
 
 impl KeptRoutes {
-    /// The routes of the node for no peer, which take no memory.
-    pub fn new(alloc: Global, node: Text) -> KeptRoutes
-        ensures { result ≡ record { node = node; tables = [] } }
+    /// The routes of the node for no peer, which take no memory; with `both` false they will be of IPv4 alone.
+    pub fn new(alloc: Global, node: Text, both: bool) -> KeptRoutes
+        ensures node { result.node ≡ node }
+        ensures both { result.both ≡ both }
+        ensures none { HoldsNone result }
     {
         KeptRoutes {
             alloc,
             node,
-            tables: Vec::new(alloc),
+            both,
+            held: Held::nothing(alloc),
+            contributors: Contributors::new(alloc),
         }
     }
 
-    /// Makes all tables anew, by the view.
+    /// Makes all anew, by the view.
     pub fn rebuild(&mut self, view: &View) -> Result<(), NoMemory>
         ensures node { self.new.node ≡ self.old.node }
-        ensures ok { OnOk result (self.new.tables ≡ kept_for view.now self.old.node) }
-        ensures err { OnErr result (self.new.tables ≡ []) }
+        ensures both { self.new.both ≡ self.old.both }
+        ensures ok { OnOk result (AreKeptFor view.now self.new) }
+        ensures err { OnErr result (HoldsNone self.new) }
     {
-        drop(mem::replace(&mut self.tables, Vec::new(self.alloc)));
-        let tables = tables_of(self.alloc, view, &self.node)?;
-        drop(mem::replace(&mut self.tables, tables));
-        Ok(())
-    }
-
-    /// Makes the tables right for the view, where they are right for one that differs from it at these addresses at most. Where there is
-    /// no such address, nothing is listed.
-    pub fn renew(&mut self, view: &View, addresses: &AddressList) -> Result<(), NoMemory>
-        requires { AreKeptBut view.now self.old.node addresses.now self.old.tables }
-        ensures node { self.new.node ≡ self.old.node }
-        ensures ok { OnOk result (self.new.tables ≡ kept_for view.now self.old.node) }
-        ensures err { OnErr result (self.new.tables ≡ []) }
-    {
-        // The communities of a configuration in force ascend, so where all contributes as before, the tables are the same.
-        let _known = view.config();
-        if addresses.is_empty() {
-            return Ok(());
+        self.clear();
+        match self.fill(view) {
+            Ok(()) => Ok(()),
+            Err(refused) => {
+                self.clear();
+                Err(refused)
+            }
         }
-        self.rebuild(view)
     }
 
-    /// The table of the peer of this name, and `None` exactly where no such peer is held. It takes no memory.
-    pub fn table(&self, name: &str) -> Option<&RouteTable>
-        ensures table { option_map (λ t. t.now) result ≡ table_found (is_named name.now) self.now.tables }
-        ensures few { IfSome result (λ t. All HasFew t.now) }
+    /// Makes what is kept right for the view, where it is right for one that differs from it at these addresses at most. It looks at these
+    /// addresses alone.
+    pub fn renew(&mut self, view: &View, addresses: &AddressList) -> Result<(), NoMemory>
+        requires { AreKeptBut view.now addresses.now self.old }
+        ensures node { self.new.node ≡ self.old.node }
+        ensures both { self.new.both ≡ self.old.both }
+        ensures ok { OnOk result (AreKeptFor view.now self.new) }
+        ensures err { OnErr result (HoldsNone self.new) }
     {
-        let held = self.tables.iter().find(|table| table.is_named(name))?;
-        Some(held.routes())
+        match self.touch(view, addresses.as_slice()) {
+            Ok(()) => Ok(()),
+            Err(refused) => {
+                self.clear();
+                Err(refused)
+            }
+        }
     }
 
-    /// The table of the peer, and `None` exactly where no peer of its name with its AS numbers is held. It takes no memory.
-    pub fn table_of(&self, peer: &CompiledPeer) -> Option<&RouteTable>
-        ensures table { option_map (λ t. t.now) result ≡ table_found (is_table_of peer.now) self.now.tables }
-        ensures few { IfSome result (λ t. All HasFew t.now) }
+    /// The whole table of the peer, by the view for which this is right, and `None` exactly where no peer of its name with its AS numbers
+    /// is held.
+    pub fn table_of(&self, peer: &CompiledPeer) -> Result<Option<RouteTable>, NoMemory>
+        ensures table { (v : ViewValue) → AreKeptFor v self.now
+            → IfOk result (λ found. found ≡ table_found peer.now (tables_of v self.now.node self.now.both)) }
+        ensures few { IfOk result (λ found. IfSome found (λ table. All HasFew table)) }
     {
-        let held = self.tables.iter().find(|table| table.is_of(peer))?;
-        Some(held.routes())
+        let Some(peer) = self.held.peer(peer) else {
+            return Ok(None);
+        };
+        let table = all_told(
+            self.alloc,
+            &self.contributors,
+            self.held.advertisements(),
+            peer,
+        )?;
+        Ok(Some(table))
     }
-}
 
-impl PeerTable {
-    fn is_named(&self, name: &str) -> bool
-        ensures { result ≡ is_named name.now self.now }
+    /// The part of the peer's table at the prefixes of these addresses under the advertisements, by the view for which this is right, and
+    /// `None` as `table_of` says. It looks at these addresses alone.
+    pub fn part_of(
+        &self,
+        peer: &CompiledPeer,
+        addresses: &AddressList,
+    ) -> Result<Option<RouteTable>, NoMemory>
+        ensures part { (v : ViewValue) → AreKeptFor v self.now
+            → IfOk result (λ found. found ≡ option_map (part_of v addresses.now) (table_found peer.now (tables_of v self.now.node self.now.both))) }
+        ensures few { IfOk result (λ found. IfSome found (λ table. All HasFew table)) }
     {
-        self.name.as_str() == name
+        let Some(peer) = self.held.peer(peer) else {
+            return Ok(None);
+        };
+        let table = part_told(
+            self.alloc,
+            &self.contributors,
+            self.held.advertisements(),
+            peer,
+            addresses.as_slice(),
+        )?;
+        Ok(Some(table))
     }
 
-    fn is_of(&self, peer: &CompiledPeer) -> bool
-        ensures { result ≡ is_table_of peer.now self.now }
+    fn clear(&mut self)
+        ensures node { self.new.node ≡ self.old.node }
+        ensures both { self.new.both ≡ self.old.both }
+        ensures none { IsCleared self.new }
     {
-        self.name == peer.name && self.my_asn == peer.my_asn && self.peer_asn == peer.peer_asn
+        drop(mem::replace(&mut self.held, Held::nothing(self.alloc)));
+        drop(mem::replace(&mut self.contributors, Contributors::new(self.alloc)));
     }
 
-    fn routes(&self) -> &RouteTable
-        ensures routes { result.now ≡ self.now.routes }
-        ensures few { All HasFew result.now }
+    /// Holds all by the view, where nothing is held.
+    fn fill(&mut self, view: &View) -> Result<(), NoMemory>
+        requires { IsCleared self.old }
+        ensures node { self.new.node ≡ self.old.node }
+        ensures both { self.new.both ≡ self.old.both }
+        ensures ok { OnOk result (AreKeptFor view.now self.new) }
     {
-        &self.routes
+        let addresses = view.addresses()?;
+        let held = Held::by(self.alloc, view, &self.node)?;
+        drop(mem::replace(&mut self.held, held));
+        touch_all(
+            &mut self.contributors,
+            &self.held,
+            view,
+            &self.node,
+            self.both,
+            addresses.as_slice(),
+        )
     }
-}
 
-/// The peers of the configuration in force.
-fn peers_of(view: &View) -> &[CompiledPeer]
-    ensures { result.now ≡ peers_of view.now }
-{
-    match view.config() {
-        None => &[],
-        Some(config) => config.peers.as_slice(),
+    fn touch(&mut self, view: &View, addresses: &[Address]) -> Result<(), NoMemory>
+        requires { AreKeptBut view.now addresses.now self.old }
+        ensures node { self.new.node ≡ self.old.node }
+        ensures both { self.new.both ≡ self.old.both }
+        ensures ok { OnOk result (AreKeptFor view.now self.new) }
+    {
+        touch_all(
+            &mut self.contributors,
+            &self.held,
+            view,
+            &self.node,
+            self.both,
+            addresses,
+        )
     }
-}
-
-fn tables_of(alloc: Global, view: &View, node: &Text) -> Result<Vec<PeerTable>, NoMemory>
-    ensures { IfOk result (λ tables. tables.items ≡ kept_for view.now node.now) }
-{
-    let peers = peers_of(view);
-    let mut tables = Vec::new(alloc);
-    for peer in peers {
-        tables.push(table_at(alloc, view, node, peer)?)?;
-    }
-    Ok(tables)
-}
-
-fn table_at(
-    alloc: Global,
-    view: &View,
-    node: &Text,
-    peer: &CompiledPeer,
-) -> Result<PeerTable, NoMemory>
-    ensures { IfOk result (λ table. table ≡ table_at view.now node.now peer.now) }
-{
-    let routes = routes(alloc, view, node.as_str(), peer)?;
-    Ok(PeerTable {
-        name: peer.name.copy()?,
-        my_asn: peer.my_asn,
-        peer_asn: peer.peer_asn,
-        routes,
-    })
 }

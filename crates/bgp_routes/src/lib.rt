@@ -2,13 +2,21 @@
 #![tactic(auto)]
 
 mod announced;
+mod contributors;
+mod finding;
+mod held;
 mod kept;
 mod laws;
+mod peers;
+mod told;
+mod touching;
 mod uniting;
 
 pub use announced::routes;
 pub use kept::KeptRoutes;
 pub use laws::{
-    contributions_are_listed, contributions_stay, routes_are_stated, routes_unite_contributions,
+    changed_views_differ, contributions_are_listed, contributions_stay, ipv4_routes_are_the_same,
+    others_agree, routes_are_of_ipv4, routes_are_stated, routes_unite_contributions,
     same_views_keep_tables, tables_are_determined,
 };
+pub use peers::peers_of;

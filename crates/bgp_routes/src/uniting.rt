@@ -1,19 +1,24 @@
 //! Contributions, united to routes.
 ghost use Rattle.std.specs.Prelude.{◌≡◌, [], IfOk, OnOk};
 ghost use Rattle.std.specs.Option.{option_copied};
-ghost use Rattle.pool_config.specs.Numbers.{ascending_with};
-ghost use Rattle.bgp_updates.specs.Tables.{IsTable, IsV4};
+ghost use Rattle.std.specs.Ordering.{nat_cmp};
+ghost use Rattle.ip_ranges.specs.Values.{IsPrefix};
+ghost use Rattle.large_numbers.specs.Large.{large_cmp};
+ghost use Rattle.pool_config.specs.KeySets.{keys_with};
+ghost use Rattle.bgp_updates.specs.Tables.{IsTable};
 ghost use Rattle.bgp_routes.specs.Placed.{place_of, united_with};
 ghost use Rattle.bgp_routes.specs.Uniting.{are_same, ascend_from, greater, united, united_terms, with_contribution};
 
 use bgp_updates::Route;
+use ip_ranges::{Address, Prefix};
+use large_numbers::{LargeNumbers, larges_from};
 use mlb_base::{NoMemory, TryCopy};
 use pool_config::{CommunityNumbers, numbers_from};
 use std::alloc::Global;
 use std::collections::{BTreeMap, BTreeSet};
 use std::marker::Model;
 
-/// Routes of IPv4 prefixes, one a prefix, which contracts see as their list by ascending prefix. A contribution finds its place in the
+/// Routes of prefixes, one a prefix, which contracts see as their list by ascending prefix. A contribution finds its place in the
 /// logarithm of their number.
 #[derive(Drop)]
 pub(crate) struct UnitedRoutes {
@@ -21,10 +26,10 @@ pub(crate) struct UnitedRoutes {
     routes: BTreeMap<Place, Route>,
 }
 
-/// The place of an IPv4 prefix: places ascend by number, then by length.
+/// The place of a prefix: places ascend by the first address, IPv4 before IPv6, then by length.
 #[derive(Clone, Copy, PartialEq, Eq, PartialOrd, Ord)]
-struct Place {
-    number: u128,
+pub(crate) struct Place {
+    first: Address,
     length: u8,
 }
 
@@ -56,7 +61,7 @@ impl UnitedRoutes {
 
     /// A contribution is united with the route of its prefix, or is a route of its own in its place.
     pub(crate) fn add(&mut self, route: Route) -> Result<(), NoMemory>
-        requires { IsV4 route.0 }
+        requires { IsPrefix route.0 }
         ensures { OnOk result (self.new ≡ with_contribution self.old route) }
     {
         let place = place_of(&route);
@@ -74,13 +79,24 @@ impl UnitedRoutes {
     }
 }
 
+impl Place {
+    pub(crate) fn of(prefix: &Prefix) -> Place
+        ensures { result ≡ place_of prefix.now }
+    {
+        Place {
+            first: Address {
+                family: prefix.family,
+                number: prefix.number,
+            },
+            length: prefix.length,
+        }
+    }
+}
+
 fn place_of(route: &Route) -> Place
     ensures { result ≡ place_of route.now.0 }
 {
-    Place {
-        number: route.prefix.number,
-        length: route.prefix.length,
-    }
+    Place::of(&route.prefix)
 }
 
 /// The contribution, united with the route that stands at its place, if any.
@@ -100,6 +116,7 @@ fn united_route(alloc: Global, there: &Route, route: &Route) -> Result<Route, No
         prefix: there.prefix,
         preference: greater(there.preference, route.preference),
         communities: united(alloc, &there.communities, &route.communities)?,
+        large: united_large(alloc, &there.large, &route.large)?,
     })
 }
 
@@ -113,22 +130,35 @@ fn greater(a: Option<u32>, b: Option<u32>) -> Option<u32>
     }
 }
 
-/// The numbers of both. Lists that are equal, as those of one advertisement are, need no set.
+/// The communities of both. Lists that are equal, as those of one advertisement are, need no set.
 #[tactic(auto, using(crate::proofs::Same::united_same))]
 fn united(
     alloc: Global,
     a: &CommunityNumbers,
     b: &CommunityNumbers,
 ) -> Result<CommunityNumbers, NoMemory>
-    ensures { IfOk result (λ numbers. numbers ≡ united a.now b.now) }
+    ensures { IfOk result (λ numbers. numbers ≡ united nat_cmp a.now b.now) }
 {
     if are_same(a.as_slice(), b.as_slice()) {
         return a.copy();
     }
     let mut set = BTreeSet::new(alloc);
-    add_numbers(&mut set, a.as_slice())?;
-    add_numbers(&mut set, b.as_slice())?;
+    add_all(&mut set, a.as_slice())?;
+    add_all(&mut set, b.as_slice())?;
     numbers_from(alloc, &set)
+}
+
+/// The large communities of both, which ascend in each.
+fn united_large(alloc: Global, a: &LargeNumbers, b: &LargeNumbers) -> Result<LargeNumbers, NoMemory>
+    ensures { IfOk result (λ numbers. numbers ≡ united large_cmp a.now b.now) }
+{
+    if a.as_slice() == b.as_slice() {
+        return a.copy();
+    }
+    let mut set = BTreeSet::new(alloc);
+    add_all(&mut set, a.as_slice())?;
+    add_all(&mut set, b.as_slice())?;
+    larges_from(alloc, &set)
 }
 
 /// Whether the lists are equal, and ascend.
@@ -152,11 +182,11 @@ fn ascend(numbers: &[u32]) -> bool
     true
 }
 
-fn add_numbers(set: &mut BTreeSet<u32>, numbers: &[u32]) -> Result<(), NoMemory>
-    ensures { OnOk result (set.new.keys ≡ ascending_with set.old.keys numbers.now) }
+fn add_all<K: Ord + Copy>(set: &mut BTreeSet<K>, keys: &[K]) -> Result<(), NoMemory>
+    ensures { OnOk result (set.new.keys ≡ keys_with K.cmp set.old.keys keys.now) }
 {
-    for number in numbers {
-        let _is_new = set.insert(*number)?;
+    for key in keys {
+        let _is_new = set.insert(*key)?;
     }
     Ok(())
 }

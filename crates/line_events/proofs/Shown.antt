@@ -1,17 +1,19 @@
 -- The numbers of what is read of a value.
-use Rattle.std.proofs.Common.{◌≡◌, ◌≤◌, ◌<◌, ◌+◌, ◌*◌, ◌^◌, ℕ, List, [], ◌∷◌, Option, Some, None, Result, Ok, Err, IfOk, IfSome, option_and_then, codes, refl, sym, subst, arith}
+use Rattle.std.proofs.Common.{◌≡◌, ◌≤◌, ◌<◌, ◌+◌, ◌-◌, ◌/◌, ◌%◌, ◌^◌, ◌∙◌, ℕ, zero, suc, Bool, true, false, List, [], ◌∷◌, ◌++◌, length, replicate, length-append, Option, Some, None, Result, Ok, Err, IfOk, IfSome, option_and_then, codes, refl, sym, ap, subst, inl, inr, arith}
 use Rattle.std.specs.Bool.{⊤}
-use Rattle.std.specs.Int.{w32, from_be_bytes}
+use Rattle.std.proofs.lemmas.Int.Digits.{digits_value-lt}
+use Rattle.std.proofs.lemmas.List.{length-replicate}
+use Rattle.std.specs.Int.{w32, w128, from_be_bytes}
 use Rattle.std.specs.List.{AllByRecursion}
-use Rattle.std.specs.Net.Grammar.{IsDotted}
+use Rattle.std.specs.Net.Addr.{octets_of, segments_of}
+use Rattle.std.specs.Net.Grammar.{IsColonHex, IsDotted, IsGroup, IsGroupsAfter}
 use Rattle.std.specs.Result.{result_ok}
-use Rattle.serde_json.specs.Data.{Data}
+use Rattle.std.specs.Str.Parse.{digits_value}
 use Rattle.serde_json.specs.Find.{as_str}
-use Rattle.json_fields.specs.Path.{Path}
-use Rattle.json_fields.specs.Reading.{or_itself, optional_at, object_of, number_in}
+use Rattle.json_fields.specs.Reading.{or_itself, object_of, number_in}
 use Rattle.json_texts.proofs.Readers.{Reads, then_ok, any_ok, reads-optional_at, reads-required_at, reads-default_at, reads-number_in, reads-list_at}
 use Rattle.ip_ranges.specs.AddressText.{IsSpelled, IsAddressText, address_of}
-use Rattle.ip_ranges.specs.Values.{AddressValue}
+use Rattle.ip_ranges.specs.Values.{AddressValue, IsOfFamily, width_of}
 use Rattle.ip_ranges.specs.declared.family.Family.{Family}
 use Rattle.ip_ranges.specs.declared.family.Family.TheVariants.{V4, V6}
 use Rattle.ip_ranges.specs.declared.fault.RangeFault.{RangeFault}
@@ -32,7 +34,7 @@ use Rattle.kube_events.specs.L2Fields.{l2_of}
 use Rattle.kube_events.specs.CommunityFields.{named_values_field}
 use Rattle.kube_events.specs.SliceFields.{slice_of}
 use Rattle.kube_events.specs.ObjectFields.{body_of}
-use Rattle.line_events.specs.Numbers.{IsShort, HasRouteNumbers, HasAsn, HasNumbers, ShowsNumbers, LinesShowNumbers}
+use Rattle.line_events.specs.Numbers.{HasRouteNumbers, HasAsn, ShowsNumbers, LinesShowNumbers}
 use Rattle.line_events.proofs.Events.{Makes, HoldsOfOthers, lines_hold}
 
 -- ---- addresses
@@ -44,48 +46,127 @@ dotted-short : (text octets : List ℕ) → IsDotted text octets → from_be_byt
 dotted-short text octets is =
     subst (λ (o : List ℕ). from_be_bytes w32 o < 2 ^ 32) (sym is.value) (four is.a is.b is.c is.d is.fit.0 is.fit.1 is.fit.2 is.fit.3)
 
-spelled-short : (f : Family) (text : List ℕ) (n : ℕ) → IsSpelled f text n → f ≡ V4 → n < 2 ^ 32
-spelled-short V4 text n (octets, dotted, is) e = subst (λ (m : ℕ). m < 2 ^ 32) (sym is) (dotted-short text octets dotted)
-spelled-short V6 text n by e = absurd (cc)
+-- groups of 16 bits
+abbrev Groups : List ℕ → Type 0
+Groups groups = AllByRecursion (λ g. g < 2 ^ 16) groups
+
+few-digits : (k : ℕ) → k ≤ 4 → 16 ^ k ≤ 2 ^ 16
+few-digits zero few = omega arith
+few-digits (suc zero) few = omega arith
+few-digits (suc (suc zero)) few = omega arith
+few-digits (suc (suc (suc zero))) few = omega arith
+few-digits (suc (suc (suc (suc zero)))) few = omega arith
+few-digits (suc (suc (suc (suc (suc k))))) few = absurd (omega (arith, few))
+
+group-fits : (text : List ℕ) (g : ℕ) → IsGroup text g → g < 2 ^ 16
+group-fits text g is =
+    let below : digits_value 16 text < 16 ^ length text = digits_value-lt 16 text is.0.0.1 in
+    let most : 16 ^ length text ≤ 2 ^ 16 = few-digits (length text) is.1 in
+    let value : digits_value 16 text ≡ g = is.0.1 in
+    omega (arith, below, most, value)
+
+dotted-groups : (text octets : List ℕ) → IsDotted text octets → Groups (segments_of octets)
+dotted-groups text octets is =
+    let (a, b, c, d) = is.fit in
+    subst (λ (o : List ℕ). Groups (segments_of o)) (sym is.value) (omega (arith, a, b), (omega (arith, c, d), tt))
+
+groups-fit : (ipv4 : Bool) (lead text groups : List ℕ) → IsGroupsAfter ipv4 lead text groups → Groups groups
+groups-fit ipv4 lead text [] is = tt
+groups-fit ipv4 lead text (g ∷ groups) (inl (first, rest, split, own, more)) = (group-fits first g own, groups-fit ipv4 (codes ":") rest groups more)
+groups-fit ipv4 lead text (g ∷ groups) (inr (last, octets, on, split, dotted, are)) = subst Groups (sym are) (dotted-groups last octets dotted)
+
+append-fits : (a b : List ℕ) → Groups a → Groups b → Groups (a ++ b)
+append-fits [] b x y = y
+append-fits (g ∷ a) b x y = (x.0, append-fits a b x.1 y)
+
+zeros-fit : (n : ℕ) → Groups (replicate n 0)
+zeros-fit zero = tt
+zeros-fit (suc n) = (omega arith, zeros-fit n)
+
+elided-length : (head tail : List ℕ) → length head + length tail < 8 → length (head ++ replicate (8 - length head - length tail) 0 ++ tail) ≡ 8
+elided-length head tail room = grind (arith, length-append, length-replicate)
+
+colon-groups : (text groups : List ℕ) → IsColonHex text groups → Groups groups × (length groups ≡ 8)
+colon-groups text groups (inl (are, eight)) = (groups-fit true [] text groups are, eight)
+colon-groups text groups (inr is) = (
+  subst Groups (sym is.value)
+      (append-fits (is.head ++ replicate (8 - length is.head - length is.tail) 0) is.tail
+      (append-fits is.head (replicate (8 - length is.head - length is.tail) 0) (groups-fit false [] is.head_text is.head is.head_groups) (zeros-fit (8 - length is.head - length is.tail)))
+      (groups-fit true [] is.tail_text is.tail is.tail_groups)),
+  ap length is.value ∙ elided-length is.head is.tail is.room,
+)
+
+high-fits : (g : ℕ) → g < 2 ^ 16 → g / 256 < 256
+high-fits g fits = omega (arith, fits)
+
+low-fits : (g : ℕ) → g % 256 < 256
+low-fits g = omega arith
+
+sixteen : (a b c d e f g h i j k l m n o p : ℕ) → a < 256 → b < 256 → c < 256 → d < 256 → e < 256 → f < 256 → g < 256 → h < 256
+    → i < 256 → j < 256 → k < 256 → l < 256 → m < 256 → n < 256 → o < 256 → p < 256
+    → from_be_bytes w128 (a ∷ b ∷ c ∷ d ∷ e ∷ f ∷ g ∷ h ∷ i ∷ j ∷ k ∷ l ∷ m ∷ n ∷ o ∷ p ∷ []) < 2 ^ 128
+sixteen a b c d e f g h i j k l m n o p ha hb hc hd he hf hg hh hi hj hk hl hm hn ho hp =
+    omega (arith, ha, hb, hc, hd, he, hf, hg, hh, hi, hj, hk, hl, hm, hn, ho, hp)
+
+eight-fit : (groups : List ℕ) → Groups groups → length groups ≡ 8 → from_be_bytes w128 (octets_of groups) < 2 ^ 128
+eight-fit (a ∷ b ∷ c ∷ d ∷ e ∷ f ∷ g ∷ h ∷ []) (ha, (hb, (hc, (hd, (he, (hf, (hg, (hh, end)))))))) eight =
+    sixteen (a / 256) (a % 256) (b / 256) (b % 256) (c / 256) (c % 256) (d / 256) (d % 256) (e / 256) (e % 256) (f / 256) (f % 256) (g / 256) (g % 256) (h / 256) (h % 256)
+    (high-fits a ha) (low-fits a) (high-fits b hb) (low-fits b) (high-fits c hc) (low-fits c) (high-fits d hd) (low-fits d)
+    (high-fits e he) (low-fits e) (high-fits f hf) (low-fits f) (high-fits g hg) (low-fits g) (high-fits h hh) (low-fits h)
+eight-fit (a ∷ b ∷ c ∷ d ∷ e ∷ f ∷ g ∷ h ∷ i ∷ more) fit eight = absurd (omega (arith, eight))
+eight-fit (a ∷ b ∷ c ∷ d ∷ e ∷ f ∷ g ∷ []) fit eight = absurd (omega (arith, eight))
+eight-fit (a ∷ b ∷ c ∷ d ∷ e ∷ f ∷ []) fit eight = absurd (omega (arith, eight))
+eight-fit (a ∷ b ∷ c ∷ d ∷ e ∷ []) fit eight = absurd (omega (arith, eight))
+eight-fit (a ∷ b ∷ c ∷ d ∷ []) fit eight = absurd (omega (arith, eight))
+eight-fit (a ∷ b ∷ c ∷ []) fit eight = absurd (omega (arith, eight))
+eight-fit (a ∷ b ∷ []) fit eight = absurd (omega (arith, eight))
+eight-fit (a ∷ []) fit eight = absurd (omega (arith, eight))
+eight-fit [] fit eight = absurd (omega (arith, eight))
+
+spelled-fits : (f : Family) (text : List ℕ) (n : ℕ) → IsSpelled f text n → n < 2 ^ width_of f
+spelled-fits V4 text n (octets, dotted, is) = subst (λ (m : ℕ). m < 2 ^ 32) (sym is) (dotted-short text octets dotted)
+spelled-fits V6 text n (groups, colons, is) =
+    let (fit, eight) = colon-groups text groups colons in
+    subst (λ (m : ℕ). m < 2 ^ 128) (sym is) (eight-fit groups fit eight)
 
 -- the address of a text
-pub text-short : (text : List ℕ) (a : AddressValue) → IsAddressText text a → IsShort a
-text-short text a is = spelled-short a.family text a.number is
+pub text-fits : (text : List ℕ) (a : AddressValue) → IsAddressText text a → IsOfFamily a
+text-fits text a is = spelled-fits a.family text a.number is
 
-result-short : (text : List ℕ) (r : Result AddressValue RangeFault) → address_of text ≡ r → IfSome (result_ok r) IsShort
-result-short text (Ok a) e = text-short text a ((address_of-ok text a).0 e).0
-result-short text (Err fault) e = tt
+result-fits : (text : List ℕ) (r : Result AddressValue RangeFault) → address_of text ≡ r → IfSome (result_ok r) IsOfFamily
+result-fits text (Ok a) e = text-fits text a ((address_of-ok text a).0 e).0
+result-fits text (Err fault) e = tt
 
-named-short : (o : Option (List ℕ)) → IfSome (option_and_then (λ text. result_ok (address_of text)) o) IsShort
-named-short None = tt
-named-short (Some text) = result-short text (address_of text) refl
+named-fits : (o : Option (List ℕ)) → IfSome (option_and_then (λ text. result_ok (address_of text)) o) IsOfFamily
+named-fits None = tt
+named-fits (Some text) = result-fits text (address_of text) refl
 
-itself-short : (o : Option AddressValue) → IfSome o IsShort → IfOk (or_itself o) IsShort
-itself-short (Some a) h = h
-itself-short None h = tt
+itself-fits : (o : Option AddressValue) → IfSome o IsOfFamily → IfOk (or_itself o) IsOfFamily
+itself-fits (Some a) h = h
+itself-fits None h = tt
 
-reads-address_in : Reads IsShort address_in
+reads-address_in : Reads IsOfFamily address_in
 unfolding address_in
-reads-address_in d h = itself-short (option_and_then (λ text. result_ok (address_of text)) (as_str d)) (named-short (as_str d))
+reads-address_in d h = itself-fits (option_and_then (λ text. result_ok (address_of text)) (as_str d)) (named-fits (as_str d))
 
-abbrev PlaceShort : Option AddressValue → Type 0
-PlaceShort place = IfSome place IsShort
+abbrev PlaceFits : Option AddressValue → Type 0
+PlaceFits place = IfSome place IsOfFamily
 
-reads-ingress_of : Reads PlaceShort ingress_of
+reads-ingress_of : Reads PlaceFits ingress_of
 unfolding ingress_of
 reads-ingress_of d h =
-    then_ok (λ _. ⊤) PlaceShort (object_of d) _ (any_ok (object_of d)) (λ members _. reads-optional_at IsShort address_in (codes "ip") reads-address_in d h)
+    then_ok (λ _. ⊤) PlaceFits (object_of d) _ (any_ok (object_of d)) (λ members _. reads-optional_at IsOfFamily address_in (codes "ip") reads-address_in d h)
 
-all-there : (places : List (Option AddressValue)) → AllByRecursion PlaceShort places → AllByRecursion IsShort (addresses_in places)
+all-there : (places : List (Option AddressValue)) → AllByRecursion PlaceFits places → AllByRecursion IsOfFamily (addresses_in places)
 all-there [] all = tt
 all-there (None ∷ places) all = all-there places all.1
 all-there (Some a ∷ places) all = (all.0, all-there places all.1)
 
 -- ---- objects
 
--- each service of a key and labels has short addresses
+-- the addresses of each service of a key and labels fit their families
 abbrev MakesAddresses : (Key → Pairs → Service) → Type 0
-MakesAddresses make = (key : Key) (labels : Pairs) → AllByRecursion IsShort (make key labels).holding.addresses
+MakesAddresses make = (key : Key) (labels : Pairs) → AllByRecursion IsOfFamily (make key labels).holding.addresses
 
 reads-service_of : Reads MakesAddresses service_of
 unfolding service_of
@@ -99,7 +180,7 @@ reads-service_of d h =
     then_ok (λ _. ⊤) MakesAddresses (policy_field d) _ (any_ok (policy_field d)) (λ policy _.
     then_ok (λ _. ⊤) MakesAddresses (selector_field d) _ (any_ok (selector_field d)) (λ selector _.
     then_ok (λ _. ⊤) MakesAddresses (ports_field d) _ (any_ok (ports_field d)) (λ ports _.
-    then_ok (AllByRecursion PlaceShort) MakesAddresses (places_field d) _ (reads-list_at PlaceShort ingress_of (codes "status.loadBalancer.ingress") reads-ingress_of d h)
+    then_ok (AllByRecursion PlaceFits) MakesAddresses (places_field d) _ (reads-list_at PlaceFits ingress_of (codes "status.loadBalancer.ingress") reads-ingress_of d h)
     (λ places all key labels. all-there places all))))))))))
 
 abbrev MakesRoutes : (Key → BgpAdv) → Type 0
@@ -112,14 +193,14 @@ reads-bgp_of : Reads MakesRoutes bgp_of
 unfolding bgp_of
 reads-bgp_of d h =
     then_ok (Within 1 32) MakesRoutes (length_field d) _ (reads-default_at (Within 1 32) (number_in 1 32) (codes "spec.aggregationLength") 32 (omega arith, omega arith) (reads-number_in 1 32) d h) (λ length short.
-    then_ok (λ _. ⊤) MakesRoutes (length_v6_field d) _ (any_ok (length_v6_field d)) (λ length_v6 _.
+    then_ok (Within 0 128) MakesRoutes (length_v6_field d) _ (reads-default_at (Within 0 128) (number_in 0 128) (codes "spec.aggregationLengthV6") 128 (omega arith, omega arith) (reads-number_in 0 128) d h) (λ length_v6 short_v6.
     then_ok (Within 0 4294967295) MakesRoutes (local_pref_field d) _ (reads-default_at (Within 0 4294967295) (number_in 0 4294967295) (codes "spec.localPref") 0 (omega arith, omega arith) (reads-number_in 0 4294967295) d h) (λ local_pref small.
     then_ok (λ _. ⊤) MakesRoutes (communities_field d) _ (any_ok (communities_field d)) (λ communities _.
     then_ok (λ _. ⊤) MakesRoutes (pools_field d) _ (any_ok (pools_field d)) (λ pools _.
     then_ok (λ _. ⊤) MakesRoutes (pool_selectors_field d) _ (any_ok (pool_selectors_field d)) (λ pool_selectors _.
     then_ok (λ _. ⊤) MakesRoutes (node_selectors_field d) _ (any_ok (node_selectors_field d)) (λ node_selectors _.
     then_ok (λ _. ⊤) MakesRoutes (peers_field d) _ (any_ok (peers_field d)) (λ peers _ key.
-    let top : local_pref ≤ 4294967295 = small.1 in (short.1, omega (arith, top))))))))))
+    let top : local_pref ≤ 4294967295 = small.1 in record { length = short.1; length_v6 = short_v6.1; local_pref = omega (arith, top) }))))))))
 
 abbrev MakesAsn : (Key → BgpPeer) → Type 0
 MakesAsn make = (key : Key) → HasAsn (make key)

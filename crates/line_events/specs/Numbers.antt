@@ -1,8 +1,7 @@
 -- The numbers that routes are made of, in the objects that lines show.
 use Rattle.std.specs.Prelude.{◌≡◌, ◌≤◌, ◌<◌, ◌^◌, ℕ, List, Ok, ⊤}
 use Rattle.std.specs.List.{AllByRecursion}
-use Rattle.ip_ranges.specs.Values.{AddressValue}
-use Rattle.ip_ranges.specs.declared.family.Family.TheVariants.{V4}
+use Rattle.ip_ranges.specs.Values.{IsOfFamily}
 use Rattle.kube_model.specs.declared.bgp.BgpAdv.{BgpAdv}
 use Rattle.kube_model.specs.declared.peer.BgpPeer.{BgpPeer}
 use Rattle.kube_model.specs.declared.event.Event.{Event}
@@ -11,21 +10,19 @@ use Rattle.kube_model.specs.declared.object.Object.{Object}
 use Rattle.kube_model.specs.declared.object.Object.TheVariants as objects
 use Rattle.kube_events.specs.Event.{event_of_line}
 
--- an IPv4 address has 32 bits
-abbrev pub IsShort : AddressValue → Type 0
-IsShort a = a.family ≡ V4 → a.number < 2 ^ 32
-
--- `spec.aggregationLength` is at most 32, and `spec.localPref` has 32 bits
-abbrev pub HasRouteNumbers : BgpAdv → Type 0
-HasRouteNumbers adv = (adv.length ≤ 32) × (adv.local_pref < 2 ^ 32)
+-- `spec.aggregationLength` is at most 32, `spec.aggregationLengthV6` at most 128, and `spec.localPref` has 32 bits
+pub record HasRouteNumbers (adv : BgpAdv) : Type 0 where
+  pub length : adv.length ≤ 32
+  pub length_v6 : adv.length_v6 ≤ 128
+  pub local_pref : adv.local_pref < 2 ^ 32
 
 -- `spec.myASN` has 32 bits
 abbrev pub HasAsn : BgpPeer → Type 0
 HasAsn peer = peer.my_asn < 2 ^ 32
 
--- the same of an object of any kind
+-- the recorded addresses of a service fit their families, and so it is of an object of any kind
 abbrev pub HasNumbers : Object → Type 0
-HasNumbers (objects.Service service) = AllByRecursion IsShort service.holding.addresses
+HasNumbers (objects.Service service) = AllByRecursion IsOfFamily service.holding.addresses
 HasNumbers (objects.Bgp adv) = HasRouteNumbers adv
 HasNumbers (objects.Peer peer) = HasAsn peer
 HasNumbers (objects.Pool pool) = ⊤

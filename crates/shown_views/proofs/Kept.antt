@@ -8,7 +8,8 @@ use Rattle.std.specs.Map.{keys_of, remove_entry}
 use Rattle.std.specs.BTreeMap.{insert_entry, is_at}
 use Rattle.std.proofs.lemmas.Bool.{cond_both}
 use Rattle.std.proofs.lemmas.Cmp.{nat_cmp_total}
-use Rattle.std.proofs.lemmas.Map.Lookups.{exact_unsigned}
+use Rattle.std.proofs.lemmas.Map.Lookups.{CmpEqualImpliesEq, exact_unsigned}
+use Rattle.std.specs.Cmp.{IsTotalOrder}
 use Rattle.kube_labels.specs.Names.{name_cmp}
 use Rattle.kube_labels.proofs.NameLaws.{name_cmp-total}
 use Rattle.kube_model.specs.declared.bgp.BgpAdv.{BgpAdv}
@@ -21,7 +22,8 @@ use Rattle.kube_model.specs.declared.object.Object.TheVariants as objects
 use Rattle.kube_model.specs.declared.service.Service.{Service}
 use Rattle.line_events.specs.Numbers.{HasNumbers, ShowsNumbers, HasRouteNumbers, HasAsn}
 use Rattle.line_events.proofs.Shown.{lines_show_numbers}
-use Rattle.mlb_base.specs.Items.{IsIn}
+use Rattle.bgp_reading.specs.Update.{IsLarge}
+use Rattle.large_numbers.specs.declared.numbers.LargeCommunity.{LargeCommunity}
 use Rattle.versioned_map.specs.declared.map.Versioned.{Versioned}
 use Rattle.versioned_map.specs.Entries.{shown, version_at, expired, listed, is_listed}
 use Rattle.pool_config.specs.Compile.{compiled}
@@ -30,12 +32,15 @@ use Rattle.pool_config.specs.declared.compiled.CompiledBgp.{CompiledBgp}
 use Rattle.pool_config.specs.declared.compiled.CompiledPeer.{CompiledPeer}
 use Rattle.pool_config.specs.declared.object_set.ObjectSet.{ObjectSet}
 use Rattle.pool_config.specs.KeySets.{keys_with}
-use Rattle.pool_config.specs.Lists.{named_value, number_in, numbers_in, compiled_bgp, compiled_peer, lists_of}
+use Rattle.pool_config.specs.Large.{IsLargeText, large_of}
+use Rattle.pool_config.specs.Lists.{named_value, number_in, large_in, compiled_bgp, compiled_peer, lists_of}
 use Rattle.pool_config.specs.Numbers.{has_colon, number_of, IsNumberText}
 use Rattle.pool_config.specs.Objects.{named, objects_of as objects_in}
+use Rattle.pool_config.proofs.CommunitySets.{large_cmp-exact, large_cmp-total}
 use Rattle.pool_config.proofs.FirstFault.{accepted_is}
 use Rattle.pool_config.proofs.ItemLaws.{in_list, in_filter_map}
 use Rattle.pool_config.proofs.KeySets.{in_keys}
+use Rattle.pool_config.proofs.LargeTexts.{large_texts_are_read}
 use Rattle.pool_config.proofs.NumberTexts.{numbers_are_read}
 use Rattle.object_history.specs.Cache.{held_after_event, shown_in, deleted_in, compiles, in_force, objects_after}
 use Rattle.object_history.specs.Kinds.{Resource, service_resource, bgp_resource, peer_resource, show_service, show_bgp, show_peer}
@@ -46,7 +51,7 @@ use Rattle.speaker_view.specs.ViewValue.{ViewValue}
 use Rattle.speaker_view.specs.View.{fresh, view_after, view_of}
 use Rattle.bgp_routes.proofs.Few.{all-from, each-of}
 use Rattle.shown_views.proofs.InForce.{kept-force}
-use Rattle.shown_views.specs.Numbered.{HasShortAddresses, HasCompiledNumbers, HasCompiledAsn, IsNumberedConfig, IsNumbered, IsRead, ShownViewsAreNumbered}
+use Rattle.shown_views.specs.Numbered.{HasFittingAddresses, HasCompiledNumbers, HasCompiledAsn, IsNumberedConfig, IsNumbered, IsRead, ShownViewsAreNumbered}
 
 -- ---- what is held of a kind
 
@@ -109,7 +114,7 @@ module _ {K T : Type 0} (P : T → Type 0) where
 
 -- ---- what events show of three kinds
 
-object-service : (object : Object) → HasNumbers object → IfSome (show_service object) (λ q. HasShortAddresses q.1)
+object-service : (object : Object) → HasNumbers object → IfSome (show_service object) (λ q. HasFittingAddresses q.1)
 object-service (objects.Service service) h = h
 object-service (objects.Pool pool) h = tt
 object-service (objects.L2 adv) h = tt
@@ -171,22 +176,42 @@ module _ (communities : List (List ℕ × CommunityList)) where
     by_colon true f = read-small text n f
     by_colon false f = value-small (named_value communities text) n f
 
-  small-among : (texts : List (List ℕ)) (n : ℕ) → IsIn (numbers_in communities texts) n → n < 2 ^ 32
-  small-among texts n there = elim (in_keys nat_cmp_total exact_unsigned [] (filter_map (number_in communities) texts) n there) [
+  -- what is read of one of the texts holds of each that is listed
+  among-all : {K : Type 0} {R : K → K → Ordering} (o : IsTotalOrder R) (exact : CmpEqualImpliesEq R) (P : K → Type 0) (read : List ℕ → Option K)
+      → ((text : List ℕ) (k : K) → read text ≡ Some k → P k) → (texts : List (List ℕ)) → AllByRecursion P (keys_with R [] (filter_map read texts))
+  among-all {K} {R} o exact P read each texts = all-from P (keys_with R [] (filter_map read texts)) (λ k there. elim (in_keys o exact [] (filter_map read texts) k there) [
     | inl none ↦ absurd none
     | inr among ↦
-        let (i, text, at, e) = in_list (λ x. number_in communities x ≡ Some n) texts (in_filter_map (number_in communities) texts n among) in
-        number-small text n e
-  ]
+        let (i, text, at, e) = in_list (λ x. read x ≡ Some k) texts (in_filter_map read texts k among) in
+        each text k e
+  ])
+
+  large-by : (text : List ℕ) (c : LargeCommunity) → IsLargeText text c → IsLarge c
+  large-by text c is = record { global = is.global; first = is.first; second = is.second }
+
+  large-read : (text : List ℕ) (c : LargeCommunity) → large_of text ≡ Some c → IsLarge c
+  large-read text c e = large-by text c ((large_texts_are_read text c).0 e)
+
+  named-large : (value : Option (List ℕ)) (c : LargeCommunity) → option_and_then large_of value ≡ Some c → IsLarge c
+  named-large None c e = absurd (cc)
+  named-large (Some text) c e = large-read text c e
+
+  large-fits : (text : List ℕ) (c : LargeCommunity) → large_in communities text ≡ Some c → IsLarge c
+  large-fits text c e = by_colon (has_colon text) e where
+    by_colon : (b : Bool) → cond b (large_of text) (option_and_then large_of (named_value communities text)) ≡ Some c → IsLarge c
+    by_colon true f = large-read text c f
+    by_colon false f = named-large (named_value communities text) c f
 
   compiled-numbers : (entries : List (List ℕ × Versioned BgpAdv)) → AllByRecursion HasRouteNumbers (objects_of entries)
       → AllByRecursion HasCompiledNumbers (map (compiled_bgp communities) (named entries))
   compiled-numbers [] all = tt
   compiled-numbers (e ∷ entries) all = (
     record {
-      length = all.0.0;
-      local_pref = all.0.1;
-      communities = all-from (λ n. n < 2 ^ 32) (numbers_in communities e.1.object.communities) (small-among e.1.object.communities);
+      length = all.0.length;
+      length_v6 = all.0.length_v6;
+      local_pref = all.0.local_pref;
+      communities = among-all nat_cmp_total exact_unsigned (λ n. n < 2 ^ 32) (number_in communities) number-small e.1.object.communities;
+      large = among-all large_cmp-total large_cmp-exact IsLarge (large_in communities) large-fits e.1.object.communities;
     },
     compiled-numbers entries all.1,
   )
@@ -225,7 +250,7 @@ after-numbered event v shows is =
     let peers : AllByRecursion HasAsn (objects_of after.peers) = all-held_after HasAsn peer_resource event v.held.objects.peers (shows-by HasAsn peer_resource object-peer event shows) is.peers in
     let names : IsStrictlySortedBy name_cmp (keys_of after.peers) = ascending-held_after peer_resource name_cmp-total (Watched event) v.held.objects.peers is.names in
     record {
-      services = all-held_after HasShortAddresses service_resource event v.held.services (shows-by HasShortAddresses service_resource object-service event shows) is.services;
+      services = all-held_after HasFittingAddresses service_resource event v.held.services (shows-by HasFittingAddresses service_resource object-service event shows) is.services;
       advertisements = bgps;
       peers = peers;
       names = names;

@@ -7,8 +7,8 @@ pub fn shown_views_are_numbered()
     ensures { ShownViewsAreNumbered }
 {}
 
-/// By such a view, whose configuration keeps the limit on communities, the routes of a peer can be told in messages that are read as
-/// what they say.
+/// By such a view, whose configuration keeps the limits on communities, the routes of a peer, of IPv4 alone or of both families, can be told
+/// in messages that are read as what they say.
 pub fn routes_can_be_told()
     ensures { RoutesCanBeTold }
 {}

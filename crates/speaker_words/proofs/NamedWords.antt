@@ -6,37 +6,47 @@ use Rattle.std.specs.Option.{option_map, option_to_list}
 use Rattle.command_options.specs.Options.{CommandOption}
 use Rattle.command_options.specs.Values.{values_of, once, text_of, taken_in}
 use Rattle.command_options.specs.Lanes.{LaneNames, LanesGiven, lanes_of}
-use Rattle.command_options.proofs.Values.{through, zip-each, once-read, read-once, once-text, text-once}
+use Rattle.command_options.proofs.Values.{folded, through, zip-each, once-read, read-once, once-text, text-once}
 use Rattle.command_options.proofs.NamedLanes.{given_lanes, given-lanes, named-give, give-named, named-lanes}
 use Rattle.command_options.proofs.Tables.{Keeps, Table, Part, words-give, give-words, named-or, named-last, part-of-part}
+use Rattle.ip_ranges.specs.declared.family.Family.{Family}
 use Rattle.ip_ranges.specs.declared.family.Family.TheVariants.{V4, V6}
 use Rattle.ip_ranges.specs.declared.fault.RangeFault.{RangeFault}
-use Rattle.ip_ranges.specs.Values.{AddressValue, IsMapped, same_family}
+use Rattle.ip_ranges.specs.Values.{AddressValue, same_family}
 use Rattle.ip_ranges.specs.AddressText.{address_of}
-use Rattle.ip_ranges.proofs.AddressLaws.{same_family-is}
+use Rattle.ip_ranges.proofs.AddressLaws.{same_family-is, same_family-itself}
 use Rattle.ip_ranges.proofs.SpelledLemmas.{address_of-ok}
 use Rattle.speaker_words.specs.Interface.{InterfaceValue}
-use Rattle.speaker_words.specs.Words.{Said, Say, IsKnown, IsNextHop, node_option, class_option, interface_option, next_hop_option, watch_option, frame_option}
-use Rattle.speaker_words.specs.Reading.{Given, nothing_given, one_more, only_v4, next_hop_of, with_lanes, with_option, said_by, finished, said_in}
+use Rattle.speaker_words.specs.Words.{Said, Say, IsKnown, IsNextHop, node_option, class_option, interface_option, next_hop_option, next_hop_v6_option, watch_option, frame_option}
+use Rattle.speaker_words.specs.Reading.{Given, nothing_given, one_more, only_of, next_hop_of, hops_stand, with_lanes, with_option, said_by, finished, said_in}
 use Rattle.speaker_words.proofs.Folded.{fold-adds, adds-fold}
 
--- ---- the next hop
-read-hop : (text : List ℕ) (a : AddressValue) → next_hop_of text ≡ Some a → IsNextHop text a
-read-hop text a e = by (address_of text) refl e where
-  by : (r : Result AddressValue RangeFault) → address_of text ≡ r → only_v4 r ≡ Some a → IsNextHop text a
+-- ---- the next hops
+read-hop : (family : Family) (text : List ℕ) (a : AddressValue) → next_hop_of family text ≡ Some a → IsNextHop family text a
+read-hop family text a e = by (address_of text) refl e where
+  by : (r : Result AddressValue RangeFault) → address_of text ≡ r → only_of family r ≡ Some a → IsNextHop family text a
   by (Err fault) t f = absurd (cc)
-  by (Ok b) t f = of (same_family b.family V4) refl f where
-    of : (four : Bool) → same_family b.family V4 ≡ four → cond four (Some b) None ≡ Some a → IsNextHop text a
+  by (Ok b) t f = of (same_family b.family family) refl f where
+    of : (is : Bool) → same_family b.family family ≡ is → cond is (Some b) None ≡ Some a → IsNextHop family text a
     of false u g = absurd (cc)
     of true u g =
         let same : b ≡ a = cc in
-        subst (IsNextHop text) same (same_family-is b.family V4 u, ((address_of-ok text b).0 t).0)
+        let (written, unmapped) = (address_of-ok text b).0 t in
+        subst (IsNextHop family text) same (record { is = same_family-is b.family family u; written = written; unmapped = unmapped })
 
-hop-read : (text : List ℕ) (a : AddressValue) → IsNextHop text a → next_hop_of text ≡ Some a
-hop-read text a is =
-    let free : ¬ (IsMapped a) = λ mapped. let same : V4 ≡ V6 = sym is.0 ∙ mapped.0 in absurd (cc) in
-    let read : address_of text ≡ Ok a = (address_of-ok text a).1 (is.1, free) in
-    ap only_v4 read ∙ rw (is.0) refl
+hop-read : (family : Family) (text : List ℕ) (a : AddressValue) → IsNextHop family text a → next_hop_of family text ≡ Some a
+hop-read family text a is =
+    let read : address_of text ≡ Ok a = (address_of-ok text a).1 (is.written, is.unmapped) in
+    let same : same_family a.family family ≡ true = rw (is.is) (same_family-itself family) in
+    ap (only_of family) read ∙ rw same refl
+
+read-hops : (family : Family) (values : List (List ℕ)) (hop : Option AddressValue) → folded (once (next_hop_of family)) values None ≡ Some hop
+    → AllZip (IsNextHop family) values (option_to_list hop)
+read-hops family values hop e = zip-each (read-hop family) values (option_to_list hop) (once-read (next_hop_of family) values hop e)
+
+hops-read : (family : Family) (values : List (List ℕ)) (hop : Option AddressValue) → AllZip (IsNextHop family) values (option_to_list hop)
+    → folded (once (next_hop_of family)) values None ≡ Some hop
+hops-read family values hop zip = read-once (next_hop_of family) values hop (zip-each (hop-read family) values (option_to_list hop) zip)
 
 -- ---- the table of the options
 data Named : Type 0 where
@@ -44,15 +54,17 @@ data Named : Type 0 where
   Class : Named
   Interfaces : Named
   NextHop : Named
+  NextHopV6 : Named
   Watch : Named
   Frame : Named
 
 abbrev named : List Named
-named = Node ∷ Class ∷ Interfaces ∷ NextHop ∷ Watch ∷ Frame ∷ []
+named = Node ∷ Class ∷ Interfaces ∷ NextHop ∷ NextHopV6 ∷ Watch ∷ Frame ∷ []
 
 abbrev Value : Named → Type 0
 Value Interfaces = List InterfaceValue
 Value NextHop = Option AddressValue
+Value NextHopV6 = Option AddressValue
 Value Node = Option (List ℕ)
 Value Class = Option (List ℕ)
 Value Watch = Option (List ℕ)
@@ -63,6 +75,7 @@ name Node = node_option
 name Class = class_option
 name Interfaces = interface_option
 name NextHop = next_hop_option
+name NextHopV6 = next_hop_v6_option
 name Watch = watch_option
 name Frame = frame_option
 
@@ -71,14 +84,16 @@ part Node g = g.node
 part Class g = g.class
 part Interfaces g = g.interfaces
 part NextHop g = g.next_hop
+part NextHopV6 g = g.next_hop_v6
 part Watch g = g.lanes.first
 part Frame g = g.lanes.second
 
 abbrev with_part : (i : Named) → Value i → Given → Given
-with_part Node node g = record { node = node; class = g.class; interfaces = g.interfaces; next_hop = g.next_hop; lanes = g.lanes }
-with_part Class class g = record { node = g.node; class = class; interfaces = g.interfaces; next_hop = g.next_hop; lanes = g.lanes }
-with_part Interfaces interfaces g = record { node = g.node; class = g.class; interfaces = interfaces; next_hop = g.next_hop; lanes = g.lanes }
-with_part NextHop hop g = record { node = g.node; class = g.class; interfaces = g.interfaces; next_hop = hop; lanes = g.lanes }
+with_part Node node g = record { node = node; class = g.class; interfaces = g.interfaces; next_hop = g.next_hop; next_hop_v6 = g.next_hop_v6; lanes = g.lanes }
+with_part Class class g = record { node = g.node; class = class; interfaces = g.interfaces; next_hop = g.next_hop; next_hop_v6 = g.next_hop_v6; lanes = g.lanes }
+with_part Interfaces interfaces g = record { node = g.node; class = g.class; interfaces = interfaces; next_hop = g.next_hop; next_hop_v6 = g.next_hop_v6; lanes = g.lanes }
+with_part NextHop hop g = record { node = g.node; class = g.class; interfaces = g.interfaces; next_hop = hop; next_hop_v6 = g.next_hop_v6; lanes = g.lanes }
+with_part NextHopV6 hop g = record { node = g.node; class = g.class; interfaces = g.interfaces; next_hop = g.next_hop; next_hop_v6 = hop; lanes = g.lanes }
 with_part Watch file g = with_lanes (record { first = file; second = g.lanes.second }) g
 with_part Frame file g = with_lanes (record { first = g.lanes.first; second = file }) g
 
@@ -86,7 +101,8 @@ abbrev take : (i : Named) → List ℕ → Value i → Option (Value i)
 take Node = once text_of
 take Class = once text_of
 take Interfaces = one_more
-take NextHop = once next_hop_of
+take NextHop = once (next_hop_of V4)
+take NextHopV6 = once (next_hop_of V6)
 take Watch = once text_of
 take Frame = once text_of
 
@@ -95,14 +111,16 @@ at Node P ps = ps.0
 at Class P ps = ps.1.0
 at Interfaces P ps = ps.1.1.0
 at NextHop P ps = ps.1.1.1.0
-at Watch P ps = ps.1.1.1.1.0
-at Frame P ps = ps.1.1.1.1.1.0
+at NextHopV6 P ps = ps.1.1.1.1.0
+at Watch P ps = ps.1.1.1.1.1.0
+at Frame P ps = ps.1.1.1.1.1.1.0
 
 taken : (i : Named) (value : List ℕ) (g : Given) → with_option (name i) value g ≡ option_map (λ a. with_part i a g) (take i value (part i g))
 taken Node value g = refl
 taken Class value g = refl
 taken Interfaces value g = refl
 taken NextHop value g = refl
+taken NextHopV6 value g = refl
 taken Watch value g = part-of-part (λ lanes. with_lanes lanes g) (λ file. record { first = file; second = g.lanes.second }) (once text_of value g.lanes.first)
 taken Frame value g = part-of-part (λ lanes. with_lanes lanes g) (λ file. record { first = g.lanes.first; second = file }) (once text_of value g.lanes.second)
 
@@ -111,38 +129,43 @@ is o g h =
     named-or o.name node_option _ _ h
     (named-or o.name class_option _ _ h
     (named-or o.name interface_option _ _ h
-    (named-or o.name next_hop_option _ _ h (named-or o.name watch_option _ _ h (named-last o.name frame_option _ h)))))
+    (named-or o.name next_hop_option _ _ h
+    (named-or o.name next_hop_v6_option _ _ h (named-or o.name watch_option _ _ h (named-last o.name frame_option _ h))))))
 
 which : (o : CommandOption) → IsKnown o → (i : Named) × (o.name ≡ name i)
 which o (inl is) = (Node, is)
 which o (inr (inl is)) = (Class, is)
 which o (inr (inr (inl is))) = (Interfaces, is)
 which o (inr (inr (inr (inl is)))) = (NextHop, is)
-which o (inr (inr (inr (inr (inl is))))) = (Watch, is)
-which o (inr (inr (inr (inr (inr is))))) = (Frame, is)
+which o (inr (inr (inr (inr (inl is))))) = (NextHopV6, is)
+which o (inr (inr (inr (inr (inr (inl is)))))) = (Watch, is)
+which o (inr (inr (inr (inr (inr (inr is)))))) = (Frame, is)
 
 own : (i : Named) (a : Value i) (g : Given) → part i (with_part i a g) ≡ a
 own Node a g = refl
 own Class a g = refl
 own Interfaces a g = refl
 own NextHop a g = refl
+own NextHopV6 a g = refl
 own Watch a g = refl
 own Frame a g = refl
 
 others : (i : Named) (a : Value i) (g : Given) → AllByRecursion (Keeps IsKnown with_option named name part with_part take i a g) named
-others Node a g = (inl refl, (inr (refl, refl), (inr (refl, refl), (inr (refl, refl), (inr (refl, refl), (inr (refl, refl), (tt)))))))
-others Class a g = (inr (refl, refl), (inl refl, (inr (refl, refl), (inr (refl, refl), (inr (refl, refl), (inr (refl, refl), (tt)))))))
-others Interfaces a g = (inr (refl, refl), (inr (refl, refl), (inl refl, (inr (refl, refl), (inr (refl, refl), (inr (refl, refl), (tt)))))))
-others NextHop a g = (inr (refl, refl), (inr (refl, refl), (inr (refl, refl), (inl refl, (inr (refl, refl), (inr (refl, refl), (tt)))))))
-others Watch a g = (inr (refl, refl), (inr (refl, refl), (inr (refl, refl), (inr (refl, refl), (inl refl, (inr (refl, refl), (tt)))))))
-others Frame a g = (inr (refl, refl), (inr (refl, refl), (inr (refl, refl), (inr (refl, refl), (inr (refl, refl), (inl refl, (tt)))))))
+others Node a g = (inl refl, (inr (refl, refl), (inr (refl, refl), (inr (refl, refl), (inr (refl, refl), (inr (refl, refl), (inr (refl, refl), tt)))))))
+others Class a g = (inr (refl, refl), (inl refl, (inr (refl, refl), (inr (refl, refl), (inr (refl, refl), (inr (refl, refl), (inr (refl, refl), tt)))))))
+others Interfaces a g = (inr (refl, refl), (inr (refl, refl), (inl refl, (inr (refl, refl), (inr (refl, refl), (inr (refl, refl), (inr (refl, refl), tt)))))))
+others NextHop a g = (inr (refl, refl), (inr (refl, refl), (inr (refl, refl), (inl refl, (inr (refl, refl), (inr (refl, refl), (inr (refl, refl), tt)))))))
+others NextHopV6 a g = (inr (refl, refl), (inr (refl, refl), (inr (refl, refl), (inr (refl, refl), (inl refl, (inr (refl, refl), (inr (refl, refl), tt)))))))
+others Watch a g = (inr (refl, refl), (inr (refl, refl), (inr (refl, refl), (inr (refl, refl), (inr (refl, refl), (inl refl, (inr (refl, refl), tt)))))))
+others Frame a g = (inr (refl, refl), (inr (refl, refl), (inr (refl, refl), (inr (refl, refl), (inr (refl, refl), (inr (refl, refl), (inl refl, tt)))))))
 
 same : (g h : Given) → ((i : Named) → part i g ≡ part i h) → g ≡ h
 same g h is =
     ap (λ (x : Option (List ℕ)). with_part Node x g) (is Node)
     ∙ ap (λ (x : Option (List ℕ)). with_part Node h.node (with_part Class x g)) (is Class)
     ∙ ap (λ (x : List InterfaceValue). with_part Node h.node (with_part Class h.class (with_part Interfaces x g))) (is Interfaces)
-    ∙ ap (λ (x : Option AddressValue). with_part NextHop x (with_lanes g.lanes h)) (is NextHop)
+    ∙ ap (λ (x : Option AddressValue). with_part NextHop x (with_part NextHopV6 g.next_hop_v6 (with_lanes g.lanes h))) (is NextHop)
+    ∙ ap (λ (x : Option AddressValue). with_part NextHopV6 x (with_lanes g.lanes h)) (is NextHopV6)
     ∙ ap (λ (x : Option (List ℕ)). with_lanes (record { first = x; second = g.lanes.second }) h) (is Watch)
     ∙ ap (λ (x : Option (List ℕ)). with_lanes (record { first = h.lanes.first; second = x }) h) (is Frame)
 
@@ -155,7 +178,23 @@ Stands options h i = Part IsKnown with_option named name part with_part take opt
 
 -- ---- words
 abbrev given : Said → Given
-given said = record { node = Some said.node; class = said.class; interfaces = said.interfaces; next_hop = said.next_hop; lanes = given_lanes said.lanes }
+given said = record {
+  node = Some said.node;
+  class = said.class;
+  interfaces = said.interfaces;
+  next_hop = said.next_hop;
+  next_hop_v6 = said.next_hop_v6;
+  lanes = given_lanes said.lanes;
+}
+
+-- ---- the hops stand together
+stand-by : (hop v6 : Option AddressValue) → (hop ≡ None → v6 ≡ None) → hops_stand hop v6 ≡ true
+stand-by (Some hop) v6 beside = refl
+stand-by None v6 beside = let none : v6 ≡ None = beside refl in rw none refl
+
+by-stand : (hop v6 : Option AddressValue) → hops_stand hop v6 ≡ true → hop ≡ None → v6 ≡ None
+by-stand hop None e none = refl
+by-stand hop (Some v6) e none = let not : false ≡ true = rw none at e in absurd (cc)
 
 pub say-read : (words : List (List ℕ)) (said : Said) → Say words said → said_in words ≡ Some said
 say-read words said say =
@@ -166,12 +205,15 @@ say-read words said say =
         | Node ↦ text-once (values_of node_option say.options) (Some said.node) say.node
         | Class ↦ text-once (values_of class_option say.options) said.class say.class
         | Interfaces ↦ adds-fold (values_of interface_option say.options) [] said.interfaces say.interfaces (say.few, say.apart)
-        | NextHop ↦ read-once next_hop_of (values_of next_hop_option say.options) said.next_hop (zip-each hop-read (values_of next_hop_option say.options) (option_to_list said.next_hop) say.next_hop)
+        | NextHop ↦ hops-read V4 (values_of next_hop_option say.options) said.next_hop say.next_hop
+        | NextHopV6 ↦ hops-read V6 (values_of next_hop_v6_option say.options) said.next_hop_v6 say.next_hop_v6
         | Watch ↦ watch
         | Frame ↦ frame
       ];
     }) in
+    let stand : hops_stand said.next_hop said.next_hop_v6 ≡ true = stand-by said.next_hop said.next_hop_v6 say.beside in
     ap (option_and_then finished) gave
+    ∙ rw stand refl
     ∙ ap (option_map (said_by (given said) said.node)) (named-lanes watch_option frame_option say.options said.lanes say.lanes)
 
 -- Who says something was given that, with files that are lanes.
@@ -179,21 +221,29 @@ record Finished (h : Given) (said : Said) : Type 0 where
   are : h ≡ given said
   lanes : Option LaneNames
   found : lanes_of h.lanes ≡ Some lanes
+  stand : hops_stand said.next_hop said.next_hop_v6 ≡ true
 
 said-of : (h : Given) (said : Said) → finished h ≡ Some said → Finished h said
-said-of h said e =
-    let (node, is, more) = through (λ node. option_map (said_by h node) (lanes_of h.lanes)) h.node said e in
-    by (lanes_of h.lanes) refl node is more
-  where
-    by : (lanes : Option (Option LaneNames)) → lanes_of h.lanes ≡ lanes → (node : List ℕ) → h.node ≡ Some node → option_map (said_by h node) lanes ≡ Some said → Finished h said
-    by None found node is f = absurd (cc)
-    by (Some lanes) found node is f =
-        let same : said_by h node lanes ≡ said = cc in
-        record {
-          are = ap (λ (n : Option (List ℕ)). with_part Node n h) is ∙ ap (λ (l : LanesGiven). with_part Node (Some node) (with_lanes l h)) (given-lanes h.lanes lanes found) ∙ ap given same;
-          lanes = lanes;
-          found = found;
-        }
+said-of h said e = stands (hops_stand h.next_hop h.next_hop_v6) refl e where
+  ends : Option Said
+  ends = option_and_then (λ node. option_map (said_by h node) (lanes_of h.lanes)) h.node
+
+  stands : (b : Bool) → hops_stand h.next_hop h.next_hop_v6 ≡ b → cond b ends None ≡ Some said → Finished h said
+  stands false t f = absurd (cc)
+  stands true t f =
+      let (node, is, more) = through (λ node. option_map (said_by h node) (lanes_of h.lanes)) h.node said f in
+      by (lanes_of h.lanes) refl node is more
+    where
+      by : (lanes : Option (Option LaneNames)) → lanes_of h.lanes ≡ lanes → (node : List ℕ) → h.node ≡ Some node → option_map (said_by h node) lanes ≡ Some said → Finished h said
+      by None found node is f = absurd (cc)
+      by (Some lanes) found node is f =
+          let same : said_by h node lanes ≡ said = cc in
+          record {
+            are = ap (λ (n : Option (List ℕ)). with_part Node n h) is ∙ ap (λ (l : LanesGiven). with_part Node (Some node) (with_lanes l h)) (given-lanes h.lanes lanes found) ∙ ap given same;
+            lanes = lanes;
+            found = found;
+            stand = subst (λ (s : Said). hops_stand s.next_hop s.next_hop_v6 ≡ true) same t;
+          }
 
 none-apart : (i j : ℕ) (d : InterfaceValue) → i < j → j < 0 → ⊥
 none-apart i j d lt none = omega (arith, none)
@@ -213,6 +263,8 @@ read-say words said e =
       interfaces = subst (AllZip _ (values_of interface_option options)) (sym adds.are) adds.say;
       few = adds.table.0;
       apart = adds.table.1;
-      next_hop = zip-each read-hop (values_of next_hop_option options) (option_to_list said.next_hop) (once-read next_hop_of (values_of next_hop_option options) said.next_hop (gives.parts NextHop));
+      next_hop = read-hops V4 (values_of next_hop_option options) said.next_hop (gives.parts NextHop);
+      next_hop_v6 = read-hops V6 (values_of next_hop_v6_option options) said.next_hop_v6 (gives.parts NextHopV6);
+      beside = by-stand said.next_hop said.next_hop_v6 f.stand;
       lanes = give-named watch_option frame_option options said.lanes f.lanes (gives.parts Watch, gives.parts Frame) (ap (λ (x : Given). lanes_of x.lanes) (sym f.are) ∙ f.found);
     }

@@ -1,16 +1,17 @@
 -- What is said as a function of the words.
-use Rattle.std.specs.Prelude.{ℕ, Bool, ◌&&◌, not, nat_lt, if◌then◌else◌, List, [], ◌∷◌, ◌++◌, length, Option, Some, None, option_and_then, Result, Ok, Err}
+use Rattle.std.specs.Prelude.{ℕ, Bool, ◌&&◌, ◌||◌, not, is_some, is_none, nat_lt, if◌then◌else◌, List, [], ◌∷◌, ◌++◌, length, Option, Some, None, option_and_then, Result, Ok, Err}
 use Rattle.std.specs.List.{list_any}
 use Rattle.std.specs.Option.{option_map}
 use Rattle.std.specs.Str.{bytes_eq}
 use Rattle.command_options.specs.Values.{once, text_of, taken_in}
 use Rattle.command_options.specs.Lanes.{LaneNames, LanesGiven, no_lanes, with_first, with_second, lanes_of}
-use Rattle.ip_ranges.specs.declared.family.Family.TheVariants.{V4}
+use Rattle.ip_ranges.specs.declared.family.Family.{Family}
+use Rattle.ip_ranges.specs.declared.family.Family.TheVariants.{V4, V6}
 use Rattle.ip_ranges.specs.declared.fault.RangeFault.{RangeFault}
 use Rattle.ip_ranges.specs.Values.{AddressValue, same_family}
 use Rattle.ip_ranges.specs.AddressText.{address_of}
 use Rattle.speaker_words.specs.Interface.{InterfaceValue, interface_of}
-use Rattle.speaker_words.specs.Words.{Said, node_option, class_option, interface_option, next_hop_option, watch_option, frame_option}
+use Rattle.speaker_words.specs.Words.{Said, node_option, class_option, interface_option, next_hop_option, next_hop_v6_option, watch_option, frame_option}
 
 -- what options said so far
 pub record Given : Type 0 where
@@ -18,18 +19,23 @@ pub record Given : Type 0 where
   pub class : Option (List ℕ)
   pub interfaces : List InterfaceValue
   pub next_hop : Option AddressValue
+  pub next_hop_v6 : Option AddressValue
   pub lanes : LanesGiven
 
 abbrev pub nothing_given : Given
-nothing_given = record { node = None; class = None; interfaces = []; next_hop = None; lanes = no_lanes }
+nothing_given = record { node = None; class = None; interfaces = []; next_hop = None; next_hop_v6 = None; lanes = no_lanes }
 
 abbrev pub with_node : List ℕ → Given → Option Given
 with_node value g =
-    option_map (λ node. record { node = node; class = g.class; interfaces = g.interfaces; next_hop = g.next_hop; lanes = g.lanes }) (once text_of value g.node)
+    option_map
+    (λ node. record { node = node; class = g.class; interfaces = g.interfaces; next_hop = g.next_hop; next_hop_v6 = g.next_hop_v6; lanes = g.lanes })
+    (once text_of value g.node)
 
 abbrev pub with_class : List ℕ → Given → Option Given
 with_class value g =
-    option_map (λ class. record { node = g.node; class = class; interfaces = g.interfaces; next_hop = g.next_hop; lanes = g.lanes }) (once text_of value g.class)
+    option_map
+    (λ class. record { node = g.node; class = class; interfaces = g.interfaces; next_hop = g.next_hop; next_hop_v6 = g.next_hop_v6; lanes = g.lanes })
+    (once text_of value g.class)
 
 -- whether one of the interfaces has the name
 abbrev pub is_named : List ℕ → List InterfaceValue → Bool
@@ -45,22 +51,30 @@ one_more value interfaces = option_and_then (with_one interfaces) (interface_of 
 
 abbrev pub with_interface : List ℕ → Given → Option Given
 with_interface value g =
-    option_map (λ interfaces. record { node = g.node; class = g.class; interfaces = interfaces; next_hop = g.next_hop; lanes = g.lanes }) (one_more value g.interfaces)
+    option_map
+    (λ interfaces. record { node = g.node; class = g.class; interfaces = interfaces; next_hop = g.next_hop; next_hop_v6 = g.next_hop_v6; lanes = g.lanes })
+    (one_more value g.interfaces)
 
--- an IPv4 address
-abbrev pub only_v4 : Result AddressValue RangeFault → Option AddressValue
-only_v4 (Ok a) = if same_family a.family V4 then Some a else None
-only_v4 (Err fault) = None
+-- an address of the family
+abbrev pub only_of : Family → Result AddressValue RangeFault → Option AddressValue
+only_of family (Ok a) = if same_family a.family family then Some a else None
+only_of family (Err fault) = None
 
-abbrev pub next_hop_of : List ℕ → Option AddressValue
-next_hop_of text = only_v4 (address_of text)
+abbrev pub next_hop_of : Family → List ℕ → Option AddressValue
+next_hop_of family text = only_of family (address_of text)
 
 abbrev pub with_next_hop : List ℕ → Given → Option Given
 with_next_hop value g =
-    option_map (λ hop. record { node = g.node; class = g.class; interfaces = g.interfaces; next_hop = hop; lanes = g.lanes }) (once next_hop_of value g.next_hop)
+    option_map (λ hop. record { node = g.node; class = g.class; interfaces = g.interfaces; next_hop = hop; next_hop_v6 = g.next_hop_v6; lanes = g.lanes })
+    (once (next_hop_of V4) value g.next_hop)
+
+abbrev pub with_next_hop_v6 : List ℕ → Given → Option Given
+with_next_hop_v6 value g =
+    option_map (λ hop. record { node = g.node; class = g.class; interfaces = g.interfaces; next_hop = g.next_hop; next_hop_v6 = hop; lanes = g.lanes })
+    (once (next_hop_of V6) value g.next_hop_v6)
 
 abbrev pub with_lanes : LanesGiven → Given → Given
-with_lanes lanes g = record { node = g.node; class = g.class; interfaces = g.interfaces; next_hop = g.next_hop; lanes = lanes }
+with_lanes lanes g = record { node = g.node; class = g.class; interfaces = g.interfaces; next_hop = g.next_hop; next_hop_v6 = g.next_hop_v6; lanes = lanes }
 
 abbrev pub with_watch : List ℕ → Given → Option Given
 with_watch value g = option_map (λ lanes. with_lanes lanes g) (with_first value g.lanes)
@@ -74,16 +88,22 @@ with_option name value g =
     else if bytes_eq name class_option then with_class value g
     else if bytes_eq name interface_option then with_interface value g
     else if bytes_eq name next_hop_option then with_next_hop value g
+    else if bytes_eq name next_hop_v6_option then with_next_hop_v6 value g
     else if bytes_eq name watch_option then with_watch value g
     else if bytes_eq name frame_option then with_frame value g
     else None
 
 -- a speaker has a node, and two lanes or one stream
 abbrev pub said_by : Given → List ℕ → Option LaneNames → Said
-said_by g node lanes = record { node = node; class = g.class; interfaces = g.interfaces; next_hop = g.next_hop; lanes = lanes }
+said_by g node lanes = record { node = node; class = g.class; interfaces = g.interfaces; next_hop = g.next_hop; next_hop_v6 = g.next_hop_v6; lanes = lanes }
+
+-- a hop of IPv6 stands beside one of IPv4 alone
+abbrev pub hops_stand : Option AddressValue → Option AddressValue → Bool
+hops_stand next_hop next_hop_v6 = is_some next_hop || is_none next_hop_v6
 
 abbrev pub finished : Given → Option Said
-finished g = option_and_then (λ node. option_map (said_by g node) (lanes_of g.lanes)) g.node
+finished g =
+    if hops_stand g.next_hop g.next_hop_v6 then option_and_then (λ node. option_map (said_by g node) (lanes_of g.lanes)) g.node else None
 
 -- what the words say, where they are of the table
 abbrev pub said_in : List (List ℕ) → Option Said

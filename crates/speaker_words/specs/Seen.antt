@@ -22,6 +22,7 @@ given_seen g = record {
   class = option_map (λ t. t.now) g.class;
   interfaces = interfaces_seen g.interfaces;
   next_hop = g.next_hop;
+  next_hop_v6 = g.next_hop_v6;
   lanes = lanes_seen g.lanes;
 }
 
@@ -31,5 +32,6 @@ said_seen w = record {
   class = option_map (λ t. t.now) w.class;
   interfaces = interfaces_seen w.interfaces;
   next_hop = w.next_hop;
+  next_hop_v6 = w.next_hop_v6;
   lanes = option_map lane_seen w.lanes;
 }

@@ -5,7 +5,7 @@ ghost use Rattle.std.specs.Str.{bytes_eq};
 ghost use Rattle.std.specs.Option.{option_map};
 ghost use Rattle.command_options.specs.Options.{texts_of};
 ghost use Rattle.speaker_words.specs.Words.{Say, AreKnown};
-ghost use Rattle.speaker_words.specs.Reading.{said_in, Given as GivenValue, with_option, with_node, with_class, with_interface, with_one, with_next_hop, next_hop_of, with_watch, with_frame, finished};
+ghost use Rattle.speaker_words.specs.Reading.{said_in, Given as GivenValue, with_option, with_node, with_class, with_interface, with_one, with_next_hop, with_next_hop_v6, next_hop_of, hops_stand, with_watch, with_frame, finished};
 ghost use Rattle.speaker_words.specs.Seen.{interface_seen, interfaces_seen, given_seen, said_seen};
 
 use crate::interface::{InterfaceWord, interface_of};
@@ -20,6 +20,8 @@ const CLASS_OPTION: &str = "--lb-class";
 const INTERFACE_OPTION: &str = "--interface";
 
 const NEXT_HOP_OPTION: &str = "--next-hop";
+
+const NEXT_HOP_V6_OPTION: &str = "--next-hop-v6";
 
 const WATCH_OPTION: &str = "--watch-lane";
 
@@ -39,6 +41,8 @@ pub struct SpeakerWords<'a> {
     pub interfaces: InterfaceWords<'a>,
     /// The IPv4 address that its routes lead to (RFC 4271, section 5.1.3); with none, it tells no routes.
     pub next_hop: Option<Address>,
+    /// The IPv6 address that its IPv6 routes lead to (RFC 2545, section 3), only beside one of IPv4; with none, it tells no IPv6 routes.
+    pub next_hop_v6: Option<Address>,
     /// The files of the watched objects and of the received frames; with none, all comes by one stream.
     pub lanes: Option<LaneFiles<'a>>,
 }
@@ -50,13 +54,15 @@ struct Given<'a> {
     class: Option<&'a str>,
     interfaces: InterfaceWords<'a>,
     next_hop: Option<Address>,
+    next_hop_v6: Option<Address>,
     lanes: GivenLanes<'a>,
 }
 
 /// What the words say, where they are of the speaker's table.
 ///
 /// The table: `--node-name NODE` once; `--lb-class CLASS` and `--next-hop ADDRESS` at most once, the address an IPv4 one in dotted decimal
-/// without leading zeros; `--interface NAME=MAC` up to 16 times, split at the first `=`, with distinct names, of which one may be empty,
+/// without leading zeros; `--next-hop-v6 ADDRESS` at most once, an IPv6 address in the text of RFC 4291, section 2.2, which isn't a mapped
+/// IPv4 one, and only beside `--next-hop`; `--interface NAME=MAC` up to 16 times, split at the first `=`, with distinct names, of which one may be empty,
 /// and with six octets of two hexadecimal digits of either case and `:` between them; `--watch-lane FILE` and `--frame-lane FILE` once each,
 /// of distinct names, or neither. Each option is one word with `=`, or two. `None` where the words aren't of the table. It takes no memory.
 pub fn speaker_words(words: &[String]) -> Option<SpeakerWords<'_>>
@@ -77,6 +83,7 @@ fn read_words(words: &[String]) -> Option<SpeakerWords<'_>>
         class: None,
         interfaces: ArrayVec::new(),
         next_hop: None,
+        next_hop_v6: None,
         lanes: GivenLanes {
             first: None,
             second: None,
@@ -99,6 +106,7 @@ impl<'a> TakesOptions<'a> for Given<'a> {
             CLASS_OPTION => with_class(self, value),
             INTERFACE_OPTION => with_interface(self, value),
             NEXT_HOP_OPTION => with_next_hop(self, value),
+            NEXT_HOP_V6_OPTION => with_next_hop_v6(self, value),
             WATCH_OPTION => with_watch(self, value),
             FRAME_OPTION => with_frame(self, value),
             _ => None,
@@ -140,6 +148,7 @@ fn with_interface<'a>(given: Given<'a>, value: &'a str) -> Option<Given<'a>>
         class: given.class,
         interfaces,
         next_hop: given.next_hop,
+        next_hop_v6: given.next_hop_v6,
         lanes: given.lanes,
     })
 }
@@ -172,18 +181,30 @@ fn with_next_hop<'a>(given: Given<'a>, value: &str) -> Option<Given<'a>>
     match given.next_hop {
         Some(_) => None,
         None => Some(Given {
-            next_hop: Some(next_hop_of(value)?),
+            next_hop: Some(next_hop_of(Family::V4, value)?),
             ..given
         }),
     }
 }
 
-/// The IPv4 address that the text writes.
-fn next_hop_of(text: &str) -> Option<Address>
-    ensures { result ≡ next_hop_of text.now }
+fn with_next_hop_v6<'a>(given: Given<'a>, value: &'a str) -> Option<Given<'a>>
+    ensures { option_map given_seen result ≡ with_next_hop_v6 value.now (given_seen given.entry) }
+{
+    match given.next_hop_v6 {
+        Some(_) => None,
+        None => Some(Given {
+            next_hop_v6: Some(next_hop_of(Family::V6, value)?),
+            ..given
+        }),
+    }
+}
+
+/// The address of the family that the text writes.
+fn next_hop_of(family: Family, text: &str) -> Option<Address>
+    ensures { result ≡ next_hop_of family text.now }
 {
     match parse_address(text) {
-        Ok(address) if address.family == Family::V4 => Some(address),
+        Ok(address) if address.family == family => Some(address),
         _ => None,
     }
 }
@@ -206,14 +227,25 @@ fn with_frame<'a>(given: Given<'a>, value: &'a str) -> Option<Given<'a>>
     })
 }
 
+/// Whether one of IPv6 stands beside one of IPv4, if it is there.
+fn hops_stand(next_hop: Option<Address>, next_hop_v6: Option<Address>) -> bool
+    ensures { result ≡ hops_stand next_hop next_hop_v6 }
+{
+    next_hop.is_some() || next_hop_v6.is_none()
+}
+
 fn finished(given: Given<'_>) -> Option<SpeakerWords<'_>>
     ensures { option_map said_seen result ≡ finished (given_seen given.entry) }
 {
+    if !hops_stand(given.next_hop, given.next_hop_v6) {
+        return None;
+    }
     Some(SpeakerWords {
         node: given.node?,
         class: given.class,
         interfaces: given.interfaces,
         next_hop: given.next_hop,
+        next_hop_v6: given.next_hop_v6,
         lanes: lane_files(given.lanes.first, given.lanes.second)?,
     })
 }

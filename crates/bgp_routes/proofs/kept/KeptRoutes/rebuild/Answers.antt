@@ -1,0 +1,5 @@
+use Rattle.bgp_routes.proofs.Keeping.{cleared-none}
+use Rattle.bgp_routes.proofs.kept.KeptRoutes.rebuild.Goals as goal
+
+pub returns-in-Err-clause-err : goal.returns-in-Err-clause-err
+returns-in-Err-clause-err c = cleared-none c.clear-in-Err.new.self c.clear-in-Err.ensures.none

@@ -1,9 +1,11 @@
 //! The lines that are written, and the replies that are read.
 #![tactic(auto)]
 
+mod laws;
 mod lines;
 mod reply;
 
+pub use laws::lines_are_read;
 pub use lines::{
     accepted_line, announce_line, pending_line, put_line, record_line, refused_line, send_line,
     took_line, trial_line, update_line, withdraw_line,

@@ -1,5 +1,5 @@
 -- What is held of the announcers after one address or some were renewed.
-use Rattle.std.proofs.Common.{◌≡◌, ℕ, Bool, true, false, cond, ◌||◌, List, [], ◌∷◌, Option, None, take, length, get_or, ◌<◌, ◌+◌, Contains, Ordering, refl, sym, ap, subst, ◌∙◌}
+use Rattle.std.proofs.Common.{◌≡◌, ℕ, Bool, true, false, cond, ◌||◌, List, [], Option, take, length, get_or, ◌<◌, ◌+◌, Contains, Ordering, refl, sym, ap, subst, ◌∙◌}
 use Rattle.std.proofs.lemmas.Bool.{false≢true}
 use Rattle.std.proofs.lemmas.List.Folds.{list_any_more}
 use Rattle.std.specs.BTreeMap.{is_at}

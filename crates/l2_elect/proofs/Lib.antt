@@ -1,4 +1,5 @@
 pub mod Best
+pub mod ByPool
 pub mod Eligibility
 pub mod Filters
 pub mod Keeping

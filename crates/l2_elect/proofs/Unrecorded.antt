@@ -1,5 +1,5 @@
 -- An address that no service records has no announcer; and where all stays that decides who may announce one, its announcer does.
-use Rattle.std.proofs.Common.{◌≡◌, ◌↔◌, ℕ, Bool, true, false, ◌&&◌, ◌||◌, List, [], ◌∷◌, filter, Option, None, Contains, refl, sym, ap, ◌∙◌, subst}
+use Rattle.std.proofs.Common.{◌≡◌, ◌↔◌, ℕ, Bool, true, false, ◌&&◌, ◌||◌, List, [], ◌∷◌, filter, None, Contains, refl, sym, ap, subst}
 use Rattle.std.proofs.lemmas.Bool.{or_parts}
 use Rattle.std.specs.List.{list_any}
 use Rattle.ip_ranges.specs.AddressText.{canonical_text}
@@ -7,7 +7,7 @@ use Rattle.ip_ranges.specs.Values.{AddressValue, has_address}
 use Rattle.kube_model.specs.declared.service.Service.{Service}
 use Rattle.pool_config.specs.Choice.{chooses, selects}
 use Rattle.speaker_view.specs.Change.{StaysAt}
-use Rattle.speaker_view.specs.Endpoints.{announced_from, can_announce, is_recorded_in, node_labels}
+use Rattle.speaker_view.specs.Endpoints.{announced_from, can_announce, is_recorded_in}
 use Rattle.speaker_view.specs.Held.{objects_of}
 use Rattle.speaker_view.specs.ViewValue.{ViewValue}
 use Rattle.l2_elect.specs.Eligible.{EligibleNodesStay, IsEligible, is_advertised, is_eligible, passes_in}
@@ -27,7 +27,7 @@ no_more : (b c : Bool) → c ≡ false → (b && c) ≡ false
 no_more true c e = e
 no_more false c e = refl
 
-none-pass : {X : Type 0} (p : X → Bool) (xs : List X) → ((x : X) → p x ≡ false) → filter p xs ≡ []
+pub none-pass : {X : Type 0} (p : X → Bool) (xs : List X) → ((x : X) → p x ≡ false) → filter p xs ≡ []
 none-pass p [] none = refl
 none-pass p (x ∷ xs) none = rw (none x) (none-pass p xs none)
 

@@ -8,8 +8,10 @@ use Rattle.sha2.specs.Sha256.{sha256}
 use Rattle.ip_ranges.specs.AddressText.{canonical_text}
 use Rattle.ip_ranges.specs.Values.{AddressValue}
 use Rattle.kube_labels.specs.Names.{name_cmp}
+use Rattle.pool_config.specs.declared.compiled.CompiledL2.{CompiledL2}
+use Rattle.pool_config.specs.declared.compiled.CompiledPool.{CompiledPool}
 use Rattle.speaker_view.specs.ViewValue.{ViewValue}
-use Rattle.l2_elect.specs.Eligible.{is_eligible, IsEligible}
+use Rattle.l2_elect.specs.Eligible.{is_eligible, is_eligible_by, IsEligible}
 
 -- the SHA-256 (FIPS 180-4) of the node's name, `#` and the text of the address (RFC 5952)
 unfoldable pub digest_of : List ℕ → List ℕ → List ℕ
@@ -50,6 +52,10 @@ best_from text best nodes = fold (λ b n. Some (better text b n)) best nodes
 -- the best of the eligible members, where the address has this text
 abbrev pub elected : ViewValue → AddressValue → List ℕ → Option (List ℕ)
 elected v address text = best_from text None (filter (is_eligible v address) v.members)
+
+-- the same for an address of the pool, by these advertisements
+abbrev pub best_by : ViewValue → AddressValue → List ℕ → CompiledPool → List CompiledL2 → Option (List ℕ)
+best_by v address text pool l2 = best_from text None (filter (is_eligible_by v address pool l2) v.members)
 
 abbrev pub announcer_of : ViewValue → AddressValue → Option (List ℕ)
 announcer_of v address = elected v address (canonical_text address)

@@ -62,6 +62,10 @@ is_advertised v node address = passes_in (advertises v node) address v.held.conf
 abbrev pub is_eligible : ViewValue → AddressValue → List ℕ → Bool
 is_eligible v address node = is_advertised v node address && announced_from v address node
 
+-- that of eligibility for an address of the pool, by these advertisements
+abbrev pub is_eligible_by : ViewValue → AddressValue → CompiledPool → List CompiledL2 → List ℕ → Bool
+is_eligible_by v address pool l2 node = list_any (advertises v node pool) l2 && announced_from v address node
+
 -- ---- laws
 -- where all stays that decides who may announce an address, the same nodes are eligible for it
 abbrev pub EligibleNodesStay : Type 0

@@ -3,11 +3,12 @@ ghost use Rattle.std.specs.Prelude.{◌≡◌, ◌↔◌, ℕ, List, IsTrue, IfN
 ghost use Rattle.std.specs.Option.{option_copied, option_map, ForSome};
 ghost use Rattle.ip_ranges.specs.AddressText.{canonical_text};
 ghost use Rattle.l2_elect.specs.Eligible.{IsEligible};
-ghost use Rattle.l2_elect.specs.Election.{announcer_of, announces_of, digest_of, elected, better, is_named, IsAnnouncer};
+ghost use Rattle.l2_elect.specs.Election.{announcer_of, announces_of, best_by, digest_of, elected, better, is_named, IsAnnouncer};
 
 use crate::eligible::is_eligible;
 use ip_ranges::{Address, write_address};
 use kube_labels::Text;
+use pool_config::{CompiledL2, CompiledPool};
 use sha2::{Digest, Sha256};
 use speaker_view::View;
 use std::cmp::Ordering;
@@ -41,13 +42,33 @@ pub(crate) fn first<'a>(view: &'a View, address: &Address) -> Option<&'a Text>
     elected(view, address, &buffer[..length])
 }
 
-/// The best of the eligible members, where the address has this text.
+/// The best of the eligible members, where the address has this text. Its pool is looked for once.
+#[tactic(auto, using(crate::proofs::ByPool::no_config, crate::proofs::ByPool::no_pool, crate::proofs::ByPool::by_pool))]
 fn elected<'a>(view: &'a View, address: &Address, text: &[u8]) -> Option<&'a Text>
     ensures { option_copied result ≡ elected view.now address.now text.now }
 {
+    let Some(config) = view.config() else {
+        return None;
+    };
+    let Some(pool) = config.pool_with(address) else {
+        return None;
+    };
+    best_member(view, address, text, pool, config.l2.as_slice())
+}
+
+/// The best of the members that are eligible for the address, which is of the pool, by the advertisements.
+fn best_member<'a>(
+    view: &'a View,
+    address: &Address,
+    text: &[u8],
+    pool: &CompiledPool,
+    l2: &[CompiledL2],
+) -> Option<&'a Text>
+    ensures { option_copied result ≡ best_by view.now address.now text.now pool.now l2.now }
+{
     let mut best: Option<Candidate<'a>> = None;
     for node in view.members().as_slice() {
-        if is_eligible(view, node, address) {
+        if is_eligible(view, node, address, pool, l2) {
             best = Some(better(best, node, text));
         }
     }

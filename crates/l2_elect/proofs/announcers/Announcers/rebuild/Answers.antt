@@ -1,4 +1,3 @@
-use Rattle.std.proofs.Common.{sym}
 use Rattle.l2_elect.proofs.Keeping.{nothing-but}
 use Rattle.l2_elect.proofs.announcers.Announcers.rebuild.Goals as goal
 

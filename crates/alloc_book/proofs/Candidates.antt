@@ -23,21 +23,19 @@ use Rattle.mlb_base.proofs.Among.{contains-none, contains-cons, contains-later, 
 use Rattle.number_sets.specs.Least.{IsLeastIn, NonePasses}
 use Rattle.pool_config.specs.declared.compiled.CompiledPool.{CompiledPool}
 use Rattle.sharing_terms.specs.declared.terms.Terms.{Terms}
-use Rattle.sharing_terms.specs.declared.terms.Backend.{Backend}
-use Rattle.sharing_terms.specs.Marks.{mark_of}
 use Rattle.sharing_terms.specs.Sharing.{has_port, is_alike, may_share}
 use Rattle.sharing_terms.proofs.SharingLaws.{may_share-is}
 use Rattle.alloc_book.specs.declared.slot.Slot.TheVariants.{OfPort}
 use Rattle.alloc_book.specs.Claims.{ClaimValue}
-use Rattle.alloc_book.specs.Groups.{group_of}
-use Rattle.alloc_book.specs.Index.{numbers_of, is_grouped, is_held, is_own, is_shared, is_offered, is_taken, is_barred, is_free, Covers, NoneShared, AreBarred}
+use Rattle.alloc_book.specs.Groups.{group_of, is_grouped}
+use Rattle.alloc_book.specs.Index.{numbers_of, is_held, is_own, is_shared, is_offered, is_taken, is_barred, is_free, Covers, NoneShared, AreBarred}
 use Rattle.alloc_book.specs.Search.{leaves, usable, address_of, numbered, least_between}
 use Rattle.alloc_book.specs.Usable.{is_in}
 use Rattle.alloc_book.specs.Slots.{occupies}
 use Rattle.alloc_book.proofs.LeastLaws.{numbered-is}
 use Rattle.alloc_book.proofs.TermLaws.{backend-same}
 use Rattle.alloc_book.proofs.IndexReading.{found-of}
-use Rattle.alloc_book.proofs.UniformLaws.{yields-left}
+use Rattle.alloc_book.proofs.GroupLaws.{group-same, yields-left}
 
 -- the least number is the only one
 
@@ -136,11 +134,6 @@ free-usable claims key terms pool span family n listed same from upto free =
     (and_from (is_in pool a) (not (pool.avoid_buggy && is_buggy a)) within parts.1) left
 
 -- terms that share with those are of their group
-group-same : (a b : Terms) → a.key ≡ b.key → a.backend ≡ b.backend → group_of a ≡ group_of b
-unfolding group_of
-group-same a b key backend =
-    ap (λ (k : List ℕ). mark_of (record { key = k; ports = []; backend = a.backend })) key ∙ ap (λ (x : Backend). mark_of (record { key = b.key; ports = []; backend = x })) backend
-
 grouped_by : (terms t : Terms) → may_share terms t ≡ true → is_grouped (group_of terms) t ≡ true
 grouped_by terms t e =
     let most = and_parts (bytes_eq terms.key t.key && not (is_nil terms.key) && not (list_any (has_port t.ports) terms.ports)) (is_alike terms.backend t.backend) e in
@@ -504,10 +497,9 @@ none_left claims key terms pool family m barred = λ offered.
     (not-true (is_own key claims (address_of family m)) (and_parts (is_shared (group_of terms) claims (address_of family m)) (not (is_own key claims (address_of family m))) offered).1)
 
 -- the same of the claims and the ports of a walk
-pub none-shared_in : (found_in claims : List ClaimValue) (family : Family) (group_in group : List ℕ) (low high : ℕ) → found_in ≡ claims → group_in ≡ group
-    → NoneShared family group_in found_in low high → NoneShared family group claims low high
-none-shared_in found_in claims family group_in group low high is same none =
-    subst (λ (g : List ℕ). NoneShared family g claims low high) same (subst (λ (cs : List ClaimValue). NoneShared family group_in cs low high) is none)
+pub none-shared_in : (found_in claims : List ClaimValue) (family : Family) (group : List ℕ) (low high : ℕ) → found_in ≡ claims
+    → NoneShared family group found_in low high → NoneShared family group claims low high
+none-shared_in found_in claims family group low high is none = subst (λ (cs : List ClaimValue). NoneShared family group cs low high) is none
 
 pub barred-in : (ports_in ports : List Port) (found_in claims : List ClaimValue) (family : Family) (low high : ℕ) → ports_in ≡ ports → found_in ≡ claims → AreBarred ports_in found_in family low high → AreBarred ports claims family low high
 barred-in ports_in ports found_in claims family low high are is barred =

@@ -135,3 +135,24 @@ least-unheld runs claims found low high are least = subst (λ (test : ℕ → Bo
 pub none-unheld : (runs : RunsValue) (claims : IndexValue ℕ) (found : Option ℕ) (low high : ℕ) → AreListed runs claims
     → IfNone found (NonePasses (λ m. not (has runs m)) low high) → IfNone found (NonePasses (λ m. is_nil (numbers_under nat_cmp claims m)) low high)
 none-unheld runs claims found low high are none = subst (λ (test : ℕ → Bool). IfNone found (NonePasses test low high)) (unheld runs claims are) none
+
+-- ---- the least number that a claim has
+held : (runs : RunsValue) (claims : IndexValue ℕ) → AreListed runs claims → ◌≡◌ {A = ℕ → Bool} (has runs) (λ n. not (is_nil (numbers_under nat_cmp claims n)))
+held runs claims are = are
+
+pub least-held : (runs : RunsValue) (claims : IndexValue ℕ) (found : Option ℕ) (low high : ℕ) → AreListed runs claims
+    → IfSome found (λ n. IsLeastIn (has runs) low high n) → IfSome found (λ n. IsLeastIn (λ m. not (is_nil (numbers_under nat_cmp claims m))) low high n)
+least-held runs claims found low high are least = subst (λ (test : ℕ → Bool). IfSome found (λ n. IsLeastIn test low high n)) (held runs claims are) least
+
+pub none-held : (runs : RunsValue) (claims : IndexValue ℕ) (found : Option ℕ) (low high : ℕ) → AreListed runs claims
+    → IfNone found (NonePasses (has runs) low high) → IfNone found (NonePasses (λ m. not (is_nil (numbers_under nat_cmp claims m))) low high)
+none-held runs claims found low high are none = subst (λ (test : ℕ → Bool). IfNone found (NonePasses test low high)) (held runs claims are) none
+
+-- where no number is held, no claim is listed
+nil-from : (ns : List ℕ) → false ≡ not (is_nil ns) → ns ≡ []
+nil-from [] e = refl
+nil-from (n ∷ ns) e = absurd (true≢false (sym e))
+
+pub none-left : (runs : RunsValue) (claims : IndexValue ℕ) → AreListed runs claims → has runs ≡ (λ n. false) → numbers_under nat_cmp claims ≡ (λ n. [])
+none-left runs claims are none =
+    λ i n. nil-from (numbers_under nat_cmp claims n) (ap (λ (f : ℕ → Bool). f n) (sym none) ∙ ap (λ (f : ℕ → Bool). f n) are) i

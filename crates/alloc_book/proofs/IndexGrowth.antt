@@ -1,38 +1,32 @@
 -- An index of claims that gets room, or one claim more.
-use Rattle.std.proofs.Common.{◌≡◌, ◌≢◌, ℕ, ◌+◌, ◌-◌, ◌<◌, ◌≤◌, Bool, true, false, cond, if◌then◌else◌, ◌==◌, ◌&&◌, ◌||◌, List, [], ◌∷◌, ◌++◌, length, filter, take, drop, get_or, suc, Option, Some, None, refl, sym, ap, subst, ◌∙◌, arith, append_assoc, add-one, ⊎_elim, eqb-true, take_all}
-use Rattle.std.proofs.lemmas.Bool.{and_parts, and_from, or_cases, or_left, or_right, eq-eqb, true≢false}
+use Rattle.std.proofs.Common.{◌≡◌, ℕ, ◌+◌, ◌-◌, ◌<◌, ◌≤◌, Bool, true, false, cond, if◌then◌else◌, ◌==◌, ◌||◌, List, [], ◌∷◌, ◌++◌, length, filter, take, drop, get_or, suc, Option, Some, None, refl, sym, ap, subst, ◌∙◌, arith, append_assoc, add-one, ⊎_elim, eqb-true, take_all}
+use Rattle.std.proofs.lemmas.Bool.{eq-eqb, true≢false}
 use Rattle.std.proofs.lemmas.Bool.Decides.{nat_tests, same_from_decides}
 use Rattle.std.proofs.lemmas.List.{map-append, append-nil, length-append}
 use Rattle.std.proofs.lemmas.List.Elements.{filter-append, Contains-append_cases, Contains-push_cases, Contains-get_or, All-head, All-tail}
 use Rattle.std.proofs.lemmas.List.Folds.{list_any-append}
-use Rattle.std.proofs.lemmas.Slice.Eq.{bytes_eq-Decides}
 use Rattle.std.proofs.Math.Seq.{take-suc, drop-cons}
 use Rattle.std.proofs.lemmas.Option.{slice_get_within, get_or_from_slice_get}
 use Rattle.std.specs.BTreeMap.{is_at}
 use Rattle.std.specs.List.{All, Contains, slice_get}
 use Rattle.std.specs.Option.{option_map_or}
 use Rattle.std.specs.Map.{lookup, keys_of, values_of}
-use Rattle.std.specs.Str.{bytes_eq}
 use Rattle.ip_ranges.specs.declared.family.Family.{Family}
 use Rattle.ip_ranges.specs.Values.{AddressValue, same_address, has_address}
-use Rattle.ip_ranges.proofs.AddressLaws.{has_address-is, same_address-is, same_address-itself}
+use Rattle.ip_ranges.proofs.AddressLaws.{same_address-is, same_address-itself}
 use Rattle.kube_model.specs.declared.key.Key.{Key}
 use Rattle.kube_model.specs.Keys.{key_cmp, same_key}
 use Rattle.kube_model.specs.Records.{is_assigned}
 use Rattle.kube_model.proofs.KeyLaws.{is_eq-key_cmp}
 use Rattle.mlb_base.proofs.Among.{contains-none, contains-cons, contains-first, contains-later}
 use Rattle.numbered_items.specs.Index.{IndexValue, numbers_under, room_under}
-use Rattle.sharing_terms.specs.declared.terms.Terms.{Terms}
 use Rattle.alloc_book.specs.Book.{AreAssigned, HasRoomFor}
 use Rattle.alloc_book.specs.Claims.{ClaimValue}
 use Rattle.alloc_book.specs.declared.slot.Slot.{Slot}
 use Rattle.alloc_book.specs.Slots.{occupies}
-use Rattle.alloc_book.specs.Alike.{are_alike}
-use Rattle.alloc_book.specs.Groups.{group_of}
-use Rattle.alloc_book.specs.Holders.{AddressHoldersValue, ClaimantsValue, HasRoomAt, CanBeMixed, AreKnown, in_slot, claims_at, claim_room_at, claims_having, claim_room, address_room, is_known, mixed_of, is_mixed, mixed_room}
-use Rattle.number_sets.specs.Runs.{RunsValue, has}
-use Rattle.alloc_book.proofs.UniformLaws.{uniform-kept, uniform-added}
-use Rattle.alloc_book.specs.Index.{IsIndexed, AreShared, numbers_of, numbers_at, numbered, numbered_at, ends_with, is_grouped, is_shared, HasIt, AreUniform}
+use Rattle.alloc_book.specs.Groups.{HasGroup}
+use Rattle.alloc_book.specs.Holders.{AddressHoldersValue, ClaimantsValue, HasRoomAt, in_slot, claim_room_at, claims_having, claim_room, address_room}
+use Rattle.alloc_book.specs.Index.{IsIndexed, HaveGroups, numbers_of, numbers_at, numbered, numbered_at, ends_with}
 
 same_address-flip : (a b : AddressValue) → same_address a b ≡ same_address b a
 same_address-flip a b =
@@ -95,39 +89,16 @@ room-same before after more slot addresses same room = record {
   by_family = λ a there. subst (λ (f : Family → ClaimantsValue). more ≤ (f a.family).room) (sym same) (room.by_family a there);
 }
 
--- there is room for the claim, where each of its addresses is known by the group of its terms
-pub room-claim : (room : ℕ) (keys : IndexValue Key) (before after : AddressHoldersValue) (c : ClaimValue) (key : Key)
+-- there is room for the claim
+pub room-claim : (room : ℕ) (keys : IndexValue Key) (h : AddressHoldersValue) (c : ClaimValue) (key : Key)
     → 0 < room → 1 ≤ room_under key_cmp keys key → key ≡ c.key
-    → ((slot : Slot) → occupies slot c ≡ true → HasRoomAt before (length c.holding.addresses) slot c.holding.addresses)
-    → CanBeMixed before (length c.holding.addresses) c.holding.addresses
-    → in_slot after ≡ in_slot before → mixed_of after ≡ mixed_of before
-    → AreKnown after c.terms c.holding.addresses
-    → HasRoomFor (record { claims = room; keys = keys; holders = after }) c
-room-claim room keys before after c key claim under same at mixed slots mixed_is known = record {
+    → ((slot : Slot) → occupies slot c ≡ true → HasRoomAt h (length c.holding.addresses) slot c.holding.addresses)
+    → HasRoomFor (record { claims = room; keys = keys; holders = h }) c
+room-claim room keys h c key claim under same at = record {
   claim = claim;
   key = subst (λ (k : Key). 0 < room_under key_cmp keys k) same (omega (arith, under));
-  addresses = λ slot occupied. room-same before after (length c.holding.addresses) slot c.holding.addresses (ap (λ f. f slot) slots) (at slot occupied);
-  mixed = λ a there. subst (λ (f : Family → RunsValue). length c.holding.addresses ≤ (f a.family).room) (sym mixed_is) (mixed a there);
-  known = known;
+  addresses = at;
 }
-
--- each of the addresses is known by the group of the terms
-pub known-claim : (h : AddressHoldersValue) (c : ClaimValue) (group : List ℕ) (shown : List AddressValue)
-    → group ≡ group_of c.terms → ((a : AddressValue) → Contains shown a → is_known h group a ≡ true) → shown ≡ c.holding.addresses
-    → AreKnown h c.terms c.holding.addresses
-known-claim h c group shown group_is known shown_is =
-    subst (λ (xs : List AddressValue). AreKnown h c.terms xs) shown_is
-    (subst (λ (g : List ℕ). (a : AddressValue) → Contains shown a → is_known h g a ≡ true) group_is known)
-
--- one address more can be mixed, and those before keep their room
-pub mixed-more : (before after : AddressHoldersValue) (more : ℕ) (addresses : List AddressValue) (i : ℕ) (x : AddressValue)
-    → i < length addresses → x ≡ get_or addresses i x → CanBeMixed before more (take i addresses)
-    → ((family : Family) → mixed_room before family ≤ mixed_room after family) → more ≤ mixed_room after x.family → CanBeMixed after more (take (i + 1) addresses)
-mixed-more before after more addresses i x within is room kept here =
-    subst (CanBeMixed after more) (sym (taken-more addresses i x within is)) (λ a there. ⊎_elim
-    (λ old. omega (arith, room a old, kept a.family))
-    (λ same. subst (λ (y : AddressValue). more ≤ mixed_room after y.family) same here)
-    (Contains-push_cases (take i addresses) x a there))
 
 -- There is room at the addresses from the index on: for a claim at each of them that doesn't stand ahead of the index, and for so many addresses.
 pub record HasRoomFrom (h : AddressHoldersValue) (slot : Slot) (addresses : List AddressValue) (i : ℕ) : Type 0 where
@@ -240,34 +211,6 @@ pub listed-all : (number : ℕ) (start after : AddressValue → List ℕ) (addre
 listed-all number start after addresses i passed each =
     λ j a. (each a ∙ ap (λ (taken : List AddressValue). start a ++ numbered number taken a) (take_all i addresses passed)) j
 
--- ---- groups
-pub known-more : (before after : List ℕ → AddressValue → Bool) (key : List ℕ) (x : AddressValue)
-    → after ≡ (λ k a. (bytes_eq key k && same_address x a) || before k a)
-    → (k : List ℕ) (a : AddressValue) → before k a ≡ true → after k a ≡ true
-known-more before after key x is k a known =
-    ap (λ (f : List ℕ → AddressValue → Bool). f k a) is ∙ or_right (bytes_eq key k && same_address x a) (before k a) known
-
-pub known-first : (before after : List ℕ → AddressValue → Bool) (key copied : List ℕ) (addresses : List AddressValue) (i : ℕ) (x : AddressValue)
-    → i < length addresses → x ≡ get_or addresses i x → copied ≡ key
-    → after ≡ (λ k a. (bytes_eq copied k && same_address x a) || before k a)
-    → ((a : AddressValue) → Contains (take i addresses) a → before key a ≡ true)
-    → (a : AddressValue) → Contains (take (i + 1) addresses) a → after key a ≡ true
-known-first before after key copied addresses i x within is same_text sets known a there =
-    ⊎_elim
-    (λ old. known-more before after copied x sets key a (known a old))
-    (λ same.
-    let itself : (bytes_eq copied key && same_address x x) ≡ true = and_from (bytes_eq copied key) (same_address x x) ((bytes_eq-Decides copied key).1 same_text) (same_address-itself x) in
-    let first : after key x ≡ true = ap (λ (f : List ℕ → AddressValue → Bool). f key x) sets ∙ or_left (bytes_eq copied key && same_address x x) (before key x) itself in
-    subst (λ y. after key y ≡ true) same first)
-    (Contains-push_cases (take i addresses) x a (subst (λ taken. Contains taken a) (taken-more addresses i x within is) there))
-
--- where the slots stay, or the mixed addresses, what is read of them stays
-pub same-claims : (before after : AddressHoldersValue) (slot : Slot) → in_slot after ≡ in_slot before → claims_having after slot ≡ claims_having before slot
-same-claims before after slot same = λ i a. claims_at (same i slot a.family) a.number
-
-pub same-mixing : (before after : AddressHoldersValue) → mixed_of after ≡ mixed_of before → is_mixed after ≡ is_mixed before
-same-mixing before after same = λ i a. has (same i a.family) a.number
-
 -- ---- the index
 pub indexed-none : (items : List (ℕ × ClaimValue)) (keys : IndexValue Key) (h : AddressHoldersValue)
     → items ≡ [] → numbers_under key_cmp keys ≡ (λ key. []) → ((slot : Slot) → claims_having h slot ≡ (λ a. [])) → IsIndexed items keys h
@@ -276,24 +219,20 @@ indexed-none items keys h none no_keys no_holders =
       assigned = λ c there. absurd (contains-none c there);
       keys = no_keys;
       holders = no_holders;
-      shared = λ key a e. absurd (true≢false (sym e));
-      uniform = λ a e p q has_p has_q apart. absurd (contains-none p has_p.0);
+      groups = λ c there. absurd (contains-none c there);
     } in
     subst (λ (list : List (ℕ × ClaimValue)). IsIndexed list keys h) (sym none) empty
 
 pub indexed-kept : (items more : List (ℕ × ClaimValue)) (keys keys_after : IndexValue Key) (h h_after : AddressHoldersValue)
     → IsIndexed items keys h → more ≡ items → numbers_under key_cmp keys_after ≡ numbers_under key_cmp keys
     → ((slot : Slot) → claims_having h_after slot ≡ claims_having h slot)
-    → ((key : List ℕ) (a : AddressValue) → is_known h key a ≡ true → is_known h_after key a ≡ true)
-    → is_mixed h_after ≡ is_mixed h
     → IsIndexed more keys_after h_after
-indexed-kept items more keys keys_after h h_after indexed same same_keys same_holders known same_mixed =
+indexed-kept items more keys keys_after h h_after indexed same same_keys same_holders =
     let kept : IsIndexed items keys_after h_after = record {
       assigned = indexed.assigned;
       keys = same_keys ∙ indexed.keys;
       holders = λ slot. same_holders slot ∙ indexed.holders slot;
-      shared = λ key a e. known key a (indexed.shared key a e);
-      uniform = uniform-kept items h h_after same_mixed indexed.uniform;
+      groups = indexed.groups;
     } in
     subst (λ (list : List (ℕ × ClaimValue)). IsIndexed list keys_after h_after) (sym same) kept
 
@@ -323,29 +262,18 @@ numbers_at-added slot [] number c a = append-nil (numbered_at slot a (number, c)
 numbers_at-added slot (p ∷ items) number c a =
     ap (λ ns. numbered_at slot a p ++ ns) (numbers_at-added slot items number c a) ∙ sym (append_assoc (numbered_at slot a p) (numbers_at slot a items) (numbered_at slot a (number, c)))
 
-grouped-known : (h : AddressHoldersValue) (terms : Terms) (addresses : List AddressValue) (group : List ℕ) (a : AddressValue)
-    → AreKnown h terms addresses → is_grouped group terms ≡ true → has_address addresses a ≡ true → is_known h group a ≡ true
-grouped-known h terms addresses group a known e has =
-    subst (λ g. is_known h g a ≡ true) ((bytes_eq-Decides (group_of terms) group).0 e) (known a (has_address-is addresses a has))
-
-or_one : (b : Bool) → (b || false) ≡ true → b ≡ true
-or_one true e = refl
-or_one false e = e
-
 pub indexed-added : (items more : List (ℕ × ClaimValue)) (number : ℕ) (c : ClaimValue) (keys keys_after : IndexValue Key) (h h_after : AddressHoldersValue)
     → IsIndexed items keys h → more ≡ items ++ (number, c) ∷ [] → is_assigned c.holding ≡ true
     → numbers_under key_cmp keys_after ≡ (λ key. cond (is_at (key_cmp c.key) key) (numbers_under key_cmp keys key ++ number ∷ []) (numbers_under key_cmp keys key))
     → ((slot : Slot) → claims_having h_after slot ≡ (λ a. claims_having h slot a ++ numbered_at slot a (number, c)))
-    → is_known h_after ≡ is_known h → AreKnown h c.terms c.holding.addresses
-    → AreUniform h_after (items ++ (number, c) ∷ [])
+    → HasGroup c.terms
     → IsIndexed more keys_after h_after
-indexed-added items more number c keys keys_after h h_after indexed is assigned adds_key adds_holders same_known known uniform =
+indexed-added items more number c keys keys_after h h_after indexed is assigned adds_key adds_holders grouped =
     subst (λ (list : List (ℕ × ClaimValue)). IsIndexed list keys_after h_after) (sym is) (record {
       assigned = assigned_all;
       keys = adds_key ∙ (λ i key. key-at key i);
       holders = λ slot. adds_holders slot ∙ (λ i a. address-at slot a i);
-      shared = shared_all;
-      uniform = uniform;
+      groups = groups_all;
     })
   where
     values : values_of (items ++ (number, c) ∷ []) ≡ values_of items ++ c ∷ []
@@ -367,18 +295,10 @@ indexed-added items more number c keys keys_after h h_after indexed is assigned 
         ap (λ (f : AddressValue → List ℕ). f a ++ numbered_at slot a (number, c)) (indexed.holders slot)
         ∙ sym (numbers_at-added slot items number c a)
 
-    shared_all : AreShared h_after (values_of (items ++ (number, c) ∷ []))
-    shared_all key a e =
-        let either : (is_shared key (values_of items) a || is_shared key (c ∷ []) a) ≡ true =
-        sym (ap (λ (claims : List ClaimValue). is_shared key claims a) values ∙ list_any-append (λ (x : ClaimValue). is_grouped key x.terms && has_address x.holding.addresses a) (values_of items) (c ∷ [])) ∙ e in
-        let before : is_known h key a ≡ true = ⊎_elim
-        (λ old. indexed.shared key a old)
-        (λ new.
-        let own = or_one (is_grouped key c.terms && has_address c.holding.addresses a) new in
-        let parts = and_parts (is_grouped key c.terms) (has_address c.holding.addresses a) own in
-        grouped-known h c.terms c.holding.addresses key a known parts.0 parts.1)
-        (or_cases (is_shared key (values_of items) a) (is_shared key (c ∷ []) a) either) in
-        ap (λ (f : List ℕ → AddressValue → Bool). f key a) same_known ∙ before
+    groups_all : HaveGroups (values_of (items ++ (number, c) ∷ []))
+    groups_all x there =
+        ⊎_elim (λ old. indexed.groups x old) (λ new. subst (λ (y : ClaimValue). HasGroup y.terms) new grouped)
+        (Contains-push_cases (values_of items) c x (subst (λ (claims : List ClaimValue). Contains claims x) values there))
 
 -- a number that is greater than all isn't listed yet
 pub not-listed : (slot : Slot) (a : AddressValue) (items : List (ℕ × ClaimValue)) (number : ℕ) → All (λ p. p.0 < number) items → Contains (numbers_at slot a items) number → ⊥
@@ -410,21 +330,14 @@ not-lost items more number c is fresh none =
     let e : None ≡ Some c = none ∙ ap (λ (list : List (ℕ × ClaimValue)). lookup (λ n. n == number) list) is ∙ found-added items number c fresh in cc
 
 -- the same, of a key and a claim that are found
-pub indexed-pushed : (items more : List (ℕ × ClaimValue)) (number : ℕ) (c found : ClaimValue) (key : Key) (keys keys_after : IndexValue Key) (h mixing h_after : AddressHoldersValue)
+pub indexed-pushed : (items more : List (ℕ × ClaimValue)) (number : ℕ) (c found : ClaimValue) (key : Key) (keys keys_after : IndexValue Key) (h h_after : AddressHoldersValue)
     → IsIndexed items keys h → more ≡ items ++ (number, c) ∷ [] → key ≡ c.key → found ≡ c → is_assigned c.holding ≡ true
     → numbers_under key_cmp keys_after ≡ (λ k. cond (is_at (key_cmp key) k) (numbers_under key_cmp keys k ++ number ∷ []) (numbers_under key_cmp keys k))
-    → in_slot mixing ≡ in_slot h → is_known mixing ≡ is_known h
-    → ((slot : Slot) → claims_having h_after slot ≡ (λ a. claims_having mixing slot a ++ numbered_at slot a (number, found)))
-    → is_known h_after ≡ is_known mixing → AreKnown h c.terms c.holding.addresses
-    → AreUniform mixing items → mixed_of h_after ≡ mixed_of mixing
-    → ((a : AddressValue) → Contains c.holding.addresses a → is_mixed mixing a ≡ false → (p : ℕ × ClaimValue) → HasIt items a p
-    → are_alike p.1.terms c.terms ≡ true)
+    → ((slot : Slot) → claims_having h_after slot ≡ (λ a. claims_having h slot a ++ numbered_at slot a (number, found)))
+    → HasGroup found.terms
     → IsIndexed more keys_after h_after
-indexed-pushed items more number c found key keys keys_after h mixing h_after indexed is key_is found_is assigned adds_key same_slots same_known adds_holders kept_known known uniform kept_mixed alike =
+indexed-pushed items more number c found key keys keys_after h h_after indexed is key_is found_is assigned adds_key adds_holders grouped =
     let list_by : Key → Key → List ℕ = λ term k. cond (is_at (key_cmp term) k) (numbers_under key_cmp keys k ++ number ∷ []) (numbers_under key_cmp keys k) in
-    let list_at : (slot : Slot) → claims_having mixing slot ≡ claims_having h slot = λ slot. ap (λ (f : Slot → Family → ClaimantsValue). λ (a : AddressValue). claims_at (f slot a.family) a.number) same_slots in
     indexed-added items more number c keys keys_after h h_after indexed is assigned (adds_key ∙ ap list_by key_is)
-    (λ slot. adds_holders slot ∙ ap (λ (f : AddressValue → List ℕ). λ (a : AddressValue). f a ++ numbered_at slot a (number, found)) (list_at slot)
-    ∙ ap (λ (x : ClaimValue). λ (a : AddressValue). claims_having h slot a ++ numbered_at slot a (number, x)) found_is)
-    (kept_known ∙ same_known) known
-    (uniform-added items number c mixing h_after uniform kept_mixed alike)
+    (λ slot. adds_holders slot ∙ ap (λ (x : ClaimValue). λ (a : AddressValue). claims_having h slot a ++ numbered_at slot a (number, x)) found_is)
+    (subst (λ (x : ClaimValue). HasGroup x.terms) found_is grouped)

@@ -1,5 +1,5 @@
 -- What the claims under the numbers of a key or of an address say of all claims.
-use Rattle.std.proofs.Common.{◌≡◌, ℕ, ◌+◌, ◌<◌, ◌≤◌, ◌==◌, Bool, true, false, cond, not, ◌&&◌, ◌||◌, List, [], ◌∷◌, ◌++◌, filter, length, Option, Some, None, Less, IfSome, IfNone, refl, sym, ap, ◌∙◌, subst, arith, ⊎_elim}
+use Rattle.std.proofs.Common.{◌≡◌, ℕ, ◌+◌, ◌<◌, ◌≤◌, ◌==◌, Bool, true, false, cond, not, ◌&&◌, ◌||◌, List, [], ◌∷◌, ◌++◌, filter, length, suc, Option, Some, None, Less, IfSome, IfNone, refl, sym, ap, ◌∙◌, subst, arith, ⊎_elim}
 use Rattle.std.specs.Bool.{MatchBool}
 use Rattle.std.specs.List.{Contains, AllByRecursion, AllWithin, HoldsAt, list_any, list_all}
 use Rattle.std.specs.List.Sorted.{IsStrictlySortedBy}
@@ -18,11 +18,11 @@ use Rattle.number_sets.specs.Least.{IsLeastIn, NonePasses}
 use Rattle.sharing_terms.specs.declared.terms.Terms.{Terms}
 use Rattle.sharing_terms.specs.Sharing.{may_share}
 use Rattle.alloc_book.specs.declared.slot.Slot.{Slot}
-use Rattle.alloc_book.specs.declared.slot.Slot.TheVariants.{Any}
+use Rattle.alloc_book.specs.declared.slot.Slot.TheVariants.{Any, OfGroup}
 use Rattle.alloc_book.specs.Slots.{occupies}
 use Rattle.alloc_book.specs.Claims.{ClaimValue, has_claims, loses, claims_it}
-use Rattle.alloc_book.specs.Holders.{AddressHoldersValue, claims_having, is_known}
-use Rattle.alloc_book.specs.Index.{numbers_of, numbered, numbers_at, is_taken, is_shared, AreShared, NoneShared}
+use Rattle.alloc_book.specs.Holders.{AddressHoldersValue, claims_having}
+use Rattle.alloc_book.specs.Index.{numbers_of, numbered, numbers_at, is_taken, is_shared, NoneShared}
 use Rattle.alloc_book.specs.Reading.{is_claim_under, gives_way, is_of, yields}
 use Rattle.alloc_book.specs.Search.{address_of, leaves}
 
@@ -60,6 +60,11 @@ module _ (P : Type 0) where
   pub asked-all : (r : Bool) (xs : List ℕ) → MatchBool r (AllWithin (λ _. P) xs 0 (length xs)) ((k : ℕ) × (k < length xs) × HoldsAt (λ _. P) xs k) → is_nil xs ≡ false → P
   asked-all true xs found some = first-asked xs found some
   asked-all false xs found some = found.2 0
+
+-- once all of some numbers were passed
+pub some-passed : (xs : List ℕ) (i : ℕ) → length xs ≤ i → is_nil xs ≡ false → 0 < i
+some-passed [] i passed some = absurd (true≢false some)
+some-passed (x ∷ xs) i passed some = omega (arith, passed)
 
 -- ---- numbers stand where claims do
 nil-of-by : (b : Bool) (p : ℕ × ClaimValue) (kept : List (ℕ × ClaimValue)) (h : Bool) → is_nil (keys_of kept) ≡ not h → is_nil (keys_of (cond b (p ∷ kept) kept)) ≡ not (b || h)
@@ -136,6 +141,24 @@ module _ (find : ℕ → Option ClaimValue) (test : Option ClaimValue → Bool) 
   any-of-by true p kept rest is ih = rw (is refl, ih) refl
   any-of-by false p kept rest is ih = ih
 
+  count-one : (b : Bool) (n : ℕ) (p : ℕ × ClaimValue) (numbers : List ℕ) (kept : List (ℕ × ClaimValue)) → length numbers ≡ length kept
+      → length (cond b (n ∷ numbers) numbers) ≡ length (cond b (p ∷ kept) kept)
+  count-one true n p numbers kept ih = ap (λ (k : ℕ). suc k) ih
+  count-one false n p numbers kept ih = ih
+
+  count-of-by : (b : Bool) (p : ℕ × ClaimValue) (of_key rest : List (ℕ × ClaimValue)) → (b ≡ true → find p.0 ≡ Some p.1) → length (filter (λ n. test (find n)) (keys_of of_key)) ≡ length rest
+      → length (filter (λ n. test (find n)) (keys_of (cond b (p ∷ of_key) of_key))) ≡ length (cond (b && test (Some p.1)) (p ∷ rest) rest)
+  count-of-by true p of_key rest is ih =
+      ap (λ (o : Option ClaimValue). length (cond (test o) (p.0 ∷ filter (λ n. test (find n)) (keys_of of_key)) (filter (λ n. test (find n)) (keys_of of_key)))) (is refl)
+      ∙ count-one (test (Some p.1)) p.0 p (filter (λ n. test (find n)) (keys_of of_key)) rest ih
+  count-of-by false p of_key rest is ih = ih
+
+  count-of : (key : Key) (items : List (ℕ × ClaimValue)) → AreFound (λ c. same_key c.key key) find items
+      → length (filter (λ n. test (find n)) (numbers_of key items)) ≡ length (filter (λ p. same_key p.1.key key && test (Some p.1)) items)
+  count-of key [] found = refl
+  count-of key (p ∷ items) found =
+      count-of-by (same_key p.1.key key) p (filter (λ p. same_key p.1.key key) items) (filter (λ p. same_key p.1.key key && test (Some p.1)) items) found.0 (count-of key items found.1)
+
   any-of : (key : Key) (items : List (ℕ × ClaimValue)) → AreFound (λ c. same_key c.key key) find items
       → list_any (λ n. test (find n)) (numbers_of key items) ≡ list_any (λ c. same_key c.key key && test (Some c)) (values_of items)
   any-of key [] found = refl
@@ -168,6 +191,11 @@ module _ (items : List (ℕ × ClaimValue)) (numbers : List ℕ) (sorted : is_ni
         ap (list_any (λ n. test (under items n))) are
         ∙ any-of (under items) test key items (found (λ c. same_key c.key key) numbers items (ap is_nil are ∙ nil-of key items) sorted)
 
+    pub count-is : (test : Option ClaimValue → Bool) → length (filter (λ n. test (under items n)) numbers) ≡ length (filter (λ p. same_key p.1.key key && test (Some p.1)) items)
+    count-is test =
+        ap (λ (ns : List ℕ). length (filter (λ n. test (under items n)) ns)) are
+        ∙ count-of (under items) test key items (found (λ c. same_key c.key key) numbers items (ap is_nil are ∙ nil-of key items) sorted)
+
     pub loses-is : (holding : Record) (terms : Terms) → list_any (λ n. not (is_claim_under holding terms (under items n))) numbers ≡ loses key holding terms (values_of items)
     loses-is holding terms = any-is (λ o. not (is_claim_under holding terms o))
 
@@ -193,26 +221,30 @@ module _ (items : List (ℕ × ClaimValue)) (numbers : List ℕ) (sorted : is_ni
           ap (λ x. x && list_all (λ c. not (has_address c.holding.addresses a) || gives_way key terms (Some c)) claims) (or-swap (not (has_address c.holding.addresses a)) (same_key c.key key) (may_share terms c.terms))
           ∙ ap (λ x. leaves key terms a c && x) (leaves-each claims)
 
--- ---- addresses that aren't known by a group have no claim of it
-module _ (h : AddressHoldersValue) (claims : List ClaimValue) (shared : AreShared h claims) (family : Family) (key : List ℕ) where
-  pub unshared-at : (n : ℕ) → is_known h key (address_of family n) ≡ false → is_shared key claims (address_of family n) ≡ false
-  unshared-at n unknown = false-from (is_shared key claims (address_of family n)) (λ e. true≢false (sym (shared key (address_of family n) e) ∙ unknown))
-
-  pub first_shared-some : (found : Option ℕ) (low high : ℕ) → IfSome found (λ n. IsLeastIn (λ m. is_known h key (address_of family m)) low high n)
-      → IfSome found (λ n. (low ≤ n) × (n ≤ high) × NoneShared family key claims low n)
-  first_shared-some None low high least = tt
-  first_shared-some (Some n) low high least = (least.0, least.1, λ m from below. unshared-at m (least.3 m from below))
-
-  pub first_shared-none : (found : Option ℕ) (low high : ℕ) → IfNone found (NonePasses (λ m. is_known h key (address_of family m)) low high)
-      → IfNone found (NoneShared family key claims low (high + 1))
-  first_shared-none None low high none = λ m from below. unshared-at m (none m from (omega (arith, below)))
-  first_shared-none (Some n) low high none = tt
-
--- ---- a key has a claim where it has a number
 not-not : (b : Bool) → not (not b) ≡ b
 not-not true = refl
 not-not false = refl
 
+-- ---- addresses ahead of the first with a claim of a group have none
+module _ (items : List (ℕ × ClaimValue)) (h : AddressHoldersValue) (slot : Slot) (group : List ℕ) (is : slot ≡ OfGroup group) (are : claims_having h slot ≡ (λ a. numbers_at slot a items)) (family : Family) where
+  shared-at : (n : ℕ) → not (is_nil (claims_having h slot (address_of family n))) ≡ is_shared group (values_of items) (address_of family n)
+  shared-at n =
+      ap (λ (f : AddressValue → List ℕ). not (is_nil (f (address_of family n)))) are
+      ∙ ap not (nil-at (address_of family n) slot items)
+      ∙ not-not (is_taken slot (values_of items) (address_of family n))
+      ∙ ap (λ (s : Slot). is_taken s (values_of items) (address_of family n)) is
+
+  pub first_shared-some : (found : Option ℕ) (low high : ℕ) → IfSome found (λ n. IsLeastIn (λ m. not (is_nil (claims_having h slot (address_of family m)))) low high n)
+      → IfSome found (λ n. (low ≤ n) × (n ≤ high) × NoneShared family group (values_of items) low n)
+  first_shared-some None low high least = tt
+  first_shared-some (Some n) low high least = (least.0, least.1, λ m from below. sym (shared-at m) ∙ least.3 m from below)
+
+  pub first_shared-none : (found : Option ℕ) (low high : ℕ) → IfNone found (NonePasses (λ m. not (is_nil (claims_having h slot (address_of family m)))) low high)
+      → IfNone found (NoneShared family group (values_of items) low (high + 1))
+  first_shared-none None low high none = λ m from below. sym (shared-at m) ∙ none m from (omega (arith, below))
+  first_shared-none (Some n) low high none = tt
+
+-- ---- a key has a claim where it has a number
 empty-is : (xs : List ℕ) → (length xs == 0) ≡ is_nil xs
 empty-is [] = refl
 empty-is (x ∷ xs) = grind (arith, nat_tests)

@@ -1,35 +1,31 @@
 -- What is left of a claim in the index once it was removed.
-use Rattle.std.proofs.Common.{◌≡◌, ℕ, ◌+◌, ◌<◌, ◌==◌, Bool, true, false, cond, not, ◌&&◌, ◌||◌, List, [], ◌∷◌, ◌++◌, filter, take, length, get_or, Option, Some, None, Less, refl, sym, ap, ◌∙◌, subst, arith, ⊎_elim, ◌⊎◌, inr}
-use Rattle.std.proofs.lemmas.Bool.{and_parts, or_cases, or_left, or_right, true≢false, cases_Bool}
+use Rattle.std.proofs.Common.{◌≡◌, ℕ, ◌+◌, ◌<◌, ◌==◌, Bool, true, false, cond, not, ◌||◌, List, [], ◌∷◌, ◌++◌, filter, take, length, get_or, Option, Some, None, Less, refl, sym, ap, ◌∙◌, subst, arith, ⊎_elim, ◌⊎◌, inr}
+use Rattle.std.proofs.lemmas.Bool.{true≢false, cases_Bool}
 use Rattle.std.proofs.lemmas.Bool.Decides.{nat_tests, same_from_decides}
 use Rattle.std.proofs.lemmas.List.{take_more}
 use Rattle.std.proofs.lemmas.List.Elements.{filter-append}
 use Rattle.std.proofs.lemmas.List.Folds.{list_any-append}
 use Rattle.std.proofs.lemmas.List.Kept.{IsStrictlySortedBy-filter}
 use Rattle.std.proofs.lemmas.Map.Keys.{sorted_head, sorted_tail}
-use Rattle.std.proofs.lemmas.Slice.Eq.{bytes_eq-Decides}
 use Rattle.std.specs.BTreeMap.{is_at}
-use Rattle.std.specs.List.{Contains, list_any, AllByRecursion}
+use Rattle.std.specs.List.{Contains, AllByRecursion}
 use Rattle.std.specs.List.Sorted.{IsStrictlySortedBy}
 use Rattle.std.specs.Map.{lookup, keys_of, values_of}
-use Rattle.std.specs.Option.{option_map_or}
 use Rattle.std.specs.Ordering.{nat_cmp}
-use Rattle.std.specs.Str.{bytes_eq}
 use Rattle.ip_ranges.specs.Values.{AddressValue, has_address, same_address}
 use Rattle.ip_ranges.proofs.AddressLaws.{same_address-is, same_address-itself}
 use Rattle.kube_model.specs.declared.key.Key.{Key}
 use Rattle.kube_model.specs.Keys.{key_cmp, same_key}
 use Rattle.kube_model.proofs.KeyLaws.{is_eq-key_cmp}
-use Rattle.mlb_base.proofs.Among.{contains-none, contains-cons, contains-first, contains-later, any-contains, any-found}
+use Rattle.mlb_base.proofs.Among.{contains-none, contains-cons, contains-first, contains-later}
 use Rattle.numbered_items.specs.Index.{IndexValue, numbers_under}
 use Rattle.alloc_book.specs.Book.{AreAssigned}
 use Rattle.alloc_book.specs.Claims.{ClaimValue}
-use Rattle.alloc_book.specs.Holders.{AddressHoldersValue, claims_having, is_known}
-use Rattle.alloc_book.specs.Index.{numbers_of, numbered, numbered_at, numbers_at, is_grouped, is_shared, AreShared, IsIndexed}
+use Rattle.alloc_book.specs.Holders.{AddressHoldersValue, claims_having}
+use Rattle.alloc_book.specs.Index.{numbers_of, numbered, numbered_at, numbers_at, HaveGroups, IsIndexed}
 use Rattle.alloc_book.specs.declared.slot.Slot.{Slot}
-use Rattle.alloc_book.specs.declared.slot.Slot.TheVariants.{Any}
 use Rattle.alloc_book.specs.Slots.{occupies}
-use Rattle.alloc_book.specs.Removal.{is_grouped_at, all_but, left_at}
+use Rattle.alloc_book.specs.Removal.{all_but, left_at}
 
 -- ---- lists
 module _ {X : Type 0} (test : X → Bool) where
@@ -148,12 +144,8 @@ among n (p ∷ items) c there =
 assigned-without : (n : ℕ) (items : List (ℕ × ClaimValue)) → AreAssigned (values_of items) → AreAssigned (values_of (without n items))
 assigned-without n items all c there = all c (among n items c there)
 
--- what is known by each group is for fewer claims too
-shared-without : (n : ℕ) (h : AddressHoldersValue) (items : List (ℕ × ClaimValue)) → AreShared h (values_of items) → AreShared h (values_of (without n items))
-shared-without n h items all key a e =
-    let test : ClaimValue → Bool = λ c. is_grouped key c.terms && has_address c.holding.addresses a in
-    let found = any-found test (values_of (without n items)) e in
-    all key a (any-contains test (values_of items) found.0 (among n items found.0 found.1) found.2)
+groups-without : (n : ℕ) (items : List (ℕ × ClaimValue)) → HaveGroups (values_of items) → HaveGroups (values_of (without n items))
+groups-without n items all c there = all c (among n items c there)
 
 -- ---- the numbers of each key
 of-by : (of_key here : Bool) (n : ℕ) (p : ℕ × ClaimValue) (rest : List (ℕ × ClaimValue)) (key : Key) → same_key p.1.key key ≡ of_key → (p.0 == n) ≡ here
@@ -275,51 +267,6 @@ holders-left n c items before after only e change slot =
     ∙ ap (λ (f : AddressValue → List ℕ). cond (occupies slot c) (left_at n c.holding.addresses f) f) (e slot)
     ∙ slot-left (occupies slot c) n slot c items only refl
 
--- ---- what isn't known by a group any more
--- the number of a claim that has the address is one of the numbers at it
-pub named : (test : ℕ → Bool) (n : ℕ) (a : AddressValue) (xs : List AddressValue) → test n ≡ true → has_address xs a ≡ true → list_any test (numbered n xs a) ≡ true
-named test n a xs passes e = ap (λ (b : Bool). list_any test (cond b (n ∷ []) [])) e ∙ or_left (test n) false passes
-
-grouped-among : (key : List ℕ) (a : AddressValue) (items rest : List (ℕ × ClaimValue)) → ((p : ℕ × ClaimValue) → Contains rest p → lookup (λ n. n == p.0) items ≡ Some p.1)
-    → is_shared key (values_of rest) a ≡ true → list_any (is_grouped_at key items) (numbers_at Any a rest) ≡ true
-grouped-among key a items [] found e = absurd (true≢false (sym e))
-grouped-among key a items (p ∷ rest) found e =
-    list_any-append (is_grouped_at key items) (numbered_at Any a p) (numbers_at Any a rest)
-    ∙ ⊎_elim
-    (λ here.
-    let parts = and_parts (is_grouped key p.1.terms) (has_address p.1.holding.addresses a) here in
-    let marked : is_grouped_at key items p.0 ≡ true =
-    ap (λ (o : Option ClaimValue). option_map_or (λ c. is_grouped key c.terms) o false) (found p (contains-first p rest)) ∙ parts.0 in
-    or_left (list_any (is_grouped_at key items) (numbered_at Any a p)) (list_any (is_grouped_at key items) (numbers_at Any a rest))
-    (named (is_grouped_at key items) p.0 a p.1.holding.addresses marked parts.1))
-    (λ later. or_right (list_any (is_grouped_at key items) (numbered_at Any a p)) (list_any (is_grouped_at key items) (numbers_at Any a rest))
-    (grouped-among key a items rest (λ q there. found q (contains-later p rest q there)) later))
-    (or_cases (is_grouped key p.1.terms && has_address p.1.holding.addresses a) (is_shared key (values_of rest) a) e)
-
-unshared-by : (same here known : Bool) → (same && here) ≡ false → known ≡ true → (not (same && here) && known) ≡ true
-unshared-by same here known apart e = rw apart e
-
--- an address that no claim of the group has needn't be known by it
-pub unshared : (key : List ℕ) (address : AddressValue) (items : List (ℕ × ClaimValue)) (before after : AddressHoldersValue) → IsStrictlySortedBy nat_cmp (keys_of items)
-    → list_any (is_grouped_at key items) (numbers_at Any address items) ≡ false
-    → is_known after ≡ (λ k a. not (bytes_eq key k && same_address address a) && is_known before k a)
-    → AreShared before (values_of items) → AreShared after (values_of items)
-unshared key address items before after sorted none change known k a e =
-    ap (λ (f : List ℕ → AddressValue → Bool). f k a) change
-    ∙ unshared-by (bytes_eq key k) (same_address address a) (is_known before k a)
-    (never (bytes_eq key k && same_address address a)
-    (λ both.
-    let parts = and_parts (bytes_eq key k) (same_address address a) both in
-    let keys : key ≡ k = (bytes_eq-Decides key k).0 parts.0 in
-    let addresses : address ≡ a = same_address-is address a parts.1 in
-    let shared : is_shared key (values_of items) address ≡ true =
-    ap (λ (q : List ℕ). is_shared q (values_of items) address) keys ∙ ap (λ (b : AddressValue). is_shared k (values_of items) b) addresses ∙ e in
-    true≢false (sym (grouped-among key address items items (are-found items sorted) shared) ∙ none)))
-    (known k a e)
-
-unshared-kept : (items : List (ℕ × ClaimValue)) (before after : AddressHoldersValue) → is_known after ≡ is_known before → AreShared before (values_of items) → AreShared after (values_of items)
-unshared-kept items before after same known k a e = ap (λ (f : List ℕ → AddressValue → Bool). f k a) same ∙ known k a e
-
 -- ---- the index without a claim
 none-by : (b : Bool) (c : ClaimValue) (found : Option ClaimValue) → cond b (Some c) found ≡ None → b ≡ false
 none-by true c found e = absurd (cc)
@@ -339,9 +286,8 @@ module _ (n : ℕ) (items less : List (ℕ × ClaimValue)) (is : less ≡ withou
   pub removed-assigned : AreAssigned (values_of items) → AreAssigned (values_of less)
   removed-assigned all = subst (λ (l : List (ℕ × ClaimValue)). AreAssigned (values_of l)) (sym is) (assigned-without n items all)
 
-  pub removed-shared : (before after : AddressHoldersValue) → is_known after ≡ is_known before → AreShared before (values_of items) → AreShared after (values_of less)
-  removed-shared before after same all =
-      subst (λ (l : List (ℕ × ClaimValue)). AreShared after (values_of l)) (sym is) (unshared-kept (without n items) before after same (shared-without n before items all))
+  pub removed-groups : HaveGroups (values_of items) → HaveGroups (values_of less)
+  removed-groups all = subst (λ (l : List (ℕ × ClaimValue)). HaveGroups (values_of l)) (sym is) (groups-without n items all)
 
   module _ (c : ClaimValue) (found : Some c ≡ lookup (λ m. m == n) items) where
     only : IsOnly n c items

@@ -8,7 +8,7 @@ use Rattle.alloc_book.specs.declared.choice.Loss.{Loss}
 use Rattle.alloc_book.specs.declared.choice.Loss.TheVariants.{Kept, Lost}
 use Rattle.alloc_book.specs.Claims.{ClaimValue}
 use Rattle.alloc_book.specs.declared.slot.Slot.{Slot}
-use Rattle.alloc_book.specs.Holders.{AddressHoldersValue, HasRoomAt, CanBeMixed, AreKnown}
+use Rattle.alloc_book.specs.Holders.{AddressHoldersValue, HasRoomAt}
 use Rattle.alloc_book.specs.Slots.{occupies}
 use Rattle.kube_model.specs.Records.{is_assigned}
 
@@ -28,8 +28,6 @@ pub record HasRoomFor (room : BookRoom) (c : ClaimValue) : Type 0 where
   pub claim : 0 < room.claims
   pub key : 0 < room_under key_cmp room.keys c.key
   pub addresses : (slot : Slot) → occupies slot c ≡ true → HasRoomAt room.holders (length c.holding.addresses) slot c.holding.addresses
-  pub mixed : CanBeMixed room.holders (length c.holding.addresses) c.holding.addresses
-  pub known : AreKnown room.holders c.terms c.holding.addresses
 
 -- the book can take the claim without memory
 abbrev pub HasRoom : BookValue → ClaimValue → Type 0

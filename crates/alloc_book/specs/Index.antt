@@ -1,24 +1,21 @@
 -- The claims under their numbers, and by what each is found.
-use Rattle.std.specs.Prelude.{◌≡◌, ◌≢◌, ◌⊎◌, ◌≤◌, ◌<◌, ◌-◌, ℕ, length, Bool, true, false, ◌==◌, ◌&&◌, not, if◌then◌else◌, find, List, [], ◌∷◌, ◌++◌, filter, Option, Some, None}
-use Rattle.std.specs.List.{Contains, list_all, list_any, slice_get}
+use Rattle.std.specs.Prelude.{◌≡◌, ◌≤◌, ◌<◌, ◌-◌, ℕ, length, Bool, true, false, ◌==◌, ◌&&◌, not, if◌then◌else◌, find, List, [], ◌∷◌, ◌++◌, filter, Option, Some, None}
+use Rattle.std.specs.List.{Contains, list_any, slice_get}
 use Rattle.std.specs.Map.{lookup, keys_of, values_of}
 use Rattle.std.specs.Option.{option_and_then, option_map_or}
-use Rattle.std.specs.Str.{bytes_eq}
 use Rattle.ip_ranges.specs.declared.family.Family.{Family}
 use Rattle.ip_ranges.specs.Values.{AddressValue, has_address, is_buggy}
 use Rattle.kube_model.specs.declared.key.Key.{Key}
 use Rattle.kube_model.specs.Keys.{key_cmp, same_key}
 use Rattle.numbered_items.specs.Index.{IndexValue, numbers_under}
-use Rattle.sharing_terms.specs.declared.terms.Terms.{Terms}
 use Rattle.pool_config.specs.declared.compiled.CompiledPool.{CompiledPool}
 use Rattle.kube_model.specs.declared.port.Port.{Port}
 use Rattle.alloc_book.specs.declared.slot.Slot.{Slot}
-use Rattle.alloc_book.specs.declared.slot.Slot.TheVariants.{Any, OfPort}
-use Rattle.alloc_book.specs.Alike.{are_alike}
-use Rattle.alloc_book.specs.Groups.{group_of}
+use Rattle.alloc_book.specs.declared.slot.Slot.TheVariants.{OfPort}
+use Rattle.alloc_book.specs.Groups.{HasGroup, is_grouped}
 use Rattle.alloc_book.specs.Slots.{occupies}
 use Rattle.alloc_book.specs.Book.{AreAssigned, BookRoom}
-use Rattle.alloc_book.specs.Holders.{AddressHoldersValue, claims_having, is_known, is_mixed}
+use Rattle.alloc_book.specs.Holders.{AddressHoldersValue, claims_having}
 use Rattle.alloc_book.specs.Claims.{ClaimValue}
 use Rattle.alloc_book.specs.Search.{address_of}
 
@@ -46,10 +43,6 @@ numbered_at slot a p = if occupies slot p.1 then numbered p.0 p.1.holding.addres
 abbrev pub numbers_at : Slot → AddressValue → List (ℕ × ClaimValue) → List ℕ
 numbers_at slot a [] = []
 numbers_at slot a (p ∷ items) = numbered_at slot a p ++ numbers_at slot a items
-
--- the terms are of this group
-abbrev pub is_grouped : List ℕ → Terms → Bool
-is_grouped group terms = bytes_eq (group_of terms) group
 
 -- a claim has the address
 abbrev pub is_held : List ClaimValue → AddressValue → Bool
@@ -84,26 +77,16 @@ abbrev pub Covers : (ℕ → Bool) → (ℕ → Bool) → ℕ → ℕ → Option
 Covers candidate test low high (Some n) = (low ≤ n) × (n ≤ high) × (test n ≡ true) × ((m : ℕ) → low ≤ m → m < n → candidate m ≡ true → test m ≡ false)
 Covers candidate test low high None = (m : ℕ) → low ≤ m → m ≤ high → candidate m ≡ true → test m ≡ false
 
--- each address that a claim of a group has is known by that group; others may be too
-abbrev pub AreShared : AddressHoldersValue → List ClaimValue → Type 0
-AreShared h claims = (group : List ℕ) (a : AddressValue) → is_shared group claims a ≡ true → is_known h group a ≡ true
+-- the terms of each claim have a group
+abbrev pub HaveGroups : List ClaimValue → Type 0
+HaveGroups claims = (c : ClaimValue) → Contains claims c → HasGroup c.terms
 
--- the claim of the number has the address
-abbrev pub HasIt : List (ℕ × ClaimValue) → AddressValue → ℕ × ClaimValue → Type 0
-HasIt items a p = Contains items p × Contains p.1.holding.addresses a
-
--- the claims on an address that isn't mixed are alike; those on others may be too
-abbrev pub AreUniform : AddressHoldersValue → List (ℕ × ClaimValue) → Type 0
-AreUniform h items = (a : AddressValue) → is_mixed h a ≡ false → (p q : ℕ × ClaimValue) → HasIt items a p → HasIt items a q → p.0 ≢ q.0
-    → are_alike p.1.terms q.1.terms ≡ true
-
--- The claims have addresses, and these are what each is found by.
+-- The claims have addresses and groups, and these are what each is found by.
 pub record IsIndexed (items : List (ℕ × ClaimValue)) (by_key : IndexValue Key) (h : AddressHoldersValue) : Type 0 where
   pub assigned : AreAssigned (values_of items)
   pub keys : numbers_under key_cmp by_key ≡ (λ key. numbers_of key items)
   pub holders : (slot : Slot) → claims_having h slot ≡ (λ a. numbers_at slot a items)
-  pub shared : AreShared h (values_of items)
-  pub uniform : AreUniform h items
+  pub groups : HaveGroups (values_of items)
 
 -- no address of the family that a claim of the group has has a number from low on, below high
 abbrev pub NoneShared : Family → List ℕ → List ClaimValue → ℕ → ℕ → Type 0
@@ -116,24 +99,6 @@ AreBarred ports claims family low high = (n : ℕ) → low ≤ n → n < high �
 -- the number stands at the end
 abbrev pub ends_with : ℕ → List ℕ → Bool
 ends_with n numbers = option_map_or (λ m. m == n) (slice_get numbers (length numbers - 1)) false
-
--- the first claim of the numbers is alike with the terms, or there is no number
-abbrev pub is_like_first : Terms → List (ℕ × ClaimValue) → List ℕ → Bool
-is_like_first terms items [] = true
-is_like_first terms items (n ∷ numbers) = option_map_or (λ c. are_alike c.terms terms) (lookup (λ m. m == n) items) false
-
--- the claim of the number is alike with the terms
-abbrev pub is_like : Terms → List (ℕ × ClaimValue) → ℕ → Bool
-is_like terms items n = option_map_or (λ c. are_alike c.terms terms) (lookup (λ m. m == n) items) false
-
--- the claims of the numbers are alike with the first of them
-abbrev pub are_like_first : List (ℕ × ClaimValue) → List ℕ → Bool
-are_like_first items [] = true
-are_like_first items (n ∷ numbers) = option_map_or (λ c. list_all (is_like c.terms items) (n ∷ numbers)) (lookup (λ m. m == n) items) false
-
--- at the address fewer than two claims are listed, or such as are alike
-abbrev pub AreAlikeAt : AddressHoldersValue → List (ℕ × ClaimValue) → AddressValue → Type 0
-AreAlikeAt h items a = (length (claims_having h Any a) < 2) ⊎ (are_like_first items (claims_having h Any a) ≡ true)
 
 -- An index of claims as the book sees it.
 pub record ClaimIndexValue : Type 0 where

@@ -7,6 +7,7 @@ use Rattle.kube_model.specs.Keys.{same_key}
 use Rattle.sharing_terms.specs.Sharing.{may_share}
 use Rattle.sharing_terms.specs.declared.terms.Terms.{Terms}
 use Rattle.alloc_book.specs.declared.slot.Slot.{Slot}
+use Rattle.alloc_book.specs.Alike.{are_alike}
 use Rattle.alloc_book.specs.Slots.{occupies}
 use Rattle.alloc_book.specs.Claims.{ClaimValue, is_under}
 
@@ -28,3 +29,12 @@ is_of key (Some c) = same_key c.key key
 -- the claim isn't in the slot at the address, or it is of the key
 abbrev pub yields : Key → Slot → AddressValue → ClaimValue → Bool
 yields key slot a c = not (occupies slot c && has_address c.holding.addresses a) || same_key c.key key
+
+-- there is a claim, and it has the address, and its terms aren't alike with these
+abbrev pub is_odd : Terms → AddressValue → Option ClaimValue → Bool
+is_odd terms a None = false
+is_odd terms a (Some c) = has_address c.holding.addresses a && not (are_alike c.terms terms)
+
+-- the claim doesn't have the address, or is of the key, or its terms are alike with these
+abbrev pub belongs : Key → Terms → AddressValue → ClaimValue → Bool
+belongs key terms a c = not (has_address c.holding.addresses a) || (same_key c.key key || are_alike c.terms terms)

@@ -37,9 +37,10 @@ use std::alloc::Global;
 use std::marker::Model;
 
 /// The records that each service has, or may have: those with an address. Those of a key and those that have an address are found in
-/// the logarithm of their number. A change takes this for each address of the record, once among all records there and once for each
-/// port of its mark, and moves the runs of held addresses behind it; where a record goes, it goes through those that are listed with
-/// it. Contracts see the list of the records, and for how much more there is room, which may end with the next change or reservation.
+/// the logarithm of their number. A change takes this for each address of the record, once among all records there, once among those of
+/// its group and once for each port of its mark, and moves what stands behind it: the runs of held addresses, and where a record goes,
+/// the numbers of those that came later. Contracts see the list of the records, and for how much more there is room, which may end with
+/// the next change or reservation.
 #[derive(Drop)]
 pub struct Book {
     alloc: Global,

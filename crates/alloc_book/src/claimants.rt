@@ -1,5 +1,5 @@
 //! The claims that are listed at the addresses of one family.
-ghost use Rattle.std.specs.Prelude.{◌≡◌, ◌≤◌, ◌<◌, ◌+◌, ◌==◌, ℕ, ◌∷◌, ◌++◌, [], not, filter, if◌then◌else◌, OnOk, IfSome, IfNone};
+ghost use Rattle.std.specs.Prelude.{◌≡◌, ◌≤◌, ◌<◌, ◌+◌, ◌==◌, ℕ, ◌∷◌, ◌++◌, [], not, filter, if◌then◌else◌, IsTrue, OnOk, IfSome, IfNone};
 ghost use Rattle.mlb_base.specs.Items.{is_nil};
 ghost use Rattle.alloc_book.specs.Holders.{claims_at, claim_room_at};
 ghost use Rattle.number_sets.specs.Least.{IsLeastIn, NonePasses};
@@ -91,5 +91,20 @@ impl Claimants {
         ensures none { IfNone result (NonePasses (λ m. is_nil (claims_at self.now m)) low high) }
     {
         self.held.first_absent(low, high)
+    }
+
+    /// The least address from low to high at which a claim is listed.
+    pub(crate) fn first_held(&self, low: u128, high: u128) -> Option<u128>
+        ensures some { IfSome result (λ n. IsLeastIn (λ m. not (is_nil (claims_at self.now m))) low high n) }
+        ensures none { IfNone result (NonePasses (λ m. not (is_nil (claims_at self.now m))) low high) }
+    {
+        self.held.first_present(low, high)
+    }
+
+    /// Whether no claim is listed at any address.
+    pub(crate) fn is_empty(&self) -> bool
+        ensures { IsTrue result → claims_at self.now ≡ (λ n. []) }
+    {
+        self.held.is_empty()
     }
 }

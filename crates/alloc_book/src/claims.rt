@@ -4,11 +4,12 @@ ghost use Rattle.std.specs.Option.{option_map};
 ghost use Rattle.sharing_terms.specs.Ports.{AreAscending};
 ghost use Rattle.sharing_terms.specs.Spelled.{recorded_terms};
 ghost use Rattle.alloc_book.specs.Claims.{ClaimValue, terms_under};
-ghost use Rattle.alloc_book.specs.Groups.{group_of};
+ghost use Rattle.alloc_book.specs.declared.slot.Slot.TheVariants.{OfGroup};
+ghost use Rattle.alloc_book.specs.Groups.{group_of, HasGroup};
 
 use crate::grouped::GroupedTerms;
+use crate::slot::Slot;
 use ip_ranges::Address;
-use kube_labels::Text;
 use kube_model::{Key, Port, Record};
 use mlb_base::{NoMemory, TryCopy};
 use sharing_terms::{Terms, read_mark};
@@ -88,9 +89,10 @@ impl Claim {
         self.terms.terms()
     }
 
-    /// What it has in common with those with which it may share.
-    pub(crate) fn group(&self) -> &Text
-        ensures { result.now ≡ group_of self.now.terms }
+    /// The slot of those with which it may share.
+    pub(crate) fn group(&self) -> &Slot
+        ensures slot { result.now ≡ OfGroup (group_of self.now.terms) }
+        ensures grouped { HasGroup self.now.terms }
     {
         self.terms.group()
     }

@@ -1,7 +1,9 @@
 //! Terms, with their group.
-ghost use Rattle.std.specs.Prelude.{◌≡◌, IfOk};
-ghost use Rattle.alloc_book.specs.Groups.{group_of};
+ghost use Rattle.std.specs.Prelude.{◌≡◌, IfOk, OnOk};
+ghost use Rattle.alloc_book.specs.declared.slot.Slot.TheVariants.{OfGroup};
+ghost use Rattle.alloc_book.specs.Groups.{group_of, HasGroup};
 
+use crate::slot::Slot;
 use kube_labels::Text;
 use mlb_base::{NoMemory, TryCopy};
 use sharing_terms::{PortSet, Terms, mark_text};
@@ -12,19 +14,18 @@ use std::marker::Model;
 #[derive(Drop)]
 pub struct GroupedTerms {
     terms: Terms,
-    group: Text,
+    group: Slot,
 }
 
 impl Model for GroupedTerms {
-    ghost use Rattle.std.specs.Prelude.{◌≡◌};
     ghost use Rattle.sharing_terms.specs.declared.terms.Terms.{Terms};
-    ghost use Rattle.alloc_book.specs.Groups.{group_of};
+    ghost use Rattle.alloc_book.specs.Groups.{IsSlotOf};
 
     ghost Value = { Terms };
 
     ghost view = { λ g. g.terms };
 
-    ghost invariant = { λ g. g.group ≡ group_of g.terms };
+    ghost invariant = { λ g. IsSlotOf g.terms g.group };
 }
 
 impl GroupedTerms {
@@ -36,7 +37,10 @@ impl GroupedTerms {
             drop(terms);
             return Err(NoMemory);
         };
-        Ok(GroupedTerms { terms, group })
+        Ok(GroupedTerms {
+            terms,
+            group: Slot::OfGroup(group),
+        })
     }
 
     pub fn terms(&self) -> &Terms
@@ -45,9 +49,10 @@ impl GroupedTerms {
         &self.terms
     }
 
-    /// The sharing key and the backend, as one text.
-    pub(crate) fn group(&self) -> &Text
-        ensures { result.now ≡ group_of self.now }
+    /// The slot of the claims of this sharing key and backend.
+    pub(crate) fn group(&self) -> &Slot
+        ensures slot { result.now ≡ OfGroup (group_of self.now) }
+        ensures grouped { HasGroup self.now }
     {
         &self.group
     }
@@ -56,7 +61,8 @@ impl GroupedTerms {
 /// The mark of the terms without their ports.
 #[tactic(auto, unfolding(crate::specs::Groups::group_of))]
 fn group_text(alloc: Global, terms: &Terms) -> Result<Text, NoMemory>
-    ensures { IfOk result (λ group. group ≡ group_of terms.now) }
+    ensures group { IfOk result (λ group. group ≡ group_of terms.now) }
+    ensures grouped { OnOk result (HasGroup terms.now) }
 {
     let portless = Terms {
         key: terms.key.copy()?,

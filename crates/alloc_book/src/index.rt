@@ -1,5 +1,5 @@
 //! The claims under their numbers, and by what each is found.
-ghost use Rattle.std.specs.Prelude.{◌≡◌, ℕ, ◌≤◌, ◌<◌, ◌+◌, ◌^◌, ◌==◌, ◌∷◌, ◌++◌, [], true, not, nat_lt, filter, find, Some, IsTrue, OnOk, IfSome, IfNone};
+ghost use Rattle.std.specs.Prelude.{◌≡◌, ◌≤◌, ◌<◌, ◌+◌, ◌^◌, ◌==◌, ◌∷◌, ◌++◌, [], true, false, not, nat_lt, length, filter, find, OnOk, IfSome, IfNone};
 ghost use Rattle.std.specs.List.{All, list_all};
 ghost use Rattle.std.specs.List.Sorted.{IsStrictlySortedBy};
 ghost use Rattle.std.specs.Map.{lookup, keys_of, values_of};
@@ -7,22 +7,24 @@ ghost use Rattle.std.specs.Option.{option_copied, option_map};
 ghost use Rattle.std.specs.Ordering.{nat_cmp};
 ghost use Rattle.kube_model.specs.Records.{is_assigned};
 ghost use Rattle.alloc_book.specs.declared.slot.Slot.TheVariants.{OfPort};
-ghost use Rattle.alloc_book.specs.Alike.{are_alike};
+ghost use Rattle.mlb_base.specs.Items.{is_nil};
 ghost use Rattle.alloc_book.specs.Book.{AreAssigned, HasRoomFor};
-ghost use Rattle.alloc_book.specs.Claims.{ClaimValue, loses, claims_it, has_claims};
-ghost use Rattle.alloc_book.specs.Index.{numbers_of, first_but, first_other, is_taken, HasIt, NoneShared};
-ghost use Rattle.alloc_book.specs.Reading.{is_claim_under, gives_way, is_of, yields};
+ghost use Rattle.alloc_book.specs.Claims.{loses, claims_it, has_claims};
+ghost use Rattle.alloc_book.specs.Groups.{group_of};
+ghost use Rattle.alloc_book.specs.Index.{numbers_of, first_but, first_other, is_taken, NoneShared};
+ghost use Rattle.alloc_book.specs.Reading.{is_claim_under, gives_way, is_of, yields, is_odd, belongs};
 ghost use Rattle.alloc_book.specs.Search.{address_of, leaves};
 ghost use Rattle.number_sets.specs.Least.{IsLeastIn, NonePasses};
 
 use crate::address_holders::AddressHolders;
-use crate::alike::{is_like_first, same_terms};
+use crate::alike::{are_alike, same_terms};
 use crate::claims::Claim;
-use crate::growth::{add_claim, mix_each, reserve_claim, share_each};
-use crate::removal::{remove_claim, unmix_each, unshare_each};
+use crate::grouped::GroupedTerms;
+use crate::growth::{add_claim, reserve_claim};
+use crate::removal::remove_claim;
+use crate::search::has_address;
 use crate::slot::Slot;
 use ip_ranges::{Address, Family};
-use kube_labels::Text;
 use kube_model::{Key, Port};
 use mlb_base::{NoMemory, TryCopy};
 use numbered_items::{InvertedIndex, NumberedList};
@@ -70,9 +72,7 @@ impl ClaimIndex {
     {
         self.claims.reserve()?;
         self.by_key.reserve(claim.key().copy()?, 1)?;
-        reserve_claim(&mut self.holders, claim)?;
-        share_each(&mut self.holders, claim.group(), claim.addresses())?;
-        Ok(())
+        reserve_claim(&mut self.holders, claim)
     }
 
     /// The claim is added at the end, and its number is answered. There is room for it, so it takes no memory.
@@ -82,7 +82,6 @@ impl ClaimIndex {
         ensures items { self.new.items ≡ self.old.items ++ (result, claim) ∷ [] }
         ensures fresh { All (λ p. p.0 < result) self.old.items }
     {
-        mix_each(&self.claims, &mut self.holders, &claim);
         let number = self.claims.push(claim);
         if let Some(claim) = self.claims.get(number) {
             self.by_key.add(claim.key(), number);
@@ -100,13 +99,6 @@ impl ClaimIndex {
         };
         self.by_key.remove(claim.key(), number);
         remove_claim(&mut self.holders, &claim, number);
-        unmix_each(&self.claims, &mut self.holders, &claim);
-        unshare_each(
-            &self.claims,
-            &mut self.holders,
-            claim.group(),
-            claim.addresses(),
-        );
         drop(claim);
     }
 
@@ -174,39 +166,40 @@ impl ClaimIndex {
         !self.by_key.numbers(key).is_empty()
     }
 
-    /// Whether each claim leaves the address to a service of this key and these terms. Where the claims on the address are alike with
-    /// the terms, those with a port of the terms are asked alone.
-    pub(crate) fn all_leave(&self, key: &Key, terms: &Terms, address: &Address) -> bool
+    /// Whether each claim leaves the address to a service of this key and these terms. Where they have a sharing key, only the claims of
+    /// the key and those with a port of the terms are asked.
+    pub(crate) fn all_leave(&self, key: &Key, terms: &GroupedTerms, address: &Address) -> bool
         ensures { result ≡ list_all (leaves key.now terms.now address.now) (values_of self.now.items) }
     {
-        if self.are_like(terms, address) {
-            self.all_yield(key, terms.ports.as_slice(), address)
-        } else {
-            self.all_give_way(key, terms, address)
+        let asked = terms.terms();
+        if asked.key.as_str().is_empty() {
+            return self.all_give_way(key, asked, address);
         }
+        self.all_belong(key, terms, address) && self.all_yield(key, asked.ports.as_slice(), address)
     }
 
-    /// Whether the claims on the address are known to be alike with the terms.
-    fn are_like(&self, terms: &Terms, address: &Address) -> bool
-        ensures { IsTrue result → (p : ℕ × ClaimValue) → HasIt self.now.items address.now p
-            → are_alike p.1.terms terms.now ≡ true }
+    /// Whether each claim on the address is of the key, or alike with the terms, which have a sharing key. That is so where as many claims
+    /// aren't of their group as there are such of the key.
+    fn all_belong(&self, key: &Key, terms: &GroupedTerms, address: &Address) -> bool
+        requires { is_nil terms.now.key ≡ false }
+        ensures { result ≡ list_all (belongs key.now terms.now address.now) (values_of self.now.items) }
     {
-        let numbers = self.holders.numbers(Slot::Any, address);
-        !self.holders.is_mixed(address) && is_like_first(&self.claims, numbers, terms)
+        let all = self.holders.numbers(&Slot::Any, address).len();
+        let grouped = self.holders.numbers(terms.group(), address).len();
+        let own = self.by_key.numbers(key);
+        all.saturating_sub(grouped) == count_odd(&self.claims, own, terms.terms(), address)
     }
 
     /// Whether each claim that has the address and one of the ports is of the key.
     fn all_yield(&self, key: &Key, ports: &[Port], address: &Address) -> bool
         ensures { result ≡ list_all (λ port. list_all (yields key.now (OfPort port) address.now) (values_of self.now.items)) ports.now }
     {
-        ports
-            .iter()
-            .all(|port| self.yields_slot(key, Slot::OfPort(*port), address))
+        ports.iter().all(|port| self.yields_slot(key, &Slot::OfPort(*port), address))
     }
 
     /// Whether each claim in the slot that has the address is of the key.
-    fn yields_slot(&self, key: &Key, slot: Slot, address: &Address) -> bool
-        ensures { result ≡ list_all (yields key.now slot address.now) (values_of self.now.items) }
+    fn yields_slot(&self, key: &Key, slot: &Slot, address: &Address) -> bool
+        ensures { result ≡ list_all (yields key.now slot.now address.now) (values_of self.now.items) }
     {
         let claims = &self.claims;
         self.holders
@@ -221,7 +214,7 @@ impl ClaimIndex {
     {
         let claims = &self.claims;
         self.holders
-            .numbers(Slot::Any, address)
+            .numbers(&Slot::Any, address)
             .iter()
             .all(|number| gives_way(claims, *number, key, terms))
     }
@@ -229,29 +222,29 @@ impl ClaimIndex {
     /// The least number from low to high of an address of the family that no claim in the slot has.
     pub(crate) fn first_unheld(
         &self,
-        slot: Slot,
+        slot: &Slot,
         family: Family,
         low: u128,
         high: u128,
     ) -> Option<u128>
-        ensures some { IfSome result (λ n. IsLeastIn (λ m. not (is_taken slot (values_of self.now.items) (address_of family m))) low high n) }
-        ensures none { IfNone result (NonePasses (λ m. not (is_taken slot (values_of self.now.items) (address_of family m))) low high) }
+        ensures some { IfSome result (λ n. IsLeastIn (λ m. not (is_taken slot.now (values_of self.now.items) (address_of family m))) low high n) }
+        ensures none { IfNone result (NonePasses (λ m. not (is_taken slot.now (values_of self.now.items) (address_of family m))) low high) }
     {
         self.holders.first_unheld(slot, family, low, high)
     }
 
-    /// A number from low to high before which no address of the family has a claim of the group; `None` where none up to high has.
+    /// A number from low to high before which no address of the family has a claim of the terms' group; `None` where none up to high has.
     pub(crate) fn first_shared(
         &self,
         family: Family,
-        group: &Text,
+        terms: &GroupedTerms,
         low: u128,
         high: u128,
     ) -> Option<u128>
-        ensures some { IfSome result (λ n. (low ≤ n) × (n ≤ high) × NoneShared family group.now (values_of self.now.items) low n) }
-        ensures none { IfNone result (NoneShared family group.now (values_of self.now.items) low (high + 1)) }
+        ensures some { IfSome result (λ n. (low ≤ n) × (n ≤ high) × NoneShared family (group_of terms.now) (values_of self.now.items) low n) }
+        ensures none { IfNone result (NoneShared family (group_of terms.now) (values_of self.now.items) low (high + 1)) }
     {
-        self.holders.first_shared(family, group, low, high)
+        self.holders.first_held(terms.group(), family, low, high)
     }
 }
 
@@ -291,5 +284,37 @@ fn is_of(claims: &NumberedList<Claim>, number: u64, key: &Key) -> bool
     match claims.get(number) {
         Some(claim) => claim.key() == key,
         None => true,
+    }
+}
+
+/// How many of the claims of the numbers have the address under terms that aren't alike with these.
+fn count_odd(
+    claims: &NumberedList<Claim>,
+    numbers: &[u64],
+    terms: &Terms,
+    address: &Address,
+) -> usize
+    ensures count { result ≡ length (filter (λ n. is_odd terms.now address.now (lookup (λ m. m == n) claims.now.items)) numbers.now) }
+    ensures ascending { is_nil numbers.now ≡ false → IsStrictlySortedBy nat_cmp (keys_of claims.now.items) }
+{
+    let mut count = 0;
+    for number in numbers {
+        if is_odd(claims, *number, terms, address) {
+            count += 1;
+        }
+    }
+    count
+}
+
+/// Whether the claim of that number has the address under terms that aren't alike with these.
+fn is_odd(claims: &NumberedList<Claim>, number: u64, terms: &Terms, address: &Address) -> bool
+    ensures value { result ≡ is_odd terms.now address.now (lookup (λ n. n == number) claims.now.items) }
+    ensures ascending { IsStrictlySortedBy nat_cmp (keys_of claims.now.items) }
+{
+    match claims.get(number) {
+        Some(claim) => {
+            has_address(claim.addresses(), address) && !are_alike(claim.terms(), terms)
+        }
+        None => false,
     }
 }

@@ -68,7 +68,7 @@ pub(crate) fn may_use(
 {
     is_in(pool, address)
         && !is_avoided(pool, address)
-        && book.index().all_leave(key, terms.terms(), address)
+        && book.index().all_leave(key, terms, address)
 }
 
 fn is_avoided(pool: &CompiledPool, address: &Address) -> bool
@@ -90,7 +90,7 @@ fn first_free(
     ensures none { IfNone result (NonePasses (numbered (is_free (values_of index.now.items) pool.now) family) low high) }
 {
     let mut from = low;
-    while let Some(number) = index.first_unheld(Slot::Any, family, from, high) {
+    while let Some(number) = index.first_unheld(&Slot::Any, family, from, high) {
         if !is_avoided(pool, &Address { family, number }) {
             return Some(number);
         }
@@ -185,7 +185,7 @@ fn first_left(
 {
     let mut left = low;
     for port in ports {
-        left = index.first_unheld(Slot::OfPort(*port), family, left, high)?;
+        left = index.first_unheld(&Slot::OfPort(*port), family, left, high)?;
     }
     Some(left)
 }
@@ -211,7 +211,7 @@ fn least_shared(
     let index = book.index();
     let ports = terms.terms().ports.as_slice();
     let mut from = low;
-    while let Some(shared) = index.first_shared(family, terms.group(), from, high) {
+    while let Some(shared) = index.first_shared(family, terms, from, high) {
         let number = first_left(index, ports, family, shared, high)?;
         if may_use(book, pool, key, terms, &Address { family, number }) {
             return Some(number);

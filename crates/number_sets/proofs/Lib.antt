@@ -1,4 +1,2 @@
-mod GroupedLeast
-mod GroupedSets
 pub mod EditLaws
 pub mod RunLaws

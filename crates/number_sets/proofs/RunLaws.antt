@@ -7,7 +7,7 @@ use Rattle.std.specs.Option.{IsSomeAnd}
 use Rattle.std.proofs.lemmas.List.Sorted.{IsPartitionedBy-ltb}
 use Rattle.std.specs.List.Sorted.{IsNonDecreasingBy, IsPartitionedBy, IsPartitionPoint}
 use Rattle.number_sets.specs.declared.runs.Run.{Run}
-use Rattle.number_sets.specs.RunLists.{is_in_run, has_number, AreRunsFrom, count_numbers, IsFirstFrom, IsRunOf, IsSetTo}
+use Rattle.number_sets.specs.RunLists.{is_in_run, has_number, AreRunsFrom, count_numbers, IsFirstFrom, IsFound, IsRunOf, IsSetTo}
 
 pub lower : (a b : ℕ) (runs : List Run) → b ≤ a → AreRunsFrom a runs → AreRunsFrom b runs
 lower a b [] less up = tt
@@ -144,6 +144,21 @@ run-of n runs i r up point within e from =
       all = λ m less more. has-at runs i r m e (omega (arith, from, less)) more;
       behind = absent-after (r.last + 1) runs i within (ends-before n runs i point (r.last + 1) (omega (arith, to))) r up e refl;
     }
+
+-- the run at the index that was found for a number is the first with a number from that one on
+module _ (n : ℕ) (runs : List Run) (i : ℕ) (found : IsFound n runs i) where
+  pub none-past : slice_get runs i ≡ None → (m : ℕ) → n ≤ m → has_number runs m ≡ false
+  none-past e m less = absent-past m runs i found.within (ends-before n runs i found.point m less) e
+
+  module _ (r : Run) (e : slice_get runs i ≡ Some r) where
+    pub none-ahead : (m : ℕ) → n ≤ m → m < r.first → has_number runs m ≡ false
+    none-ahead m less below = absent-before m runs i found.within (ends-before n runs i found.point m less) r found.apart e below
+
+    pub has-start : r.first ≤ n → has_number runs n ≡ true
+    has-start from = has-at runs i r n e from (ends-from n runs i r found.point e)
+
+    pub has-first : has_number runs r.first ≡ true
+    has-first = has-at runs i r r.first e (omega arith) (apart-at runs i r found.apart e).1
 
 same_by : (e flag h : Bool) → (e ≡ true → h ≡ flag) → h ≡ cond e flag h
 same_by true flag h is = is refl

@@ -1,4 +1,3 @@
-pub mod Grouped
 pub mod Least
 pub mod RunLists
 pub mod Runs

@@ -1,8 +1,6 @@
-//! Sets of numbers: as sorted runs, and by group.
+//! Sets of numbers, as sorted runs.
 #![tactic(auto)]
 
-mod grouped;
 mod runs;
 
-pub use grouped::GroupedNumbers;
 pub use runs::NumberRuns;

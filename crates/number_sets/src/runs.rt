@@ -1,5 +1,5 @@
 //! Sets of numbers as sorted runs.
-ghost use Rattle.std.specs.Prelude.{◌≡◌, ◌≤◌, ◌<◌, ◌+◌, ◌-◌, ◌==◌, ◌||◌, ◌&&◌, true, false, not, length, slice_get, vec_len, vec_capacity, IfSome, IfNone, IsSomeAnd, OnOk};
+ghost use Rattle.std.specs.Prelude.{◌≡◌, ◌≤◌, ◌<◌, ◌+◌, ◌-◌, ◌==◌, ◌||◌, ◌&&◌, true, false, not, length, slice_get, vec_len, vec_capacity, IsTrue, IfSome, IfNone, IsSomeAnd, OnOk};
 ghost use Rattle.std.specs.List.{insert};
 ghost use Rattle.number_sets.specs.Least.{IsLeastIn, NonePasses};
 ghost use Rattle.number_sets.specs.RunLists.{AreRunsFrom, IsFound, IsRunOf, IsSetTo, count_numbers, has_number};
@@ -95,6 +95,21 @@ impl NumberRuns {
         run_of(&self.runs, number).is_some()
     }
 
+    /// Whether no number is in the set.
+    pub fn is_empty(&self) -> bool
+        ensures { IsTrue result → has self.now ≡ (λ n. false) }
+    {
+        self.runs.is_empty()
+    }
+
+    /// The least number from low to high that is in the set; in the logarithm of the number of runs.
+    pub fn first_present(&self, low: u128, high: u128) -> Option<u128>
+        ensures some { IfSome result (λ n. IsLeastIn (has self.now) low high n) }
+        ensures none { IfNone result (NonePasses (has self.now) low high) }
+    {
+        first_of(&self.runs, low, high)
+    }
+
     /// The least number from low to high that isn't in the set; in the logarithm of the number of runs.
     pub fn first_absent(&self, low: u128, high: u128) -> Option<u128>
         ensures some { IfSome result (λ n. IsLeastIn (λ m. not (has self.now m)) low high n) }
@@ -139,6 +154,26 @@ fn run_of(runs: &[Run], number: u128) -> Option<Run>
 {
     let run = run_at(runs, first_from(runs, number))?;
     if run.first <= number { Some(run) } else { None }
+}
+
+/// The least number from low to high that is in a run.
+fn first_of(runs: &[Run], low: u128, high: u128) -> Option<u128>
+    requires { AreRunsFrom 0 runs.now }
+    ensures some { IfSome result (λ n. IsLeastIn (has_number runs.now) low high n) }
+    ensures none { IfNone result (NonePasses (has_number runs.now) low high) }
+{
+    if high < low {
+        return None;
+    }
+    let run = run_at(runs, first_from(runs, low))?;
+    if high < run.first {
+        return None;
+    }
+    if run.first <= low {
+        Some(low)
+    } else {
+        Some(run.first)
+    }
 }
 
 /// Puts the number in, at the first run that ends right before it or later. Whether it wasn't there is answered.

@@ -1,7 +1,7 @@
 use Rattle.std.proofs.Common.{◌≡◌, false, take, ◌++◌}
 use Rattle.ip_ranges.specs.Values.{AddressValue}
 use Rattle.alloc_book.specs.declared.slot.Slot.{Slot}
-use Rattle.alloc_book.specs.Holders.{in_slot, claims_having, is_known, mixed_of}
+use Rattle.alloc_book.specs.Holders.{in_slot, claims_having}
 use Rattle.alloc_book.specs.Index.{numbered}
 use Rattle.alloc_book.specs.Slots.{same_slot}
 use Rattle.alloc_book.proofs.IndexGrowth.{HasRoomFrom}
@@ -13,6 +13,4 @@ invariant-loop-address l =
       room : HasRoomFrom l.holders l.slot l.addresses l.address-index;
       numbers : (a : AddressValue) → claims_having l.holders l.slot a ≡ claims_having l.fn.holders l.slot a ++ numbered l.number (take l.address-index l.addresses) a;
       others : (s : Slot) → same_slot l.slot s ≡ false → in_slot l.holders s ≡ in_slot l.fn.holders s;
-      shared : is_known l.holders ≡ is_known l.fn.holders;
-      mixed : mixed_of l.holders ≡ mixed_of l.fn.holders;
     }

@@ -1,44 +1,41 @@
-use Rattle.std.proofs.Common.{length, ◌∙◌}
-use Rattle.alloc_book.proofs.GrowthLaws.{room-start, room-next, mixed-same}
-use Rattle.alloc_book.proofs.IndexGrowth.{same-claims, same-mixing}
+use Rattle.std.proofs.Common.{[], ◌+◌, length, take, get_or, refl, ◌∙◌}
+use Rattle.kube_model.specs.declared.port.Port.{Port}
+use Rattle.kube_model.specs.declared.port.Protocol.TheVariants.{Tcp}
+use Rattle.alloc_book.specs.declared.slot.Slot.TheVariants.{Any, OfPort}
+use Rattle.alloc_book.specs.Groups.{group_of}
+use Rattle.alloc_book.specs.Slots.{is_slot_of}
+use Rattle.alloc_book.proofs.GrowthLaws.{no_slot, first_slot, room-none, room-next, slots-start, slots-more}
 use Rattle.alloc_book.proofs.growth.reserve_claim.Goals as goal
 
-pub returns-in_err-reserve_mixed-clause-numbers : goal.returns-in_err-reserve_mixed-clause-numbers
-returns-in_err-reserve_mixed-clause-numbers c s = same-claims c.args.holders.now c.reserve_mixed.new.holders s c.reserve_mixed.ensures.slots
-
-pub returns-in_err-reserve_each-clause-numbers : goal.returns-in_err-reserve_each-clause-numbers
-returns-in_err-reserve_each-clause-numbers c s = c.reserve_each.ensures.numbers s ∙ same-claims c.args.holders.now c.reserve_mixed.new.holders s c.reserve_mixed.ensures.slots
-
-pub returns-in_err-reserve_each-clause-mixed : goal.returns-in_err-reserve_each-clause-mixed
-returns-in_err-reserve_each-clause-mixed c = same-mixing c.reserve_mixed.new.holders c.reserve_each.new.holders c.reserve_each.ensures.mixed ∙ c.reserve_mixed.ensures.mixed
+pub returns-in_err-reserve_each-2-clause-numbers : goal.returns-in_err-reserve_each-2-clause-numbers
+returns-in_err-reserve_each-2-clause-numbers c s = c.reserve_each-2.ensures.numbers s ∙ c.reserve_each.ensures.numbers s
 
 pub loop-port-init : goal.loop-port-init
-loop-port-init c = record {
-  numbers = λ s. c.reserve_each.ensures.numbers s ∙ same-claims c.args.holders.now c.reserve_mixed.new.holders s c.reserve_mixed.ensures.slots;
-  room = room-start c.reserve_each.new.holders (length c.args.claim.now.holding.addresses) c.args.claim.now.holding.addresses
-      (rw (← c.addresses-addresses.ensures) c.in_ok-reserve_each.ensures.room);
-  mixed_room = mixed-same c.reserve_mixed.new.holders c.reserve_each.new.holders (length c.args.claim.now.holding.addresses) c.args.claim.now.holding.addresses c.reserve_each.ensures.mixed
-      (rw (← c.addresses-addresses.ensures) c.in_ok-reserve_mixed.ensures.room);
-  shared = c.reserve_each.ensures.shared ∙ c.reserve_mixed.ensures.shared;
-  mixed = same-mixing c.reserve_mixed.new.holders c.reserve_each.new.holders c.reserve_each.ensures.mixed ∙ c.reserve_mixed.ensures.mixed;
-}
+loop-port-init c =
+    let more = length c.args.claim.now.holding.addresses in
+    let addresses = c.args.claim.now.holding.addresses in
+    record {
+      numbers = λ s. c.reserve_each-2.ensures.numbers s ∙ c.reserve_each.ensures.numbers s;
+      room = room-next c.reserve_each.new.holders c.reserve_each-2.new.holders more addresses first_slot (is_slot_of (group_of c.args.claim.now.terms) []) c.group.result.now
+          (slots-start (group_of c.args.claim.now.terms) c.group.result.now c.group.ensures.slot)
+          (room-next c.args.holders.now c.reserve_each.new.holders more addresses no_slot first_slot Any (λ s. refl) (room-none c.args.holders.now more addresses)
+          c.reserve_each.ensures.claims_kept c.reserve_each.ensures.addresses_kept (rw (← c.addresses-addresses.ensures) c.in_ok-reserve_each.ensures.room))
+          c.reserve_each-2.ensures.claims_kept c.reserve_each-2.ensures.addresses_kept (rw (← c.addresses-addresses.ensures) c.in_ok-reserve_each-2.ensures.room);
+    }
 
-pub returns-in_err-reserve_each-2-clause-numbers : goal.returns-in_err-reserve_each-2-clause-numbers
-returns-in_err-reserve_each-2-clause-numbers c s = c.reserve_each-in-loop-port.ensures.numbers s ∙ c.loop-port.invariant.numbers s
-
-pub returns-in_err-reserve_each-2-clause-mixed : goal.returns-in_err-reserve_each-2-clause-mixed
-returns-in_err-reserve_each-2-clause-mixed c =
-    same-mixing c.loop-port.holders c.reserve_each-in-loop-port.new.holders c.reserve_each-in-loop-port.ensures.mixed ∙ c.loop-port.invariant.mixed
+pub returns-in_err-reserve_each-3-clause-numbers : goal.returns-in_err-reserve_each-3-clause-numbers
+returns-in_err-reserve_each-3-clause-numbers c s = c.reserve_each-in-loop-port.ensures.numbers s ∙ c.loop-port.invariant.numbers s
 
 pub loop-port-preserved : goal.loop-port-preserved
-loop-port-preserved c = record {
-  numbers = λ s. c.reserve_each-in-loop-port.ensures.numbers s ∙ c.loop-port.invariant.numbers s;
-  room = room-next c.loop-port.holders c.reserve_each-in-loop-port.new.holders (length c.args.claim.now.holding.addresses) c.args.claim.now.holding.addresses
-      c.ports-port-items.result.now c.loop-port.port-index _ c.loop-port-test.true c.loop-port.invariant.room
-      c.reserve_each-in-loop-port.ensures.claims_kept c.reserve_each-in-loop-port.ensures.addresses_kept
-      (rw c.addresses-addresses.ensures at c.in_ok-reserve_each-2.ensures.room);
-  mixed_room = mixed-same c.loop-port.holders c.reserve_each-in-loop-port.new.holders (length c.args.claim.now.holding.addresses) c.args.claim.now.holding.addresses
-      c.reserve_each-in-loop-port.ensures.mixed c.loop-port.invariant.mixed_room;
-  shared = c.reserve_each-in-loop-port.ensures.shared ∙ c.loop-port.invariant.shared;
-  mixed = same-mixing c.loop-port.holders c.reserve_each-in-loop-port.new.holders c.reserve_each-in-loop-port.ensures.mixed ∙ c.loop-port.invariant.mixed;
-}
+loop-port-preserved c =
+    let group = group_of c.args.claim.now.terms in
+    let ports = c.ports-port-items.result.now in
+    let i = c.loop-port.port-index in
+    let none : Port = record { protocol = Tcp; port = 0 } in
+    record {
+      numbers = λ s. c.reserve_each-in-loop-port.ensures.numbers s ∙ c.loop-port.invariant.numbers s;
+      room = room-next c.loop-port.holders c.reserve_each-in-loop-port.new.holders (length c.args.claim.now.holding.addresses) c.args.claim.now.holding.addresses
+          (is_slot_of group (take i ports)) (is_slot_of group (take (i + 1) ports)) (OfPort (get_or ports i none)) (slots-more group ports i none c.loop-port-test.true) c.loop-port.invariant.room
+          c.reserve_each-in-loop-port.ensures.claims_kept c.reserve_each-in-loop-port.ensures.addresses_kept
+          (rw c.addresses-addresses.ensures at c.in_ok-reserve_each-3.ensures.room);
+    }

@@ -2,7 +2,7 @@ use Rattle.std.proofs.Common.{◌≡◌, ◌≤◌, length, take}
 use Rattle.ip_ranges.specs.declared.family.Family.{Family}
 use Rattle.ip_ranges.specs.Values.{AddressValue}
 use Rattle.alloc_book.specs.declared.slot.Slot.{Slot}
-use Rattle.alloc_book.specs.Holders.{HasRoomAt, claims_having, claim_room, address_room, is_known, mixed_of}
+use Rattle.alloc_book.specs.Holders.{HasRoomAt, claims_having, claim_room, address_room}
 use Rattle.alloc_book.proofs.growth.reserve_each.Given as goal
 
 abbrev pub invariant-loop-address : goal.invariant-loop-address
@@ -12,6 +12,4 @@ invariant-loop-address l =
       room : HasRoomAt l.holders (length l.addresses) l.slot (take l.address-index l.addresses);
       claims_kept : (s : Slot) (a : AddressValue) → claim_room l.fn.holders s a ≤ claim_room l.holders s a;
       addresses_kept : (s : Slot) (family : Family) → address_room l.fn.holders s family ≤ address_room l.holders s family;
-      shared : is_known l.holders ≡ is_known l.fn.holders;
-      mixed : mixed_of l.holders ≡ mixed_of l.fn.holders;
     }

@@ -1,6 +1,6 @@
 use Rattle.std.proofs.Common.{◌≡◌, false, take}
 use Rattle.alloc_book.specs.declared.slot.Slot.{Slot}
-use Rattle.alloc_book.specs.Holders.{in_slot, claims_having, is_known, mixed_of}
+use Rattle.alloc_book.specs.Holders.{in_slot, claims_having}
 use Rattle.alloc_book.specs.Removal.{left_at}
 use Rattle.alloc_book.specs.Slots.{same_slot}
 use Rattle.alloc_book.proofs.removal.remove_each.Given as goal
@@ -10,6 +10,4 @@ invariant-loop-address l =
     record {
       numbers : claims_having l.holders l.slot ≡ left_at l.number (take l.address-index l.addresses) (claims_having l.fn.holders l.slot);
       others : (s : Slot) → same_slot l.slot s ≡ false → in_slot l.holders s ≡ in_slot l.fn.holders s;
-      shared : is_known l.holders ≡ is_known l.fn.holders;
-      mixed : mixed_of l.holders ≡ mixed_of l.fn.holders;
     }

@@ -21,7 +21,7 @@ returns-in_err-number c =
     let found = c.in-Some.ensures.some in
     let none =
     left-more claims c.args.key.now c.args.terms.now c.args.pool.now c.args.family c.args.low c.loop-shared.from c.in-Some.shared (c.args.high + 1) c.loop-shared.invariant.before
-    (none-shared_in _ claims c.args.family c.group.result.now (group_of c.args.terms.now) c.loop-shared.from c.in-Some.shared c.index-index.ensures.claims c.group.ensures found.2)
+    (none-shared_in _ claims c.args.family (group_of c.args.terms.now) c.loop-shared.from c.in-Some.shared c.index-index.ensures.claims found.2)
     (barred-in c.as_slice-ports.result.now c.args.terms.now.ports _ claims c.args.family c.in-Some.shared (c.args.high + 1) (c.as_slice-ports.ensures.listed ∙ ap (λ (t : Terms). t.ports) c.terms-2.ensures) c.index-index.ensures.claims c.in_err-number.ensures.none) in
     rw c.from_residual.ensures (λ m from upto. none m from (omega (arith, upto)))
 
@@ -34,7 +34,7 @@ loop-shared-preserved c =
       begun = omega (arith, c.loop-shared.invariant.begun, found.0, left.0);
       before =
           left-next claims c.args.key.now c.args.terms.now c.args.pool.now c.args.family c.args.low c.loop-shared.from c.in-Some.shared c.in_ok-number.number c.loop-shared.invariant.before
-          (none-shared_in _ claims c.args.family c.group.result.now (group_of c.args.terms.now) c.loop-shared.from c.in-Some.shared c.index-index.ensures.claims c.group.ensures found.2)
+          (none-shared_in _ claims c.args.family (group_of c.args.terms.now) c.loop-shared.from c.in-Some.shared c.index-index.ensures.claims found.2)
           (barred-in c.as_slice-ports.result.now c.args.terms.now.ports _ claims c.args.family c.in-Some.shared c.in_ok-number.number (c.as_slice-ports.ensures.listed ∙ ap (λ (t : Terms). t.ports) c.terms-2.ensures) c.index-index.ensures.claims left.2)
           (sym c.may_use.ensures ∙ c.if-may_use.false);
     }
@@ -48,7 +48,7 @@ returns-then-may_use c =
       left.1,
       sym c.may_use.ensures ∙ c.if-may_use.true,
       left-more claims c.args.key.now c.args.terms.now c.args.pool.now c.args.family c.args.low c.loop-shared.from c.in-Some.shared c.in_ok-number.number c.loop-shared.invariant.before
-          (none-shared_in _ claims c.args.family c.group.result.now (group_of c.args.terms.now) c.loop-shared.from c.in-Some.shared c.index-index.ensures.claims c.group.ensures found.2)
+          (none-shared_in _ claims c.args.family (group_of c.args.terms.now) c.loop-shared.from c.in-Some.shared c.index-index.ensures.claims found.2)
           (barred-in c.as_slice-ports.result.now c.args.terms.now.ports _ claims c.args.family c.in-Some.shared c.in_ok-number.number (c.as_slice-ports.ensures.listed ∙ ap (λ (t : Terms). t.ports) c.terms-2.ensures) c.index-index.ensures.claims left.2),
     )
 
@@ -60,7 +60,7 @@ returns-then-number-high c =
     let last : c.in_ok-number.number ≡ c.args.high = c.if-number-high.true in
     let none =
     left-next claims c.args.key.now c.args.terms.now c.args.pool.now c.args.family c.args.low c.loop-shared.from c.in-Some.shared c.in_ok-number.number c.loop-shared.invariant.before
-    (none-shared_in _ claims c.args.family c.group.result.now (group_of c.args.terms.now) c.loop-shared.from c.in-Some.shared c.index-index.ensures.claims c.group.ensures found.2)
+    (none-shared_in _ claims c.args.family (group_of c.args.terms.now) c.loop-shared.from c.in-Some.shared c.index-index.ensures.claims found.2)
     (barred-in c.as_slice-ports.result.now c.args.terms.now.ports _ claims c.args.family c.in-Some.shared c.in_ok-number.number (c.as_slice-ports.ensures.listed ∙ ap (λ (t : Terms). t.ports) c.terms-2.ensures) c.index-index.ensures.claims left.2)
     (sym c.may_use.ensures ∙ c.if-may_use.false) in
     λ m from upto. none m from (omega (arith, upto, last))
@@ -69,5 +69,5 @@ pub returns : goal.returns
 returns c =
     let none =
     shared-more c.args.book.now.claims c.args.key.now c.args.terms.now c.args.pool.now c.args.family c.args.low c.loop-shared.from (c.args.high + 1) c.loop-shared.invariant.before
-    (none-shared_in _ c.args.book.now.claims c.args.family c.group.result.now (group_of c.args.terms.now) c.loop-shared.from (c.args.high + 1) c.index-index.ensures.claims c.group.ensures c.in_default.ensures.none) in
+    (none-shared_in _ c.args.book.now.claims c.args.family (group_of c.args.terms.now) c.loop-shared.from (c.args.high + 1) c.index-index.ensures.claims c.in_default.ensures.none) in
     λ m from upto. none m from (omega (arith, upto))

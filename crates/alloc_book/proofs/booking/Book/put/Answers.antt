@@ -1,4 +1,4 @@
-use Rattle.std.proofs.Common.{◌≡◌, ℕ, true, false, not, filter, ap, sym, ◌∙◌}
+use Rattle.std.proofs.Common.{◌≡◌, ℕ, not, filter, ap, sym, ◌∙◌}
 use Rattle.kube_model.specs.Keys.{same_key}
 use Rattle.kube_model.specs.Records.{is_assigned}
 use Rattle.kube_model.specs.declared.key.Key.{Key}

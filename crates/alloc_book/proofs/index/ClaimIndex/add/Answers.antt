@@ -5,25 +5,13 @@ use Rattle.kube_model.specs.declared.key.Key.{Key}
 use Rattle.kube_model.specs.Keys.{key_cmp}
 use Rattle.numbered_items.specs.Index.{room_under}
 use Rattle.alloc_book.specs.declared.slot.Slot.{Slot}
-use Rattle.alloc_book.specs.declared.slot.Slot.TheVariants.{Any}
 use Rattle.alloc_book.specs.Book.{HasRoomFor}
 use Rattle.alloc_book.specs.Claims.{ClaimValue}
 use Rattle.alloc_book.specs.Holders.{HasRoomAt}
 use Rattle.alloc_book.specs.Index.{ClaimIndexValue}
 use Rattle.alloc_book.specs.Slots.{occupies}
-use Rattle.alloc_book.proofs.IndexGrowth.{indexed-pushed, found-is, not-lost, not-listed, room-same, same-claims}
+use Rattle.alloc_book.proofs.IndexGrowth.{indexed-pushed, found-is, not-lost, not-listed}
 use Rattle.alloc_book.proofs.index.ClaimIndex.add.Goals as goal
-
-pub mix_each-requires-clause-numbers : goal.mix_each-requires-clause-numbers
-mix_each-requires-clause-numbers c = c.self.invariant.holders Any
-
-pub mix_each-requires-clause-uniform : goal.mix_each-requires-clause-uniform
-mix_each-requires-clause-uniform c = c.self.invariant.uniform
-
-pub mix_each-requires-clause-room : goal.mix_each-requires-clause-room
-mix_each-requires-clause-room c =
-    let room = subst (λ (v : ClaimIndexValue). HasRoomFor v.room c.args.claim) (sym c.self.view_is) c.requires.room in
-    room.mixed
 
 pub add-requires : goal.add-requires
 add-requires c =
@@ -35,24 +23,19 @@ pub add_claim-requires-clause-room : goal.add_claim-requires-clause-room
 add_claim-requires-clause-room c =
     let room = subst (λ (v : ClaimIndexValue). HasRoomFor v.room c.args.claim) (sym c.self.view_is) c.requires.room in
     let is = found-is c.self.inside.claims.items c.push-number.new.self.items c.push-number.result c.args.claim c.in-Some.claim.now c.push-number.ensures.items c.push-number.ensures.fresh c.in-Some.ensures.item in
-    subst (λ (x : ClaimValue). (slot : Slot) → occupies slot x ≡ true → HasRoomAt c.mix_each.new.holders (length x.holding.addresses) slot x.holding.addresses) (sym is)
-    (λ slot occupied. room-same c.self.inside.holders c.mix_each.new.holders (length c.args.claim.holding.addresses) slot c.args.claim.holding.addresses (ap (λ f. f slot) c.mix_each.ensures.slots) (room.addresses slot occupied))
+    subst (λ (x : ClaimValue). (slot : Slot) → occupies slot x ≡ true → HasRoomAt c.self.inside.holders (length x.holding.addresses) slot x.holding.addresses) (sym is) room.addresses
 
 pub add_claim-requires-clause-fresh : goal.add_claim-requires-clause-fresh
 add_claim-requires-clause-fresh c slot a there =
-    let listed = same-claims c.self.inside.holders c.mix_each.new.holders slot c.mix_each.ensures.slots ∙ c.self.invariant.holders slot in
     not-listed slot a c.self.inside.claims.items c.push-number.result c.push-number.ensures.fresh
-    (subst (λ (f : AddressValue → List ℕ). Contains (f a) c.push-number.result) listed there)
+    (subst (λ (f : AddressValue → List ℕ). Contains (f a) c.push-number.result) (c.self.invariant.holders slot) there)
 
 pub invariant_of-self : goal.invariant_of-self
 invariant_of-self c =
-    let room = subst (λ (v : ClaimIndexValue). HasRoomFor v.room c.args.claim) (sym c.self.view_is) c.requires.room in
     let is = found-is c.self.inside.claims.items c.push-number.new.self.items c.push-number.result c.args.claim c.in-Some.claim.now c.push-number.ensures.items c.push-number.ensures.fresh c.in-Some.ensures.item in
     indexed-pushed c.self.inside.claims.items c.push-number.new.self.items c.push-number.result c.args.claim c.in-Some.claim.now c.key.result.now
-    c.self.inside.by_key c.add.new.self c.self.inside.holders c.mix_each.new.holders c.add_claim.new.holders c.self.invariant c.push-number.ensures.items
-    (c.key.ensures ∙ ap (λ (x : ClaimValue). x.key) is) is c.requires.assigned c.add.ensures.numbers
-    c.mix_each.ensures.slots c.mix_each.ensures.shared c.add_claim.ensures.numbers c.add_claim.ensures.shared room.known
-    c.mix_each.ensures.uniform c.add_claim.ensures.mixed c.mix_each.ensures.alike
+    c.self.inside.by_key c.add.new.self c.self.inside.holders c.add_claim.new.holders c.self.invariant c.push-number.ensures.items
+    (c.key.ensures ∙ ap (λ (x : ClaimValue). x.key) is) is c.requires.assigned c.add.ensures.numbers c.add_claim.ensures.numbers c.add_claim.ensures.grouped
 
 pub invariant_of-self-in_default : goal.invariant_of-self-in_default
 invariant_of-self-in_default c =

@@ -22,4 +22,4 @@ returns c =
     let test : ℕ → Bool = λ n. is_of c.args.key.now (under items n) in
     let value : c.all.result ≡ list_all test numbers = all_from_yields_List test _ _ c.all.result c.all.ensures.ran (YieldsList-from_slice numbers cc) (λ x b q k. search (rules, tests)) in
     rw (← c.self.view_is)
-    (value ∙ yields-is items numbers sorted c.args.slot c.args.address.now (c.numbers.ensures ∙ ap (λ (f : AddressValue → List ℕ). f c.args.address.now) (c.self.invariant.holders c.args.slot)) c.args.key.now)
+    (value ∙ yields-is items numbers sorted c.args.slot.now c.args.address.now (c.numbers.ensures ∙ ap (λ (f : AddressValue → List ℕ). f c.args.address.now) (c.self.invariant.holders c.args.slot.now)) c.args.key.now)

@@ -1,4 +1,0 @@
-use Rattle.alloc_book.proofs.holders.Holders.first_shared.Goals as goal
-
-pub returns-clause-some : goal.returns-clause-some
-returns-clause-some c = rw (← c.self.view_is) c.first.ensures.some

@@ -5,6 +5,7 @@ ghost use Rattle.lane_drive.specs.Asking.{AnswersAll, AsksMore, HasStopped};
 ghost use Rattle.lane_drive.specs.Clauses.{AtDone, AtEnd, AtOpenFault, AtReadFault, LeavesInput, LeavesOthers, OnlyWrites, status_of_open, unread};
 ghost use Rattle.lane_drive.specs.Complete.{IsComplete};
 ghost use Rattle.lane_drive.specs.Files.{files_view};
+ghost use Rattle.lane_run.specs.Opening.{MayBeOpened};
 ghost use Rattle.lane_run.specs.Views.{lane_view, outside, source_view};
 ghost use Rattle.lane_run.specs.Waiting.{MayBeAwaited};
 ghost use Rattle.line_run.specs.Answered.{MayBeAsked};
@@ -44,6 +45,10 @@ pub fn run_lane_files<
     out: &mut K,
 ) -> Status
     requires quiet { M.rules.waits (M.state machine) ≡ false }
+
+    // The first file may be opened, and once it is open the second. Nothing else is known of when a file may, so the first is opened first, each at
+    // most once, and no other.
+    requires opens { MayBeOpened F.may_open F.Opens files.old first.now second.now }
 
     // The source of the replies may be asked for more where all that was taken is answered, with all replies that came, and a reply is
     // awaited or both lanes have ended. Nothing else is known of when it may. That a lane ended because its reading failed is possible where

@@ -187,7 +187,6 @@ impl Mail {
         ensures at_end { HasAll pass.old → pass.new ≡ pass.old }
     {
         self.parking.begin_to_take();
-        let mut looks = 0;
         for _ in rt.forever() {
             if pass.has_all() {
                 return Taken::AllEnded;
@@ -197,7 +196,7 @@ impl Mail {
                 return Taken::Item(item);
             }
             if !self.pop_mark(rt, pass) {
-                looks = self.parking.wait_for_more(rt, looks);
+                self.parking.wait_for_more(rt);
             }
         }
         unreachable!()

@@ -5,19 +5,12 @@
 //! queue; whoever takes finds them without waiting, tells of the next 1,024 taken ones, and leaves a token behind that. The number told of only grows, and
 //! is looked at behind each token.
 //!
-//! Before it parks whoever takes looks some times more, and lets other threads run between the looks: what comes at once finds it awake, and needn't wake
-//! it. That only puts the parking off. What was put meanwhile left a token, with which it doesn't park but looks again; so once no more is put it sleeps.
-//!
 //! Nor do they wait for each other: whoever takes waits only where the queue is empty, and a sender only where it isn't.
 
 use crate::lane::Lane;
 use std::sync::Wait;
 use std::sync::atomic::{AtomicBool, AtomicU64, Ordering};
-use std::thread::{Parker, yield_now};
-
-// So often whoever takes looks in vain before it parks: for some 30 microseconds where nothing else runs. Of lines that are given one after the other the
-// next comes sooner.
-const LOOKS_AWAKE: u64 = 50;
+use std::thread::Parker;
 
 // Of so many items untaken the sender waits.
 const UNTAKEN_LIMIT: u64 = 65_536;
@@ -77,15 +70,9 @@ impl Parking {
         self.taker.unpark();
     }
 
-    /// Waits after so many looks that found nothing, and answers how many they are with the next one. At first it only lets other threads
-    /// run, and then it waits until something was put since the last wait.
-    pub(crate) fn wait_for_more<R: Wait>(&self, rt: &R, looks: u64) -> u64 {
-        if looks < LOOKS_AWAKE {
-            yield_now();
-            return looks + 1;
-        }
+    /// Waits until something was put since the last wait.
+    pub(crate) fn wait_for_more<R: Wait>(&self, rt: &R) {
         self.taker.park(rt);
-        looks
     }
 
     /// So many items of the lane were taken.

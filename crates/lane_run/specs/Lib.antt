@@ -6,3 +6,4 @@ pub mod Reconciled
 pub mod Ran
 pub mod Laws
 pub mod Waiting
+pub mod Opening

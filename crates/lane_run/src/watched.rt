@@ -1,5 +1,5 @@
 //! Sources and files that are watched, and read in no other way.
-ghost use Rattle.std.specs.Prelude.{◌≡◌, ◌≢◌, ℕ, Bool, List, Option, Some, OnOk, OnErr, IfOk, IsOk, IsErrOf};
+ghost use Rattle.std.specs.Prelude.{◌≡◌, ◌≢◌, ⊤, ℕ, Bool, List, Option, Some, OnOk, OnErr, IfOk, IsOk, IsErrOf};
 ghost use Rattle.lane_run.specs.Views.{lane_view};
 ghost use Rattle.lane_run.specs.Watched.{CanWatch, Watched};
 ghost use Rattle.mlb_edge.specs.Failed.{CountsFault, IsOpened, with_failed, with_closed};
@@ -85,7 +85,10 @@ impl<S: Source> WatchedSource for S {
     }
 }
 
-/// Files that are opened by name and handed back, as `Files`, and can only be watched in between.
+/// Files that are opened by name and handed back, as `Files`, and can only be watched in between. A file may be opened only at times, as a pipe, whose
+/// opening waits until something has opened its other end.
+///
+/// What is generic over them shows at each call of `open` that this file may be opened now, and it knows of no other time than the one that it was told.
 pub trait WatchedFiles {
     type In: WatchedSource + Send;
 
@@ -101,8 +104,16 @@ pub trait WatchedFiles {
     /// It is known that no reading of the file of a name fails.
     ghost safe: { Self → List ℕ → Bool };
 
+    /// The file of this name may be opened now.
+    ghost may_open: { Self → List ℕ → Type 0 };
+
+    /// The file of this name was opened, which led from the one to the other.
+    ghost Opens: { Self → Self → List ℕ → Type 0 };
+
     /// `Files::open`.
     fn open(&mut self, name: &str) -> Result<Self::In, OpenEnd>
+        requires paced { may_open self.old name.now }
+        ensures leads { OnOk result (Opens self.old self.new name.now) }
         ensures opened { IfOk result (λ input.
             IsOpened (Self.In.name input) (Self.In.left input) (Self.In.faults input) (Self.In.safe input)
             name.now (bytes self.old name.now) (safe self.old name.now)) }
@@ -125,7 +136,7 @@ pub trait WatchedFiles {
         ensures safe { (file : List ℕ) → safe self.new file ≡ safe self.old file };
 }
 
-/// All files can be watched.
+/// All files can be watched, and opened at any time.
 impl<F: Files> WatchedFiles for F {
     type In = F::In;
 
@@ -136,6 +147,10 @@ impl<F: Files> WatchedFiles for F {
     ghost bytes = { F.bytes };
 
     ghost safe = { F.safe };
+
+    ghost may_open = { λ _ _. ⊤ };
+
+    ghost Opens = { λ _ _ _. ⊤ };
 
     fn open(&mut self, name: &str) -> Result<F::In, OpenEnd> {
         <F as Files>::open(self, name)

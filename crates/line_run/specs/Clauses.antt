@@ -12,7 +12,7 @@ use Rattle.mlb_edge.specs.Causes.{Rose}
 use Rattle.line_run.specs.Explains.{StopsFor, IsStatusOf}
 use Rattle.line_run.specs.Machine.{Rules}
 use Rattle.line_run.specs.Statuses.{IsEndStatus, IsHeld, IsFault}
-use Rattle.line_run.specs.RunOutput.{StopsAs, WritesInPart, WritesUpTo, WritesRead, IsReadable}
+use Rattle.line_run.specs.RunOutput.{StopsAs, WritesInPart, WritesUpTo, WritesRead, WritesOnly, IsReadable}
 
 -- an end of the input was an end of the source
 abbrev pub AtEnd : Status → Option (List ℕ) → Type 0
@@ -88,3 +88,26 @@ IsExact rules s status left = IsStatusOf rules s left status ⊎ IsFault status
 -- where all can be driven the run is done, but for a fault and want of memory
 abbrev pub IsComplete : {S E : Type 0} → Rules S E → S → Status → Option (List ℕ) → Type 0
 IsComplete rules s status left = IsReadable rules s left → (status ≡ Done) ⊎ IsFault status
+
+-- What a run over a stream owes, however it ends.
+module _ {S E : Type 0} (rules : Rules S E) (cause : Status → Type 0) (s : S) (status : Status) (left left' before after : Option (List ℕ)) where
+  pub record RunOwes : Type 0 where
+    -- at the end of the input: nothing of it is left, and just the text of its run was written
+    pub done : AtDone rules cause s status left before after
+    pub no_reply : AtNoReply rules cause s status left before after
+    pub at_end : AtEnd status left'
+    -- a line that ends the run, and just the text of the run before it was written
+    pub bad_line : AtBadLine rules cause s status left before after
+    pub bad_reply : AtBadReply rules cause s status left before after
+    pub held_limit : AtHeldLimit rules cause s status left before after
+    pub line_limit : AtLineLimit rules s status left before after
+    pub input_limit : AtInputLimit rules s status left before after
+    -- behind a failed read the text of the lines that were read whole; behind a failed write a beginning of the text, and not the whole
+    pub read : AfterRead rules s status left left' before after
+    pub part : AfterWrite rules s status left before after
+    pub no_memory : AtNoMemory rules s status left before after
+    -- over any input at all a beginning of the text of some lines' run
+    pub only : WritesOnly rules s before after
+    -- but for a fault or want of memory the status is that of the lines; and where all can be driven, the run is done
+    pub exact : IsExact rules s status left
+    pub complete : IsComplete rules s status left

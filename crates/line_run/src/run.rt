@@ -1,6 +1,6 @@
 //! The run over the lines of a source.
 ghost use Rattle.std.specs.Prelude.{◌≡◌, []};
-ghost use Rattle.line_run.specs.Clauses.{CanEnd, AtDone, AtEnd, AtBadLine, AtBadReply, AtNoReply, AtHeldLimit, AtLineLimit, AtInputLimit, AtReadFault, AfterRead, AtWriteFault, AfterWrite, AtNoMemory, IsExact, IsComplete};
+ghost use Rattle.line_run.specs.Clauses.{CanEnd, AtReadFault, AtWriteFault, RunOwes};
 ghost use Rattle.line_run.specs.Explains.{Explains};
 ghost use Rattle.line_run.specs.RunOutput.{WritesOnly};
 ghost use Rattle.line_run.specs.Answered.{IsAnswered, MayBeAsked};
@@ -74,44 +74,13 @@ pub fn run_machine<M: Machine, S: PacedSource<K>, K: Sink>(
     // No status but those of the machine and of any run.
     ensures can_end { CanEnd M.cause result }
 
-    // At the end of the input: nothing of it is left, and just the text of its run was written.
-    ensures done { AtDone M.rules M.cause (M.state machine.old) result (S.left input.old)
-        (K.written out.old) (K.written out.new) }
-    ensures no_reply { AtNoReply M.rules M.cause (M.state machine.old) result (S.left input.old)
-        (K.written out.old) (K.written out.new) }
-    ensures at_end { AtEnd result (S.left input.new) }
-
-    // A line that ends the run, and just the text of the run before it was written.
-    ensures bad_line { AtBadLine M.rules M.cause (M.state machine.old) result (S.left input.old)
-        (K.written out.old) (K.written out.new) }
-    ensures bad_reply { AtBadReply M.rules M.cause (M.state machine.old) result (S.left input.old)
-        (K.written out.old) (K.written out.new) }
-    ensures held_limit { AtHeldLimit M.rules M.cause (M.state machine.old) result (S.left input.old)
-        (K.written out.old) (K.written out.new) }
-    ensures line_limit { AtLineLimit M.rules (M.state machine.old) result (S.left input.old)
-        (K.written out.old) (K.written out.new) }
-    ensures input_limit { AtInputLimit M.rules (M.state machine.old) result (S.left input.old)
-        (K.written out.old) (K.written out.new) }
-
-    // A fault comes only where its count rose. Behind a failed read stands the text of the lines that
-    // were read whole, behind a failed write a beginning of the text, and not the whole.
+    // A fault comes only where its count rose.
     ensures read_fault { AtReadFault result (S.faults input.old) (S.faults input.new) }
-    ensures read { AfterRead M.rules (M.state machine.old) result
-        (S.left input.old) (S.left input.new) (K.written out.old) (K.written out.new) }
     ensures write_fault { AtWriteFault result (K.faults out.old) (K.faults out.new) }
-    ensures part { AfterWrite M.rules (M.state machine.old) result (S.left input.old)
-        (K.written out.old) (K.written out.new) }
-    ensures no_memory { AtNoMemory M.rules (M.state machine.old) result (S.left input.old)
-        (K.written out.old) (K.written out.new) }
 
-    // Over any input at all a beginning of the text of some lines' run was written.
-    ensures only { WritesOnly M.rules (M.state machine.old)
-        (K.written out.old) (K.written out.new) }
-
-    // But for a fault or want of memory the status is that of the lines; and where all can be driven, the
-    // run is done.
-    ensures exact { IsExact M.rules (M.state machine.old) result (S.left input.old) }
-    ensures complete { IsComplete M.rules (M.state machine.old) result (S.left input.old) }
+    // What was read and written, whatever the status.
+    ensures run { RunOwes M.rules M.cause (M.state machine.old) result
+        (S.left input.old) (S.left input.new) (K.written out.old) (K.written out.new) }
 {
     run_lines(alloc, machine, input, out)
 }

@@ -1,10 +1,10 @@
 //! The top call.
-//! The run over lines.
 ghost use Rattle.std.specs.Prelude.{◌≡◌, ◌↔◌};
 ghost use Rattle.command_options.specs.Options.{texts_of};
-ghost use Rattle.line_run.specs.Clauses.{AtEnd, AtReadFault, AtWriteFault};
-ghost use Rattle.mlb_admit.specs.Clauses.{MayAskAnswered, CanEnd, AtDone, AtBadLine, AtLongLine, AtTooLong, AfterRead, AfterWrite, AtNoMemory, WritesOnly, IsExact, IsComplete};
+ghost use Rattle.line_run.specs.Clauses.{AtReadFault, AtWriteFault, RunOwes};
+ghost use Rattle.mlb_admit.specs.Clauses.{MayAskAnswered, CanEnd, work_of};
 ghost use Rattle.mlb_admit.specs.Judged.{RunsAreRight};
+ghost use Rattle.mlb_admit.specs.Stream.{admit_rules, IsCause};
 ghost use Rattle.mlb_admit.specs.Told.{LinesAreTold, StopsAtNone};
 ghost use Rattle.mlb_admit.specs.Words.{AreKnown};
 
@@ -34,25 +34,13 @@ pub fn run_admit<S: PacedSource<K>, K: Sink>(
     ensures usage { (result ≡ Status.Usage) ↔ (¬ (AreKnown (texts_of words.now))) }
     ensures unused { result ≡ Status.Usage → (input.new ≡ input.old) × (out.new ≡ out.old) }
 
-    // At the end of the input: nothing of it is left, and just the text of its run was written.
-    ensures done { AtDone words.now result (S.left input.old) (K.written out.old) (K.written out.new) }
-    ensures at_end { AtEnd result (S.left input.new) }
-
-    // A line that ends the run, and just the text of the run before it was written.
-    ensures bad_line { AtBadLine words.now result (S.left input.old) (K.written out.old) (K.written out.new) }
-    ensures line_limit { AtLongLine words.now result (S.left input.old) (K.written out.old) (K.written out.new) }
-    ensures input_limit { AtTooLong words.now result (S.left input.old) (K.written out.old) (K.written out.new) }
-
-    // A fault comes only where its count rose. Behind a failed read stands the text of the lines that were read whole, behind a
-    // failed write a beginning of the text, and not the whole.
+    // A fault comes only where its count rose.
     ensures read_fault { AtReadFault result (S.faults input.old) (S.faults input.new) }
-    ensures read { AfterRead words.now result (S.left input.old) (S.left input.new) (K.written out.old) (K.written out.new) }
     ensures write_fault { AtWriteFault result (K.faults out.old) (K.faults out.new) }
-    ensures part { AfterWrite words.now result (S.left input.old) (K.written out.old) (K.written out.new) }
-    ensures no_memory { AtNoMemory words.now result (S.left input.old) (K.written out.old) (K.written out.new) }
 
-    // Over any input at all a beginning of the text of some lines' run was written.
-    ensures only { WritesOnly words.now (K.written out.old) (K.written out.new) }
+    // What was read and written, whatever the status.
+    ensures run { AreKnown (texts_of words.now) → RunOwes admit_rules IsCause (work_of words.now) result
+        (S.left input.old) (S.left input.new) (K.written out.old) (K.written out.new) }
 
     // The runs of which all these clauses tell. Of one that answers reviews: each review has one answer, in their order, up to a line that ends
     // the run, and it is right by what the events before it showed. Of one that is asked what the lines are read as: each line is told of once,
@@ -60,10 +48,6 @@ pub fn run_admit<S: PacedSource<K>, K: Sink>(
     ensures judged { RunsAreRight }
     ensures told { LinesAreTold }
     ensures stops_at_none { StopsAtNone (texts_of words.now) result }
-
-    // But for a fault or want of memory the status is that of the lines; and where all can be driven, the run is done.
-    ensures exact { IsExact words.now result (S.left input.old) }
-    ensures complete { IsComplete words.now result (S.left input.old) }
 {
     answers_are_right();
     lines_are_told();

@@ -1,5 +1,5 @@
--- What the controller owes at each status: the clauses of a run over lines, with the controller's rules and the words' class, where the words
--- ask for one; and those of a trial.
+-- What the controller owes besides the clauses of any run over lines: that what it writes is sound, safe and leaves nothing waiting; and what it owes
+-- of a trial.
 use Rattle.std.specs.Prelude.{◌≡◌, ◌⊎◌, ℕ, List, String, Option}
 use Rattle.kube_model.specs.declared.status.Status.{Status}
 use Rattle.kube_model.specs.declared.status.Status.TheVariants.{Done, Usage}
@@ -28,40 +28,6 @@ MayAskAnswered words name left may_read written input out = AskRun (texts_of wor
 abbrev pub CanEnd : Status → Type 0
 CanEnd status = (status ≡ Usage) ⊎ run.CanEnd IsCause status
 
-module _ {Z K : Type 0} (words : List (String Z)) (status : Status) (left : Option (List ℕ)) (written : K → Option (List ℕ)) (out out' : K) where
-  abbrev pub AtDone : Type 0
-  AtDone = AskRun (texts_of words) → run.AtDone controller_rules IsCause (begun_by words) status left (written out) (written out')
-
-  abbrev pub AtNoReply : Type 0
-  AtNoReply = AskRun (texts_of words) → run.AtNoReply controller_rules IsCause (begun_by words) status left (written out) (written out')
-
-  abbrev pub AtBadLine : Type 0
-  AtBadLine = AskRun (texts_of words) → run.AtBadLine controller_rules IsCause (begun_by words) status left (written out) (written out')
-
-  abbrev pub AtBadReply : Type 0
-  AtBadReply = AskRun (texts_of words) → run.AtBadReply controller_rules IsCause (begun_by words) status left (written out) (written out')
-
-  -- one service more would be held than may be
-  abbrev pub AtServiceLimit : Type 0
-  AtServiceLimit = AskRun (texts_of words) → run.AtHeldLimit controller_rules IsCause (begun_by words) status left (written out) (written out')
-
-  -- a line is too long
-  abbrev pub AtLongLine : Type 0
-  AtLongLine = AskRun (texts_of words) → run.AtLineLimit controller_rules (begun_by words) status left (written out) (written out')
-
-  -- the input is too long
-  abbrev pub AtTooLong : Type 0
-  AtTooLong = AskRun (texts_of words) → run.AtInputLimit controller_rules (begun_by words) status left (written out) (written out')
-
-  abbrev pub AfterWrite : Type 0
-  AfterWrite = AskRun (texts_of words) → run.AfterWrite controller_rules (begun_by words) status left (written out) (written out')
-
-  abbrev pub AtNoMemory : Type 0
-  AtNoMemory = AskRun (texts_of words) → run.AtNoMemory controller_rules (begun_by words) status left (written out) (written out')
-
-abbrev pub AfterRead : {Z S K : Type 0} → List (String Z) → Status → (S → Option (List ℕ)) → S → S → (K → Option (List ℕ)) → K → K → Type 0
-AfterRead words status left input input' written out out' = AskRun (texts_of words) → run.AfterRead controller_rules (begun_by words) status (left input) (left input') (written out) (written out')
-
 -- a beginning of the text of some lines' run was written, and the transcript of that run is sound, and safe in every world that explains it
 abbrev pub WritesSound : {Z K : Type 0} → List (String Z) → (K → Option (List ℕ)) → K → K → Type 0
 WritesSound words written out out' = AskRun (texts_of words) → sound.WritesSound (class_of (texts_of words)) (written out) (written out')
@@ -81,16 +47,6 @@ EndsQuiet words status left written out out' = AskRun (texts_of words) → statu
 -- the class that the run handles is the one that the words name, if they name one
 abbrev pub HandlesNamed : {Z : Type 0} → List (String Z) → Type 0
 HandlesNamed words = (class : Option (List ℕ)) → Say (texts_of words) (Run class) → class_of (texts_of words) ≡ class
-
-abbrev pub IsExact : {Z : Type 0} → List (String Z) → Status → Option (List ℕ) → Type 0
-IsExact words status left = AskRun (texts_of words) → run.IsExact controller_rules (begun_by words) status left
-
-abbrev pub IsComplete : {Z : Type 0} → List (String Z) → Status → Option (List ℕ) → Type 0
-IsComplete words status left = AskRun (texts_of words) → run.IsComplete controller_rules (begun_by words) status left
-
--- at the end of the input nothing of it is left
-abbrev pub AtEnd : {Z : Type 0} → List (String Z) → Status → Option (List ℕ) → Type 0
-AtEnd words status left' = AskRun (texts_of words) → run.AtEnd status left'
 
 -- what stands written of the trial that the words ask for
 abbrev pub WritesTrial : {Z K : Type 0} → List (String Z) → Status → (K → Option (List ℕ)) → K → K → Type 0

@@ -19,6 +19,7 @@ use Rattle.lane_drive.specs.Files.{FilesView}
 use Rattle.lane_drive.specs.Stops.{AreBeginnings}
 use Rattle.lane_mail.specs.declared.item.Item.{Item}
 use Rattle.lane_mail.specs.declared.lane.Lane.{Lane}
+use Rattle.lane_run.specs.Opening.{MayBeOpened}
 use Rattle.lane_run.specs.Views.{SourceView, lane_view, outside, source_view}
 use Rattle.lane_run.specs.Waiting.{MayBeAwaited}
 use Rattle.line_run.specs.Answered.{MayBeAsked}
@@ -48,6 +49,10 @@ LanesMayWait may_wait rt replies written writes out class files = MayBeAwaited m
 -- what the files still give may be dropped wherever the run stopped at the last item taken, or at a reply behind it
 abbrev pub LanesMayDrop : {R K : Type 0} → (R → List Item → K → Type 0) → R → (replies : SourceView) (written : K → Option (List ℕ)) (writes : K → ℕ) → K → Option (List ℕ) → LaneNames → Type 0
 LanesMayDrop may_drop rt replies written writes out class files = MayBeAwaited may_drop rt written (HasStopped lane_rules (fresh class) (outside lanes.unread replies (written out) (writes out)))
+
+-- the file of the configuration may be opened, and once it is open that of the services
+abbrev pub LanesMayOpen : {F : Type 0} → (F → List ℕ → Type 0) → (F → F → List ℕ → Type 0) → F → Option (List ℕ) → LaneNames → Type 0
+LanesMayOpen may_open Opens unopened class files = MayBeOpened may_open Opens unopened files.first files.second
 
 -- how the run ended, once both files are open
 abbrev pub LanesEnd : (List ℕ → Option (List ℕ)) → (List ℕ → Bool) → (files files' : FilesView) (replies replies' : SourceView) (before after : Option (List ℕ)) (writes writes' : ℕ) → Status → Option (List ℕ) → LaneNames → Type 0

@@ -6,7 +6,7 @@ ghost use Rattle.kube_model.specs.declared.status.LaneName.{LaneName};
 ghost use Rattle.lane_drive.specs.Files.{files_view};
 ghost use Rattle.lane_run.specs.Views.{source_view};
 ghost use Rattle.line_run.specs.Clauses.{AtWriteFault};
-ghost use Rattle.mlb_controller.specs.LaneClauses.{LanesMayAsk, LanesMayWait, LanesMayDrop, LanesEnd, LanesComplete, LanesDone, LanesSound, LanesQuiet, CanEndLanes, LaneOpenFault, LaneReadFault, LaneOthers};
+ghost use Rattle.mlb_controller.specs.LaneClauses.{LanesMayAsk, LanesMayOpen, LanesMayWait, LanesMayDrop, LanesEnd, LanesComplete, LanesDone, LanesSound, LanesQuiet, CanEndLanes, LaneOpenFault, LaneReadFault, LaneOthers};
 
 use crate::controller::Controller;
 use command_options::LaneFiles;
@@ -34,6 +34,7 @@ pub(crate) fn lanes_controller<
     input: &mut S,
     out: &mut K,
 ) -> Status
+    requires opens { LanesMayOpen F.may_open F.Opens files.old (option_map (λ c. c.now) class) (lane_seen lanes) }
     requires live { LanesMayAsk (F.bytes files.old) (F.safe files.old) S.name S.left S.faults S.may_read K.written K.faults input.old out.old
         (option_map (λ c. c.now) class) (lane_seen lanes) }
     requires waits { LanesMayWait R.may_wait rt.now

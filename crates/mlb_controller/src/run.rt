@@ -5,12 +5,13 @@ ghost use Rattle.command_options.specs.Lanes.{lane_seen};
 ghost use Rattle.kube_model.specs.declared.status.LaneName.{LaneName};
 ghost use Rattle.lane_drive.specs.Files.{files_view};
 ghost use Rattle.lane_run.specs.Views.{source_view};
-ghost use Rattle.line_run.specs.Clauses.{AtReadFault, AtWriteFault};
+ghost use Rattle.line_run.specs.Clauses.{AtReadFault, AtWriteFault, RunOwes};
 ghost use Rattle.command_options.specs.Options.{texts_of};
 ghost use Rattle.controller_words.specs.Words.{AreKnown};
-ghost use Rattle.mlb_controller.specs.Asked.{AskLanes, AskNoLanes};
-ghost use Rattle.mlb_controller.specs.LaneClauses.{OverLanes, LanesMayAsk, LanesMayWait, LanesMayDrop, LanesEnd, LanesComplete, LanesDone, LanesSound, LanesAreSound, LanesAreWatches, LanesQuiet, LaneCanEnd, LaneOpenFault, LaneReadFault, LaneOthers};
-ghost use Rattle.mlb_controller.specs.Clauses.{MayAskAnswered, CanEnd, AtEnd, AtDone, AtNoReply, AtBadLine, AtBadReply, AtServiceLimit, AtLongLine, AtTooLong, AfterRead, AfterWrite, AtNoMemory, WritesSound, RunsSound, RunsSafe, EndsQuiet, HandlesNamed, IsExact, IsComplete, WritesTrial, LeavesInput, TrialIsSafe};
+ghost use Rattle.mlb_controller.specs.Asked.{AskLanes, AskNoLanes, AskRun};
+ghost use Rattle.mlb_controller.specs.LaneClauses.{OverLanes, LanesMayAsk, LanesMayOpen, LanesMayWait, LanesMayDrop, LanesEnd, LanesComplete, LanesDone, LanesSound, LanesAreSound, LanesAreWatches, LanesQuiet, LaneCanEnd, LaneOpenFault, LaneReadFault, LaneOthers};
+ghost use Rattle.mlb_controller.specs.Clauses.{begun_by, MayAskAnswered, CanEnd, WritesSound, RunsSound, RunsSafe, EndsQuiet, HandlesNamed, WritesTrial, LeavesInput, TrialIsSafe};
+ghost use Rattle.mlb_controller.specs.Stream.{IsCause, controller_rules};
 
 use crate::lane_files::lanes_controller;
 use crate::stream::stream_controller;
@@ -37,6 +38,10 @@ pub fn run_controller<
     requires lanes_live { OverLanes words.now (LanesMayAsk (F.bytes files.old) (F.safe files.old) S.name S.left S.faults S.may_read K.written K.faults
         input.old out.old) }
 
+    // The file of the configuration may be opened, and once it is open that of the services. Nothing else is known of when a file may: so they are
+    // opened in this order, each at most once, and no other is, over one stream none. What is a `Files` may open any at any time.
+    requires lanes_open { OverLanes words.now (LanesMayOpen F.may_open F.Opens files.old) }
+
     // The next event of the files may be waited for where just the text of all that were taken before stands written, with the replies to
     // their puts heard. Nothing else is known of when it may, it can be waited for beside a sink of this type alone, and the files can only be
     // watched: so nothing is held back of `out` meanwhile. What is a `Wait` may wait at any time, and meets this.
@@ -54,25 +59,13 @@ pub fn run_controller<
     ensures named { HandlesNamed words.now }
     ensures unused { result ≡ Status.Usage → (input.new ≡ input.old) × (out.new ≡ out.old) }
 
-    // At the end of the input: nothing of it is left, and just the text of its run was written.
-    ensures done { AtDone words.now result (S.left input.old) K.written out.old out.new }
-    ensures no_reply { AtNoReply words.now result (S.left input.old) K.written out.old out.new }
-    ensures at_end { AtEnd words.now result (S.left input.new) }
-
-    // A line that ends the run, and just the text of the run before it was written.
-    ensures bad_line { AtBadLine words.now result (S.left input.old) K.written out.old out.new }
-    ensures bad_reply { AtBadReply words.now result (S.left input.old) K.written out.old out.new }
-    ensures service_limit { AtServiceLimit words.now result (S.left input.old) K.written out.old out.new }
-    ensures line_limit { AtLongLine words.now result (S.left input.old) K.written out.old out.new }
-    ensures input_limit { AtTooLong words.now result (S.left input.old) K.written out.old out.new }
-
-    // A fault comes only where its count rose. Behind a failed read stands the text of the lines
-    // that were read whole, behind a failed write a beginning of the text, and not the whole.
+    // A fault comes only where its count rose.
     ensures read_fault { AskNoLanes (texts_of words.now) → AtReadFault result (S.faults input.old) (S.faults input.new) }
-    ensures read { AfterRead words.now result S.left input.old input.new K.written out.old out.new }
     ensures write_fault { AtWriteFault result (K.faults out.old) (K.faults out.new) }
-    ensures part { AfterWrite words.now result (S.left input.old) K.written out.old out.new }
-    ensures no_memory { AtNoMemory words.now result (S.left input.old) K.written out.old out.new }
+
+    // What was read and written, whatever the status, where the words ask for a run over the input.
+    ensures run { AskRun (texts_of words.now) → RunOwes controller_rules IsCause (begun_by words.now) result
+        (S.left input.old) (S.left input.new) (K.written out.old) (K.written out.new) }
 
     // Over any input at all a beginning of the text of some lines' run was written, and that run is
     // sound: each put, each reason and each note is right by the transcript before it, no key is
@@ -90,11 +83,6 @@ pub fn run_controller<
     // Where the run is done, no service is left waiting that could be served. Each that is settled has what serves it, or a reason that
     // holds now; or none, where it isn't of type LoadBalancer.
     ensures quiet { EndsQuiet words.now result (S.left input.old) K.written out.old out.new }
-
-    // But for a fault or want of memory the status is that of the lines; and where all can be
-    // driven, the run is done.
-    ensures exact { IsExact words.now result (S.left input.old) }
-    ensures complete { IsComplete words.now result (S.left input.old) }
 
     // Where the words ask for a trial nothing is read, and just its text is written. At no moment of it are two services recorded with
     // one address, unless they share it.

@@ -1,10 +1,11 @@
 //! The run over one stream.
 ghost use Rattle.std.specs.Prelude.{◌≡◌, ◌↔◌};
-ghost use Rattle.line_run.specs.Clauses.{AtReadFault, AtWriteFault};
+ghost use Rattle.line_run.specs.Clauses.{AtReadFault, AtWriteFault, RunOwes};
 ghost use Rattle.command_options.specs.Options.{texts_of};
 ghost use Rattle.controller_words.specs.Words.{AreKnown};
-ghost use Rattle.mlb_controller.specs.Asked.{AskNoLanes};
-ghost use Rattle.mlb_controller.specs.Clauses.{MayAskAnswered, CanEnd, AtEnd, AtDone, AtNoReply, AtBadLine, AtBadReply, AtServiceLimit, AtLongLine, AtTooLong, AfterRead, AfterWrite, AtNoMemory, WritesSound, RunsSound, RunsSafe, EndsQuiet, HandlesNamed, IsExact, IsComplete, WritesTrial, LeavesInput, TrialIsSafe};
+ghost use Rattle.mlb_controller.specs.Asked.{AskNoLanes, AskRun};
+ghost use Rattle.mlb_controller.specs.Clauses.{begun_by, MayAskAnswered, CanEnd, WritesSound, RunsSound, RunsSafe, EndsQuiet, HandlesNamed, WritesTrial, LeavesInput, TrialIsSafe};
+ghost use Rattle.mlb_controller.specs.Stream.{IsCause, controller_rules};
 
 use crate::controller::Controller;
 use crate::trial::run_trial;
@@ -31,25 +32,13 @@ pub fn stream_controller<S: PacedSource<K>, K: Sink>(
     ensures named { HandlesNamed words.now }
     ensures unused { result ≡ Status.Usage → (input.new ≡ input.old) × (out.new ≡ out.old) }
 
-    // At the end of the input: nothing of it is left, and just the text of its run was written.
-    ensures done { AtDone words.now result (S.left input.old) K.written out.old out.new }
-    ensures no_reply { AtNoReply words.now result (S.left input.old) K.written out.old out.new }
-    ensures at_end { AtEnd words.now result (S.left input.new) }
-
-    // A line that ends the run, and just the text of the run before it was written.
-    ensures bad_line { AtBadLine words.now result (S.left input.old) K.written out.old out.new }
-    ensures bad_reply { AtBadReply words.now result (S.left input.old) K.written out.old out.new }
-    ensures service_limit { AtServiceLimit words.now result (S.left input.old) K.written out.old out.new }
-    ensures line_limit { AtLongLine words.now result (S.left input.old) K.written out.old out.new }
-    ensures input_limit { AtTooLong words.now result (S.left input.old) K.written out.old out.new }
-
-    // A fault comes only where its count rose. Behind a failed read stands the text of the lines
-    // that were read whole, behind a failed write a beginning of the text, and not the whole.
+    // A fault comes only where its count rose.
     ensures read_fault { AtReadFault result (S.faults input.old) (S.faults input.new) }
-    ensures read { AfterRead words.now result S.left input.old input.new K.written out.old out.new }
     ensures write_fault { AtWriteFault result (K.faults out.old) (K.faults out.new) }
-    ensures part { AfterWrite words.now result (S.left input.old) K.written out.old out.new }
-    ensures no_memory { AtNoMemory words.now result (S.left input.old) K.written out.old out.new }
+
+    // What was read and written, whatever the status, where the words ask for a run over the input.
+    ensures run { AskRun (texts_of words.now) → RunOwes controller_rules IsCause (begun_by words.now) result
+        (S.left input.old) (S.left input.new) (K.written out.old) (K.written out.new) }
 
     // Over any input at all a beginning of the text of some lines' run was written, and that run is
     // sound: each put, each reason and each note is right by the transcript before it, no key is
@@ -67,11 +56,6 @@ pub fn stream_controller<S: PacedSource<K>, K: Sink>(
     // Where the run is done, no service is left waiting that could be served. Each that is settled has what serves it, or a reason that
     // holds now; or none, where it isn't of type LoadBalancer.
     ensures quiet { EndsQuiet words.now result (S.left input.old) K.written out.old out.new }
-
-    // But for a fault or want of memory the status is that of the lines; and where all can be
-    // driven, the run is done.
-    ensures exact { IsExact words.now result (S.left input.old) }
-    ensures complete { IsComplete words.now result (S.left input.old) }
 
     // Where the words ask for a trial nothing is read, and just its text is written. At no moment of it are two services recorded with
     // one address, unless they share it.

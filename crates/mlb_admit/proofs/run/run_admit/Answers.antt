@@ -12,4 +12,4 @@ run_machine-status-requires g c = record {
 }
 
 pub returns-clause-stops_at_none : goal.returns-clause-stops_at_none
-returns-clause-stops_at_none g c = explained_stops (texts_of c.args.words.now) c.in-Some.work c.run_machine-status.result _ _ _ c.in-Some.ensures.begun c.run_machine-status.ensures.bad_line
+returns-clause-stops_at_none g c = explained_stops (texts_of c.args.words.now) c.in-Some.work c.run_machine-status.result _ _ _ c.in-Some.ensures.begun (c.run_machine-status.ensures.run.bad_line)

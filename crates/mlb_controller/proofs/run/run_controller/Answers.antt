@@ -7,6 +7,9 @@ use Rattle.mlb_controller.proofs.run.run_controller.Goals as goal
 
 -- ---- when the input may be asked for more
 
+pub lanes_controller-requires-clause-opens : goal.lanes_controller-requires-clause-opens
+lanes_controller-requires-clause-opens g c = λ _ _. c.requires.lanes_open _ _ c.in-Some.ensures.some
+
 pub lanes_controller-requires-clause-live : goal.lanes_controller-requires-clause-live
 lanes_controller-requires-clause-live g c = λ _ _. c.requires.lanes_live _ _ c.in-Some.ensures.some
 
@@ -47,47 +50,14 @@ returns-in-None-clause-lane_groups g c = lanes_watch
 pub returns-in-Some-clause-named : goal.returns-in-Some-clause-named
 returns-in-Some-clause-named g c = class-named (texts_of c.args.words.now)
 
-pub returns-in-Some-clause-done : goal.returns-in-Some-clause-done
-returns-in-Some-clause-done g c = λ ask. absurd (lanes_no_run (texts_of c.args.words.now) _ _ c.in-Some.ensures.some ask)
-
-pub returns-in-Some-clause-no_reply : goal.returns-in-Some-clause-no_reply
-returns-in-Some-clause-no_reply g c = λ ask. absurd (lanes_no_run (texts_of c.args.words.now) _ _ c.in-Some.ensures.some ask)
-
-pub returns-in-Some-clause-bad_line : goal.returns-in-Some-clause-bad_line
-returns-in-Some-clause-bad_line g c = λ ask. absurd (lanes_no_run (texts_of c.args.words.now) _ _ c.in-Some.ensures.some ask)
-
-pub returns-in-Some-clause-bad_reply : goal.returns-in-Some-clause-bad_reply
-returns-in-Some-clause-bad_reply g c = λ ask. absurd (lanes_no_run (texts_of c.args.words.now) _ _ c.in-Some.ensures.some ask)
-
-pub returns-in-Some-clause-service_limit : goal.returns-in-Some-clause-service_limit
-returns-in-Some-clause-service_limit g c = λ ask. absurd (lanes_no_run (texts_of c.args.words.now) _ _ c.in-Some.ensures.some ask)
-
-pub returns-in-Some-clause-line_limit : goal.returns-in-Some-clause-line_limit
-returns-in-Some-clause-line_limit g c = λ ask. absurd (lanes_no_run (texts_of c.args.words.now) _ _ c.in-Some.ensures.some ask)
-
-pub returns-in-Some-clause-input_limit : goal.returns-in-Some-clause-input_limit
-returns-in-Some-clause-input_limit g c = λ ask. absurd (lanes_no_run (texts_of c.args.words.now) _ _ c.in-Some.ensures.some ask)
-
-pub returns-in-Some-clause-read : goal.returns-in-Some-clause-read
-returns-in-Some-clause-read g c = λ ask. absurd (lanes_no_run (texts_of c.args.words.now) _ _ c.in-Some.ensures.some ask)
-
-pub returns-in-Some-clause-part : goal.returns-in-Some-clause-part
-returns-in-Some-clause-part g c = λ ask. absurd (lanes_no_run (texts_of c.args.words.now) _ _ c.in-Some.ensures.some ask)
-
-pub returns-in-Some-clause-no_memory : goal.returns-in-Some-clause-no_memory
-returns-in-Some-clause-no_memory g c = λ ask. absurd (lanes_no_run (texts_of c.args.words.now) _ _ c.in-Some.ensures.some ask)
+pub returns-in-Some-clause-run : goal.returns-in-Some-clause-run
+returns-in-Some-clause-run g c = λ ask. absurd (lanes_no_run (texts_of c.args.words.now) _ _ c.in-Some.ensures.some ask)
 
 pub returns-in-Some-clause-only : goal.returns-in-Some-clause-only
 returns-in-Some-clause-only g c = λ ask. absurd (lanes_no_run (texts_of c.args.words.now) _ _ c.in-Some.ensures.some ask)
 
 pub returns-in-Some-clause-quiet : goal.returns-in-Some-clause-quiet
 returns-in-Some-clause-quiet g c = λ ask. absurd (lanes_no_run (texts_of c.args.words.now) _ _ c.in-Some.ensures.some ask)
-
-pub returns-in-Some-clause-exact : goal.returns-in-Some-clause-exact
-returns-in-Some-clause-exact g c = λ ask. absurd (lanes_no_run (texts_of c.args.words.now) _ _ c.in-Some.ensures.some ask)
-
-pub returns-in-Some-clause-complete : goal.returns-in-Some-clause-complete
-returns-in-Some-clause-complete g c = λ ask. absurd (lanes_no_run (texts_of c.args.words.now) _ _ c.in-Some.ensures.some ask)
 
 pub returns-in-Some-clause-sound : goal.returns-in-Some-clause-sound
 returns-in-Some-clause-sound g c = sound_where_told (class_of (texts_of c.args.words.now)) (g.S.PacedSource.left c.args.input.now)

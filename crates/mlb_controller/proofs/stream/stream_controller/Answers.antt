@@ -5,6 +5,7 @@ use Rattle.controller_words.specs.Words.{Say}
 use Rattle.core_rules.specs.Core.{fresh}
 use Rattle.line_run.proofs.Driven.{only_nothing}
 use Rattle.line_run.specs.Answered.{IsAnswered}
+use Rattle.line_run.specs.Clauses.{RunOwes}
 use Rattle.line_run.specs.Explains.{StopsFor}
 use Rattle.line_run.specs.RunOutput.{WritesOnly}
 use Rattle.mlb_controller.specs.Asked.{AskRun, class_of}
@@ -27,26 +28,14 @@ returns-in-None-clause-safe g c = safe_where_told (class_of (texts_of c.args.wor
 pub returns-in-Some-Trial-clause-named : goal.returns-in-Some-Trial-clause-named
 returns-in-Some-Trial-clause-named g c = class-named (texts_of c.args.words.now)
 
-pub returns-in-Some-Trial-clause-done : goal.returns-in-Some-Trial-clause-done
-returns-in-Some-Trial-clause-done g c = λ ask. absurd (no-run (texts_of c.args.words.now) c.in-Some-Trial.seed c.in-Some-Trial.steps (sym (ap (λ x. Some (asked_seen x)) c.in-Some-Trial.field-0-is) ∙ c.in-Some-Trial.ensures.value) ask)
-
-pub returns-in-Some-Trial-clause-at_end : goal.returns-in-Some-Trial-clause-at_end
-returns-in-Some-Trial-clause-at_end g c = λ ask. absurd (no-run (texts_of c.args.words.now) c.in-Some-Trial.seed c.in-Some-Trial.steps (sym (ap (λ x. Some (asked_seen x)) c.in-Some-Trial.field-0-is) ∙ c.in-Some-Trial.ensures.value) ask)
-
-pub returns-in-Some-Trial-clause-part : goal.returns-in-Some-Trial-clause-part
-returns-in-Some-Trial-clause-part g c = λ ask. absurd (no-run (texts_of c.args.words.now) c.in-Some-Trial.seed c.in-Some-Trial.steps (sym (ap (λ x. Some (asked_seen x)) c.in-Some-Trial.field-0-is) ∙ c.in-Some-Trial.ensures.value) ask)
-
-pub returns-in-Some-Trial-clause-no_memory : goal.returns-in-Some-Trial-clause-no_memory
-returns-in-Some-Trial-clause-no_memory g c = λ ask. absurd (no-run (texts_of c.args.words.now) c.in-Some-Trial.seed c.in-Some-Trial.steps (sym (ap (λ x. Some (asked_seen x)) c.in-Some-Trial.field-0-is) ∙ c.in-Some-Trial.ensures.value) ask)
+pub returns-in-Some-Trial-clause-run : goal.returns-in-Some-Trial-clause-run
+returns-in-Some-Trial-clause-run g c = λ ask. absurd (no-run (texts_of c.args.words.now) c.in-Some-Trial.seed c.in-Some-Trial.steps (sym (ap (λ x. Some (asked_seen x)) c.in-Some-Trial.field-0-is) ∙ c.in-Some-Trial.ensures.value) ask)
 
 pub returns-in-Some-Trial-clause-only : goal.returns-in-Some-Trial-clause-only
 returns-in-Some-Trial-clause-only g c = λ ask. absurd (no-run (texts_of c.args.words.now) c.in-Some-Trial.seed c.in-Some-Trial.steps (sym (ap (λ x. Some (asked_seen x)) c.in-Some-Trial.field-0-is) ∙ c.in-Some-Trial.ensures.value) ask)
 
 pub returns-in-Some-Trial-clause-quiet : goal.returns-in-Some-Trial-clause-quiet
 returns-in-Some-Trial-clause-quiet g c = λ ask. absurd (no-run (texts_of c.args.words.now) c.in-Some-Trial.seed c.in-Some-Trial.steps (sym (ap (λ x. Some (asked_seen x)) c.in-Some-Trial.field-0-is) ∙ c.in-Some-Trial.ensures.value) ask)
-
-pub returns-in-Some-Trial-clause-exact : goal.returns-in-Some-Trial-clause-exact
-returns-in-Some-Trial-clause-exact g c = λ ask. absurd (no-run (texts_of c.args.words.now) c.in-Some-Trial.seed c.in-Some-Trial.steps (sym (ap (λ x. Some (asked_seen x)) c.in-Some-Trial.field-0-is) ∙ c.in-Some-Trial.ensures.value) ask)
 
 pub returns-in-Some-Trial-clause-sound : goal.returns-in-Some-Trial-clause-sound
 returns-in-Some-Trial-clause-sound g c = sound_where_told (class_of (texts_of c.args.words.now)) (g.S.PacedSource.left c.args.input.now)
@@ -97,18 +86,17 @@ run_machine-status-requires g c =
 pub returns-clause-named : goal.returns-clause-named
 returns-clause-named g c = class-named (texts_of c.args.words.now)
 
-pub returns-clause-service_limit : goal.returns-clause-service_limit
-returns-clause-service_limit g c = λ ask what count held is.
-    let class = class_of (texts_of c.args.words.now) in
+pub returns-clause-run : goal.returns-clause-run
+returns-clause-run g c = λ ask.
     let begun : c.in-Ok.controller.core ≡ fresh (class_of (texts_of c.args.words.now)) = c.in-Ok.ensures ∙ ap fresh (class-asked (texts_of c.args.words.now) _ (sym (ap (λ x. Some (asked_seen x)) c.in-Some-Run.field-0-is) ∙ c.in-Some-Run.ensures.value)) in
-    let stopped : StopsFor controller_rules IsCause (fresh class) (g.S.PacedSource.left c.args.input.now) (g.K.Sink.written c.args.out.now) (g.K.Sink.written c.run_machine-status.new.out) c.run_machine-status.result = rw begun at (c.run_machine-status.ensures.held_limit what count held is) in
-    stopped
+    subst (λ s. RunOwes controller_rules IsCause s c.run_machine-status.result (g.S.PacedSource.left c.args.input.now) (g.S.PacedSource.left c.run_machine-status.new.input)
+    (g.K.Sink.written c.args.out.now) (g.K.Sink.written c.run_machine-status.new.out)) begun c.run_machine-status.ensures.run
 
 pub returns-clause-only : goal.returns-clause-only
 returns-clause-only g c = λ ask.
     let class = class_of (texts_of c.args.words.now) in
     let begun : c.in-Ok.controller.core ≡ fresh (class_of (texts_of c.args.words.now)) = c.in-Ok.ensures ∙ ap fresh (class-asked (texts_of c.args.words.now) _ (sym (ap (λ x. Some (asked_seen x)) c.in-Some-Run.field-0-is) ∙ c.in-Some-Run.ensures.value)) in
-    let only : WritesOnly controller_rules (fresh class) (g.K.Sink.written c.args.out.now) (g.K.Sink.written c.run_machine-status.new.out) = rw begun at c.run_machine-status.ensures.only in
+    let only : WritesOnly controller_rules (fresh class) (g.K.Sink.written c.args.out.now) (g.K.Sink.written c.run_machine-status.new.out) = rw begun at c.run_machine-status.ensures.run.only in
     only_sound class (g.K.Sink.written c.args.out.now) (g.K.Sink.written c.run_machine-status.new.out) only
 
 pub returns-clause-sound : goal.returns-clause-sound
@@ -121,7 +109,7 @@ pub returns-clause-quiet : goal.returns-clause-quiet
 returns-clause-quiet g c = λ ask done.
     let class = class_of (texts_of c.args.words.now) in
     let begun : c.in-Ok.controller.core ≡ fresh (class_of (texts_of c.args.words.now)) = c.in-Ok.ensures ∙ ap fresh (class-asked (texts_of c.args.words.now) _ (sym (ap (λ x. Some (asked_seen x)) c.in-Some-Run.field-0-is) ∙ c.in-Some-Run.ensures.value)) in
-    let stopped : StopsFor controller_rules IsCause (fresh class) (g.S.PacedSource.left c.args.input.now) (g.K.Sink.written c.args.out.now) (g.K.Sink.written c.run_machine-status.new.out) c.run_machine-status.result = rw begun at (c.run_machine-status.ensures.done done) in
+    let stopped : StopsFor controller_rules IsCause (fresh class) (g.S.PacedSource.left c.args.input.now) (g.K.Sink.written c.args.out.now) (g.K.Sink.written c.run_machine-status.new.out) c.run_machine-status.result = rw begun at (c.run_machine-status.ensures.run.done done) in
     quiet_where_done class (g.S.PacedSource.left c.args.input.now) (g.K.Sink.written c.args.out.now) (g.K.Sink.written c.run_machine-status.new.out) (rw done at stopped.stops)
 
 pub returns-clause-trial : goal.returns-clause-trial

@@ -1,5 +1,5 @@
 -- Of each event is told just what it changes.
-use Rattle.std.proofs.Common.{◌≡◌, ◌↔◌, ℕ, Bool, true, false, not, ◌&&◌, List, [], ◌∷◌, ◌++◌, map, Option, Some, None, refl, sym, ap, ◌∙◌, subst, append_assoc, Contains, inl, inr}
+use Rattle.std.proofs.Common.{◌≡◌, ◌↔◌, ℕ, Bool, true, false, cond, not, ◌&&◌, List, [], ◌∷◌, ◌++◌, map, Option, Some, None, refl, sym, ap, ◌∙◌, subst, append_assoc, Contains, inl, inr}
 use Rattle.std.proofs.lemmas.Bool.{and_parts, and_from, false_from_ne_true, true≢false}
 use Rattle.std.proofs.lemmas.List.{append-nil}
 use Rattle.std.proofs.lemmas.List.Kept.{IsStrictlySortedBy-filter}
@@ -8,8 +8,6 @@ use Rattle.std.specs.List.Sorted.{IsStrictlySortedBy}
 use Rattle.mlb_base.specs.Items.{IsIn}
 use Rattle.mlb_base.proofs.Among.{contains-first, contains-later, contains-cons, contains-none}
 use Rattle.ip_ranges.specs.Values.{AddressValue, has_address}
-use Rattle.ip_ranges.specs.declared.family.Family.{Family}
-use Rattle.ip_ranges.specs.declared.family.Family.TheVariants.{V4, V6}
 use Rattle.ip_ranges.proofs.AddressLaws.{has_address-is, has_address-from}
 use Rattle.kube_events.specs.Event.{event_of_line}
 use Rattle.kube_model.specs.declared.event.Event.{Event}
@@ -24,18 +22,17 @@ use Rattle.announced_set.specs.Changes.{difference}
 use Rattle.announced_set.proofs.Listed.{all_are_announced, has-announced}
 use Rattle.mlb_edge.specs.declared.lines.Line.{Line}
 use Rattle.line_run.specs.Machine.{Goes}
-use Rattle.line_run.specs.Run.{AreTaken}
-use Rattle.speaker_words.specs.Reading.{said_in}
 use Rattle.mlb_speaker.specs.declared.entries.Entry.{Entry}
 use Rattle.mlb_speaker.specs.declared.entries.Entry.TheVariants.{Noted, Withdrawn, Announced, Sent, Updated}
 use Rattle.mlb_speaker.specs.declared.station.Interface.{Interface}
+use Rattle.mlb_speaker.specs.declared.station.NextHops.{NextHops}
 use Rattle.mlb_speaker.specs.declared.station.Station.{Station}
-use Rattle.mlb_speaker.specs.Clauses.{begun_with}
 use Rattle.mlb_speaker.specs.Entries.{withdrawn, withdrawals, announcements, entries_for}
 use Rattle.mlb_speaker.specs.Sends.{unasked_by, unasked, listening, announcement, sent_on, answer_on, answer_by, interface_of}
-use Rattle.mlb_speaker.specs.Stream.{SpeakerState, Received, frame_in, entries_at, entries_of, line_step, speaker_rules}
+use Rattle.mlb_speaker.specs.Stream.{SpeakerState, Received, frame_in, entries_at, entries_of, line_step}
 use Rattle.mlb_speaker.specs.Told.{withdrawn_in, announced_in, AnnouncesAlone, TellsChange, TellsWhatChanges}
-use Rattle.mlb_speaker.specs.Updates.{peers_of, messages_to, updated, updates_to, updates_by, with_hop, update_entries}
+use Rattle.bgp_routes.specs.Peers.{peers_of}
+use Rattle.mlb_speaker.specs.Updates.{messages_to, updated, updates_to, updates_by, are_hops, update_entries}
 use Rattle.mlb_speaker.proofs.Steps.{frame_leaves}
 use Rattle.mlb_speaker.proofs.Telling.{event_applies, has-difference, station_kept}
 
@@ -102,18 +99,18 @@ none-messages : (peer : CompiledPeer) (messages : List (List ℕ)) → TellsNone
 none-messages peer [] = record { announced = refl; withdrawn = refl }
 none-messages peer (message ∷ messages) = let rest = none-messages peer messages in record { announced = rest.announced; withdrawn = rest.withdrawn }
 
-none-peers : (v v' : ViewValue) (node : List ℕ) (hop : AddressValue) (peers : List CompiledPeer) → TellsNone (flat_map (updates_to v v' node hop) peers)
+none-peers : (v v' : ViewValue) (node : List ℕ) (hop : NextHops) (peers : List CompiledPeer) → TellsNone (flat_map (updates_to v v' node hop) peers)
 none-peers v v' node hop [] = record { announced = refl; withdrawn = refl }
 none-peers v v' node hop (peer ∷ peers) =
     none-append (updates_to v v' node hop peer) (flat_map (updates_to v v' node hop) peers) (none-messages peer (messages_to v v' node hop peer)) (none-peers v v' node hop peers)
 
-none-hop : (family : Family) (entries : List Entry) → TellsNone entries → TellsNone (with_hop family entries)
-none-hop V4 entries none = none
-none-hop V6 entries none = record { announced = refl; withdrawn = refl }
+none-hop : (are : Bool) (entries : List Entry) → TellsNone entries → TellsNone (cond are entries [])
+none-hop true entries none = none
+none-hop false entries none = record { announced = refl; withdrawn = refl }
 
-pub none-updates : (v v' : ViewValue) (node : List ℕ) (hop : Option AddressValue) → TellsNone (updates_by v v' node hop)
+pub none-updates : (v v' : ViewValue) (node : List ℕ) (hop : Option NextHops) → TellsNone (updates_by v v' node hop)
 none-updates v v' node None = record { announced = refl; withdrawn = refl }
-none-updates v v' node (Some hop) = none-hop hop.family (flat_map (updates_to v v' node hop) (peers_of v')) (none-peers v v' node hop (peers_of v'))
+none-updates v v' node (Some hop) = none-hop (are_hops hop) (flat_map (updates_to v v' node hop) (peers_of v')) (none-peers v v' node hop (peers_of v'))
 
 none-answer : (v : ViewValue) (node : List ℕ) (found : Option Interface) (frame : List ℕ) → TellsNone (answer_by v node found frame)
 none-answer v node None frame = record { announced = refl; withdrawn = refl }
@@ -163,7 +160,7 @@ module _ (v : ViewValue) (station : Station) (note : TakeNote) (before after : L
       ∙ withdrawn-withdrawals (difference before after)
 
 -- ---- what a difference has
-listed-in : (xs : List AddressValue) (a : AddressValue) → Contains xs a → IsIn xs a
+pub listed-in : {X : Type 0} (xs : List X) (a : X) → Contains xs a → IsIn xs a
 listed-in [] a there = absurd (contains-none a there)
 listed-in (x ∷ xs) a there = elim (contains-cons x xs a there) [ inl here ↦ inl here | inr later ↦ inr (listed-in xs a later) ]
 
@@ -229,7 +226,7 @@ event-told None s event is =
     let v = s.view in
     let w = view_after event s.view in
     let note = note_by s.view event in
-    let none = none-updates v w node s.station.next_hop in
+    let none = none-updates v w node s.station.next_hops in
     let before = announced_by v node in
     let after = announced_by w node in
     let updates = update_entries v w s.station in
@@ -247,7 +244,7 @@ event-told None s event is =
       later_announces = come-withdraws w s.station note before after updates none;
     }
 
-line-told : (s : SpeakerState) (line : Line) (t : SpeakerState) (entries : List Entry) → line_step s line ≡ Goes t entries → TellsChange s.station.node s.view t.view entries
+pub line-told : (s : SpeakerState) (line : Line) (t : SpeakerState) (entries : List Entry) → line_step s line ≡ Goes t entries → TellsChange s.station.node s.view t.view entries
 line-told s line t entries goes =
     let by = event_applies (event_of_line line.bytes) s t line entries goes in
     subst (λ (es : List Entry). TellsChange s.station.node s.view t.view es) (sym by.tells)

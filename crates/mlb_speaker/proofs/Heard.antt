@@ -1,24 +1,20 @@
 -- What a peer was told since it came adds up to its routes.
-use Rattle.std.proofs.Common.{◌≡◌, ◌<◌, ◌^◌, ℕ, Bool, true, false, cond, ◌&&◌, ◌==◌, List, [], ◌∷◌, ◌++◌, map, Option, Some, None, Ok, Ordering, Less, refl, sym, ap, ◌∙◌, subst, inl, inr, ◌⊎◌, append_assoc, arith}
-use Rattle.std.proofs.lemmas.Bool.{and_parts, and_from, true≢false}
-use Rattle.std.proofs.lemmas.Bool.Decides.{nat_tests}
+use Rattle.std.proofs.Common.{◌≡◌, ◌<◌, ◌^◌, ℕ, Bool, true, false, cond, ◌&&◌, ◌==◌, List, [], ◌∷◌, ◌++◌, map, Option, Some, None, Ok, refl, sym, ap, ◌∙◌, subst, inl, inr, append_assoc, arith}
+use Rattle.std.proofs.lemmas.Bool.{and_from, true≢false}
 use Rattle.std.proofs.lemmas.List.{append-nil}
 use Rattle.std.proofs.lemmas.Grind.{flat_map-append}
 use Rattle.std.proofs.lemmas.Slice.Eq.{bytes_eq-Decides}
 use Rattle.std.specs.List.{AllByRecursion, AllZip, find, flat_map}
 use Rattle.std.specs.List.Sorted.{IsStrictlySortedBy}
-use Rattle.std.specs.Ordering.{ordering_reverse}
 use Rattle.std.specs.Option.{option_map, option_to_list}
 use Rattle.std.specs.Str.{bytes_eq}
 use Rattle.ip_ranges.specs.declared.family.Family.{Family}
 use Rattle.ip_ranges.specs.declared.family.Family.TheVariants.{V4, V6}
-use Rattle.ip_ranges.specs.Values.{AddressValue, PrefixValue}
-use Rattle.kube_labels.specs.Names.{name_cmp}
-use Rattle.kube_labels.proofs.NameLaws.{name_cmp-total}
+use Rattle.ip_ranges.specs.Values.{AddressValue, PrefixValue, width_of, same_family}
 use Rattle.kube_events.specs.Event.{event_of_line}
 use Rattle.kube_model.specs.declared.event.Event.{Event}
-use Rattle.line_events.proofs.Shown.{lines_show_numbers, text-short}
-use Rattle.mlb_base.specs.Items.{Has, IsIn}
+use Rattle.line_events.proofs.Shown.{lines_show_numbers, text-fits}
+use Rattle.mlb_base.specs.Items.{IsIn}
 use Rattle.mlb_edge.specs.declared.lines.Line.{Line}
 use Rattle.object_cache.specs.declared.change.TakeNote.{TakeNote}
 use Rattle.line_run.specs.Machine.{Goes}
@@ -30,11 +26,11 @@ use Rattle.speaker_view.specs.ViewValue.{ViewValue}
 use Rattle.speaker_view.specs.View.{fresh, view_after, note_by}
 use Rattle.speaker_words.specs.Reading.{said_in}
 use Rattle.command_options.specs.Values.{values_of}
-use Rattle.speaker_words.specs.Words.{Said, Say, IsNextHop, next_hop_option}
+use Rattle.speaker_words.specs.Words.{Said, Say, IsNextHop, next_hop_option, next_hop_v6_option}
 use Rattle.speaker_words.proofs.NamedWords.{read-say}
 use Rattle.bgp_updates.specs.declared.route.Terms.{Terms}
 use Rattle.bgp_updates.specs.declared.route.Peering.{Peering}
-use Rattle.bgp_updates.specs.Between.{peering_of, messages_between}
+use Rattle.bgp_updates.specs.Between.{peering_of, messages_between, number_of_hop}
 use Rattle.bgp_updates.specs.Received.{terms_at}
 use Rattle.bgp_reading.specs.Joined.{received_bytes}
 use Rattle.bgp_reading.specs.Laws.{CanBeTold, joined, last_table, messages_over}
@@ -49,6 +45,7 @@ use Rattle.shown_views.proofs.Kept.{fresh-numbered, after-numbered}
 use Rattle.shown_views.proofs.Tellable.{routes_can_be_told}
 use Rattle.mlb_speaker.specs.declared.entries.Entry.{Entry}
 use Rattle.mlb_speaker.specs.declared.station.Interface.{Interface}
+use Rattle.mlb_speaker.specs.declared.station.NextHops.{NextHops}
 use Rattle.mlb_speaker.specs.declared.station.Station.{Station}
 use Rattle.announced_set.specs.Announced.{announced_by}
 use Rattle.mlb_speaker.specs.Clauses.{nothing_said, begun_with}
@@ -56,20 +53,13 @@ use Rattle.announced_set.specs.Changes.{difference}
 use Rattle.mlb_speaker.specs.Entries.{withdrawn, withdrawals, announcements, entries_for}
 use Rattle.mlb_speaker.specs.Heard.{message_to, messages_told, IsSamePeer, IsThere, StaysOver, HasComeSince, GiveTable, AreToldBy, HearsItsRoutes, PeersHearTheirRoutes}
 use Rattle.mlb_speaker.specs.Sends.{unasked_by, unasked, listening, announcement, answer_on, sent_on, answer_by, interface_of}
+use Rattle.mlb_speaker.specs.Station.{hops_of}
 use Rattle.mlb_speaker.specs.Stream.{SpeakerState, Received, first_state, frame_in, changes_of, entries_at, line_step, speaker_rules}
-use Rattle.mlb_speaker.specs.Updates.{peers_of, peers_in, is_one_peer, table_by, table_of, messages_to, updated, updates_to, updates_by, with_hop, update_entries}
+use Rattle.bgp_routes.specs.Peers.{peers_in, peers_of}
+use Rattle.mlb_speaker.specs.Updates.{table_by, table_of, messages_to, updated, updates_to, updates_by, update_entries, are_hops, both_with, is_v6}
+use Rattle.mlb_speaker.proofs.NamedPeers.{NamesAscend, apart-later, decided, found, has-peer, names-tail, not-found, number-is, number-itself, other-name, peer-has}
 use Rattle.mlb_speaker.proofs.Steps.{frame_leaves}
 use Rattle.mlb_speaker.proofs.Telling.{event_applies, station_kept}
-
-by_bool : (P : Type 0) (b : Bool) → (b ≡ true → P) → (b ≡ false → P) → P
-by_bool P true t f = t refl
-by_bool P false t f = f refl
-
-number-is : (m n : ℕ) → (m == n) ≡ true → m ≡ n
-number-is m n e = grind (arith, nat_tests)
-
-number-itself : (n : ℕ) → (n == n) ≡ true
-number-itself n = grind (arith, nat_tests)
 
 -- ---- what entries tell a peer
 
@@ -114,96 +104,11 @@ module _ (name : List ℕ) where
   told-other peer [] other = refl
   told-other peer (message ∷ messages) other = rw other (told-other peer messages other)
 
--- ---- peers of distinct names
-
-abbrev NamesAscend : List CompiledPeer → Type 0
-NamesAscend peers = IsStrictlySortedBy name_cmp (map (λ (p : CompiledPeer). p.name) peers)
-
-names-head : (p : CompiledPeer) (peers : List CompiledPeer) → NamesAscend (p ∷ peers) → AllByRecursion (λ name. name_cmp p.name name ≡ Less) (map (λ (q : CompiledPeer). q.name) peers)
-unfolding IsStrictlySortedBy
-names-head p peers sorted = sorted.0
-
-names-tail : (p : CompiledPeer) (peers : List CompiledPeer) → NamesAscend (p ∷ peers) → NamesAscend peers
-unfolding IsStrictlySortedBy
-names-tail p peers sorted = sorted.1
-
-not-less : (a b : List ℕ) → name_cmp a b ≡ Less → a ≡ b → ⊥
-not-less a b less same =
-    let one : name_cmp a a ≡ Less = subst (λ (c : List ℕ). name_cmp a c ≡ Less) (sym same) less in
-    let turned = name_cmp-total.antisymm a a in
-    absurd (by (name_cmp a a) one turned)
-  where
-    by : (o : Ordering) → o ≡ Less → o ≡ ordering_reverse o → ⊥
-    by o is turn = let wrong : Less ≡ ordering_reverse Less = subst (λ x. x ≡ ordering_reverse x) is turn in cc
-
-other-name : (a b : List ℕ) → (a ≡ b → ⊥) → bytes_eq a b ≡ false
-other-name a b apart = by_bool (bytes_eq a b ≡ false) (bytes_eq a b) (λ t. absurd (apart ((bytes_eq-Decides a b).0 t))) (λ f. f)
-
--- a peer further on has another name
-apart-later : (p other : CompiledPeer) (peers : List CompiledPeer) → NamesAscend (p ∷ peers) → IsIn peers other → p.name ≡ other.name → ⊥
-apart-later p other peers sorted there = go peers (names-head p peers sorted) there where
-  go : (qs : List CompiledPeer) → AllByRecursion (λ name. name_cmp p.name name ≡ Less) (map (λ (q : CompiledPeer). q.name) qs) → IsIn qs other → p.name ≡ other.name → ⊥
-  go [] all none same = none
-  go (q ∷ qs) all (inl here) same = not-less p.name q.name all.0 (same ∙ ap (λ (x : CompiledPeer). x.name) (sym here))
-  go (q ∷ qs) all (inr later) same = go qs all.1 later same
-
-module _ (peer : CompiledPeer) where
-  one-peer : (other : CompiledPeer) → IsSamePeer peer other → is_one_peer peer other ≡ true
-  one-peer other same =
-      and_from (bytes_eq other.name peer.name && (other.my_asn == peer.my_asn)) (other.peer_asn == peer.peer_asn)
-      (and_from (bytes_eq other.name peer.name) (other.my_asn == peer.my_asn) ((bytes_eq-Decides other.name peer.name).1 same.name) (rw same.my_asn (number-itself peer.my_asn)))
-      (rw same.peer_asn (number-itself peer.peer_asn))
-
-  peer-one : (other : CompiledPeer) → is_one_peer peer other ≡ true → IsSamePeer peer other
-  peer-one other e =
-      let outer = and_parts (bytes_eq other.name peer.name && (other.my_asn == peer.my_asn)) (other.peer_asn == peer.peer_asn) e in
-      let inner = and_parts (bytes_eq other.name peer.name) (other.my_asn == peer.my_asn) outer.0 in
-      record { name = (bytes_eq-Decides other.name peer.name).0 inner.0; my_asn = number-is other.my_asn peer.my_asn inner.1; peer_asn = number-is other.peer_asn peer.peer_asn outer.1 }
-
-  -- a peer that is there is found, and no other
-  found : (other : CompiledPeer) (peers : List CompiledPeer) → NamesAscend peers → IsIn peers other → IsSamePeer peer other → find (is_one_peer peer) peers ≡ Some other
-  found other [] sorted none same = absurd none
-  found other (p ∷ peers) sorted (inl here) same =
-      let own : is_one_peer peer p ≡ true = one-peer p (subst (IsSamePeer peer) (sym here) same) in
-      rw own (ap (λ (x : CompiledPeer). Some x) here)
-  found other (p ∷ peers) sorted (inr later) same =
-      by_bool (find (is_one_peer peer) (p ∷ peers) ≡ Some other) (is_one_peer peer p)
-      (λ t. absurd (apart-later p other peers sorted later ((peer-one p t).name ∙ sym same.name)))
-      (λ f. rw f (found other peers (names-tail p peers sorted) later same))
-
-  not-found : (peers : List CompiledPeer) → ¬ (Has (IsSamePeer peer) peers) → find (is_one_peer peer) peers ≡ None
-  not-found [] none = refl
-  not-found (p ∷ peers) none =
-      by_bool (find (is_one_peer peer) (p ∷ peers) ≡ None) (is_one_peer peer p)
-      (λ t. absurd (none (inl (peer-one p t))))
-      (λ f. rw f (not-found peers (λ later. none (inr later))))
-
-  has-peer : (peers : List CompiledPeer) → Has (IsSamePeer peer) peers → (other : CompiledPeer) × IsIn peers other × IsSamePeer peer other
-  has-peer [] none = absurd none
-  has-peer (p ∷ peers) (inl here) = (p, inl refl, here)
-  has-peer (p ∷ peers) (inr later) = let (other, there, same) = has-peer peers later in (other, inr there, same)
-
-  peer-has : (other : CompiledPeer) (peers : List CompiledPeer) → IsIn peers other → IsSamePeer peer other → Has (IsSamePeer peer) peers
-  peer-has other [] none same = none
-  peer-has other (p ∷ peers) (inl here) same = inl (subst (IsSamePeer peer) (sym here) same)
-  peer-has other (p ∷ peers) (inr later) same = inr (peer-has other peers later same)
-
-  decided : (v : ViewValue) → IsThere peer v ⊎ (¬ (IsThere peer v))
-  decided v = go (peers_of v) where
-    go : (peers : List CompiledPeer) → Has (IsSamePeer peer) peers ⊎ (¬ (Has (IsSamePeer peer) peers))
-    go [] = inr (λ none. none)
-    go (p ∷ peers) = by_bool (Has (IsSamePeer peer) (p ∷ peers) ⊎ (¬ (Has (IsSamePeer peer) (p ∷ peers)))) (is_one_peer peer p)
-        (λ t. inl (inl (peer-one p t)))
-        (λ f. elim (go peers) [
-          | inl there ↦ inl (inr there)
-          | inr none ↦ inr (λ has. elim has [ inl own ↦ absurd (true≢false (sym (one-peer p own) ∙ f)) | inr later ↦ none later ])
-        ])
-
 -- ---- views that lines lead to
 
-record IsGoodView (v : ViewValue) : Type 0 where
-  numbered : IsNumbered v
-  few : HasFewInForce v
+pub record IsGoodView (v : ViewValue) : Type 0 where
+  pub numbered : IsNumbered v
+  pub few : HasFewInForce v
 
 names-in : (config : Option ConfigValue) → ((c : ConfigValue) → config ≡ Some c → IsNumberedConfig c) → NamesAscend (peers_in config)
 unfolding IsStrictlySortedBy
@@ -223,7 +128,7 @@ good-after event line v reads good = record {
   few = after-few event v good.few;
 }
 
-line-good : (s t : SpeakerState) (line : Line) (entries : List Entry) → line_step s line ≡ Goes t entries → IsGoodView s.view → IsGoodView t.view
+pub line-good : (s t : SpeakerState) (line : Line) (entries : List Entry) → line_step s line ≡ Goes t entries → IsGoodView s.view → IsGoodView t.view
 line-good s t line entries goes good =
     let by = event_applies (event_of_line line.bytes) s t line entries goes in
     subst (λ (u : SpeakerState). IsGoodView u.view) (sym by.leads) (good-after by.event line.bytes s.view by.reads good)
@@ -235,9 +140,13 @@ lines-good (line ∷ lines) s t entries (next, first, rest, goes, others, is) go
 fresh-good : (class : Option (List ℕ)) → IsGoodView (fresh class)
 fresh-good class = record { numbered = fresh-numbered class; few = fresh-few class }
 
+pub begun-good : (o : Option Said) → IsGoodView (begun_with o).view
+begun-good None = fresh-good None
+begun-good (Some said) = fresh-good said.class
+
 -- ---- what a peer is told
 
-module _ (peer : CompiledPeer) (node : List ℕ) (hop : AddressValue) (v4 : hop.family ≡ V4) (small : hop.number < 2 ^ 32) where
+module _ (peer : CompiledPeer) (node : List ℕ) (hop : NextHops) (are : are_hops hop ≡ true) (small : hop.v4.number < 2 ^ 32) (small_v6 : number_of_hop hop.v6 < 2 ^ 128) where
   abbrev Table : Type 0
   Table = List (PrefixValue × Terms)
 
@@ -245,29 +154,32 @@ module _ (peer : CompiledPeer) (node : List ℕ) (hop : AddressValue) (v4 : hop.
   told entries = messages_told peer.name entries
 
   abbrev peering : Peering
-  peering = peering_of peer hop
+  peering = peering_of peer hop.v4 hop.v6
+
+  abbrev both : Bool
+  both = both_with hop
 
   -- the table of a peer that is there, and of one that isn't
-  there-table : (v : ViewValue) (other : CompiledPeer) → IsGoodView v → IsIn (peers_of v) other → IsSamePeer peer other → table_of v node peer ≡ routes_of v node other
-  there-table v other good there same = ap (table_by v node) (found peer other (peers_of v) (names-of v good) there same)
+  there-table : (v : ViewValue) (other : CompiledPeer) → IsGoodView v → IsIn (peers_of v) other → IsSamePeer peer other → table_of v node both peer ≡ routes_of v node other both
+  there-table v other good there same = ap (table_by v node both) (found peer other (peers_of v) (names-of v good) there same)
 
-  absent-table : (v : ViewValue) → ¬ (IsThere peer v) → table_of v node peer ≡ []
-  absent-table v absent = ap (table_by v node) (not-found peer (peers_of v) absent)
+  absent-table : (v : ViewValue) → ¬ (IsThere peer v) → table_of v node both peer ≡ []
+  absent-table v absent = ap (table_by v node both) (not-found peer (peers_of v) absent)
 
   -- the same for each peer of its name and AS numbers
   abbrev table_for : ViewValue → List ℕ → ℕ → ℕ → Table
-  table_for v name my_asn peer_asn = table_by v node (find (λ (q : CompiledPeer). bytes_eq q.name name && (q.my_asn == my_asn) && (q.peer_asn == peer_asn)) (peers_of v))
+  table_for v name my_asn peer_asn = table_by v node both (find (λ (q : CompiledPeer). bytes_eq q.name name && (q.my_asn == my_asn) && (q.peer_asn == peer_asn)) (peers_of v))
 
-  same-table : (v : ViewValue) (other : CompiledPeer) → IsSamePeer peer other → table_of v node other ≡ table_of v node peer
+  same-table : (v : ViewValue) (other : CompiledPeer) → IsSamePeer peer other → table_of v node both other ≡ table_of v node both peer
   same-table v other same =
       ap (λ (n : List ℕ). table_for v n other.my_asn other.peer_asn) same.name
       ∙ ap (λ (m : ℕ). table_for v peer.name m other.peer_asn) same.my_asn
       ∙ ap (λ (m : ℕ). table_for v peer.name peer.my_asn m) same.peer_asn
 
-  same-peering : (other : CompiledPeer) → IsSamePeer peer other → peering_of other hop ≡ peering
+  same-peering : (other : CompiledPeer) → IsSamePeer peer other → peering_of other hop.v4 hop.v6 ≡ peering
   same-peering other same =
-      ap (λ (m : ℕ). let p : Peering = record { own = cond (m == other.peer_asn) None (Some m); next_hop = hop.number } in p) same.my_asn
-      ∙ ap (λ (m : ℕ). let p : Peering = record { own = cond (peer.my_asn == m) None (Some peer.my_asn); next_hop = hop.number } in p) same.peer_asn
+      ap (λ (m : ℕ). let p : Peering = record { own = cond (m == other.peer_asn) None (Some m); next_hop = hop.v4.number; next_hop_v6 = number_of_hop hop.v6 } in p) same.my_asn
+      ∙ ap (λ (m : ℕ). let p : Peering = record { own = cond (peer.my_asn == m) None (Some peer.my_asn); next_hop = hop.v4.number; next_hop_v6 = number_of_hop hop.v6 } in p) same.peer_asn
 
   module _ (v v' : ViewValue) where
     -- to peers of other names nothing is told
@@ -294,18 +206,18 @@ module _ (peer : CompiledPeer) (node : List ℕ) (hop : AddressValue) (v4 : hop.
         (told-other peer.name p (messages_to v v' node hop p) (other-name p.name peer.name (λ named. apart-later p other peers sorted later (named ∙ sym same.name))))
         ∙ peers-told other peers (names-tail p peers sorted) later same
 
-    hop-told : (f : Family) (entries : List Entry) → f ≡ V4 → with_hop f entries ≡ entries
-    hop-told V4 entries is = refl
-    hop-told V6 entries is = absurd (cc)
+    hop-told : (b : Bool) (entries : List Entry) → b ≡ true → cond b entries [] ≡ entries
+    hop-told true entries is = refl
+    hop-told false entries is = absurd (true≢false (sym is))
 
     -- the messages that are told of an event, to a peer that is there after it
     updates-told : (other : CompiledPeer) → IsGoodView v' → IsIn (peers_of v') other → IsSamePeer peer other
-        → told (updates_by v v' node (Some hop)) ≡ messages_between peering (table_of v node peer) (routes_of v' node other)
+        → told (updates_by v v' node (Some hop)) ≡ messages_between peering (table_of v node both peer) (routes_of v' node other both)
     updates-told other good there same =
-        ap told (hop-told hop.family (flat_map (updates_to v v' node hop) (peers_of v')) v4)
+        ap told (hop-told (are_hops hop) (flat_map (updates_to v v' node hop) (peers_of v')) are)
         ∙ peers-told other (peers_of v') (names-of v' good) there same
-        ∙ ap (λ (p : Peering). messages_between p (table_of v node other) (routes_of v' node other)) (same-peering other same)
-        ∙ ap (λ (t : Table). messages_between peering t (routes_of v' node other)) (same-table v other same)
+        ∙ ap (λ (p : Peering). messages_between p (table_of v node both other) (routes_of v' node other both)) (same-peering other same)
+        ∙ ap (λ (t : Table). messages_between peering t (routes_of v' node other both)) (same-table v other same)
 
   -- ---- one table after the other
 
@@ -327,41 +239,41 @@ module _ (peer : CompiledPeer) (node : List ℕ) (hop : AddressValue) (v4 : hop.
   record Leads (v v' : ViewValue) (messages : List (List ℕ)) : Type 0 where
     tables : List Table
     tellable : AllByRecursion (CanBeTold peering) tables
-    are : messages ≡ messages_over peering (table_of v node peer) tables
-    last : last_table (table_of v node peer) tables ≡ table_of v' node peer
+    messages_are : messages ≡ messages_over peering (table_of v node both peer) tables
+    last : last_table (table_of v node both peer) tables ≡ table_of v' node both peer
 
   leads-nowhere : (v : ViewValue) (messages : List (List ℕ)) → messages ≡ [] → Leads v v messages
-  leads-nowhere v messages none = record { tables = []; tellable = tt; are = none; last = refl }
+  leads-nowhere v messages none = record { tables = []; tellable = tt; messages_are = none; last = refl }
 
   leads-on : (u v w : ViewValue) (first rest : List (List ℕ)) → Leads u v first → Leads v w rest → Leads u w (first ++ rest)
   leads-on u v w first rest a b =
-      let old = table_of u node peer in
+      let old = table_of u node both peer in
       record {
         tables = a.tables ++ b.tables;
         tellable = all-append (CanBeTold peering) a.tables b.tables a.tellable b.tellable;
-        are =
-            ap (λ ms. ms ++ rest) a.are
-            ∙ ap (λ ms. messages_over peering old a.tables ++ ms) (b.are ∙ ap (λ (t : Table). messages_over peering t b.tables) (sym a.last))
+        messages_are =
+            ap (λ ms. ms ++ rest) a.messages_are
+            ∙ ap (λ ms. messages_over peering old a.tables ++ ms) (b.messages_are ∙ ap (λ (t : Table). messages_over peering t b.tables) (sym a.last))
             ∙ sym (over-append old a.tables b.tables);
         last = last-append old a.tables b.tables ∙ ap (λ (t : Table). last_table t b.tables) a.last ∙ b.last;
       }
 
-  can-be-told : (v : ViewValue) (other : CompiledPeer) → IsGoodView v → IsIn (peers_of v) other → IsSamePeer peer other → CanBeTold peering (routes_of v node other)
+  can-be-told : (v : ViewValue) (other : CompiledPeer) → IsGoodView v → IsIn (peers_of v) other → IsSamePeer peer other → CanBeTold peering (routes_of v node other both)
   can-be-told v other good there same =
-      subst (λ (p : Peering). CanBeTold p (routes_of v node other)) (same-peering other same)
-      (routes_can_be_told v node other hop good.numbered good.few (each-of HasCompiledAsn (peers_of v) other (asns-in v.held.config good.numbered.config) there) small)
+      subst (λ (p : Peering). CanBeTold p (routes_of v node other both)) (same-peering other same)
+      (routes_can_be_told v node other both hop.v4 hop.v6 good.numbered good.few (each-of HasCompiledAsn (peers_of v) other (asns-in v.held.config good.numbered.config) there) small small_v6)
 
   -- ---- an event
 
-  module _ (s : SpeakerState) (at : s.station.node ≡ node) (hops : s.station.next_hop ≡ Some hop) where
+  module _ (s : SpeakerState) (at : s.station.node ≡ node) (hops : s.station.next_hops ≡ Some hop) where
     changes-told : (event : Event) → told (changes_of s event) ≡ told (updates_by s.view (view_after event s.view) node (Some hop))
     changes-told event =
         let v' = view_after event s.view in
         let others = entries_for v' s.station (note_by s.view event) (announced_by s.view s.station.node) (announced_by v' s.station.node) in
         told-append peer.name others (update_entries s.view v' s.station)
         ∙ ap (λ ms. ms ++ told (update_entries s.view v' s.station)) (told-changes peer.name v' s.station (note_by s.view event) (announced_by s.view s.station.node) (announced_by v' s.station.node))
-        ∙ ap (λ (n : List ℕ). told (updates_by s.view v' n s.station.next_hop)) at
-        ∙ ap (λ (h : Option AddressValue). told (updates_by s.view v' node h)) hops
+        ∙ ap (λ (n : List ℕ). told (updates_by s.view v' n s.station.next_hops)) at
+        ∙ ap (λ (h : Option NextHops). told (updates_by s.view v' node h)) hops
 
     event-leads : (event : Event) (o : Option Received) → frame_in event ≡ o → IsGoodView (view_after event s.view) → IsThere peer (view_after event s.view)
         → Leads s.view (view_after event s.view) (told (entries_at o s event))
@@ -372,9 +284,9 @@ module _ (peer : CompiledPeer) (node : List ℕ) (hop : AddressValue) (v4 : hop.
         let v' = view_after event s.view in
         let (other, among, same) = has-peer peer (peers_of v') there in
         record {
-          tables = routes_of v' node other ∷ [];
+          tables = routes_of v' node other both ∷ [];
           tellable = (can-be-told v' other good among same, tt);
-          are = changes-told event ∙ updates-told s.view v' other good among same ∙ sym (append-nil (messages_between peering (table_of s.view node peer) (routes_of v' node other)));
+          messages_are = changes-told event ∙ updates-told s.view v' other good among same ∙ sym (append-nil (messages_between peering (table_of s.view node both peer) (routes_of v' node other both)));
           last = sym (there-table v' other good among same);
         }
 
@@ -388,7 +300,7 @@ module _ (peer : CompiledPeer) (node : List ℕ) (hop : AddressValue) (v4 : hop.
 
   -- ---- lines
 
-  lines-lead : (lines : List Line) (s t : SpeakerState) (entries : List Entry) → s.station.node ≡ node → s.station.next_hop ≡ Some hop → IsGoodView s.view → StaysOver peer lines s t entries → Leads s.view t.view (told entries)
+  lines-lead : (lines : List Line) (s t : SpeakerState) (entries : List Entry) → s.station.node ≡ node → s.station.next_hops ≡ Some hop → IsGoodView s.view → StaysOver peer lines s t entries → Leads s.view t.view (told entries)
   lines-lead [] s t entries at hops good stays =
       subst (λ (u : SpeakerState). Leads s.view u.view (told entries)) (sym stays.0) (leads-nowhere s.view (told entries) (ap told stays.1))
   lines-lead (line ∷ lines) s t entries at hops good (next, first, rest, goes, there, later, is) =
@@ -397,16 +309,16 @@ module _ (peer : CompiledPeer) (node : List ℕ) (hop : AddressValue) (v4 : hop.
       subst (λ (ms : List (List ℕ)). Leads s.view t.view ms) (sym (ap told is ∙ told-append peer.name first rest))
       (leads-on s.view next.view t.view (told first) (told rest)
       (line-leads s at hops next line first goes next_good there)
-      (lines-lead lines next t rest (ap (λ (x : Station). x.node) kept ∙ at) (ap (λ (x : Station). x.next_hop) kept ∙ hops) next_good later))
+      (lines-lead lines next t rest (ap (λ (x : Station). x.node) kept ∙ at) (ap (λ (x : Station). x.next_hops) kept ∙ hops) next_good later))
 
   -- from where the peer isn't there
   leads-from : (v v' : ViewValue) (messages : List (List ℕ)) → ¬ (IsThere peer v) → (leads : Leads v v' messages) → messages ≡ messages_over peering [] leads.tables
-  leads-from v v' messages absent leads = leads.are ∙ ap (λ (t : Table). messages_over peering t leads.tables) (absent-table v absent)
+  leads-from v v' messages absent leads = leads.messages_are ∙ ap (λ (t : Table). messages_over peering t leads.tables) (absent-table v absent)
 
-  leads-table : (v v' : ViewValue) (messages : List (List ℕ)) → ¬ (IsThere peer v) → IsGoodView v' → IsIn (peers_of v') peer → Leads v v' messages → GiveTable messages (routes_of v' node peer)
+  leads-table : (v v' : ViewValue) (messages : List (List ℕ)) → ¬ (IsThere peer v) → IsGoodView v' → IsIn (peers_of v') peer → Leads v v' messages → GiveTable messages (routes_of v' node peer both)
   leads-table v v' messages absent good there leads p =
       let same : IsSamePeer peer peer = record { name = refl; my_asn = refl; peer_asn = refl } in
-      let last : last_table [] leads.tables ≡ routes_of v' node peer = ap (λ (t : Table). last_table t leads.tables) (sym (absent-table v absent)) ∙ leads.last ∙ there-table v' peer good there same in
+      let last : last_table [] leads.tables ≡ routes_of v' node peer both = ap (λ (t : Table). last_table t leads.tables) (sym (absent-table v absent)) ∙ leads.last ∙ there-table v' peer good there same in
       ap (λ (ms : List (List ℕ)). option_map (λ table. table p) (received_bytes (λ q. None) (joined ms))) (leads-from v v' messages absent leads)
       ∙ tables-received peering [] leads.tables (tt, tt) leads.tellable p
       ∙ ap (λ (t : Table). Some (terms_at t p)) last
@@ -422,7 +334,7 @@ module _ (peer : CompiledPeer) (node : List ℕ) (hop : AddressValue) (v4 : hop.
   leads-told : (v v' : ViewValue) (messages : List (List ℕ)) → ¬ (IsThere peer v) → Leads v v' messages → AreToldBy peer hop messages
   leads-told v v' messages absent leads = (
     peering,
-    record { next_hop = refl; inside = inside (peer.my_asn == peer.peer_asn) refl; outside = outside (peer.my_asn == peer.peer_asn) refl },
+    record { next_hop = refl; next_hop_v6 = λ h is. ap number_of_hop is; inside = inside (peer.my_asn == peer.peer_asn) refl; outside = outside (peer.my_asn == peer.peer_asn) refl },
     subst (AllByRecursion (IsMessageOf peering)) (sym (leads-from v v' messages absent leads)) (of-sender peering [] leads.tables (tt, tt) leads.tellable),
   )
 
@@ -481,6 +393,12 @@ module _ (start : SpeakerState) (peer : CompiledPeer) where
 
 -- ---- runs
 
+-- hops are of their families, and fit them
+record FitHops (hop : NextHops) : Type 0 where
+  pub are : are_hops hop ≡ true
+  pub small : hop.v4.number < 2 ^ 32
+  pub small_v6 : number_of_hop hop.v6 < 2 ^ 128
+
 module _ (said : Said) where
   abbrev start : SpeakerState
   start = first_state said
@@ -488,7 +406,7 @@ module _ (said : Said) where
   nobody-yet : (peer : CompiledPeer) → IsThere peer start.view → ⊥
   nobody-yet peer none = none
 
-  hears-with : ((hop : AddressValue) → said.next_hop ≡ Some hop → (hop.family ≡ V4) × (hop.number < 2 ^ 32)) → HearsItsRoutes start
+  hears-with : ((hop : NextHops) → hops_of said ≡ Some hop → FitHops hop) → HearsItsRoutes start
   hears-with hops lines t all taken hop is peer there =
       let by = hops hop is in
       let same : IsSamePeer peer peer = record { name = refl; my_asn = refl; peer_asn = refl } in
@@ -497,27 +415,48 @@ module _ (said : Said) where
         λ told since.
             let kept = station_kept since.earlier start since.s since.before since.reached in
             let at : since.s.station.node ≡ said.node = ap (λ (x : Station). x.node) kept in
-            let next : since.s.station.next_hop ≡ Some hop = ap (λ (x : Station). x.next_hop) kept ∙ is in
+            let next : since.s.station.next_hops ≡ Some hop = ap (λ (x : Station). x.next_hops) kept ∙ is in
             let begun = lines-good since.earlier start since.s since.before since.reached (fresh-good said.class) in
-            let leads = lines-lead peer said.node hop by.0 by.1 since.later since.s t told at next begun since.stays in (
-              leads-table peer said.node hop by.0 by.1 since.s.view t.view (messages_told peer.name told) since.absent good there leads,
-              leads-told peer said.node hop by.0 by.1 since.s.view t.view (messages_told peer.name told) since.absent leads,
+            let leads = lines-lead peer said.node hop by.are by.small by.small_v6 since.later since.s t told at next begun since.stays in (
+              leads-table peer said.node hop by.are by.small by.small_v6 since.s.view t.view (messages_told peer.name told) since.absent good there leads,
+              leads-told peer said.node hop by.are by.small by.small_v6 since.s.view t.view (messages_told peer.name told) since.absent leads,
             ),
       )
 
-hop-of : (values : List (List ℕ)) (next_hop : Option AddressValue) (hop : AddressValue) → AllZip IsNextHop values (option_to_list next_hop) → next_hop ≡ Some hop → (hop.family ≡ V4) × (hop.number < 2 ^ 32)
-hop-of values None hop zip is = absurd (cc)
-hop-of [] (Some h) hop zip is = absurd zip
-hop-of (text ∷ values) (Some h) hop zip is =
+-- a hop of the family that fits it
+hop-of : (family : Family) (values : List (List ℕ)) (next_hop : Option AddressValue) (hop : AddressValue) → AllZip (IsNextHop family) values (option_to_list next_hop) → next_hop ≡ Some hop
+    → (hop.family ≡ family) × (hop.number < 2 ^ width_of family)
+hop-of family values None hop zip is = absurd (cc)
+hop-of family [] (Some h) hop zip is = absurd zip
+hop-of family (text ∷ values) (Some h) hop zip is =
     let same : h ≡ hop = cc in
-    let next : IsNextHop text hop = subst (IsNextHop text) same zip.0 in
-    (next.0, text-short text hop next.1 next.0)
+    let next : IsNextHop family text hop = subst (IsNextHop family text) same zip.0 in
+    (next.is, subst (λ (f : Family). hop.number < 2 ^ width_of f) next.is (text-fits text hop next.written))
 
-said-hop : (words : List (List ℕ)) (said : Said) → Say words said → (hop : AddressValue) → said.next_hop ≡ Some hop → (hop.family ≡ V4) × (hop.number < 2 ^ 32)
-said-hop words said say hop is = hop-of (values_of next_hop_option say.options) said.next_hop hop say.next_hop is
+-- one of IPv6, if it is there
+v6-of : (values : List (List ℕ)) (next_hop : Option AddressValue) → AllZip (IsNextHop V6) values (option_to_list next_hop) → (is_v6 next_hop ≡ true) × (number_of_hop next_hop < 2 ^ 128)
+v6-of values None zip = (refl, omega arith)
+v6-of values (Some hop) zip =
+    let by = hop-of V6 values (Some hop) hop zip refl in
+    (ap (λ f. same_family f V6) by.0, by.1)
+
+said-hops : (words : List (List ℕ)) (said : Said) → Say words said → (hop : NextHops) → hops_of said ≡ Some hop → FitHops hop
+said-hops words said say hop is = by-hop said.next_hop refl is where
+  by-hop : (o : Option AddressValue) → said.next_hop ≡ o → option_map (λ (h : AddressValue). let hops : NextHops = record { v4 = h; v6 = said.next_hop_v6 } in hops) o ≡ Some hop → FitHops hop
+  by-hop None at e = absurd (let none : None ≡ Some hop = e in cc)
+  by-hop (Some h) at e =
+      let own : NextHops = record { v4 = h; v6 = said.next_hop_v6 } in
+      let same : own ≡ hop = (let some : Some own ≡ Some hop = e in cc) in
+      let four = hop-of V4 (values_of next_hop_option say.options) said.next_hop h say.next_hop at in
+      let six = v6-of (values_of next_hop_v6_option say.options) said.next_hop_v6 say.next_hop_v6 in
+      subst FitHops same (record {
+        are = and_from (same_family h.family V4) (is_v6 said.next_hop_v6) (ap (λ f. same_family f V4) four.0) six.0;
+        small = four.1;
+        small_v6 = six.1;
+      })
 
 pub peers_hear_their_routes : PeersHearTheirRoutes
-peers_hear_their_routes words said say = hears-with said (said-hop words said say)
+peers_hear_their_routes words said say = hears-with said (said-hops words said say)
 
 hears-by : (words : List (List ℕ)) (o : Option Said) → said_in words ≡ o → HearsItsRoutes (begun_with o)
 hears-by words None is = hears-with nothing_said (λ hop e. absurd (let none : None ≡ Some hop = e in cc))

@@ -1,9 +1,12 @@
 pub mod Begun
 pub mod ChangesTold
 pub mod Meant
+pub mod NamedPeers
 pub mod Steps
-pub mod Tables
+pub mod Parts
 pub mod Telling
+pub mod Written
 pub mod Heard
+pub mod Fitting
 pub mod LaneLines
 pub mod LaneEnds

@@ -10,8 +10,6 @@ use Rattle.mlb_base.specs.Items.{IsIn}
 use Rattle.mlb_base.proofs.Among.{contains-first, contains-later, contains-cons, contains-none}
 use Rattle.pool_config.proofs.ItemLaws.{has_left, has_right}
 use Rattle.ip_ranges.specs.Values.{AddressValue}
-use Rattle.ip_ranges.specs.declared.family.Family.{Family}
-use Rattle.ip_ranges.specs.declared.family.Family.TheVariants.{V4, V6}
 use Rattle.pool_config.specs.declared.compiled.CompiledPeer.{CompiledPeer}
 use Rattle.kube_events.specs.Event.{event_of_line}
 use Rattle.kube_model.specs.declared.event.Event.{Event}
@@ -32,6 +30,7 @@ use Rattle.speaker_words.specs.Reading.{said_in}
 use Rattle.mlb_speaker.specs.declared.entries.Entry.{Entry}
 use Rattle.mlb_speaker.specs.declared.entries.Entry.TheVariants.{Sent}
 use Rattle.mlb_speaker.specs.declared.station.Interface.{Interface}
+use Rattle.mlb_speaker.specs.declared.station.NextHops.{NextHops}
 use Rattle.mlb_speaker.specs.declared.station.Station.{Station}
 use Rattle.announced_set.specs.Announced.{announced_by}
 use Rattle.mlb_speaker.specs.Clauses.{begun_with}
@@ -41,7 +40,8 @@ use Rattle.mlb_speaker.specs.Meant.{IsAnswer, IsOfThese, SendsAnswer, SendsOf, S
 use Rattle.mlb_speaker.specs.Sends.{unasked_of, unasked_by, unasked, listening, announcement, sent_on, answer_by, interface_of}
 use Rattle.mlb_speaker.specs.Told.{announced_in}
 use Rattle.mlb_speaker.specs.Stream.{SpeakerState, Received, frame_in, entries_at, line_step}
-use Rattle.mlb_speaker.specs.Updates.{peers_of, messages_to, updated, updates_to, updates_by, with_hop, update_entries}
+use Rattle.bgp_routes.specs.Peers.{peers_of}
+use Rattle.mlb_speaker.specs.Updates.{messages_to, updated, updates_to, updates_by, are_hops, update_entries}
 use Rattle.mlb_speaker.proofs.Steps.{frame_leaves}
 use Rattle.mlb_speaker.proofs.ChangesTold.{none-updates, change-announces}
 use Rattle.mlb_speaker.proofs.Telling.{event_applies}
@@ -97,18 +97,18 @@ module _ (v : ViewValue) (station : Station) where
     messages-meant peer [] = tt
     messages-meant peer (message ∷ messages) = (tt, messages-meant peer messages)
 
-    peers-meant : (u u' : ViewValue) (node : List ℕ) (hop : AddressValue) (peers : List CompiledPeer) → Meant (flat_map (updates_to u u' node hop) peers)
+    peers-meant : (u u' : ViewValue) (node : List ℕ) (hop : NextHops) (peers : List CompiledPeer) → Meant (flat_map (updates_to u u' node hop) peers)
     peers-meant u u' node hop [] = tt
     peers-meant u u' node hop (peer ∷ peers) =
         all-append (IsOfThese v station all) (updates_to u u' node hop peer) (flat_map (updates_to u u' node hop) peers) (messages-meant peer (messages_to u u' node hop peer)) (peers-meant u u' node hop peers)
 
-    hop-meant : (family : Family) (entries : List Entry) → Meant entries → Meant (with_hop family entries)
-    hop-meant V4 entries meant = meant
-    hop-meant V6 entries meant = tt
+    hop-meant : (are : Bool) (entries : List Entry) → Meant entries → Meant (cond are entries [])
+    hop-meant true entries meant = meant
+    hop-meant false entries meant = tt
 
-    updates-meant : (u u' : ViewValue) (node : List ℕ) (hop : Option AddressValue) → Meant (updates_by u u' node hop)
+    updates-meant : (u u' : ViewValue) (node : List ℕ) (hop : Option NextHops) → Meant (updates_by u u' node hop)
     updates-meant u u' node None = tt
-    updates-meant u u' node (Some hop) = hop-meant hop.family (flat_map (updates_to u u' node hop) (peers_of u')) (peers-meant u u' node hop (peers_of u'))
+    updates-meant u u' node (Some hop) = hop-meant (are_hops hop) (flat_map (updates_to u u' node hop) (peers_of u')) (peers-meant u u' node hop (peers_of u'))
 
   -- the frame of each interface on which the node listens is sent with the announce line
   announced-sends : (a : AddressValue) (i : Interface) → Contains station.interfaces i → Listens v station.node i.name a → (addresses : List AddressValue) → IsIn addresses a
@@ -197,7 +197,7 @@ told-meant None s event is =
     let after = announced_by w node in
     let updates = update_entries s.view w s.station in
     let all = entries_for w s.station note before after ++ updates in
-    let come : announced_in all ≡ difference after before = change-announces w s.station note before after updates (none-updates s.view w node s.station.next_hop) in
+    let come : announced_in all ≡ difference after before = change-announces w s.station note before after updates (none-updates s.view w node s.station.next_hops) in
     record {
       only =
           all-append (IsOfThese w s.station all) (entries_for w s.station note before after) updates (
@@ -205,7 +205,7 @@ told-meant None s event is =
             all-append (IsOfThese w s.station all) (withdrawals before after) (announcements w s.station before after) (withdrawn-meant w s.station all (difference before after))
                 (announced-meant w s.station all (difference after before) (λ a there. subst (λ (zs : List AddressValue). IsIn zs a) (sym come) there)),
           )
-          (updates-meant w s.station all s.view w node s.station.next_hop);
+          (updates-meant w s.station all s.view w node s.station.next_hops);
       each = λ a there name frame is.
           let listed : IsIn (difference after before) a = subst (λ (zs : List AddressValue). IsIn zs a) come there in
           let sent = announced-sends w s.station a is.interface is.of_words is.listens (difference after before) listed in

@@ -27,10 +27,7 @@ use Rattle.mlb_speaker.specs.declared.entries.Entry.{Entry}
 use Rattle.mlb_speaker.specs.declared.station.Station.{Station}
 use Rattle.announced_set.specs.Announced.{announced_by}
 use Rattle.mlb_speaker.specs.Entries.{entries_for, entry_text, withdrawn}
-use Rattle.mlb_speaker.specs.declared.peers.PeerTable.{PeerTable}
-use Rattle.mlb_speaker.specs.PeerTables.{tables_of, updates_with}
-use Rattle.mlb_speaker.specs.Updates.{update_entries}
-use Rattle.mlb_speaker.proofs.Tables.{kept-tables}
+use Rattle.mlb_speaker.specs.Updates.{update_entries, updates_by}
 use Rattle.mlb_speaker.specs.Stream.{SpeakerState, Received, state_of, frame_in, changes_of, step_by, speaker_rules}
 
 abbrev Note : Type 0
@@ -65,14 +62,12 @@ entries-told (Err e) station note held v' gone come w a is = tt
 
 module _ (v : ViewValue) (station : Station) (event : Event) where
   -- what is told is what the views before and after it say
-  pub changes-are : (note : TakeNote) (tables : List PeerTable) (v' : ViewValue) (entries : List Entry)
-      → entries ≡ entries_for v' station note (announced_by v station.node) (announced_by v' station.node) ++ updates_with tables v' station.node station.next_hop
-      → tables ≡ tables_of v station → v' ≡ view_after event v → note ≡ note_by v event → entries ≡ changes_of (state_of v station) event
-  changes-are note tables v' entries is t w n =
+  pub changes-are : (note : TakeNote) (v' : ViewValue) (entries : List Entry)
+      → entries ≡ entries_for v' station note (announced_by v station.node) (announced_by v' station.node) ++ updates_by v v' station.node station.next_hops
+      → v' ≡ view_after event v → note ≡ note_by v event → entries ≡ changes_of (state_of v station) event
+  changes-are note v' entries is w n =
       is
-      ∙ ap (λ (m : TakeNote). entries_for v' station m (announced_by v station.node) (announced_by v' station.node) ++ updates_with tables v' station.node station.next_hop) n
-      ∙ ap (λ (ts : List PeerTable). entries_for v' station (note_by v event) (announced_by v station.node) (announced_by v' station.node) ++ updates_with ts v' station.node station.next_hop) t
-      ∙ ap (λ (es : List Entry). entries_for v' station (note_by v event) (announced_by v station.node) (announced_by v' station.node) ++ es) (kept-tables v v' station.node station.next_hop)
+      ∙ ap (λ (m : TakeNote). entries_for v' station m (announced_by v station.node) (announced_by v' station.node) ++ updates_by v v' station.node station.next_hops) n
       ∙ ap (λ (u : ViewValue). entries_for u station (note_by v event) (announced_by v station.node) (announced_by u station.node) ++ update_entries v u station) w
 
   -- a line that reads as the event is to a state what the event is

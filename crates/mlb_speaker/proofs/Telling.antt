@@ -6,8 +6,6 @@ use Rattle.std.proofs.lemmas.List.{append-nil}
 use Rattle.std.proofs.lemmas.List.Sums.{fold-append}
 use Rattle.mlb_base.proofs.Among.{contains-none}
 use Rattle.ip_ranges.specs.Values.{AddressValue, same_address, has_address}
-use Rattle.ip_ranges.specs.declared.family.Family.{Family}
-use Rattle.ip_ranges.specs.declared.family.Family.TheVariants.{V4, V6}
 use Rattle.pool_config.specs.declared.compiled.CompiledPeer.{CompiledPeer}
 use Rattle.ip_ranges.proofs.AddressLaws.{same_address-is, same_address-itself}
 use Rattle.kube_events.specs.Event.{event_of_line}
@@ -28,6 +26,7 @@ use Rattle.mlb_speaker.specs.declared.entries.Entry.TheVariants.{Noted, Withdraw
 use Rattle.announced_set.specs.Announced.{announced_by}
 use Rattle.mlb_speaker.specs.Clauses.{nothing_said, begun_with}
 use Rattle.mlb_speaker.specs.declared.station.Interface.{Interface}
+use Rattle.mlb_speaker.specs.declared.station.NextHops.{NextHops}
 use Rattle.mlb_speaker.specs.declared.station.Station.{Station}
 use Rattle.announced_set.specs.Changes.{difference}
 use Rattle.mlb_speaker.specs.Entries.{withdrawn, withdrawals, announcements, entries_for}
@@ -36,7 +35,8 @@ use Rattle.mlb_speaker.specs.Stream.{SpeakerState, Received, first_state, state_
 use Rattle.mlb_speaker.specs.Told.{AllLeave, IsToldOf, TellsWhatIsAnnounced, LinesTellWhatIsAnnounced}
 use Rattle.speaker_words.specs.Reading.{said_in}
 use Rattle.speaker_words.specs.Words.{Said}
-use Rattle.mlb_speaker.specs.Updates.{peers_of, messages_to, updated, updates_to, updates_by, with_hop, update_entries}
+use Rattle.bgp_routes.specs.Peers.{peers_of}
+use Rattle.mlb_speaker.specs.Updates.{messages_to, updated, updates_to, updates_by, are_hops, update_entries}
 use Rattle.announced_set.proofs.Listed.{has-announced}
 use Rattle.mlb_speaker.proofs.Steps.{frame_leaves}
 
@@ -142,20 +142,20 @@ module _ (a : AddressValue) where
   stands-messages peer [] b = refl
   stands-messages peer (message ∷ messages) b = stands-messages peer messages b
 
-  stands-peers : (v v' : ViewValue) (node : List ℕ) (hop : AddressValue) (peers : List CompiledPeer) (b : Bool) → fold says b (flat_map (updates_to v v' node hop) peers) ≡ b
+  stands-peers : (v v' : ViewValue) (node : List ℕ) (hop : NextHops) (peers : List CompiledPeer) (b : Bool) → fold says b (flat_map (updates_to v v' node hop) peers) ≡ b
   stands-peers v v' node hop [] b = refl
   stands-peers v v' node hop (peer ∷ peers) b =
       fold-append says b (updates_to v v' node hop peer) (flat_map (updates_to v v' node hop) peers)
       ∙ ap (λ (c : Bool). fold says c (flat_map (updates_to v v' node hop) peers)) (stands-messages peer (messages_to v v' node hop peer) b)
       ∙ stands-peers v v' node hop peers b
 
-  stands-hop : (family : Family) (entries : List Entry) (b : Bool) → fold says b entries ≡ b → fold says b (with_hop family entries) ≡ b
-  stands-hop V4 entries b stands = stands
-  stands-hop V6 entries b stands = refl
+  stands-hop : (are : Bool) (entries : List Entry) (b : Bool) → fold says b entries ≡ b → fold says b (cond are entries []) ≡ b
+  stands-hop true entries b stands = stands
+  stands-hop false entries b stands = refl
 
-  stands-updates : (v v' : ViewValue) (node : List ℕ) (hop : Option AddressValue) (b : Bool) → fold says b (updates_by v v' node hop) ≡ b
+  stands-updates : (v v' : ViewValue) (node : List ℕ) (hop : Option NextHops) (b : Bool) → fold says b (updates_by v v' node hop) ≡ b
   stands-updates v v' node None b = refl
-  stands-updates v v' node (Some hop) b = stands-hop hop.family (flat_map (updates_to v v' node hop) (peers_of v')) b (stands-peers v v' node hop (peers_of v') b)
+  stands-updates v v' node (Some hop) b = stands-hop (are_hops hop) (flat_map (updates_to v v' node hop) (peers_of v')) b (stands-peers v v' node hop (peers_of v') b)
 
   stands-answer : (v : ViewValue) (node : List ℕ) (i : Option Interface) (frame : List ℕ) (b : Bool) → fold says b (answer_by v node i frame) ≡ b
   stands-answer v node None frame b = refl
@@ -202,7 +202,7 @@ module _ (a : AddressValue) where
       (update_entries s.view (view_after event s.view) s.station)
       ∙ ap (λ (b : Bool). fold (says a) b (update_entries s.view (view_after event s.view) s.station))
       (stands-entries a (view_after event s.view) s.station (note_by s.view event) (announced_by s.view s.station.node) (announced_by (view_after event s.view) s.station.node))
-      ∙ stands-updates a s.view (view_after event s.view) s.station.node s.station.next_hop (has_address (announced_by (view_after event s.view) s.station.node) a)
+      ∙ stands-updates a s.view (view_after event s.view) s.station.node s.station.next_hops (has_address (announced_by (view_after event s.view) s.station.node) a)
       ∙ has-announced (view_after event s.view) s.station.node a
 
   kept : (s t : SpeakerState) (line : Line) (told entries : List Entry) → fold (says a) false told ≡ announces_of s.view s.station.node a → line_step s line ≡ Goes t entries

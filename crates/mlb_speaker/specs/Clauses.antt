@@ -1,22 +1,27 @@
 -- What the speaker owes at each status where all comes by one stream: the clauses of a run over lines, with the speaker's rules and the words' node and class.
 use Rattle.std.specs.Prelude.{◌≡◌, ◌⊎◌, ℕ, List, [], String, Option, Some, None}
+use Rattle.std.specs.List.{AllZip}
+use Rattle.ip_ranges.specs.Values.{AddressValue}
 use Rattle.kube_model.specs.declared.status.Status.{Status}
 use Rattle.kube_model.specs.declared.status.Status.TheVariants.{Usage}
 use Rattle.command_options.specs.Lanes.{LaneNames}
 use Rattle.command_options.specs.Options.{texts_of}
 use Rattle.line_run.specs.Answered.{IsAnswered, MayBeAsked}
 use Rattle.line_run.specs.Clauses as run
-use Rattle.line_run.specs.RunOutput as written
 use Rattle.mlb_edge.specs.Reading.{Reading}
+use Rattle.mlb_speaker.specs.declared.station.Interface.{Interface}
 use Rattle.mlb_speaker.specs.Stream.{SpeakerState, first_state, speaker_rules, IsCause}
 use Rattle.mlb_speaker.specs.Heard as heard
 use Rattle.mlb_speaker.specs.Meant as meant
 use Rattle.mlb_speaker.specs.Told as told
+use Rattle.mlb_speaker.specs.Written as in_lines
+use Rattle.speaker_view.specs.View.{fresh}
+use Rattle.speaker_words.specs.Interface.{InterfaceValue}
 use Rattle.speaker_words.specs.Reading.{said_in}
-use Rattle.speaker_words.specs.Words.{Said, Say, AreKnown}
+use Rattle.speaker_words.specs.Words.{Said, Say}
 
 abbrev pub nothing_said : Said
-nothing_said = record { node = []; class = None; interfaces = []; next_hop = None; lanes = None }
+nothing_said = record { node = []; class = None; interfaces = []; next_hop = None; next_hop_v6 = None; lanes = None }
 
 -- where the words aren't of the table there is no run
 abbrev pub begun_with : Option Said → SpeakerState
@@ -49,42 +54,23 @@ MayAskAnswered words name left may_read told input out =
 abbrev pub CanEnd : Status → Type 0
 CanEnd status = (status ≡ Usage) ⊎ run.CanEnd IsCause status
 
--- the run is that of what the words say: the node, the class, the interfaces, the next hop and the lane files
+-- an interface of the speaker is one that the words name, with its hardware address
+abbrev pub IsNamed : Interface → InterfaceValue → Type 0
+IsNamed interface word = (interface.name ≡ word.name) × (interface.mac ≡ word.mac)
+
+-- A run that begins so is that of what the words say: of the node and the class, by the interfaces in their order, with the next hops and over the
+-- lane files. Nothing was shown yet.
+pub record SpeaksFor (said : Said) (s : SpeakerState) (lanes : Option LaneNames) : Type 0 where
+  pub node : s.station.node ≡ said.node
+  pub class : s.view ≡ fresh said.class
+  pub interfaces : AllZip IsNamed s.station.interfaces said.interfaces
+  pub hops : (hop : AddressValue) → said.next_hop ≡ Some hop → s.station.next_hops ≡ Some (record { v4 = hop; v6 = said.next_hop_v6 })
+  pub no_hops : said.next_hop ≡ None → s.station.next_hops ≡ None
+  pub begun : s ≡ first_state said
+  pub files : lanes ≡ said.lanes
+
 abbrev pub SpeaksForNamed : {Z : Type 0} → List (String Z) → Type 0
-SpeaksForNamed words = (said : Said) → Say (texts_of words) said → (begun_by words ≡ first_state said) × (lanes_of (texts_of words) ≡ said.lanes)
-
-module _ {Z K : Type 0} (words : List (String Z)) (status : Status) (left : Option (List ℕ)) (written : K → Option (List ℕ)) (out out' : K) where
-  abbrev pub AtDone : Type 0
-  AtDone = InStream words (run.AtDone speaker_rules IsCause (begun_by words) status left (written out) (written out'))
-
-  abbrev pub AtBadLine : Type 0
-  AtBadLine = InStream words (run.AtBadLine speaker_rules IsCause (begun_by words) status left (written out) (written out'))
-
-  -- one service or one node more would be held than may be
-  abbrev pub AtHeldLimit : Type 0
-  AtHeldLimit = InStream words (run.AtHeldLimit speaker_rules IsCause (begun_by words) status left (written out) (written out'))
-
-  -- a line is too long
-  abbrev pub AtLongLine : Type 0
-  AtLongLine = InStream words (run.AtLineLimit speaker_rules (begun_by words) status left (written out) (written out'))
-
-  -- the input is too long
-  abbrev pub AtTooLong : Type 0
-  AtTooLong = InStream words (run.AtInputLimit speaker_rules (begun_by words) status left (written out) (written out'))
-
-  abbrev pub AfterWrite : Type 0
-  AfterWrite = InStream words (run.AfterWrite speaker_rules (begun_by words) status left (written out) (written out'))
-
-  abbrev pub AtNoMemory : Type 0
-  AtNoMemory = InStream words (run.AtNoMemory speaker_rules (begun_by words) status left (written out) (written out'))
-
-abbrev pub AfterRead : {Z S K : Type 0} → List (String Z) → Status → (S → Option (List ℕ)) → S → S → (K → Option (List ℕ)) → K → K → Type 0
-AfterRead words status left input input' written out out' =
-    InStream words (run.AfterRead speaker_rules (begun_by words) status (left input) (left input') (written out) (written out'))
-
--- a beginning of the text of some lines' run was written
-abbrev pub WritesOnly : {Z K : Type 0} → List (String Z) → (K → Option (List ℕ)) → K → K → Type 0
-WritesOnly words told out out' = InStream words (written.WritesOnly speaker_rules (begun_by words) (told out) (told out'))
+SpeaksForNamed words = (said : Said) → Say (texts_of words) said → SpeaksFor said (begun_by words) (lanes_of (texts_of words))
 
 -- after each line of a run the addresses with an announce line and no later withdraw line are those that the node announces
 abbrev pub TellsWhatIsAnnounced : {Z : Type 0} → List (String Z) → Type 0
@@ -103,8 +89,10 @@ SendsWhatIsMeant words = meant.SendsWhatIsMeant (begun_by words)
 abbrev pub TellsPeersTheirRoutes : {Z : Type 0} → List (String Z) → Type 0
 TellsPeersTheirRoutes words = heard.HearsItsRoutes (begun_by words)
 
-abbrev pub IsExact : {Z : Type 0} → List (String Z) → Status → Option (List ℕ) → Type 0
-IsExact words status left = InStream words (AreKnown (texts_of words) → run.IsExact speaker_rules (begun_by words) status left)
+-- of the lines that are written, as they stand in the text: they tell so what is announced
+abbrev pub WritesWhatIsAnnounced : {Z : Type 0} → List (String Z) → Type 0
+WritesWhatIsAnnounced words = in_lines.WritesWhatIsAnnounced (begun_by words)
 
-abbrev pub IsComplete : {Z : Type 0} → List (String Z) → Status → Option (List ℕ) → Type 0
-IsComplete words status left = InStream words (AreKnown (texts_of words) → run.IsComplete speaker_rules (begun_by words) status left)
+-- and the update lines carry each peer's routes
+abbrev pub WritesPeersTheirRoutes : {Z : Type 0} → List (String Z) → Type 0
+WritesPeersTheirRoutes words = in_lines.WritesPeersTheirRoutes (begun_by words)

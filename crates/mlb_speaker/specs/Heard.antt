@@ -1,5 +1,5 @@
 -- What a BGP peer was told since it came.
-use Rattle.std.specs.Prelude.{◌≡◌, ◌≢◌, ℕ, if◌then◌else◌, List, [], ◌∷◌, ◌++◌, Some, None}
+use Rattle.std.specs.Prelude.{◌≡◌, ◌≢◌, ℕ, is_some, if◌then◌else◌, List, [], ◌∷◌, ◌++◌, Some, None}
 use Rattle.std.specs.List.{AllByRecursion, flat_map}
 use Rattle.std.specs.Option.{option_map}
 use Rattle.std.specs.Str.{bytes_eq}
@@ -17,11 +17,12 @@ use Rattle.bgp_updates.specs.Received.{terms_at}
 use Rattle.bgp_reading.specs.Joined.{received_bytes}
 use Rattle.bgp_reading.specs.Laws.{joined}
 use Rattle.bgp_reading.specs.Update.{IsMessageOf}
+use Rattle.bgp_routes.specs.Peers.{peers_of}
 use Rattle.bgp_routes.specs.Routes.{routes_of}
 use Rattle.mlb_speaker.specs.declared.entries.Entry.{Entry}
 use Rattle.mlb_speaker.specs.declared.entries.Entry.TheVariants.{Noted, Withdrawn, Announced, Sent, Updated}
+use Rattle.mlb_speaker.specs.declared.station.NextHops.{NextHops}
 use Rattle.mlb_speaker.specs.Stream.{SpeakerState, first_state, line_step, speaker_rules}
-use Rattle.mlb_speaker.specs.Updates.{peers_of}
 
 -- the message to the peer of this name, if the entry is one
 abbrev pub message_to : List ℕ → Entry → List (List ℕ)
@@ -67,26 +68,29 @@ pub record HasComeSince (start : SpeakerState) (lines : List Line) (peer : Compi
 abbrev pub GiveTable : List (List ℕ) → List (PrefixValue × Terms) → Type 0
 GiveTable messages routes = (p : PrefixValue) → option_map (λ table. table p) (received_bytes (λ q. None) (joined messages)) ≡ Some (terms_at routes p)
 
--- who the messages to the peer are from: the own AS number where the peer is of another AS, and the next hop
-pub record IsSender (peer : CompiledPeer) (hop : AddressValue) (sender : Peering) : Type 0 where
-  pub next_hop : sender.next_hop ≡ hop.number
+-- who the messages to the peer are from: the own AS number where the peer is of another AS, and the next hops
+pub record IsSender (peer : CompiledPeer) (hops : NextHops) (sender : Peering) : Type 0 where
+  pub next_hop : sender.next_hop ≡ hops.v4.number
+  pub next_hop_v6 : (hop : AddressValue) → hops.v6 ≡ Some hop → sender.next_hop_v6 ≡ hop.number
   pub inside : peer.my_asn ≡ peer.peer_asn → sender.own ≡ None
   pub outside : peer.my_asn ≢ peer.peer_asn → sender.own ≡ Some peer.my_asn
 
 -- each is one message of that sender
-abbrev pub AreToldBy : CompiledPeer → AddressValue → List (List ℕ) → Type 0
-AreToldBy peer hop messages = (sender : Peering) × IsSender peer hop sender × AllByRecursion (IsMessageOf sender) messages
+abbrev pub AreToldBy : CompiledPeer → NextHops → List (List ℕ) → Type 0
+AreToldBy peer hops messages = (sender : Peering) × IsSender peer hops sender × AllByRecursion (IsMessageOf sender) messages
 
--- The peer has come with one of these lines, and what it was told since then are messages after which its table is that of its routes.
-abbrev pub HearsSince : (start : SpeakerState) (lines : List Line) (t : SpeakerState) → AddressValue → CompiledPeer → Type 0
-HearsSince start lines t hop peer =
+-- The peer has come with one of these lines, and what it was told since then are messages after which its table is that of its routes, of IPv4
+-- and with a next hop of IPv6 of both families.
+abbrev pub HearsSince : (start : SpeakerState) (lines : List Line) (t : SpeakerState) → NextHops → CompiledPeer → Type 0
+HearsSince start lines t hops peer =
     ((told : List Entry) × HasComeSince start lines peer t told)
-    × ((told : List Entry) → HasComeSince start lines peer t told → GiveTable (messages_told peer.name told) (routes_of t.view start.station.node peer) × AreToldBy peer hop (messages_told peer.name told))
+    × ((told : List Entry) → HasComeSince start lines peer t told → GiveTable (messages_told peer.name told) (routes_of t.view start.station.node peer (is_some hops.v6))
+    × AreToldBy peer hops (messages_told peer.name told))
 
 -- so it is after any lines, with a next hop, with each peer of the configuration in force
 abbrev pub HearsItsRoutes : SpeakerState → Type 0
 HearsItsRoutes start = (lines : List Line) (t : SpeakerState) (all : List Entry) → AreTaken speaker_rules lines start t all
-    → (hop : AddressValue) → start.station.next_hop ≡ Some hop → (peer : CompiledPeer) → IsIn (peers_of t.view) peer → HearsSince start lines t hop peer
+    → (hops : NextHops) → start.station.next_hops ≡ Some hops → (peer : CompiledPeer) → IsIn (peers_of t.view) peer → HearsSince start lines t hops peer
 
 -- so it is of a run that begins with what words say
 abbrev pub PeersHearTheirRoutes : Type 0

@@ -12,6 +12,7 @@ use Rattle.lane_drive.specs.Clauses as drive
 use Rattle.lane_drive.specs.Complete as can_be_done
 use Rattle.lane_drive.specs.Files.{FilesView}
 use Rattle.lane_mail.specs.declared.item.Item.{Item}
+use Rattle.lane_run.specs.Opening.{MayBeOpened}
 use Rattle.lane_run.specs.Views.{SourceView, lane_view, outside}
 use Rattle.lane_run.specs.Waiting.{MayBeAwaited}
 use Rattle.line_run.specs.Clauses.{CanPass}
@@ -35,6 +36,10 @@ LanesMayWait words may_wait rt input written faults out = OverLanes words (λ fi
 -- what the files still give may be dropped wherever the run stopped at the last item taken
 abbrev pub LanesMayDrop : {Z R K : Type 0} → List (String Z) → (R → List Item → K → Type 0) → R → (input : SourceView) → (K → Option (List ℕ)) → (K → ℕ) → K → Type 0
 LanesMayDrop words may_drop rt input written faults out = OverLanes words (λ files. MayBeAwaited may_drop rt written (HasStopped lane_rules (begun_by words) (outside drive.unread input (written out) (faults out))))
+
+-- the watched file may be opened, and once it is open that of the frames
+abbrev pub LanesMayOpen : {Z F : Type 0} → List (String Z) → (F → List ℕ → Type 0) → (F → F → List ℕ → Type 0) → F → Type 0
+LanesMayOpen words may_open Opens unopened = OverLanes words (λ files. MayBeOpened may_open Opens unopened files.first files.second)
 
 -- how the run ended, once both files are open
 abbrev pub EndsLanes : {Z K : Type 0} → List (String Z) → Status → (List ℕ → Option (List ℕ)) → (List ℕ → Bool) → (seen seen' : FilesView) (input input' : SourceView) → (K → Option (List ℕ)) → (K → ℕ) → K → K → Type 0

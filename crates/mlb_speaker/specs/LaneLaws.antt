@@ -1,5 +1,6 @@
 -- What is told of the items of two lanes.
 use Rattle.std.specs.Prelude.{◌≡◌, ◌↔◌, ℕ, List, [], ◌∷◌, ◌++◌, map, Option, Some, Result, Ok}
+use Rattle.bgp_routes.specs.Peers.{peers_of}
 use Rattle.ip_ranges.specs.Values.{AddressValue}
 use Rattle.kube_events.specs.Event.{event_of_line}
 use Rattle.kube_model.specs.declared.event.Event.{Event}
@@ -14,12 +15,12 @@ use Rattle.mlb_base.specs.Items.{IsIn}
 use Rattle.mlb_edge.specs.declared.lines.Line.{Line}
 use Rattle.pool_config.specs.declared.compiled.CompiledPeer.{CompiledPeer}
 use Rattle.mlb_speaker.specs.declared.entries.Entry.{Entry}
+use Rattle.mlb_speaker.specs.declared.station.NextHops.{NextHops}
 use Rattle.mlb_speaker.specs.Heard.{HearsSince}
 use Rattle.mlb_speaker.specs.Lanes.{belongs_to, item_step, lane_rules}
 use Rattle.mlb_speaker.specs.Meant.{SendsOf}
 use Rattle.mlb_speaker.specs.Stream.{SpeakerState, frame_in, speaker_rules}
 use Rattle.mlb_speaker.specs.Told.{IsToldOf, TellsChange}
-use Rattle.mlb_speaker.specs.Updates.{peers_of}
 
 -- Items of two lanes are taken one after the other. More may come behind them.
 pub record TakesItems (start : SpeakerState) (items behind : List Item) (t : SpeakerState) (told : List (Told Entry)) : Type 0 where
@@ -61,5 +62,5 @@ ItemsTellWhatChanges start = (items : List Item) (item : Item) (s t : SpeakerSta
 -- taken so in one stream: it has come with one of them, and what it was told since makes its routes of the empty table.
 abbrev pub ItemsMakeRoutes : SpeakerState → Type 0
 ItemsMakeRoutes start = (items : List Item) (t : SpeakerState) (told : List (Told Entry)) → TakesItems start items [] t told
-    → (hop : AddressValue) → start.station.next_hop ≡ Some hop → (peer : CompiledPeer) → IsIn (peers_of t.view) peer
-    → (lines : List Line) × HaveEvents lines items × AreTaken speaker_rules lines start t (entries_of told) × HearsSince start lines t hop peer
+    → (hops : NextHops) → start.station.next_hops ≡ Some hops → (peer : CompiledPeer) → IsIn (peers_of t.view) peer
+    → (lines : List Line) × HaveEvents lines items × AreTaken speaker_rules lines start t (entries_of told) × HearsSince start lines t hops peer

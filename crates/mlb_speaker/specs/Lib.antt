@@ -2,14 +2,15 @@ pub mod Causes
 pub mod Clauses
 pub mod Entries
 pub mod Heard
+pub mod Kept
 pub mod LaneClauses
 pub mod LaneLaws
 pub mod Lanes
 pub mod Meant
-pub mod PeerTables
 pub mod Seen
 pub mod Sends
 pub mod Station
 pub mod Stream
 pub mod Told
 pub mod Updates
+pub mod Written

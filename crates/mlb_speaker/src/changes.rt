@@ -7,14 +7,16 @@ ghost use Rattle.speaker_view.specs.ViewValue.{ViewValue};
 ghost use Rattle.l2_elect.specs.Kept.{AreKeptFor, AreKnown, AreRightBut};
 ghost use Rattle.announced_set.specs.Announced.{announced_by};
 ghost use Rattle.mlb_speaker.specs.Entries.{entries_for};
-ghost use Rattle.mlb_speaker.specs.PeerTables.{tables_of, updates_with};
+ghost use Rattle.mlb_speaker.specs.Kept.{AreRoutesKnown, AreRoutesOf, WereRoutes};
 ghost use Rattle.mlb_speaker.specs.Stream.{changes_of, state_after};
+ghost use Rattle.mlb_speaker.specs.Updates.{updates_by};
 
 use crate::entries::{Entry, entries_for};
-use crate::peers::{PeerTable, push_updates, tables_of};
+use crate::peers::{renew_routes, routes_by};
 use crate::speaker::Speaker;
 use crate::station::Station;
 use announced_set::renew_announcers;
+use bgp_routes::KeptRoutes;
 use kube_model::Event;
 use l2_elect::Announcers;
 use mlb_base::{NoMemory, Sequence};
@@ -22,11 +24,11 @@ use object_cache::{ApplyFault, TakeNote};
 use speaker_view::{View, ViewChange};
 use std::alloc::Global;
 
-/// What stands before an event: who announces each address, and the routes of the peers.
+/// What stands by a view: who announces each address, and the routes of the peers.
 #[derive(Drop)]
 struct Standing {
     announcers: Announcers,
-    tables: Sequence<PeerTable>,
+    routes: KeptRoutes,
 }
 
 impl Speaker {
@@ -42,10 +44,11 @@ impl Speaker {
         ensures limit { (kind : Kind) (count : ℕ)
             → IsErrOf result (ApplyFault.Limit kind count) → limit_by self.old.view event ≡ Some (kind, count) }
     {
-        // While the view changes, nobody is known to announce by it.
-        let known = self.announcers.take();
-        let mut before = match stands_before(alloc, known, &self.view, &self.station) {
-            Ok(before) => before,
+        // While the view changes, neither announcers nor routes are known to be those of it.
+        let announcers = self.announcers.take();
+        let routes = self.routes.take();
+        let mut standing = match standing_by(alloc, announcers, routes, &self.view, &self.station) {
+            Ok(standing) => standing,
             Err(NoMemory) => {
                 drop(event);
                 return Err(ApplyFault::NoMemory);
@@ -54,45 +57,87 @@ impl Speaker {
         let (note, change) = match self.view.apply_noting(event) {
             Ok(noted) => noted,
             Err(fault) => {
-                drop(before);
+                drop(standing);
                 return Err(fault);
             }
         };
-        let Ok(entries) = told_since(alloc, &self.view, &self.station, note, &change, &mut before)
-        else {
+        let Ok(entries) = told_since(
+            alloc,
+            &self.view,
+            &self.station,
+            note,
+            &change,
+            &mut standing,
+        ) else {
             drop(change);
-            drop(before);
+            drop(standing);
             return Err(ApplyFault::NoMemory);
         };
         drop(change);
-        let Standing { announcers, tables } = before;
-        drop(tables);
+        let Standing { announcers, routes } = standing;
         drop(self.announcers.replace(announcers));
+        drop(self.routes.replace(routes));
         Ok(entries)
     }
 }
 
-/// What stands before an event, where these are known to be the announcers by the view.
-fn stands_before(
+/// What stands by the view, where these are known to be its announcers and routes.
+fn standing_by(
     alloc: Global,
-    known: Option<Announcers>,
+    announcers: Option<Announcers>,
+    routes: Option<KeptRoutes>,
     view: &View,
     station: &Station,
 ) -> Result<Standing, NoMemory>
-    requires { AreKnown known view.now }
+    requires announcers { AreKnown announcers view.now }
+    requires routes { AreRoutesKnown routes view.now station.now }
     ensures announcers { IfOk result (λ s. AreKeptFor s.announcers view.now) }
-    ensures tables { IfOk result (λ s. s.tables ≡ tables_of view.now station.now) }
+    ensures routes { IfOk result (λ s. AreRoutesOf s.routes view.now station.now) }
 {
-    let announcers = match known {
-        Some(announcers) => announcers,
-        None => elected(alloc, view)?,
+    let announcers = match announcers_by(alloc, announcers, view) {
+        Ok(announcers) => announcers,
+        Err(refused) => {
+            drop(routes);
+            return Err(refused);
+        }
     };
-    match tables_of(alloc, view, station) {
-        Ok(tables) => Ok(Standing { announcers, tables }),
+    match known_routes(alloc, routes, view, station) {
+        Ok(routes) => Ok(Standing { announcers, routes }),
         Err(refused) => {
             drop(announcers);
             Err(refused)
         }
+    }
+}
+
+/// The announcers by the view, which are these where they are known.
+fn announcers_by(
+    alloc: Global,
+    known: Option<Announcers>,
+    view: &View,
+) -> Result<Announcers, NoMemory>
+    requires { AreKnown known view.now }
+    ensures { IfOk result (λ announcers. AreKeptFor announcers view.now) }
+{
+    match known {
+        Some(announcers) => Ok(announcers),
+        None => elected(alloc, view),
+    }
+}
+
+/// The routes by the view, which are these where they are known.
+fn known_routes(
+    alloc: Global,
+    known: Option<KeptRoutes>,
+    view: &View,
+    station: &Station,
+) -> Result<KeptRoutes, NoMemory>
+    requires { AreRoutesKnown known view.now station.now }
+    ensures { IfOk result (λ routes. AreRoutesOf routes view.now station.now) }
+{
+    match known {
+        Some(routes) => Ok(routes),
+        None => routes_by(alloc, view, station),
     }
 }
 
@@ -110,24 +155,34 @@ fn elected(alloc: Global, view: &View) -> Result<Announcers, NoMemory>
     }
 }
 
-/// What is told where this stood before, and the view is this one now.
+/// What is told where the view is this one now, and what stood before it becomes what stands by it.
 fn told_since(
     alloc: Global,
     view: &View,
     station: &Station,
     note: TakeNote,
     change: &ViewChange,
-    before: &mut Standing,
+    standing: &mut Standing,
 ) -> Result<Sequence<Entry>, NoMemory>
-    requires { AreRightBut change.now before.old.announcers view.now }
-    ensures entries { IfOk result (λ entries. (was : ViewValue) → AreKeptFor before.old.announcers was → entries
-        ≡ entries_for view.now station.now note (announced_by was station.now.node) (announced_by view.now station.now.node)
-        ++ updates_with before.old.tables view.now station.now.node station.now.next_hop) }
-    ensures announcers { OnOk result (AreKeptFor before.new.announcers view.now) }
+    requires announcers { AreRightBut change.now standing.old.announcers view.now }
+    requires routes { (before : ViewValue) × WereRoutes change.now standing.old.routes before view.now station.now }
+    ensures entries { IfOk result (λ entries. (before : ViewValue) → AreKeptFor standing.old.announcers before
+        → WereRoutes change.now standing.old.routes before view.now station.now → entries
+        ≡ entries_for view.now station.now note (announced_by before station.now.node) (announced_by view.now station.now.node)
+        ++ updates_by before view.now station.now.node station.now.next_hops) }
+    ensures announcers { OnOk result (AreKeptFor standing.new.announcers view.now) }
+    ensures routes { OnOk result (AreRoutesOf standing.new.routes view.now station.now) }
 {
-    let mut entries = changed_entries(alloc, view, station, note, change, &mut before.announcers)?;
-    let tables = before.tables.as_slice();
-    let Ok(()) = push_updates(alloc, &mut entries, view, station, tables) else {
+    let mut entries = changed_entries(
+        alloc,
+        view,
+        station,
+        note,
+        change,
+        &mut standing.announcers,
+    )?;
+    let routes = &mut standing.routes;
+    let Ok(()) = renew_routes(alloc, &mut entries, view, station, change, routes) else {
         drop(entries);
         return Err(NoMemory);
     };

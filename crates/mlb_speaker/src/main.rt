@@ -17,40 +17,16 @@ mod stream;
 
 use kube_model::Status;
 use mlb_edge::{RealFiles, RealSink, RealSource};
+use program_exit::{exit_code, words_given};
 use run::run_speaker;
+use std::io;
 use std::process::ExitCode;
-use std::rt::Env;
-use std::{env, io};
-
-fn words_given(rt: &(impl Env + AllocGlobal)) -> io::Result<Vec<String>> {
-    Ok(env::args(rt)?.skip(1).collect(rt.alloc())?)
-}
-
-/// The status where the words can't be had: there is no memory for them, or one isn't UTF-8, and so
-/// is no word of the table.
-fn status_without_words(error: &io::Error) -> Status {
-    match error.kind() {
-        io::ErrorKind::OutOfMemory => Status::NoMemory,
-        _ => Status::Usage,
-    }
-}
-
-/// Tells why the program ends, and the exit status that says so.
-fn exit_code(rt: &HostRuntime, status: &Status) -> ExitCode {
-    if !status.is_done()
-        && let Ok(text) = status.text(rt.alloc())
-    {
-        // Nothing is left to do where standard error can't be written.
-        let _ = eprintln!(rt; "{text}");
-    }
-    ExitCode::from(status.code())
-}
 
 fn main(rt: HostRuntime) -> ExitCode {
     let alloc = rt.alloc();
     let words = match words_given(&rt) {
         Ok(words) => words,
-        Err(error) => return exit_code(&rt, &status_without_words(&error)),
+        Err(status) => return exit_code(&rt, &status),
     };
     let Ok(owned) = rt.clone() else {
         return exit_code(&rt, &Status::NoMemory);

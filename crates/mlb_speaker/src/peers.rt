@@ -1,150 +1,249 @@
 //! The routes that are told to BGP peers.
-ghost use Rattle.std.specs.Prelude.{◌≡◌, ◌++◌, ◌∷◌, [], map, All, IfOk, OnOk};
-ghost use Rattle.std.specs.List.{find, flat_map};
-ghost use Rattle.std.specs.Option.{option_map, option_copied};
-ghost use Rattle.ip_ranges.specs.declared.family.Family.TheVariants.{V4};
-ghost use Rattle.bgp_updates.specs.Between.{messages_between, peering_of};
+ghost use Rattle.std.specs.Prelude.{◌≡◌, ◌++◌, ◌∷◌, [], if◌then◌else◌, true, map, All, IfOk, IfSome, OnOk};
+ghost use Rattle.std.specs.List.{flat_map};
+ghost use Rattle.std.specs.Option.{option_map};
+ghost use Rattle.speaker_view.specs.ViewValue.{ViewValue};
+ghost use Rattle.bgp_updates.specs.Between.{HasHops};
 ghost use Rattle.bgp_updates.specs.Tables.{HasFew};
-ghost use Rattle.mlb_speaker.specs.PeerTables.{table_at, tables_of, is_table_of, messages_from, updates_from, updates_with};
-ghost use Rattle.mlb_speaker.specs.Updates.{peers_of, updated, with_hop};
+ghost use Rattle.bgp_routes.specs.Kept.{AreKeptFor};
+ghost use Rattle.bgp_routes.specs.Peers.{peers_of, table_found, tables_of};
+ghost use Rattle.mlb_speaker.specs.Kept.{AreRoutesOf, WereKept, WereRoutes, changed_part, part_at, part_updates, updates_of};
+ghost use Rattle.mlb_speaker.specs.Updates.{are_hops, both_with, is_v6, updated, updates_by, updates_to};
 
 use crate::entries::Entry;
-use crate::station::Station;
-use bgp_routes::routes;
-use bgp_updates::{MessageList, RouteTable, updates};
+use crate::station::{NextHops, Station};
+use bgp_routes::{KeptRoutes, peers_of};
+use bgp_updates::{RouteTable, updates};
 use ip_ranges::{Address, Family};
-use kube_labels::Text;
 use mlb_base::{ByteList, NoMemory, Sequence, TryCopy};
 use pool_config::CompiledPeer;
-use speaker_view::View;
+use speaker_view::{View, ViewChange};
 use std::alloc::Global;
 
-/// The routes of a peer.
-#[derive(Drop)]
-pub(crate) struct PeerTable {
-    name: Text,
-    my_asn: u32,
-    peer_asn: u32,
-    routes: RouteTable,
-}
-
-/// The routes of all peers of the configuration in force, where the words name a next hop.
-pub(crate) fn tables_of(
+/// The routes of all peers by the view, where the words name a next hop; else of none.
+pub(crate) fn routes_by(
     alloc: Global,
     view: &View,
     station: &Station,
-) -> Result<Sequence<PeerTable>, NoMemory>
-    ensures { IfOk result (λ tables. tables ≡ tables_of view.now station.now) }
+) -> Result<KeptRoutes, NoMemory>
+    ensures { IfOk result (λ kept. AreRoutesOf kept view.now station.now) }
 {
-    match station.next_hop {
-        None => Ok(Sequence::new(alloc)),
-        Some(_) => all_tables(alloc, view, &station.node),
+    let node = station.node.copy()?;
+    match &station.next_hops {
+        None => Ok(KeptRoutes::new(alloc, node, false)),
+        Some(hops) => rebuilt(view, KeptRoutes::new(alloc, node, hops.v6.is_some())),
     }
 }
 
-fn all_tables(alloc: Global, view: &View, node: &Text) -> Result<Sequence<PeerTable>, NoMemory>
-    ensures { IfOk result (λ tables. tables ≡ map (table_at view.now node.now) (peers_of view.now)) }
+/// The routes of the same node by the view.
+fn rebuilt(view: &View, mut kept: KeptRoutes) -> Result<KeptRoutes, NoMemory>
+    ensures node { IfOk result (λ routes. routes.node ≡ kept.node) }
+    ensures both { IfOk result (λ routes. routes.both ≡ kept.both) }
+    ensures right { IfOk result (λ routes. AreKeptFor view.now routes) }
 {
-    let peers = peers_of(view);
-    let mut tables = Sequence::new(alloc);
-    for peer in peers {
-        tables.push(table_at(alloc, view, node, peer)?)?;
-    }
-    Ok(tables)
-}
-
-/// The peers of the configuration in force.
-fn peers_of(view: &View) -> &[CompiledPeer]
-    ensures { result.now ≡ peers_of view.now }
-{
-    match view.config() {
-        None => &[],
-        Some(config) => config.peers.as_slice(),
+    match kept.rebuild(view) {
+        Ok(()) => Ok(kept),
+        Err(refused) => {
+            drop(kept);
+            Err(refused)
+        }
     }
 }
 
-fn table_at(
-    alloc: Global,
-    view: &View,
-    node: &Text,
-    peer: &CompiledPeer,
-) -> Result<PeerTable, NoMemory>
-    ensures { IfOk result (λ table. table ≡ table_at view.now node.now peer.now) }
-{
-    let routes = routes(alloc, view, node.as_str(), peer)?;
-    Ok(PeerTable {
-        name: peer.name.copy()?,
-        my_asn: peer.my_asn,
-        peer_asn: peer.peer_asn,
-        routes,
-    })
-}
-
-/// Tells the peers what makes their routes by the view of those in the tables.
-pub(crate) fn push_updates(
+/// Makes the routes those of the view, where they are so already but for what the change may have changed, and tells the peers what that
+/// changes of their tables: of the parts at the listed addresses, unless all may have changed. After an error nothing is known of the
+/// routes.
+pub(crate) fn renew_routes(
     alloc: Global,
     entries: &mut Sequence<Entry>,
     view: &View,
     station: &Station,
-    tables: &[PeerTable],
+    change: &ViewChange,
+    kept: &mut KeptRoutes,
 ) -> Result<(), NoMemory>
-    ensures { OnOk result (entries.new ≡ entries.old ++ updates_with tables.now view.now station.now.node station.now.next_hop) }
+    requires { (before : ViewValue) × WereRoutes change.now kept.old before view.now station.now }
+    ensures entries { OnOk result ((before : ViewValue) → WereRoutes change.now kept.old before view.now station.now
+        → entries.new ≡ entries.old ++ updates_by before view.now station.now.node station.now.next_hops) }
+    ensures kept { OnOk result (AreRoutesOf kept.new view.now station.now) }
 {
-    match &station.next_hop {
+    match &station.next_hops {
         None => Ok(()),
-        Some(hop) => push_with_hop(alloc, entries, view, &station.node, hop, tables),
+        Some(hops) => renew_with_hops(alloc, entries, view, hops, change, kept),
     }
 }
 
-fn push_with_hop(
+fn renew_with_hops(
     alloc: Global,
     entries: &mut Sequence<Entry>,
     view: &View,
-    node: &Text,
-    hop: &Address,
-    tables: &[PeerTable],
+    hops: &NextHops,
+    change: &ViewChange,
+    kept: &mut KeptRoutes,
 ) -> Result<(), NoMemory>
-    ensures { OnOk result (entries.new ≡ entries.old ++ with_hop hop.now.family (flat_map (updates_from tables.now view.now node.now hop.now) (peers_of view.now))) }
+    requires both { kept.old.both ≡ both_with hops.now }
+    requires kept { (before : ViewValue) × WereKept change.now kept.old before view.now }
+    ensures entries { OnOk result ((before : ViewValue) → WereKept change.now kept.old before view.now
+        → entries.new ≡ entries.old ++ (if are_hops hops.now then flat_map (updates_to before view.now kept.old.node hops.now) (peers_of view.now) else [])) }
+    ensures node { kept.new.node ≡ kept.old.node }
+    ensures both { kept.new.both ≡ kept.old.both }
+    ensures right { OnOk result (AreKeptFor view.now kept.new) }
 {
-    match hop.family {
-        Family::V4 => push_to_all(alloc, entries, view, node, hop, tables),
-        // The words name none of IPv6.
-        Family::V6 => Ok(()),
+    if are_hops(hops) {
+        renew_told(alloc, entries, view, hops, change, kept)
+    } else {
+        // The words name none of other families.
+        renew_kept(view, change, kept)
     }
 }
 
-fn push_to_all(
+/// Whether they are of their families.
+fn are_hops(hops: &NextHops) -> bool
+    ensures { result ≡ are_hops hops.now }
+{
+    hops.v4.family == Family::V4 && is_v6(hops.v6)
+}
+
+/// Whether it is one of IPv6, if it is there.
+fn is_v6(hop: Option<Address>) -> bool
+    ensures { result ≡ is_v6 hop }
+{
+    match hop {
+        None => true,
+        Some(hop) => hop.family == Family::V6,
+    }
+}
+
+/// Makes them those of the view: at the listed addresses alone, unless all may have changed.
+fn renew_kept(view: &View, change: &ViewChange, kept: &mut KeptRoutes) -> Result<(), NoMemory>
+    requires { (before : ViewValue) × WereKept change.now kept.old before view.now }
+    ensures node { kept.new.node ≡ kept.old.node }
+    ensures both { kept.new.both ≡ kept.old.both }
+    ensures right { OnOk result (AreKeptFor view.now kept.new) }
+{
+    if change.all {
+        return kept.rebuild(view);
+    }
+    kept.renew(view, &change.addresses)
+}
+
+/// The same, and tells the peers what it changes.
+fn renew_told(
     alloc: Global,
     entries: &mut Sequence<Entry>,
     view: &View,
-    node: &Text,
-    hop: &Address,
-    tables: &[PeerTable],
+    hops: &NextHops,
+    change: &ViewChange,
+    kept: &mut KeptRoutes,
 ) -> Result<(), NoMemory>
-    requires { hop.now.family ≡ V4 }
-    ensures { OnOk result (entries.new ≡ entries.old ++ flat_map (updates_from tables.now view.now node.now hop.now) (peers_of view.now)) }
+    requires hops { are_hops hops.now ≡ true }
+    requires both { kept.old.both ≡ both_with hops.now }
+    requires kept { (before : ViewValue) × WereKept change.now kept.old before view.now }
+    ensures entries { OnOk result ((before : ViewValue) → WereKept change.now kept.old before view.now
+        → entries.new ≡ entries.old ++ flat_map (updates_to before view.now kept.old.node hops.now) (peers_of view.now)) }
+    ensures node { kept.new.node ≡ kept.old.node }
+    ensures both { kept.new.both ≡ kept.old.both }
+    ensures right { OnOk result (AreKeptFor view.now kept.new) }
 {
+    // A configuration's peers have names of their own, and its communities are few: so parts tell all.
+    let _known = view.config();
     let peers = peers_of(view);
+    let before = parts_kept(alloc, kept, peers, change)?;
+    let told = match renew_kept(view, change, kept) {
+        Ok(()) => push_changes(alloc, entries, hops, peers, change, before.as_slice(), kept),
+        Err(refused) => Err(refused),
+    };
+    drop(before);
+    told
+}
+
+/// What is kept of the peers' tables and may change: one part for each peer.
+fn parts_kept(
+    alloc: Global,
+    kept: &KeptRoutes,
+    peers: &[CompiledPeer],
+    change: &ViewChange,
+) -> Result<Sequence<RouteTable>, NoMemory>
+    ensures { IfOk result (λ parts. (v : ViewValue) → AreKeptFor v kept.now → parts ≡ map (part_at change.now v kept.now.node kept.now.both) peers.now) }
+{
+    let mut parts = Sequence::new(alloc);
     for peer in peers {
-        push_to(alloc, entries, view, node, hop, tables, peer)?;
+        parts.push(part_kept(alloc, kept, peer, change)?)?;
+    }
+    Ok(parts)
+}
+
+/// What is kept of the peer's table and may change. A peer that isn't there has no routes.
+fn part_kept(
+    alloc: Global,
+    kept: &KeptRoutes,
+    peer: &CompiledPeer,
+    change: &ViewChange,
+) -> Result<RouteTable, NoMemory>
+    ensures part { IfOk result (λ part. (v : ViewValue) → AreKeptFor v kept.now → part ≡ part_at change.now v kept.now.node kept.now.both peer.now) }
+    ensures few { IfOk result (λ part. All HasFew part) }
+{
+    match found_part(kept, peer, change)? {
+        Some(part) => Ok(part),
+        None => Ok(RouteTable::empty(alloc)),
+    }
+}
+
+/// The same, where a table of the peer is kept.
+fn found_part(
+    kept: &KeptRoutes,
+    peer: &CompiledPeer,
+    change: &ViewChange,
+) -> Result<Option<RouteTable>, NoMemory>
+    ensures part { (v : ViewValue) → AreKeptFor v kept.now
+        → IfOk result (λ found. found ≡ option_map (changed_part change.now v) (table_found peer.now (tables_of v kept.now.node kept.now.both))) }
+    ensures few { IfOk result (λ found. IfSome found (λ part. All HasFew part)) }
+{
+    if change.all {
+        return kept.table_of(peer);
+    }
+    kept.part_of(peer, &change.addresses)
+}
+
+/// Tells each peer what makes the part that is kept now of the one that was.
+fn push_changes(
+    alloc: Global,
+    entries: &mut Sequence<Entry>,
+    hops: &NextHops,
+    peers: &[CompiledPeer],
+    change: &ViewChange,
+    before: &[RouteTable],
+    kept: &KeptRoutes,
+) -> Result<(), NoMemory>
+    requires hops { are_hops hops.now ≡ true }
+    requires both { kept.now.both ≡ both_with hops.now }
+    requires kept { (now : ViewValue) × AreKeptFor now kept.now }
+    requires before { (was : ViewValue) × (before.now ≡ map (part_at change.now was kept.now.node kept.now.both) peers.now) }
+    ensures { OnOk result ((was now : ViewValue) → before.now ≡ map (part_at change.now was kept.now.node kept.now.both) peers.now → AreKeptFor now kept.now
+        → entries.new ≡ entries.old ++ flat_map (part_updates change.now was now kept.now.node hops.now) peers.now) }
+{
+    for place in 0..peers.len() {
+        let peer = &peers[place];
+        let after = part_kept(alloc, kept, peer, change)?;
+        push_change(alloc, entries, hops, peer, &before[place], &after)?;
     }
     Ok(())
 }
 
-/// Tells a peer what makes its routes of those in its table, or of none.
-fn push_to(
+/// Tells a peer what makes the one table of the other.
+fn push_change(
     alloc: Global,
     entries: &mut Sequence<Entry>,
-    view: &View,
-    node: &Text,
-    hop: &Address,
-    tables: &[PeerTable],
+    hops: &NextHops,
     peer: &CompiledPeer,
+    before: &RouteTable,
+    after: &RouteTable,
 ) -> Result<(), NoMemory>
-    requires { hop.now.family ≡ V4 }
-    ensures { OnOk result (entries.new ≡ entries.old ++ updates_from tables.now view.now node.now hop.now peer.now) }
+    requires hops { are_hops hops.now ≡ true }
+    requires told { HasHops hops.now.v6 after.now }
+    requires few { All HasFew after.now }
+    ensures { OnOk result (entries.new ≡ entries.old ++ updates_of before.now after.now hops.now peer.now) }
 {
-    let messages = messages_to(alloc, view, node, hop, tables, peer)?;
+    let messages = updates(alloc, before, after, peer, &hops.v4, hops.v6.as_ref())?;
     for message in messages.as_slice() {
         push_message(alloc, entries, peer, message)?;
     }
@@ -162,50 +261,4 @@ fn push_message(
     let peer = peer.name.copy()?;
     let message = ByteList::from_slice(alloc, message.as_slice())?;
     entries.push(Entry::Updated { peer, message })
-}
-
-fn messages_to(
-    alloc: Global,
-    view: &View,
-    node: &Text,
-    hop: &Address,
-    tables: &[PeerTable],
-    peer: &CompiledPeer,
-) -> Result<MessageList, NoMemory>
-    requires { hop.now.family ≡ V4 }
-    ensures { IfOk result (λ messages. messages ≡ messages_from tables.now view.now node.now hop.now peer.now) }
-{
-    let new = routes(alloc, view, node.as_str(), peer)?;
-    match table_of(tables, peer) {
-        Some(table) => updates(alloc, &table.routes, &new, peer, hop),
-        None => first_messages(alloc, &new, peer, hop),
-    }
-}
-
-/// The messages to a peer that has no routes yet.
-fn first_messages(
-    alloc: Global,
-    routes: &RouteTable,
-    peer: &CompiledPeer,
-    hop: &Address,
-) -> Result<MessageList, NoMemory>
-    requires hop { hop.now.family ≡ V4 }
-    requires few { All HasFew routes.now }
-    ensures { IfOk result (λ messages. messages ≡ messages_between (peering_of peer.now hop.now) [] routes.now) }
-{
-    let empty = RouteTable::empty(alloc);
-    updates(alloc, &empty, routes, peer, hop)
-}
-
-/// The table of the peer.
-fn table_of<'a>(tables: &'a [PeerTable], peer: &CompiledPeer) -> Option<&'a PeerTable>
-    ensures { option_map (λ t. t.now) result ≡ find (is_table_of peer.now) tables.now }
-{
-    tables.iter().find(|table| is_table_of(peer, table))
-}
-
-fn is_table_of(peer: &CompiledPeer, table: &PeerTable) -> bool
-    ensures { result ≡ is_table_of peer.now table.now }
-{
-    table.name == peer.name && table.my_asn == peer.my_asn && table.peer_asn == peer.peer_asn
 }

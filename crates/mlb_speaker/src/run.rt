@@ -3,10 +3,11 @@ ghost use Rattle.std.specs.Prelude.{◌≡◌, ◌↔◌, ℕ, List};
 ghost use Rattle.kube_model.specs.declared.status.LaneName.{LaneName};
 ghost use Rattle.lane_drive.specs.Files.{files_view};
 ghost use Rattle.lane_run.specs.Views.{source_view};
-ghost use Rattle.line_run.specs.Clauses.{AtEnd, AtReadFault, AtWriteFault};
+ghost use Rattle.line_run.specs.Clauses.{AtReadFault, AtWriteFault, RunOwes};
 ghost use Rattle.command_options.specs.Options.{texts_of};
-ghost use Rattle.mlb_speaker.specs.Clauses.{InStream, MayAskAnswered, CanEnd, SpeaksForNamed, AtDone, AtBadLine, AtHeldLimit, AtLongLine, AtTooLong, AfterRead, AfterWrite, AtNoMemory, WritesOnly, TellsWhatIsAnnounced, TellsWhatChanges, SendsWhatIsMeant, TellsPeersTheirRoutes, IsExact, IsComplete};
-ghost use Rattle.mlb_speaker.specs.LaneClauses.{EndsLanes, LanesMayWait, LanesMayDrop, LanesComplete, LanesDone, LanesWriteOnly, AtLaneOpenFault, AtLaneReadFault, LeavesOtherFiles, LeavesInput, LanesCanEnd, LanesAreAsLines, LanesTellWhatIsAnnounced, LanesTellWhatChanges, LanesSendWhatIsMeant, LanesMakeRoutes};
+ghost use Rattle.mlb_speaker.specs.Clauses.{begun_by, InStream, MayAskAnswered, CanEnd, SpeaksForNamed, TellsWhatIsAnnounced, TellsWhatChanges, SendsWhatIsMeant, TellsPeersTheirRoutes, WritesWhatIsAnnounced, WritesPeersTheirRoutes};
+ghost use Rattle.mlb_speaker.specs.LaneClauses.{EndsLanes, LanesMayOpen, LanesMayWait, LanesMayDrop, LanesComplete, LanesDone, LanesWriteOnly, AtLaneOpenFault, AtLaneReadFault, LeavesOtherFiles, LeavesInput, LanesCanEnd, LanesAreAsLines, LanesTellWhatIsAnnounced, LanesTellWhatChanges, LanesSendWhatIsMeant, LanesMakeRoutes};
+ghost use Rattle.mlb_speaker.specs.Stream.{IsCause, speaker_rules};
 ghost use Rattle.speaker_words.specs.Words.{AreKnown};
 
 use crate::speaker::Speaker;
@@ -32,6 +33,10 @@ pub fn run_speaker<
     // when it may, so the program asks it nowhere else, and over two files never. What is only a `Source` may be asked at any time.
     requires live { MayAskAnswered words.now S.name S.left S.may_read K.written input.old out.old }
 
+    // The watched file may be opened, and once it is open that of the frames. Nothing else is known of when a file may: so they are opened in this
+    // order, each at most once, and no other is, in one stream none. What is a `Files` may open any at any time.
+    requires lanes_open { LanesMayOpen words.now F.may_open F.Opens files.old }
+
     // Over two files the next event may be waited for where just the text of all that were taken before stands written. Nothing else is known
     // of when it may, it can be waited for beside a sink of this type alone, and the files can only be watched: so nothing is held back of `out`
     // meanwhile. What is a `Wait` may wait at any time.
@@ -49,26 +54,13 @@ pub fn run_speaker<
     ensures named { SpeaksForNamed words.now }
     ensures unused { result ≡ Status.Usage → (input.new ≡ input.old) × (out.new ≡ out.old) }
 
-    // At the end of the input: nothing of it is left, and just the text of its run was written.
-    ensures done { AtDone words.now result (S.left input.old) K.written out.old out.new }
-    ensures at_end { InStream words.now (AtEnd result (S.left input.new)) }
-
-    // A line that ends the run, and just the text of the run before it was written.
-    ensures bad_line { AtBadLine words.now result (S.left input.old) K.written out.old out.new }
-    ensures held_limit { AtHeldLimit words.now result (S.left input.old) K.written out.old out.new }
-    ensures line_limit { AtLongLine words.now result (S.left input.old) K.written out.old out.new }
-    ensures input_limit { AtTooLong words.now result (S.left input.old) K.written out.old out.new }
-
-    // A fault comes only where its count rose. Behind a failed read stands the text of the lines that were read whole, behind a
-    // failed write a beginning of the text, and not the whole.
+    // A fault comes only where its count rose.
     ensures read_fault { InStream words.now (AtReadFault result (S.faults input.old) (S.faults input.new)) }
-    ensures read { AfterRead words.now result S.left input.old input.new K.written out.old out.new }
     ensures write_fault { AtWriteFault result (K.faults out.old) (K.faults out.new) }
-    ensures part { AfterWrite words.now result (S.left input.old) K.written out.old out.new }
-    ensures no_memory { AtNoMemory words.now result (S.left input.old) K.written out.old out.new }
 
-    // Over any input at all a beginning of the text of some lines' run was written.
-    ensures only { WritesOnly words.now K.written out.old out.new }
+    // What was read and written, whatever the status, where the words are of the table and all comes by one stream.
+    ensures run { InStream words.now (AreKnown (texts_of words.now) → RunOwes speaker_rules IsCause (begun_by words.now) result
+        (S.left input.old) (S.left input.new) (K.written out.old) (K.written out.new)) }
 
     // After each line of a run the addresses with an announce line and no later withdraw line are exactly those that the node of the
     // words announces by what was shown.
@@ -87,9 +79,10 @@ pub fn run_speaker<
     // numbers last changed, makes its routes of the empty table.
     ensures routes { TellsPeersTheirRoutes words.now }
 
-    // But for a fault or want of memory the status is that of the lines; and where all can be read and held, the run is done.
-    ensures exact { IsExact words.now result (S.left input.old) }
-    ensures complete { IsComplete words.now result (S.left input.old) }
+    // The same of the lines as they are written: the addresses with an announce line and no withdraw line behind it, and the messages that the
+    // update lines for a peer carry in hexadecimal.
+    ensures told_written { WritesWhatIsAnnounced words.now }
+    ensures routes_written { WritesPeersTheirRoutes words.now }
 
     // Over two lane files: how the run ended, once both are open. The items of both are taken in the order in which they come, and of each the
     // line that tells of it is written, and then what it comes to.

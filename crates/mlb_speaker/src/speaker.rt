@@ -6,6 +6,7 @@ ghost use Rattle.mlb_speaker.specs.Stream.{first_state};
 
 use crate::line::drive_line;
 use crate::station::Station;
+use bgp_routes::KeptRoutes;
 use kube_labels::Text;
 use kube_model::Status;
 use l2_elect::Announcers;
@@ -24,17 +25,20 @@ pub(crate) struct Speaker {
     pub(crate) station: Station,
     // who announces each address by the view, once it is known: most events change it at few addresses
     pub(crate) announcers: Option<Announcers>,
+    // the routes of all peers by the view, where there is a next hop, once they are known
+    pub(crate) routes: Option<KeptRoutes>,
 }
 
 impl Model for Speaker {
     ghost use Rattle.l2_elect.specs.Kept.{AreKnown};
+    ghost use Rattle.mlb_speaker.specs.Kept.{AreRoutesKnown};
     ghost use Rattle.mlb_speaker.specs.Stream.{SpeakerState, state_of};
 
     ghost Value = { SpeakerState };
 
     ghost view = { λ s. state_of s.view s.station };
 
-    ghost invariant = { λ s. AreKnown s.announcers s.view };
+    ghost invariant = { λ s. AreKnown s.announcers s.view × AreRoutesKnown s.routes s.view s.station };
 }
 
 impl Speaker {
@@ -48,6 +52,7 @@ impl Speaker {
             view: View::new(alloc, class),
             station,
             announcers: None,
+            routes: None,
         })
     }
 }

@@ -3,7 +3,7 @@ ghost use Rattle.std.specs.Prelude.{◌≡◌, map, IfOk};
 ghost use Rattle.std.specs.Option.{option_map};
 ghost use Rattle.speaker_words.specs.Seen.{interface_seen, said_seen};
 ghost use Rattle.mlb_speaker.specs.Sends.{interface_of};
-ghost use Rattle.mlb_speaker.specs.Station.{interface_by, station_of};
+ghost use Rattle.mlb_speaker.specs.Station.{hops_of, interface_by, station_of};
 
 use ip_ranges::Address;
 use kube_labels::Text;
@@ -19,12 +19,20 @@ pub(crate) struct Interface {
     pub(crate) mac: [u8; 6],
 }
 
-/// The node of the speaker, the interfaces of the words, in their order, and the next hop of its routes.
+/// The next hops of routes.
+#[derive(Clone, Copy)]
+pub(crate) struct NextHops {
+    pub(crate) v4: Address,
+    /// With none, no routes of IPv6 are told.
+    pub(crate) v6: Option<Address>,
+}
+
+/// The node of the speaker, the interfaces of the words, in their order, and the next hops of its routes.
 #[derive(Drop)]
 pub(crate) struct Station {
     pub(crate) node: Text,
     pub(crate) interfaces: Sequence<Interface>,
-    pub(crate) next_hop: Option<Address>,
+    pub(crate) next_hops: Option<NextHops>,
 }
 
 impl Station {
@@ -36,7 +44,7 @@ impl Station {
         Ok(Station {
             node,
             interfaces,
-            next_hop: said.next_hop,
+            next_hops: hops_of(said),
         })
     }
 
@@ -49,6 +57,17 @@ impl Station {
             .iter()
             .find(|interface| interface.name == *name)
     }
+}
+
+/// The next hops of the words.
+fn hops_of(said: &SpeakerWords<'_>) -> Option<NextHops>
+    ensures { result ≡ hops_of (said_seen said.now) }
+{
+    let v4 = said.next_hop?;
+    Some(NextHops {
+        v4,
+        v6: said.next_hop_v6,
+    })
 }
 
 /// The interfaces of the words, with names of their own.

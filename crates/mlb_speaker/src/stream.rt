@@ -1,8 +1,9 @@
 //! The run over one stream.
 ghost use Rattle.std.specs.Prelude.{◌≡◌, ◌↔◌, None};
-ghost use Rattle.line_run.specs.Clauses.{AtEnd, AtReadFault, AtWriteFault};
+ghost use Rattle.line_run.specs.Clauses.{AtReadFault, AtWriteFault, RunOwes};
 ghost use Rattle.command_options.specs.Options.{texts_of};
-ghost use Rattle.mlb_speaker.specs.Clauses.{lanes_of, MayAskAnswered, CanEnd, SpeaksForNamed, AtDone, AtBadLine, AtHeldLimit, AtLongLine, AtTooLong, AfterRead, AfterWrite, AtNoMemory, WritesOnly, TellsWhatIsAnnounced, TellsWhatChanges, SendsWhatIsMeant, TellsPeersTheirRoutes, IsExact, IsComplete};
+ghost use Rattle.mlb_speaker.specs.Clauses.{begun_by, lanes_of, InStream, MayAskAnswered, CanEnd, SpeaksForNamed, TellsWhatIsAnnounced, TellsWhatChanges, SendsWhatIsMeant, TellsPeersTheirRoutes, WritesWhatIsAnnounced, WritesPeersTheirRoutes};
+ghost use Rattle.mlb_speaker.specs.Stream.{IsCause, speaker_rules};
 ghost use Rattle.speaker_words.specs.Words.{AreKnown};
 
 use crate::speaker::Speaker;
@@ -12,10 +13,10 @@ use mlb_edge::Sink;
 use speaker_words::speaker_words;
 use std::alloc::Global;
 
-/// The work of the program on one stream, where the words name no lane files: each line of the input is an event. What comes of it is written before the source is
-/// asked for more, which may be one that gives the next line only once it has seen what came of those before: the note of a configuration, a withdraw line for each address that isn't announced any more, an announce
-/// line for each that is from now on, with the unasked frames that are sent, the update lines of each BGP peer, and the frame that is sent in answer to
-/// one that was received.
+/// The work of the program on one stream, where the words name no lane files: each line of the input is an event. What comes of it is written
+/// before the source is asked for more, which may be one that gives the next line only once it has seen what came of those before: the note of a
+/// configuration, a withdraw line for each address that isn't announced any more, an announce line for each that is from now on, with the unasked
+/// frames that are sent, the update lines of each BGP peer, and the frame that is sent in answer to one that was received.
 pub fn stream_speaker<S: PacedSource<K>, K: Sink>(
     alloc: Global,
     words: &[String],
@@ -30,26 +31,13 @@ pub fn stream_speaker<S: PacedSource<K>, K: Sink>(
     ensures named { SpeaksForNamed words.now }
     ensures unused { result ≡ Status.Usage → (input.new ≡ input.old) × (out.new ≡ out.old) }
 
-    // At the end of the input: nothing of it is left, and just the text of its run was written.
-    ensures done { AtDone words.now result (S.left input.old) K.written out.old out.new }
-    ensures at_end { AtEnd result (S.left input.new) }
-
-    // A line that ends the run, and just the text of the run before it was written.
-    ensures bad_line { AtBadLine words.now result (S.left input.old) K.written out.old out.new }
-    ensures held_limit { AtHeldLimit words.now result (S.left input.old) K.written out.old out.new }
-    ensures line_limit { AtLongLine words.now result (S.left input.old) K.written out.old out.new }
-    ensures input_limit { AtTooLong words.now result (S.left input.old) K.written out.old out.new }
-
-    // A fault comes only where its count rose. Behind a failed read stands the text of the lines that were read whole, behind a
-    // failed write a beginning of the text, and not the whole.
+    // A fault comes only where its count rose.
     ensures read_fault { AtReadFault result (S.faults input.old) (S.faults input.new) }
-    ensures read { AfterRead words.now result S.left input.old input.new K.written out.old out.new }
     ensures write_fault { AtWriteFault result (K.faults out.old) (K.faults out.new) }
-    ensures part { AfterWrite words.now result (S.left input.old) K.written out.old out.new }
-    ensures no_memory { AtNoMemory words.now result (S.left input.old) K.written out.old out.new }
 
-    // Over any input at all a beginning of the text of some lines' run was written.
-    ensures only { WritesOnly words.now K.written out.old out.new }
+    // What was read and written, whatever the status, where the words are of the table and all comes by one stream.
+    ensures run { InStream words.now (AreKnown (texts_of words.now) → RunOwes speaker_rules IsCause (begun_by words.now) result
+        (S.left input.old) (S.left input.new) (K.written out.old) (K.written out.new)) }
 
     // After each line of a run the addresses with an announce line and no later withdraw line are exactly those that the node of the
     // words announces by what was shown.
@@ -68,9 +56,10 @@ pub fn stream_speaker<S: PacedSource<K>, K: Sink>(
     // numbers last changed, makes its routes of the empty table.
     ensures routes { TellsPeersTheirRoutes words.now }
 
-    // But for a fault or want of memory the status is that of the lines; and where all can be read and held, the run is done.
-    ensures exact { IsExact words.now result (S.left input.old) }
-    ensures complete { IsComplete words.now result (S.left input.old) }
+    // The same of the lines as they are written: the addresses with an announce line and no withdraw line behind it, and the messages that the
+    // update lines for a peer carry in hexadecimal.
+    ensures told_written { WritesWhatIsAnnounced words.now }
+    ensures routes_written { WritesPeersTheirRoutes words.now }
 {
     let Some(said) = speaker_words(words) else {
         return Status::Usage;

@@ -8,8 +8,9 @@ use Rattle.lane_run.specs.Views.{outside, source_view}
 use Rattle.mlb_speaker.specs.Clauses.{begun_by}
 use Rattle.mlb_speaker.specs.Lanes.{lane_rules}
 use Rattle.mlb_speaker.specs.Stream.{SpeakerState}
-use Rattle.mlb_speaker.proofs.Begun.{named-begun}
+use Rattle.mlb_speaker.proofs.Begun.{named-begun, named-speaks}
 use Rattle.mlb_speaker.proofs.ChangesTold.{lines_tell_what_changes}
+use Rattle.mlb_speaker.proofs.Fitting.{routes_written_by, written_by}
 use Rattle.mlb_speaker.proofs.Heard.{heard_by}
 use Rattle.mlb_speaker.proofs.LaneEnds.{asks_never, can_end, ends_none, writes_none}
 use Rattle.mlb_speaker.proofs.LaneLines.{items_as_lines, items_make, items_tell, items_tell_changes, items_send}
@@ -17,6 +18,10 @@ use Rattle.mlb_speaker.proofs.Meant.{meant_by}
 use Rattle.mlb_speaker.proofs.Telling.{told_by}
 use Rattle.speaker_words.specs.Seen.{said_seen}
 use Rattle.mlb_speaker.proofs.run.run_speaker.Goals as goal
+
+pub run_lane_files-requires-clause-opens : goal.run_lane_files-requires-clause-opens
+run_lane_files-requires-clause-opens g c =
+    λ _ _. c.requires.lanes_open (lane_seen c.in-Some-lanes.lanes) ((named-begun (texts_of c.args.words.now) (said_seen c.in-Some.said) c.in-Some.ensures.said).1 ∙ ap (option_map lane_seen) c.in-Some-lanes.is)
 
 pub run_lane_files-requires-clause-live : goal.run_lane_files-requires-clause-live
 run_lane_files-requires-clause-live g c = λ _ _ i r o name more. absurd (asks_never _ _ _ _ _ more)
@@ -68,7 +73,7 @@ pub returns-in_default-lanes-clause-lanes_sends : goal.returns-in_default-lanes-
 returns-in_default-lanes-clause-lanes_sends g c = items_send (begun_by c.args.words.now) (meant_by (texts_of c.args.words.now))
 
 pub returns-in_default-new-clause-named : goal.returns-in_default-new-clause-named
-returns-in_default-new-clause-named g c = named-begun (texts_of c.args.words.now)
+returns-in_default-new-clause-named g c = named-speaks (texts_of c.args.words.now)
 
 pub returns-in_default-new-clause-told : goal.returns-in_default-new-clause-told
 returns-in_default-new-clause-told g c = told_by (texts_of c.args.words.now)
@@ -98,7 +103,7 @@ pub returns-in_default-new-clause-lanes_only : goal.returns-in_default-new-claus
 returns-in_default-new-clause-lanes_only g c files named = writes_none (begun_by c.args.words.now) _ _ _ _
 
 pub returns-clause-named : goal.returns-clause-named
-returns-clause-named g c = named-begun (texts_of c.args.words.now)
+returns-clause-named g c = named-speaks (texts_of c.args.words.now)
 
 pub returns-clause-told : goal.returns-clause-told
 returns-clause-told g c = told_by (texts_of c.args.words.now)
@@ -148,3 +153,21 @@ returns-in_default-new-clause-lanes_changes g c = items_tell_changes (begun_by c
 
 pub returns-clause-lanes_changes : goal.returns-clause-lanes_changes
 returns-clause-lanes_changes g c = items_tell_changes (begun_by c.args.words.now) (lines_tell_what_changes (begun_by c.args.words.now))
+
+pub returns-in_default-clause-told_written : goal.returns-in_default-clause-told_written
+returns-in_default-clause-told_written g c = written_by (texts_of c.args.words.now)
+
+pub returns-in_default-clause-routes_written : goal.returns-in_default-clause-routes_written
+returns-in_default-clause-routes_written g c = routes_written_by (texts_of c.args.words.now)
+
+pub returns-in_default-new-clause-told_written : goal.returns-in_default-new-clause-told_written
+returns-in_default-new-clause-told_written g c = written_by (texts_of c.args.words.now)
+
+pub returns-in_default-new-clause-routes_written : goal.returns-in_default-new-clause-routes_written
+returns-in_default-new-clause-routes_written g c = routes_written_by (texts_of c.args.words.now)
+
+pub returns-clause-told_written : goal.returns-clause-told_written
+returns-clause-told_written g c = written_by (texts_of c.args.words.now)
+
+pub returns-clause-routes_written : goal.returns-clause-routes_written
+returns-clause-routes_written g c = routes_written_by (texts_of c.args.words.now)

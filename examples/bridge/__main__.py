@@ -52,6 +52,7 @@ def words():
     each.add_argument("--link", action="append", default=[], metavar="NAME=FOLDER",
                       help="that interface is the datagram socket FOLDER/NODE-NAME, and what it sends goes to FOLDER/hub (for tests)")
     each.add_argument("--next-hop", help="the IPv4 address that routes lead to")
+    each.add_argument("--next-hop-v6", help="the IPv6 address that IPv6 routes lead to, beside a next hop of IPv4")
     each.add_argument("--router-id", help="the BGP identifier (the next hop)")
     each.add_argument("--bgp-retry", type=float, default=5.0, help="seconds before a session is opened anew (%(default)s)")
     each.add_argument("--lease-seconds", type=float, default=9.0, help="how long a node counts as a member after its lease was renewed (%(default)s)")

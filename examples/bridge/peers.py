@@ -21,8 +21,8 @@ class Peers:
     """No line of the program names a peer that came or went. So what the watch lane is given is followed here, line by line as the program takes it.
     Without an identifier there are no sessions."""
 
-    def __init__(self, node, identifier, retry):
-        self.node, self.identifier, self.retry = node, identifier, retry
+    def __init__(self, node, identifier, families, retry):
+        self.node, self.identifier, self.families, self.retry = node, identifier, families, retry
         self.given = collections.deque()
         self.shown, self.labels = {}, {}
         self.in_force, self.tables, self.tasks = {}, {}, {}
@@ -73,7 +73,7 @@ class Peers:
                 self.end(name)
         for name, spec in wanted.items():
             if name not in self.tasks:
-                session = Session(name, spec, self.tables[name], self.identifier, self.retry)
+                session = Session(name, spec, self.tables[name], self.identifier, self.families, self.retry)
                 self.tasks[name] = session, asyncio.create_task(session.keep())
         for name in set(self.tables) - set(self.in_force):
             del self.tables[name]

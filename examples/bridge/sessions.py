@@ -2,7 +2,7 @@
 import asyncio
 import re
 
-from bgp import KEEPALIVE, NOTIFICATION, OPEN, SessionEnded, message, next_message, open_message, read_open
+from bgp import KEEPALIVE, NOTIFICATION, OPEN, SessionEnded, family_of, message, next_message, open_message, read_open
 from common import tell, together
 
 OPEN_WAIT = 10.0  # seconds for a connection, and for a peer's OPEN
@@ -15,17 +15,18 @@ def seconds_of(text):
 
 
 class Session:
-    """The session with the peer of one BGPPeer object. It is opened anew where it breaks, and the new one is told the table at first."""
+    """The session with the peer of one BGPPeer object. It is opened anew where it breaks, and the new one is told the table at first. The peer is told
+    of the families that both sides take."""
 
-    def __init__(self, name, spec, table, identifier, retry):
-        self.name, self.spec, self.table, self.retry = name, spec, table, retry
+    def __init__(self, name, spec, table, identifier, families, retry):
+        self.name, self.spec, self.table, self.families, self.retry = name, spec, table, families, retry
         self.identifier = spec.get("routerID") or identifier
         self.hold = seconds_of(spec.get("holdTime") or "90s")
-        self.writer, self.told = None, None
+        self.writer, self.taken, self.told = None, [], None
 
     def send(self, octets):
         """Sends a message where the session is established. Else the table tells of it later."""
-        if self.writer:
+        if self.writer and family_of(octets) in self.taken:
             self.writer.write(octets)
 
     async def keep(self):
@@ -52,9 +53,10 @@ class Session:
         notice = (6, 2)
         try:
             async with asyncio.timeout(OPEN_WAIT):
-                hold = await self.greet(reader, writer)
-            self.tell("established")
-            for octets in self.table.messages():
+                hold, self.taken = await self.greet(reader, writer)
+            left_out = len(self.families) - len(self.taken)
+            self.tell("established, without one family" if left_out else "established")
+            for octets in self.table.messages(self.taken):
                 writer.write(octets)
             self.writer = writer
             await together(self.receive(reader, hold), *([self.repeat(writer, hold / 3)] if hold else []))
@@ -68,12 +70,12 @@ class Session:
             writer.close()
 
     async def greet(self, reader, writer):
-        """Exchanges OPEN and the first KEEPALIVE. The hold time is the lesser of the two."""
-        writer.write(open_message(self.spec["myASN"], self.hold, self.identifier))
+        """Exchanges OPEN and the first KEEPALIVE. The hold time is the lesser of the two, and the families are those of both."""
+        writer.write(open_message(self.spec["myASN"], self.hold, self.identifier, self.families))
         kind, body = await next_message(reader)
         if kind != OPEN:
             raise SessionEnded("no OPEN came first", (5, 0))
-        hold, number = read_open(body)
+        hold, number, families = read_open(body)
         if number is None:
             raise SessionEnded("the peer has no four-octet AS numbers", (2, 7))
         if number != self.spec["peerASN"]:
@@ -82,7 +84,7 @@ class Session:
         kind, _ = await next_message(reader)
         if kind != KEEPALIVE:
             raise SessionEnded("no KEEPALIVE came behind OPEN", (5, 0))
-        return min(hold, self.hold)
+        return min(hold, self.hold), [family for family in self.families if family in families]
 
     async def receive(self, reader, hold):
         """Reads what the peer sends, which is passed by, until it says nothing for the hold time."""

@@ -4,6 +4,7 @@ import contextlib
 import json
 
 from api import Api, Broken, NotSent
+from bgp import IPV4, IPV6
 from common import tell, together
 from links import links_of
 from members import Members
@@ -66,13 +67,15 @@ async def pass_members(members, watches, lane):
 def command_of(options, links):
     words = [f"--node-name={options.node_name}"] + [f"--interface={link.name}={link.hardware}" for link in links.values()]
     words += [f"--next-hop={options.next_hop}"] if options.next_hop else []
+    words += [f"--next-hop-v6={options.next_hop_v6}"] if options.next_hop_v6 else []
     return [options.program, *words] + ([f"--lb-class={options.lb_class}"] if options.lb_class else [])
 
 
 async def run_once(options, api, members, links):
     """The program from its start to its end, and whether it took anything."""
     identifier = options.next_hop and (options.router_id or options.next_hop)
-    neighbors, peers = Neighbors(links), Peers(options.node_name, identifier, options.bgp_retry)
+    families = [IPV4, IPV6] if options.next_hop_v6 else [IPV4]
+    neighbors, peers = Neighbors(links), Peers(options.node_name, identifier, families, options.bgp_retry)
     async with reading(options.admit) as reader, started(command_of(options, links), ["watch", "frame"], options) as program:
         watch, frame = program.lanes["watch"], program.lanes["frame"]
         watches = Watches(api, watch, config_paths(options.namespace) | SERVICE_PATHS | SPEAKER_PATHS, reader.fault_of, note=peers.note)

@@ -1,4 +1,4 @@
--- An address that no service records has no announcer; and where all stays that decides who may announce one, its announcer does.
+-- An address that is announced from no node has no announcer, so one that no service records has none; and where all stays that decides who may announce one, its announcer does.
 use Rattle.std.proofs.Common.{◌≡◌, ◌↔◌, ℕ, Bool, true, false, ◌&&◌, ◌||◌, List, [], ◌∷◌, filter, None, Contains, refl, sym, ap, subst}
 use Rattle.std.proofs.lemmas.Bool.{or_parts}
 use Rattle.std.specs.List.{list_any}
@@ -31,12 +31,14 @@ pub none-pass : {X : Type 0} (p : X → Bool) (xs : List X) → ((x : X) → p x
 none-pass p [] none = refl
 none-pass p (x ∷ xs) none = rw (none x) (none-pass p xs none)
 
-pub unrecorded-none : (v : ViewValue) (a : AddressValue) → is_recorded_in v a ≡ false → announcer_of v a ≡ None
-unrecorded-none v a e =
-    let unannounced : (node : List ℕ) → announced_from v a node ≡ false =
-    λ node. neither (λ (s : Service). has_address s.holding.addresses a) (λ s. can_announce v s node) (objects_of v.held.services) e in
+pub unannounced-none : (v : ViewValue) (a : AddressValue) → ((node : List ℕ) → announced_from v a node ≡ false) → announcer_of v a ≡ None
+unannounced-none v a unannounced =
     ap (best_from (canonical_text a) None)
     (none-pass (is_eligible v a) v.members (λ node. no_more (is_advertised v node a) (announced_from v a node) (unannounced node)))
+
+pub unrecorded-none : (v : ViewValue) (a : AddressValue) → is_recorded_in v a ≡ false → announcer_of v a ≡ None
+unrecorded-none v a e =
+    unannounced-none v a (λ node. neither (λ (s : Service). has_address s.holding.addresses a) (λ s. can_announce v s node) (objects_of v.held.services) e)
 
 -- ---- what stays
 module _ (v w : ViewValue) (a : AddressValue) (stays : StaysAt v w a) where

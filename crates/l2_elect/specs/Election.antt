@@ -1,5 +1,5 @@
 -- Which node announces an address.
-use Rattle.std.specs.Prelude.{ℕ, Bool, ◌≡◌, false, if◌then◌else◌, List, ◌++◌, filter, fold, Option, Some, None, codes}
+use Rattle.std.specs.Prelude.{ℕ, Bool, ◌≡◌, true, false, if◌then◌else◌, List, ◌++◌, filter, fold, Option, Some, None, codes}
 use Rattle.std.specs.declared.cmp.Ordering.{Ordering}
 use Rattle.std.specs.Ordering.{nat_cmp, then_cmp, on, is_lt}
 use Rattle.std.specs.Cmp.Lexicographic.{slice_cmp}
@@ -40,7 +40,12 @@ OnlyAnEligibleNodeAnnounces = (v : ViewValue) (address : AddressValue) → ((nod
     → (name : List ℕ) → ¬ IsAnnouncer v address name
 
 -- ---- the announcer as a function
--- the better of the one that is best so far, if any, and a node
+-- the node comes before the one that is best so far, if any
+abbrev pub is_better : List ℕ → Option (List ℕ) → List ℕ → Bool
+is_better text None node = true
+is_better text (Some best) node = comes_before text node best
+
+-- the better of the two
 abbrev pub better : List ℕ → Option (List ℕ) → List ℕ → List ℕ
 better text None node = node
 better text (Some best) node = if comes_before text node best then node else best

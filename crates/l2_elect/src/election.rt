@@ -3,7 +3,7 @@ ghost use Rattle.std.specs.Prelude.{◌≡◌, ◌↔◌, ℕ, List, IsTrue, IfN
 ghost use Rattle.std.specs.Option.{option_copied, option_map, ForSome};
 ghost use Rattle.ip_ranges.specs.AddressText.{canonical_text};
 ghost use Rattle.l2_elect.specs.Eligible.{IsEligible};
-ghost use Rattle.l2_elect.specs.Election.{announcer_of, announces_of, best_by, digest_of, elected, better, is_named, IsAnnouncer};
+ghost use Rattle.l2_elect.specs.Election.{announcer_of, announces_of, best_by, digest_of, elected, is_better, is_named, IsAnnouncer};
 
 use crate::eligible::is_eligible;
 use ip_ranges::{Address, write_address};
@@ -30,11 +30,11 @@ pub fn announcer<'a>(view: &'a View, address: &Address) -> Option<&'a Text>
     first(view, address)
 }
 
-/// The announcer of the address, by its text. One that no service records costs a look-up.
+/// The announcer of the address, by its text. One that no service records, or behind which there is no usable endpoint, costs a look-up.
 pub(crate) fn first<'a>(view: &'a View, address: &Address) -> Option<&'a Text>
     ensures { option_copied result ≡ announcer_of view.now address.now }
 {
-    if !view.is_recorded(address) {
+    if !view.is_served(address) {
         return None;
     }
     let mut buffer = [0; 39];
@@ -56,7 +56,8 @@ fn elected<'a>(view: &'a View, address: &Address, text: &[u8]) -> Option<&'a Tex
     best_member(view, address, text, pool, config.l2.as_slice())
 }
 
-/// The best of the members that are eligible for the address, which is of the pool, by the advertisements.
+/// The best of the members that are eligible for the address, which is of the pool, by the advertisements. Whether one is eligible is
+/// looked at only where it would be the best.
 fn best_member<'a>(
     view: &'a View,
     address: &Address,
@@ -68,8 +69,12 @@ fn best_member<'a>(
 {
     let mut best: Option<Candidate<'a>> = None;
     for node in view.members().as_slice() {
-        if is_eligible(view, node, address, pool, l2) {
-            best = Some(better(best, node, text));
+        let candidate = Candidate {
+            node,
+            digest: digest(node, text),
+        };
+        if is_better(best, candidate) && is_eligible(view, node, address, pool, l2) {
+            best = Some(candidate);
         }
     }
     match best {
@@ -78,28 +83,19 @@ fn best_member<'a>(
     }
 }
 
-/// The better of the candidate that is best so far, if any, and the node.
-fn better<'a>(best: Option<Candidate<'a>>, node: &'a Text, text: &[u8]) -> Candidate<'a>
-    requires digest { ForSome best (λ c. c.digest ≡ digest_of text.now c.node.now) }
-    ensures node { result.node.now ≡ better text.now (option_map (λ c. c.node.now) best.entry) node.now }
-    ensures digest { result.digest ≡ digest_of text.now result.node.now }
+/// Whether the candidate comes before the one that is best so far, if any: by digests, ties by name.
+fn is_better(best: Option<Candidate<'_>>, candidate: Candidate<'_>) -> bool
+    ensures { (text : List ℕ) → ForSome best.entry (λ c. c.digest ≡ digest_of text c.node.now) → candidate.entry.digest ≡ digest_of text candidate.entry.node.now
+        → result ≡ is_better text (option_map (λ c. c.node.now) best.entry) candidate.entry.node.now }
 {
-    let candidate = Candidate {
-        node,
-        digest: digest(node, text),
-    };
     match best {
-        None => candidate,
+        None => true,
         Some(best) => {
             let order = candidate
                 .digest
                 .cmp(&best.digest)
                 .then(candidate.node.cmp(best.node));
-            if order == Ordering::Less {
-                candidate
-            } else {
-                best
-            }
+            order == Ordering::Less
         }
     }
 }

@@ -25,7 +25,7 @@ use Rattle.object_history.specs.Cache.{Cached}
 use Rattle.versioned_map.specs.Entries.{object_at}
 use Rattle.speaker_view.specs.declared.index.Index.{Index}
 use Rattle.speaker_view.specs.Addresses.{address_cmp}
-use Rattle.speaker_view.specs.Endpoints.{announced_from, can_announce, is_recorded_in, recorded_addresses, is_slice_of, serves_from, slice_serves, some_serves}
+use Rattle.speaker_view.specs.Endpoints.{announced_from, can_announce, has_usable, is_recorded_in, is_served_in, recorded_addresses, is_slice_of, serves_from, slice_serves, some_serves}
 use Rattle.speaker_view.specs.Grouped.{service_of}
 use Rattle.speaker_view.specs.Held.{objects_of}
 use Rattle.speaker_view.specs.Index.{Covers, FoundByIndex, Grows, announces_among, is_recorder, is_slice, passes, records_in}
@@ -148,6 +148,20 @@ module _ (index : Index) (v : ViewValue) (covers : Covers index v.held) (ascend 
 
   pub recorded-none : ((key : Key) → false ≡ is_recorder index a key) → false ≡ is_recorded_in v a
   recorded-none = found-none (λ (s : Service). has_address s.holding.addresses a) (λ s e. e)
+
+  -- whether one has a usable endpoint
+  abbrev served : Service → Bool
+  served service = has_address service.holding.addresses a && has_usable v service
+
+  served-records : (service : Service) → served service ≡ true → has_address service.holding.addresses a ≡ true
+  served-records service e = (and_parts (has_address service.holding.addresses a) (has_usable v service) e).0
+
+  pub served-some : (answer : Bool) (keys : BTreeSet Key) → answer ≡ list_any (λ at. passes served (object_at key_cmp v.held.services at)) keys.keys
+      → ((key : Key) → contains key_cmp keys key ≡ is_recorder index a key) → answer ≡ is_served_in v a
+  served-some = found-some served served-records
+
+  pub served-none : ((key : Key) → false ≡ is_recorder index a key) → false ≡ is_served_in v a
+  served-none = found-none served served-records
 
   -- whether one can be announced
   module _ (node : List ℕ) where

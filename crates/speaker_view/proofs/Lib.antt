@@ -5,6 +5,7 @@ pub mod Indexed
 pub mod KeyLookups
 pub mod Objects
 pub mod Owning
+pub mod Served
 pub mod Serving
 pub mod Shown
 pub mod Staying

@@ -91,6 +91,14 @@ can_announce v service node = (is_handled v.class service && endpoint_for v serv
 abbrev pub announced_from : ViewValue → AddressValue → List ℕ → Bool
 announced_from v a node = list_any (λ service. has_address service.holding.addresses a && can_announce v service node) (objects_of v.held.services)
 
+-- some endpoint slice of the service has a usable endpoint on whichever node, as the policy Cluster takes it
+abbrev pub has_usable : ViewValue → Service → Bool
+has_usable v service = some_serves (objects_of v.held.slices) service.key Cluster []
+
+-- some held service that records the address has one
+abbrev pub is_served_in : ViewValue → AddressValue → Bool
+is_served_in v a = list_any (λ service. has_address service.holding.addresses a && has_usable v service) (objects_of v.held.services)
+
 -- some held service records the address
 abbrev pub is_recorded_in : ViewValue → AddressValue → Bool
 is_recorded_in v a = list_any (λ service. has_address service.holding.addresses a) (objects_of v.held.services)

@@ -1,5 +1,5 @@
 //! The view of a speaker.
-ghost use Rattle.std.specs.Prelude.{◌≡◌, ◌↔◌, ◌&&◌, ℕ, [], filter, Some, None, IfOk, OnOk, OnErr, IsErrOf, IsTrue};
+ghost use Rattle.std.specs.Prelude.{◌≡◌, ◌↔◌, ◌&&◌, ℕ, List, [], false, filter, Some, None, IfOk, OnOk, OnErr, IsErrOf, IsTrue};
 ghost use Rattle.std.specs.Option.{option_copied};
 ghost use Rattle.kube_model.specs.declared.object.Kind.{Kind as KindValue};
 ghost use Rattle.pool_config.specs.ConfigValue.{ConfigValue, IsConfig};
@@ -17,7 +17,7 @@ ghost use Rattle.speaker_view.specs.Addresses.{address_cmp};
 ghost use Rattle.speaker_view.specs.Change.{OthersStay, change_of, recorded_at, served_by};
 ghost use Rattle.speaker_view.specs.Grouped.{service_of};
 ghost use Rattle.kube_model.specs.Service.{is_handled};
-ghost use Rattle.speaker_view.specs.Endpoints.{announced_from, endpoint_for, can_announce, node_labels, allows_balancers, is_recorded_in, recorded_addresses, HasEndpoint, CanAnnounce};
+ghost use Rattle.speaker_view.specs.Endpoints.{announced_from, endpoint_for, can_announce, node_labels, allows_balancers, has_usable, is_recorded_in, is_served_in, recorded_addresses, HasEndpoint, CanAnnounce};
 ghost use Rattle.speaker_view.specs.Index.{Covers, HasShown, passes};
 ghost use Rattle.speaker_view.specs.View.{fresh, view_after, note_by, limit_by};
 
@@ -25,7 +25,7 @@ use crate::change::{ViewChange, changes_all, listed, listed_addresses, reaches_a
 use crate::index::{Index, Stale, one_records, records};
 use ip_ranges::{Address, AddressList};
 use kube_labels::{Labels, Text, TextList};
-use kube_model::{EndpointSlice, Event, Key, Kind, Node, Service};
+use kube_model::{EndpointSlice, Event, Key, Kind, Node, Policy, Service};
 use mlb_base::NoMemory;
 use object_cache::{Applied, ApplyFault, ObjectCache, TakeNote};
 use pool_config::Config;
@@ -281,6 +281,49 @@ impl View {
             None => false,
             Some(keys) => self.announces_one(keys, address, node),
         }
+    }
+
+    /// Whether some held service that records the address has a usable endpoint, on whichever node; where none has, the address is
+    /// announced from no node. It looks at these services and their endpoint slices alone, and takes no memory.
+    pub fn is_served(&self, address: &Address) -> bool
+        ensures value { result ≡ is_served_in self.now address.now }
+        ensures nowhere { (node : List ℕ) → result ≡ false → announced_from self.now address.now node ≡ false }
+    {
+        let _ascending = self.cache.services().len();
+        match self.index.recorders(address) {
+            None => false,
+            Some(keys) => self.serves_one(keys, address),
+        }
+    }
+
+    /// Whether a service of one of these keys is held, records the address and has a usable endpoint.
+    fn serves_one(&self, keys: &BTreeSet<Key>, address: &Address) -> bool
+        ensures { result ≡ list_any (λ key. passes (λ service. has_address service.holding.addresses address.now && has_usable self.now service)
+            (object_at key_cmp self.now.held.services key)) keys.now.keys }
+    {
+        keys.iter().any(|key| self.serves_at(key, address))
+    }
+
+    fn serves_at(&self, key: &Key, address: &Address) -> bool
+        ensures { result ≡ passes (λ service. has_address service.holding.addresses address.now && has_usable self.now service)
+            (object_at key_cmp self.now.held.services key.now) }
+    {
+        match self.cache.service(key) {
+            None => false,
+            Some(service) => records(service, address) && self.has_usable(service),
+        }
+    }
+
+    /// The policy Cluster asks for no node, so any text does as its name.
+    fn has_usable(&self, service: &Service) -> bool
+        ensures { result ≡ has_usable self.now service.now }
+    {
+        self.index.serves(
+            &self.cache,
+            &service.key,
+            Policy::Cluster,
+            &service.key.name,
+        )
     }
 
     /// Whether a service of one of these keys is held, records the address and can be announced from the node.

@@ -1,6 +1,7 @@
-use Rattle.std.proofs.Common.{sym, ◌∙◌}
-use Rattle.l2_elect.proofs.Unrecorded.{unrecorded-none}
+use Rattle.std.proofs.Common.{sym}
+use Rattle.l2_elect.proofs.Unrecorded.{unannounced-none}
 use Rattle.l2_elect.proofs.election.first.Goals as goal
 
-pub returns-then-not-is_recorded : goal.returns-then-not-is_recorded
-returns-then-not-is_recorded c = sym (unrecorded-none c.args.view.now c.args.address.now (sym c.is_recorded.ensures ∙ c.if-not-is_recorded.true))
+pub returns-then-not-is_served : goal.returns-then-not-is_served
+returns-then-not-is_served c =
+    sym (unannounced-none c.args.view.now c.args.address.now (λ node. c.is_served.ensures.nowhere node (sym (sym c.if-not-is_served.true))))

@@ -9,14 +9,14 @@ pub fn lines_tell_what_is_announced()
     ensures { LinesTellWhatIsAnnounced }
 {}
 
-/// At each line just the frames are sent that are meant of its event: of a received frame its answer, of others the unasked frames of what is
-/// announced with it.
+/// At each line just the frames are sent that are meant of its event: of a received frame its answer, of others the unasked frames
+/// of what is announced with it.
 pub fn all_send_what_is_meant()
     ensures { AllSendWhatIsMeant }
 {}
 
-/// After any lines that are taken, with a next hop, what a peer of the configuration in force was told since it came, or since its AS
-/// numbers last changed, makes its routes of the empty table.
+/// After any lines that are taken, with a next hop, what a peer of the configuration in force was told since it came, or since its
+/// AS numbers last changed, makes its routes of the empty table.
 pub fn peers_hear_their_routes()
     ensures { PeersHearTheirRoutes }
 {}

@@ -13,10 +13,11 @@ use mlb_edge::Sink;
 use speaker_words::speaker_words;
 use std::alloc::Global;
 
-/// The work of the program on one stream, where the words name no lane files: each line of the input is an event. What comes of it is written
-/// before the source is asked for more, which may be one that gives the next line only once it has seen what came of those before: the note of a
-/// configuration, a withdraw line for each address that isn't announced any more, an announce line for each that is from now on, with the unasked
-/// frames that are sent, the update lines of each BGP peer, and the frame that is sent in answer to one that was received.
+/// The work of the program on one stream, where the words name no lane files: each line of the input is an event. What comes of it
+/// is written before the source is asked for more, which may be one that gives the next line only once it has seen what came of
+/// those before: the note of a configuration, a withdraw line for each address that isn't announced any more, an announce line for
+/// each that is from now on, with the unasked frames that are sent, the update lines of each BGP peer, and the frame that is sent
+/// in answer to one that was received.
 pub fn stream_speaker<S: PacedSource<K>, K: Sink>(
     alloc: Global,
     words: &[String],

@@ -144,11 +144,20 @@ def selectors_of(kind, thing):
     return (spec.get("ipAddressPoolSelectors") or []) + (spec.get("nodeSelectors") or [])
 
 
-def read_community(text):
-    high, _, low = text.partition(":")
-    if all(part.isdigit() and str(int(part)) == part and int(part) < 65536 for part in (high, low)):
-        return int(high) * 65536 + int(low)
+def numbers_in(text, count, bits):
+    """So many numbers of so many bits with a colon between each two, or None."""
+    parts = text.split(":")
+    if len(parts) == count and all(part.isdigit() and str(int(part)) == part and int(part) < 1 << bits for part in parts):
+        return tuple(int(part) for part in parts)
     return None
+
+
+def read_community(text):
+    """The number of a community (RFC 1997), the three of a large one (RFC 8092), or None."""
+    if text.startswith("large:"):
+        return numbers_in(text.removeprefix("large:"), 3, 32)
+    numbers = numbers_in(text, 2, 16)
+    return numbers and numbers[0] * 65536 + numbers[1]
 
 
 def compiled(objects):
@@ -439,22 +448,25 @@ class Sight:
         return {address for service in self.services for address in record_of(service).addresses}
 
     def routes(self, node, peer):
-        """The IPv4 routes that the node tells the peer: by prefix the communities, and the preference where both are of one AS."""
+        """The routes that the node tells the peer: by prefix the version, the communities, the large ones, and the preference where both are of one AS."""
         found = {}
         if not selects_node(peer, self.labels(node)):
             return found
         inside = peer["spec"]["myASN"] == peer["spec"]["peerASN"]
         for address in self.addresses():
             pool = self.config.pool_of(address)
-            if address[0] != 4 or not pool or not self.announcing(address, node):
+            if not pool or not self.announcing(address, node):
                 continue
+            version, number = address
+            bits, name = (32, "aggregationLength") if version == 4 else (128, "aggregationLengthV6")
             for one in self.config.bgp:
                 spec = one["spec"]
                 if chooses(one, pool) and selects_node(one, self.labels(node)) and name_of(peer) in (spec.get("peers") or [name_of(peer)]):
-                    length = spec.get("aggregationLength", 32)
-                    prefix = f"{printed((4, address[1] >> (32 - length) << (32 - length)))}/{length}"
-                    told, preference = found.get(prefix, (set(), None))
-                    texts = [self.config.communities.get(text, text) for text in spec.get("communities") or []]
-                    told = told | {read_community(text) for text in texts}
-                    found[prefix] = told, max(preference or 0, spec.get("localPref", 0)) if inside else None
+                    length = spec.get(name, bits)
+                    prefix = f"{printed((version, number >> (bits - length) << (bits - length)))}/{length}"
+                    _, communities, large, preference = found.get(prefix, (version, set(), set(), None))
+                    told = {read_community(self.config.communities.get(text, text)) for text in spec.get("communities") or []}
+                    triples = {one for one in told if isinstance(one, tuple)}
+                    preference = max(preference or 0, spec.get("localPref", 0)) if inside else None
+                    found[prefix] = version, communities | told - triples, large | triples, preference
         return found

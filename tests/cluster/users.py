@@ -237,7 +237,7 @@ class Users:
         kind, name = self.random.choice([("L2Advertisement", "l0"), ("L2Advertisement", "l1"), ("BGPAdvertisement", "b0"), ("BGPAdvertisement", "b1")])
         if kind == "BGPAdvertisement":
             if self.flip(0.3):
-                spec["communities"] = self.random.sample(["65535:65281", "64512:1", "64512:2"], 2)
+                spec["communities"] = self.random.sample(["65535:65281", "64512:1", "large:64512:1:2"], 2)
             if self.flip(0.3):
                 spec["aggregationLength"] = self.random.choice([30, 31])
             if self.flip(0.3):

@@ -125,6 +125,9 @@ def message(kind, body):
     return b"\xff" * 16 + struct.pack(">HB", 19 + len(body), kind) + body
 
 
+ROUTES = b"\1\4\0\1\0\1\1\4\0\2\0\1"  # the capabilities of routes of IPv4 and of IPv6 (RFC 4760, section 8)
+
+
 class Router:
     """A BGP peer (RFC 4271) that listens, and keeps what each node's session says, by the identifier of its OPEN. `number` tells its AS number."""
 
@@ -149,8 +152,9 @@ class Router:
                 body = stream.read(struct.unpack(">H", head[16:18])[0] - 19)
                 if head[18] == 1:
                     node = socket.inet_ntoa(body[5:9])
-                    capability = b"\x02\x06\x41\x04" + struct.pack(">I", self.number())
-                    connection.sendall(message(1, struct.pack(">BHH4sB", 4, 23456, 0, b"\x7f\0\0\1", len(capability)) + capability) + message(4, b""))
+                    capabilities = ROUTES + b"\x41\x04" + struct.pack(">I", self.number())
+                    options = struct.pack(">BB", 2, len(capabilities)) + capabilities
+                    connection.sendall(message(1, struct.pack(">BHH4sB", 4, 23456, 0, b"\x7f\0\0\1", len(options)) + options) + message(4, b""))
                     with self.lock:
                         self.sessions.setdefault(node, []).append(messages)
                 elif head[18] == 2:

@@ -4,6 +4,7 @@ import time
 from kinds import BY_NAME
 from rules import Sight, compiled, name_of, printed, selects_node
 from wire import answer, question, unasked
+from route_readers import route  # by the path that wire adds
 
 CONFIG = ("IPAddressPool", "L2Advertisement", "BGPAdvertisement", "BGPPeer", "Community")
 LAST_ASKED = (4, 0xC6120001)  # an address that no pool has
@@ -95,19 +96,19 @@ class WireJudge:
     def wrong_routes(self):
         lines, sight = [], self.seen
         for peer in sight.config.peers:
-            for node, (hop, _) in self.nodes().items():
-                tables = self.routers[name_of(peer)].tables(hop)
+            for node, (hops, _) in self.nodes().items():
+                tables = self.routers[name_of(peer)].tables(hops[4])
                 if not selects_node(peer, sight.labels(node)):
                     lines += [f"SESSION {node} with {name_of(peer)}, which doesn't select it"] if tables else []
                     continue
-                wanted = self.table(sight, node, hop, peer)
+                wanted = self.table(sight, node, hops, peer)
                 if tables != [wanted]:
                     lines.append(f"ROUTES {node} to {name_of(peer)}: {tables}, and they must be {wanted}")
         return lines
 
     @staticmethod
-    def table(sight, node, hop, peer):
+    def table(sight, node, hops, peer):
         inside = peer["spec"]["myASN"] == peer["spec"]["peerASN"]
         path = [] if inside else [peer["spec"]["myASN"]]
-        return {prefix: {"next hop": hop, "path": path, "preference": preference, "communities": sorted(communities)}
-                for prefix, (communities, preference) in sight.routes(node, peer).items()}
+        return {prefix: route(hops[version], path, preference, communities, large)
+                for prefix, (version, communities, large, preference) in sight.routes(node, peer).items()}

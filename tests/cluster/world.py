@@ -296,11 +296,17 @@ class SpeakerWorld(World):
         return {f"eth{at}": bytes.fromhex(f"02000000{at:02}0{node[1:]}") for at in range(2)}
 
     def running(self):
-        """The nodes with a speaker: each with its next hop, and the hardware addresses of its interfaces."""
-        return {node: (f"10.0.0.{node[1:]}", self.hardware(node)) for node in self.speakers}
+        """The nodes with a speaker: each with its next hops, and the hardware addresses of its interfaces."""
+        return {node: (self.hops(node), self.hardware(node)) for node in self.speakers}
+
+    @staticmethod
+    def hops(node):
+        """By the version of the routes."""
+        return {4: f"10.0.0.{node[1:]}", 6: f"fd00::{node[1:]}"}
 
     def start_speaker(self, node):
-        words = ["--node-name", node, "--next-hop", f"10.0.0.{node[1:]}", "--lease-seconds", str(self.lease), "--bgp-retry", "0.2"]
+        hops = self.hops(node)
+        words = ["--node-name", node, "--next-hop", hops[4], "--next-hop-v6", hops[6], "--lease-seconds", str(self.lease), "--bgp-retry", "0.2"]
         for name, hardware in self.hardware(node).items():
             words += ["--interface", f"{name}={hardware.hex(':')}", "--link", f"{name}={self.folder.name}"]
         words = ["speaker", "--server", self.server.url, "--program", self.speaker, *words]

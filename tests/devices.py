@@ -152,6 +152,13 @@ def open_file(ran, name):
     return None
 
 
+def await_open(ran, names):
+    """Waits until the program has opened each of the files or has ended, but not for ever: a pipe that we closed before would wait for us."""
+    until = time.monotonic() + PATIENCE
+    while ran.poll() is None and time.monotonic() < until and any(open_file(ran, f"/{name}") is None for name in names):
+        os.sched_yield()
+
+
 def terminal_of(ran):
     """The terminal whose other side the program has opened as /dev/ptmx: the program reads what is written to it, and once it is closed reading fails.
     Of what a path leads to hardly anything else can be read for a while and then fails."""
@@ -229,6 +236,7 @@ def run_device(command, row, folder):
     with output_to(kind, folder / "output") as out, subprocess.Popen(command, cwd=folder, stdin=theirs, stdout=out, stderr=subprocess.PIPE, **limit) as ran:
         theirs.close()
         try:
+            await_open(ran, lanes)
             if breaks in files:
                 lanes[breaks] = terminal_of(ran)
             if lanes:

@@ -9,15 +9,15 @@ use Rattle.kube_model.specs.declared.record.Record.{Record}
 use Rattle.mlb_base.proofs.Among.{contains-none, contains-cons, contains-first, any-contains, any-found}
 use Rattle.alloc_book.specs.declared.choice.Loss.{Loss}
 use Rattle.alloc_book.specs.declared.choice.Loss.TheVariants.{Lost}
-use Rattle.alloc_book.specs.Book.{AreAssigned, HasLost, loss_of}
+use Rattle.claim_index.specs.Claims.{AreAssigned, ClaimValue, others, claim_of, settled, claims_it, doubted, loses, has_claims, claims_of, holders, is_under}
+use Rattle.alloc_book.specs.Book.{HasLost, loss_of}
 use Rattle.sharing_terms.specs.declared.terms.Terms.{Terms}
-use Rattle.alloc_book.specs.Claims.{ClaimValue, others, claim_of, settled, claims_it, doubted, loses, has_claims, claims_of, holders, is_under}
 use Rattle.kube_model.specs.Records.{is_assigned}
 use Rattle.alloc_book.specs.Granted.{HaveMore}
 use Rattle.kube_model.specs.Keys.{same_key}
 use Rattle.pool_choice.proofs.Filters.{filter-contains, filter-keeps}
-use Rattle.alloc_book.proofs.TermLaws.{made, under-made, under-is}
-use Rattle.alloc_book.proofs.UsableLaws.{claim-of, record-of}
+use Rattle.claim_index.proofs.TermLaws.{made, under-made, under-is}
+use Rattle.claim_index.proofs.ClaimLaws.{claim-of, record-of}
 
 claim_by : (b : Bool) (key : Key) (r : Record) (t : Terms) (c : ClaimValue) → b ≡ is_assigned r → Contains (cond b (made key r t ∷ []) []) c → (c ≡ made key r t) × (is_assigned r ≡ true)
 claim_by true key r t c s there = (⊎_elim (λ same. sym same) (λ none. absurd (contains-none c none)) (contains-cons (made key r t) [] c there), sym s)

@@ -16,8 +16,8 @@ use Rattle.kube_model.proofs.KeyLaws.{same_key-is, same_key-itself}
 use Rattle.mlb_base.proofs.Among.{contains-none, contains-cons, contains-first, contains-later}
 use Rattle.pool_choice.proofs.Filters.{filter-contains, filter-keeps}
 use Rattle.sharing_terms.specs.declared.terms.Terms.{Terms}
-use Rattle.alloc_book.specs.Claims.{ClaimValue, others, settled}
-use Rattle.alloc_book.specs.Index.{numbers_of, first_but, first_other}
+use Rattle.claim_index.specs.Claims.{ClaimValue, others, settled}
+use Rattle.claim_index.specs.Index.{numbers_of, first_but, first_other}
 
 -- ---- filters and searches along a list
 module _ {X : Type 0} where

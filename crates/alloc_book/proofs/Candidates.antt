@@ -25,17 +25,20 @@ use Rattle.pool_config.specs.declared.compiled.CompiledPool.{CompiledPool}
 use Rattle.sharing_terms.specs.declared.terms.Terms.{Terms}
 use Rattle.sharing_terms.specs.Sharing.{has_port, is_alike, may_share}
 use Rattle.sharing_terms.proofs.SharingLaws.{may_share-is}
-use Rattle.alloc_book.specs.declared.slot.Slot.TheVariants.{OfPort}
-use Rattle.alloc_book.specs.Claims.{ClaimValue}
-use Rattle.alloc_book.specs.Groups.{group_of, is_grouped}
-use Rattle.alloc_book.specs.Index.{numbers_of, is_held, is_own, is_shared, is_offered, is_taken, is_barred, is_free, Covers, NoneShared, AreBarred}
-use Rattle.alloc_book.specs.Search.{leaves, usable, address_of, numbered, least_between}
+use Rattle.claim_index.specs.declared.slot.Slot.TheVariants.{OfPort}
+use Rattle.claim_index.specs.Claims.{ClaimValue}
+use Rattle.claim_index.specs.Groups.{group_of, is_grouped}
+use Rattle.claim_index.specs.Index.{numbers_of, is_shared, is_taken, NoneShared}
+use Rattle.alloc_book.specs.Candidates.{is_held, is_own, is_offered, is_barred, is_free, Covers, AreBarred}
+use Rattle.claim_index.specs.Reading.{leaves}
+use Rattle.alloc_book.specs.Search.{usable, numbered, least_between}
+use Rattle.claim_index.specs.Holders.{address_of}
 use Rattle.alloc_book.specs.Usable.{is_in}
-use Rattle.alloc_book.specs.Slots.{occupies}
+use Rattle.claim_index.specs.Slots.{occupies}
 use Rattle.alloc_book.proofs.LeastLaws.{numbered-is}
-use Rattle.alloc_book.proofs.TermLaws.{backend-same}
-use Rattle.alloc_book.proofs.IndexReading.{found-of}
-use Rattle.alloc_book.proofs.GroupLaws.{group-same, yields-left}
+use Rattle.claim_index.proofs.TermLaws.{backend-same}
+use Rattle.claim_index.proofs.IndexReading.{found-of}
+use Rattle.claim_index.proofs.GroupLaws.{group-same, yields-left}
 
 -- the least number is the only one
 

@@ -23,7 +23,7 @@ use Rattle.alloc_book.specs.Asking.{Asker, Offer, asker_of, asked_in, is_asked, 
 use Rattle.mlb_base.specs.Cases.{IsFirst, NoneIs}
 use Rattle.alloc_book.specs.Choose.{addresses_of, wanted_of, one_of_each, fits_option, is_open, all_usable, same_addresses, is_kept, is_home, kept_in, home_of, is_refused, is_unusable, kept_from, asked_from, choose_for, choose}
 use Rattle.alloc_book.specs.Chosen.{named, asked_pools, Gives, IsChosenFor, IsChosen}
-use Rattle.alloc_book.specs.Claims.{ClaimValue, Holders, holders}
+use Rattle.claim_index.specs.Claims.{ClaimValue, Holders, holders}
 use Rattle.alloc_book.specs.First.{record_in, IsOneOfEach, FitsOption, IsOpen, AllUsable, AreSame, IsKept, IsHome}
 use Rattle.alloc_book.specs.Search.{usable}
 use Rattle.mlb_base.specs.Items.{Has, is_nil}

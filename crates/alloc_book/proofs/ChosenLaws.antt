@@ -12,7 +12,7 @@ use Rattle.alloc_book.specs.declared.choice.Choice.{Choice}
 use Rattle.alloc_book.specs.declared.choice.Choice.TheVariants.{Foreign, Clear, Pending, Keep, New}
 use Rattle.pool_config.specs.declared.compiled.CompiledPool.{CompiledPool}
 use Rattle.alloc_book.specs.Asking.{Asker, Offer, asked_in}
-use Rattle.alloc_book.specs.Claims.{Holders}
+use Rattle.claim_index.specs.Claims.{Holders}
 use Rattle.mlb_base.specs.Cases.{IsFirst}
 use Rattle.alloc_book.specs.Chosen.{named, asked_pools, Gives, IsChosenFor}
 use Rattle.alloc_book.specs.First.{HasEach, SomeHasEach, IsLeastOfEach, record_in, IsNew, AllUsable, IsKept, IsHome}

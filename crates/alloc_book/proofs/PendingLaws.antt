@@ -11,7 +11,7 @@ use Rattle.alloc_book.specs.declared.choice.Choice.{Choice}
 use Rattle.alloc_book.specs.declared.choice.Choice.TheVariants.{Pending, New}
 use Rattle.pool_config.specs.declared.compiled.CompiledPool.{CompiledPool}
 use Rattle.alloc_book.specs.Asking.{Asker, Offer, asked_in}
-use Rattle.alloc_book.specs.Claims.{Holders}
+use Rattle.claim_index.specs.Claims.{Holders}
 use Rattle.mlb_base.specs.Cases.{Case, IsFirst, NoneIs}
 use Rattle.alloc_book.specs.Chosen.{asked_pools, AsksAddresses, Gives, IsChosenFor, IsChosen}
 use Rattle.mlb_base.specs.Items.{Has}

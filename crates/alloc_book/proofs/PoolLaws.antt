@@ -12,8 +12,9 @@ use Rattle.pool_config.specs.PoolOf.{HasAddress}
 use Rattle.pool_config.proofs.OnePool.{address-Decides}
 use Rattle.alloc_book.specs.Asking.{Asker, Offer, asked_in}
 use Rattle.alloc_book.specs.Choose.{is_kept, is_home, is_open, fits_option, all_usable}
-use Rattle.alloc_book.specs.Claims.{ClaimValue}
-use Rattle.alloc_book.specs.Search.{usable, leaves}
+use Rattle.claim_index.specs.Claims.{ClaimValue}
+use Rattle.alloc_book.specs.Search.{usable}
+use Rattle.claim_index.specs.Reading.{leaves}
 use Rattle.alloc_book.specs.Usable.{is_in}
 
 -- ---- the only one that passes

@@ -9,7 +9,7 @@ use Rattle.pool_config.specs.declared.compiled.CompiledPool.{CompiledPool}
 use Rattle.alloc_book.specs.Asking.{Asker}
 use Rattle.alloc_book.specs.Chosen.{Gives}
 use Rattle.alloc_book.specs.Choose.{new_or}
-use Rattle.alloc_book.specs.Claims.{ClaimValue, holders}
+use Rattle.claim_index.specs.Claims.{ClaimValue, holders}
 use Rattle.mlb_base.specs.Cases.{IsFirst, NoneIs}
 use Rattle.mlb_base.specs.Items.{Has}
 use Rattle.alloc_book.specs.First.{HasEach, SomeHasEach, IsLeastOfEach, record_in}

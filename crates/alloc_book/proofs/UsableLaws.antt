@@ -1,5 +1,5 @@
 -- The tests of usable addresses are their relation.
-use Rattle.std.proofs.Common.{◌≡◌, ◌≢◌, Bool, true, false, cond, not, ◌&&◌, ◌||◌, List, [], ◌∷◌, refl, sym, ap, ◌∙◌, subst, ⊎_elim}
+use Rattle.std.proofs.Common.{◌≡◌, ◌≢◌, Bool, true, false, not, ◌&&◌, ◌||◌, List, refl, sym, ◌∙◌, ⊎_elim}
 use Rattle.std.proofs.lemmas.Bool.{and_parts, and_from, or_cases, not-true, true≢false}
 use Rattle.std.specs.List.{Contains, list_all}
 use Rattle.ip_ranges.specs.Values.{AddressValue, is_buggy, has_address}
@@ -8,12 +8,14 @@ use Rattle.kube_model.proofs.KeyLaws.{same_key-is, same_key-by}
 use Rattle.kube_model.specs.declared.key.Key.{Key}
 use Rattle.sharing_terms.specs.declared.terms.Terms.{Terms}
 use Rattle.sharing_terms.specs.Sharing.{MayShare, may_share}
-use Rattle.mlb_base.proofs.Among.{contains-none, contains-cons, contains-first, contains-later, all-contains, all-from}
+use Rattle.mlb_base.proofs.Among.{all-contains, all-from}
 use Rattle.sharing_terms.proofs.SharingLaws.{may_share-is, may_share-from}
 use Rattle.pool_config.specs.declared.compiled.CompiledPool.{CompiledPool}
-use Rattle.alloc_book.specs.Claims.{ClaimValue, claims_of, holders}
+use Rattle.claim_index.specs.Claims.{ClaimValue, holders}
 use Rattle.kube_model.specs.Keys.{same_key}
-use Rattle.alloc_book.specs.Search.{leaves, usable}
+use Rattle.claim_index.specs.Reading.{leaves}
+use Rattle.claim_index.proofs.ClaimLaws.{claim-of, record-of}
+use Rattle.alloc_book.specs.Search.{usable}
 use Rattle.alloc_book.specs.Usable.{IsLeftTo, IsUsable, is_in}
 
 -- a claim of another key leaves the address where it may share, or the claim hasn't it
@@ -28,37 +30,6 @@ left_by key terms a c e apart there =
     (or_cases own free first))
     (λ shared. may_share-is terms c.terms shared)
     (or_cases (own || free) (may_share terms c.terms) e)
-
--- a claim of a key, by the claims, is one of them, and of the key
-abbrev pub IsClaimOf : List ClaimValue → Key → ClaimValue → Type 0
-IsClaimOf claims key c = Contains claims c × (c.key ≡ key)
-
-claim_by : (b : Bool) (d : ClaimValue) (claims : List ClaimValue) (key : Key) (c : ClaimValue) → b ≡ same_key d.key key → (Contains (claims_of key claims) c → IsClaimOf claims key c)
-    → Contains (cond b (d ∷ claims_of key claims) (claims_of key claims)) c → IsClaimOf (d ∷ claims) key c
-claim_by true d claims key c s ih there =
-    ⊎_elim
-    (λ same. (subst (Contains (d ∷ claims)) same (contains-first d claims), ap (λ (x : ClaimValue). x.key) (sym same) ∙ same_key-is d.key key (sym s)))
-    (λ more. let found = ih more in (contains-later d claims c found.0, found.1))
-    (contains-cons d (claims_of key claims) c there)
-claim_by false d claims key c s ih there = let found = ih there in (contains-later d claims c found.0, found.1)
-
-pub claim-of : (claims : List ClaimValue) (key : Key) (c : ClaimValue) → Contains (claims_of key claims) c → IsClaimOf claims key c
-claim-of [] key c found = absurd (contains-none c found)
-claim-of (d ∷ claims) key c found = claim_by (same_key d.key key) d claims key c refl (claim-of claims key c) found
-
--- and the other way round
-pub record-of : (claims : List ClaimValue) (c : ClaimValue) → Contains claims c → Contains (claims_of c.key claims) c
-record-of [] c found = absurd (contains-none c found)
-record-of (d ∷ claims) c found =
-    ⊎_elim (λ same. by_same (same_key d.key c.key) refl same) (λ more. by_more (same_key d.key c.key) (record-of claims c more)) (contains-cons d claims c found)
-  where
-    by_same : (b : Bool) → b ≡ same_key d.key c.key → d ≡ c → Contains (cond b (d ∷ claims_of c.key claims) (claims_of c.key claims)) c
-    by_same true s same = subst (λ r. Contains (d ∷ claims_of c.key claims) r) same (contains-first d (claims_of c.key claims))
-    by_same false s same = absurd (true≢false (sym (same_key-by d.key c.key (ap (λ (x : ClaimValue). x.key) same)) ∙ sym s))
-
-    by_more : (b : Bool) → Contains (claims_of c.key claims) c → Contains (cond b (d ∷ claims_of c.key claims) (claims_of c.key claims)) c
-    by_more true there = contains-later d (claims_of c.key claims) c there
-    by_more false there = there
 
 pub left-is : (claims : List ClaimValue) (key : Key) (terms : Terms) (a : AddressValue) → list_all (leaves key terms a) claims ≡ true → IsLeftTo (holders claims) key terms a
 left-is claims key terms a e other apart c there has =

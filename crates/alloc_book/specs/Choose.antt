@@ -15,7 +15,7 @@ use Rattle.alloc_book.specs.declared.choice.Choice.TheVariants.{Foreign, Clear, 
 use Rattle.pool_config.specs.declared.compiled.CompiledPool.{CompiledPool}
 use Rattle.alloc_book.specs.Asking.{Asker, Offer, asker_of, asked_in, is_asked, is_unreadable, is_given}
 use Rattle.alloc_book.specs.Chosen.{named, asked_pools}
-use Rattle.alloc_book.specs.Claims.{ClaimValue}
+use Rattle.claim_index.specs.Claims.{ClaimValue}
 use Rattle.alloc_book.specs.First.{record_in}
 use Rattle.alloc_book.specs.Search.{usable, first_option}
 use Rattle.mlb_base.specs.Items.{is_nil}

@@ -2,7 +2,7 @@
 use Rattle.std.specs.Prelude.{List}
 use Rattle.alloc_book.specs.declared.choosing.Choosing.{Choosing}
 use Rattle.alloc_book.specs.Asking.{Asker, Offer, asking, offer_of}
-use Rattle.alloc_book.specs.Claims.{ClaimValue}
+use Rattle.claim_index.specs.Claims.{ClaimValue}
 
 abbrev pub claims_in : Choosing → List ClaimValue
 claims_in c = c.book.now.claims

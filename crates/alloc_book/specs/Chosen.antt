@@ -11,7 +11,7 @@ use Rattle.alloc_book.specs.declared.choice.Choice.{Choice}
 use Rattle.alloc_book.specs.declared.choice.Choice.TheVariants.{Foreign, Clear, Pending, Keep, New}
 use Rattle.pool_config.specs.declared.compiled.CompiledPool.{CompiledPool}
 use Rattle.alloc_book.specs.Asking.{Asker, Offer, asker_of, asked_in, is_asked}
-use Rattle.alloc_book.specs.Claims.{Holders}
+use Rattle.claim_index.specs.Claims.{Holders}
 use Rattle.mlb_base.specs.Cases.{Case, IsFirst, NoneIs}
 use Rattle.alloc_book.specs.First.{IsNew, AreFull, FitsOption, AllUsable, IsKept, IsHome, record_in}
 

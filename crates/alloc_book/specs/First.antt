@@ -7,7 +7,7 @@ use Rattle.kube_model.specs.declared.record.Record.{Record}
 use Rattle.sharing_terms.specs.Marks.{mark_of}
 use Rattle.pool_config.specs.declared.compiled.CompiledPool.{CompiledPool}
 use Rattle.alloc_book.specs.Asking.{Asker, Offer, asked_in, is_asked}
-use Rattle.alloc_book.specs.Claims.{Holders}
+use Rattle.claim_index.specs.Claims.{Holders}
 use Rattle.alloc_book.specs.Usable.{IsUsable, IsUsableOf, is_in}
 use Rattle.mlb_base.specs.Cases.{IsFirst, NoneIs}
 use Rattle.mlb_base.specs.Items.{Has}

@@ -12,9 +12,9 @@ use Rattle.alloc_book.specs.declared.choice.Choice.{Choice}
 use Rattle.alloc_book.specs.declared.choice.Choice.TheVariants.{Pending}
 use Rattle.pool_config.specs.declared.compiled.CompiledPool.{CompiledPool}
 use Rattle.alloc_book.specs.Asking.{Offer, asker_of}
-use Rattle.alloc_book.specs.Book.{AreAssigned, HasLost}
+use Rattle.claim_index.specs.Claims.{AreAssigned, ClaimValue, claims_of, holders, others, settled, doubted, claim_of, added, terms_under, Holders}
+use Rattle.alloc_book.specs.Book.{HasLost}
 use Rattle.alloc_book.specs.Chosen.{IsChosen}
-use Rattle.alloc_book.specs.Claims.{ClaimValue, claims_of, holders, others, settled, doubted, claim_of, added, terms_under, Holders}
 use Rattle.kube_model.specs.Keys.{same_key}
 use Rattle.alloc_book.specs.Granted.{IsGranted, IsFor, IsTighter, HaveMore}
 use Rattle.alloc_book.specs.Least.{IsLeast}

@@ -1,23 +1,19 @@
 -- Usable addresses as tests over a list of claims, and the least of them by a search.
-use Rattle.std.specs.Prelude.{ℕ, ◌+◌, ◌-◌, suc, zero, Bool, ◌&&◌, ◌||◌, not, if◌then◌else◌, List, [], ◌∷◌, Option, Some, None}
+use Rattle.std.specs.Prelude.{ℕ, ◌+◌, ◌-◌, suc, zero, Bool, ◌&&◌, not, if◌then◌else◌, List, [], ◌∷◌, Option, Some, None}
 use Rattle.std.specs.Option.{option_map}
 use Rattle.std.specs.List.{list_all}
 use Rattle.ip_ranges.specs.declared.family.Family.{Family}
-use Rattle.ip_ranges.specs.Values.{AddressValue, SpanValue, same_family, has_address, is_buggy}
+use Rattle.ip_ranges.specs.Values.{AddressValue, SpanValue, same_family, is_buggy}
 use Rattle.kube_model.specs.declared.key.Key.{Key}
 use Rattle.kube_model.specs.declared.record.Record.{Record}
 use Rattle.sharing_terms.specs.declared.terms.Terms.{Terms}
-use Rattle.sharing_terms.specs.Sharing.{may_share}
 use Rattle.pool_config.specs.declared.compiled.CompiledPool.{CompiledPool}
 use Rattle.alloc_book.specs.Asking.{Asker}
-use Rattle.alloc_book.specs.Claims.{ClaimValue}
+use Rattle.claim_index.specs.Claims.{ClaimValue}
+use Rattle.claim_index.specs.Holders.{address_of}
+use Rattle.claim_index.specs.Reading.{leaves}
 use Rattle.alloc_book.specs.First.{record_in}
-use Rattle.kube_model.specs.Keys.{same_key}
 use Rattle.alloc_book.specs.Usable.{is_in}
-
--- the claim leaves the address to a service of this key and these terms
-abbrev pub leaves : Key → Terms → AddressValue → ClaimValue → Bool
-leaves key terms a c = same_key c.key key || not (has_address c.holding.addresses a) || may_share terms c.terms
 
 abbrev pub usable : List ClaimValue → Key → Terms → CompiledPool → AddressValue → Bool
 usable claims key terms pool a = is_in pool a && not (pool.avoid_buggy && is_buggy a) && list_all (leaves key terms a) claims
@@ -30,10 +26,6 @@ least_between test low (suc count) = if test low then Some low else least_betwee
 abbrev pub or_else : {X : Type 0} → Option X → Option X → Option X
 or_else (Some x) other = Some x
 or_else None other = other
-
--- the address of the family with this number
-abbrev pub address_of : Family → ℕ → AddressValue
-address_of family n = record { family = family; number = n }
 
 -- the test of an address, by its number
 abbrev pub numbered : (AddressValue → Bool) → Family → ℕ → Bool

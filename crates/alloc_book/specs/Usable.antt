@@ -7,7 +7,7 @@ use Rattle.kube_model.specs.declared.key.Key.{Key}
 use Rattle.sharing_terms.specs.declared.terms.Terms.{Terms}
 use Rattle.sharing_terms.specs.Sharing.{MayShare}
 use Rattle.pool_config.specs.declared.compiled.CompiledPool.{CompiledPool}
-use Rattle.alloc_book.specs.Claims.{ClaimValue, Holders}
+use Rattle.claim_index.specs.Claims.{ClaimValue, Holders}
 
 -- whoever else has the address has it under terms that may share it
 abbrev pub IsLeftTo : Holders → Key → Terms → AddressValue → Type 0

@@ -4,7 +4,7 @@ ghost use Rattle.sharing_terms.specs.Marked.{AreTerms};
 ghost use Rattle.sharing_terms.specs.Marks.{mark_of};
 ghost use Rattle.sharing_terms.specs.Terms.{terms_of};
 
-use crate::grouped::GroupedTerms;
+use claim_index::GroupedTerms;
 use kube_labels::Text;
 use kube_model::Service;
 use mlb_base::NoMemory;

@@ -10,7 +10,8 @@ ghost use Rattle.alloc_book.specs.Usable.{is_in};
 
 use crate::booking::Book;
 use crate::marked::MarkedTerms;
-use crate::search::{has_address, is_in, may_use};
+use crate::search::{is_in, may_use};
+use claim_index::has_address;
 use ip_ranges::{Address, Family};
 use kube_labels::{Labels, Text};
 use kube_model::{Service, Wanted};

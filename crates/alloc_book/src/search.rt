@@ -7,31 +7,24 @@ ghost use Rattle.ip_ranges.specs.Values.{AddressValue, has_address, is_buggy, sa
 ghost use Rattle.sharing_terms.specs.declared.terms.Terms.{Terms};
 ghost use Rattle.sharing_terms.specs.Marks.{mark_of};
 ghost use Rattle.alloc_book.specs.Asking.{asking};
-ghost use Rattle.alloc_book.specs.Groups.{group_of};
-ghost use Rattle.alloc_book.specs.Index.{is_own, is_offered, is_free, AreBarred, Covers};
+ghost use Rattle.claim_index.specs.Groups.{group_of};
+ghost use Rattle.alloc_book.specs.Candidates.{is_own, is_offered, is_free, AreBarred, Covers};
 ghost use Rattle.number_sets.specs.Least.{IsLeastIn, NonePasses};
-ghost use Rattle.alloc_book.specs.Search.{usable, address_of, numbered, least_between, least_in, least_usable, least_each, first_pool, first_of, first_option};
-ghost use Rattle.alloc_book.specs.Claims.{holders};
+ghost use Rattle.alloc_book.specs.Search.{usable, numbered, least_between, least_in, least_usable, least_each, first_pool, first_of, first_option};
+ghost use Rattle.claim_index.specs.Holders.{address_of};
+ghost use Rattle.claim_index.specs.Claims.{holders};
 ghost use Rattle.alloc_book.specs.Least.{IsLeast};
 ghost use Rattle.alloc_book.specs.Usable.{is_in, IsUsable, IsUsableOf};
 
 use crate::booking::Book;
-use crate::grouped::GroupedTerms;
-use crate::index::ClaimIndex;
 use crate::marked::MarkedTerms;
 use crate::requests::alone_of;
-use crate::slot::Slot;
+use claim_index::{ClaimIndex, GroupedTerms, Slot};
 use ip_ranges::{Address, AddressList, Family, Span, is_buggy};
 use kube_model::{Key, Port, Record, Service};
 use mlb_base::{NoMemory, TryCopy};
 use pool_config::CompiledPool;
 use std::alloc::Global;
-
-pub(crate) fn has_address(addresses: &[Address], address: &Address) -> bool
-    ensures { result ≡ has_address addresses.now address.now }
-{
-    addresses.iter().any(|a| *address == *a)
-}
 
 pub(crate) fn is_in(pool: &CompiledPool, address: &Address) -> bool
     ensures { result ≡ is_in pool.now address.now }

@@ -10,7 +10,7 @@ use Rattle.object_history.specs.Kinds.{service_resource}
 use Rattle.object_history.specs.LookBack.{IsLastShown}
 use Rattle.alloc_book.specs.declared.choice.Choice.TheVariants.{Pending}
 use Rattle.alloc_book.specs.Asking.{Offer, asker_of}
-use Rattle.alloc_book.specs.Claims.{Holders}
+use Rattle.claim_index.specs.Claims.{Holders}
 use Rattle.alloc_book.specs.Chosen.{IsChosen}
 use Rattle.core_rules.specs.Run.{Entry, observed, claims_shown}
 use Rattle.core_laws.specs.Puts.{IsReadyBy}

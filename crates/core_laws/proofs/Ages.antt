@@ -6,8 +6,8 @@ use Rattle.mlb_base.proofs.Among.{any-contains, any-found}
 use Rattle.kube_model.specs.declared.key.Key.{Key}
 use Rattle.kube_model.specs.Keys.{same_key}
 use Rattle.kube_model.proofs.KeyLaws.{same_key-itself}
-use Rattle.alloc_book.specs.Claims.{ClaimValue, is_under}
-use Rattle.alloc_book.proofs.TermLaws.{under-is, under-made}
+use Rattle.claim_index.specs.Claims.{ClaimValue, is_under}
+use Rattle.claim_index.proofs.TermLaws.{under-is, under-made}
 use Rattle.core_rules.specs.Run.{Entry}
 use Rattle.core_laws.specs.Shared.{may_have, same_claim, has_claim, age_of, is_event, was_shown}
 

@@ -11,8 +11,7 @@ use Rattle.kube_model.specs.declared.reply.PutReply.TheVariants.{Ok as StoredRep
 use Rattle.versioned_map.specs.Entries.{is_newer}
 use Rattle.kube_model.specs.Keys.{key_cmp}
 use Rattle.mlb_base.proofs.Among.{contains-none}
-use Rattle.alloc_book.specs.Book.{AreAssigned}
-use Rattle.alloc_book.specs.Claims.{ClaimValue, settled, others, claim_of, claims_it}
+use Rattle.claim_index.specs.Claims.{AreAssigned, ClaimValue, settled, others, claim_of, claims_it}
 use Rattle.alloc_book.proofs.BookLaws.{assigned-others, assigned-added}
 use Rattle.pool_choice.proofs.Filters.{filter-contains}
 use Rattle.core_rules.specs.Core.{State, shown_terms}

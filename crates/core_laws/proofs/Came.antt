@@ -12,7 +12,7 @@ use Rattle.kube_model.specs.declared.reply.PutReply.TheVariants.{Ok as StoredRep
 use Rattle.kube_model.specs.Keys.{same_key}
 use Rattle.kube_model.proofs.KeyLaws.{same_key-is}
 use Rattle.sharing_terms.specs.declared.terms.Terms.{Terms}
-use Rattle.alloc_book.specs.Claims.{ClaimValue, is_under, claim_of, terms_under, added}
+use Rattle.claim_index.specs.Claims.{ClaimValue, is_under, claim_of, terms_under, added}
 use Rattle.alloc_book.proofs.BookLaws.{claim_of-is}
 use Rattle.core_rules.specs.declared.turn.Turn.{Turn}
 use Rattle.core_rules.specs.declared.turn.Turn.TheVariants.{Idle, NoPut, Wants}

@@ -28,9 +28,9 @@ use Rattle.object_history.specs.Kinds.{service_resource}
 use Rattle.object_history.specs.LookBack.{written_over}
 use Rattle.object_history.specs.Observations.{same_group}
 use Rattle.object_history.proofs.Held.{amended_seen}
-use Rattle.alloc_book.specs.Claims.{ClaimValue, is_under, terms_under, claims_of, claim_of, settled, added}
+use Rattle.claim_index.specs.Claims.{ClaimValue, is_under, terms_under, claims_of, claim_of, settled, added}
 use Rattle.alloc_book.proofs.BookLaws.{claim_of-stands}
-use Rattle.alloc_book.proofs.ClaimLaws.{claims_of-settled, claims_of-doubted, claims_of-others}
+use Rattle.claim_index.proofs.ClaimLaws.{claims_of-settled, claims_of-doubted, claims_of-others}
 use Rattle.core_rules.specs.Core.{State, no_terms, terms_in, shown_terms}
 use Rattle.core_rules.specs.Take.{core_by, core_take, core_expired, is_unlisted}
 use Rattle.core_rules.specs.Replied.{put_terms, replied_to}

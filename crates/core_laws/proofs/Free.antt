@@ -10,7 +10,7 @@ use Rattle.kube_model.specs.declared.reply.PutReply.TheVariants.{Ok as StoredRep
 use Rattle.kube_model.specs.declared.service.Service.{Service}
 use Rattle.object_history.specs.Observations.{Observation, WatchExpired}
 use Rattle.object_history.specs.Cache.{cached, cached_after}
-use Rattle.alloc_book.specs.Claims.{loses}
+use Rattle.claim_index.specs.Claims.{loses}
 use Rattle.kube_model.specs.Records.{same_record}
 use Rattle.kube_model.specs.Keys.{same_key, has_key}
 use Rattle.kube_model.proofs.KeyLaws.{same_key-is, same_key-itself}

@@ -20,7 +20,7 @@ use Rattle.object_history.proofs.Held.{ascending-held_after}
 use Rattle.object_cache.specs.Change.{applied}
 use Rattle.object_cache.specs.Told.{passing}
 use Rattle.kube_model.specs.Records.{is_assigned}
-use Rattle.alloc_book.specs.Claims.{loses, has_claims}
+use Rattle.claim_index.specs.Claims.{loses, has_claims}
 use Rattle.core_rules.specs.Core.{State, is_ready, is_free_with, all_free, waiting, shown_terms}
 use Rattle.core_rules.specs.Keys.{own_key}
 use Rattle.core_rules.specs.Take.{core_by, core_take, no_key, is_unlisted, listed_keys, have_claims, listed_and_free, own_and_waiting, wakes}

@@ -28,7 +28,7 @@ use Rattle.alloc_book.specs.declared.choice.Choice.{Choice}
 use Rattle.kube_model.specs.Records.{same_record}
 use Rattle.kube_model.specs.Service.{same_class}
 use Rattle.mlb_base.proofs.CaseLaws.{case-has}
-use Rattle.alloc_book.specs.Claims.{Holders, holders}
+use Rattle.claim_index.specs.Claims.{Holders, holders}
 use Rattle.kube_model.proofs.RecordLaws.{same_record-itself}
 use Rattle.alloc_book.proofs.ChooseLaws.{choose-is}
 use Rattle.alloc_book.proofs.PendingLaws.{chosen-by}

@@ -25,7 +25,7 @@ use Rattle.object_history.specs.LookBack.{deletes_key, ends_list, held_on, newer
 use Rattle.object_history.proofs.Held.{held_at-held_after, ascending-held_after}
 use Rattle.object_cache.specs.Change.{applied}
 use Rattle.object_cache.specs.Told.{passing}
-use Rattle.alloc_book.specs.Claims.{loses, has_claims}
+use Rattle.claim_index.specs.Claims.{loses, has_claims}
 use Rattle.core_rules.specs.Core.{State, is_ready, is_free_with, all_free, waits, waiting, shown_terms}
 use Rattle.core_rules.specs.Keys.{own_key}
 use Rattle.core_rules.specs.Take.{core_by, core_take, no_key, is_unlisted, listed_keys, have_claims, listed_and_free, own_and_waiting, wakes, shows}

@@ -14,7 +14,7 @@ use Rattle.object_cache.specs.Told.{passing}
 use Rattle.alloc_book.specs.declared.choice.Choice.TheVariants.{Pending}
 use Rattle.alloc_book.specs.Asking.{Offer}
 use Rattle.alloc_book.specs.Chosen.{IsChosen}
-use Rattle.alloc_book.specs.Claims.{holders, Holders}
+use Rattle.claim_index.specs.Claims.{holders, Holders}
 use Rattle.kube_model.specs.declared.record.Record.{Record}
 use Rattle.kube_model.specs.Records.{empty_record, same_record}
 use Rattle.kube_model.proofs.RecordLaws.{same_record-is}

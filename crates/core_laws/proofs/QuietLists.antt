@@ -32,7 +32,7 @@ use Rattle.object_cache.specs.Told.{passing}
 use Rattle.sharing_terms.specs.declared.terms.Terms.{Terms}
 use Rattle.mlb_base.proofs.Among.{any-contains}
 use Rattle.alloc_book.specs.Asking.{asker_of}
-use Rattle.alloc_book.specs.Claims.{ClaimValue, holders}
+use Rattle.claim_index.specs.Claims.{ClaimValue, holders}
 use Rattle.kube_model.specs.Records.{is_assigned}
 use Rattle.alloc_book.specs.Granted.{IsTighter}
 use Rattle.alloc_book.proofs.BookLaws.{kept-more}

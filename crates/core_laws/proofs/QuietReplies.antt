@@ -19,14 +19,14 @@ use Rattle.kube_model.proofs.KeyLaws.{key_cmp-total, key_cmp-exact, same_key-is}
 use Rattle.object_history.proofs.Held.{amended_seen}
 use Rattle.sharing_terms.specs.declared.terms.Terms.{Terms}
 use Rattle.alloc_book.specs.Asking.{asker_of}
-use Rattle.alloc_book.specs.Book.{AreAssigned, HasLost}
+use Rattle.claim_index.specs.Claims.{AreAssigned, ClaimValue, holders, claims_of, claim_of, settled, doubted, loses}
+use Rattle.alloc_book.specs.Book.{HasLost}
 use Rattle.object_cache.specs.Told.{passing}
 use Rattle.alloc_book.specs.Chosen.{IsChosen}
-use Rattle.alloc_book.specs.Claims.{ClaimValue, holders, claims_of, claim_of, settled, doubted, loses}
 use Rattle.alloc_book.specs.Granted.{IsTighter}
 use Rattle.alloc_book.proofs.BookLaws.{settled-lost, settled-more, doubted-more}
 use Rattle.alloc_book.proofs.ChooseLaws.{choose-is}
-use Rattle.alloc_book.proofs.ClaimLaws.{claims_of-settled}
+use Rattle.claim_index.proofs.ClaimLaws.{claims_of-settled}
 use Rattle.alloc_book.proofs.PendingLaws.{pending_for-stays, more-tighter}
 use Rattle.core_rules.specs.Core.{State, service_of, offer_in, is_settled, waiting, waits}
 use Rattle.core_rules.specs.Turn.{wanted_record, chosen_at}

@@ -21,7 +21,7 @@ use Rattle.object_history.specs.LookBack.{seen_after}
 use Rattle.kube_model.proofs.KeyLaws.{key_cmp-total, key_cmp-exact}
 use Rattle.object_history.proofs.Force.{all_is_as_shown}
 use Rattle.object_history.proofs.Held.{held_at-held_after}
-use Rattle.alloc_book.specs.Book.{AreAssigned}
+use Rattle.claim_index.specs.Claims.{AreAssigned, holders}
 use Rattle.core_rules.specs.declared.turn.Turn.{Turn}
 use Rattle.core_rules.specs.declared.turn.Turn.TheVariants.{Idle, NoPut, Wants}
 use Rattle.core_rules.specs.Core.{State, is_ready, service_of, is_settled}
@@ -35,7 +35,6 @@ use Rattle.core_laws.proofs.Assigned.{runs-assigned}
 use Rattle.core_laws.proofs.Keyed.{service-key}
 use Rattle.core_laws.proofs.Puts.{IsWanted, wanted-of}
 use Rattle.core_laws.proofs.Rows.{row-on}
-use Rattle.alloc_book.specs.Claims.{holders}
 use Rattle.core_laws.proofs.Quiet.{settled-parts, turned-quiet}
 use Rattle.core_laws.proofs.QuietLists.{fresh, listed-quiet, configured-quiet}
 use Rattle.core_laws.proofs.QuietReplies.{PutIsChosen, heard-quiet}

@@ -20,8 +20,7 @@ use Rattle.object_cache.proofs.Passing.{changes_are_told}
 use Rattle.sharing_terms.specs.declared.terms.Terms.{Terms}
 use Rattle.mlb_base.proofs.Among.{any-contains}
 use Rattle.alloc_book.specs.Asking.{asker_of}
-use Rattle.alloc_book.specs.Book.{AreAssigned}
-use Rattle.alloc_book.specs.Claims.{ClaimValue, holders, settled, others, loses, has_claims}
+use Rattle.claim_index.specs.Claims.{AreAssigned, ClaimValue, holders, settled, others, loses, has_claims}
 use Rattle.alloc_book.specs.Granted.{IsTighter}
 use Rattle.alloc_book.proofs.BookLaws.{kept-more}
 use Rattle.pool_choice.proofs.Filters.{filter-keeps}

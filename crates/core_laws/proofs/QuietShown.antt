@@ -12,7 +12,7 @@ use Rattle.object_history.specs.LookBack.{IsLastShown}
 use Rattle.object_history.proofs.Force.{all_is_as_shown}
 use Rattle.object_history.proofs.Seen.{is-last_shown}
 use Rattle.alloc_book.specs.Asking.{Offer}
-use Rattle.alloc_book.specs.Claims.{holders, Holders}
+use Rattle.claim_index.specs.Claims.{holders, Holders}
 use Rattle.alloc_book.proofs.PendingLaws.{holders-same}
 use Rattle.core_rules.specs.Core.{is_ready, is_settled, offer_at, offer_in, pools_in, labels_of, service_of}
 use Rattle.core_rules.specs.Keys.{is_free}

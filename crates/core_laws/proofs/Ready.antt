@@ -19,7 +19,7 @@ use Rattle.object_history.specs.Cache.{Cached, cached_after, objects_after, in_f
 use Rattle.object_history.specs.Observations.{Watched, WatchExpired}
 use Rattle.pool_config.specs.Compile.{compiled}
 use Rattle.kube_model.specs.Keys.{key_cmp}
-use Rattle.alloc_book.specs.Claims.{loses}
+use Rattle.claim_index.specs.Claims.{loses}
 use Rattle.core_rules.specs.Core.{State, is_ready, shown_terms}
 use Rattle.core_rules.specs.Take.{Configures, concern, core_by, core_take, own_and_waiting, listed_and_free, listed_keys, have_claims}
 use Rattle.core_rules.specs.Turn.{turn_of, rest_of, put_in}

@@ -13,7 +13,7 @@ use Rattle.kube_model.proofs.KeyLaws.{key_cmp-exact, same_key-itself}
 use Rattle.object_cache.specs.Told.{passing}
 use Rattle.alloc_book.specs.declared.choice.Choice.TheVariants.{Pending}
 use Rattle.alloc_book.specs.Asking.{Offer, asker_of}
-use Rattle.alloc_book.specs.Claims.{Holders}
+use Rattle.claim_index.specs.Claims.{Holders}
 use Rattle.alloc_book.specs.Chosen.{IsChosen}
 use Rattle.alloc_book.specs.Granted.{IsTighter}
 use Rattle.alloc_book.proofs.PendingLaws.{pending_for-stays}

@@ -15,7 +15,7 @@ use Rattle.mlb_base.proofs.Among.{contains-none, contains-cons, contains-first, 
 use Rattle.alloc_book.specs.declared.choice.Choice.{Choice}
 use Rattle.alloc_book.specs.declared.choice.Choice.TheVariants.{Pending, Keep, New}
 use Rattle.alloc_book.specs.Asking.{Asker, Offer, asker_of, asked_in}
-use Rattle.alloc_book.specs.Claims.{Holders}
+use Rattle.claim_index.specs.Claims.{Holders}
 use Rattle.alloc_book.specs.Chosen.{named, asked_pools, AsksAddresses, AsksPool, Gives, IsChosenFor}
 use Rattle.mlb_base.specs.Cases.{IsFirst}
 use Rattle.mlb_base.specs.Items.{Has}

@@ -14,7 +14,7 @@ use Rattle.pool_choice.specs.Sorted.{sorted}
 use Rattle.alloc_book.specs.declared.choice.Choice.{Choice}
 use Rattle.alloc_book.specs.declared.choice.Choice.TheVariants.{Foreign, Clear, Pending, Keep, New}
 use Rattle.alloc_book.specs.Asking.{Asker, Offer, asker_of, options_of}
-use Rattle.alloc_book.specs.Claims.{Holders}
+use Rattle.claim_index.specs.Claims.{Holders}
 use Rattle.alloc_book.specs.Chosen.{IsChosen}
 use Rattle.alloc_book.specs.Granted.{IsFor}
 use Rattle.core_rules.specs.Core.{offer_at}

@@ -24,7 +24,7 @@ use Rattle.object_history.specs.Kinds.{service_resource}
 use Rattle.alloc_book.specs.declared.choice.Choice.{Choice}
 use Rattle.alloc_book.specs.declared.choice.Choice.TheVariants.{Foreign, Clear, Pending, Keep, New}
 use Rattle.alloc_book.specs.Asking.{asker_of}
-use Rattle.alloc_book.specs.Claims.{ClaimValue, Holders}
+use Rattle.claim_index.specs.Claims.{ClaimValue, Holders}
 use Rattle.alloc_book.specs.Granted.{IsFor, IsGranted}
 use Rattle.sharing_terms.specs.Sharing.{MayShare}
 use Rattle.core_rules.proofs.ByMark.{terms_under-marked}

@@ -17,7 +17,7 @@ use Rattle.pool_config.specs.declared.compiled.CompiledPool.{CompiledPool}
 use Rattle.alloc_book.specs.declared.choice.Choice.{Choice}
 use Rattle.alloc_book.specs.declared.choice.Choice.TheVariants.{Foreign, Clear, Pending, Keep, New}
 use Rattle.alloc_book.specs.Asking.{Asker, Offer, alone_of, options_of, asker_of, asked_in}
-use Rattle.alloc_book.specs.Claims.{Holders}
+use Rattle.claim_index.specs.Claims.{Holders}
 use Rattle.alloc_book.specs.Chosen.{AsksAddresses, Gives, IsChosen, IsChosenFor}
 use Rattle.alloc_book.specs.First.{AllUsable, FitsOption, IsHome, IsKept, IsOneOfEach, record_in}
 use Rattle.alloc_book.specs.Granted.{IsFor}

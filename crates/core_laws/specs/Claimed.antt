@@ -4,7 +4,7 @@ use Rattle.std.specs.List.{Contains}
 use Rattle.kube_model.specs.declared.key.Key.{Key}
 use Rattle.kube_model.specs.declared.service.Service.{Service}
 use Rattle.kube_model.specs.Records.{is_assigned}
-use Rattle.alloc_book.specs.Claims.{ClaimValue, claims_of}
+use Rattle.claim_index.specs.Claims.{ClaimValue, claims_of}
 use Rattle.core_rules.specs.Core.{service_of, shown_terms}
 use Rattle.core_rules.specs.Run.{Entry, core_after, IsRun}
 

@@ -9,7 +9,7 @@ use Rattle.alloc_book.specs.declared.choice.Choice.{Choice}
 use Rattle.alloc_book.specs.declared.choice.Choice.TheVariants.{Pending}
 use Rattle.alloc_book.specs.Asking.{Offer}
 use Rattle.alloc_book.specs.Chosen.{IsChosen}
-use Rattle.alloc_book.specs.Claims.{holders, Holders}
+use Rattle.claim_index.specs.Claims.{holders, Holders}
 use Rattle.kube_model.specs.Keys.{same_key}
 use Rattle.core_rules.specs.Core.{State, service_of, offer_in, is_settled}
 use Rattle.core_rules.specs.Turn.{wanted_record}

@@ -6,7 +6,7 @@ use Rattle.kube_model.specs.declared.service.Service.{Service}
 use Rattle.pool_config.specs.declared.compiled.CompiledPool.{CompiledPool}
 use Rattle.alloc_book.specs.declared.choice.Choice.{Choice}
 use Rattle.alloc_book.specs.Asking.{Asker, Offer, asker_of, asked_in, is_asked}
-use Rattle.alloc_book.specs.Claims.{Holders}
+use Rattle.claim_index.specs.Claims.{Holders}
 use Rattle.alloc_book.specs.Chosen.{IsChosen}
 use Rattle.alloc_book.specs.First.{AllUsable, AreSame, FitsOption, record_in}
 use Rattle.alloc_book.specs.Granted.{IsFor}

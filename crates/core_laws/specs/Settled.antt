@@ -6,7 +6,7 @@ use Rattle.kube_model.specs.Service.{is_handled}
 use Rattle.pool_config.specs.ConfigValue.{ConfigValue}
 use Rattle.object_history.specs.Observations.{Observation}
 use Rattle.alloc_book.specs.Asking.{Offer, asker_of}
-use Rattle.alloc_book.specs.Claims.{Holders}
+use Rattle.claim_index.specs.Claims.{Holders}
 use Rattle.core_laws.specs.Quiet.{MeetsRow}
 use Rattle.core_laws.specs.QuietShown.{offer_shown}
 use Rattle.core_laws.specs.Served.{IsServed}

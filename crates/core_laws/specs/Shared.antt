@@ -9,7 +9,7 @@ use Rattle.sharing_terms.specs.declared.terms.Terms.{Terms}
 use Rattle.sharing_terms.specs.Marked.{AreTerms}
 use Rattle.sharing_terms.specs.Sharing.{MayShare}
 use Rattle.sharing_terms.specs.Terms.{terms_of}
-use Rattle.alloc_book.specs.Claims.{ClaimValue, is_under, claim_of, terms_under}
+use Rattle.claim_index.specs.Claims.{ClaimValue, is_under, claim_of, terms_under}
 use Rattle.core_rules.specs.Run.{Entry, Took, Expired, Turned, Heard, IsRun, put_out, claims_shown, terms_shown}
 use Rattle.core_laws.specs.Shown.{HoldsOfShown}
 

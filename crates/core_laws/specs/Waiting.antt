@@ -7,7 +7,7 @@ use Rattle.kube_model.specs.Records.{empty_record}
 use Rattle.kube_model.specs.Service.{is_handled, with_holding}
 use Rattle.alloc_book.specs.declared.choice.Choice.TheVariants.{Pending}
 use Rattle.alloc_book.specs.Asking.{Offer}
-use Rattle.alloc_book.specs.Claims.{Holders}
+use Rattle.claim_index.specs.Claims.{Holders}
 use Rattle.alloc_book.specs.Chosen.{IsChosen}
 use Rattle.core_laws.specs.Quiet.{MeetsRow}
 use Rattle.core_laws.specs.Served.{AreOffered}

@@ -19,7 +19,7 @@ use Rattle.sharing_terms.specs.Marked.{IsMarkOf}
 use Rattle.sharing_terms.specs.Terms.{terms_of}
 use Rattle.sharing_terms.proofs.ReadBack.{recorded-exact}
 use Rattle.versioned_map.specs.Entries.{is_newer}
-use Rattle.alloc_book.specs.Claims.{ClaimValue, terms_under, others, claim_of, settled, claims_it}
+use Rattle.claim_index.specs.Claims.{ClaimValue, terms_under, others, claim_of, settled, claims_it}
 use Rattle.alloc_book.proofs.BookLaws.{claim_of-is}
 use Rattle.core_rules.specs.Core.{State, shown_terms, terms_in}
 use Rattle.core_rules.specs.Take.{core_by, core_take, is_unlisted}

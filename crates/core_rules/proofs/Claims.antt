@@ -21,8 +21,8 @@ use Rattle.object_history.specs.Kinds.{service_resource}
 use Rattle.object_history.specs.LookBack.{last_shown, seen_after, version_of}
 use Rattle.object_history.proofs.Cached.{held_at-held_of, services-held}
 use Rattle.kube_model.proofs.KeyLaws.{key_cmp-total, key_cmp-exact, same_key-is}
-use Rattle.alloc_book.specs.Claims.{ClaimValue, claims_of, claim_of, terms_under, added, settled}
-use Rattle.alloc_book.proofs.ClaimLaws.{claims_of-settled, claims_of-doubted, claims_of-others}
+use Rattle.claim_index.specs.Claims.{ClaimValue, claims_of, claim_of, terms_under, added, settled}
+use Rattle.claim_index.proofs.ClaimLaws.{claims_of-settled, claims_of-doubted, claims_of-others}
 use Rattle.core_rules.specs.Core.{State, no_terms, terms_in, shown_terms}
 use Rattle.core_rules.specs.Take.{concern, core_by, core_take, is_unlisted}
 use Rattle.core_rules.specs.Replied.{put_terms, replied_to}

@@ -18,7 +18,7 @@ use Rattle.alloc_book.specs.Asking.{Offer, offer_of}
 use Rattle.sharing_terms.specs.declared.terms.Terms.{Terms}
 use Rattle.sharing_terms.specs.declared.terms.Backend.TheVariants.{Cluster}
 use Rattle.sharing_terms.specs.Terms.{terms_of}
-use Rattle.alloc_book.specs.Claims.{ClaimValue, terms_under}
+use Rattle.claim_index.specs.Claims.{ClaimValue, terms_under}
 use Rattle.kube_model.specs.Records.{empty_record, is_assigned, same_record}
 use Rattle.core_rules.specs.Keys.{is_free}
 

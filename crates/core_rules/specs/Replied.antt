@@ -6,7 +6,7 @@ use Rattle.kube_model.specs.declared.reply.PutReply.TheVariants.{Ok as StoredRep
 use Rattle.object_history.specs.Observations.{Written}
 use Rattle.object_history.specs.Cache.{Cached, cached_after}
 use Rattle.sharing_terms.specs.declared.terms.Terms.{Terms}
-use Rattle.alloc_book.specs.Claims.{terms_under, settled, doubted, loses}
+use Rattle.claim_index.specs.Claims.{terms_under, settled, doubted, loses}
 use Rattle.kube_model.specs.Keys.{same_key}
 use Rattle.core_rules.specs.Core.{State, terms_in, waiting}
 

@@ -16,7 +16,7 @@ use Rattle.std.specs.Option.{option_map_or}
 use Rattle.sharing_terms.specs.declared.terms.Terms.{Terms}
 use Rattle.sharing_terms.specs.Marked.{IsMarkOf}
 use Rattle.sharing_terms.specs.Terms.{terms_of}
-use Rattle.alloc_book.specs.Claims.{ClaimValue, claims_of, claim_of, terms_under, added}
+use Rattle.claim_index.specs.Claims.{ClaimValue, claims_of, claim_of, terms_under, added}
 use Rattle.kube_model.specs.Keys.{same_key}
 use Rattle.core_rules.specs.declared.turn.Turn.{Turn}
 use Rattle.core_rules.specs.Core.{State, fresh, no_terms, shown_terms}

@@ -23,7 +23,7 @@ use Rattle.object_cache.specs.declared.change.TakeNote.TheVariants.{Quiet, Accep
 use Rattle.object_cache.specs.declared.change.Applied.{Applied}
 use Rattle.object_cache.specs.Change.{applied}
 use Rattle.object_cache.specs.Limits.{most_services, passes}
-use Rattle.alloc_book.specs.Claims.{ClaimValue, others, settled, loses, has_claims}
+use Rattle.claim_index.specs.Claims.{ClaimValue, others, settled, loses, has_claims}
 use Rattle.core_rules.specs.Core.{State, shown_terms, is_ready, all_free, waiting}
 use Rattle.core_rules.specs.Keys.{own_key}
 

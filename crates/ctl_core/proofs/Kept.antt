@@ -18,7 +18,7 @@ use Rattle.versioned_map.specs.Entries.{held_at, is_listed, listed}
 use Rattle.object_history.specs.Cache.{Cached, cached_after}
 use Rattle.object_history.specs.Observations.{Watched}
 use Rattle.object_cache.specs.Told.{passing}
-use Rattle.alloc_book.specs.Claims.{ClaimValue, others, has_claims}
+use Rattle.claim_index.specs.Claims.{ClaimValue, others, has_claims}
 use Rattle.core_rules.specs.Core.{State, is_ready, is_free_with, all_free, waits, waiting}
 use Rattle.core_rules.specs.Take.{no_key, is_unlisted, listed_keys, listed_claims, have_claims, listed_and_free, without_service, with_services_listed}
 

@@ -6,7 +6,7 @@ use Rattle.versioned_map.specs.Entries.{version_at}
 use Rattle.kube_model.specs.Keys.{key_cmp, without}
 use Rattle.object_history.specs.Cache.{Cached, cached_after}
 use Rattle.object_history.specs.Observations.{Watched}
-use Rattle.alloc_book.specs.Claims.{ClaimValue, settled}
+use Rattle.claim_index.specs.Claims.{ClaimValue, settled}
 use Rattle.core_rules.specs.Core.{State}
 use Rattle.core_rules.specs.Take.{shows, with_service}
 use Rattle.ctl_core.specs.declared.take.Prepared.{Prepared}

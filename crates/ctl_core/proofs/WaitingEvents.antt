@@ -25,7 +25,7 @@ use Rattle.object_history.specs.Observations.{Watched, WatchExpired}
 use Rattle.object_history.proofs.Held.{ascending-held_after}
 use Rattle.object_cache.specs.Change.{applied}
 use Rattle.object_cache.specs.Told.{passing}
-use Rattle.alloc_book.specs.Claims.{loses, has_claims}
+use Rattle.claim_index.specs.Claims.{loses, has_claims}
 use Rattle.core_rules.specs.Core.{State, is_ready, service_of, is_free_with, all_free, waits, waiting, shown_terms}
 use Rattle.core_rules.specs.Keys.{own_key}
 use Rattle.core_rules.specs.Take.{Configures, concern, no_key, is_unlisted, listed_keys, have_claims, listed_and_free, without_service, with_services_listed, is_accepted, is_namespace, wakes, configured, core_expired}

@@ -17,7 +17,7 @@ use Rattle.object_history.specs.Kinds.{service_resource}
 use Rattle.object_history.specs.Observations.{Watched}
 use Rattle.object_history.proofs.Held.{ascending-held_after}
 use Rattle.object_cache.specs.Told.{passing}
-use Rattle.alloc_book.specs.Claims.{loses, has_claims}
+use Rattle.claim_index.specs.Claims.{loses, has_claims}
 use Rattle.core_rules.specs.Core.{State, is_ready, is_free_with, all_free, waiting, shown_terms}
 use Rattle.core_rules.specs.Keys.{own_key}
 use Rattle.core_rules.specs.Take.{no_key, listed_keys, listed_and_free, own_and_waiting, shows}

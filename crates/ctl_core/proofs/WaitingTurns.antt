@@ -21,7 +21,7 @@ use Rattle.object_history.specs.LookBack.{written_over}
 use Rattle.object_history.specs.Observations.{Written}
 use Rattle.object_history.proofs.Held.{amended_seen}
 use Rattle.object_cache.specs.Told.{passing}
-use Rattle.alloc_book.specs.Claims.{ClaimValue, settled, doubted, loses}
+use Rattle.claim_index.specs.Claims.{ClaimValue, settled, doubted, loses}
 use Rattle.core_rules.specs.Core.{State, is_ready, service_of, waits, waiting}
 use Rattle.core_rules.specs.Keys.{is_free}
 use Rattle.core_rules.specs.Replied.{stored, in_doubt, put_terms, core_reply}

@@ -3,7 +3,7 @@ use Rattle.std.specs.Prelude.{◌≡◌, ℕ, ◌++◌}
 use Rattle.kube_model.specs.declared.service.Service.{Service}
 use Rattle.object_history.specs.Cache.{cached_after}
 use Rattle.object_history.specs.Observations.{Watched}
-use Rattle.alloc_book.specs.Claims.{settled, loses}
+use Rattle.claim_index.specs.Claims.{settled, loses}
 use Rattle.core_rules.specs.Core.{State, is_ready, shown_terms}
 use Rattle.kube_model.specs.Keys.{without}
 use Rattle.core_rules.specs.Take.{shows, own_and_waiting}

@@ -1,7 +1,7 @@
 //! What a change of services makes of the claims.
 ghost use Rattle.std.specs.Prelude.{◌≡◌, IfOk};
 ghost use Rattle.alloc_book.specs.Book.{HasRoom};
-ghost use Rattle.alloc_book.specs.Claims.{doubted, loses, terms_under};
+ghost use Rattle.claim_index.specs.Claims.{doubted, loses, terms_under};
 ghost use Rattle.core_rules.specs.Core.{no_terms, shown_terms, terms_in};
 ghost use Rattle.core_rules.specs.Replied.{put_terms};
 ghost use Rattle.core_rules.specs.Take.{have_claims, listed_claims};

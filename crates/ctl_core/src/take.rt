@@ -8,7 +8,7 @@ ghost use Rattle.object_cache.specs.Change.{applied};
 ghost use Rattle.object_cache.specs.Limits.{passes, most_services};
 ghost use Rattle.object_cache.specs.declared.change.TakeNote.TheVariants.{Quiet as QuietNote};
 ghost use Rattle.versioned_map.specs.Entries.{is_newer};
-ghost use Rattle.alloc_book.specs.Claims.{has_claims};
+ghost use Rattle.claim_index.specs.Claims.{has_claims};
 ghost use Rattle.core_rules.specs.Core.{all_free, is_ready};
 ghost use Rattle.core_rules.specs.Take.{Configures, concern, core_take, core_note, core_expired, limits, with_service, without_service, with_services_listed, listed_and_free, have_claims, shows, is_accepted, is_namespace, configured};
 ghost use Rattle.core_laws.specs.Queue.{AreApart, NoneAmong};

@@ -9,10 +9,10 @@ use Rattle.kube_model.specs.Keys.{same_key}
 use Rattle.kube_model.specs.Records.{is_assigned, same_record}
 use Rattle.kube_model.proofs.RecordLaws.{same_record-is}
 use Rattle.sharing_terms.specs.declared.terms.Terms.{Terms}
-use Rattle.alloc_book.specs.Alike.{same_terms}
-use Rattle.alloc_book.specs.Claims.{ClaimValue, is_under, claims_of, records_in, records_of, others, claim_of, settled, claimed_by}
-use Rattle.alloc_book.proofs.ClaimLaws.{claims_of-others, claims_of-settled}
-use Rattle.alloc_book.proofs.TermLaws.{same_terms-is}
+use Rattle.claim_index.specs.Alike.{same_terms}
+use Rattle.claim_index.specs.Claims.{ClaimValue, is_under, claims_of, records_in, records_of, others, claim_of, settled, claimed_by}
+use Rattle.claim_index.proofs.ClaimLaws.{claims_of-others, claims_of-settled}
+use Rattle.claim_index.proofs.TermLaws.{same_terms-is}
 
 -- a claim of this record under these terms
 pub under-is : (c : ClaimValue) (r : Record) (t : Terms) → is_under r t c ≡ true → (c.holding ≡ r) × (c.terms ≡ t)

@@ -26,7 +26,7 @@ use Rattle.status_store.specs.Changes.{StoreValue, kept_record, edited_place, ed
 use Rattle.status_store.proofs.ChangeLaws.{place_of-with_record}
 use Rattle.status_store.proofs.ListLaws.{stored_at-with_stored, stored_at-without_stored}
 use Rattle.core_rules.specs.Core.{State}
-use Rattle.alloc_book.specs.Claims.{records_of}
+use Rattle.claim_index.specs.Claims.{records_of}
 use Rattle.world_rules.specs.Sight.{Shown, News, Shows, Gone, IsTracked}
 use Rattle.world_rules.specs.Moves.{stored_with, after_set}
 use Rattle.world_rules.specs.World.{WorldValue, as_shown, shown_edit, while_up, to_lane, after_edit}

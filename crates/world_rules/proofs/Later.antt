@@ -7,7 +7,7 @@ use Rattle.kube_model.specs.declared.event.Event.TheVariants.{ListEnd}
 use Rattle.kube_model.specs.declared.event.Group.TheVariants as groups
 use Rattle.kube_model.specs.declared.key.Key.{Key}
 use Rattle.kube_model.specs.declared.record.Record.{Record}
-use Rattle.alloc_book.specs.Claims.{claimed_by, records_of}
+use Rattle.claim_index.specs.Claims.{claimed_by, records_of}
 use Rattle.core_rules.specs.Core.{State}
 use Rattle.world_rules.specs.Sight.{Shown, News, Shows, Gone, End, version_at, IsBare, IsBehind, after_shows, after_end, is_unlisted, has_gone, IsJust, Follows, IsClaimed, WillBeClaimed, AreGiven, EndsOnce, IsTracked}
 use Rattle.world_rules.specs.Good.{stored_of, held_of, news_of, news_in, IsOfGroup, IsTrackedIn, IsFollowed, IsGood}

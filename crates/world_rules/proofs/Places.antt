@@ -20,7 +20,7 @@ use Rattle.status_store.specs.declared.stored.Stored.{Stored}
 use Rattle.status_store.specs.Places.{service_at}
 use Rattle.status_store.specs.Objects.{IsStored, stored_at}
 use Rattle.status_store.proofs.StoredLaws.{found-stored, stored-found}
-use Rattle.alloc_book.specs.Claims.{records_of, ClaimValue, claims_of}
+use Rattle.claim_index.specs.Claims.{records_of, ClaimValue, claims_of}
 use Rattle.core_rules.specs.Core.{State, service_of}
 use Rattle.core_laws.specs.Queue.{IsOrderlyQueue}
 use Rattle.core_laws.specs.Quiet.{IsQuiet}

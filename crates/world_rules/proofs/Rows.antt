@@ -6,7 +6,7 @@ use Rattle.std.proofs.lemmas.Bool.Decides.{nat_tests}
 use Rattle.mlb_base.proofs.Among.{contains-none, contains-cons}
 use Rattle.kube_model.specs.declared.record.Record.{Record}
 use Rattle.kube_model.specs.Records.{is_assigned}
-use Rattle.alloc_book.specs.Claims.{claimed_by}
+use Rattle.claim_index.specs.Claims.{claimed_by}
 use Rattle.world_rules.proofs.Sights.{Follows-old}
 use Rattle.world_rules.specs.Sight.{Shown, News, Shows, Gone, End, version_at, IsBare, IsUpTo, IsBehind, after_shows, after_end, is_unlisted, has_gone, IsCarried, Follows, WillBeClaimed, AreGiven, AreOld, EndsOnce}
 

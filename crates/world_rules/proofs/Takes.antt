@@ -18,7 +18,7 @@ use Rattle.kube_model.proofs.KeyLaws.{key_cmp-total, same_key-is, is_eq-key_cmp}
 use Rattle.versioned_map.specs.declared.map.Versioned.{Versioned}
 use Rattle.versioned_map.specs.Entries.{held_at, version_at as version_held, listed}
 use Rattle.versioned_map.proofs.HeldLaws.{held_at-shown, held_at-removed, held_at-listed}
-use Rattle.alloc_book.specs.Claims.{ClaimValue, records_in, records_of, claimed_by, settled, claims_of}
+use Rattle.claim_index.specs.Claims.{ClaimValue, records_in, records_of, claimed_by, settled, claims_of}
 use Rattle.world_rules.proofs.ClaimRecords.{records-either, records_of-settled, records_of-others}
 use Rattle.core_rules.specs.Core.{State, shown_terms}
 use Rattle.core_rules.specs.Take.{core_by, core_take, is_unlisted as was_unlisted}

@@ -5,7 +5,7 @@ use Rattle.std.specs.List.{Contains}
 use Rattle.mlb_base.proofs.Among.{contains-first}
 use Rattle.kube_model.specs.declared.record.Record.{Record}
 use Rattle.kube_model.specs.Records.{is_assigned}
-use Rattle.alloc_book.specs.Claims.{claimed_by}
+use Rattle.claim_index.specs.Claims.{claimed_by}
 use Rattle.world_rules.specs.Sight.{Shown, News, Shows, Gone, End, version_at, IsBare, Agrees, IsBehind, after_end, is_unlisted, has_gone, IsKept, IsClaimed, WillBeClaimed, AreGiven, EndsOnce, IsTracked}
 use Rattle.world_rules.proofs.Sights.{leb-newer, leb-older, after_shows-newer, after_shows-older, after_end-given, at_next, Follows-set, Follows-create, Follows-delete, Follows-old, Follows-accepted, Follows-lost, Follows-listed, Follows-unlisted, agrees-carried}
 

@@ -25,8 +25,8 @@ use Rattle.kube_model.proofs.KeyLaws.{key_cmp-total, same_key-is, same_key-itsel
 use Rattle.versioned_map.specs.declared.map.Versioned.{Versioned}
 use Rattle.versioned_map.specs.Entries.{held_at, version_at as version_held, amended_at}
 use Rattle.versioned_map.proofs.HeldLaws.{held_at-amended}
-use Rattle.alloc_book.specs.Claims.{ClaimValue, is_under, claims_of, records_in, records_of, claim_of, claimed_by, doubted, added}
-use Rattle.alloc_book.proofs.ClaimLaws.{claims_of-doubted}
+use Rattle.claim_index.specs.Claims.{ClaimValue, is_under, claims_of, records_in, records_of, claim_of, claimed_by, doubted, added}
+use Rattle.claim_index.proofs.ClaimLaws.{claims_of-doubted, claim-of}
 use Rattle.world_rules.proofs.ClaimRecords.{under-is, records-either, records-there, records-from, records_of-settled}
 use Rattle.status_store.specs.declared.change.Outcome.{Outcome}
 use Rattle.status_store.specs.declared.change.Outcome.TheVariants.{Delivered, Lost, Refused}
@@ -59,7 +59,6 @@ use Rattle.sharing_terms.specs.Marked.{IsMarkOf}
 use Rattle.sharing_terms.specs.Sharing.{MayShare}
 use Rattle.sharing_terms.proofs.ReadBack.{recorded-exact}
 use Rattle.alloc_book.proofs.BookLaws.{claim_of-stands}
-use Rattle.alloc_book.proofs.UsableLaws.{claim-of}
 use Rattle.core_rules.proofs.ByMark.{claims_are_by_mark}
 
 -- ---- a turn that wants a put

@@ -8,7 +8,7 @@ use Rattle.kube_model.specs.Keys.{key_cmp}
 use Rattle.versioned_map.specs.declared.map.Versioned.{Versioned}
 use Rattle.versioned_map.specs.Entries.{held_at, at_version}
 use Rattle.versioned_map.proofs.HeldLaws.{held_at-expired}
-use Rattle.alloc_book.specs.Claims.{records_of}
+use Rattle.claim_index.specs.Claims.{records_of}
 use Rattle.status_store.specs.Places.{service_at}
 use Rattle.status_store.specs.Changes.{StoreValue}
 use Rattle.core_rules.specs.Core.{State, fresh}

@@ -20,7 +20,7 @@ use Rattle.status_store.specs.declared.stored.Stored.{Stored}
 use Rattle.status_store.specs.Places.{service_at}
 use Rattle.status_store.specs.Objects.{stored_at}
 use Rattle.status_store.specs.Changes.{StoreValue, IsKept as IsKeptStore, record_of}
-use Rattle.alloc_book.specs.Claims.{records_of}
+use Rattle.claim_index.specs.Claims.{records_of}
 use Rattle.core_rules.specs.Core.{State}
 use Rattle.core_rules.specs.Run.{Entry, core_after, IsRun}
 use Rattle.core_laws.specs.Shared.{AllShowTerms}

@@ -17,7 +17,7 @@ use Rattle.status_store.specs.declared.stored.Stored.{Stored}
 use Rattle.status_store.specs.Places.{service_at}
 use Rattle.status_store.specs.Objects.{IsStored}
 use Rattle.status_store.specs.Changes.{StoreValue, IsKept, record_of}
-use Rattle.alloc_book.specs.Claims.{ClaimValue, claims_of, records_of}
+use Rattle.claim_index.specs.Claims.{ClaimValue, claims_of, records_of}
 use Rattle.core_rules.specs.Core.{State, is_ready}
 use Rattle.core_laws.specs.Claimed.{IsClaimedAs}
 use Rattle.core_laws.specs.Quiet.{IsQuiet}

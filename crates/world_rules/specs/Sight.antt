@@ -3,7 +3,7 @@ use Rattle.std.specs.Prelude.{◌≡◌, ℕ, ◌≤◌, ◌<◌, Bool, true, fa
 use Rattle.std.specs.List.{Contains}
 use Rattle.kube_model.specs.declared.record.Record.{Record}
 use Rattle.kube_model.specs.Records.{is_assigned}
-use Rattle.alloc_book.specs.Claims.{claimed_by}
+use Rattle.claim_index.specs.Claims.{claimed_by}
 
 -- a version, and the record that was shown at it
 pub record Shown : Type 0 where

@@ -1,7 +1,7 @@
 use Rattle.std.proofs.Common.{◌≡◌, ℕ, ◌^◌, Bool, true, false, Option, ap, sym, ◌∙◌}
 use Rattle.std.specs.Option.{option_map}
 use Rattle.kube_model.specs.declared.key.Key.{Key}
-use Rattle.alloc_book.specs.Claims.{ClaimValue}
+use Rattle.claim_index.specs.Claims.{ClaimValue}
 use Rattle.alloc_book.proofs.BookRemoval.{unlisted-found, unlisted-step, unlisted-none, first-passed, falls-below}
 use Rattle.alloc_book.proofs.booking.first_unlisted.Goals as goal
 

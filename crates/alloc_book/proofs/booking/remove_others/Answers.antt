@@ -1,5 +1,5 @@
 use Rattle.std.proofs.Common.{◌<◌, ℕ, List, length, sym, ◌∙◌, subst}
-use Rattle.alloc_book.specs.Claims.{ClaimValue}
+use Rattle.claim_index.specs.Claims.{ClaimValue}
 use Rattle.alloc_book.proofs.BookRemoval.{IsThinned, thinned-start, thinned-step, thinned-smaller, thinned-end}
 use Rattle.alloc_book.proofs.booking.remove_others.Goals as goal
 

@@ -1,6 +1,6 @@
 use Rattle.std.proofs.Common.{◌<◌, ℕ, Bool, List, length, sym, ◌∙◌, subst}
 use Rattle.kube_model.specs.declared.key.Key.{Key}
-use Rattle.alloc_book.specs.Claims.{ClaimValue}
+use Rattle.claim_index.specs.Claims.{ClaimValue}
 use Rattle.alloc_book.proofs.BookRemoval.{IsCleared, cleared-start, cleared-step, cleared-smaller, cleared-end}
 use Rattle.alloc_book.proofs.booking.remove_unlisted.Goals as goal
 

@@ -1,7 +1,8 @@
 use Rattle.std.proofs.Common.{false, ◌≡◌, ◌+◌, sym, ◌∙◌, arith}
 use Rattle.std.specs.Map.{values_of}
-use Rattle.alloc_book.specs.Index.{is_free}
-use Rattle.alloc_book.specs.Search.{numbered, address_of}
+use Rattle.alloc_book.specs.Candidates.{is_free}
+use Rattle.alloc_book.specs.Search.{numbered}
+use Rattle.claim_index.specs.Holders.{address_of}
 use Rattle.alloc_book.proofs.Candidates.{before-more, before-next, free-held, free-avoided, free-from}
 use Rattle.alloc_book.proofs.search.first_free.Goals as goal
 

@@ -1,6 +1,6 @@
 use Rattle.std.proofs.Common.{◌≡◌, ◌≤◌, ◌<◌, ◌+◌, ◌-◌, ℕ, false}
 use Rattle.std.specs.Map.{values_of}
-use Rattle.alloc_book.specs.Index.{is_free}
+use Rattle.alloc_book.specs.Candidates.{is_free}
 use Rattle.alloc_book.specs.Search.{numbered}
 use Rattle.alloc_book.proofs.search.first_free.Given as goal
 

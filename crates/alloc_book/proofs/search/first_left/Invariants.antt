@@ -1,6 +1,6 @@
 use Rattle.std.proofs.Common.{◌≤◌, take}
 use Rattle.std.specs.Map.{values_of}
-use Rattle.alloc_book.specs.Index.{AreBarred}
+use Rattle.alloc_book.specs.Candidates.{AreBarred}
 use Rattle.alloc_book.proofs.search.first_left.Given as goal
 
 abbrev pub invariant-loop-port : goal.invariant-loop-port

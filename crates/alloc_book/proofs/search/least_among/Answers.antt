@@ -1,7 +1,8 @@
 use Rattle.std.proofs.Common.{◌≡◌, sym, ◌∙◌, ◌+◌, subst, ap, take, Some, ℕ}
 use Rattle.ip_ranges.specs.Values.{AddressValue}
 use Rattle.std.specs.List.{Contains}
-use Rattle.alloc_book.specs.Search.{usable, numbered, address_of}
+use Rattle.alloc_book.specs.Search.{usable, numbered}
+use Rattle.claim_index.specs.Holders.{address_of}
 use Rattle.alloc_book.proofs.Candidates.{Ahead, met-usable, met-not_usable, all-met}
 use Rattle.alloc_book.proofs.search.least_among.Goals.{then-usable_number, else-usable_number}
 use Rattle.alloc_book.proofs.search.least_among.Goals as goal

@@ -1,6 +1,7 @@
 use Rattle.std.proofs.Common.{take}
 use Rattle.std.specs.List.{Contains}
-use Rattle.alloc_book.specs.Search.{usable, address_of, numbered}
+use Rattle.alloc_book.specs.Search.{usable, numbered}
+use Rattle.claim_index.specs.Holders.{address_of}
 use Rattle.alloc_book.proofs.Candidates.{Ahead}
 use Rattle.alloc_book.proofs.search.least_among.Given as goal
 

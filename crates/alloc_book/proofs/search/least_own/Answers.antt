@@ -1,6 +1,6 @@
 use Rattle.std.proofs.Common.{ℕ, List, refl, sym, ◌+◌, subst, take}
 use Rattle.ip_ranges.specs.Values.{AddressValue, has_address}
-use Rattle.alloc_book.specs.Index.{Covers}
+use Rattle.alloc_book.specs.Candidates.{Covers}
 use Rattle.alloc_book.specs.Search.{usable, numbered}
 use Rattle.alloc_book.proofs.Candidates.{Ahead, IsOneOf, met-claim, met-none, all-claims_met}
 use Rattle.alloc_book.proofs.search.least_own.Goals as goal

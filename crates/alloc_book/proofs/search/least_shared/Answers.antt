@@ -1,7 +1,7 @@
 use Rattle.std.proofs.Common.{true, ◌≡◌, ◌+◌, sym, ◌∙◌, arith, eqb, length, ap, List, ℕ}
 use Rattle.sharing_terms.specs.declared.terms.Terms.{Terms}
-use Rattle.alloc_book.specs.Groups.{group_of}
-use Rattle.alloc_book.specs.Search.{address_of}
+use Rattle.claim_index.specs.Groups.{group_of}
+use Rattle.claim_index.specs.Holders.{address_of}
 use Rattle.alloc_book.proofs.Candidates.{none-shared_in, barred-in, shared-more, left-more, left-next, keyless-unusable}
 use Rattle.alloc_book.proofs.search.least_shared.Goals as goal
 

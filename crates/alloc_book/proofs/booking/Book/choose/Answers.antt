@@ -1,4 +1,4 @@
-use Rattle.alloc_book.specs.Claims.{holders}
+use Rattle.claim_index.specs.Claims.{holders}
 use Rattle.alloc_book.proofs.ChooseLaws.{answer-chosen, answer-only, answer-marked}
 use Rattle.alloc_book.proofs.booking.Book.choose.Goals as goal
 

@@ -4,7 +4,7 @@ use Rattle.kube_model.specs.declared.key.Key.{Key}
 use Rattle.kube_model.specs.declared.record.Record.{Record}
 use Rattle.sharing_terms.specs.declared.terms.Terms.{Terms}
 use Rattle.sharing_terms.specs.Spelled.{recorded_terms}
-use Rattle.alloc_book.specs.Claims.{ClaimValue, doubted, doubted_by}
+use Rattle.claim_index.specs.Claims.{ClaimValue, doubted, doubted_by}
 use Rattle.alloc_book.proofs.booking.Book.doubt.Goals as goal
 
 -- the claim of a record under the terms of its mark

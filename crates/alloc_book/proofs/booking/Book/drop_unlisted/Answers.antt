@@ -2,7 +2,7 @@ use Rattle.std.proofs.Common.{ℕ, List, Bool, filter, ap, ◌∙◌}
 use Rattle.std.specs.Map.{values_of}
 use Rattle.kube_model.specs.declared.key.Key.{Key}
 use Rattle.alloc_book.specs.Book.{BookValue}
-use Rattle.alloc_book.specs.Claims.{ClaimValue}
+use Rattle.claim_index.specs.Claims.{ClaimValue}
 use Rattle.alloc_book.proofs.BookRemoval.{values-filter}
 use Rattle.alloc_book.proofs.booking.Book.drop_unlisted.Goals as goal
 

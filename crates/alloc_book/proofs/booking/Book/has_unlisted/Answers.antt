@@ -2,7 +2,7 @@ use Rattle.std.proofs.Common.{Bool, not, is_some, ap, ◌∙◌}
 use Rattle.std.specs.List.{list_any}
 use Rattle.kube_model.specs.declared.key.Key.{Key}
 use Rattle.alloc_book.specs.Book.{BookValue}
-use Rattle.alloc_book.specs.Claims.{ClaimValue}
+use Rattle.claim_index.specs.Claims.{ClaimValue}
 use Rattle.alloc_book.proofs.BookRemoval.{any-unlisted}
 use Rattle.alloc_book.proofs.booking.Book.has_unlisted.Goals as goal
 

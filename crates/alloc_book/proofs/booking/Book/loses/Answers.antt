@@ -1,6 +1,7 @@
 use Rattle.std.proofs.Common.{◌≡◌, ap, subst}
 use Rattle.std.specs.Map.{values_of}
-use Rattle.alloc_book.specs.Book.{AreAssigned, BookValue}
+use Rattle.claim_index.specs.Claims.{AreAssigned}
+use Rattle.alloc_book.specs.Book.{BookValue}
 use Rattle.alloc_book.proofs.BookLaws.{answer-loses}
 use Rattle.alloc_book.proofs.booking.Book.loses.Goals as goal
 

@@ -3,7 +3,7 @@ use Rattle.kube_model.specs.Keys.{same_key}
 use Rattle.kube_model.specs.Records.{is_assigned}
 use Rattle.kube_model.specs.declared.key.Key.{Key}
 use Rattle.alloc_book.specs.Book.{BookValue}
-use Rattle.alloc_book.specs.Claims.{ClaimValue, settled}
+use Rattle.claim_index.specs.Claims.{ClaimValue, settled}
 use Rattle.alloc_book.proofs.BookRemoval.{settled-assigned, settled-unassigned}
 use Rattle.alloc_book.proofs.booking.Book.put.Goals as goal
 use Rattle.alloc_book.proofs.booking.Book.put.Goals.{then-is_assigned, else-is_assigned}

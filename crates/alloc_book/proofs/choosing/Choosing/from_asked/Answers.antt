@@ -7,7 +7,7 @@ use Rattle.pool_config.specs.declared.compiled.CompiledPool.{CompiledPool}
 use Rattle.alloc_book.specs.Asking.{Asker, asking}
 use Rattle.alloc_book.specs.Choose.{new_or}
 use Rattle.alloc_book.specs.Chosen.{named}
-use Rattle.alloc_book.specs.Claims.{ClaimValue}
+use Rattle.claim_index.specs.Claims.{ClaimValue}
 use Rattle.alloc_book.specs.Search.{first_of, first_option}
 use Rattle.alloc_book.proofs.choosing.Choosing.from_asked.Goals as goal
 

@@ -1,5 +1,5 @@
 use Rattle.std.proofs.Common.{sym, ap, subst, ◌∙◌}
-use Rattle.alloc_book.specs.Claims.{settled}
+use Rattle.claim_index.specs.Claims.{settled}
 use Rattle.core_laws.specs.Queue.{AreApart, NoneAmong}
 use Rattle.core_rules.specs.Core.{State}
 use Rattle.ctl_core.specs.Holding.{IsPrepared}

@@ -2,7 +2,7 @@ use Rattle.std.proofs.Common.{◌≡◌, not, ◌&&◌, List, Some, sym, ap, sub
 use Rattle.std.specs.BTreeSet.{contains}
 use Rattle.kube_model.specs.declared.key.Key.{Key}
 use Rattle.kube_model.specs.Keys.{key_cmp, same_key}
-use Rattle.alloc_book.specs.Claims.{ClaimValue, doubted}
+use Rattle.claim_index.specs.Claims.{ClaimValue, doubted}
 use Rattle.core_rules.specs.Core.{State}
 use Rattle.core_rules.specs.Replied.{put_terms}
 use Rattle.ctl_core.specs.Reached.{IsReached}

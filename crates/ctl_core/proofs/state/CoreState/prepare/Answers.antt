@@ -1,5 +1,5 @@
 use Rattle.std.proofs.Common.{cond, [], ◌++◌, ap, ◌∙◌}
-use Rattle.alloc_book.specs.Claims.{ClaimValue, loses}
+use Rattle.claim_index.specs.Claims.{ClaimValue, loses}
 use Rattle.core_rules.specs.Core.{State, is_ready}
 use Rattle.core_rules.specs.Keys.{own_key}
 use Rattle.core_rules.specs.Take.{own_and_waiting}

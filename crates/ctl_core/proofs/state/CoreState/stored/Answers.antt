@@ -1,7 +1,7 @@
 use Rattle.std.proofs.Common.{◌≡◌, List, Some, sym, ap, subst, ◌∙◌}
 use Rattle.kube_model.specs.declared.key.Key.{Key}
 use Rattle.kube_model.specs.Keys.{same_key}
-use Rattle.alloc_book.specs.Claims.{ClaimValue, loses, settled}
+use Rattle.claim_index.specs.Claims.{ClaimValue, loses, settled}
 use Rattle.core_rules.specs.Core.{State, waiting}
 use Rattle.core_rules.specs.Replied.{put_terms}
 use Rattle.core_laws.specs.Queue.{AreApart, NoneAmong}

@@ -1,8 +1,0 @@
-use Rattle.alloc_book.proofs.ClaimantLaws.{least-unheld, none-unheld}
-use Rattle.alloc_book.proofs.claimants.Claimants.first_unheld.Goals as goal
-
-pub returns-clause-some : goal.returns-clause-some
-returns-clause-some c = rw (← c.self.view_is) (least-unheld c.self.inside.held c.self.inside.by_number _ _ _ c.self.invariant c.first_absent.ensures.some)
-
-pub returns-clause-none : goal.returns-clause-none
-returns-clause-none c = rw (← c.self.view_is) (none-unheld c.self.inside.held c.self.inside.by_number _ _ _ c.self.invariant c.first_absent.ensures.none)

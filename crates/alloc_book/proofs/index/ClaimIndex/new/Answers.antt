@@ -1,5 +1,0 @@
-use Rattle.alloc_book.proofs.IndexGrowth.{indexed-none}
-use Rattle.alloc_book.proofs.index.ClaimIndex.new.Goals as goal
-
-pub invariant_of-result : goal.invariant_of-result
-invariant_of-result c = indexed-none c.new.result.items c.new-2.result c.new-3.result c.new.ensures c.new-2.ensures c.new-3.ensures.numbers

@@ -1,0 +1,11 @@
+pub mod ClaimLaws
+pub mod ClaimantLaws
+pub mod GroupLaws
+pub mod GrowthLaws
+pub mod HolderLaws
+pub mod IndexGrowth
+pub mod IndexReading
+pub mod IndexRemoval
+pub mod RemovalLaws
+pub mod SlotLaws
+pub mod TermLaws

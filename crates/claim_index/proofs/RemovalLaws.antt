@@ -1,0 +1,85 @@
+-- The slots that a claim leaves, and the index without it.
+use Rattle.std.proofs.Common.{◌≡◌, ℕ, ◌≤◌, ◌==◌, Bool, true, false, cond, not, ◌||◌, List, length, take, Some, refl, sym, ap, subst, ◌∙◌, ⊎_elim, take_all}
+use Rattle.std.proofs.lemmas.Bool.{or_right, cases_Bool}
+use Rattle.std.specs.BTreeMap.{is_at}
+use Rattle.std.specs.List.Sorted.{IsStrictlySortedBy}
+use Rattle.std.specs.Map.{lookup, keys_of}
+use Rattle.std.specs.Ordering.{nat_cmp}
+use Rattle.ip_ranges.specs.Values.{AddressValue, has_address}
+use Rattle.kube_model.specs.declared.key.Key.{Key}
+use Rattle.kube_model.specs.Keys.{key_cmp}
+use Rattle.kube_model.specs.declared.port.Port.{Port}
+use Rattle.numbered_items.specs.Index.{IndexValue, numbers_under}
+use Rattle.claim_index.specs.declared.slot.Slot.{Slot}
+use Rattle.claim_index.specs.Claims.{ClaimValue}
+use Rattle.claim_index.specs.Holders.{AddressHoldersValue, in_slot, claims_at, claims_having}
+use Rattle.claim_index.specs.Index.{IsIndexed}
+use Rattle.claim_index.specs.Removal.{all_but, left_at}
+use Rattle.claim_index.specs.Slots.{occupies, same_slot, is_slot_of}
+use Rattle.claim_index.proofs.GrowthLaws.{or-none}
+use Rattle.claim_index.proofs.SlotLaws.{same_slot-is, same_slot-itself}
+use Rattle.claim_index.proofs.IndexRemoval.{filter-once, without, removed-assigned, removed-groups, removed-keys, removed-holders}
+
+-- ---- the slots that a claim leaves
+module _ (n : ℕ) (xs : List AddressValue) where
+  -- taken out twice at the addresses is taken out once
+  left-twice : (numbers : AddressValue → List ℕ) → left_at n xs (left_at n xs numbers) ≡ left_at n xs numbers
+  left-twice numbers = λ i a. by (has_address xs a) (numbers a) i
+    where
+      by : (here : Bool) (ns : List ℕ) → cond here (all_but n (cond here (all_but n ns) ns)) (cond here (all_but n ns) ns) ≡ cond here (all_but n ns) ns
+      by true ns = filter-once (λ m. not (m == n)) ns
+      by false ns = refl
+
+  -- the number is taken out in these slots at the addresses
+  abbrev pub left_in : (Slot → Bool) → (Slot → AddressValue → List ℕ) → Slot → AddressValue → List ℕ
+  left_in slots numbers slot = cond (slots slot) (left_at n xs (numbers slot)) (numbers slot)
+
+  -- in one slot more
+  pub left-slot : (start : Slot → AddressValue → List ℕ) (before after : AddressHoldersValue) (slots grown : Slot → Bool) (x : Slot) (shown : List AddressValue)
+      → ((s : Slot) → grown s ≡ (slots s || same_slot x s)) → shown ≡ xs
+      → claims_having after x ≡ left_at n shown (claims_having before x)
+      → ((s : Slot) → same_slot x s ≡ false → in_slot after s ≡ in_slot before s)
+      → ((s : Slot) → claims_having before s ≡ left_in slots start s)
+      → (s : Slot) → claims_having after s ≡ left_in grown start s
+  left-slot start before after slots grown x shown grows is here others so_far s =
+      ⊎_elim
+      (λ same. subst (λ (t : Slot). claims_having after t ≡ left_in grown start t) (same_slot-is x s same) at-slot)
+      (λ apart. (λ j a. claims_at (others s apart j a.family) a.number) ∙ so_far s ∙ ap (kept s) (sym (grows s ∙ ap (λ b. slots s || b) apart ∙ or-none (slots s))))
+      (cases_Bool (same_slot x s))
+    where
+      kept : Slot → Bool → AddressValue → List ℕ
+      kept t b = cond b (left_at n xs (start t)) (start t)
+
+      again : (b : Bool) → left_at n xs (kept x b) ≡ left_at n xs (start x)
+      again true = left-twice (start x)
+      again false = refl
+
+      at-slot : claims_having after x ≡ left_in grown start x
+      at-slot =
+          here
+          ∙ ap (λ (l : List AddressValue). left_at n l (claims_having before x)) is
+          ∙ ap (left_at n xs) (so_far x)
+          ∙ again (slots x)
+          ∙ ap (kept x) (sym (grows x ∙ or_right (slots x) (same_slot x x) (same_slot-itself x)))
+
+-- and in those of all ports of the claim
+pub left-all : (start : Slot → AddressValue → List ℕ) (after : AddressHoldersValue) (n : ℕ) (xs : List AddressValue) (group : List ℕ) (ports shown : List Port) (i : ℕ)
+    → length shown ≤ i → shown ≡ ports
+    → ((slot : Slot) → claims_having after slot ≡ left_in n xs (is_slot_of group (take i shown)) start slot)
+    → (slot : Slot) → claims_having after slot ≡ left_in n xs (is_slot_of group ports) start slot
+left-all start after n xs group ports shown i passed is each slot = each slot ∙ ap (λ (ps : List Port). left_in n xs (is_slot_of group ps) start slot) (take_all i shown passed ∙ is)
+
+-- ---- the index without a claim
+pub indexed-left : (n : ℕ) (items less : List (ℕ × ClaimValue)) (c : ClaimValue) (key : Key) (by_key by_key_after : IndexValue Key) (h removed : AddressHoldersValue)
+    → less ≡ without n items → IsStrictlySortedBy nat_cmp (keys_of items) → Some c ≡ lookup (λ m. m == n) items → key ≡ c.key
+    → IsIndexed items by_key h
+    → numbers_under key_cmp by_key_after ≡ (λ k. cond (is_at (key_cmp key) k) (all_but n (numbers_under key_cmp by_key k)) (numbers_under key_cmp by_key k))
+    → ((slot : Slot) → claims_having removed slot ≡ cond (occupies slot c) (left_at n c.holding.addresses (claims_having h slot)) (claims_having h slot))
+    → IsIndexed less by_key_after removed
+indexed-left n items less c key by_key by_key_after h removed is sorted found key_is indexed keys numbers =
+    record {
+      assigned = removed-assigned n items less is sorted indexed.assigned;
+      keys = removed-keys n items less is sorted c found key by_key by_key_after key_is indexed.keys keys;
+      holders = removed-holders n items less is sorted c found h removed indexed.holders numbers;
+      groups = removed-groups n items less is sorted indexed.groups;
+    }

@@ -1,0 +1,190 @@
+-- The claims in each slot where those of one slot were changed.
+use Rattle.std.proofs.Common.{◌≡◌, ℕ, ◌==◌, Bool, true, false, cond, List, [], filter, Option, Some, None, refl, sym, ap, ◌∙◌, subst, arith}
+use Rattle.std.proofs.lemmas.Bool.{true≢false}
+use Rattle.std.proofs.lemmas.Bool.Decides.{nat_tests}
+use Rattle.std.proofs.lemmas.Map.Text.{is_eq-slice_cmp}
+use Rattle.std.proofs.lemmas.Slice.Eq.{bytes_eq-Decides}
+use Rattle.std.specs.Map.{lookup}
+use Rattle.std.specs.BTreeMap.{BTreeMap, is_at, Updates, WritesThrough}
+use Rattle.std.specs.Option.{IsSome, unwrap_or}
+use Rattle.kube_model.specs.declared.port.Port.{Port}
+use Rattle.kube_model.specs.declared.port.Protocol.{Protocol}
+use Rattle.kube_model.specs.declared.port.Protocol.TheVariants.{Tcp, Udp, Sctp}
+use Rattle.sharing_terms.specs.Sharing.{same_port}
+use Rattle.sharing_terms.proofs.SharingLaws.{same_port-is, same_port-itself}
+use Rattle.claim_index.specs.contracts.slot.SlotOrd.TheImpl as derived
+use Rattle.claim_index.specs.declared.slot.Slot.{Slot}
+use Rattle.claim_index.specs.declared.slot.Slot.TheVariants.{Any, OfPort, OfGroup}
+use Rattle.claim_index.specs.Holders.{ClaimantsValue, claims_at, no_claimants}
+use Rattle.claim_index.specs.Slots.{same_slot}
+
+-- ---- slots that are one
+
+at-port : (p q : Protocol) (m n : ℕ) → is_at (derived.cmp-value.it (OfPort (record { protocol = p; port = m }))) (OfPort (record { protocol = q; port = n }))
+    ≡ same_port (record { protocol = p; port = m }) (record { protocol = q; port = n })
+at-port Tcp Tcp m n = grind (arith, nat_tests)
+at-port Tcp Udp m n = refl
+at-port Tcp Sctp m n = refl
+at-port Udp Tcp m n = refl
+at-port Udp Udp m n = grind (arith, nat_tests)
+at-port Udp Sctp m n = refl
+at-port Sctp Tcp m n = refl
+at-port Sctp Udp m n = refl
+at-port Sctp Sctp m n = grind (arith, nat_tests)
+
+-- the order that the map goes by finds the slots equal that are one
+at-slot : (slot s : Slot) → is_at (derived.cmp-value.it slot) s ≡ same_slot slot s
+at-slot Any Any = refl
+at-slot Any (OfPort q) = refl
+at-slot Any (OfGroup h) = refl
+at-slot (OfPort p) Any = refl
+at-slot (OfPort p) (OfPort q) = at-port p.protocol q.protocol p.port q.port
+at-slot (OfPort p) (OfGroup h) = refl
+at-slot (OfGroup g) Any = refl
+at-slot (OfGroup g) (OfPort q) = refl
+at-slot (OfGroup g) (OfGroup h) = is_eq-slice_cmp g h
+
+pub same_slot-itself : (slot : Slot) → same_slot slot slot ≡ true
+same_slot-itself Any = refl
+same_slot-itself (OfPort port) = same_port-itself port
+same_slot-itself (OfGroup group) = (bytes_eq-Decides group group).1 refl
+
+pub same_slot-is : (slot s : Slot) → same_slot slot s ≡ true → slot ≡ s
+same_slot-is Any Any e = refl
+same_slot-is Any (OfPort other) e = absurd (true≢false (sym e))
+same_slot-is Any (OfGroup other) e = absurd (true≢false (sym e))
+same_slot-is (OfPort port) Any e = absurd (true≢false (sym e))
+same_slot-is (OfPort port) (OfPort other) e = ap (λ (p : Port). OfPort p) (same_port-is port other e)
+same_slot-is (OfPort port) (OfGroup other) e = absurd (true≢false (sym e))
+same_slot-is (OfGroup group) Any e = absurd (true≢false (sym e))
+same_slot-is (OfGroup group) (OfPort other) e = absurd (true≢false (sym e))
+same_slot-is (OfGroup group) (OfGroup other) e = ap (λ (g : List ℕ). OfGroup g) ((bytes_eq-Decides group other).0 e)
+
+-- ---- entries
+
+-- what a map has in the slot, and no claims where it has nothing
+abbrev slot_of : List (Slot × ClaimantsValue) → Slot → ClaimantsValue
+slot_of entries slot = unwrap_or (lookup (same_slot slot) entries) no_claimants
+
+looked-up : (slot : Slot) (entries : List (Slot × ClaimantsValue)) → lookup (is_at (derived.cmp-value.it slot)) entries ≡ lookup (same_slot slot) entries
+looked-up slot entries = ap (λ (test : Slot → Bool). lookup test entries) (λ i s. at-slot slot s i)
+
+-- ---- one slot changed
+
+-- the slot has these claims after, and each other slot those that it had
+abbrev Puts : Slot → ClaimantsValue → List (Slot × ClaimantsValue) → List (Slot × ClaimantsValue) → Type 0
+Puts slot new before after = (s : Slot) → slot_of after s ≡ cond (same_slot slot s) new (slot_of before s)
+
+some-or : (b : Bool) (new : ClaimantsValue) (other : Option ClaimantsValue) → unwrap_or (cond b (Some new) other) no_claimants ≡ cond b new (unwrap_or other no_claimants)
+some-or true new other = refl
+some-or false new other = refl
+
+puts-updated : (slot : Slot) (m n : BTreeMap Slot ClaimantsValue) (new : ClaimantsValue) → Updates derived.cmp-value.it m n slot (Some new) → Puts slot new m.entries n.entries
+puts-updated slot m n new updates s =
+    let other = lookup (is_at (derived.cmp-value.it s)) m.entries in
+    ap (λ o. unwrap_or o no_claimants) (sym (looked-up s n.entries) ∙ updates.0 s)
+    ∙ some-or (is_at (derived.cmp-value.it slot) s) new other
+    ∙ ap (λ b. cond b new (unwrap_or other no_claimants)) (at-slot slot s)
+    ∙ ap (λ o. cond (same_slot slot s) new (unwrap_or o no_claimants)) (looked-up s m.entries)
+
+module _ (slot : Slot) (new : ClaimantsValue) (before after : List (Slot × ClaimantsValue)) (puts : Puts slot new before after) where
+  put-now : slot_of after slot ≡ new
+  put-now = puts slot ∙ ap (λ b. cond b new (slot_of before slot)) (same_slot-itself slot)
+
+  put-apart : (s : Slot) → same_slot slot s ≡ false → slot_of after s ≡ slot_of before s
+  put-apart s apart = puts s ∙ ap (λ b. cond b new (slot_of before s)) apart
+
+  -- what relates the new claims of the slot to those that it had, and all claims to themselves, relates those of each slot
+  module _ (P : ClaimantsValue → ClaimantsValue → Type 0) (itself : (c : ClaimantsValue) → P c c) (changed : P (slot_of before slot) new) where
+    put-by : (s : Slot) (b : Bool) → same_slot slot s ≡ b → P (slot_of before s) (cond b new (slot_of before s))
+    put-by s true same = subst (λ t. P (slot_of before t) new) (same_slot-is slot s same) changed
+    put-by s false apart = itself (slot_of before s)
+
+    put-each : (s : Slot) → P (slot_of before s) (slot_of after s)
+    put-each s = subst (λ c. P (slot_of before s) c) (sym (puts s)) (put-by s (same_slot slot s) refl)
+
+-- the claims that a map has in the slot
+module _ (slot : Slot) (entries : List (Slot × ClaimantsValue)) (old : ClaimantsValue) (found : Some old ≡ lookup (is_at (derived.cmp-value.it slot)) entries) where
+  slot-found : old ≡ slot_of entries slot
+  slot-found = ap (λ o. unwrap_or o no_claimants) (found ∙ looked-up slot entries)
+
+  pub of-found : (P : ClaimantsValue → Type 0) → P old → P (slot_of entries slot)
+  of-found P h = subst P slot-found h
+
+  pub to-found : (P : ClaimantsValue → Type 0) → P (slot_of entries slot) → P old
+  to-found P h = subst P (sym slot-found) h
+
+-- a slot in which the map has nothing
+pub slot-absent : (slot : Slot) (entries : List (Slot × ClaimantsValue)) → None ≡ lookup (is_at (derived.cmp-value.it slot)) entries → slot_of entries slot ≡ no_claimants
+slot-absent slot entries none = ap (λ o. unwrap_or o no_claimants) (sym (none ∙ looked-up slot entries))
+
+nil-by : (b : Bool) (test : ℕ → Bool) → ◌≡◌ {A = List ℕ} [] (cond b (filter test []) [])
+nil-by true test = refl
+nil-by false test = refl
+
+-- nothing is taken out of it
+pub absent-filtered : (slot : Slot) (entries : List (Slot × ClaimantsValue)) (test : ℕ → Bool) (number : ℕ) → None ≡ lookup (is_at (derived.cmp-value.it slot)) entries
+    → claims_at (slot_of entries slot) ≡ (λ n. cond (number == n) (filter test (claims_at (slot_of entries slot) n)) (claims_at (slot_of entries slot) n))
+absent-filtered slot entries test number none =
+    subst (λ (c : ClaimantsValue). claims_at c ≡ (λ n. cond (number == n) (filter test (claims_at c n)) (claims_at c n))) (sym (slot-absent slot entries none))
+    (λ i n. nil-by (number == n) test i)
+
+-- the claims of the slot were changed in place
+module _ (slot : Slot) (m n : BTreeMap Slot ClaimantsValue) (old new : ClaimantsValue) (found : Some old ≡ lookup (is_at (derived.cmp-value.it slot)) m.entries)
+    (writes : WritesThrough derived.cmp-value.it (derived.cmp-value.it slot) m new n) where
+  is-some : (o : Option ClaimantsValue) → Some old ≡ o → IsSome o
+  is-some o e = rw (← e) refl
+
+  puts-written : Puts slot new m.entries n.entries
+  puts-written = puts-updated slot m n new (writes.3 (is-some (lookup (is_at (derived.cmp-value.it slot)) m.entries) found))
+
+  pub written-now : slot_of n.entries slot ≡ new
+  written-now = put-now slot new m.entries n.entries puts-written
+
+  pub written-apart : (s : Slot) → same_slot slot s ≡ false → slot_of n.entries s ≡ slot_of m.entries s
+  written-apart = put-apart slot new m.entries n.entries puts-written
+
+  pub written-each : (P : ClaimantsValue → ClaimantsValue → Type 0) → ((c : ClaimantsValue) → P c c) → P old new → (s : Slot) → P (slot_of m.entries s) (slot_of n.entries s)
+  written-each P itself changed = put-each slot new m.entries n.entries puts-written P itself (of-found slot m.entries old found (λ c. P c new) changed)
+
+  -- the list of one address was changed
+  pub written-claims : (change : List ℕ → List ℕ) (number : ℕ) → claims_at new ≡ (λ n. cond (number == n) (change (claims_at old n)) (claims_at old n))
+      → claims_at (slot_of n.entries slot) ≡ (λ n. cond (number == n) (change (claims_at (slot_of m.entries slot) n)) (claims_at (slot_of m.entries slot) n))
+  written-claims change number changed =
+      let listed : ClaimantsValue → ℕ → List ℕ = λ c n. cond (number == n) (change (claims_at c n)) (claims_at c n) in
+      ap claims_at (put-now slot new m.entries n.entries puts-written) ∙ changed ∙ ap listed (slot-found slot m.entries old found)
+
+-- claims were put into a slot that had none
+module _ (slot made : Slot) (is : made ≡ slot) (m before n : BTreeMap Slot ClaimantsValue) (new : ClaimantsValue) (same : before ≡ m) (none : None ≡ lookup (is_at (derived.cmp-value.it slot)) m.entries)
+    (updates : Updates derived.cmp-value.it before n made (Some new)) where
+  puts-made : Puts slot new m.entries n.entries
+  puts-made =
+      subst (λ (map : BTreeMap Slot ClaimantsValue). Puts slot new map.entries n.entries) same
+      (puts-updated slot before n new (subst (λ (s : Slot). Updates derived.cmp-value.it before n s (Some new)) is updates))
+
+  pub made-now : slot_of n.entries slot ≡ new
+  made-now = put-now slot new m.entries n.entries puts-made
+
+  pub made-each : (P : ClaimantsValue → ClaimantsValue → Type 0) → ((c : ClaimantsValue) → P c c) → P no_claimants new → (s : Slot) → P (slot_of m.entries s) (slot_of n.entries s)
+  made-each P itself changed =
+      put-each slot new m.entries n.entries puts-made P itself (subst (λ c. P c new) (ap (λ o. unwrap_or o no_claimants) (none ∙ looked-up slot m.entries)) changed)
+
+-- the slot was taken out
+none-or : (b : Bool) (other : Option ClaimantsValue) → unwrap_or (cond b None other) no_claimants ≡ cond b no_claimants (unwrap_or other no_claimants)
+none-or true other = refl
+none-or false other = refl
+
+pub puts-dropped : (slot : Slot) (m n : BTreeMap Slot ClaimantsValue) → Updates derived.cmp-value.it m n slot None → (s : Slot) → slot_of n.entries s ≡ cond (same_slot slot s) no_claimants (slot_of m.entries s)
+puts-dropped slot m n updates s =
+    let other = lookup (is_at (derived.cmp-value.it s)) m.entries in
+    ap (λ o. unwrap_or o no_claimants) (sym (looked-up s n.entries) ∙ updates.0 s)
+    ∙ none-or (is_at (derived.cmp-value.it slot) s) other
+    ∙ ap (λ b. cond b no_claimants (unwrap_or other no_claimants)) (at-slot slot s)
+    ∙ ap (λ o. cond (same_slot slot s) no_claimants (unwrap_or o no_claimants)) (looked-up s m.entries)
+
+module _ (slot : Slot) (m n : BTreeMap Slot ClaimantsValue) (updates : Updates derived.cmp-value.it m n slot None) where
+  pub dropped-now : slot_of n.entries slot ≡ no_claimants
+  dropped-now = put-now slot no_claimants m.entries n.entries (puts-dropped slot m n updates)
+
+  pub dropped-apart : (s : Slot) → same_slot slot s ≡ false → slot_of n.entries s ≡ slot_of m.entries s
+  dropped-apart = put-apart slot no_claimants m.entries n.entries (puts-dropped slot m n updates)

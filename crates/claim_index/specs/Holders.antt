@@ -1,0 +1,72 @@
+-- Who has the addresses: by each address the numbers of the claims that have it.
+use Rattle.std.specs.Prelude.{◌≤◌, ◌<◌, ℕ, List, []}
+use Rattle.std.specs.List.{Contains}
+use Rattle.std.specs.Map.{lookup}
+use Rattle.std.specs.Option.{unwrap_or}
+use Rattle.std.specs.Ordering.{nat_cmp}
+use Rattle.ip_ranges.specs.declared.family.Family.{Family}
+use Rattle.ip_ranges.specs.declared.family.Family.TheVariants.{V4, V6}
+use Rattle.ip_ranges.specs.Values.{AddressValue}
+use Rattle.numbered_items.specs.Index.{IndexValue, numbers_under, room_under}
+use Rattle.claim_index.specs.declared.slot.Slot.{Slot}
+use Rattle.claim_index.specs.Slots.{same_slot}
+
+-- The claims that are listed in one slot at the addresses of one family, by their numbers.
+pub record ClaimantsValue : Type 0 where
+  pub claims : IndexValue ℕ  -- the numbers of the claims at each address
+  pub room : ℕ  -- at how many addresses more claims can be listed without memory
+
+-- Who has the addresses of one family, by their numbers: the claims in each slot.
+abbrev pub HoldersValue : Type 0
+HoldersValue = List (Slot × ClaimantsValue)
+
+-- Who has the addresses of both families.
+pub record AddressHoldersValue : Type 0 where
+  pub v4 : HoldersValue
+  pub v6 : HoldersValue
+
+-- the numbers of the claims that are listed at the address, by its number
+abbrev pub claims_at : ClaimantsValue → ℕ → List ℕ
+claims_at c n = numbers_under nat_cmp c.claims n
+
+-- how many claims more can be listed there without memory
+abbrev pub claim_room_at : ClaimantsValue → ℕ → ℕ
+claim_room_at c n = room_under nat_cmp c.claims n
+
+-- no claim is listed, and there is no room for one
+abbrev pub no_claimants : ClaimantsValue
+no_claimants = record { claims = []; room = 0 }
+
+-- the claims in the slot
+abbrev pub in_slot_at : HoldersValue → Slot → ClaimantsValue
+in_slot_at h slot = unwrap_or (lookup (same_slot slot) h) no_claimants
+
+-- the one of the family
+abbrev pub of_family : AddressHoldersValue → Family → HoldersValue
+of_family h V4 = h.v4
+of_family h V6 = h.v6
+
+-- the claims in the slot at addresses of the family
+abbrev pub in_slot : AddressHoldersValue → Slot → Family → ClaimantsValue
+in_slot h slot family = in_slot_at (of_family h family) slot
+
+-- the numbers of the claims in the slot that have the address
+abbrev pub claims_having : AddressHoldersValue → Slot → AddressValue → List ℕ
+claims_having h slot a = claims_at (in_slot h slot a.family) a.number
+
+-- how many claims more may be listed there without memory
+abbrev pub claim_room : AddressHoldersValue → Slot → AddressValue → ℕ
+claim_room h slot a = claim_room_at (in_slot h slot a.family) a.number
+
+-- at how many addresses more of the family claims can be listed in the slot without memory
+abbrev pub address_room : AddressHoldersValue → Slot → Family → ℕ
+address_room h slot family = (in_slot h slot family).room
+
+-- There is room in the slot for a claim more on each of the addresses, and for so many addresses.
+pub record HasRoomAt (h : AddressHoldersValue) (more : ℕ) (slot : Slot) (addresses : List AddressValue) : Type 0 where
+  pub by_claims : (a : AddressValue) → Contains addresses a → 0 < claim_room h slot a
+  pub by_family : (a : AddressValue) → Contains addresses a → more ≤ address_room h slot a.family
+
+-- the address of the family with this number
+abbrev pub address_of : Family → ℕ → AddressValue
+address_of family n = record { family = family; number = n }

@@ -1,0 +1,9 @@
+pub mod Alike
+pub mod Claims
+pub mod Groups
+pub mod Holders
+pub mod Index
+pub mod Reading
+pub mod Removal
+pub mod Room
+pub mod Slots

@@ -1,0 +1,21 @@
+-- For what more the index has room.
+use Rattle.std.specs.Prelude.{◌≡◌, ◌<◌, ℕ, true, length}
+use Rattle.kube_model.specs.declared.key.Key.{Key}
+use Rattle.kube_model.specs.Keys.{key_cmp}
+use Rattle.numbered_items.specs.Index.{IndexValue, room_under}
+use Rattle.claim_index.specs.declared.slot.Slot.{Slot}
+use Rattle.claim_index.specs.Claims.{ClaimValue}
+use Rattle.claim_index.specs.Holders.{AddressHoldersValue, HasRoomAt}
+use Rattle.claim_index.specs.Slots.{occupies}
+
+-- By what the claims are found, and for what more there is room, without memory.
+pub record IndexRoom : Type 0 where
+  pub claims : ℕ  -- for so many claims
+  pub keys : IndexValue Key  -- by each key the numbers of its claims
+  pub holders : AddressHoldersValue  -- and by each address
+
+-- There is room for a claim that has addresses.
+pub record HasRoomFor (room : IndexRoom) (c : ClaimValue) : Type 0 where
+  pub claim : 0 < room.claims
+  pub key : 0 < room_under key_cmp room.keys c.key
+  pub addresses : (slot : Slot) → occupies slot c ≡ true → HasRoomAt room.holders (length c.holding.addresses) slot c.holding.addresses

@@ -1,0 +1,130 @@
+//! Who has the addresses of one family.
+ghost use Rattle.std.specs.Prelude.{◌≡◌, ◌≤◌, ◌<◌, ◌+◌, ◌==◌, ℕ, ◌∷◌, ◌++◌, [], false, not, filter, if◌then◌else◌, OnOk, IfSome, IfNone};
+ghost use Rattle.mlb_base.specs.Items.{is_nil};
+ghost use Rattle.claim_index.specs.declared.slot.Slot.{Slot};
+ghost use Rattle.claim_index.specs.Holders.{claims_at, claim_room_at, in_slot_at};
+ghost use Rattle.claim_index.specs.Slots.{same_slot};
+ghost use Rattle.number_sets.specs.Least.{IsLeastIn, NonePasses};
+
+use crate::claimants::Claimants;
+use crate::slot::Slot;
+use mlb_base::{NoMemory, TryCopy};
+use std::alloc::Global;
+use std::collections::BTreeMap;
+use std::marker::Model;
+
+/// Who has the addresses of one family: in each slot the claims by their addresses. A slot in which no claim is listed any more is
+/// dropped.
+#[derive(Drop)]
+pub(crate) struct Holders {
+    alloc: Global,
+    by_slot: BTreeMap<Slot, Claimants>,
+}
+
+impl Model for Holders {
+    ghost use Rattle.claim_index.specs.Holders.{HoldersValue};
+
+    ghost Value = { HoldersValue };
+
+    ghost view = { λ h. h.by_slot.entries };
+}
+
+impl Holders {
+    /// Nobody has an address. It takes no memory.
+    pub(crate) fn new(alloc: Global) -> Holders
+        ensures numbers { (slot : Slot) → claims_at (in_slot_at result slot) ≡ (λ n. []) }
+    {
+        Holders {
+            alloc,
+            by_slot: BTreeMap::new(alloc),
+        }
+    }
+
+    /// Makes room in the slot for a claim more on the address, and for so many addresses more.
+    pub(crate) fn reserve(&mut self, slot: &Slot, number: u128, more: usize) -> Result<(), NoMemory>
+        ensures numbers { (s : Slot) → claims_at (in_slot_at self.new s) ≡ claims_at (in_slot_at self.old s) }
+        ensures claims { OnOk result (0 < claim_room_at (in_slot_at self.new slot.now) number) }
+        ensures addresses { OnOk result (more ≤ (in_slot_at self.new slot.now).room) }
+        ensures claims_kept { (s : Slot) (n : ℕ) → claim_room_at (in_slot_at self.old s) n ≤ claim_room_at (in_slot_at self.new s) n }
+        ensures addresses_kept { (s : Slot) → (in_slot_at self.old s).room ≤ (in_slot_at self.new s).room }
+    {
+        if let Some(claimants) = self.by_slot.get_mut(slot) {
+            return claimants.reserve(number, more);
+        }
+        let made = slot.copy()?;
+        let mut claimants = Claimants::new(self.alloc);
+        claimants.reserve(number, more)?;
+        let _none = self.by_slot.insert(made, claimants)?;
+        Ok(())
+    }
+
+    /// The claim is listed in the slot at the address. There is room for it, so it takes no memory.
+    pub(crate) fn add(&mut self, slot: &Slot, number: u128, claim: u64)
+        requires claims { 0 < claim_room_at (in_slot_at self.old slot.now) number }
+        requires addresses { 0 < (in_slot_at self.old slot.now).room }
+        ensures numbers { claims_at (in_slot_at self.new slot.now)
+            ≡ (λ n. if number == n then claims_at (in_slot_at self.old slot.now) n ++ claim ∷ [] else claims_at (in_slot_at self.old slot.now) n) }
+        ensures claims { (n : ℕ) → claim_room_at (in_slot_at self.old slot.now) n ≤ claim_room_at (in_slot_at self.new slot.now) n + (if number == n then 1 else 0) }
+        ensures addresses { (in_slot_at self.old slot.now).room ≤ (in_slot_at self.new slot.now).room + 1 }
+        ensures others { (s : Slot) → same_slot slot.now s ≡ false → in_slot_at self.new s ≡ in_slot_at self.old s }
+    {
+        let Some(claimants) = self.by_slot.get_mut(slot) else {
+            return;
+        };
+        claimants.add(number, claim);
+    }
+
+    /// The claim isn't listed in the slot at the address. It takes no memory.
+    pub(crate) fn remove(&mut self, slot: &Slot, number: u128, claim: u64)
+        ensures numbers { claims_at (in_slot_at self.new slot.now)
+            ≡ (λ n. if number == n then filter (λ c. not (c == claim)) (claims_at (in_slot_at self.old slot.now) n) else claims_at (in_slot_at self.old slot.now) n) }
+        ensures others { (s : Slot) → same_slot slot.now s ≡ false → in_slot_at self.new s ≡ in_slot_at self.old s }
+    {
+        let Some(claimants) = self.by_slot.get_mut(slot) else {
+            return;
+        };
+        claimants.remove(number, claim);
+        if claimants.is_empty() {
+            self.drop_empty(slot);
+        }
+    }
+
+    /// Drops the slot, in which no claim is listed.
+    fn drop_empty(&mut self, slot: &Slot)
+        requires { claims_at (in_slot_at self.old slot.now) ≡ (λ n. []) }
+        ensures numbers { claims_at (in_slot_at self.new slot.now) ≡ (λ n. []) }
+        ensures others { (s : Slot) → same_slot slot.now s ≡ false → in_slot_at self.new s ≡ in_slot_at self.old s }
+    {
+        let _empty = self.by_slot.remove(slot);
+    }
+
+    /// The numbers of the claims that are listed in the slot at the address.
+    pub(crate) fn numbers(&self, slot: &Slot, number: u128) -> &[u64]
+        ensures { result.now ≡ claims_at (in_slot_at self.now slot.now) number }
+    {
+        match self.by_slot.get(slot) {
+            Some(claimants) => claimants.numbers(number),
+            None => &[],
+        }
+    }
+
+    /// The least address from low to high at which no claim is listed in the slot.
+    pub(crate) fn first_unheld(&self, slot: &Slot, low: u128, high: u128) -> Option<u128>
+        ensures some { IfSome result (λ n. IsLeastIn (λ m. is_nil (claims_at (in_slot_at self.now slot.now) m)) low high n) }
+        ensures none { IfNone result (NonePasses (λ m. is_nil (claims_at (in_slot_at self.now slot.now) m)) low high) }
+    {
+        match self.by_slot.get(slot) {
+            Some(claimants) => claimants.first_unheld(low, high),
+            None if low <= high => Some(low),
+            None => None,
+        }
+    }
+
+    /// The least address from low to high at which a claim is listed in the slot.
+    pub(crate) fn first_held(&self, slot: &Slot, low: u128, high: u128) -> Option<u128>
+        ensures some { IfSome result (λ n. IsLeastIn (λ m. not (is_nil (claims_at (in_slot_at self.now slot.now) m))) low high n) }
+        ensures none { IfNone result (NonePasses (λ m. not (is_nil (claims_at (in_slot_at self.now slot.now) m))) low high) }
+    {
+        self.by_slot.get(slot)?.first_held(low, high)
+    }
+}

@@ -1,0 +1,25 @@
+//! In what claims are listed at an address.
+use kube_labels::Text;
+use kube_model::Port;
+use mlb_base::{NoMemory, TryCopy};
+
+/// A list of claims that there is at each address.
+#[derive(Drop, PartialEq, Eq, PartialOrd, Ord)]
+pub enum Slot {
+    /// The list of all claims on the address.
+    Any,
+    /// The list of those with this port.
+    OfPort(Port),
+    /// The list of those of this group.
+    OfGroup(Text),
+}
+
+impl TryCopy for Slot {
+    fn copy(&self) -> Result<Slot, NoMemory> {
+        Ok(match self {
+            Slot::Any => Slot::Any,
+            Slot::OfPort(port) => Slot::OfPort(*port),
+            Slot::OfGroup(group) => Slot::OfGroup(group.copy()?),
+        })
+    }
+}

@@ -1,7 +1,8 @@
 -- The tests of terms and of claims decide that they are one.
-use Rattle.std.proofs.Common.{◌≡◌, ℕ, true, ◌&&◌, List, [], ◌∷◌, refl, sym, ap, ◌∙◌}
+use Rattle.std.proofs.Common.{◌≡◌, ℕ, true, ◌&&◌, List, refl, sym, ap, ◌∙◌, subst}
 use Rattle.std.proofs.lemmas.Bool.{and_parts, and_from, true≢false}
-use Rattle.std.proofs.lemmas.Slice.Eq.{bytes_eq-Decides}
+use Rattle.std.proofs.lemmas.Slice.Eq.{bytes_eq-Decides, slice_eq-Decides}
+use Rattle.std.specs.Bool.{Decides}
 use Rattle.std.specs.Cmp.Lexicographic.{pointwise}
 use Rattle.std.specs.Str.{bytes_eq}
 use Rattle.kube_labels.specs.Pairs.{pair_eq}
@@ -33,19 +34,11 @@ pub backend-itself : (a : Backend) → is_alike a a ≡ true
 backend-itself Cluster = refl
 backend-itself (Local n s) = and_from (bytes_eq n n) (pointwise pair_eq s s) ((bytes_eq-Decides n n).1 refl) ((pairs_eq-Decides s s).1 refl)
 
-ports-same : (ps qs : List Port) → pointwise same_port ps qs ≡ true → ps ≡ qs
-ports-same [] [] e = refl
-ports-same [] (q ∷ qs) e = absurd (true≢false (sym e))
-ports-same (p ∷ ps) [] e = absurd (true≢false (sym e))
-ports-same (p ∷ ps) (q ∷ qs) e =
-    let parts = and_parts (same_port p q) (pointwise same_port ps qs) e in
-    let first : Port → List Port = λ x. x ∷ ps in
-    let rest : List Port → List Port = λ more. q ∷ more in
-    ap first (same_port-is p q parts.0) ∙ ap rest (ports-same ps qs parts.1)
+same_port-Decides : (p q : Port) → Decides (same_port p q) (p ≡ q)
+same_port-Decides p q = (same_port-is p q, λ same. subst (λ (x : Port). same_port p x ≡ true) same (same_port-itself p))
 
-ports-itself : (ps : List Port) → pointwise same_port ps ps ≡ true
-ports-itself [] = refl
-ports-itself (p ∷ ps) = and_from (same_port p p) (pointwise same_port ps ps) (same_port-itself p) (ports-itself ps)
+ports-Decides : (ps qs : List Port) → Decides (pointwise same_port ps qs) (ps ≡ qs)
+ports-Decides ps qs = slice_eq-Decides same_port-Decides ps qs (pointwise same_port ps qs) refl
 
 pub same_terms-is : (a b : Terms) → same_terms a b ≡ true → a ≡ b
 same_terms-is a b e =
@@ -54,12 +47,12 @@ same_terms-is a b e =
     let key : List ℕ → Terms = λ x. record { key = x; ports = a.ports; backend = a.backend } in
     let ports : List Port → Terms = λ x. record { key = b.key; ports = x; backend = a.backend } in
     let backend : Backend → Terms = λ x. record { key = b.key; ports = b.ports; backend = x } in
-    ap key ((bytes_eq-Decides a.key b.key).0 one.0) ∙ ap ports (ports-same a.ports b.ports one.1) ∙ ap backend (backend-same a.backend b.backend two.1)
+    ap key ((bytes_eq-Decides a.key b.key).0 one.0) ∙ ap ports ((ports-Decides a.ports b.ports).0 one.1) ∙ ap backend (backend-same a.backend b.backend two.1)
 
 pub same_terms-itself : (a : Terms) → same_terms a a ≡ true
 same_terms-itself a =
     and_from (bytes_eq a.key a.key && pointwise same_port a.ports a.ports) (is_alike a.backend a.backend)
-    (and_from (bytes_eq a.key a.key) (pointwise same_port a.ports a.ports) ((bytes_eq-Decides a.key a.key).1 refl) (ports-itself a.ports))
+    (and_from (bytes_eq a.key a.key) (pointwise same_port a.ports a.ports) ((bytes_eq-Decides a.key a.key).1 refl) ((ports-Decides a.ports a.ports).1 refl))
     (backend-itself a.backend)
 
 -- the claim of a key, a record and terms

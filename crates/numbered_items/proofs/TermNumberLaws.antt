@@ -1,9 +1,12 @@
 -- Ascending numbers into which one is put, and of which one is taken out.
-use Rattle.std.proofs.Common.{◌≡◌, ℕ, zero, suc, ◌-◌, ◌<◌, ◌≤◌, ◌==◌, true, false, not, List, [], ◌∷◌, ◌++◌, length, get_or, filter, remove, Less, Ok, Err, refl, sym, ap, subst, arith}
+use Rattle.std.proofs.Common.{◌≡◌, ℕ, zero, suc, ◌+◌, ◌-◌, ◌<◌, ◌≤◌, ◌==◌, true, false, not, List, [], ◌∷◌, ◌++◌, length, get_or, take, drop, filter, remove, Less, Ok, Err, refl, sym, ap, ◌∙◌, subst, arith, length-drop}
 use Rattle.std.specs.List.{AllByRecursion}
 use Rattle.std.specs.List.Sorted.{IsStrictlySortedBy, IsBinarySearchResult}
 use Rattle.std.specs.Ordering.{nat_cmp}
 use Rattle.std.proofs.lemmas.Bool.Decides.{nat_tests}
+use Rattle.std.proofs.Math.Seq.{paste}
+use Rattle.std.proofs.lemmas.List.{append_assoc, drop_at, drop-drop, drop-append-le, drop-take, length-take-le, take_all}
+use Rattle.std.proofs.lemmas.List.Edits.{take-paste}
 use Rattle.std.proofs.lemmas.List.Sorted.{searched}
 
 below : (n m : ℕ) → nat_cmp n m ≡ Less → n < m
@@ -83,3 +86,30 @@ none-out n xs i up found =
   where
     other : (k m : ℕ) → (k < i → m < n) → (i ≤ k → n < m) → (m == n) ≡ false
     other k m front back = grind (arith, nat_tests, front, back)
+
+-- ---- numbers behind those that are gone
+
+-- those at the front are taken away
+pub front-dropped : (xs : List ℕ) (gone left : ℕ) → gone + left ≡ length xs → take left (paste xs 0 (drop gone xs) left) ≡ drop gone xs
+front-dropped xs gone left whole =
+    let same : left ≡ 0 + left = omega arith in
+    let long : length (drop gone xs) ≡ left = omega (arith, whole, length-drop gone xs) in
+    ap (λ k. take k (paste xs 0 (drop gone xs) left)) same ∙ take-paste xs 0 (drop gone xs) left (omega arith) (omega (arith, long)) ∙ take_all left (drop gone xs) (omega (arith, long))
+
+-- those ahead of the index move up by one place
+pub moved-up : (xs : List ℕ) (gone i : ℕ) → gone + i < length xs → drop (gone + 1) (paste xs (gone + 1) (drop gone xs) i) ≡ remove (drop gone xs) i
+moved-up xs gone i lt =
+    let front : length (take (gone + 1) xs) ≡ gone + 1 = length-take-le (gone + 1) xs (omega (arith, lt)) in
+    let on : gone + 1 + i ≡ gone + suc i = omega arith in
+    ap (drop (gone + 1)) (append_assoc (take (gone + 1) xs) (take i (drop gone xs)) (drop (gone + 1 + i) xs))
+    ∙ drop_at (take (gone + 1) xs) (take i (drop gone xs) ++ drop (gone + 1 + i) xs) (gone + 1) front
+    ∙ ap (λ (rest : List ℕ). take i (drop gone xs) ++ rest) (ap (λ k. drop k xs) on ∙ sym (drop-drop (suc i) gone xs))
+
+-- those behind the index move down
+pub moved-down : (xs : List ℕ) (gone i : ℕ) → gone + i < length xs → drop gone (remove xs (gone + i)) ≡ remove (drop gone xs) i
+moved-down xs gone i lt =
+    let front : gone ≤ length (take (gone + i) xs) = let long = length-take-le (gone + i) xs (omega (arith, lt)) in omega (arith, long) in
+    let on : suc (gone + i) ≡ gone + suc i = omega arith in
+    drop-append-le gone (take (gone + i) xs) (drop (suc (gone + i)) xs) front
+    ∙ ap (λ (ys : List ℕ). ys ++ drop (suc (gone + i)) xs) (drop-take gone i xs)
+    ∙ ap (λ (rest : List ℕ). take i (drop gone xs) ++ rest) (ap (λ k. drop k xs) on ∙ sym (drop-drop (suc i) gone xs))

@@ -1,5 +1,7 @@
 -- The numbers of items, listed under each term that the items have.
-use Rattle.std.specs.Prelude.{ℕ, ◌-◌, List, [], Option, Some, None}
+use Rattle.std.specs.Prelude.{◌≡◌, ◌≤◌, ℕ, ◌-◌, Bool, true, List, [], drop, Option, Some, None}
+use Rattle.std.specs.List.Sorted.{IsStrictlySortedBy}
+use Rattle.std.specs.Ordering.{nat_cmp}
 use Rattle.std.specs.Map.{lookup}
 use Rattle.std.specs.BTreeMap.{is_at}
 use Rattle.std.specs.Vec.{vec_len, vec_capacity}
@@ -33,6 +35,11 @@ numbers_under cmp index term = numbers_in (lookup (is_at (cmp term)) index)
 abbrev pub room_under : {T : Type 0} → (T → T → Ordering) → IndexValue T → T → ℕ
 room_under cmp index term = room_in (lookup (is_at (cmp term)) index)
 
--- the list that a vector is
-abbrev pub list_of : {A : Type 0} → Vec ℕ A → TermList
-list_of list = record { numbers = list.items; room = vec_capacity list - vec_len list }
+-- the list that a vector is behind the first so many numbers
+abbrev pub list_behind : {A : Type 0} → ℕ → Vec ℕ A → TermList
+list_behind gone list = record { numbers = drop gone list.items; room = vec_capacity list - vec_len list }
+
+-- So many numbers of the vector are gone, and those behind them ascend where the flag says so.
+pub record AreLeft {A : Type 0} (gone : ℕ) (ascending : Bool) (list : Vec ℕ A) : Type 0 where
+  pub within : gone ≤ vec_len list
+  pub ascend : ascending ≡ true → IsStrictlySortedBy nat_cmp (drop gone list.items)

@@ -80,7 +80,7 @@ impl<T: Ord + Drop> InvertedIndex<T> {
 
     /// Takes the number out of the term's list, wherever it stands in it. A list that is empty then is dropped, with its room. It
     /// takes no memory. Where each number of the list was greater than the one before it, the number is found in the logarithm of the
-    /// list's length, and those behind it move up; else the list is gone through.
+    /// list's length, and those on the shorter side of it move; else the list is gone through.
     pub fn remove(&mut self, term: &T, number: u64)
         ensures numbers { numbers_under T.cmp self.new ≡ (λ t. if is_at (T.cmp term.now) t then filter (λ n. not (n == number)) (numbers_under T.cmp self.old t) else numbers_under T.cmp self.old t) }
         ensures room { (t : T) → is_at (T.cmp term.now) t ≡ false → room_under T.cmp self.new t ≡ room_under T.cmp self.old t }

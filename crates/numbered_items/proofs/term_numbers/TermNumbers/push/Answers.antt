@@ -14,14 +14,14 @@ invariant_of-self c =
     let put = ap (drop gone) c.push_reserved.ensures.items ∙ drop-append-le gone items (c.args.number ∷ []) (omega (arith, c.self.invariant.within)) in
     elim c.if-self.branch [
       | then-self w ↦ record {
-            within = omega (arith, c.self.invariant.within, c.push_reserved.ensures.len);
-            ascend = λ up.
-                let left = w.as_slice.ensures ∙ ap (λ (l : TermList). l.numbers) (sym c.self.view_is) in
-                let above = rw left at (w.is_above_last-self-inside.ensures (sym w.self-is ∙ up)) in
-                subst (IsStrictlySortedBy nat_cmp) (sym put) (ascending-put (drop gone items) c.args.number (c.self.invariant.ascend w.if-self.true) above);
-          }
+        within = omega (arith, c.self.invariant.within, c.push_reserved.ensures.len);
+        ascend = λ up.
+            let left = w.as_slice.ensures ∙ ap (λ (l : TermList). l.numbers) (sym c.self.view_is) in
+            let above = rw left at (w.is_above_last-self-inside.ensures (sym w.self-is ∙ up)) in
+            subst (IsStrictlySortedBy nat_cmp) (sym put) (ascending-put (drop gone items) c.args.number (c.self.invariant.ascend w.if-self.true) above);
+      }
       | else-self w ↦ record {
-            within = omega (arith, c.self.invariant.within, c.push_reserved.ensures.len);
-            ascend = λ up. absurd (cc);
-          }
+        within = omega (arith, c.self.invariant.within, c.push_reserved.ensures.len);
+        ascend = λ up. absurd (cc);
+      }
     ]

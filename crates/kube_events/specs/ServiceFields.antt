@@ -129,16 +129,20 @@ service_of d = do
 
 -- ---- the same in parts, as they are read
 
+-- what these annotations tell
+abbrev pub notes_in : Pairs → Notes
+notes_in annotations = record {
+  share_key = share_key_in annotations;
+  pool_asked = pool_asked_in annotations;
+  addresses_asked = addresses_asked_in annotations;
+  pool = pool_in annotations;
+  mark = mark_in annotations;
+}
+
 unfoldable pub notes_of : Data → Result Notes Path
 notes_of d = do
   annotations ← annotations_field d
-  Ok (record {
-    share_key = share_key_in annotations;
-    pool_asked = pool_asked_in annotations;
-    addresses_asked = addresses_asked_in annotations;
-    pool = pool_in annotations;
-    mark = mark_in annotations;
-  })
+  Ok (notes_in annotations)
 
 unfoldable pub request_of : Data → Result Request Path
 request_of d = do

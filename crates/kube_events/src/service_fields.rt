@@ -2,7 +2,7 @@
 ghost use Rattle.std.specs.Prelude.{◌≡◌, IfOk};
 ghost use Rattle.serde_json.specs.View.{view};
 ghost use Rattle.json_fields.specs.Reading.{Gives};
-ghost use Rattle.kube_events.specs.ServiceFields.{families_at, notes_of, request_of, traffic_of, ingress_of, addresses_in, recorded_of, service_of, service_with};
+ghost use Rattle.kube_events.specs.ServiceFields.{families_at, notes_in, notes_of, request_of, traffic_of, ingress_of, addresses_in, recorded_of, service_of, service_with};
 
 use crate::fields::pair_value;
 use crate::named::{NamedFamily, SpelledAddress};
@@ -12,7 +12,7 @@ use json_fields::{
     FieldFault, FromValue, labels, list, optional, require_object, tells, text, with_default,
 };
 use kube_labels::{Labels, Text};
-use kube_model::{FamilyList, Key, Policy, PortList, Record, Service, Wanted};
+use kube_model::{FamilyList, Key, Policy, PortList, Record, Service, Wanted, both};
 use mlb_base::{NoMemory, Sequence};
 use serde_json::Value;
 use std::alloc::Global;
@@ -33,12 +33,33 @@ fn notes_from(alloc: Global, object: &Value) -> Result<Notes, FieldFault>
     ensures { Gives (λ x. x) result (notes_of (view object.now)) }
 {
     let annotations = labels(alloc, object, "metadata.annotations")?;
+    let notes = notes_in(alloc, &annotations);
+    drop(annotations);
+    Ok(notes?)
+}
+
+/// What these annotations say.
+fn notes_in(alloc: Global, annotations: &Labels) -> Result<Notes, NoMemory>
+    ensures { IfOk result (λ notes. notes ≡ notes_in annotations.now) }
+{
+    let asked = both(
+        pair_value(alloc, annotations, "metallb.io/address-pool"),
+        pair_value(alloc, annotations, "metallb.io/loadBalancerIPs"),
+    );
+    let recorded = both(
+        pair_value(alloc, annotations, "metallb.io/ip-allocated-from-pool"),
+        pair_value(alloc, annotations, "metallb.io/ip-held-as"),
+    );
+    let share_key = pair_value(alloc, annotations, "metallb.io/allow-shared-ip");
+    let (share_key, (asked, recorded)) = both(share_key, both(asked, recorded))?;
+    let (pool_asked, addresses_asked) = asked;
+    let (pool, mark) = recorded;
     Ok(Notes {
-        share_key: pair_value(alloc, &annotations, "metallb.io/allow-shared-ip")?,
-        pool_asked: pair_value(alloc, &annotations, "metallb.io/address-pool")?,
-        addresses_asked: pair_value(alloc, &annotations, "metallb.io/loadBalancerIPs")?,
-        pool: pair_value(alloc, &annotations, "metallb.io/ip-allocated-from-pool")?,
-        mark: pair_value(alloc, &annotations, "metallb.io/ip-held-as")?,
+        share_key,
+        pool_asked,
+        addresses_asked,
+        pool,
+        mark,
     })
 }
 

@@ -1,5 +1,6 @@
 //! Advertisements by BGP.
 
+use crate::copies::both;
 use crate::lengths::{LengthV4, LengthV6};
 use crate::selector::SelectorTexts;
 use kube_labels::{Text, TextList};
@@ -29,16 +30,22 @@ pub struct BgpAdv {
 
 impl TryCopy for BgpAdv {
     fn copy(&self) -> Result<BgpAdv, NoMemory> {
+        let names = both(self.name.copy(), self.peers.copy());
+        let lists = both(self.communities.copy(), self.pools.copy());
+        let selectors = both(self.pool_selectors.copy(), self.node_selectors.copy());
+        let ((name, peers), (lists, selectors)) = both(names, both(lists, selectors))?;
+        let (communities, pools) = lists;
+        let (pool_selectors, node_selectors) = selectors;
         Ok(BgpAdv {
-            name: self.name.copy()?,
+            name,
             length: self.length,
             length_v6: self.length_v6,
             local_pref: self.local_pref,
-            communities: self.communities.copy()?,
-            pools: self.pools.copy()?,
-            pool_selectors: self.pool_selectors.copy()?,
-            node_selectors: self.node_selectors.copy()?,
-            peers: self.peers.copy()?,
+            communities,
+            pools,
+            pool_selectors,
+            node_selectors,
+            peers,
         })
     }
 }

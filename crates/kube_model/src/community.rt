@@ -1,5 +1,6 @@
 //! Names of BGP communities.
 
+use crate::copies::both;
 use kube_labels::{NamedValues, Text};
 use mlb_base::{NoMemory, TryCopy};
 
@@ -12,9 +13,7 @@ pub struct CommunityList {
 
 impl TryCopy for CommunityList {
     fn copy(&self) -> Result<CommunityList, NoMemory> {
-        Ok(CommunityList {
-            name: self.name.copy()?,
-            values: self.values.copy()?,
-        })
+        let (name, values) = both(self.name.copy(), self.values.copy())?;
+        Ok(CommunityList { name, values })
     }
 }

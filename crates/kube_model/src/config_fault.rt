@@ -7,7 +7,7 @@ use kube_labels::Text;
 use mlb_base::{NoMemory, TryCopy};
 
 /// What is wrong with a configuration.
-#[derive(Clone, Copy, Debug, PartialEq, Eq)]
+#[derive(Clone, Copy, Debug)]
 pub enum Cause {
     /// More pools, entries of a pool or community texts than are held.
     Limit,
@@ -55,7 +55,7 @@ impl Cause {
 }
 
 /// What is wrong, and the object that is named for it.
-#[derive(Debug, Drop, PartialEq)]
+#[derive(Debug, Drop)]
 pub struct ConfigFault {
     pub cause: Cause,
     pub kind: Kind,

@@ -1,5 +1,6 @@
 //! What a line of a watch says.
 
+use crate::copies::both;
 use crate::key::Key;
 use crate::object::{Kind, Object};
 use json_fields::FieldFault;
@@ -8,7 +9,7 @@ use mlb_base::{ByteList, NoMemory, TryCopy};
 use thiserror::Error;
 
 /// The lists that a watch begins with.
-#[derive(Clone, Copy, Debug, PartialEq, Eq, PartialOrd, Ord)]
+#[derive(Clone, Copy, Debug, PartialEq, Eq)]
 pub enum Group {
     Config,
     Service,
@@ -89,10 +90,10 @@ impl TryCopy for Event {
             Event::Members { names } => Ok(Event::Members {
                 names: names.copy()?,
             }),
-            Event::Frame { interface, bytes } => Ok(Event::Frame {
-                interface: interface.copy()?,
-                bytes: bytes.copy()?,
-            }),
+            Event::Frame { interface, bytes } => {
+                let (interface, bytes) = both(interface.copy(), bytes.copy())?;
+                Ok(Event::Frame { interface, bytes })
+            }
             Event::Ignored => Ok(Event::Ignored),
         }
     }

@@ -1,5 +1,6 @@
 //! The keys of objects.
 
+use crate::copies::both;
 use kube_labels::Text;
 use mlb_base::{NoMemory, TryCopy};
 
@@ -13,9 +14,7 @@ pub struct Key {
 
 impl TryCopy for Key {
     fn copy(&self) -> Result<Key, NoMemory> {
-        Ok(Key {
-            namespace: self.namespace.copy()?,
-            name: self.name.copy()?,
-        })
+        let (namespace, name) = both(self.namespace.copy(), self.name.copy())?;
+        Ok(Key { namespace, name })
     }
 }

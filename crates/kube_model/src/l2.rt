@@ -1,5 +1,6 @@
 //! Advertisements on the local network.
 
+use crate::copies::both;
 use crate::selector::SelectorTexts;
 use kube_labels::{Text, TextList};
 use mlb_base::{NoMemory, TryCopy};
@@ -20,12 +21,17 @@ pub struct L2Adv {
 
 impl TryCopy for L2Adv {
     fn copy(&self) -> Result<L2Adv, NoMemory> {
+        let lists = both(self.pools.copy(), self.interfaces.copy());
+        let selectors = both(self.pool_selectors.copy(), self.node_selectors.copy());
+        let (name, (lists, selectors)) = both(self.name.copy(), both(lists, selectors))?;
+        let (pools, interfaces) = lists;
+        let (pool_selectors, node_selectors) = selectors;
         Ok(L2Adv {
-            name: self.name.copy()?,
-            pools: self.pools.copy()?,
-            pool_selectors: self.pool_selectors.copy()?,
-            node_selectors: self.node_selectors.copy()?,
-            interfaces: self.interfaces.copy()?,
+            name,
+            pools,
+            pool_selectors,
+            node_selectors,
+            interfaces,
         })
     }
 }

@@ -9,7 +9,7 @@ use std::alloc::Global;
 use std::marker::Model;
 
 /// The length of an IPv4 prefix, from 1 to 32 bits, which contracts see as the number.
-#[derive(Clone, Copy, Debug, PartialEq, Eq, PartialOrd, Ord)]
+#[derive(Clone, Copy)]
 pub struct LengthV4 {
     bits: u8,
 }
@@ -77,7 +77,7 @@ impl FromValue for LengthV4 {
 }
 
 /// The length of an IPv6 prefix, at most 128 bits, which contracts see as the number.
-#[derive(Clone, Copy, Debug, PartialEq, Eq, PartialOrd, Ord)]
+#[derive(Clone, Copy)]
 pub struct LengthV6 {
     bits: u8,
 }

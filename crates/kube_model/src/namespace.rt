@@ -1,5 +1,6 @@
 //! Kubernetes namespaces.
 
+use crate::copies::both;
 use kube_labels::{Labels, Text};
 use mlb_base::{NoMemory, TryCopy};
 
@@ -12,9 +13,7 @@ pub struct Namespace {
 
 impl TryCopy for Namespace {
     fn copy(&self) -> Result<Namespace, NoMemory> {
-        Ok(Namespace {
-            name: self.name.copy()?,
-            labels: self.labels.copy()?,
-        })
+        let (name, labels) = both(self.name.copy(), self.labels.copy())?;
+        Ok(Namespace { name, labels })
     }
 }

@@ -1,5 +1,6 @@
 //! Kubernetes nodes.
 
+use crate::copies::both;
 use kube_labels::{Labels, Text};
 use mlb_base::{NoMemory, TryCopy};
 
@@ -12,9 +13,7 @@ pub struct Node {
 
 impl TryCopy for Node {
     fn copy(&self) -> Result<Node, NoMemory> {
-        Ok(Node {
-            name: self.name.copy()?,
-            labels: self.labels.copy()?,
-        })
+        let (name, labels) = both(self.name.copy(), self.labels.copy())?;
+        Ok(Node { name, labels })
     }
 }

@@ -31,7 +31,7 @@ pub enum Object {
 }
 
 /// The kinds of objects that are read.
-#[derive(Clone, Copy, Debug, PartialEq, Eq, PartialOrd, Ord)]
+#[derive(Clone, Copy, Debug)]
 pub enum Kind {
     Service,
     Pool,

@@ -1,5 +1,6 @@
 //! BGP peers.
 
+use crate::copies::both;
 use crate::selector::SelectorTexts;
 use kube_labels::Text;
 use mlb_base::{NoMemory, TryCopy};
@@ -18,11 +19,12 @@ pub struct BgpPeer {
 
 impl TryCopy for BgpPeer {
     fn copy(&self) -> Result<BgpPeer, NoMemory> {
+        let (name, node_selectors) = both(self.name.copy(), self.node_selectors.copy())?;
         Ok(BgpPeer {
-            name: self.name.copy()?,
+            name,
             my_asn: self.my_asn,
             peer_asn: self.peer_asn,
-            node_selectors: self.node_selectors.copy()?,
+            node_selectors,
         })
     }
 }

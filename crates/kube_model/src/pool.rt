@@ -1,5 +1,6 @@
 //! Pools of addresses.
 
+use crate::copies::both;
 use crate::selector::SelectorTexts;
 use kube_labels::{Labels, Text, TextList};
 use mlb_base::{NoMemory, TryCopy};
@@ -31,24 +32,33 @@ pub struct Allocation {
 
 impl TryCopy for Allocation {
     fn copy(&self) -> Result<Allocation, NoMemory> {
+        let selectors = both(
+            self.namespace_selectors.copy(),
+            self.service_selectors.copy(),
+        );
+        let (namespaces, selectors) = both(self.namespaces.copy(), selectors)?;
+        let (namespace_selectors, service_selectors) = selectors;
         Ok(Allocation {
             priority: self.priority,
-            namespaces: self.namespaces.copy()?,
-            namespace_selectors: self.namespace_selectors.copy()?,
-            service_selectors: self.service_selectors.copy()?,
+            namespaces,
+            namespace_selectors,
+            service_selectors,
         })
     }
 }
 
 impl TryCopy for Pool {
     fn copy(&self) -> Result<Pool, NoMemory> {
+        let names = both(self.name.copy(), self.labels.copy());
+        let given = both(self.entries.copy(), self.allocation.copy());
+        let ((name, labels), (entries, allocation)) = both(names, given)?;
         Ok(Pool {
-            name: self.name.copy()?,
-            labels: self.labels.copy()?,
-            entries: self.entries.copy()?,
+            name,
+            labels,
+            entries,
             auto_assign: self.auto_assign,
             avoid_buggy: self.avoid_buggy,
-            allocation: self.allocation.copy()?,
+            allocation,
         })
     }
 }

@@ -11,7 +11,7 @@ pub enum Protocol {
 }
 
 /// A port of a protocol. Ports are ordered by protocol, then by number.
-#[derive(Clone, Copy, Debug, PartialEq, Eq, PartialOrd, Ord)]
+#[derive(Clone, Copy, PartialEq, Eq, PartialOrd, Ord)]
 pub struct Port {
     pub protocol: Protocol,
     pub port: u16,

@@ -1,5 +1,6 @@
 //! What is to be written to a service.
 
+use crate::copies::both;
 use crate::key::Key;
 use crate::record::Record;
 use mlb_base::{NoMemory, TryCopy};
@@ -14,10 +15,11 @@ pub struct Put {
 
 impl TryCopy for Put {
     fn copy(&self) -> Result<Put, NoMemory> {
+        let (key, holding) = both(self.key.copy(), self.holding.copy())?;
         Ok(Put {
-            key: self.key.copy()?,
+            key,
             version: self.version,
-            holding: self.holding.copy()?,
+            holding,
         })
     }
 }

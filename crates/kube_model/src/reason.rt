@@ -3,7 +3,7 @@ ghost use Rattle.std.specs.Prelude.{◌≡◌};
 ghost use Rattle.kube_model.specs.LineWords.{reason_text};
 
 /// Why a service that is to have addresses gets none.
-#[derive(Clone, Copy, Debug, PartialEq, Eq)]
+#[derive(Clone, Copy)]
 pub enum Reason {
     /// The addresses asked for can't be read.
     RequestUnreadable,

@@ -1,6 +1,7 @@
 //! What is recorded of a service's addresses.
 ghost use Rattle.std.specs.Prelude.{◌≡◌};
 
+use crate::copies::both;
 use ip_ranges::AddressList;
 use kube_labels::Text;
 use mlb_base::{NoMemory, Sequence, TryCopy};
@@ -8,7 +9,7 @@ use std::alloc::Global;
 
 /// The addresses that a service's status holds, with the pool that they are from and the terms under
 /// which they were given. An empty record has no addresses, no pool and no mark.
-#[derive(Debug, Drop, PartialEq)]
+#[derive(Drop, PartialEq)]
 pub struct Record {
     /// The addresses of `status.loadBalancer.ingress`, in its order.
     pub addresses: AddressList,
@@ -49,10 +50,12 @@ impl Record {
 
 impl TryCopy for Record {
     fn copy(&self) -> Result<Record, NoMemory> {
+        let texts = both(self.pool.copy(), self.mark.copy());
+        let (addresses, (pool, mark)) = both(self.addresses.copy(), texts)?;
         Ok(Record {
-            addresses: self.addresses.copy()?,
-            pool: self.pool.copy()?,
-            mark: self.mark.copy()?,
+            addresses,
+            pool,
+            mark,
         })
     }
 }

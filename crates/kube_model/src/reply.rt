@@ -1,7 +1,7 @@
 //! What a put is answered.
 
 /// The outcome of a put.
-#[derive(Clone, Copy, Debug, PartialEq, Eq)]
+#[derive(Clone, Copy)]
 pub enum PutReply {
     /// The record was replaced, and the service has this version now.
     Ok { version: u64 },

@@ -1,5 +1,6 @@
 //! Selectors that are not yet checked.
 
+use crate::copies::both;
 use kube_labels::{ExpressionList, Labels};
 use mlb_base::{NoMemory, Sequence, TryCopy};
 
@@ -17,9 +18,10 @@ pub type SelectorTexts = Sequence<SelectorText>;
 
 impl TryCopy for SelectorText {
     fn copy(&self) -> Result<SelectorText, NoMemory> {
+        let (labels, expressions) = both(self.labels.copy(), self.expressions.copy())?;
         Ok(SelectorText {
-            labels: self.labels.copy()?,
-            expressions: self.expressions.copy()?,
+            labels,
+            expressions,
         })
     }
 }

@@ -1,9 +1,10 @@
 //! Services.
 
-ghost use Rattle.std.specs.Prelude.{◌≡◌, Ok, IfOk};
+ghost use Rattle.std.specs.Prelude.{◌≡◌, IfOk};
 ghost use Rattle.std.specs.Option.{option_copied};
 ghost use Rattle.kube_model.specs.Service.{is_handled, same_class};
 
+use crate::copies::both;
 use crate::families::FamilyList;
 use crate::key::Key;
 use crate::port::PortList;
@@ -13,7 +14,7 @@ use kube_labels::{Labels, Text};
 use mlb_base::{NoMemory, TryCopy};
 
 /// The addresses that a service asks for.
-#[derive(Debug, Drop)]
+#[derive(Drop)]
 pub enum Wanted {
     NotAsked,
     /// Addresses are asked, and one of them can't be read.
@@ -22,7 +23,7 @@ pub enum Wanted {
 }
 
 /// Which endpoints external traffic reaches: `spec.externalTrafficPolicy`.
-#[derive(Clone, Copy, Debug, PartialEq, Eq)]
+#[derive(Clone, Copy, Debug)]
 pub enum Policy {
     Cluster,
     Local,
@@ -70,9 +71,10 @@ impl TryCopy for Wanted {
 
 impl TryCopy for Service {
     fn copy(&self) -> Result<Service, NoMemory> {
-        let names_and_traffic = both(copied_names(self), copied_traffic(self));
-        let ((names, traffic), request) = both(names_and_traffic, copied_request(self))?;
-        let (key, labels, class) = names;
+        let ((key, labels, class), (traffic, request)) = both(
+            copied_names(self),
+            both(copied_traffic(self), copied_request(self)),
+        )?;
         let (families, selector, ports) = traffic;
         let (share_key, pool_asked, wanted, holding) = request;
         Ok(Service {
@@ -93,28 +95,15 @@ impl TryCopy for Service {
     }
 }
 
-/// Both values, if there was memory for both.
-fn both<A: Drop, B: Drop>(
-    a: Result<A, NoMemory>,
-    b: Result<B, NoMemory>,
-) -> Result<(A, B), NoMemory>
-    ensures first { IfOk result (λ both. a ≡ Ok both.0) }
-    ensures second { IfOk result (λ both. b ≡ Ok both.1) }
-{
-    Ok((a?, b?))
-}
-
 /// Copies of the key, the labels and the class.
 fn copied_names(service: &Service) -> Result<(Key, Labels, Option<Text>), NoMemory>
     ensures key { IfOk result (λ names. names.0 ≡ service.now.key) }
     ensures labels { IfOk result (λ names. names.1 ≡ service.now.labels) }
     ensures class { IfOk result (λ names. names.2 ≡ service.now.class) }
 {
-    Ok((
-        service.key.copy()?,
-        service.labels.copy()?,
-        service.class.copy()?,
-    ))
+    let names = both(service.key.copy(), service.labels.copy());
+    let ((key, labels), class) = both(names, service.class.copy())?;
+    Ok((key, labels, class))
 }
 
 /// Copies of the families, the selector and the ports.
@@ -123,11 +112,9 @@ fn copied_traffic(service: &Service) -> Result<(FamilyList, Labels, PortList), N
     ensures selector { IfOk result (λ traffic. traffic.1 ≡ service.now.selector) }
     ensures ports { IfOk result (λ traffic. traffic.2 ≡ service.now.ports) }
 {
-    Ok((
-        service.families.copy()?,
-        service.selector.copy()?,
-        service.ports.copy()?,
-    ))
+    let traffic = both(service.families.copy(), service.selector.copy());
+    let ((families, selector), ports) = both(traffic, service.ports.copy())?;
+    Ok((families, selector, ports))
 }
 
 /// Copies of the sharing key, of the pool and the addresses that are asked for, and of the record.
@@ -137,12 +124,10 @@ fn copied_request(service: &Service) -> Result<(Text, Text, Wanted, Record), NoM
     ensures wanted { IfOk result (λ request. request.2 ≡ service.now.wanted) }
     ensures holding { IfOk result (λ request. request.3 ≡ service.now.holding) }
 {
-    Ok((
-        service.share_key.copy()?,
-        service.pool_asked.copy()?,
-        service.wanted.copy()?,
-        service.holding.copy()?,
-    ))
+    let texts = both(service.share_key.copy(), service.pool_asked.copy());
+    let others = both(service.wanted.copy(), service.holding.copy());
+    let ((share_key, pool_asked), (wanted, holding)) = both(texts, others)?;
+    Ok((share_key, pool_asked, wanted, holding))
 }
 
 impl Service {

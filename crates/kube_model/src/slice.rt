@@ -1,5 +1,6 @@
 //! The endpoints of services.
 
+use crate::copies::both;
 use crate::key::Key;
 use kube_labels::Text;
 use mlb_base::{NoMemory, Sequence, TryCopy};
@@ -36,10 +37,12 @@ impl TryCopy for Endpoint {
 
 impl TryCopy for EndpointSlice {
     fn copy(&self) -> Result<EndpointSlice, NoMemory> {
+        let names = both(self.key.copy(), self.service.copy());
+        let ((key, service), endpoints) = both(names, self.endpoints.copy())?;
         Ok(EndpointSlice {
-            key: self.key.copy()?,
-            service: self.service.copy()?,
-            endpoints: self.endpoints.copy()?,
+            key,
+            service,
+            endpoints,
         })
     }
 }

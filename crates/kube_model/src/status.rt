@@ -8,7 +8,7 @@ use mlb_base::{ByteList, NoMemory};
 use std::alloc::Global;
 
 /// Where lines come from.
-#[derive(Clone, Copy, Debug, PartialEq, Eq)]
+#[derive(Clone, Copy)]
 pub enum LaneName {
     /// The one input, or that of the replies.
     Input,
@@ -19,7 +19,7 @@ pub enum LaneName {
 }
 
 /// What has a limit.
-#[derive(Clone, Copy, Debug, PartialEq, Eq)]
+#[derive(Clone, Copy)]
 pub enum What {
     /// The bytes of a line.
     Line,

@@ -1,7 +1,7 @@
 //! The two lanes.
 
 /// One of the two streams of events that a program watches.
-#[derive(Clone, Copy, Debug, PartialEq, Eq)]
+#[derive(Clone, Copy, PartialEq, Eq)]
 pub enum Lane {
     First,
     Second,

@@ -5,7 +5,7 @@ use mlb_base::NoMemory;
 use std::alloc::AllocError;
 use std::fmt;
 
-#[derive(Clone, Copy, Debug, PartialEq, Eq)]
+#[derive(Clone, Copy)]
 pub enum Unread {
     Fault(SelectorFault),
     Word,

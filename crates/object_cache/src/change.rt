@@ -6,7 +6,7 @@ use mlb_base::{NoMemory, Sequence};
 use thiserror::Error;
 
 /// What is to be told of an event.
-#[derive(Debug, Drop)]
+#[derive(Drop)]
 pub enum TakeNote {
     Quiet,
     /// A configuration was compiled, and is in force.
@@ -36,7 +36,7 @@ pub struct Applied {
 }
 
 /// Why an event isn't applied.
-#[derive(Clone, Copy, Debug, PartialEq, Eq, Error)]
+#[derive(Clone, Copy, Debug, Error)]
 pub enum ApplyFault {
     /// So many objects of the kind would be held, which is one more than may be.
     #[error("more objects of a kind than are held")]

@@ -16,7 +16,7 @@ use std::alloc::Global;
 pub type PoolIndexes = Sequence<usize>;
 
 /// When the turn of a pool comes.
-#[derive(Clone, Copy, Debug, PartialEq, Eq, PartialOrd, Ord)]
+#[derive(Clone, Copy, PartialEq, Eq, PartialOrd, Ord)]
 enum Rank {
     /// By its priority, which isn't 0.
     At(u32),
@@ -27,7 +27,7 @@ enum Rank {
 }
 
 /// A pool of a configuration: entries are ordered by rank, then by place, which is the order of the names.
-#[derive(Clone, Copy, Debug, PartialEq, Eq, PartialOrd, Ord)]
+#[derive(Clone, Copy, PartialEq, Eq, PartialOrd, Ord)]
 struct Entry {
     rank: Rank,
     place: usize,

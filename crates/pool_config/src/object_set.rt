@@ -5,7 +5,7 @@ ghost use Rattle.pool_config.specs.Objects.{no_objects, set_shown, set_shows, se
 ghost use Rattle.versioned_map.specs.Entries.{is_newer, shown};
 
 use kube_labels::Text;
-use kube_model::{BgpAdv, BgpPeer, CommunityList, Kind, L2Adv, Object, Pool};
+use kube_model::{BgpAdv, BgpPeer, CommunityList, Kind, L2Adv, Object, Pool, both};
 use mlb_base::{NoMemory, TryCopy};
 use std::alloc::Global;
 use versioned_map::{Shown, VersionedMap};
@@ -134,12 +134,20 @@ impl ObjectSet {
 
 impl TryCopy for ObjectSet {
     fn copy(&self) -> Result<ObjectSet, NoMemory> {
+        let advertisements = both(self.l2s.copy(), self.bgps.copy());
+        let others = both(self.peers.copy(), self.communities.copy());
+        let (pools, (advertisements, others)) = both(
+            self.pools.copy(),
+            both(advertisements, others),
+        )?;
+        let (l2s, bgps) = advertisements;
+        let (peers, communities) = others;
         Ok(ObjectSet {
-            pools: self.pools.copy()?,
-            l2s: self.l2s.copy()?,
-            bgps: self.bgps.copy()?,
-            peers: self.peers.copy()?,
-            communities: self.communities.copy()?,
+            pools,
+            l2s,
+            bgps,
+            peers,
+            communities,
         })
     }
 }

@@ -3,7 +3,7 @@
 use kube_model::{Key, Kind, Object};
 
 /// How a put went.
-#[derive(Clone, Copy, Debug, PartialEq, Eq)]
+#[derive(Clone, Copy)]
 pub enum Outcome {
     /// It reached the store, and the reply came back.
     Delivered,

@@ -119,7 +119,11 @@ impl Store {
                 self.reset(object)?;
                 Ok(true)
             }
-            Edit::Delete { kind, key } => Ok(self.delete(kind, &key)),
+            Edit::Delete { kind, key } => {
+                let is_deleted = self.delete(kind, &key);
+                drop(key);
+                Ok(is_deleted)
+            }
         }
     }
 
@@ -145,7 +149,10 @@ impl Store {
         ensures err { OnErr result (self.new ≡ self.old) }
     {
         let stored = &self.objects.as_slice()[at];
-        let holding = copy_record(self.alloc, &stored.object)?;
+        let Ok(holding) = copy_record(self.alloc, &stored.object) else {
+            drop(object);
+            return Err(NoMemory);
+        };
         set_record(&mut object, holding);
         let version = self.counter + 1;
         write_at(

@@ -87,8 +87,9 @@ pub fn remove_at(objects: &mut StoredList, alloc: Global, at: usize)
 pub fn set_record(object: &mut Object, holding: Record)
     ensures { object.new ≡ with_record holding object.old }
 {
-    if let Object::Service(service) = object {
-        service.holding = holding;
+    match object {
+        Object::Service(service) => drop(mem::replace(&mut service.holding, holding)),
+        _ => drop(holding),
     }
 }
 

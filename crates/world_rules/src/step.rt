@@ -23,7 +23,7 @@ pub enum Step {
 }
 
 /// In which order a list shows what is stored. An API server owes none.
-#[derive(Clone, Copy, Debug, PartialEq, Eq)]
+#[derive(Clone, Copy)]
 pub enum ListOrder {
     /// By kind, and then by namespace and name.
     Ascending,
@@ -32,7 +32,7 @@ pub enum ListOrder {
 }
 
 /// Why a step isn't made.
-#[derive(Clone, Copy, Debug, PartialEq, Eq, Error)]
+#[derive(Clone, Copy, Debug, Error)]
 pub enum StepFault {
     /// There is no such step in this state.
     #[error("there is no such step in this state")]

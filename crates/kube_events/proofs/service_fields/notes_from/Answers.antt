@@ -4,4 +4,4 @@ use Rattle.kube_events.proofs.service_fields.notes_from.Goals as goal
 
 pub returns : goal.returns
 unfolding notes_of
-returns c = rw (c.in_ok-annotations.ensures, c.in_ok-pair_value.ensures, c.in_ok-pair_value-2.ensures, c.in_ok-pair_value-3.ensures, c.in_ok-pair_value-4.ensures, c.in_ok-pair_value-5.ensures) refl
+returns c = rw (c.in_ok-annotations.ensures, c.in_ok-notes.ensures) refl

@@ -8,13 +8,14 @@ use Rattle.ip_ranges.specs.declared.family.Family.TheVariants.{V4, V6}
 use Rattle.ip_ranges.specs.Values.{AddressValue, PrefixValue}
 use Rattle.kube_labels.specs.Names.{has_text}
 use Rattle.mlb_base.specs.Items.{IsIn, is_nil}
+use Rattle.mlb_base.proofs.Lists.{Decides-nil}
 use Rattle.pool_config.specs.declared.compiled.CompiledBgp.{CompiledBgp}
 use Rattle.pool_config.specs.declared.compiled.CompiledPeer.{CompiledPeer}
 use Rattle.pool_config.specs.declared.compiled.CompiledPool.{CompiledPool}
 use Rattle.pool_config.specs.Choice.{Chooses, Selects, chooses, selects}
 use Rattle.pool_config.specs.ConfigValue.{ConfigValue}
 use Rattle.pool_config.specs.PoolOf.{pool_with}
-use Rattle.pool_config.proofs.Tests.{Decides-in, Decides-nil, chooses-Decides, selects-Decides}
+use Rattle.pool_config.proofs.Tests.{Decides-in, chooses-Decides, selects-Decides}
 use Rattle.speaker_view.specs.Endpoints.{can_announce, node_labels}
 use Rattle.speaker_view.specs.Held.{objects_of}
 use Rattle.speaker_view.specs.ViewValue.{ViewValue}

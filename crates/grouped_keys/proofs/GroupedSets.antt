@@ -8,36 +8,26 @@ use Rattle.std.specs.Map.{lookup, set_value}
 use Rattle.std.specs.HashMap.Eq.{lookup_congr}
 use Rattle.std.specs.BTreeMap.{is_at}
 use Rattle.std.specs.BTreeSet.{BTreeSet, contains}
+use Rattle.std.proofs.Math.Bool.{or-false}
+use Rattle.mlb_base.proofs.Bools.{or-cond, and_not-cond}
 use Rattle.grouped_keys.specs.Grouped.{is_in, in_group}
-
-or_by : (b x : Bool) → cond b true x ≡ (b || x)
-or_by true x = refl
-or_by false x = refl
-
-and_not_by : (b x : Bool) → cond b false x ≡ (not b && x)
-and_not_by true x = refl
-and_not_by false x = refl
-
-or_false : (b : Bool) → b ≡ (b || false)
-or_false true = refl
-or_false false = refl
 
 module _ {K : Type 0} (S : K → K → Ordering) (key k : K) where
   put_by : (here : Bool) (found : Option (BTreeSet K)) (before after : BTreeSet K) → (here ≡ true → found ≡ Some before)
       → contains S after k ≡ cond (is_at (S key) k) true (contains S before k)
       → is_in S (cond here (Some after) found) k ≡ (here && is_at (S key) k || is_in S found k)
-  put_by true found before after there is = rw (there refl) (is ∙ or_by (is_at (S key) k) (contains S before k))
+  put_by true found before after there is = rw (there refl) (is ∙ sym (or-cond (is_at (S key) k) (contains S before k)))
   put_by false found before after there is = refl
 
   new_by : (here : Bool) (found : Option (BTreeSet K)) (after : BTreeSet K) → (here ≡ true → found ≡ None)
       → contains S after k ≡ is_at (S key) k → is_in S (cond here (Some after) found) k ≡ (here && is_at (S key) k || is_in S found k)
-  new_by true found after there is = rw (there refl) (is ∙ or_false (is_at (S key) k))
+  new_by true found after there is = rw (there refl) (is ∙ sym (or-false (is_at (S key) k)))
   new_by false found after there is = refl
 
   taken_by : (here : Bool) (found : Option (BTreeSet K)) (before after : BTreeSet K) → (here ≡ true → found ≡ Some before)
       → contains S after k ≡ cond (is_at (S key) k) false (contains S before k)
       → is_in S (cond here (Some after) found) k ≡ (not (here && is_at (S key) k) && is_in S found k)
-  taken_by true found before after there is = rw (there refl) (is ∙ and_not_by (is_at (S key) k) (contains S before k))
+  taken_by true found before after there is = rw (there refl) (is ∙ sym (and_not-cond (is_at (S key) k) (contains S before k)))
   taken_by false found before after there is = refl
 
   dropped_by : (here : Bool) (found : Option (BTreeSet K)) (after : BTreeSet K) → after.keys ≡ []

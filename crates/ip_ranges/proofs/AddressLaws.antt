@@ -3,6 +3,7 @@ use Rattle.std.proofs.Common.{◌≡◌, ℕ, true, eqb, eqb-true, List, [], ◌
 use Rattle.std.proofs.lemmas.Bool.{and_parts, and_from, eq-eqb, true≢false}
 use Rattle.std.specs.Cmp.Lexicographic.{pointwise}
 use Rattle.std.specs.List.{Contains}
+use Rattle.std.proofs.lemmas.Bool.Decides.{same_from_decides}
 use Rattle.mlb_base.proofs.Among.{any-contains, any-found}
 use Rattle.ip_ranges.specs.declared.family.Family.{Family}
 use Rattle.ip_ranges.specs.declared.family.Family.TheVariants.{V4, V6}
@@ -29,6 +30,12 @@ same_address-is a b e =
 
 pub same_address-itself : (a : AddressValue) → same_address a a ≡ true
 same_address-itself a = and_from (same_family a.family a.family) (eqb a.number a.number) (same_family-itself a.family) (eq-eqb a.number a.number refl)
+
+pub same_address-flip : (a b : AddressValue) → same_address a b ≡ same_address b a
+same_address-flip a b =
+    same_from_decides {P = a ≡ b} (same_address a b) (same_address b a)
+    (λ e. same_address-is a b e, λ is. subst (λ (x : AddressValue). same_address a x ≡ true) is (same_address-itself a))
+    (λ e. sym (same_address-is b a e), λ is. subst (λ (x : AddressValue). same_address x a ≡ true) is (same_address-itself a))
 
 pub has_address-is : (addresses : List AddressValue) (a : AddressValue) → has_address addresses a ≡ true → Contains addresses a
 has_address-is addresses a e =

@@ -59,6 +59,10 @@ IsRange-span f n l host e (within, fits, even) =
     let some = pow_pos (width_of f - l) in
     (omega arith, omega arith)
 
+pub widest : (f : Family) → width_of f ≤ 128
+widest V4 = omega arith
+widest V6 = omega arith
+
 pub width_le : (f : Family) (n : ℕ) → n < 2 ^ width_of f → n < 2 ^ 128
 width_le V4 n h = omega arith
 width_le V6 n h = h

@@ -1,6 +1,6 @@
 -- The cover of a block of 2^bits numbers, by cases.
 use Rattle.std.proofs.Common.{◌≡◌, ℕ, zero, suc, ◌+◌, ◌-◌, ◌*◌, ◌/◌, ◌%◌, ◌^◌, ◌<◌, ◌≤◌, ◌⊎◌, ⊎_elim, inl, inr, Bool, true, false, List, [], ◌∷◌, ◌++◌, refl, sym, ap, ◌∙◌, subst, arith, ltb-true, ltb-false, leb-true, leb-false, le-leb, leb, ltb, ◌&&◌, ◌||◌}
-use Rattle.std.proofs.lemmas.Bool.{or_cases, or_parts, and_cases, and_from as and_all, false≢true}
+use Rattle.std.proofs.lemmas.Bool.{or_cases, or_parts, and_cases, and_from as and_all, and_parts}
 use Rattle.std.proofs.Math.Nat.{pow-suc, add-mod_right}
 use Rattle.std.proofs.lemmas.Nat.{mod-pow-add}
 use Rattle.std.proofs.Math.Pow.{pow_pos}
@@ -49,13 +49,9 @@ inside_no s bits base e = elim (and_cases (leb s.low base) (leb (base + (2 ^ bit
   | inr f ↦ inr (leb-false _ _ f)
 ]
 
-and_yes : (x y : Bool) → (x && y) ≡ true → (x ≡ true) × (y ≡ true)
-and_yes true y e = (refl, e)
-and_yes false y e = absurd (false≢true e)
-
 pub inside_yes : (s : SpanValue) (bits base : ℕ) → is_inside s bits base ≡ true → (s.low ≤ base) × (base + (2 ^ bits - 1) ≤ s.high)
 inside_yes s bits base e =
-    let (low, high) = and_yes (leb s.low base) (leb (base + (2 ^ bits - 1)) s.high) e in
+    let (low, high) = and_parts (leb s.low base) (leb (base + (2 ^ bits - 1)) s.high) e in
     (leb-true _ _ low, leb-true _ _ high)
 
 -- what the code tests

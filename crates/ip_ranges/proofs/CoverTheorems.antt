@@ -2,27 +2,24 @@
 use Rattle.std.proofs.Common.{◌≡◌, ℕ, suc, ◌+◌, ◌-◌, ◌*◌, ◌/◌, ◌%◌, ◌^◌, ◌<◌, ◌≤◌, ◌⊎◌, ⊎_elim, ◌↔◌, inl, inr, Bool, true, false, ◌&&◌, cond, List, [], ◌∷◌, ◌++◌, length, refl, sym, ap, ◌∙◌, subst, arith, ltb, leb, ltb-true, leb-true, lt-ltb, le-leb, eqb, eq-eqb, length-append, min, max}
 use Rattle.std.proofs.lemmas.Bool.{or_cases, or_left, or_right, and_from, and_left, lt-leb, cases_lt, false≢true}
 use Rattle.std.proofs.lemmas.List.Folds.{list_any-append}
-use Rattle.std.proofs.lemmas.List.Sums.{count_by-le-length, sum_by-cons}
+use Rattle.std.proofs.lemmas.List.Sums.{count_by-le-length}
 use Rattle.std.proofs.Math.Nat.{div-add-mod', mul-le-mul_right, zero-mod}
 use Rattle.std.proofs.Math.Pow.{pow_pos, pow_mono}
 use Rattle.std.proofs.lemmas.Nat.{mod-pow-add}
 use Rattle.std.specs.List.{AllByRecursion, list_any}
 use Rattle.std.specs.Prelude.{IsTrue, count_by}
+use Rattle.mlb_base.proofs.Lists.{all-append, count-cons}
 use Rattle.ip_ranges.specs.declared.family.Family.{Family}
 use Rattle.ip_ranges.specs.declared.family.Family.TheVariants.{V4, V6}
 use Rattle.ip_ranges.specs.Values.{SpanValue, PrefixValue, IsPrefix, IsRange, width_of}
 use Rattle.ip_ranges.specs.Cover.{IsPlaced, size_of, has, IsAscending, IsCover, block, cover_within, cover_of, least_of, least_length_of}
-use Rattle.ip_ranges.proofs.BlockLemmas.{multiple_within}
+use Rattle.ip_ranges.proofs.BlockLemmas.{multiple_within, widest}
 use Rattle.ip_ranges.proofs.CoverLemmas.{IsPlaced-upper, by_halves, two_halves}
 
 pub size_of-block : (s : SpanValue) (bits base : ℕ) → bits ≤ width_of s.family → size_of (block s bits base) ≡ 2 ^ bits
 size_of-block s bits base h =
     let back : width_of s.family - (width_of s.family - bits) ≡ bits = omega arith in
     ap (λ k. 2 ^ k) back
-
-all_append : {X : Type 0} (P : X → Type 0) (xs ys : List X) → AllByRecursion P xs → AllByRecursion P ys → AllByRecursion P (xs ++ ys)
-all_append P [] ys h k = k
-all_append P (x ∷ xs) ys h k = (h.0, all_append P xs ys h.1 k)
 
 all_map : {X : Type 0} (P Q : X → Type 0) (f : (x : X) → P x → Q x) (xs : List X) → AllByRecursion P xs → AllByRecursion Q xs
 all_map P Q f [] h = h
@@ -44,7 +41,7 @@ within-prefixes s =
     by_halves s (λ bits base ps. AllByRecursion (IsOf s) ps)
     (λ bits base placed apart. tt)
     (λ bits base placed low high. ((IsPrefix-block s bits base placed, refl), tt))
-    (λ bits base placed low high part lower upper h k. all_append (IsOf s) lower upper h k)
+    (λ bits base placed low high part lower upper h k. all-append (IsOf s) lower upper h k)
 
 -- ---- The numbers
 
@@ -210,16 +207,13 @@ one_of false true true first second = omega arith
 one_of false true false first second = absurd (false≢true (second refl))
 one_of false false c first second = omega arith
 
-count_by-cons : {X : Type 0} (p : X → Bool) (x : X) (xs : List X) → count_by p (x ∷ xs) ≡ cond (p x) 1 0 + count_by p xs
-count_by-cons p = sum_by-cons (λ x. cond (p x) 1 0)
-
 count_both : {X : Type 0} (one two all : X → Bool) → ((x : X) → one x ≡ true → (all x ≡ true) × (two x ≡ false)) → ((x : X) → two x ≡ true → all x ≡ true)
     → (xs : List X) → count_by one xs + count_by two xs ≤ count_by all xs
 count_both one two all first second [] = omega arith
 count_both one two all first second (x ∷ xs) =
     let here = one_of (one x) (two x) (all x) (first x) (second x) in
     let rest = count_both one two all first second xs in
-    omega (arith, count_by-cons one x xs, count_by-cons two x xs, count_by-cons all x xs)
+    omega (arith, count-cons one x xs, count-cons two x xs, count-cons all x xs)
 
 -- where some element passes, and what passes is counted, something is counted
 counts_some : {X : Type 0} (test counted : X → Bool) (P : X → Type 0) → ((x : X) → P x → test x ≡ true → counted x ≡ true)
@@ -227,8 +221,8 @@ counts_some : {X : Type 0} (test counted : X → Bool) (P : X → Type 0) → ((
 counts_some test counted P passes [] h e = absurd (false≢true e)
 counts_some test counted P passes (x ∷ xs) h e =
     ⊎_elim
-    (λ here. let one : cond {A = ℕ} (counted x) 1 0 ≡ 1 = ap (λ (b : Bool). cond {A = ℕ} b 1 0) (passes x h.0 here) in omega (arith, count_by-cons counted x xs))
-    (λ later. let rest = counts_some test counted P passes xs h.1 later in omega (arith, count_by-cons counted x xs))
+    (λ here. let one : cond {A = ℕ} (counted x) 1 0 ≡ 1 = ap (λ (b : Bool). cond {A = ℕ} b 1 0) (passes x h.0 here) in omega (arith, count-cons counted x xs))
+    (λ later. let rest = counts_some test counted P passes xs h.1 later in omega (arith, count-cons counted x xs))
     (or_cases (test x) _ e)
 
 -- each prefix of a list that is made of the span's numbers lies in the span
@@ -398,10 +392,6 @@ some_prefix : (test : PrefixValue → Bool) (ps : List PrefixValue) → list_any
 some_prefix test [] e = absurd (false≢true e)
 some_prefix test (p ∷ ps) e = omega arith
 
-width_le : (f : Family) → width_of f ≤ 128
-width_le V4 = omega arith
-width_le V6 = omega arith
-
 pub least_length_of-least : (s : SpanValue) → AllByRecursion (λ p. least_length_of s ≤ p.length) (cover_of s)
 unfolding least_length_of
 least_length_of-least s = all_at_least (least_of (cover_of s)) (cover_of s) (omega arith)
@@ -411,7 +401,7 @@ unfolding least_length_of
 least_length_of-found s range =
     let made = (IsCover-cover_of s range).made in
     let some = some_prefix (λ p. has p s.low) (cover_of s) ((made.numbers s.low).1 (omega arith, range.0)) in
-    let small = all_map (IsOf s) (λ p. p.length ≤ 128) (λ p h. let fits = h.0.0 in let wide = width_le p.family in omega arith) (cover_of s) made.prefixes in
+    let small = all_map (IsOf s) (λ p. p.length ≤ 128) (λ p h. let fits = h.0.0 in let wide = widest p.family in omega arith) (cover_of s) made.prefixes in
     least_found _ (cover_of s) refl some small
 
 pub within_all : (s : SpanValue) (w : ℕ) → w ≡ width_of s.family → cover_within s w 0 ≡ cover_of s

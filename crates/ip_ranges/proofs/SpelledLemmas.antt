@@ -1,6 +1,6 @@
 -- What is read is what is spelled.
-use Rattle.std.proofs.Common.{◌≡◌, ℕ, List, [], ◌∷◌, Bool, true, false, ◌&&◌, Option, Some, None, Ok, Err, length, refl, sym, ap, ◌∙◌, subst, append-nil, lit≤, arith, inl, inr, ◌⊎◌, ◌↔◌, ne_eqb, leb, le-leb, leb-true, cond, IfErr}
-use Rattle.std.proofs.lemmas.Bool.{and_from, false≢true}
+use Rattle.std.proofs.Common.{◌≡◌, ℕ, List, [], ◌∷◌, Bool, true, false, Option, Some, None, Ok, Err, length, refl, sym, ap, ◌∙◌, subst, append-nil, lit≤, arith, inl, inr, ◌⊎◌, ◌↔◌, ne_eqb, leb, le-leb, leb-true, cond, IfErr}
+use Rattle.std.proofs.lemmas.Bool.{and_from, false≢true, and_parts}
 use Rattle.std.proofs.lemmas.Option.{none-some, same_Some}
 use Rattle.std.specs.Int.{w32, w128, from_be_bytes}
 use Rattle.std.specs.Net.Addr.{octets_of}
@@ -13,6 +13,7 @@ use Rattle.ip_ranges.specs.declared.family.Family.TheVariants.{V4, V6}
 use Rattle.ip_ranges.specs.declared.fault.RangeFault.TheVariants.{NotAddress, Mapped}
 use Rattle.ip_ranges.specs.Values.{AddressValue, IsMapped, meets_mapped, same_family, only, last_mapped}
 use Rattle.ip_ranges.specs.AddressText.{IsAddressText, IsSpelled, v4_of, v6_of, either_family, spelled, unmapped, address_of}
+use Rattle.ip_ranges.proofs.AddressLaws.{same_family-is}
 
 -- a value that was read with no text left after it
 pub whole_some : {A : Type 0} (r : Read A) (x : A) → whole_value r ≡ Some x → r ≡ Some (x, [])
@@ -76,27 +77,17 @@ spelled-sound text a e = go _ _ refl refl e
     go None (Some groups) e f h = subst (IsAddressText text) (same_Some _ a h) (groups, ipv6_whole text groups f, refl)
     go None None e f h = absurd (none-some a h)
 
-same_family-true : (f g : Family) → same_family f g ≡ true → f ≡ g
-same_family-true V4 V4 e = refl
-same_family-true V4 V6 e = absurd (false≢true e)
-same_family-true V6 V4 e = absurd (false≢true e)
-same_family-true V6 V6 e = refl
-
 same_family-same : (f g : Family) → f ≡ g → same_family f g ≡ true
 same_family-same V4 V4 e = refl
 same_family-same V4 V6 e = cc
 same_family-same V6 V4 e = cc
 same_family-same V6 V6 e = refl
 
-and_true : (x y : Bool) → (x && y) ≡ true → (x ≡ true) × (y ≡ true)
-and_true true y e = (refl, e)
-and_true false y e = absurd (false≢true e)
-
 pub IsMapped-meets : (a : AddressValue) → meets_mapped (only a) ≡ true → IsMapped a
 IsMapped-meets a e =
-    let (six, within) = and_true (same_family a.family V6) _ e in
-    let (low, high) = and_true (leb a.number last_mapped) _ within in
-    (same_family-true a.family V6 six, leb-true _ _ high, leb-true _ _ low)
+    let (six, within) = and_parts (same_family a.family V6) _ e in
+    let (low, high) = and_parts (leb a.number last_mapped) _ within in
+    (same_family-is a.family V6 six, leb-true _ _ high, leb-true _ _ low)
 
 pub meets-IsMapped : (a : AddressValue) → IsMapped a → meets_mapped (only a) ≡ true
 meets-IsMapped a (six, first, last) =

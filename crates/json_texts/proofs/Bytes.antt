@@ -3,6 +3,7 @@ use Rattle.std.proofs.Common.{◌≡◌, ℕ, ◌<◌, suc, zero, List, [], ◌�
 use Rattle.std.proofs.lemmas.Bool.{and_parts, cond_both, ltb-true}
 use Rattle.std.specs.List.{AllByRecursion}
 use Rattle.std.specs.Str.{IsUtf8}
+use Rattle.mlb_base.proofs.Lists.{all-append}
 use lib.Dec.{ltb}
 use lib.Utf8.{scalar, scalars, encode, encodes, scalar_cases}
 
@@ -10,8 +11,7 @@ abbrev AreBytes : List ℕ → Type 0
 AreBytes = AllByRecursion (λ b. b < 256)
 
 appended : (xs ys : List ℕ) → AreBytes xs → AreBytes ys → AreBytes (xs ++ ys)
-appended [] ys h k = k
-appended (x ∷ xs) ys h k = (h.0, appended xs ys h.1 k)
+appended = all-append (λ (b : ℕ). b < 256)
 
 below_top : (c : ℕ) → scalar c ≡ true → c < 1114112
 below_top c s = elim (scalar_cases c s) [ inl low ↦ omega arith | inr high ↦ high.1 ]

@@ -9,13 +9,10 @@ use Rattle.std.proofs.lemmas.List.Folds.{list_any-append}
 use Rattle.std.proofs.lemmas.List.Elements.{filter-append}
 use Rattle.std.proofs.lemmas.List.Sorted.{list_any-IsPermutation, IsPermutation-reverse, IsPermutation-sym}
 use Rattle.std.proofs.lemmas.Map.Keys.{IsDistinct-push, IsDistinct-IsPermutation}
+use Rattle.std.proofs.lemmas.Bool.{or_left}
 use Rattle.key_queue.specs.Queue.{in_order, queued, queued_all, AreDistinct, AreNew}
 
 -- ---- tests of either
-or-true : (a b : Bool) → a ≡ true → (a || b) ≡ true
-or-true true b p = refl
-or-true false b p = absurd (true≢false (sym p))
-
 or-false_left : (a b : Bool) → a ≡ false → (a || b) ≡ b
 or-false_left false b p = refl
 or-false_left true b p = absurd (true≢false p)
@@ -147,7 +144,7 @@ module _ {K : Type 0} where
 module _ {K : Type 0} (eq : K → K → Bool) where
   -- a key of the front set isn't queued again
   pub queued_in_front : (front back : List K) (key : K) → list_any (eq key) front ≡ true → queued eq (in_order front back) key ≡ in_order front back
-  queued_in_front front back key there = queued-there eq (in_order front back) key (any_in_order (eq key) front back ∙ or-true _ _ there)
+  queued_in_front front back key there = queued-there eq (in_order front back) key (any_in_order (eq key) front back ∙ or_left _ _ there)
 
   -- another is queued in the set behind
   pub queued_behind : (front back : List K) (key : K) → list_any (eq key) front ≡ false → queued eq (in_order front back) key ≡ in_order front (queued eq back key)

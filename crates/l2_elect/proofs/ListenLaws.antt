@@ -6,9 +6,9 @@ use Rattle.std.proofs.lemmas.Bool.Decides.{Decides-or}
 use Rattle.std.proofs.lemmas.Slice.Eq.{bytes_eq-Decides}
 use Rattle.mlb_base.specs.Items.{is_nil}
 use Rattle.mlb_base.proofs.Among.{any-found, any-contains}
+use Rattle.mlb_base.proofs.Lists.{Decides-nil}
 use Rattle.kube_labels.specs.Names.{has_text}
 use Rattle.ip_ranges.specs.Values.{AddressValue}
-use Rattle.pool_config.proofs.Tests.{Decides-nil}
 use Rattle.speaker_view.specs.ViewValue.{ViewValue}
 use Rattle.l2_elect.specs.Eligible.{advertises}
 use Rattle.l2_elect.specs.Election.{announces_of}

@@ -8,43 +8,43 @@
 //! Labels are written `name=value,name=value`, and expressions `key operator value,value;key operator`.
 #![tactic(auto)]
 
-mod unread;
 mod written;
 
+use answer_lines::{Answering, answer_lines};
+use anyhow::{Result, bail};
 use kube_labels::{Labels, Selector, SelectorList, any_matches};
-use mlb_base::{NoMemory, TryCopy};
+use mlb_base::TryCopy;
 use std::alloc::Global;
 use std::io;
-use unread::Unread;
 use written::{expressions, labels};
 
-fn selector_of(alloc: Global, wanted: &str, written: &str) -> Result<Selector, Unread> {
+fn selector_of(alloc: Global, wanted: &str, written: &str) -> Result<Selector> {
     let wanted = labels(alloc, wanted)?;
     match expressions(alloc, written) {
         Ok(expressions) => Ok(Selector::new(wanted, expressions)?),
-        Err(NoMemory) => {
+        Err(refused) => {
             drop(wanted);
-            Err(Unread::NoMemory)
+            Err(refused.into())
         }
     }
 }
 
 /// Whether a copy of the selector matches.
-fn copy_told(alloc: Global, selector: &Selector, held: &Labels) -> Result<String, Unread> {
+fn copy_told(alloc: Global, selector: &Selector, held: &Labels) -> Result<String> {
     let copied = selector.copy()?;
     let matches = copied.matches(held);
     drop(copied);
-    Ok(matches.to_string(alloc)?)
+    Ok(format!(in alloc; "{matches}\n")?)
 }
 
-fn selected_told(alloc: Global, selector: &Selector, held: &str) -> Result<String, Unread> {
+fn selected_told(alloc: Global, selector: &Selector, held: &str) -> Result<String> {
     let held = labels(alloc, held)?;
     let told = copy_told(alloc, selector, &held);
     drop(held);
     told
 }
 
-fn matches_told(alloc: Global, text: &str) -> Result<String, Unread> {
+fn matches_told(alloc: Global, text: &str) -> Result<String> {
     let (held, text) = text.split_once('|').unwrap_or((text, ""));
     let (wanted, written) = text.split_once('|').unwrap_or((text, ""));
     let selector = selector_of(alloc, wanted, written)?;
@@ -58,7 +58,7 @@ fn push_selectors(
     alloc: Global,
     written: Option<&str>,
     selectors: &mut SelectorList,
-) -> Result<(), Unread> {
+) -> Result<()> {
     let Some(written) = written else {
         return Ok(());
     };
@@ -69,16 +69,16 @@ fn push_selectors(
 }
 
 /// Whether one of the selectors written matches.
-fn one_told(alloc: Global, written: Option<&str>, held: &Labels) -> Result<String, Unread> {
+fn one_told(alloc: Global, written: Option<&str>, held: &Labels) -> Result<String> {
     let mut selectors = SelectorList::new(alloc);
     let pushed = push_selectors(alloc, written, &mut selectors);
     let matches = any_matches(&selectors, held);
     drop(selectors);
     pushed?;
-    Ok(matches.to_string(alloc)?)
+    Ok(format!(in alloc; "{matches}\n")?)
 }
 
-fn any_told(alloc: Global, text: &str) -> Result<String, Unread> {
+fn any_told(alloc: Global, text: &str) -> Result<String> {
     let (held, written) = match text.split_once('|') {
         Some((held, written)) => (held, Some(written)),
         None => (text, None),
@@ -89,46 +89,47 @@ fn any_told(alloc: Global, text: &str) -> Result<String, Unread> {
     told
 }
 
-fn labels_told(alloc: Global, held: &Labels) -> Result<String, NoMemory> {
+fn labels_told(alloc: Global, held: &Labels) -> Result<String> {
     let mut text = String::new(alloc);
     for (name, value) in held.iter() {
         let label = format!(in alloc; "{name}={value};")?;
         text.push_str(label.as_str())?;
     }
+    text.push('\n')?;
     Ok(text)
 }
 
 /// A copy of the labels, as it is kept.
-fn kept_told(alloc: Global, held: &Labels) -> Result<String, NoMemory> {
+fn kept_told(alloc: Global, held: &Labels) -> Result<String> {
     let copied = held.copy()?;
     let told = labels_told(alloc, &copied);
     drop(copied);
     told
 }
 
-fn held_told(alloc: Global, written: &str) -> Result<String, NoMemory> {
+fn held_told(alloc: Global, written: &str) -> Result<String> {
     let held = labels(alloc, written)?;
     let told = kept_told(alloc, &held);
     drop(held);
     told
 }
 
-fn told(alloc: Global, line: &str) -> Result<String, Unread> {
-    let (word, text) = line.split_once(' ').unwrap_or((line, ""));
-    match word {
-        "matches" => matches_told(alloc, text),
-        "any" => any_told(alloc, text),
-        "labels" => Ok(held_told(alloc, text)?),
-        _ => Err(Unread::Word),
+/// The program keeps nothing from line to line.
+#[derive(Drop)]
+struct Matching;
+
+impl Answering for Matching {
+    fn answer(&mut self, alloc: Global, line: &str) -> Result<String> {
+        let (word, text) = line.split_once(' ').unwrap_or((line, ""));
+        match word {
+            "matches" => matches_told(alloc, text),
+            "any" => any_told(alloc, text),
+            "labels" => held_told(alloc, text),
+            _ => bail!("no such word"),
+        }
     }
 }
 
 fn main(rt: HostRuntime) -> io::Result<()> {
-    for line in rt.lines(rt.alloc()) {
-        match told(rt.alloc(), line?.as_str()) {
-            Ok(text) => println!(rt; "{text}")?,
-            Err(unread) => println!(rt; "{unread}")?,
-        }
-    }
-    Ok(())
+    answer_lines(&rt, rt.alloc(), &mut Matching)
 }

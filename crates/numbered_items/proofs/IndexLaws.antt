@@ -4,15 +4,12 @@ use Rattle.std.specs.Cmp.{IsTotalOrder, Equal-is}
 use Rattle.std.specs.Map.{lookup}
 use Rattle.std.specs.BTreeMap.{BTreeMap, is_at, Updates, WritesThrough}
 use Rattle.std.specs.Option.{IsSome}
+use Rattle.mlb_base.proofs.Bools.{cond-same}
 use Rattle.numbered_items.specs.Index.{IndexValue, TermList, numbers_in, room_in, numbers_under, room_under}
 
 -- the term has this list after, or none, and each other term the one it had
 abbrev pub Relists : {T : Type 0} → (T → T → Ordering) → T → Option TermList → IndexValue T → IndexValue T → Type 0
 Relists {T} cmp term list before after = (t : T) → lookup (is_at (cmp t)) after ≡ cond (is_at (cmp term) t) list (lookup (is_at (cmp t)) before)
-
-pub cond-same : {X : Type 0} (b : Bool) (x : X) → cond b x x ≡ x
-cond-same true x = refl
-cond-same false x = refl
 
 same-by : {X : Type 0} (a b : Bool) (v : X) (one other : Option X) → a ≡ b → one ≡ other → cond a (Some v) one ≡ cond b (Some v) other
 same-by a b v one other is rest = rw (is, rest) refl

@@ -11,6 +11,7 @@ use Rattle.std.specs.declared.ops.Bound.TheVariants.{Included, Unbounded}
 use Rattle.std.proofs.lemmas.Bool.Decides.{nat_tests}
 use Rattle.std.proofs.lemmas.List.Elements.{All-nil, All-cons}
 use Rattle.std.proofs.lemmas.Map.{NonePasses, lookup-none}
+use Rattle.mlb_base.proofs.Orders.{less_is, less_apart}
 use Rattle.numbered_items.specs.Numbered.{item_of, items_of, IsSlot}
 
 -- ---- numbers
@@ -22,12 +23,6 @@ at-here q n e = grind (arith, nat_tests)
 
 not-here : (q n : ℕ) → is_eq (nat_cmp q n) ≡ false → n ≡ q → ⊥
 not-here q n e same = grind (arith, nat_tests)
-
-below-apart : (n m : ℕ) → nat_cmp n m ≡ Less → (m == n) ≡ false
-below-apart n m less = grind (arith, nat_tests)
-
-less-below : (n m : ℕ) → nat_cmp n m ≡ Less → n < m
-less-below n m less = grind (arith, nat_tests)
 
 given-apart : (n next number : ℕ) → n < next → next ≤ number → (n == number) ≡ false
 given-apart n next number below from = grind (arith, nat_tests)
@@ -68,7 +63,7 @@ module _ {X : Type 0} where
   -- no item behind a slot has its number
   apart-behind-by : (n m : ℕ) (slot : Option X) (slots : List (ℕ × Option X)) → nat_cmp n m ≡ Less → NonePasses (λ k. k == n) (items_of slots) → NonePasses (λ k. k == n) (items_of ((m, slot) ∷ slots))
   apart-behind-by n m None slots less rest = rest
-  apart-behind-by n m (Some x) slots less rest = (below-apart n m less, rest)
+  apart-behind-by n m (Some x) slots less rest = (less_apart n m less, rest)
 
   apart-behind : (n : ℕ) (slots : List (ℕ × Option X)) → AllByRecursion (λ m. nat_cmp n m ≡ Less) (keys_of slots) → NonePasses (λ k. k == n) (items_of slots)
   apart-behind n [] above = tt
@@ -124,7 +119,7 @@ module _ {X : Type 0} (next : ℕ) where
   last-slot : (slots : List (ℕ × Option X)) → AllByRecursion (λ m. nat_cmp next m ≡ Less) (keys_of slots) → AllSlots slots → slots ≡ []
   last-slot [] above all = refl
   last-slot (s ∷ slots) above all =
-      let above : next < s.0 = less-below next s.0 above.0 in
+      let above : next < s.0 = less_is next s.0 above.0 in
       let below : s.0 ≤ next = within s.0 s.1 all.0 in
       absurd (omega (arith, above, below))
 

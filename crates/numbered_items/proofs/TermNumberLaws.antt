@@ -8,15 +8,10 @@ use Rattle.std.proofs.Math.Seq.{paste}
 use Rattle.std.proofs.lemmas.List.{append_assoc, drop_at, drop-drop, drop-append-le, drop-take, length-take-le, take_all}
 use Rattle.std.proofs.lemmas.List.Edits.{take-paste}
 use Rattle.std.proofs.lemmas.List.Sorted.{searched}
-
-below : (n m : ℕ) → nat_cmp n m ≡ Less → n < m
-below n m less = grind (arith, nat_tests)
+use Rattle.mlb_base.proofs.Orders.{less_is, less_apart}
 
 less : (n m : ℕ) → n < m → nat_cmp n m ≡ Less
 less n m lt = grind (arith, nat_tests)
-
-apart : (n m : ℕ) → nat_cmp n m ≡ Less → (m == n) ≡ false
-apart n m less = grind (arith, nat_tests)
 
 pub none-ascend : IsStrictlySortedBy nat_cmp []
 unfolding IsStrictlySortedBy
@@ -24,7 +19,7 @@ none-ascend = tt
 
 above-at : (n : ℕ) (xs : List ℕ) (i : ℕ) → AllByRecursion (λ m. nat_cmp n m ≡ Less) xs → i < length xs → n < get_or xs i 0
 above-at n [] i above lt = absurd (omega (arith, lt))
-above-at n (x ∷ xs) zero above lt = below n x above.0
+above-at n (x ∷ xs) zero above lt = less_is n x above.0
 above-at n (x ∷ xs) (suc i) above lt = above-at n xs i above.1 (omega (arith, lt))
 
 -- ---- a number that is put at the end
@@ -49,7 +44,7 @@ kept-all n (x ∷ xs) others = rw others.0 (ap (λ (rest : List ℕ). x ∷ rest
 
 above-others : (n : ℕ) (xs : List ℕ) → AllByRecursion (λ m. nat_cmp n m ≡ Less) xs → AllByRecursion (λ m. (m == n) ≡ false) xs
 above-others n [] above = tt
-above-others n (x ∷ xs) above = (apart n x above.0, above-others n xs above.1)
+above-others n (x ∷ xs) above = (less_apart n x above.0, above-others n xs above.1)
 
 taken-out : (n : ℕ) (xs : List ℕ) (i : ℕ) → IsStrictlySortedBy nat_cmp xs → i < length xs → get_or xs i 0 ≡ n → remove xs i ≡ filter (λ m. not (m == n)) xs
 unfolding IsStrictlySortedBy

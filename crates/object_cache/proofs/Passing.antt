@@ -1,5 +1,5 @@
 -- What an event leaves as it was.
-use Rattle.std.proofs.Common.{◌≡◌, ℕ, Bool, true, false, cond, leb, eqb, not, ◌||◌, List, [], ◌∷◌, Option, Some, None, option_map, Ordering, Less, Equal, Greater, is_eq, filter, map, refl, sym, ap, ◌∙◌}
+use Rattle.std.proofs.Common.{◌≡◌, ℕ, Bool, true, false, cond, leb, eqb, not, List, [], ◌∷◌, Option, Some, None, option_map, Ordering, Less, Equal, Greater, is_eq, filter, map, refl, sym, ap, ◌∙◌}
 use Rattle.std.specs.List.{list_any}
 use Rattle.std.specs.List.Sorted.{IsStrictlySortedBy}
 use Rattle.std.specs.Ordering.{match_ordering}
@@ -7,6 +7,7 @@ use Rattle.std.specs.Map.{remove_entry, keys_of}
 use Rattle.std.specs.BTreeMap.{insert_entry, is_at}
 use Rattle.std.specs.Cmp.{Equal-is, tied_itself, tied_back}
 use Rattle.std.proofs.lemmas.Map.Entries.{option_filter}
+use Rattle.std.proofs.lemmas.Bool.{or_right, or_parts}
 use Rattle.kube_model.specs.declared.event.Event.{Event}
 use Rattle.kube_model.specs.declared.event.Event.TheVariants.{Changed, Deleted, ListEnd, Expired, Members, Frame, Ignored}
 use Rattle.kube_model.specs.declared.event.Group.TheVariants as groups
@@ -28,10 +29,6 @@ use Rattle.object_cache.specs.Told.{tells_of, passing, NeverPasses, OthersPassAs
 
 abbrev Entries : Type 0
 Entries = List (Key × Versioned Service)
-
-either_or : (a b : Bool) → b ≡ true → (a || b) ≡ true
-either_or true b e = refl
-either_or false b e = e
 
 -- the key of an entry that passes, before those of the others
 first_key : (b : Bool) (d e : Key × Versioned Service) (xs ys : Entries) → d.0 ≡ e.0 → map (λ (x : Key × Versioned Service). x.0) xs ≡ map (λ (x : Key × Versioned Service). x.0) ys
@@ -86,7 +83,7 @@ module _ (test : Key → Service → Bool) where
       → passing test (cond (not unlisted) (e ∷ listed es) (listed es)) ≡ passing test (e ∷ es)
   listed_by true e es fails ih =
       let own : test e.0 e.1.object ≡ false = fails e.0 e.1.object (rw (tied_itself key_cmp-total e.0) refl) in
-      rw own (ih (λ key service found. fails key service (either_or (is_eq (key_cmp e.0 key)) _ found)))
+      rw own (ih (λ key service found. fails key service (or_right (is_eq (key_cmp e.0 key)) _ found)))
   listed_by false e es fails ih = first_key (test e.0 e.1.object) e e _ _ refl (ih fails)
 
   passing-listed : (es : Entries) → FailsAtEach (unlisted_keys es) → passing test (listed es) ≡ passing test es
@@ -152,10 +149,6 @@ object_shown false es service version key apart =
 object_removed : (es : Entries) (gone key : Key) → IsStrictlySortedBy key_cmp (keys_of es) → is_eq (key_cmp gone key) ≡ false → object_at key_cmp (remove_entry (is_at (key_cmp gone)) es) key ≡ object_at key_cmp es key
 object_removed es gone key s apart = rw (held_at-removed key_cmp-total es gone key s, apart) refl
 
-either_false : (a b : Bool) → (a || b) ≡ false → (a ≡ false) × (b ≡ false)
-either_false true b e = absurd (cc)
-either_false false b e = (refl, e)
-
 -- what is held at version 0 is among the keys that weren't listed
 unlisted_by : (unlisted same : Bool) (e : Key × Versioned Service) (es : Entries) (key : Key) (h : Versioned Service) → unlisted ≡ eqb e.1.version 0 → same ≡ is_eq (key_cmp key e.0)
     → (held_at key_cmp es key ≡ Some h → list_any (λ k. is_eq (key_cmp k key)) (unlisted_keys es) ≡ false → eqb h.version 0 ≡ false)
@@ -164,10 +157,10 @@ unlisted_by : (unlisted same : Bool) (e : Key × Versioned Service) (es : Entrie
     → eqb h.version 0 ≡ false
 unlisted_by true true e es key h u s ih found none =
     let back : is_eq (key_cmp e.0 key) ≡ true = ap is_eq (tied_back key_cmp-total key e.0 ((Equal-is (key_cmp key e.0)).0 (sym s))) in
-    let parts = either_false (is_eq (key_cmp e.0 key)) _ none in
+    let parts = or_parts (is_eq (key_cmp e.0 key)) _ none in
     let apart : is_eq (key_cmp e.0 key) ≡ false = parts.0 in
     absurd (cc)
-unlisted_by true false e es key h u s ih found none = ih found (either_false (is_eq (key_cmp e.0 key)) _ none).1
+unlisted_by true false e es key h u s ih found none = ih found (or_parts (is_eq (key_cmp e.0 key)) _ none).1
 unlisted_by false true e es key h u s ih found none =
     let is : e.1 ≡ h = cc in
     ap (λ (x : Versioned Service). eqb x.version 0) (sym is) ∙ sym u

@@ -4,6 +4,7 @@ use Rattle.std.specs.List.Sorted.{IsStrictlySortedBy}
 use Rattle.std.specs.Map.{keys_of}
 use Rattle.std.specs.Cmp.{IsTotalOrder}
 use Rattle.std.proofs.lemmas.Map.Lookups.{CmpEqualImpliesEq}
+use Rattle.std.proofs.Math.Bool.{or-true}
 use Rattle.kube_model.specs.declared.event.Event.TheVariants.{Changed, Deleted, ListEnd, Expired, Members, Frame, Ignored}
 use Rattle.kube_model.specs.declared.event.Group.{Group}
 use Rattle.kube_model.specs.declared.event.Group.TheVariants as groups
@@ -138,14 +139,10 @@ ended_of-is group (Watched Ignored ∷ earlier) e = ended_on group _ earlier ref
 ended_of-is group (WatchExpired g ∷ earlier) e = expired_not (same_group g group) group g earlier refl (ended_of-is group earlier) e
 ended_of-is group (Written key version holding ∷ earlier) e = ended_on group _ earlier refl (ended_of-is group earlier e)
 
-or_true : (b : Bool) → (b || true) ≡ true
-or_true true = refl
-or_true false = refl
-
 ended_stays : (group : Group) (observation : Observation) → expires group observation ≡ false → ended_after group observation true ≡ true
 ended_stays group (Watched (Changed version object)) e = refl
 ended_stays group (Watched (Deleted kind key)) e = refl
-ended_stays group (Watched (ListEnd g)) e = or_true (same_group g group)
+ended_stays group (Watched (ListEnd g)) e = or-true (same_group g group)
 ended_stays group (Watched Expired) e = absurd (cc)
 ended_stays group (Watched (Members names)) e = refl
 ended_stays group (Watched (Frame interface bytes)) e = refl

@@ -1,14 +1,11 @@
 -- What is last shown, as a function and by places.
 use Rattle.std.proofs.Common.{◌≡◌, ℕ, ◌<◌, Bool, true, false, cond, ltb, eqb, ◌&&◌, ◌||◌, List, [], ◌∷◌, ◌++◌, Option, Some, None, option_map, refl, sym, ap, subst, ◌∙◌, lt-ltb, ltb-true}
+use Rattle.std.proofs.lemmas.Bool.{or_parts}
 use Rattle.kube_model.specs.declared.event.Event.{Event}
 use Rattle.versioned_map.specs.declared.map.Versioned.{Versioned}
 use Rattle.object_history.specs.Kinds.{Resource}
 use Rattle.object_history.specs.Observations.{Observation, Watched, WatchExpired, Written}
 use Rattle.object_history.specs.LookBack.{event_object, object_in, deletes_key, ends_list, held_on, held_through, version_of, newer_than, seen_after, last_shown, version_last_shown, replaces, IsKept, IsLastShown}
-
-or_none : (a b : Bool) → (a || b) ≡ false → (a ≡ false) × (b ≡ false)
-or_none true b e = absurd (cc)
-or_none false b e = (refl, e)
 
 module _ {K T : Type 0} (resource : Resource K T) (key : K) where
   held_on_from : (observation : Observation) (before : Option (Versioned T)) (held : Versioned T) → option_map (held_on resource key observation) before ≡ Some held
@@ -79,7 +76,7 @@ module _ {K T : Type 0} (resource : Resource K T) (key : K) where
       → (newer_than resource key (version_of resource key before) (object_in resource key observation) || (deletes_key resource key observation || (ends_list resource.group observation && eqb (version_of resource key before) 0))) ≡ false
       → seen_after resource key observation before ≡ Some (held_on resource key observation prev)
   kept_through observation before prev e same =
-      let parts = or_none (newer_than resource key (version_of resource key before) (object_in resource key observation)) (deletes_key resource key observation || (ends_list resource.group observation && eqb (version_of resource key before) 0)) same in
+      let parts = or_parts (newer_than resource key (version_of resource key before) (object_in resource key observation)) (deletes_key resource key observation || (ends_list resource.group observation && eqb (version_of resource key before) 0)) same in
       rw (parts.0, parts.1, e) refl
 
   shown_through : (later : List Observation) (event : Event) (earlier : List Observation) (told : Versioned T) → event_object resource key event ≡ Some told → version_last_shown resource key earlier < told.version → IsKept resource key later (Watched event ∷ earlier)

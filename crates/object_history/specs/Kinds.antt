@@ -1,6 +1,7 @@
 -- How the objects of each kind are keyed and listed.
-use Rattle.std.specs.Prelude.{ℕ, Bool, true, false, List, Option, Some, None}
+use Rattle.std.specs.Prelude.{ℕ, List, Option, Some, None}
 use Rattle.std.specs.declared.cmp.Ordering.{Ordering}
+use Rattle.std.specs.Bool.{then_some}
 use Rattle.kube_model.specs.declared.bgp.BgpAdv.{BgpAdv}
 use Rattle.kube_model.specs.declared.community.CommunityList.{CommunityList}
 use Rattle.kube_model.specs.declared.event.Group.{Group}
@@ -131,18 +132,13 @@ show_slice (objects.Community community) = None
 show_slice (objects.Namespace namespace) = None
 show_slice (objects.Node node) = None
 
--- it, where this holds
-abbrev pub some_if : {K : Type 0} → Bool → K → Option K
-some_if true key = Some key
-some_if false key = None
-
 -- the key of a service or an endpoint slice, where it is of this kind
 abbrev pub deletes : Kind → Kind → Key → Option Key
-deletes kind k key = some_if (same_kind kind k) key
+deletes kind k key = then_some (same_kind kind k) key
 
 -- the name of an object of another kind, where it is of this kind
 abbrev pub deletes_named : Kind → Kind → Key → Option (List ℕ)
-deletes_named kind k key = some_if (same_kind kind k) key.name
+deletes_named kind k key = then_some (same_kind kind k) key.name
 
 -- services alone have records
 abbrev pub no_record : {K T : Type 0} → Key → Record → Option (K × (T → T))

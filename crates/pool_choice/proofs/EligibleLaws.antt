@@ -2,6 +2,7 @@
 use Rattle.std.proofs.Common.{◌≡◌, ℕ, List, [], ◌∷◌, map, filter, slice_get, Some, Less, Equal, Decides, Result, Ok, Err, IfOk, IsPermutation, IsSorted, ap, ◌∙◌, subst}
 use Rattle.std.proofs.lemmas.Bool.Decides.{Decides-and}
 use Rattle.std.specs.List.Sorted.{IsStrictlySortedBy}
+use Rattle.mlb_base.proofs.Orders.{both_equal}
 use Rattle.kube_labels.specs.Names.{name_cmp}
 use Rattle.kube_model.specs.declared.service.Service.{Service}
 use Rattle.pool_config.specs.declared.compiled.CompiledPool.{CompiledPool}
@@ -12,7 +13,7 @@ use Rattle.pool_choice.specs.Serving.{serves}
 use Rattle.pool_choice.specs.Sorted.{sorted}
 use Rattle.pool_choice.proofs.Filters.{filter-contains, filter-keeps}
 use Rattle.pool_choice.proofs.EntryLaws.{NamesAscend, names-ascend, offered-ascend, entries-apart, places-got}
-use Rattle.pool_choice.proofs.RankLaws.{entry-total, entry-exact, pool-total, both_equal, less-stands}
+use Rattle.pool_choice.proofs.RankLaws.{entry-total, entry-exact, pool-total, less-stands}
 use Rattle.pool_choice.proofs.ServingLaws.{serves-Decides}
 use Rattle.pool_choice.proofs.SortLaws.{AreApart, all-map, pairs-map, pairs-ascend, sorted-found, sorted-has, sorted-ascends, sort-is}
 

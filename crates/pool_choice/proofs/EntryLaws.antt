@@ -4,6 +4,7 @@ use Rattle.std.specs.Cmp.{nat_cmp_is}
 use Rattle.std.specs.List.{AllByRecursion, AllZip}
 use Rattle.std.specs.List.Sorted.{IsStrictlySortedBy}
 use Rattle.std.specs.Ordering.{nat_cmp, is_lt}
+use Rattle.mlb_base.proofs.Orders.{both_equal}
 use Rattle.kube_labels.specs.Names.{name_cmp}
 use Rattle.kube_model.specs.declared.service.Service.{Service}
 use Rattle.pool_config.specs.declared.compiled.CompiledPool.{CompiledPool}
@@ -11,7 +12,6 @@ use Rattle.pool_choice.specs.declared.choice.Entry.{Entry}
 use Rattle.pool_choice.specs.Eligible.{is_offered, entries_from, entry_cmp}
 use Rattle.pool_choice.specs.Rank.{rank_of, rank_cmp, pool_cmp}
 use Rattle.pool_choice.specs.Sorted.{placed, sorted}
-use Rattle.pool_choice.proofs.RankLaws.{both_equal}
 use Rattle.pool_choice.proofs.SortLaws.{AreApart, all-map, all-sorted}
 
 -- names ascend along the pools

@@ -1,9 +1,10 @@
 -- Ranks and pools are in order; a pool ranks ahead of another exactly where it stands before it.
-use Rattle.std.proofs.Common.{◌≡◌, ℕ, ◌<◌, Bool, true, false, cond, eqb, List, Option, Some, None, Ordering, Less, Equal, Greater, ◌⊎◌, inl, inr, ⊎_elim, refl, sym, ap, ◌∙◌, arith}
+use Rattle.std.proofs.Common.{◌≡◌, ℕ, Bool, true, false, cond, eqb, List, Option, Some, None, Ordering, Less, Equal, Greater, ◌⊎◌, inl, inr, ⊎_elim, refl, sym, ap, ◌∙◌}
 use Rattle.std.proofs.lemmas.Bool.{eqb-true, eqb-false}
 use Rattle.std.proofs.lemmas.Map.Lookups.{CmpEqualImpliesEq, exact_unsigned}
 use Rattle.std.specs.Cmp.{IsTotalOrder, on_total, then_total, nat_cmp_total}
 use Rattle.std.specs.Ordering.{nat_cmp, ordering_then, ordering_reverse}
+use Rattle.mlb_base.proofs.Orders.{both_equal, less_is}
 use Rattle.kube_labels.specs.Names.{name_cmp}
 use Rattle.kube_labels.proofs.NameLaws.{name_cmp-total}
 use Rattle.pool_config.specs.declared.compiled.CompiledAllocation.{CompiledAllocation}
@@ -84,11 +85,6 @@ entry-total = then_total (on_total (λ (e : Entry). e.rank) rank-total) (on_tota
 pub pool-total : IsTotalOrder pool_cmp
 pool-total = then_total (on_total rank_of rank-total) (on_total (λ (p : CompiledPool). p.name) name_cmp-total)
 
-pub both_equal : (a b : Ordering) → ordering_then a b ≡ Equal → (a ≡ Equal) × (b ≡ Equal)
-both_equal Less b e = absurd (cc)
-both_equal Equal b e = (refl, e)
-both_equal Greater b e = absurd (cc)
-
 pub entry-exact : CmpEqualImpliesEq entry_cmp
 entry-exact e f h =
     let parts = both_equal (rank_cmp e.rank f.rank) (nat_cmp e.place f.place) h in
@@ -97,9 +93,6 @@ entry-exact e f h =
     ap rank (rank-exact e.rank f.rank parts.0) ∙ ap place (exact_unsigned e.place f.place parts.1)
 
 -- ---- ranks and the relation
-less-is : (m n : ℕ) → nat_cmp m n ≡ Less → m < n
-less-is m n e = grind (arith, e)
-
 then-less : (a b : Ordering) → ordering_then a b ≡ Less → (a ≡ Less) ⊎ ((a ≡ Equal) × (b ≡ Less))
 then-less Less b e = inl refl
 then-less Equal b e = inr (refl, e)
@@ -113,7 +106,7 @@ sooner_by true false a b p q s t e = absurd (cc)
 sooner_by false true a b p q s t e = inl (eqb-false a.priority 0 s, inl (eqb-true b.priority 0 t))
 sooner_by false false a b p q s t e =
     ⊎_elim
-    (λ less. inl (eqb-false a.priority 0 s, inr (less-is a.priority b.priority less)))
+    (λ less. inl (eqb-false a.priority 0 s, inr (less_is a.priority b.priority less)))
     (λ tied. inr (exact_unsigned a.priority b.priority tied.0, tied.1))
     (then-less (nat_cmp a.priority b.priority) (name_cmp p q) e)
 

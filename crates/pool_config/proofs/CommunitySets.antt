@@ -1,5 +1,5 @@
 -- The numbers and the large communities of an advertisement are exactly those that its texts stand for.
-use Rattle.std.proofs.Common.{◌≡◌, ℕ, Bool, true, false, cond, List, [], ◌∷◌, ◌++◌, ◌⊎◌, ◌↔◌, inl, inr, ◌||◌, Ordering, IsTrue, codes, Option, Some, None, decimal, refl, sym, ap, ◌∙◌}
+use Rattle.std.proofs.Common.{◌≡◌, ℕ, Bool, true, false, cond, List, [], ◌∷◌, ◌++◌, ◌⊎◌, ◌↔◌, inl, inr, Ordering, IsTrue, codes, Option, Some, None, decimal, refl, sym, ap, ◌∙◌}
 use Rattle.std.proofs.lemmas.Bool.{false≢true, cases_Bool}
 use Rattle.std.proofs.lemmas.Map.Lookups.{CmpEqualImpliesEq, exact_pairs, exact_unsigned}
 use Rattle.std.specs.Cmp.{IsTotalOrder, nat_cmp_total, on_total, then_total}
@@ -7,6 +7,7 @@ use Rattle.std.specs.List.{filter_map}
 use Rattle.std.specs.List.Sorted.{IsStrictlySortedBy}
 use Rattle.std.specs.Option.{option_and_then}
 use Rattle.std.specs.Ordering.{nat_cmp, ordering_then}
+use Rattle.std.proofs.Math.Bool.{or-true}
 use Rattle.kube_model.specs.declared.community.CommunityList.{CommunityList}
 use Rattle.mlb_base.specs.Items.{Has, IsIn}
 use Rattle.large_numbers.specs.declared.numbers.LargeCommunity.{LargeCommunity}
@@ -21,13 +22,9 @@ use Rattle.pool_config.proofs.KeySets.{in_keys, keys_in, ascending-keys_with}
 use Rattle.pool_config.proofs.LargeTexts.{large_texts_are_read}
 use Rattle.pool_config.proofs.NumberTexts.{numbers_are_read}
 
-or_true : (b : Bool) → (b || true) ≡ true
-or_true true = refl
-or_true false = refl
-
 colon_within : (xs ys : List ℕ) → has_colon (xs ++ 58 ∷ ys) ≡ true
 colon_within [] ys = refl
-colon_within (x ∷ xs) ys = rw (colon_within xs ys) (or_true (is_colon x))
+colon_within (x ∷ xs) ys = rw (colon_within xs ys) (or-true (is_colon x))
 
 number_colon : (text : List ℕ) (n : ℕ) → IsNumberText text n → has_colon text ≡ true
 number_colon text n (a, b, fits, fits', is, sum) = rw is (colon_within (decimal a) (decimal b))

@@ -2,10 +2,11 @@
 use Rattle.std.proofs.Common.{◌≡◌, ℕ, ◌+◌, ◌<◌, ◌≤◌, Bool, true, false, ◌||◌, cond, List, [], ◌∷◌, ◌++◌, zero, suc, length, ◌↔◌, IsTrue, inl, inr, refl, sym, ◌∙◌, ap, zero-add, arith}
 use Rattle.std.proofs.lemmas.Bool.{cases_lt, lt-leb, le-leb, lt-ltb, ltb-true, ltb-false, and_left}
 use Rattle.std.proofs.lemmas.List.Sorted.{sum_by-IsPermutation}
-use Rattle.std.proofs.lemmas.List.Sums.{sum_by-append, sum_by-cons}
+use Rattle.std.proofs.lemmas.List.Sums.{sum_by-append}
 use Rattle.std.specs.List.{AllByRecursion, count_by, list_any}
 use Rattle.std.specs.List.Sorted.{IsPartitionPoint}
 use Rattle.std.specs.Prelude.{nat_lt, nat_le}
+use Rattle.mlb_base.proofs.Lists.{count-cons}
 use Rattle.ip_ranges.specs.declared.family.Family.{Family}
 use Rattle.ip_ranges.specs.declared.family.Family.TheVariants.{V4, V6}
 use Rattle.ip_ranges.specs.Values.{SpanValue, IsRange, same_family, overlaps}
@@ -13,9 +14,6 @@ use Rattle.ip_ranges.proofs.AddressLaws.{same_family-itself}
 use Rattle.pool_config.specs.declared.bounds.Bounds.{Bounds}
 use Rattle.pool_config.specs.Bounds.{lows_in, highs_in}
 use Rattle.pool_config.specs.Meeting.{AreBoundsOf, bounds_of, begun_at, ended_below, meets_another}
-
-count-cons : {X : Type 0} (p : X → Bool) (x : X) (xs : List X) → count_by p (x ∷ xs) ≡ cond (p x) 1 0 + count_by p xs
-count-cons p x xs = sum_by-cons (λ y. cond (p y) 1 0) x xs
 
 count_yes : {X : Type 0} (p : X → Bool) (x : X) (xs : List X) → p x ≡ true → count_by p (x ∷ xs) ≡ 1 + count_by p xs
 count_yes p x xs passes = count-cons p x xs ∙ ap (λ b. cond b 1 0 + count_by p xs) passes

@@ -8,8 +8,8 @@ use Rattle.std.specs.BTreeMap.{is_at}
 use Rattle.std.specs.BTreeSet.{insert_key}
 use Rattle.std.specs.Cmp.{IsTotalOrder, Equal-is}
 use Rattle.mlb_base.specs.Items.{IsIn}
+use Rattle.mlb_base.proofs.Lists.{Decides-has}
 use Rattle.pool_config.specs.KeySets.{keys_with}
-use Rattle.pool_config.proofs.Tests.{Decides-has}
 
 itself_by : (r : Ordering) → r ≡ ordering_reverse r → r ≡ Equal
 itself_by Less e = absurd (let h : Less ≡ Greater = e in cc)

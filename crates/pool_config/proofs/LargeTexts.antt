@@ -4,11 +4,12 @@ use Rattle.std.proofs.lemmas.Bool.Decides.{Decides-eqb}
 use Rattle.std.proofs.lemmas.Bool.{false≢true}
 use Rattle.std.proofs.lemmas.Slice.Eq.{starts_is}
 use Rattle.std.specs.List.{before_first, after_first}
+use Rattle.std.proofs.lemmas.Fmt.{decimal_nonempty}
 use Rattle.large_numbers.specs.declared.numbers.LargeCommunity.{LargeCommunity}
 use Rattle.pool_config.specs.Faults.{IsNoLarge}
 use Rattle.pool_config.specs.Large.{IsLargeText, begins_large, large_mark, large_of, local_of, pair, with_global, word_of, words_of}
 use Rattle.pool_config.specs.Numbers.{is_colon}
-use Rattle.pool_config.proofs.NumberTexts.{before_decimal, behind_decimal, below_decimal, below_some, cut_at_colon, some_digits}
+use Rattle.pool_config.proofs.NumberTexts.{before_decimal, behind_decimal, below_decimal, below_some, cut_at_colon}
 
 -- ---- what is written is read
 word-is : (text : List ℕ) (a : ℕ) → text ≡ decimal a → a < 2 ^ 32 → word_of text ≡ Some a
@@ -52,7 +53,7 @@ cut-is : (xs ys xs' ys' : List ℕ) → xs ≡ xs' → ys ≡ ys' → xs ++ 58 �
 cut-is xs ys xs' ys' p q = ap (λ l. l ++ 58 ∷ ys) p ∙ ap (λ l. xs' ++ 58 ∷ l) q
 
 some-by : (xs : List ℕ) (d : ℕ) → xs ≡ decimal d → d < 2 ^ 64 → 0 < length xs
-some-by xs d is fits = subst (λ (l : List ℕ). 0 < length l) (sym is) (some_digits d fits)
+some-by xs d is fits = subst (λ (l : List ℕ). 0 < length l) (sym is) (decimal_nonempty d fits)
 
 behind_some : (xs ys : List ℕ) → 0 < length (xs ++ 58 ∷ ys)
 behind_some [] ys = omega arith

@@ -1,7 +1,7 @@
 -- The texts that have a number are those of the form `A:B`.
 use Rattle.std.proofs.Common.{◌≡◌, ℕ, zero, suc, ◌+◌, ◌*◌, ◌^◌, ◌<◌, ◌≤◌, Bool, true, false, ◌&&◌, List, [], ◌∷◌, ◌++◌, ◌↔◌, Option, Some, None, length, get_or, take, drop, decimal, cond, refl, sym, ◌∙◌, ap, subst, arith, eqb-true, eq-eqb, ne_eqb, inl, inr, nat_lt, Decides, is_none}
 use Rattle.std.proofs.lemmas.Bool.{cases_lt, cases_eq, true≢false, false≢true, lt-ltb, ltb-true, and_parts}
-use Rattle.std.proofs.lemmas.Fmt.{decimal_is_IsNumeral, decimal_digit, first_decimal, decimal-digits_value}
+use Rattle.std.proofs.lemmas.Fmt.{decimal_is_IsNumeral, decimal_digit, first_decimal, decimal-digits_value, decimal_nonempty}
 use Rattle.std.proofs.lemmas.List.Sums.{split_at_first, passes_at_first, position_or_len_is}
 use Rattle.std.proofs.lemmas.Str.Parse.{numerals_by_value, tells_all_ascii_digits, IsNumeralModel, digit_at}
 use Rattle.std.specs.List.{position_or_len, before_first, after_first}
@@ -115,9 +115,6 @@ cut_at_colon text long =
     let colon : get_or text (position_or_len is_colon text) 0 ≡ 58 = eqb-true _ 58 (passes_at_first is_colon text 0 within) in
     split_at_first is_colon text 0 within ∙ ap (λ c. before_first is_colon text ++ c ∷ after_first is_colon text) colon
 
-pub some_digits : (b : ℕ) → b < 2 ^ 64 → 0 < length (decimal b)
-some_digits b fits = (decimal_is_IsNumeral b fits).0.0
-
 number_form : (text : List ℕ) (n : ℕ) → number_of text ≡ Some n → IsNumberText text n
 number_form text n e = go (half_of (before_first is_colon text)) refl (half_of (after_first is_colon text)) refl e
   where
@@ -127,7 +124,7 @@ number_form text n e = go (half_of (before_first is_colon text)) refl (half_of (
     go (Some a) hx (Some b) hy found =
         let (fa, before) = below_some 65536 (omega arith) (before_first is_colon text) a hx in
         let (fb, behind) = below_some 65536 (omega arith) (after_first is_colon text) b hy in
-        let long : 0 < length (after_first is_colon text) = subst (λ (l : List ℕ). 0 < length l) (sym behind) (some_digits b (omega arith)) in
+        let long : 0 < length (after_first is_colon text) = subst (λ (l : List ℕ). 0 < length l) (sym behind) (decimal_nonempty b (omega arith)) in
         let whole : text ≡ decimal a ++ 58 ∷ decimal b = cut_at_colon text long ∙ ap (λ l. l ++ 58 ∷ after_first is_colon text) before ∙ ap (λ l. decimal a ++ 58 ∷ l) behind in
         let number : n ≡ a * 65536 + b = (let h : Some (a * 65536 + b) ≡ Some n = found in cc) in
         (a, b, fa, fb, whole, number)

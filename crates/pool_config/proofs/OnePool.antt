@@ -10,10 +10,10 @@ use Rattle.ip_ranges.proofs.AddressLaws.{same_family-is, same_family-itself}
 use Rattle.pool_config.specs.declared.compiled.CompiledPool.{CompiledPool}
 use Rattle.pool_config.specs.ConfigValue.{AreApart, placed_spans}
 use Rattle.mlb_base.specs.Items.{ItemAt, Has, IsIn}
+use Rattle.mlb_base.proofs.Lists.{Decides-has}
 use Rattle.pool_config.specs.PoolOf.{HasAddress, has_address, pool_of, pool_with}
 use Rattle.pool_config.proofs.Firsts.{find_some, find_none}
 use Rattle.pool_config.proofs.ItemLaws.{item_bound, in_list, at_has, same_item}
-use Rattle.pool_config.proofs.Tests.{Decides-has}
 
 abbrev pub Placed : Type 0
 Placed = List ℕ × SpanValue

@@ -23,6 +23,8 @@ use Rattle.pool_config.specs.Numbers.{has_colon, number_of}
 use Rattle.pool_config.specs.Objects.{Objects}
 use Rattle.kube_labels.specs.Names.{name_cmp}
 use Rattle.mlb_base.specs.Items.{Has, IsIn}
+use Rattle.mlb_base.proofs.Lists.{Decides-has}
+use Rattle.mlb_base.proofs.Bools.{Decides-itself}
 use Rattle.pool_config.specs.Search.{found_at, clash, aggregates_too_far, has_many_entries, has_bad_entry, has_no_entry, has_bad_selector, has_bad_allocation, has_bad_in_l2, has_bad_in_bgp, has_bad_in_peer, is_bad_selector, is_bad_entry, is_unknown, is_no_community, has_bad_value, is_bad_text, is_unknown_peer, is_too_short, chooses_pool, has_equal_length}
 use Rattle.pool_config.proofs.Firsts.{Finds, finds_item, finds_named, finds_pair}
 use Rattle.pool_config.proofs.Limits.{finds_at, finds_past}
@@ -30,7 +32,7 @@ use Rattle.pool_config.proofs.LargeTexts.{no_large-Decides}
 use Rattle.pool_config.proofs.NumberTexts.{no_number-Decides}
 use Rattle.pool_config.proofs.Repeats.{finds_repeat}
 use Rattle.pool_config.proofs.Shared.{finds_overlap}
-use Rattle.pool_config.proofs.Tests.{Decides-has, Decides-itself, chooses-Decides}
+use Rattle.pool_config.proofs.Tests.{chooses-Decides}
 use Rattle.pool_config.proofs.KeySets.{held-Decides}
 use Rattle.kube_labels.proofs.FaultLaws.{well_formed-Decides}
 use Rattle.kube_labels.proofs.NameLaws.{name_cmp-total, name_cmp-exact}

@@ -15,13 +15,13 @@ use Rattle.ip_ranges.proofs.EntryLemmas.{entry_of-err, entry_of-mapped, entry_of
 use Rattle.ip_ranges.proofs.AddressLaws.{same_family-is, same_family-itself}
 use Rattle.kube_model.specs.declared.pool.Pool.{Pool}
 use Rattle.mlb_base.specs.Items.{ItemAt}
+use Rattle.mlb_base.proofs.Bools.{Decides-itself}
 use Rattle.pool_config.specs.declared.compiled.CompiledPool.{CompiledPool}
 use Rattle.pool_config.specs.ConfigValue.{Overlaps, placed_spans}
 use Rattle.pool_config.specs.Faults.{FaultyPair, key_of}
 use Rattle.pool_config.specs.Lists.{compiled_pool, spans_of}
 use Rattle.pool_config.specs.Search.{first_pair, meet}
 use Rattle.pool_config.proofs.Firsts.{Finds, finds_pair}
-use Rattle.pool_config.proofs.Tests.{Decides-itself}
 
 -- an address in both is found by the test
 pub overlaps-from : (s t : SpanValue) (a : AddressValue) → Holds s a → Holds t a → overlaps s t ≡ true

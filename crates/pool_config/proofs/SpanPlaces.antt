@@ -10,6 +10,7 @@ use Rattle.ip_ranges.specs.declared.family.Family.TheVariants.{V4, V6}
 use Rattle.ip_ranges.specs.Values.{AddressValue, SpanValue, Holds, same_family}
 use Rattle.ip_ranges.proofs.AddressLaws.{same_family-is, same_family-itself}
 use Rattle.mlb_base.specs.Items.{ItemAt, Has, IsIn}
+use Rattle.mlb_base.proofs.Lists.{in-contains}
 use Rattle.pool_config.specs.declared.compiled.CompiledPool.{CompiledPool}
 use Rattle.pool_config.specs.declared.span_index.PlacedSpan.{PlacedSpan}
 use Rattle.pool_config.specs.declared.span_index.SpanIndex.{SpanIndex}
@@ -65,11 +66,6 @@ contains-in : {A : Type 0} (xs : List A) (x : A) (k : ℕ) → k < length xs →
 contains-in [] x k below e = absurd (omega arith)
 contains-in (y ∷ ys) x zero below e = inl e
 contains-in (y ∷ ys) x (suc k) below e = inr (contains-in ys x k (omega arith) e)
-
-in-contains : {A : Type 0} (xs : List A) (x : A) → IsIn xs x → Contains xs x
-in-contains [] x none = absurd none
-in-contains (y ∷ ys) x (inl here) = (0, omega arith, here)
-in-contains (y ∷ ys) x (inr later) = let (k, below, e) = in-contains ys x later in (suc k, omega arith, e)
 
 has-cases : {A : Type 0} (P : A → Type 0) (xs ys : List A) → Has P (xs ++ ys) → Has P xs ⊎ Has P ys
 has-cases P [] ys h = inr h

@@ -1,15 +1,12 @@
 -- The spans of the pools, pool by pool.
-use Rattle.std.proofs.Common.{◌≡◌, ℕ, suc, ◌+◌, ◌<◌, List, [], ◌∷◌, ◌++◌, Option, length, get_or, drop, sym, ◌∙◌, ap, append_assoc, add-one}
+use Rattle.std.proofs.Common.{◌≡◌, ℕ, suc, ◌+◌, ◌<◌, List, ◌∷◌, ◌++◌, Option, length, get_or, drop, sym, ◌∙◌, ap, append_assoc, add-one}
 use Rattle.std.proofs.Math.Seq.{drop-cons}
 use Rattle.std.proofs.lemmas.List.Elements.{filter_map-append}
 use Rattle.std.specs.List.{AllByRecursion, filter_map}
+use Rattle.mlb_base.proofs.Lists.{all-append}
 use Rattle.ip_ranges.specs.Values.{SpanValue, IsRange}
 use Rattle.pool_config.specs.declared.compiled.CompiledPool.{CompiledPool}
 use Rattle.pool_config.specs.Bounds.{all_spans}
-
-all_append : {A : Type 0} (P : A → Type 0) (xs ys : List A) → AllByRecursion P xs → AllByRecursion P ys → AllByRecursion P (xs ++ ys)
-all_append P [] ys here later = later
-all_append P (x ∷ xs) ys here later = (here.0, all_append P xs ys here.1 later)
 
 spans_more : (pools : List CompiledPool) (i : ℕ) (p : CompiledPool) → i < length pools → p ≡ get_or pools i p → all_spans (drop i pools) ≡ p.spans ++ all_spans (drop (i + 1) pools)
 spans_more pools i p below is = rw add-one (ap all_spans (drop-cons pools i p below ∙ ap (λ q. q ∷ drop (suc i) pools) (sym is)))
@@ -22,4 +19,4 @@ numbers_more h pools i p below is before after all pushed so_far =
 
 pub ranges_more : (pools : List CompiledPool) (i : ℕ) (p : CompiledPool) → i < length pools → p ≡ get_or pools i p
     → AllByRecursion IsRange p.spans → AllByRecursion IsRange (all_spans (drop (i + 1) pools)) → AllByRecursion IsRange (all_spans (drop i pools))
-ranges_more pools i p below is here later = rw (spans_more pools i p below is) (all_append IsRange p.spans (all_spans (drop (i + 1) pools)) here later)
+ranges_more pools i p below is here later = rw (spans_more pools i p below is) (all-append IsRange p.spans (all_spans (drop (i + 1) pools)) here later)

@@ -1,6 +1,7 @@
 -- The rows, stage by stage.
 use Rattle.std.proofs.Common.{◌≡◌, ℕ, List, [], ◌∷◌, ◌++◌, Option, Some, None, Result, Ok, Err, OnOk, true, refl, sym, ◌∙◌, ap}
 use Rattle.std.specs.Option.{option_map, option_or}
+use Rattle.mlb_base.proofs.Bools.{Decides-itself}
 use Rattle.kube_model.specs.declared.config_fault.ConfigFault.{ConfigFault}
 use Rattle.ip_ranges.specs.Values.{SpanValue}
 use Rattle.pool_config.specs.declared.object_set.ObjectSet.{ObjectSet}
@@ -13,7 +14,6 @@ use Rattle.pool_config.specs.Search.{found_among, found_at, first_fault, first_p
 use Rattle.pool_config.proofs.Firsts.{Finds, finds_pair}
 use Rattle.pool_config.proofs.PairSearch.{or_or}
 use Rattle.pool_config.proofs.Shared.{overlaps-from}
-use Rattle.pool_config.proofs.Tests.{Decides-itself}
 
 pub found-append : (o : Objects) (xs ys : List Row) → found_among o (xs ++ ys) ≡ option_or (found_among o xs) (found_among o ys)
 found-append o [] ys = refl

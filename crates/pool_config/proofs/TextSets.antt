@@ -9,11 +9,11 @@ use Rattle.std.specs.List.Sorted.{IsStrictlySortedBy}
 use Rattle.std.specs.Cmp.Lexicographic.{nat_list_eq_equiv}
 use Rattle.std.specs.Str.{bytes_eq}
 use Rattle.mlb_base.specs.Items.{IsIn}
+use Rattle.mlb_base.proofs.Lists.{Decides-has}
 use Rattle.kube_labels.specs.Names.{name_cmp}
 use Rattle.kube_labels.proofs.NameLaws.{name_cmp-total, name_cmp-exact}
 use Rattle.pool_config.specs.Faults.{Differ}
 use Rattle.pool_config.proofs.KeySets.{not_among}
-use Rattle.pool_config.proofs.Tests.{Decides-has}
 
 -- texts that ascend differ
 pub ascending_differ : (ks : List (List ℕ)) → IsStrictlySortedBy name_cmp ks → Differ ks

@@ -12,24 +12,22 @@
 ghost use Rattle.std.specs.Prelude.{◌<◌, ◌^◌};
 ghost use Rattle.ip_ranges.specs.Values.{width_of};
 
-mod unread;
-
+use answer_lines::{Answering, answer_lines};
+use anyhow::{Result, bail};
 use ip_ranges::{
     Address, Family, Span, cover, is_buggy, least_length, parse_address, parse_entry,
     parse_padded_address, print_address, write_address,
 };
-use mlb_base::NoMemory;
 use std::alloc::Global;
 use std::io;
-use unread::Unread;
 
-fn address_told(alloc: Global, address: &Address) -> Result<String, NoMemory> {
+fn address_told(alloc: Global, address: &Address) -> Result<String> {
     let text = print_address(alloc, address)?;
-    Ok(format!(in alloc; "{:x} {text}", address.number)?)
+    Ok(format!(in alloc; "{:x} {text}\n", address.number)?)
 }
 
 /// Appends the text of the address that has this number.
-fn push_address(text: &mut String, family: Family, number: u128) -> Result<(), NoMemory>
+fn push_address(text: &mut String, family: Family, number: u128) -> Result<()>
     requires { number < 2 ^ width_of family }
 {
     let mut buf = [0; 39];
@@ -40,7 +38,7 @@ fn push_address(text: &mut String, family: Family, number: u128) -> Result<(), N
     Ok(())
 }
 
-fn entry_told(alloc: Global, span: &Span) -> Result<String, NoMemory> {
+fn entry_told(alloc: Global, span: &Span) -> Result<String> {
     let mut text = String::new(alloc);
     push_address(&mut text, span.family, span.low)?;
     text.push(' ')?;
@@ -51,35 +49,40 @@ fn entry_told(alloc: Global, span: &Span) -> Result<String, NoMemory> {
         push_address(&mut text, prefix.family, prefix.number)?;
         text.push_str(format!(in alloc; "/{}", prefix.length)?.as_str())?;
     }
+    text.push('\n')?;
     Ok(text)
 }
 
-fn told(alloc: Global, line: &str) -> Result<String, Unread> {
-    let (word, text) = line.split_once(' ').unwrap_or((line, ""));
-    let (first, second) = text.split_once(';').unwrap_or((text, ""));
-    match word {
-        "address" => Ok(address_told(alloc, &parse_address(text)?)?),
-        "padded" => Ok(address_told(alloc, &parse_padded_address(text)?)?),
-        "buggy" => Ok(is_buggy(&parse_address(text)?).to_string(alloc)?),
-        "entry" => Ok(entry_told(alloc, &parse_entry(text)?)?),
-        "holds" => {
-            let span = parse_entry(first)?;
-            Ok(span.contains(&parse_address(second)?).to_string(alloc)?)
+fn truth(alloc: Global, holds: bool) -> Result<String> {
+    Ok(format!(in alloc; "{holds}\n")?)
+}
+
+/// The program keeps nothing from line to line.
+#[derive(Drop)]
+struct Addresses;
+
+impl Answering for Addresses {
+    fn answer(&mut self, alloc: Global, line: &str) -> Result<String> {
+        let (word, text) = line.split_once(' ').unwrap_or((line, ""));
+        let (first, second) = text.split_once(';').unwrap_or((text, ""));
+        match word {
+            "address" => address_told(alloc, &parse_address(text)?),
+            "padded" => address_told(alloc, &parse_padded_address(text)?),
+            "buggy" => truth(alloc, is_buggy(&parse_address(text)?)),
+            "entry" => entry_told(alloc, &parse_entry(text)?),
+            "holds" => {
+                let span = parse_entry(first)?;
+                truth(alloc, span.contains(&parse_address(second)?))
+            }
+            "overlaps" => {
+                let span = parse_entry(first)?;
+                truth(alloc, span.overlaps(&parse_entry(second)?))
+            }
+            _ => bail!("no such word"),
         }
-        "overlaps" => {
-            let span = parse_entry(first)?;
-            Ok(span.overlaps(&parse_entry(second)?).to_string(alloc)?)
-        }
-        _ => Err(Unread::Word),
     }
 }
 
 fn main(rt: HostRuntime) -> io::Result<()> {
-    for line in rt.lines(rt.alloc()) {
-        match told(rt.alloc(), line?.as_str()) {
-            Ok(text) => println!(rt; "{text}")?,
-            Err(unread) => println!(rt; "{unread}")?,
-        }
-    }
-    Ok(())
+    answer_lines(&rt, rt.alloc(), &mut Addresses)
 }

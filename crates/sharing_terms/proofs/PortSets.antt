@@ -7,9 +7,10 @@ use Rattle.std.specs.Cmp.{IsTotalOrder, on_total, then_total, nat_cmp_total}
 use Rattle.std.specs.List.{AllByRecursion}
 use Rattle.std.specs.List.Sorted.{IsStrictlySortedBy}
 use Rattle.std.specs.Map.{keys_of}
-use Rattle.std.specs.Ordering.{nat_cmp, ordering_then, ordering_reverse, match_ordering}
+use Rattle.std.specs.Ordering.{nat_cmp, ordering_reverse, match_ordering}
 use Rattle.mlb_base.proofs.Among.{contains-none, contains-cons, contains-first, contains-later}
 use Rattle.mlb_base.proofs.Entries.{ascending-insert_entry}
+use Rattle.mlb_base.proofs.Orders.{both_equal}
 use Rattle.kube_model.specs.declared.port.Port.{Port}
 use Rattle.kube_model.specs.declared.port.Protocol.{Protocol}
 use Rattle.kube_model.specs.declared.port.Protocol.TheVariants.{Tcp, Udp, Sctp}
@@ -44,11 +45,6 @@ rank-apart Udp Sctp e = absurd (cc)
 rank-apart Sctp Tcp e = absurd (cc)
 rank-apart Sctp Udp e = absurd (cc)
 rank-apart Sctp Sctp e = refl
-
-both_equal : (a b : Ordering) → ordering_then a b ≡ Equal → (a ≡ Equal) × (b ≡ Equal)
-both_equal Less b e = absurd (cc)
-both_equal Equal b e = (refl, e)
-both_equal Greater b e = absurd (cc)
 
 pub port_cmp-exact : CmpEqualImpliesEq port_cmp
 port_cmp-exact a b e =

@@ -14,9 +14,9 @@ use Rattle.ip_ranges.specs.Values.{AddressValue, same_address, has_address}
 use Rattle.ip_ranges.specs.contracts.address.AddressOrd.TheImpl as derived
 use Rattle.ip_ranges.proofs.AddressLaws.{same_address-is, same_address-itself}
 use Rattle.mlb_base.specs.Items.{IsIn}
+use Rattle.mlb_base.proofs.Lists.{Decides-has}
 use Rattle.pool_config.specs.KeySets.{keys_with}
 use Rattle.pool_config.proofs.KeySets.{ascending-keys_with, in_keys, keys_in}
-use Rattle.pool_config.proofs.Tests.{Decides-has}
 use Rattle.speaker_view.specs.Addresses.{family_cmp, address_cmp}
 
 -- ---- the order of addresses

@@ -10,12 +10,12 @@ use Rattle.kube_model.specs.declared.put.Put.{Put}
 use Rattle.kube_model.specs.declared.record.Record.{Record}
 use Rattle.kube_model.specs.declared.reply.PutReply.TheVariants as replies
 use Rattle.kube_model.specs.Records.{empty_record}
-use Rattle.status_store.specs.declared.change.Edit.TheVariants.{Delete}
+use Rattle.status_store.specs.declared.change.Edit.TheVariants.{Set, Reset, Delete}
 use Rattle.status_store.specs.declared.change.Outcome.TheVariants.{Delivered}
 use Rattle.status_store.specs.declared.stored.Stored.{Stored}
 use Rattle.status_store.specs.Places.{Place, place_of, service_at}
 use Rattle.status_store.specs.Objects.{stored_at, with_stored, without_stored, IsAt, IsGapFor}
-use Rattle.status_store.specs.Changes.{StoreValue, IsKept, record_of, with_record, kept_record, set_as, reset_as, edited, recorded, is_at_version, with_put, after_put, delivered_reply, reply_to}
+use Rattle.status_store.specs.Changes.{StoreValue, IsKept, record_of, with_record, kept_record, reset_as, edited, recorded, is_at_version, with_put, after_put, delivered_reply, reply_to}
 use Rattle.status_store.proofs.ListLaws.{ascending-with_stored, ascending-without_stored, counted-less, counted-with_stored, counted-without_stored}
 use Rattle.status_store.proofs.Searching.{with_stored-at, without_stored-at, stored_at-at, with_stored-gap, stored_at-gap, without_stored-gap}
 
@@ -70,21 +70,18 @@ place_of-with_record holding (objects.Slice slice) = refl
 abbrev pub set_with : ℕ → Object → Record → Stored
 set_with counter object holding = record { version = counter + 1; object = with_record holding object }
 
-pub set-at : (s : StoreValue) (object : Object) (at : ℕ) (d : Stored) → IsKept s → IsAt s.objects (place_of object) at
-    → with_stored (set_as s object) s.objects ≡ set s.objects at (set_with s.counter object (record_of (get_or s.objects at d).object))
-set-at s object at d kept is_at =
-    let holding : Record = record_of (get_or s.objects at d).object in
-    ap (λ (found : Option Stored). with_stored (set_with s.counter object (kept_record found)) s.objects) (stored_at-at s.objects (place_of object) at d kept.ascending is_at)
-    ∙ with_stored-at s.objects (place_of object) at (set_with s.counter object holding) kept.ascending is_at (place_of-with_record holding object)
-
-pub set-gap : (s : StoreValue) (object : Object) (at : ℕ) → IsGapFor s.objects (place_of object) at
-    → with_stored (set_as s object) s.objects ≡ insert s.objects at (set_with s.counter object empty_record)
-set-gap s object at gap =
-    ap (λ (found : Option Stored). with_stored (set_with s.counter object (kept_record found)) s.objects) (stored_at-gap s.objects (place_of object) at gap)
-    ∙ with_stored-gap s.objects (place_of object) at (set_with s.counter object empty_record) gap (place_of-with_record empty_record object)
-
 abbrev pub stored_as : List Stored → ℕ → StoreValue
 stored_as objects counter = record { objects = objects; counter = counter }
+
+-- an object is set with the record of what stands there, and with none where nothing does
+pub set-at : (s : StoreValue) (object : Object) (at : ℕ) (d : Stored) → IsKept s → IsAt s.objects (place_of object) at
+    → edited (Set object) s ≡ edited (Reset (with_record (record_of (get_or s.objects at d).object) object)) s
+set-at s object at d kept is_at =
+    ap (λ (found : Option Stored). stored_as (with_stored (set_with s.counter object (kept_record found)) s.objects) (s.counter + 1)) (stored_at-at s.objects (place_of object) at d kept.ascending is_at)
+
+pub set-gap : (s : StoreValue) (object : Object) (at : ℕ) → IsGapFor s.objects (place_of object) at → edited (Set object) s ≡ edited (Reset (with_record empty_record object)) s
+set-gap s object at gap =
+    ap (λ (found : Option Stored). stored_as (with_stored (set_with s.counter object (kept_record found)) s.objects) (s.counter + 1)) (stored_at-gap s.objects (place_of object) at gap)
 
 -- what is stored where an object is set with its own record
 pub reset-at : (s : StoreValue) (object : Object) (at : ℕ) → IsKept s → IsAt s.objects (place_of object) at → with_stored (reset_as s object) s.objects ≡ set s.objects at (reset_as s object)

@@ -8,6 +8,7 @@ use Rattle.std.specs.Map.{lookup, remove_entry, keys_of}
 use Rattle.std.specs.Ordering.{match_ordering}
 use Rattle.std.proofs.lemmas.Map.{lookup-remove_entry}
 use Rattle.std.proofs.lemmas.Map.Keys.{IsDistinct-from_sorted}
+use Rattle.std.specs.List.{AllByRecursion}
 use Rattle.mlb_base.proofs.Entries.{lookup-insert_entry, ascending-insert_entry, ascending-remove_entry}
 use Rattle.status_store.specs.declared.stored.Stored.{Stored}
 use Rattle.status_store.specs.Places.{Place, place_of, place_cmp}
@@ -94,30 +95,36 @@ stored_at-without_stored objects place other s =
     (IsDistinct-from_sorted place_cmp (keys_of (entries_of objects)) (entries-ascend objects s))
     ∙ ap (λ (found : Option Stored). cond (is_eq (place_cmp place other)) None found) (lookup-entries objects other)
 
+-- ---- what holds of each of them
+module _ (P : Stored → Type 0) where
+  all_with_by : (r : Ordering) (added held : Stored) (more : List Stored) → P added → AllByRecursion P (held ∷ more) → AllByRecursion P (with_stored added more)
+      → AllByRecursion P (match_ordering r (added ∷ held ∷ more) (added ∷ more) (held ∷ with_stored added more))
+  all_with_by Less added held more new all ih = (new, all)
+  all_with_by Equal added held more new all ih = (new, all.1)
+  all_with_by Greater added held more new all ih = (all.0, ih)
+
+  pub all-with_stored : (objects : List Stored) (added : Stored) → P added → AllByRecursion P objects → AllByRecursion P (with_stored added objects)
+  all-with_stored [] added new all = (new, tt)
+  all-with_stored (held ∷ more) added new all =
+      all_with_by (place_cmp (place_of added.object) (place_of held.object)) added held more new all (all-with_stored more added new all.1)
+
+  all_without_by : (b : Bool) (place : Place) (held : Stored) (more : List Stored) → AllByRecursion P (held ∷ more) → AllByRecursion P (without_stored place more)
+      → AllByRecursion P (cond b more (held ∷ without_stored place more))
+  all_without_by true place held more all ih = all.1
+  all_without_by false place held more all ih = (all.0, ih)
+
+  pub all-without_stored : (objects : List Stored) (place : Place) → AllByRecursion P objects → AllByRecursion P (without_stored place objects)
+  all-without_stored [] place all = tt
+  all-without_stored (held ∷ more) place all = all_without_by (is_of place held) place held more all (all-without_stored more place all.1)
+
 -- ---- versions
 pub counted-less : (m n : ℕ) (objects : List Stored) → m ≤ n → AreCounted m objects → AreCounted n objects
 counted-less m n [] le all = tt
 counted-less m n (held ∷ more) le all = ((all.0.0, omega (arith, all.0.1)), counted-less m n more le all.1)
 
-counted_with_by : (r : Ordering) (n : ℕ) (added held : Stored) (more : List Stored) → (1 ≤ added.version) × (added.version ≤ n)
-    → AreCounted n (held ∷ more) → AreCounted n (with_stored added more)
-    → AreCounted n (match_ordering r (added ∷ held ∷ more) (added ∷ more) (held ∷ with_stored added more))
-counted_with_by Less n added held more new all ih = (new, all)
-counted_with_by Equal n added held more new all ih = (new, all.1)
-counted_with_by Greater n added held more new all ih = (all.0, ih)
-
 pub counted-with_stored : (n : ℕ) (objects : List Stored) (added : Stored) → (1 ≤ added.version) × (added.version ≤ n)
     → AreCounted n objects → AreCounted n (with_stored added objects)
-counted-with_stored n [] added new all = (new, tt)
-counted-with_stored n (held ∷ more) added new all =
-    counted_with_by (place_cmp (place_of added.object) (place_of held.object)) n added held more new all (counted-with_stored n more added new all.1)
-
-counted_without_by : (b : Bool) (n : ℕ) (place : Place) (held : Stored) (more : List Stored) → AreCounted n (held ∷ more) → AreCounted n (without_stored place more)
-    → AreCounted n (cond b more (held ∷ without_stored place more))
-counted_without_by true n place held more all ih = all.1
-counted_without_by false n place held more all ih = (all.0, ih)
+counted-with_stored n = all-with_stored (λ (held : Stored). (1 ≤ held.version) × (held.version ≤ n))
 
 pub counted-without_stored : (n : ℕ) (objects : List Stored) (place : Place) → AreCounted n objects → AreCounted n (without_stored place objects)
-counted-without_stored n [] place all = tt
-counted-without_stored n (held ∷ more) place all =
-    counted_without_by (is_of place held) n place held more all (counted-without_stored n more place all.1)
+counted-without_stored n = all-without_stored (λ (held : Stored). (1 ≤ held.version) × (held.version ≤ n))

@@ -1,6 +1,6 @@
 -- What a put changes and what it leaves, and when each reply comes, from what it makes of the store.
 use Rattle.std.proofs.Common.{◌≡◌, ◌≢◌, ◌↔◌, ℕ, ◌+◌, Bool, true, false, cond, eqb, List, Option, Some, None, IsTrue, refl, sym, ap, subst, ◌∙◌, inl, inr, ⊎_elim}
-use Rattle.std.proofs.lemmas.Bool.{true≢false, and_parts, and_from}
+use Rattle.std.proofs.lemmas.Bool.{true≢false, and_parts, and_from, eqb-true}
 use Rattle.kube_model.specs.declared.put.Put.{Put}
 use Rattle.kube_model.specs.declared.reply.PutReply.TheVariants as replies
 use Rattle.status_store.specs.declared.change.Outcome.{Outcome}
@@ -9,14 +9,14 @@ use Rattle.status_store.specs.declared.stored.Stored.{Stored}
 use Rattle.status_store.specs.Places.{Place, place_of, service_at}
 use Rattle.status_store.specs.Objects.{IsStored, IsAbsent, SameElsewhere, stored_at, with_stored}
 use Rattle.status_store.specs.Changes.{StoreValue, IsKept, IsLost, arrives, IsCurrent, IsOutdated, IsStale, IsMade, RecordsPut, recorded, is_at_version, is_made, with_put, after_put, delivered_reply, reply_to}
-use Rattle.status_store.proofs.ChangeLaws.{same-version, version-same, other-version, version-other, place_of-with_record, stored_as}
+use Rattle.status_store.proofs.ChangeLaws.{version-same, other-version, version-other, place_of-with_record, stored_as}
 use Rattle.status_store.proofs.StoredLaws.{stored-found, found-stored, absent-found, found-absent, stored-with_stored, elsewhere-with_stored, elsewhere-itself}
 
 module _ (s : StoreValue) (put : Put) (kept : IsKept s) where
   -- the service is stored at the put's version exactly where the look-up finds it so
   current_by : (found : Option Stored) → found ≡ stored_at s.objects (service_at put.key) → is_at_version put.version found ≡ true → IsCurrent s.objects put
   current_by None is e = absurd (true≢false (sym e))
-  current_by (Some held) is e = (held, found-stored s.objects (service_at put.key) held (sym is), same-version held.version put.version e)
+  current_by (Some held) is e = (held, found-stored s.objects (service_at put.key) held (sym is), eqb-true held.version put.version e)
 
   is-current : is_at_version put.version (stored_at s.objects (service_at put.key)) ≡ true → IsCurrent s.objects put
   is-current e = current_by (stored_at s.objects (service_at put.key)) refl e

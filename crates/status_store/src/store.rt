@@ -119,11 +119,7 @@ impl Store {
                 self.reset(object)?;
                 Ok(true)
             }
-            Edit::Delete { kind, key } => {
-                let is_deleted = self.delete(kind, &key);
-                drop(key);
-                Ok(is_deleted)
-            }
+            Edit::Delete { kind, key } => Ok(self.delete(kind, &key)),
         }
     }
 
@@ -149,20 +145,9 @@ impl Store {
         ensures err { OnErr result (self.new ≡ self.old) }
     {
         let stored = &self.objects.as_slice()[at];
-        let Ok(holding) = copy_record(self.alloc, &stored.object) else {
-            drop(object);
-            return Err(NoMemory);
-        };
+        let holding = copy_record(self.alloc, &stored.object)?;
         set_record(&mut object, holding);
-        let version = self.counter + 1;
-        write_at(
-            &mut self.objects,
-            self.alloc,
-            at,
-            Stored { version, object },
-        );
-        self.counter = version;
-        Ok(())
+        self.replace_whole(at, object)
     }
 
     /// The object is new, and is to stand here.
@@ -174,15 +159,7 @@ impl Store {
         ensures err { OnErr result (self.new ≡ self.old) }
     {
         set_record(&mut object, Record::empty(self.alloc));
-        let version = self.counter + 1;
-        insert_at(
-            &mut self.objects,
-            self.alloc,
-            at,
-            Stored { version, object },
-        )?;
-        self.counter = version;
-        Ok(())
+        self.insert_whole(at, object)
     }
 
     fn reset(&mut self, object: Object) -> Result<(), NoMemory>

@@ -1,18 +1,24 @@
-use Rattle.std.proofs.Common.{◌+◌, refl, sym, ap}
+use Rattle.std.proofs.Common.{◌≡◌, sym, ap, subst, ◌∙◌}
+use Rattle.std.proofs.lemmas.Result.{on_ok_weaker}
+use Rattle.kube_model.specs.declared.object.Object.{Object}
+use Rattle.kube_model.specs.declared.record.Record.{Record}
 use Rattle.kube_model.specs.Records.{empty_record}
-use Rattle.status_store.specs.Changes.{StoreValue}
-use Rattle.status_store.proofs.ChangeLaws.{stored_as, set_with, set-gap, kept-inserted, place_of-with_record}
+use Rattle.status_store.specs.declared.change.Edit.TheVariants.{Set, Reset}
+use Rattle.status_store.specs.Places.{Place, place_of}
+use Rattle.status_store.specs.Objects.{IsGapFor}
+use Rattle.status_store.specs.Changes.{StoreValue, edited, with_record}
+use Rattle.status_store.proofs.ChangeLaws.{set-gap, place_of-with_record}
 use Rattle.status_store.proofs.store.Store.insert.Goals as goal
 
-pub invariant_of-self-2 : goal.invariant_of-self-2
-invariant_of-self-2 c =
-    let gap = rw (← c.self.view_is, ← place_of-with_record empty_record c.args.object) at c.requires.absent in
-    rw (c.in_ok-insert_at.ensures.ok, c.set_record.ensures, c.empty.ensures)
-    (kept-inserted (stored_as c.self.inside.objects c.self.inside.counter) c.args.at (set_with c.self.inside.counter c.args.object empty_record) c.self.invariant gap refl)
+pub insert_whole-requires-clause-absent : goal.insert_whole-requires-clause-absent
+insert_whole-requires-clause-absent c =
+    subst (λ (place : Place). IsGapFor c.args.self.now.objects place c.args.at)
+    (sym (ap place_of c.set_record.ensures ∙ place_of-with_record c.empty.result c.args.object)) c.requires.absent
 
 pub returns-clause-store : goal.returns-clause-store
 returns-clause-store c =
-    let gap = rw (← c.self.view_is) at c.requires.absent in
-    let s : StoreValue = stored_as c.self.inside.objects c.self.inside.counter in
-    rw (c.in_ok-insert_at.ensures.ok, c.set_record.ensures, c.empty.ensures, ← c.self.view_is)
-    (ap (λ l. stored_as l (c.self.inside.counter + 1)) (sym (set-gap s c.args.object c.args.at gap)))
+    let s : StoreValue = c.args.self.now in
+    let object : c.set_record.new.object ≡ with_record empty_record c.args.object = c.set_record.ensures ∙ ap (λ (r : Record). with_record r c.args.object) c.empty.ensures in
+    let is : edited (Reset c.set_record.new.object) s ≡ edited (Set c.args.object) s =
+    ap (λ (o : Object). edited (Reset o) s) object ∙ sym (set-gap s c.args.object c.args.at c.requires.absent) in
+    on_ok_weaker c.insert_whole.result (λ (e : c.insert_whole.new.self ≡ edited (Reset c.set_record.new.object) s). e ∙ is) c.insert_whole.ensures.store

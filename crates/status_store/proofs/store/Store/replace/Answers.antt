@@ -1,22 +1,29 @@
-use Rattle.std.proofs.Common.{◌≡◌, ◌+◌, List, get_or, set, refl, sym, ap, ◌∙◌}
+use Rattle.std.proofs.Common.{◌≡◌, get_or, sym, ap, subst, ◌∙◌}
+use Rattle.std.proofs.lemmas.Result.{on_ok_weaker}
+use Rattle.kube_model.specs.declared.object.Object.{Object}
+use Rattle.kube_model.specs.declared.record.Record.{Record}
+use Rattle.status_store.specs.declared.change.Edit.TheVariants.{Set, Reset}
 use Rattle.status_store.specs.declared.stored.Stored.{Stored}
-use Rattle.status_store.specs.Changes.{StoreValue, record_of}
-use Rattle.status_store.proofs.ChangeLaws.{stored_as, set_with, set-at, kept-written, place_of-with_record}
+use Rattle.status_store.specs.Places.{Place, place_of}
+use Rattle.status_store.specs.Objects.{IsAt}
+use Rattle.status_store.specs.Changes.{StoreValue, edited, record_of, with_record}
+use Rattle.status_store.proofs.ChangeLaws.{set-at, place_of-with_record}
 use Rattle.status_store.proofs.store.Store.replace.Goals as goal
 
-pub invariant_of-self : goal.invariant_of-self
-invariant_of-self c =
-    let s : StoreValue = stored_as c.self.inside.objects c.self.inside.counter in
-    let there = rw (← c.self.view_is, ← place_of-with_record c.in-Ok.holding c.args.object) at c.requires.found in
-    rw (c.write_at.ensures, c.set_record.ensures)
-    (kept-written s c.args.at (set_with s.counter c.args.object c.in-Ok.holding) c.self.invariant there refl)
+pub replace_whole-requires-clause-found : goal.replace_whole-requires-clause-found
+replace_whole-requires-clause-found c =
+    subst (λ (place : Place). IsAt c.args.self.now.objects place c.args.at)
+    (sym (ap place_of c.set_record.ensures ∙ place_of-with_record c.in_ok-holding.holding c.args.object)) c.requires.found
 
 pub returns-clause-store : goal.returns-clause-store
 returns-clause-store c =
-    let s : StoreValue = stored_as c.self.inside.objects c.self.inside.counter in
+    let s : StoreValue = c.args.self.now in
     let held : Stored = c.index-as_slice-at.result in
-    let same : held ≡ get_or s.objects c.args.at held = rw c.as_slice.ensures at c.index-as_slice-at.is in
-    let there = rw (← c.self.view_is) at c.requires.found in
-    rw (c.write_at.ensures, c.set_record.ensures, c.in-Ok.ensures, ← c.self.view_is)
-    (ap (λ (h : Stored). stored_as (set s.objects c.args.at (set_with s.counter c.args.object (record_of h.object))) (s.counter + 1)) same
-    ∙ ap (λ (l : List Stored). stored_as l (s.counter + 1)) (sym (set-at s c.args.object c.args.at held c.self.invariant there)))
+    let inside : held ≡ get_or c.self.inside.objects c.args.at held = rw c.as_slice.ensures at c.index-as_slice-at.is in
+    let same : held ≡ get_or s.objects c.args.at held = inside ∙ ap (λ (v : StoreValue). get_or v.objects c.args.at held) c.self.view_is in
+    let own : c.in_ok-holding.holding ≡ record_of held.object = c.in_ok-holding.ensures in
+    let object : c.set_record.new.object ≡ with_record (record_of (get_or s.objects c.args.at held).object) c.args.object =
+    c.set_record.ensures ∙ ap (λ (r : Record). with_record r c.args.object) own ∙ ap (λ (h : Stored). with_record (record_of h.object) c.args.object) same in
+    let is : edited (Reset c.set_record.new.object) s ≡ edited (Set c.args.object) s =
+    ap (λ (o : Object). edited (Reset o) s) object ∙ sym (set-at s c.args.object c.args.at held c.replace_whole.ensures.kept c.requires.found) in
+    on_ok_weaker c.replace_whole.result (λ (e : c.replace_whole.new.self ≡ edited (Reset c.set_record.new.object) s). e ∙ is) c.replace_whole.ensures.store

@@ -1,7 +1,9 @@
 //! The files that options name for two lanes.
 ghost use Rattle.std.specs.Prelude.{◌≡◌};
 ghost use Rattle.std.specs.Option.{option_map};
-ghost use Rattle.command_options.specs.Lanes.{lanes_by, with_first, with_second, lane_seen, given_seen};
+ghost use Rattle.command_options.specs.Lanes.{lanes_by, no_lanes, with_first, with_second, lane_seen, given_seen};
+
+use crate::taking::once_text;
 
 /// The files that a program's two lanes are read from. Their names differ.
 #[derive(Clone, Copy)]
@@ -18,30 +20,34 @@ pub struct GivenLanes<'a> {
 }
 
 impl<'a> GivenLanes<'a> {
+    /// No file was given.
+    pub fn new() -> Self
+        ensures nothing { given_seen result ≡ no_lanes }
+    {
+        GivenLanes {
+            first: None,
+            second: None,
+        }
+    }
+
     /// The first lane's file is given too, where it wasn't.
     pub fn with_first(self, name: &'a str) -> Option<Self>
         ensures given { option_map given_seen result ≡ with_first name.now (given_seen self.entry) }
     {
-        match self.first {
-            Some(_) => None,
-            None => Some(GivenLanes {
-                first: Some(name),
-                ..self
-            }),
-        }
+        Some(GivenLanes {
+            first: Some(once_text(self.first, name)?),
+            ..self
+        })
     }
 
     /// The second lane's file is given too, where it wasn't.
     pub fn with_second(self, name: &'a str) -> Option<Self>
         ensures given { option_map given_seen result ≡ with_second name.now (given_seen self.entry) }
     {
-        match self.second {
-            Some(_) => None,
-            None => Some(GivenLanes {
-                second: Some(name),
-                ..self
-            }),
-        }
+        Some(GivenLanes {
+            second: Some(once_text(self.second, name)?),
+            ..self
+        })
     }
 }
 

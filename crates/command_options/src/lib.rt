@@ -9,4 +9,4 @@ mod taking;
 pub use lanes::{GivenLanes, LaneFiles, lane_files};
 pub use laws::options_are_read;
 pub use options::{FirstOption, first_option};
-pub use taking::{TakesOptions, taken_options};
+pub use taking::{TakesOptions, once_text, taken_options};

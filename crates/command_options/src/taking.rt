@@ -1,8 +1,8 @@
 //! What options say, taken one behind the other.
-ghost use Rattle.std.specs.Prelude.{◌≡◌, ℕ, List, Option};
+ghost use Rattle.std.specs.Prelude.{◌≡◌, ℕ, List, Option, Some};
 ghost use Rattle.std.specs.Option.{option_map};
 ghost use Rattle.command_options.specs.Options.{texts_of};
-ghost use Rattle.command_options.specs.Values.{taken_in};
+ghost use Rattle.command_options.specs.Values.{once, text_of, taken_in};
 
 use crate::options::first_option;
 
@@ -34,4 +34,14 @@ pub fn taken_options<'a, G: TakesOptions<'a> + Drop>(words: &'a [String], given:
         rest = option.rest;
     }
     Some(given)
+}
+
+/// The value of an option that stands at most once. `None` where one was held.
+pub fn once_text<'a>(held: Option<&str>, value: &'a str) -> Option<&'a str>
+    ensures once { option_map (λ t. Some t.now) result ≡ once text_of value.now (option_map (λ t. t.now) held.entry) }
+{
+    match held {
+        Some(_) => None,
+        None => Some(value),
+    }
 }

@@ -7,7 +7,7 @@ ghost use Rattle.controller_words.specs.Reading.{asked_in, Given as GivenValue, 
 ghost use Rattle.controller_words.specs.Seen.{asked_seen, given_seen};
 
 use crate::numbers::{number_of, steps_of};
-use command_options::{GivenLanes, LaneFiles, TakesOptions, lane_files, taken_options};
+use command_options::{GivenLanes, LaneFiles, TakesOptions, lane_files, once_text, taken_options};
 
 const CLASS_OPTION: &str = "--lb-class";
 
@@ -70,10 +70,7 @@ fn read_words(words: &[String]) -> Option<Asked<'_>>
         class: None,
         seed: None,
         steps: None,
-        lanes: GivenLanes {
-            first: None,
-            second: None,
-        },
+        lanes: GivenLanes::new(),
     };
     finished(taken_options(words, nothing)?)
 }
@@ -101,13 +98,10 @@ impl<'a> TakesOptions<'a> for Given<'a> {
 fn with_class<'a>(given: Given<'a>, value: &'a str) -> Option<Given<'a>>
     ensures { option_map given_seen result ≡ with_class value.now (given_seen given.entry) }
 {
-    match given.class {
-        Some(_) => None,
-        None => Some(Given {
-            class: Some(value),
-            ..given
-        }),
-    }
+    Some(Given {
+        class: Some(once_text(given.class, value)?),
+        ..given
+    })
 }
 
 fn with_seed<'a>(given: Given<'a>, value: &str) -> Option<Given<'a>>

@@ -4,6 +4,9 @@ use Rattle.kube_model.specs.declared.status.Status.{Status}
 use Rattle.lane_mail.specs.declared.item.Item.{Item}
 use Rattle.lane_mail.specs.Values.{MailId, Receiver, HasAll}
 use Rattle.lane_run.specs.Views.{Outside}
+use Rattle.lane_run.specs.Waiting.{MayBeAwaited}
+use Rattle.line_run.specs.Answered.{MayBeAsked}
+use Rattle.mlb_edge.specs.Reading.{Reading}
 
 -- each of these items drives it, one after the other: they lead from one state to the other, and what is outside with them
 abbrev pub AreDriven : {S : Type 0} → (S → S → Item → Outside → Outside → Type 0) → List Item → S → S → Outside → Outside → Type 0
@@ -38,6 +41,14 @@ pub record HasRefused {S : Type 0} (Drives : S → S → Item → Outside → Ou
   pub now : Outside
   pub refused : Refuses status state item mid now
   pub is : written ≡ now.written
+
+-- While the reconciler is driven from this state it may ask for replies where it says so; the next item may be waited for where just those before
+-- drove it, and what the lanes still send may be dropped where it refused the last. `seen` is what is outside.
+pub record MayReconcile {S I K R : Type 0} (Drives : S → S → Item → Outside → Outside → Type 0) (Refuses : Status → S → Item → Outside → Outside → Type 0) (Asks : S → Item → Outside → Outside → Type 0) (s : S)
+    (name : I → Option (List ℕ)) (may_read : I → Reading → K → Type 0) (may_wait may_drop : R → List Item → K → Type 0) (written : K → Option (List ℕ)) (seen : I → Reading → K → Outside) (rt : R) (input : I) (reader : Reading) (out : K) : Type 0 where
+  pub live : MayBeAsked name may_read input (λ i r o. AsksIn Drives Asks s (seen input reader out) (seen i r o))
+  pub waits : MayBeAwaited may_wait rt written (HasDriven Drives s (seen input reader out))
+  pub drops : MayBeAwaited may_drop rt written (HasRefused Drives Refuses s (seen input reader out))
 
 -- what is behind the driven items: nothing, or first the item that was refused
 abbrev pub Leaves : {S U : Type 0} → (Status → S → Item → Outside → Outside → Type 0) → Result U Status → List Item → S → S → Outside → Outside → Type 0

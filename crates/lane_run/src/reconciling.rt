@@ -1,9 +1,7 @@
 //! The third thread: it takes what the lanes sent, and drives the reconciler.
 ghost use Rattle.std.specs.Prelude.{◌≡◌, []};
-ghost use Rattle.lane_run.specs.Reconciled.{AsksIn, HasDriven, HasRefused, Reconciled};
+ghost use Rattle.lane_run.specs.Reconciled.{MayReconcile, Reconciled};
 ghost use Rattle.lane_run.specs.Views.{outside, source_view};
-ghost use Rattle.lane_run.specs.Waiting.{MayBeAwaited};
-ghost use Rattle.line_run.specs.Answered.{MayBeAsked};
 
 use crate::paced::PacedWait;
 use crate::reconciler::Reconciler;
@@ -27,16 +25,9 @@ pub(crate) fn reconcile<M: Reconciler, R: PacedWait<K>, I: PacedSource<K>, K: Si
 ) -> Result<(), Status>
     requires mail { inbox.old.mail ≡ mail.now }
     requires fresh { inbox.old.taken ≡ [] }
-    requires live { MayBeAsked I.name I.may_read input.old (λ i r o. AsksIn M.Drives M.Asks (M.state machine.old)
-        (outside reader.old (source_view (I.left input.old) (I.name input.old) (I.faults input.old))
-        (K.written out.old) (K.faults out.old))
-        (outside r (source_view (I.left i) (I.name i) (I.faults i)) (K.written o) (K.faults o))) }
-    requires waits { MayBeAwaited R.may_wait rt.now K.written (HasDriven M.Drives (M.state machine.old)
-        (outside reader.old (source_view (I.left input.old) (I.name input.old) (I.faults input.old))
-        (K.written out.old) (K.faults out.old))) }
-    requires drops { MayBeAwaited R.may_drop rt.now K.written (HasRefused M.Drives M.Refuses (M.state machine.old)
-        (outside reader.old (source_view (I.left input.old) (I.name input.old) (I.faults input.old))
-        (K.written out.old) (K.faults out.old))) }
+    requires may { MayReconcile M.Drives M.Refuses M.Asks (M.state machine.old) I.name I.may_read R.may_wait R.may_drop K.written
+        (λ i r o. outside r (source_view (I.left i) (I.name i) (I.faults i)) (K.written o) (K.faults o))
+        rt.now input.old reader.old out.old }
     ensures name { I.name input.new ≡ I.name input.old }
     ensures reconciled { Reconciled M.Drives M.Refuses mail.now inbox.new (M.state machine.old) (M.state machine.new)
         (outside reader.old (source_view (I.left input.old) (I.name input.old) (I.faults input.old))

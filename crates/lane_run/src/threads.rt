@@ -2,11 +2,9 @@
 ghost use Rattle.std.specs.Prelude.{◌≡◌, []};
 ghost use Rattle.std.specs.Thread.{IsSync};
 ghost use Rattle.lane_mail.specs.declared.lane.Lane.TheVariants.{First, Second};
-ghost use Rattle.lane_run.specs.Reconciled.{AsksIn, HasDriven, HasRefused, Reconciled};
-ghost use Rattle.lane_run.specs.Waiting.{MayBeAwaited};
+ghost use Rattle.lane_run.specs.Reconciled.{MayReconcile, Reconciled};
 ghost use Rattle.lane_run.specs.Views.{lane_view, outside, source_view};
 ghost use Rattle.lane_run.specs.Watched.{CanWatch, Watched};
-ghost use Rattle.line_run.specs.Answered.{MayBeAsked};
 
 use crate::lane_end::LaneEnd;
 use crate::lanes::Lanes;
@@ -50,16 +48,9 @@ pub(crate) fn run_threads<
     requires first { (first_pass.mail ≡ mail.now) × (first_pass.lane ≡ First) × (first_pass.sent ≡ []) }
     requires second { (second_pass.mail ≡ mail.now) × (second_pass.lane ≡ Second) × (second_pass.sent ≡ []) }
     requires inbox { (inbox.old.mail ≡ mail.now) × (inbox.old.taken ≡ []) }
-    requires live { MayBeAsked I.name I.may_read input.old (λ i r o. AsksIn M.Drives M.Asks (M.state machine.old)
-        (outside reader.old (source_view (I.left input.old) (I.name input.old) (I.faults input.old))
-        (K.written out.old) (K.faults out.old))
-        (outside r (source_view (I.left i) (I.name i) (I.faults i)) (K.written o) (K.faults o))) }
-    requires waits { MayBeAwaited R.may_wait rt.now K.written (HasDriven M.Drives (M.state machine.old)
-        (outside reader.old (source_view (I.left input.old) (I.name input.old) (I.faults input.old))
-        (K.written out.old) (K.faults out.old))) }
-    requires drops { MayBeAwaited R.may_drop rt.now K.written (HasRefused M.Drives M.Refuses (M.state machine.old)
-        (outside reader.old (source_view (I.left input.old) (I.name input.old) (I.faults input.old))
-        (K.written out.old) (K.faults out.old))) }
+    requires may { MayReconcile M.Drives M.Refuses M.Asks (M.state machine.old) I.name I.may_read R.may_wait R.may_drop K.written
+        (λ i r o. outside r (source_view (I.left i) (I.name i) (I.faults i)) (K.written o) (K.faults o))
+        rt.now input.old reader.old out.old }
     ensures name { I.name input.new ≡ I.name input.old }
     ensures inbox { Reconciled M.Drives M.Refuses mail.now inbox.new (M.state machine.old) (M.state machine.new)
         (outside reader.old (source_view (I.left input.old) (I.name input.old) (I.faults input.old))
@@ -85,16 +76,9 @@ pub(crate) fn run_threads<
         rt,
         &mut || -> Result<(), Status>
             requires inbox { (inbox.now.mail ≡ mail.now) × (inbox.now.taken ≡ []) }
-            requires live { MayBeAsked I.name I.may_read input.now (λ i r o. AsksIn M.Drives M.Asks (M.state machine.now)
-                (outside reader.now (source_view (I.left input.now) (I.name input.now) (I.faults input.now))
-                (K.written out.now) (K.faults out.now))
-                (outside r (source_view (I.left i) (I.name i) (I.faults i)) (K.written o) (K.faults o))) }
-            requires waits { MayBeAwaited R.may_wait rt.now K.written (HasDriven M.Drives (M.state machine.now)
-                (outside reader.now (source_view (I.left input.now) (I.name input.now) (I.faults input.now))
-                (K.written out.now) (K.faults out.now))) }
-            requires drops { MayBeAwaited R.may_drop rt.now K.written (HasRefused M.Drives M.Refuses (M.state machine.now)
-                (outside reader.now (source_view (I.left input.now) (I.name input.now) (I.faults input.now))
-                (K.written out.now) (K.faults out.now))) }
+            requires may { MayReconcile M.Drives M.Refuses M.Asks (M.state machine.now) I.name I.may_read R.may_wait R.may_drop K.written
+                (λ i r o. outside r (source_view (I.left i) (I.name i) (I.faults i)) (K.written o) (K.faults o))
+                rt.now input.now reader.now out.now }
             ensures name { I.name input.exit.now ≡ I.name input.entry.now }
             ensures reconciled { Reconciled M.Drives M.Refuses mail.entry.now inbox.exit.now (M.state machine.entry.now) (M.state machine.exit.now)
                 (outside reader.entry.now (source_view (I.left input.entry.now) (I.name input.entry.now) (I.faults input.entry.now))

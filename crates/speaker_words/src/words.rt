@@ -10,7 +10,7 @@ ghost use Rattle.speaker_words.specs.Seen.{interface_seen, interfaces_seen, give
 
 use crate::interface::{InterfaceWord, interface_of};
 use arrayvec::ArrayVec;
-use command_options::{GivenLanes, LaneFiles, TakesOptions, lane_files, taken_options};
+use command_options::{GivenLanes, LaneFiles, TakesOptions, lane_files, once_text, taken_options};
 use ip_ranges::{Address, Family, parse_address};
 
 const NODE_OPTION: &str = "--node-name";
@@ -84,10 +84,7 @@ fn read_words(words: &[String]) -> Option<SpeakerWords<'_>>
         interfaces: ArrayVec::new(),
         next_hop: None,
         next_hop_v6: None,
-        lanes: GivenLanes {
-            first: None,
-            second: None,
-        },
+        lanes: GivenLanes::new(),
     };
     finished(taken_options(words, nothing)?)
 }
@@ -117,25 +114,19 @@ impl<'a> TakesOptions<'a> for Given<'a> {
 fn with_node<'a>(given: Given<'a>, value: &'a str) -> Option<Given<'a>>
     ensures { option_map given_seen result ≡ with_node value.now (given_seen given.entry) }
 {
-    match given.node {
-        Some(_) => None,
-        None => Some(Given {
-            node: Some(value),
-            ..given
-        }),
-    }
+    Some(Given {
+        node: Some(once_text(given.node, value)?),
+        ..given
+    })
 }
 
 fn with_class<'a>(given: Given<'a>, value: &'a str) -> Option<Given<'a>>
     ensures { option_map given_seen result ≡ with_class value.now (given_seen given.entry) }
 {
-    match given.class {
-        Some(_) => None,
-        None => Some(Given {
-            class: Some(value),
-            ..given
-        }),
-    }
+    Some(Given {
+        class: Some(once_text(given.class, value)?),
+        ..given
+    })
 }
 
 fn with_interface<'a>(given: Given<'a>, value: &'a str) -> Option<Given<'a>>

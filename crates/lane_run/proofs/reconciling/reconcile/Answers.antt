@@ -30,7 +30,7 @@ items-smaller g c =
 
 -- the item that was taken last was refused
 pub drop_rest-requires-clause-paced : goal.drop_rest-requires-clause-paced
-drop_rest-requires-clause-paced g c = c.requires.drops c.take_next.new.inbox.taken c.take.new.out (record {
+drop_rest-requires-clause-paced g c = c.requires.may.drops c.take_next.new.inbox.taken c.take.new.out (record {
   driven = c.items.inbox.taken;
   item = c.in-Item.item;
   items_are = c.in-Item.ensures.item c.in-Item.item refl;

@@ -4,7 +4,7 @@ use Rattle.lane_mail.specs.declared.lane.Lane.TheVariants.{First, Second}
 use Rattle.lane_mail.specs.Lanes.{is_lane, mark_lane}
 use Rattle.lane_mail.specs.Values.{Receiver}
 use Rattle.lane_mail.proofs.Carrying.{gets}
-use Rattle.lane_mail.proofs.Marks.{none_before, marked, marked_still, stays_none}
+use Rattle.lane_mail.proofs.Marks.{none_before, marked, marked_still, got_mark, stays_none}
 use Rattle.lane_mail.proofs.mail.Mail.pop_mark.Goals as goal
 
 pub pop_as-requires-clause-rule : goal.pop_as-requires-clause-rule
@@ -16,15 +16,9 @@ invariant_of-pass g c =
     let taken = c.in-Some.ensures.rule in
     let v = view c.pass.inside.marks in
     let w = view c.pop_as.new.pass in
-    record {
-      free = record { hand = old.free.hand; spare = old.free.spare; slots = c.in-Some.ensures.queue.2 ∙ old.free.slots };
-      takes = old.takes;
-      takes_marks = ap (λ y. y.takes) taken.got ∙ old.takes_marks;
-      first_counted = old.first_counted;
-      second_counted = old.second_counted;
-      first_marked = marked First v w c.in-Some.mark c.pass.inside.first taken c.in-First.is old.first_marked;
-      second_marked = marked_still Second v w c.in-Some.mark c.pass.inside.second taken (ap (is_lane Second) c.in-First.is) old.second_marked;
-    }
+    got_mark c.pass.inside.items c.pass.inside.marks c.pop_as.new.pass c.in-Some.mark _ _ _ _ _ _ old taken c.in-Some.ensures.queue.2
+    (marked First v w c.in-Some.mark c.pass.inside.first taken c.in-First.is old.first_marked)
+    (marked_still Second v w c.in-Some.mark c.pass.inside.second taken (ap (is_lane Second) c.in-First.is) old.second_marked)
 
 pub invariant_of-pass-in-Second : goal.invariant_of-pass-in-Second
 invariant_of-pass-in-Second g c =
@@ -32,15 +26,9 @@ invariant_of-pass-in-Second g c =
     let taken = c.in-Some.ensures.rule in
     let v = view c.pass.inside.marks in
     let w = view c.pop_as.new.pass in
-    record {
-      free = record { hand = old.free.hand; spare = old.free.spare; slots = c.in-Some.ensures.queue.2 ∙ old.free.slots };
-      takes = old.takes;
-      takes_marks = ap (λ y. y.takes) taken.got ∙ old.takes_marks;
-      first_counted = old.first_counted;
-      second_counted = old.second_counted;
-      first_marked = marked_still First v w c.in-Some.mark c.pass.inside.first taken (ap (is_lane First) c.in-Second.is) old.first_marked;
-      second_marked = marked Second v w c.in-Some.mark c.pass.inside.second taken c.in-Second.is old.second_marked;
-    }
+    got_mark c.pass.inside.items c.pass.inside.marks c.pop_as.new.pass c.in-Some.mark _ _ _ _ _ _ old taken c.in-Some.ensures.queue.2
+    (marked_still First v w c.in-Some.mark c.pass.inside.first taken (ap (is_lane First) c.in-Second.is) old.first_marked)
+    (marked Second v w c.in-Some.mark c.pass.inside.second taken c.in-Second.is old.second_marked)
 
 pub returns-in-First-clause-ends : goal.returns-in-First-clause-ends
 returns-in-First-clause-ends g c =

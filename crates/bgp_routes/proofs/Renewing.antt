@@ -7,13 +7,12 @@ use Rattle.std.proofs.lemmas.Option.{slice_get_within}
 use Rattle.std.specs.BTreeMap.{is_at}
 use Rattle.std.specs.List.{slice_get}
 use Rattle.ip_ranges.specs.Values.{AddressValue, has_address, same_address}
-use Rattle.ip_ranges.proofs.AddressLaws.{has_address-from, same_address-is}
+use Rattle.ip_ranges.proofs.AddressLaws.{has_address-from, same_address-is, same_address-flip}
 use Rattle.kube_model.specs.declared.service.Service.{Service}
 use Rattle.pool_config.specs.PoolOf.{pool_with}
 use Rattle.speaker_view.specs.Endpoints.{announced_from, can_announce, node_labels, recorded_addresses}
 use Rattle.speaker_view.specs.Held.{objects_of}
 use Rattle.speaker_view.specs.ViewValue.{ViewValue}
-use Rattle.speaker_view.proofs.AddressOrder.{same-back}
 use Rattle.speaker_view.proofs.Indexed.{has-recorded_addresses}
 use Rattle.bgp_updates.proofs.ReceivedLaws.{by_bool, not_true}
 use Rattle.bgp_routes.specs.declared.contributors.Aggregate.{Aggregate}
@@ -210,7 +209,7 @@ module _ (v : ViewValue) (node : List ℕ) (both : Bool) where
       let more : has_address (take (i + 1) addresses) b ≡ (has_address (take i addresses) b || same_address b a) =
       list_any_more (same_address b) addresses i a below ∙ ap (λ c. has_address (take i addresses) b || same_address b c) at in
       here g b
-      ∙ ap (λ s. cond s (contributes v node both g b) (has now g b)) (same-back a b)
+      ∙ ap (λ s. cond s (contributes v node both g b) (has now g b)) (same_address-flip a b)
       ∙ ap (λ x. cond (same_address b a) (contributes v node both g b) x) (so_far g b)
       ∙ touched_by (has_address (take i addresses) b) (same_address b a) (contributes v node both g b) (has old g b)
       ∙ ap (λ t. cond t (contributes v node both g b) (has old g b)) (sym more)

@@ -1,9 +1,9 @@
 -- The addresses that a service asks for.
-use Rattle.std.proofs.Common.{◌≡◌, ◌≢◌, ℕ, List, [], ◌∷◌, map, length, eqb, false, Option, Some, None, option_map, option_and_then, Result, Ok, Err, refl, sym, ap, ◌∙◌, inl, inr, arith}
-use Rattle.std.proofs.lemmas.Bool.{ne_eqb}
+use Rattle.std.proofs.Common.{◌≡◌, ◌≢◌, ℕ, List, [], ◌∷◌, map, Option, Some, None, option_map, option_and_then, Result, Ok, Err, refl, sym, ap, ◌∙◌, inl, inr}
 use Rattle.std.specs.Result.{result_ok}
 use Rattle.std.specs.Prelude.{IsErr}
 use Rattle.mlb_base.specs.Items.{Has}
+use Rattle.mlb_base.proofs.Lists.{not_empty}
 use Rattle.ip_ranges.specs.declared.fault.RangeFault.{RangeFault}
 use Rattle.ip_ranges.specs.Values.{AddressValue}
 use Rattle.ip_ranges.specs.AddressText.{address_of}
@@ -65,9 +65,6 @@ asked_there None addresses e = absurd cc
 unreadable_there : (found : Option (List AddressValue)) → asked_of found ≡ Unreadable → found ≡ None
 unreadable_there (Some rest) e = absurd cc
 unreadable_there None e = refl
-
-not_empty : (c : ℕ) (text : List ℕ) → eqb (length (c ∷ text)) 0 ≡ false
-not_empty c text = ne_eqb (length (c ∷ text)) 0 (λ none. omega (arith, none))
 
 wanted_of-annotation : (annotation field : List ℕ) → annotation ≢ [] → wanted_of annotation field ≡ asked_of (spelled_all (parts_of annotation))
 wanted_of-annotation [] field full = absurd (full refl)

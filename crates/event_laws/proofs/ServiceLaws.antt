@@ -18,11 +18,10 @@ use Rattle.kube_model.specs.PortFields.{port_of}
 use Rattle.kube_model.specs.declared.object.Object.TheVariants as objects
 use Rattle.kube_events.specs.Named.{family_of, address_in}
 use Rattle.kube_events.specs.Fields.{key_of, name_field}
-use Rattle.kube_events.specs.ServiceFields.{annotations_field, balancer_field, class_field, address_field, families_from, families_at, prefer_dual_field, policy_field, selector_field, ports_field, ingress_of, places_field, addresses_in, share_key_in, pool_asked_in, addresses_asked_in, pool_in, mark_in, service_of}
+use Rattle.kube_events.specs.ServiceFields.{annotations_field, balancer_field, class_field, address_field, families_from, families_at, prefer_dual_field, policy_field, selector_field, ports_field, ingress_of, places_field, addresses_in, service_of}
 use Rattle.kube_events.specs.ObjectFields.{body_of}
 use Rattle.event_laws.specs.ObjectLines.{Field, spelled, number_data, pairs_spelled}
-use Rattle.event_laws.specs.ServiceLines.{family_text, families_spelled, policy_text, protocol_text, PortLine, port_data, port_spelled, IsPortLine, PlaceLine, place_data, IsPlaceLine, addresses_spelled, service_head_fields, service_spec_fields, balancer_fields, status_fields, service_fields, service_line, annotations_spelled, ServicesAreRead}
-use Rattle.kube_events.specs.Wanted.{wanted_of}
+use Rattle.event_laws.specs.ServiceLines.{family_text, families_spelled, policy_text, protocol_text, PortLine, port_data, port_spelled, IsPortLine, PlaceLine, place_data, IsPlaceLine, addresses_spelled, service_head_fields, service_spec_fields, balancer_fields, status_fields, service_fields, service_line, ServicesAreRead, service_spelled}
 use Rattle.event_laws.proofs.Spelled.{own_value, inner_value, innermost_value, optional_read, same_optional_read, default_read, required_read, number_read, tells_read, text_read, labels_read, same_list_read, list_read_if, name_read, version_read, object_read, from_bytes}
 
 protocol_read : (protocol : Protocol) → protocol_of (string (protocol_text protocol)) ≡ Ok protocol
@@ -100,21 +99,7 @@ services_are_read line s n spells has_namespace is_head readable =
     let places : places_field d ≡ Ok (map place_spelled (unwrap_or s.places [])) = list_read_if ingress_of place_data place_spelled IsPlaceLine (codes "status.loadBalancer.ingress") d s.places (innermost_value (codes "status.loadBalancer.ingress") (codes "status") (codes "loadBalancer") (codes "ingress") fields s.without_status (status_fields s) s.without_balancer (balancer_fields s) refl refl refl) place_read readable.2 in
     from_bytes line (service_line s) _ spells
     (object_read kinds.Service d (record { namespace = s.namespace; name = s.head.name }) n (pairs_spelled s.head.labels)
-    (λ key labels. objects.Service (record {
-      key = key;
-      labels = labels;
-      balancer = is_text s.service_type (codes "LoadBalancer");
-      class = s.class;
-      families = families_spelled s.families;
-      prefer_dual = is_text s.family_policy (codes "PreferDualStack");
-      policy = unwrap_or s.policy Cluster;
-      selector = pairs_spelled s.selector;
-      ports = map port_spelled (unwrap_or s.ports []);
-      share_key = share_key_in (annotations_spelled s);
-      pool_asked = pool_asked_in (annotations_spelled s);
-      wanted = wanted_of (addresses_asked_in (annotations_spelled s)) (unwrap_or s.address []);
-      holding = record { addresses = addresses_spelled (unwrap_or s.places []); pool = pool_in (annotations_spelled s); mark = mark_in (annotations_spelled s) };
-    }))
+    (λ key labels. objects.Service (record (service_spelled s) { key = key; labels = labels }))
     refl
     (rw (name, namespace) refl)
     (version_read d s.head.version n (inner_value (codes "metadata.resourceVersion") (codes "metadata") (codes "resourceVersion") fields false head refl refl) is_head.1)

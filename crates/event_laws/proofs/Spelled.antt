@@ -10,6 +10,7 @@ use Rattle.std.specs.Cmp.Lexicographic.{slice_cmp}
 use Rattle.std.proofs.lemmas.Bool.{ne_eqb, le-leb}
 use Rattle.std.proofs.lemmas.List.{map-id}
 use Rattle.std.proofs.lemmas.List.Elements.{All-head, All-tail}
+use Rattle.std.specs.Cmp.{second_so}
 use Rattle.serde_json.specs.Data.{Data, string, boolean}
 use Rattle.serde_json.specs.Find.{get_member, as_null}
 use Rattle.serde_json.specs.View.{items_of}
@@ -81,15 +82,11 @@ through_case true path name names inner found absent is =
     sym none ∙ is
 through_case false path name names inner found absent is = is
 
-second_true : (a b : Bool) → (a && b) ≡ true → b ≡ true
-second_true true b h = h
-second_true false b h = absurd cc
-
 -- A parent that is left out has none of the members.
 through_parent : (path name : Path) (names : List Path) (left_out : Bool) (inner : List Field) (found : Result (Option Data) Path)
     → behind path (name ∷ names) (spelled inner) ≡ found → where_there (behind path (name ∷ names)) (unless_null (parent left_out inner)) ≡ found
 through_parent path name names left_out inner found is =
-    through_case (left_out && are_absent inner) path name names inner found (second_true left_out (are_absent inner)) is
+    through_case (left_out && are_absent inner) path name names inner found (second_so left_out (are_absent inner)) is
 
 -- what stands at a path of one name
 pub own_value : (path : Path) (fields : List Field) → names_of path ≡ path ∷ [] → value_at path (spelled fields) ≡ Ok (unless_null (field_there path fields))

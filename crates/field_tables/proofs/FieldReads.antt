@@ -26,10 +26,10 @@ optional_stands read path d = ap (λ found. found >>= where_there (λ e. some_of
 
 -- ---- what is there
 
-abbrev There : {A : Type 0} → (Data → Result A Path) → Standing → A → Type 0
+abbrev pub There : {A : Type 0} → (Data → Result A Path) → Standing → A → Type 0
 There read at x = (value : Data) × (at ≡ here value) × (read value ≡ Ok x)
 
-abbrev Faulty : {A : Type 0} → (Data → Result A Path) → Path → Standing → Path → Type 0
+abbrev pub Faulty : {A : Type 0} → (Data → Result A Path) → Path → Standing → Path → Type 0
 Faulty read path at fault = (at ≡ astray) × (path ≡ fault) ⊎ ((value : Data) × (rest : Path) × (at ≡ here value) × (read value ≡ Err rest) × (joined path rest ≡ fault))
 
 some_there : {A : Type 0} (path : Path) (r : Result A Path) (x : A) → some_of (within path r) ≡ Ok (Some x) → r ≡ Ok x

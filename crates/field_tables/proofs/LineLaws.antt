@@ -43,14 +43,11 @@ has_text name d text e = str_there (get name d) text e
 text_is : (name : List ℕ) (d : Data) (text : List ℕ) → HasText name d text → text_in name d ≡ Some text
 text_is name d text has = rw has refl
 
-same_word : (text word : List ℕ) → bytes_eq text word ≡ true → text ≡ word
-same_word text word e = (bytes_eq-Decides text word).0 e
-
 -- ---- the names of kinds
 
 first_or : (b : Bool) (text word : List ℕ) (kind one : Kind) (others : Option Kind) → bytes_eq text word ≡ b → cond b (Some kind) others ≡ Some one
     → ((text ≡ word) × (kind ≡ one)) ⊎ (others ≡ Some one)
-first_or true text word kind one others is e = inl (same_word text word is, cc)
+first_or true text word kind one others is e = inl ((bytes_eq-Decides text word).0 is, cc)
 first_or false text word kind one others is e = inr e
 
 names_kind : (text : List ℕ) (one : Kind) → kind_named text ≡ Some one → Names text one
@@ -126,7 +123,7 @@ no_type word e = absurd cc
 -- ---- bookmarks
 
 true_there : (found : Option (List ℕ)) → is_text found (codes "true") ≡ true → found ≡ Some (codes "true")
-true_there (Some text) e = ap (λ it. Some it) (same_word text (codes "true") e)
+true_there (Some text) e = ap (λ it. Some it) ((bytes_eq-Decides text (codes "true")).0 e)
 true_there None e = absurd cc
 
 annotations_there : (found : Option Data) → option_and_then as_str (option_and_then (get (codes "k8s.io/initial-events-end")) found) ≡ Some (codes "true")
@@ -197,7 +194,7 @@ unwatched line word (inr (inr (inr (inl is)))) has none =
 unwatched line word (inr (inr (inr (inr none)))) has about = absurd none
 
 not_word_by : (b : Bool) (text word : List ℕ) → bytes_eq text word ≡ b → (word ≡ text → ⊥) → b ≡ false
-not_word_by true text word is other = absurd (other (sym (same_word text word is)))
+not_word_by true text word is other = absurd (other (sym ((bytes_eq-Decides text word).0 is)))
 not_word_by false text word is other = refl
 
 not_word : (text word : List ℕ) → (word ≡ text → ⊥) → bytes_eq text word ≡ false
@@ -376,7 +373,7 @@ watched_sorted line word is_in has says each = by_object (get (codes "object") l
 
 if_word : (line : Data) (b : Bool) (text word : List ℕ) (one other : Result Event EventFault) → bytes_eq text word ≡ b → (text ≡ word → IsSorted line one)
     → ((word ≡ text → ⊥) → IsSorted line other) → IsSorted line (cond b one other)
-if_word line true text word one other is first others = first (same_word text word is)
+if_word line true text word one other is first others = first ((bytes_eq-Decides text word).0 is)
 if_word line false text word one other is first others = others (λ e. unlike word text e is)
 
 error_sorted : (line : Data) → HasText (codes "type") line (codes "ERROR") → IsSorted line (Ok Expired)

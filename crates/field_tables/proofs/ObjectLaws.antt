@@ -22,6 +22,7 @@ use Rattle.kube_events.specs.SliceFields.{slice_of}
 use Rattle.kube_events.specs.ObjectFields.{body_of, stated_object, changed_of, deleted_of}
 use Rattle.kube_events.specs.Members.{members_field, members_of}
 use Rattle.kube_events.specs.Frame.{bytes_of, interface_field, bytes_field, frame_of}
+use Rattle.kube_events.proofs.Groups.{group_of_two}
 use Rattle.field_tables.specs.FieldTypes.{any_text, version_text, hex_text, Rows, no_rows, ◌▸◌}
 use Rattle.field_tables.specs.Told.{Pairs, RowsTold, as_put, told, row_told, rows_told}
 use Rattle.field_tables.specs.Tables.{name_row, namespace_row, version_row, labels_row, own_rows, keyed, service_rows, pool_rows, l2_rows, bgp_rows, peer_rows, community_rows, slice_rows}
@@ -35,12 +36,6 @@ use Rattle.field_tables.proofs.KindLaws.{service_tells, pool_tells, l2_tells, bg
 
 -- ---- the key
 
-two_first : {A B C D : Type 0} (first : Result A Path) (second : Result B Path) (make : A → B → C) (next : C → Result D Path)
-    → ((first >>= λ a. second >>= λ b. Ok (make a b)) >>= next) ≡ (first >>= λ a. second >>= λ b. next (make a b))
-two_first (Ok a) (Ok b) make next = refl
-two_first (Ok a) (Err path) make next = refl
-two_first (Err path) second make next = refl
-
 one_first : {A C D : Type 0} (first : Result A Path) (make : A → C) (next : C → Result D Path)
     → ((first >>= λ a. Ok (make a)) >>= next) ≡ (first >>= λ a. next (make a))
 one_first (Ok a) make next = refl
@@ -51,7 +46,7 @@ full_key : {B : Type 0} (rows : Rows) (next : Key → Result B Path) (whole : Ke
     → ((name_field d >>= λ name. namespace_field kinds.Service d >>= λ namespace. Ok (record { namespace = namespace; name = name })) >>= next)
     ≡ as_put (λ told. whole (key_and kinds.Service rows told)) (rows_told (name_row ▸ namespace_row ▸ rows) d)
 full_key rows next whole d each =
-    two_first (name_field d) (namespace_field kinds.Service d) (λ name namespace. record { namespace = namespace; name = name }) next
+    group_of_two (name_field d) (namespace_field kinds.Service d) (λ name namespace. record { namespace = namespace; name = name }) next
     ∙ then_row (name_field d) _ (row_told name_row d) (rows_told (namespace_row ▸ rows) d) (λ it. it) _ (texts.name_row (codes "metadata.name") d) (λ name _.
     then_row (namespace_field kinds.Service d) _ (row_told namespace_row d) (rows_told rows d) (λ it. it) _ (texts.name_row (codes "metadata.namespace") d) (λ namespace _.
     each (record { namespace = namespace; name = name })))

@@ -7,14 +7,9 @@ use Rattle.field_tables.specs.FieldTypes.{Row, required, optional, defaulted, Ro
 use Rattle.field_tables.specs.Told.{Told, RowTold, RowsTold, as_put, at_place, both, standing_tells, told, row_told, rows_told}
 use Rattle.field_tables.specs.FieldLaws.{IsAbsent, IsThere, IsFaulty}
 use Rattle.field_tables.specs.RowLaws.{Has, IsAtFault, HaveAll, IsFirstAtFault, RowsAreTold}
+use Rattle.field_tables.proofs.FieldReads.{There, Faulty}
 
 -- ---- a row
-
-abbrev There : {A : Type 0} → (Data → Result A Path) → Standing → A → Type 0
-There tell at x = (value : Data) × (at ≡ here value) × (tell value ≡ Ok x)
-
-abbrev Faulty : {A : Type 0} → (Data → Result A Path) → Path → Standing → Path → Type 0
-Faulty tell path at fault = (at ≡ astray) × (path ≡ fault) ⊎ ((value : Data) × (rest : Path) × (at ≡ here value) × (tell value ≡ Err rest) × (joined path rest ≡ fault))
 
 put_ok : {A : Type 0} (path : Path) (r : Result A Path) (x : A) → as_put (λ y. y) (at_place path r) ≡ Ok x → r ≡ Ok x
 put_ok path (Ok y) x e = let same : y ≡ x = cc in ap (λ it. Ok it) same

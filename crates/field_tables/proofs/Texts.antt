@@ -1,6 +1,6 @@
 -- What is read of names, of wanted texts and of words is what they tell.
-use Rattle.std.proofs.Common.{◌≡◌, ℕ, List, [], ◌∷◌, Bool, true, false, cond, ◌||◌, length, eqb, Option, Some, None, option_map, option_and_then, Result, Ok, Err, refl, sym, ap, ◌∙◌, bytes_eq, codes, arith}
-use Rattle.std.proofs.lemmas.Bool.{ne_eqb}
+use Rattle.std.proofs.Common.{◌≡◌, ℕ, List, [], ◌∷◌, Bool, true, false, cond, ◌||◌, length, eqb, Option, Some, None, option_map, option_and_then, Result, Ok, Err, refl, sym, ap, ◌∙◌, bytes_eq, codes}
+use Rattle.mlb_base.proofs.Lists.{not_empty}
 use Rattle.serde_json.specs.Data.{Data, string}
 use Rattle.json_fields.specs.Path.{Path, names_of}
 use Rattle.json_fields.specs.Reading.{◌>>=◌, is_text, text_of, name_at, tells_at}
@@ -20,9 +20,6 @@ use Rattle.field_tables.proofs.Types.{text_tells, word_tells}
 
 abbrev if_full : Path → List ℕ → Result (List ℕ) Path
 if_full path name = cond (eqb (length name) 0) (Err path) (Ok name)
-
-not_empty : (c : ℕ) (text : List ℕ) → eqb (length (c ∷ text)) 0 ≡ false
-not_empty c text = ne_eqb (length (c ∷ text)) 0 (λ none. omega (arith, none))
 
 full_by : (path : Path) (found : Option (List ℕ))
     → (as_put (λ x. x) (as_put (λ x. x) (at_place path (or_fault found))) >>= if_full path) ≡ as_put (λ x. x) (as_put (λ x. x) (at_place path (or_fault (option_and_then unless_empty found))))

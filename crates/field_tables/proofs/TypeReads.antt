@@ -139,15 +139,12 @@ bytes_are_read = said_by (λ text. result_ok (decode_of text)) SaysBytes (λ tex
 
 -- ---- words
 
-is_word : (text word : List ℕ) → bytes_eq text word ≡ true → text ≡ word
-is_word text word e = (bytes_eq-Decides text word).0 e
-
 family_said_by : (a b : Bool) (text : List ℕ) (family : Family) → bytes_eq text (codes "IPv4") ≡ a → bytes_eq text (codes "IPv6") ≡ b
     → cond a (Some V4) (cond b (Some V6) None) ≡ Some family → SaysFamily text family
-family_said_by true b text V4 first second e = is_word text (codes "IPv4") first
+family_said_by true b text V4 first second e = (bytes_eq-Decides text (codes "IPv4")).0 first
 family_said_by true b text V6 first second e = absurd cc
 family_said_by false true text V4 first second e = absurd cc
-family_said_by false true text V6 first second e = is_word text (codes "IPv6") second
+family_said_by false true text V6 first second e = (bytes_eq-Decides text (codes "IPv6")).0 second
 family_said_by false false text family first second e = absurd cc
 
 family_named_by : (text : List ℕ) (family : Family) → SaysFamily text family → family_named text ≡ Some family
@@ -164,9 +161,9 @@ families_are_read = said_by family_named SaysFamily (λ text family. (
 protocol_said_by : (a b c : Bool) (text : List ℕ) (protocol : Protocol) → bytes_eq text (codes "TCP") ≡ a → bytes_eq text (codes "UDP") ≡ b
     → bytes_eq text (codes "SCTP") ≡ c
     → cond a (Some Tcp) (cond b (Some Udp) (cond c (Some Sctp) None)) ≡ Some protocol → SaysProtocol text protocol
-protocol_said_by true b c text protocol first second third e = let is : Tcp ≡ protocol = cc in subst (SaysProtocol text) is (is_word text (codes "TCP") first)
-protocol_said_by false true c text protocol first second third e = let is : Udp ≡ protocol = cc in subst (SaysProtocol text) is (is_word text (codes "UDP") second)
-protocol_said_by false false true text protocol first second third e = let is : Sctp ≡ protocol = cc in subst (SaysProtocol text) is (is_word text (codes "SCTP") third)
+protocol_said_by true b c text protocol first second third e = let is : Tcp ≡ protocol = cc in subst (SaysProtocol text) is ((bytes_eq-Decides text (codes "TCP")).0 first)
+protocol_said_by false true c text protocol first second third e = let is : Udp ≡ protocol = cc in subst (SaysProtocol text) is ((bytes_eq-Decides text (codes "UDP")).0 second)
+protocol_said_by false false true text protocol first second third e = let is : Sctp ≡ protocol = cc in subst (SaysProtocol text) is ((bytes_eq-Decides text (codes "SCTP")).0 third)
 protocol_said_by false false false text protocol first second third e = absurd cc
 
 protocol_named_by : (text : List ℕ) (protocol : Protocol) → SaysProtocol text protocol → protocol_named text ≡ Some protocol
@@ -184,9 +181,9 @@ protocols_are_read = said_by protocol_named SaysProtocol (λ text protocol. (
 policy_said_by : (a b c : Bool) (text : List ℕ) (policy : Policy) → bytes_eq text (codes "Cluster") ≡ a → bytes_eq text (codes "") ≡ b
     → bytes_eq text (codes "Local") ≡ c
     → cond a (Some Cluster) (cond b (Some Cluster) (cond c (Some Local) None)) ≡ Some policy → SaysPolicy text policy
-policy_said_by true b c text policy first second third e = let is : Cluster ≡ policy = cc in subst (SaysPolicy text) is (inl (is_word text (codes "Cluster") first))
-policy_said_by false true c text policy first second third e = let is : Cluster ≡ policy = cc in subst (SaysPolicy text) is (inr (is_word text (codes "") second))
-policy_said_by false false true text policy first second third e = let is : Local ≡ policy = cc in subst (SaysPolicy text) is (is_word text (codes "Local") third)
+policy_said_by true b c text policy first second third e = let is : Cluster ≡ policy = cc in subst (SaysPolicy text) is (inl ((bytes_eq-Decides text (codes "Cluster")).0 first))
+policy_said_by false true c text policy first second third e = let is : Cluster ≡ policy = cc in subst (SaysPolicy text) is (inr ((bytes_eq-Decides text (codes "")).0 second))
+policy_said_by false false true text policy first second third e = let is : Local ≡ policy = cc in subst (SaysPolicy text) is ((bytes_eq-Decides text (codes "Local")).0 third)
 policy_said_by false false false text policy first second third e = absurd cc
 
 policy_named_by : (text : List ℕ) (policy : Policy) → SaysPolicy text policy → policy_named text ≡ Some policy

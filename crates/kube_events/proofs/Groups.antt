@@ -17,7 +17,7 @@ same_then : {A B : Type 0} (first : Result A Path) (then other : A → Result B 
 same_then (Ok a) then other same = same a
 same_then (Err path) then other same = refl
 
-group_of_two : {A B C D : Type 0} (first : Result A Path) (second : Result B Path) (make : A → B → C) (next : C → Result D Path)
+pub group_of_two : {A B C D : Type 0} (first : Result A Path) (second : Result B Path) (make : A → B → C) (next : C → Result D Path)
     → ((first >>= λ a. second >>= λ b. Ok (make a b)) >>= next) ≡ (first >>= λ a. second >>= λ b. next (make a b))
 group_of_two (Ok a) (Ok b) make next = refl
 group_of_two (Ok a) (Err path) make next = refl

@@ -7,13 +7,13 @@ use Rattle.std.specs.List.Sorted.{IsStrictlySortedBy}
 use Rattle.std.specs.Map.{keys_of, lookup}
 use Rattle.ip_ranges.specs.contracts.address.AddressOrd.TheImpl as derived
 use Rattle.ip_ranges.specs.Values.{AddressValue, has_address, same_address}
-use Rattle.ip_ranges.proofs.AddressLaws.{has_address-from, same_address-is}
+use Rattle.ip_ranges.proofs.AddressLaws.{has_address-from, same_address-is, same_address-flip}
 use Rattle.speaker_view.specs.declared.change.ViewChange.{ViewChange}
 use Rattle.speaker_view.specs.Addresses.{address_cmp}
 use Rattle.speaker_view.specs.Change.{OthersStay}
 use Rattle.speaker_view.specs.Endpoints.{is_recorded_in, recorded_addresses}
 use Rattle.speaker_view.specs.ViewValue.{ViewValue}
-use Rattle.speaker_view.proofs.AddressOrder.{address_cmp-is, same-at, same-back}
+use Rattle.speaker_view.proofs.AddressOrder.{address_cmp-is, same-at}
 use Rattle.speaker_view.proofs.Indexed.{has-recorded_addresses}
 use Rattle.l2_elect.specs.Election.{announcer_of}
 use Rattle.l2_elect.specs.Kept.{AreKeptBut, AreKeptFor, AreRenewed, AreRightBut, IsHeldNow, held_for}
@@ -36,7 +36,7 @@ Finds R old new name address = (a : AddressValue) → lookup (is_at (R a)) new �
 pub held-now : (old new : Entries) (name : Option (List ℕ)) (address : AddressValue) → Finds derived.cmp-value.it old new name address → IsHeldNow address name old new
 held-now old new name address finds a =
     let by : Finds address_cmp old new name address = subst (λ (R : AddressValue → AddressValue → Ordering). Finds R old new name address) address_cmp-is finds in
-    sym (looked-up new a) ∙ by a ∙ (λ i. cond ((same-at address a ∙ same-back address a) i) name (looked-up old a i))
+    sym (looked-up new a) ∙ by a ∙ (λ i. cond ((same-at address a ∙ same_address-flip address a) i) name (looked-up old a i))
 
 -- ---- one after the other
 -- `s`, it is renewed now; `t`, it was before

@@ -1,7 +1,7 @@
 -- The order of addresses, and sets of them as lists that ascend.
 use Rattle.std.proofs.Common.{◌≡◌, ℕ, Bool, true, cond, List, [], Ordering, is_eq, refl, sym, ap, ◌∙◌, subst, Decides, inl, inr}
-use Rattle.std.specs.declared.cmp.Ordering.TheVariants.{Less, Equal, Greater}
-use Rattle.std.specs.Ordering.{nat_cmp, ordering_then}
+use Rattle.std.specs.declared.cmp.Ordering.TheVariants.{Equal}
+use Rattle.std.specs.Ordering.{nat_cmp}
 use Rattle.std.specs.Cmp.{IsTotalOrder, Equal-is, tied_itself, then_total, on_total, nat_cmp_total}
 use Rattle.std.specs.List.{list_any}
 use Rattle.std.specs.List.Sorted.{IsStrictlySortedBy}
@@ -12,9 +12,10 @@ use Rattle.ip_ranges.specs.declared.family.Family.{Family}
 use Rattle.ip_ranges.specs.declared.family.Family.TheVariants.{V4, V6}
 use Rattle.ip_ranges.specs.Values.{AddressValue, same_address, has_address}
 use Rattle.ip_ranges.specs.contracts.address.AddressOrd.TheImpl as derived
-use Rattle.ip_ranges.proofs.AddressLaws.{same_address-is, same_address-itself}
+use Rattle.ip_ranges.proofs.AddressLaws.{same_address-is, same_address-itself, same_address-flip}
 use Rattle.mlb_base.specs.Items.{IsIn}
 use Rattle.mlb_base.proofs.Lists.{Decides-has}
+use Rattle.mlb_base.proofs.Orders.{both_equal}
 use Rattle.pool_config.specs.KeySets.{keys_with}
 use Rattle.pool_config.proofs.KeySets.{ascending-keys_with, in_keys, keys_in}
 use Rattle.speaker_view.specs.Addresses.{family_cmp, address_cmp}
@@ -42,11 +43,6 @@ family_exact V6 V6 e = refl
 pub address_total : IsTotalOrder address_cmp
 address_total = then_total (on_total (λ (a : AddressValue). a.family) family_total) (on_total (λ (a : AddressValue). a.number) nat_cmp_total)
 
-both_equal : (r s : Ordering) → ordering_then r s ≡ Equal → (r ≡ Equal) × (s ≡ Equal)
-both_equal Less s e = absurd (cc)
-both_equal Equal s e = (refl, e)
-both_equal Greater s e = absurd (cc)
-
 pub address_exact : CmpEqualImpliesEq address_cmp
 address_exact a b e =
     let both = both_equal (family_cmp a.family b.family) (nat_cmp a.number b.number) e in
@@ -72,12 +68,6 @@ same-at a b =
     (λ e. address_exact a b ((Equal-is (address_cmp a b)).0 e), λ is. subst (λ (x : AddressValue). is_at (address_cmp a) x ≡ true) is (ap is_eq (tied_itself address_total a)))
     (λ e. same_address-is a b e, λ is. subst (λ (x : AddressValue). same_address a x ≡ true) is (same_address-itself a))
 
-pub same-back : (a b : AddressValue) → same_address a b ≡ same_address b a
-same-back a b =
-    same_from_decides {P = a ≡ b} (same_address a b) (same_address b a)
-    (λ e. same_address-is a b e, λ is. subst (λ (x : AddressValue). same_address a x ≡ true) is (same_address-itself a))
-    (λ e. sym (same_address-is b a e), λ is. subst (λ (x : AddressValue). same_address x a ≡ true) is (same_address-itself a))
-
 -- a look-up finds an address where the list has it
 pub found-has : (addresses : List AddressValue) (a : AddressValue) → list_any (is_at (address_cmp a)) addresses ≡ has_address addresses a
 found-has addresses a = λ i. list_any (λ b. same-at a b i) addresses
@@ -91,7 +81,7 @@ pub has-updated : (old new : List AddressValue) (b : Bool) (address : AddressVal
     → (a : AddressValue) → has_address new a ≡ cond (same_address a address) b (has_address old a)
 has-updated old new b address finds a =
     let updates : Finds address_cmp old new b address = subst (λ (R : AddressValue → AddressValue → Ordering). Finds R old new b address) address_cmp-is finds in
-    sym (found-has new a) ∙ updates a ∙ (λ i. cond ((same-at address a ∙ same-back address a) i) b (found-has old a i))
+    sym (found-has new a) ∙ updates a ∙ (λ i. cond ((same-at address a ∙ same_address-flip address a) i) b (found-has old a i))
 
 -- two lists that ascend are the same where they have the same addresses
 pub ascending-same : (xs ys : List AddressValue) → IsStrictlySortedBy address_cmp xs → IsStrictlySortedBy address_cmp ys

@@ -6,7 +6,7 @@ use Rattle.std.proofs.lemmas.Map.Entries.{none_past_head}
 use Rattle.std.proofs.lemmas.Map.Keys.{IsDistinct-from_sorted, sorted_tail}
 use Rattle.std.proofs.lemmas.Map.Lookups.{CmpEqualImpliesEq}
 use Rattle.std.specs.BTreeMap.{is_at}
-use Rattle.std.specs.Cmp.{IsTotalOrder, Equal-is, eq_by_cmp_equiv, tied_itself}
+use Rattle.std.specs.Cmp.{IsTotalOrder, Equal-is, eq_by_cmp_equiv, tied_itself, both_ways}
 use Rattle.std.specs.List.{list_any}
 use Rattle.std.specs.List.Sorted.{IsStrictlySortedBy}
 use Rattle.std.specs.Map.{keys_of}
@@ -15,11 +15,6 @@ use Rattle.versioned_map.specs.declared.map.Versioned.{Versioned}
 use Rattle.versioned_map.specs.Entries.{held_at, object_at}
 use Rattle.speaker_view.specs.Held.{objects_of}
 use Rattle.speaker_view.specs.Index.{passes}
-
-same-by : (b c : Bool) → (b ≡ true → c ≡ true) → (c ≡ true → b ≡ true) → b ≡ c
-same-by true c there back = sym (there refl)
-same-by false true there back = back refl
-same-by false false there back = refl
 
 module _ {K T : Type 0} {cmp : K → K → Ordering} (o : IsTotalOrder cmp) (exact : CmpEqualImpliesEq cmp) (test : T → Bool) where
   -- ---- where it passes at the object of a key, it passes at one of the objects
@@ -80,7 +75,7 @@ module _ {K T : Type 0} {cmp : K → K → Ordering} (o : IsTotalOrder cmp) (exa
       → list_any (λ key. passes test (object_at cmp entries key)) keys ≡ list_any test (objects_of entries)
   any-keys entries keys s among =
       let at : K → Bool = λ key. passes test (object_at cmp entries key) in
-      same-by (list_any at keys) (list_any test (objects_of entries))
+      both_ways (list_any at keys) (list_any test (objects_of entries))
       (λ e. let found = any-found at keys e in any-at entries found.0 found.2)
       (λ e.
       let p = passing entries s e in

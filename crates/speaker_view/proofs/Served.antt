@@ -1,8 +1,9 @@
 -- Where no service that records an address has a usable endpoint, no node announces it.
-use Rattle.std.proofs.Common.{◌≡◌, ℕ, Bool, true, false, ◌&&◌, List, [], refl, sym, ◌∙◌}
-use Rattle.std.proofs.lemmas.Bool.{and_parts, and_from, true≢false}
+use Rattle.std.proofs.Common.{◌≡◌, ℕ, Bool, true, false, ◌&&◌, List, [], refl}
+use Rattle.std.proofs.lemmas.Bool.{and_parts, and_from}
 use Rattle.std.specs.List.{list_any}
 use Rattle.mlb_base.proofs.Among.{any-found, any-contains}
+use Rattle.mlb_base.proofs.Bools.{false_before}
 use Rattle.ip_ranges.specs.Values.{AddressValue, has_address}
 use Rattle.kube_model.specs.declared.service.Policy.TheVariants.{Cluster}
 use Rattle.kube_model.specs.declared.service.Service.{Service}
@@ -18,10 +19,6 @@ any-implies : {X : Type 0} (p q : X → Bool) → ((x : X) → p x ≡ true → 
 any-implies p q implies xs e =
     let some = any-found p xs e in
     any-contains q xs some.0 some.1 (implies some.0 some.2)
-
-unless : (b c : Bool) → (b ≡ true → c ≡ true) → c ≡ false → b ≡ false
-unless true c then e = absurd (true≢false (sym (then refl) ∙ e))
-unless false c then e = refl
 
 module _ (v : ViewValue) (node : List ℕ) where
   endpoint-usable : (service : Service) → endpoint_for v service node ≡ true → has_usable v service ≡ true
@@ -46,4 +43,4 @@ module _ (v : ViewValue) (node : List ℕ) where
       (objects_of v.held.services)
 
   pub unserved-nowhere : (a : AddressValue) → is_served_in v a ≡ false → announced_from v a node ≡ false
-  unserved-nowhere a = unless (announced_from v a node) (is_served_in v a) (announced-served a)
+  unserved-nowhere a = false_before (announced_from v a node) (is_served_in v a) (announced-served a)

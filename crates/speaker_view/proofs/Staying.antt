@@ -1,10 +1,11 @@
 -- At an address that an event doesn't list, all stays that decides who may announce it.
 use Rattle.std.proofs.Common.{◌≡◌, ℕ, Bool, true, false, cond, ◌&&◌, leb, not, List, [], ◌∷◌, Option, Some, None, ◌++◌, inl, inr, Contains, filter, Result, Ok, Err, refl, sym, ap, ◌∙◌, subst}
-use Rattle.std.proofs.lemmas.Bool.{or_parts, true≢false}
+use Rattle.std.proofs.lemmas.Bool.{or_parts, true≢false, false_from_ne_true}
 use Rattle.std.proofs.lemmas.List.Elements.{Contains-append_left, Contains-append_right}
 use Rattle.std.specs.List.{flat_map, list_any}
 use Rattle.std.specs.BTreeMap.{insert_entry}
-use Rattle.mlb_base.proofs.Among.{contains-none, contains-cons, contains-first, contains-later}
+use Rattle.mlb_base.proofs.Among.{contains-none, contains-cons}
+use Rattle.mlb_base.proofs.Lists.{filter-keeps}
 use Rattle.ip_ranges.specs.Values.{AddressValue, has_address}
 use Rattle.ip_ranges.proofs.AddressLaws.{has_address-is, has_address-from}
 use Rattle.kube_labels.specs.Names.{name_cmp}
@@ -36,34 +37,14 @@ use Rattle.speaker_view.specs.ViewValue.{ViewValue}
 use Rattle.speaker_view.proofs.AddressOrder.{has-distinct}
 use Rattle.speaker_view.proofs.Objects.{Fails, any-inserted, any-removed, any-each, objects_of-expired, object_at-expired}
 
-isnt_true : (b : Bool) → ¬ (b ≡ true) → b ≡ false
-isnt_true true never = absurd (never refl)
-isnt_true false never = refl
-
 hasnt_address : (addresses : List AddressValue) (a : AddressValue) → ¬ (Contains addresses a) → has_address addresses a ≡ false
-hasnt_address addresses a none = isnt_true (has_address addresses a) (λ e. none (has_address-is addresses a e))
+hasnt_address addresses a none = false_from_ne_true (has_address addresses a) (λ e. none (has_address-is addresses a e))
 
 Contains-flat_map : {X A : Type 0} (f : X → List A) (xs : List X) (x : X) (y : A) → Contains xs x → Contains (f x) y → Contains (flat_map f xs) y
 Contains-flat_map f [] x y there of_it = absurd (contains-none x there)
 Contains-flat_map f (z ∷ zs) x y there of_it = elim (contains-cons z zs x there) [
   | inl here ↦ Contains-append_left (f z) (flat_map f zs) y (subst (λ u. Contains (f u) y) (sym here) of_it)
   | inr later ↦ Contains-append_right (f z) (flat_map f zs) y (Contains-flat_map f zs x y later of_it)
-]
-
--- an item of the list that passes is one of those that do
-first-by : {X : Type 0} (b : Bool) (y : X) (zs : List X) (x : X) → y ≡ x → b ≡ true → Contains (cond b (y ∷ zs) zs) x
-first-by true y zs x is e = subst (λ u. Contains (y ∷ zs) u) is (contains-first y zs)
-first-by false y zs x is e = absurd (true≢false (sym e))
-
-behind-by : {X : Type 0} (b : Bool) (y : X) (zs : List X) (x : X) → Contains zs x → Contains (cond b (y ∷ zs) zs) x
-behind-by true y zs x there = contains-later y zs x there
-behind-by false y zs x there = there
-
-Contains-passing : {X : Type 0} (p : X → Bool) (xs : List X) (x : X) → Contains xs x → p x ≡ true → Contains (filter p xs) x
-Contains-passing p [] x there h = absurd (contains-none x there)
-Contains-passing p (y ∷ ys) x there h = elim (contains-cons y ys x there) [
-  | inl here ↦ first-by (p y) y (filter p ys) x here (ap p here ∙ h)
-  | inr later ↦ behind-by (p y) y (filter p ys) x (Contains-passing p ys x later h)
 ]
 
 -- a configuration that isn't accepted leaves the one in force
@@ -147,8 +128,8 @@ module _ (v : ViewValue) where
           let services = objects_of v.held.services in
           let of_slice : Service → Bool = λ s. is_slice_of s.key slice in
           let addresses : Service → List AddressValue = λ s. s.holding.addresses in
-          isnt_true (is_slice_of service.key slice) (λ e.
-          none (Contains-flat_map addresses (filter of_slice services) service a (Contains-passing of_slice services service held e) (has_address-is service.holding.addresses a recorded)))
+          false_from_ne_true (is_slice_of service.key slice) (λ e.
+          none (Contains-flat_map addresses (filter of_slice services) service a (filter-keeps of_slice services service held e) (has_address-is service.holding.addresses a recorded)))
 
       serves_not : (slice : EndpointSlice) → ¬ (Contains (served_by v (Some slice)) a) → slice_serves service.key service.policy node slice ≡ false
       serves_not slice none = rw (apart slice none) refl

@@ -9,7 +9,7 @@ use std::collections::BTreeSet;
 use std::marker::Model;
 
 /// Ports of protocols, distinct and ascending: TCP before UDP before SCTP, and by number. Contracts see their list.
-#[derive(Debug, Drop)]
+#[derive(Drop)]
 pub struct PortSet {
     ports: PortList,
 }

@@ -5,12 +5,12 @@ ghost use Rattle.sharing_terms.specs.Terms.{terms_of, backend_of};
 
 use crate::port_set::PortSet;
 use kube_labels::{Labels, Text};
-use kube_model::{Policy, Service};
+use kube_model::{Policy, Service, both};
 use mlb_base::{NoMemory, TryCopy};
 use std::alloc::Global;
 
 /// Where the traffic of a service goes.
-#[derive(Debug, Drop)]
+#[derive(Drop)]
 pub enum Backend {
     /// To any endpoint of the cluster.
     Cluster,
@@ -19,7 +19,7 @@ pub enum Backend {
 }
 
 /// The terms under which a service holds addresses.
-#[derive(Debug, Drop)]
+#[derive(Drop)]
 pub struct Terms {
     /// The sharing key, empty for none.
     pub key: Text,
@@ -34,20 +34,25 @@ impl TryCopy for Backend {
             Backend::Local {
                 namespace,
                 selector,
-            } => Ok(Backend::Local {
-                namespace: namespace.copy()?,
-                selector: selector.copy()?,
-            }),
+            } => {
+                let (namespace, selector) = both(namespace.copy(), selector.copy())?;
+                Ok(Backend::Local {
+                    namespace,
+                    selector,
+                })
+            }
         }
     }
 }
 
 impl TryCopy for Terms {
     fn copy(&self) -> Result<Terms, NoMemory> {
+        let given = both(self.ports.copy(), self.backend.copy());
+        let (key, (ports, backend)) = both(self.key.copy(), given)?;
         Ok(Terms {
-            key: self.key.copy()?,
-            ports: self.ports.copy()?,
-            backend: self.backend.copy()?,
+            key,
+            ports,
+            backend,
         })
     }
 }
@@ -57,10 +62,16 @@ fn backend_of(service: &Service) -> Result<Backend, NoMemory>
 {
     match service.policy {
         Policy::Cluster => Ok(Backend::Cluster),
-        Policy::Local => Ok(Backend::Local {
-            namespace: service.key.namespace.copy()?,
-            selector: service.selector.copy()?,
-        }),
+        Policy::Local => {
+            let (namespace, selector) = both(
+                service.key.namespace.copy(),
+                service.selector.copy(),
+            )?;
+            Ok(Backend::Local {
+                namespace,
+                selector,
+            })
+        }
     }
 }
 

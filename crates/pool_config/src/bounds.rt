@@ -7,6 +7,7 @@ ghost use Rattle.pool_config.specs.Bounds.{lows_in, highs_in, all_spans};
 
 use crate::compiled::CompiledPool;
 use ip_ranges::{Family, Span};
+use kube_model::both;
 use mlb_base::NoMemory;
 use std::alloc::Global;
 
@@ -67,10 +68,11 @@ impl Bounds {
     pub(crate) fn new(alloc: Global, pools: &[CompiledPool]) -> Result<Bounds, NoMemory>
         ensures { IfOk result (AreBoundsOf (all_spans pools.now)) }
     {
-        Ok(Bounds {
-            v4: FamilyBounds::new(alloc, pools, Family::V4)?,
-            v6: FamilyBounds::new(alloc, pools, Family::V6)?,
-        })
+        let (v4, v6) = both(
+            FamilyBounds::new(alloc, pools, Family::V4),
+            FamilyBounds::new(alloc, pools, Family::V6),
+        )?;
+        Ok(Bounds { v4, v6 })
     }
 
     fn of_family(&self, family: Family) -> &FamilyBounds

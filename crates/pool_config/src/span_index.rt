@@ -4,6 +4,7 @@ ghost use Rattle.std.specs.List.Sorted.{IsPermutation, IsNonDecreasingBy, IsPart
 
 use crate::compiled::CompiledPool;
 use ip_ranges::{Address, Family, Span};
+use kube_model::both;
 use mlb_base::NoMemory;
 use std::alloc::Global;
 
@@ -129,10 +130,11 @@ impl SpanIndex {
     pub(crate) fn new(alloc: Global, pools: &[CompiledPool]) -> Result<SpanIndex, NoMemory>
         ensures { IfOk result (HasSpansOf pools.now) }
     {
-        Ok(SpanIndex {
-            v4: FamilyIndex::new(alloc, pools, Family::V4)?,
-            v6: FamilyIndex::new(alloc, pools, Family::V6)?,
-        })
+        let (v4, v6) = both(
+            FamilyIndex::new(alloc, pools, Family::V4),
+            FamilyIndex::new(alloc, pools, Family::V6),
+        )?;
+        Ok(SpanIndex { v4, v6 })
     }
 
     fn of_family(&self, family: Family) -> &FamilyIndex

@@ -135,13 +135,13 @@ listed-queued was now lost s =
     ∙ ap (λ (ks : List Key). listed_keys (listed s.held.services) s.queue ++ ks) (more-listed was now lost s)
 
 -- ---- what is left once those that wait were queued
-pub service-dropped : (s : State) (held : Cached) (gone key : Key) (more queued queue awaiting : List Key) (claims : List ClaimValue) → gone ≡ key
+pub service-dropped : (s : State) (key : Key) (held : Cached) (more queued queue awaiting : List Key) (claims : List ClaimValue)
     → more ≡ waiting (is_ready s.held && has_claims key s.claims) s.class (same_key key) s.queue s.awaiting s.held.services
     → held ≡ cached_after (Watched (Deleted kinds.Service key)) s.held → queued ≡ s.queue ++ more
-    → claims ≡ others gone s.claims → awaiting ≡ without gone s.awaiting → queue ≡ without gone queued
+    → claims ≡ others key s.claims → awaiting ≡ without key s.awaiting → queue ≡ without key queued
     → record s { held = held; claims = claims; awaiting = awaiting; queue = queue } ≡ without_service s key
-service-dropped s held gone key more queued queue awaiting claims gone_is more_is held_is queued_is claims_is awaiting_is queue_is =
-    rw (claims_is, awaiting_is, queue_is, queued_is, held_is, gone_is, more_is)
+service-dropped s key held more queued queue awaiting claims more_is held_is queued_is claims_is awaiting_is queue_is =
+    rw (claims_is, awaiting_is, queue_is, queued_is, held_is, more_is)
     (ap (λ (ks : List Key). record s { held = cached_after (Watched (Deleted kinds.Service key)) s.held; claims = others key s.claims; awaiting = without key s.awaiting; queue = ks })
     (without-queued (is_ready s.held && has_claims key s.claims) s.class key s.queue s.awaiting s.held.services))
 

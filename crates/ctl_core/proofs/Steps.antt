@@ -20,9 +20,9 @@ pub held-newer : (s : State) (version : ℕ) (service : Service) → leb version
 held-newer s version service old = rw old refl
 
 -- what was prepared was done
-pub prepared-held : (s : State) (version : ℕ) (service : Service) (p : Prepared) (held : Cached) (more queue awaiting : List Key) (claims : List ClaimValue) → IsPrepared s service p
-    → more ≡ p.more.items → held ≡ cached_after (Watched (shows version service)) s.held → queue ≡ s.queue ++ more
-    → claims ≡ settled p.claim.key p.claim.holding p.claim.terms s.claims → awaiting ≡ without p.key s.awaiting
+pub prepared-held : (s : State) (version : ℕ) (service : Service) (p : Prepared) (held : Cached) (queue awaiting : List Key) (claims : List ClaimValue) → IsPrepared s service p
+    → held ≡ cached_after (Watched (shows version service)) s.held → queue ≡ s.queue ++ p.more.items
+    → claims ≡ settled p.claim.key p.claim.holding p.claim.terms s.claims → awaiting ≡ without service.key s.awaiting
     → record s { held = held; claims = claims; queue = queue; awaiting = awaiting } ≡ held_service s version service
-prepared-held s version service p held more queue awaiting claims prepared more_is held_is queue_is claims_is awaiting_is =
-    rw (claims_is, awaiting_is, queue_is, held_is, more_is, prepared.more_is, prepared.claim_is, prepared.key_is) refl
+prepared-held s version service p held queue awaiting claims prepared held_is queue_is claims_is awaiting_is =
+    rw (claims_is, awaiting_is, queue_is, held_is, prepared.more_is, prepared.claim_is) refl

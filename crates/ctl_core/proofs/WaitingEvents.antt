@@ -268,12 +268,12 @@ dropped-at false s gone old new key sorted b waits_old new_is =
     new_is ∙ ap (λ b. not lost && b) (waits_old key)
     ∙ other-at s.class key (is_ready s.held) lost s.queue after.queue s.awaiting after.awaiting (service_of s.held key) (service_of after.held key) stays
 
-pub dropped-wait : (s : State) (gone key : Key) (lost : Bool) (old new : BTreeSet Key) → IsReached s → WaitIn s old → gone ≡ key → lost ≡ (is_ready s.held && has_claims key s.claims)
+pub dropped-wait : (s : State) (gone : Key) (lost : Bool) (old new : BTreeSet Key) → IsReached s → WaitIn s old → lost ≡ (is_ready s.held && has_claims gone s.claims)
     → ((k : Key) → contains key_cmp new k ≡ (not lost && (not (same_key gone k) && contains key_cmp old k)))
-    → WaitIn (without_service s key) new
-dropped-wait s gone key lost old new r waits_old gone_is lost_is new_is k =
-    dropped-at (same_key key k) s key old new k (reached-sorted s r) refl waits_old
-    (new_is k ∙ ap (λ g. not lost && (not (same_key g k) && contains key_cmp old k)) gone_is ∙ ap (λ l. not l && (not (same_key key k) && contains key_cmp old k)) lost_is)
+    → WaitIn (without_service s gone) new
+dropped-wait s gone lost old new r waits_old lost_is new_is k =
+    dropped-at (same_key gone k) s gone old new k (reached-sorted s r) refl waits_old
+    (new_is k ∙ ap (λ l. not l && (not (same_key gone k) && contains key_cmp old k)) lost_is)
 
 -- ---- the list of services ends
 abbrev kept_found : Option (Versioned Service) → Option (Versioned Service)

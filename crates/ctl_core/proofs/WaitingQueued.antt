@@ -21,19 +21,16 @@ use Rattle.claim_index.specs.Claims.{loses, has_claims}
 use Rattle.core_rules.specs.Core.{State, is_ready, is_free_with, all_free, waiting, shown_terms}
 use Rattle.core_rules.specs.Keys.{own_key}
 use Rattle.core_rules.specs.Take.{no_key, listed_keys, listed_and_free, own_and_waiting, shows}
-use Rattle.core_laws.specs.Queue.{AreApart, NoneAmong}
+use Rattle.core_laws.specs.Queue.{AreApart}
 use Rattle.core_laws.proofs.Orderly.{took-order}
 use Rattle.core_laws.proofs.QueueOnce.{AreNew, no-true, apart-append, passing-apart, waiting-new}
 use Rattle.core_laws.proofs.Rows.{has_key-append}
+use Rattle.ctl_core.specs.Queued.{GoBehind}
 use Rattle.ctl_core.specs.Reached.{IsReached}
 use Rattle.ctl_core.specs.Waiting.{others_where}
 use Rattle.ctl_core.proofs.Reaches.{reached-sorted, reached-orderly, reached-cached}
 use Rattle.ctl_core.proofs.WaitingLaws.{passes_at, has-passing, others-waiting, listed-waiting}
 use Rattle.ctl_core.proofs.WaitingEvents.{WaitIn, has-free}
-
--- the keys can be queued as they are: each once, and none that is queued
-abbrev pub GoBehind : List Key → List Key → Type 0
-GoBehind more queue = AreApart more × NoneAmong more queue
 
 nothing-behind : (queue : List Key) → GoBehind [] queue
 nothing-behind queue = (tt, λ key there. absurd (cc))
@@ -125,10 +122,6 @@ module _ (s : State) (set : BTreeSet Key) (reached : IsReached s) (wait : WaitIn
       → others_where lost gone set.keys ≡ waiting (is_ready s.held && has_claims gone s.claims) s.class (same_key gone) s.queue s.awaiting s.held.services
   dropped-others lost gone is =
       ap (λ l. others_where l gone set.keys) is ∙ others-by (is_ready s.held && has_claims gone s.claims) gone (and-first (is_ready s.held) (has_claims gone s.claims))
-
-  pub dropped-behind : (lost : Bool) (gone : Key) (more : List Key) → lost ≡ (is_ready s.held && has_claims gone s.claims) → more ≡ others_where lost gone set.keys → GoBehind more s.queue
-  dropped-behind lost gone more is more_is =
-      subst (λ ks. GoBehind ks s.queue) (sym (more_is ∙ dropped-others lost gone is)) (waiting-behind (is_ready s.held && has_claims gone s.claims) (same_key gone) s reached)
 
   own-by : (ready lost : Bool) (own : Key) → is_ready s.held ≡ ready → cond ready (own_key own s.queue ++ others_where lost own set.keys) [] ≡ own_and_waiting ready lost s own
   own-by true lost own is = ap (λ (ks : List Key). own_key own s.queue ++ ks) (others-by lost own (λ _. is))

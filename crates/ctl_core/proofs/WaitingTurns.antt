@@ -8,7 +8,7 @@ use Rattle.kube_model.specs.declared.key.Key.{Key}
 use Rattle.kube_model.specs.declared.put.Put.{Put}
 use Rattle.kube_model.specs.declared.record.Record.{Record}
 use Rattle.kube_model.specs.declared.reply.PutReply.{PutReply}
-use Rattle.kube_model.specs.declared.reply.PutReply.TheVariants.{Unknown}
+use Rattle.kube_model.specs.declared.reply.PutReply.TheVariants.{Ok as StoredReply, Stale, Missing, Unknown}
 use Rattle.kube_model.specs.declared.service.Service.{Service}
 use Rattle.kube_model.specs.Keys.{key_cmp, same_key, has_key}
 use Rattle.kube_model.specs.Service.{with_holding}
@@ -24,10 +24,10 @@ use Rattle.object_cache.specs.Told.{passing}
 use Rattle.claim_index.specs.Claims.{ClaimValue, settled, doubted, loses}
 use Rattle.core_rules.specs.Core.{State, is_ready, service_of, waits, waiting}
 use Rattle.core_rules.specs.Keys.{is_free}
-use Rattle.core_rules.specs.Replied.{stored, in_doubt, put_terms, core_reply}
+use Rattle.core_rules.specs.Replied.{replied, stored, in_doubt, put_terms, core_reply}
 use Rattle.core_rules.specs.Turn.{rest_of}
 use Rattle.core_laws.proofs.Orderly.{IsInOrder}
-use Rattle.core_laws.proofs.QueueOnce.{AreNew, no-true, waiting-new}
+use Rattle.core_laws.proofs.QueueOnce.{no-true, waiting-new}
 use Rattle.core_laws.proofs.QuietRuns.{none-some}
 use Rattle.core_laws.proofs.Ready.{IsIdle}
 use Rattle.core_laws.proofs.Rows.{has_key-append, passing-has}
@@ -256,10 +256,6 @@ module _ (s : State) (reached : IsReached s) where
         → others_where lost put.key set.keys ≡ waiting lost s.class (same_key put.key) s.queue s.awaiting s.held.services
     others-out lost set w ordered = others-waiting s.class s.held s.queue s.awaiting set w ordered (reached-sorted s reached) (ready-out put is_out) lost put.key
 
-    -- they can be queued
-    pub others-new : (lost : Bool) → AreNew (waiting lost s.class (same_key put.key) s.queue s.awaiting s.held.services) s.queue s.awaiting (same_key put.key)
-    others-new lost = waiting-new lost s.class (same_key put.key) s.queue s.awaiting s.held.services (reached-sorted s reached)
-
     -- after the record was stored
     pub stored-waits : (version : ℕ) (lost : Bool) (before middle after : BTreeSet Key) (cache : Cached) (queue more : List Key) → AreWaiting s.class s.held s.queue s.awaiting before
         → ((k : Key) → contains key_cmp middle k ≡ cond (same_key put.key k) (lacks_with s.class put.holding (object_at key_cmp s.held.services put.key)) (contains key_cmp before k))
@@ -286,5 +282,9 @@ pub in_doubt-is : (s : State) (put : Put) (claims : List ClaimValue) (queue : Li
     → record s { claims = claims; queue = queue; out = None } ≡ in_doubt s put
 in_doubt-is s put claims queue claims_are queue_is = rw (claims_are, queue_is) refl
 
-pub reply-unknown : (s : State) (put : Put) (reply : PutReply) → s.out ≡ Some put → reply ≡ Unknown → in_doubt s put ≡ core_reply s reply
-reply-unknown s put reply out unknown = rw (out, unknown) refl
+-- the reply leaves no put out, whatever was
+pub reply-is : (s : State) (put : Put) (out : Option Put) (reply : PutReply) → s.out ≡ Some put → replied (record s { out = out }) put reply ≡ core_reply s reply
+reply-is s put out (StoredReply version) is = rw is refl
+reply-is s put out Stale is = rw is refl
+reply-is s put out Missing is = rw is refl
+reply-is s put out Unknown is = rw is refl

@@ -20,7 +20,6 @@ held_service s version service = record s {
 
 -- What there is to do where the service is held: its claim, whether a claim is lost, and the keys that are queued.
 pub record IsPrepared (s : State) (service : Service) (p : Prepared) : Type 0 where
-  pub key_is : p.key ≡ service.key
   pub claim_is : p.claim ≡ record { key = service.key; holding = service.holding; terms = shown_terms service }
   pub lost_is : p.is_lost ≡ loses service.key service.holding (shown_terms service) s.claims
   pub more_is : p.more.items ≡ own_and_waiting (is_ready s.held) (loses service.key service.holding (shown_terms service) s.claims) s service.key

@@ -1,7 +1,6 @@
 //! What a change of services makes of the claims.
 ghost use Rattle.std.specs.Prelude.{◌≡◌, IfOk};
-ghost use Rattle.alloc_book.specs.Book.{HasRoom};
-ghost use Rattle.claim_index.specs.Claims.{doubted, loses, terms_under};
+ghost use Rattle.claim_index.specs.Claims.{terms_under};
 ghost use Rattle.core_rules.specs.Core.{no_terms, shown_terms, terms_in};
 ghost use Rattle.core_rules.specs.Replied.{put_terms};
 ghost use Rattle.core_rules.specs.Take.{have_claims, listed_claims};
@@ -15,21 +14,6 @@ use mlb_base::NoMemory;
 use object_cache::ObjectCache;
 use sharing_terms::{Backend, PortSet, Terms, terms_of};
 use std::alloc::Global;
-
-/// Whether the claim's key has another claim than this one.
-pub(crate) fn loses(book: &Book, claim: &Claim) -> bool
-    ensures { result ≡ loses claim.now.key claim.now.holding claim.now.terms book.now.claims }
-{
-    book.loses(claim)
-}
-
-/// The claim's key has this claim too, for which there is room.
-pub(crate) fn doubt(book: &mut Book, claim: Claim)
-    requires { HasRoom book.old claim }
-    ensures { book.new.claims ≡ doubted claim.key claim.holding claim.terms book.old.claims }
-{
-    book.doubt_prepared(claim);
-}
 
 /// The record as it is claimed: under the terms of its mark, and where it is the mark of none under the adopted ones.
 fn adopting(alloc: Global, key: &Key, holding: &Record, adopted: Terms) -> Result<Claim, NoMemory>

@@ -1,17 +1,16 @@
 //! The reply to the put that is out.
-ghost use Rattle.std.specs.Prelude.{◌≡◌, ◌++◌, if◌then◌else◌, OnOk, OnErr, Some, IsSome};
+ghost use Rattle.std.specs.Prelude.{◌≡◌, ◌++◌, if◌then◌else◌, OnOk, OnErr, IfErr, Some, None, IsSome};
 ghost use Rattle.std.specs.BTreeSet.{contains};
 ghost use Rattle.std.specs.Option.{option_copied};
 ghost use Rattle.kube_model.specs.declared.key.Key.{Key as KeyValue};
 ghost use Rattle.kube_model.specs.Keys.{key_cmp, same_key};
 ghost use Rattle.versioned_map.specs.Entries.{object_at};
-ghost use Rattle.core_rules.specs.Replied.{core_reply, stored, refused, in_doubt};
-ghost use Rattle.core_laws.specs.Queue.{AreApart, NoneAmong};
+ghost use Rattle.core_rules.specs.Replied.{core_reply, replied, stored, refused, in_doubt};
+ghost use Rattle.ctl_core.specs.Queued.{GoBehind};
 ghost use Rattle.ctl_core.specs.Reached.{IsReached};
 ghost use Rattle.ctl_core.specs.Waiting.{lacks_with};
 
 use crate::awaiting::await_newer;
-use crate::claims::{doubt, loses};
 use crate::keys::{Keys, Services, lacks_with};
 use crate::room::{append_new, push_new, reserved_claim};
 use crate::state::CoreState;
@@ -28,10 +27,26 @@ impl CoreState {
         ensures ok { OnOk result (self.new ≡ core_reply self.old reply) }
         ensures err { OnErr result (self.new ≡ self.old) }
     {
-        let put = match &self.out {
-            None => return Ok(()),
-            Some(put) => put.copy()?,
+        let Some(put) = self.out.take() else {
+            return Ok(());
         };
+        match self.replied(put, reply) {
+            Ok(()) => Ok(()),
+            Err(put) => {
+                drop(self.out.replace(put));
+                Err(NoMemory)
+            }
+        }
+    }
+
+    /// The reply to a put that was out. After want of memory it is handed back, and nothing changed.
+    fn replied(&mut self, put: Put, reply: PutReply) -> Result<(), Put>
+        requires out { self.old.out ≡ None }
+        requires reached { IsReached (record self.old { out = Some put }) }
+        ensures ok { OnOk result (self.new ≡ replied self.old put reply) }
+        ensures err { OnErr result (self.new ≡ self.old) }
+        ensures put { IfErr result (λ back. back ≡ put) }
+    {
         match reply {
             PutReply::Ok { version } => self.stored(put, version),
             PutReply::Stale | PutReply::Missing => self.refused(put),
@@ -39,93 +54,82 @@ impl CoreState {
         }
     }
 
-    fn stored(&mut self, put: Put, version: u64) -> Result<(), NoMemory>
-        requires out { self.old.out ≡ Some put }
-        requires reached { IsReached self.old }
+    fn stored(&mut self, put: Put, version: u64) -> Result<(), Put>
+        requires out { self.old.out ≡ None }
+        requires reached { IsReached (record self.old { out = Some put }) }
         ensures ok { OnOk result (self.new ≡ stored self.old put version) }
         ensures err { OnErr result (self.new ≡ self.old) }
+        ensures put { IfErr result (λ back. back ≡ put) }
     {
         let Ok(claim) = reserved_claim(self.alloc, &self.cache, &mut self.book, &put) else {
-            drop(put);
-            return Err(NoMemory);
+            return Err(put);
         };
-        let is_lost = loses(&self.book, &claim);
+        let is_lost = self.book.loses(&claim);
         let Ok(more) = self.waiting.others_where(self.alloc, is_lost, &put.key) else {
-            drop(put);
             drop(claim);
-            return Err(NoMemory);
+            return Err(put);
         };
         let services = self.cache.services();
         let Ok(()) = queue_and_let_wait(
             &mut self.queue,
-            &more,
+            more,
             &mut self.waiting,
             self.class.as_ref(),
             services,
             &put,
         ) else {
-            drop(put);
-            drop(more);
             drop(claim);
-            return Err(NoMemory);
+            return Err(put);
         };
-        drop(more);
         self.waiting.release_others(is_lost, &put.key);
         let Put { key, holding, .. } = put;
         self.cache.store(&key, version, holding);
         drop(key);
         self.book.settle_prepared(claim);
-        drop(self.out.take());
         Ok(())
     }
 
     /// Nothing is put for the key before it is shown again.
-    fn refused(&mut self, put: Put) -> Result<(), NoMemory>
-        requires out { self.old.out ≡ Some put }
-        requires reached { IsReached self.old }
+    fn refused(&mut self, put: Put) -> Result<(), Put>
+        requires out { self.old.out ≡ None }
+        requires reached { IsReached (record self.old { out = Some put }) }
         ensures ok { OnOk result (self.new ≡ refused self.old put) }
         ensures err { OnErr result (self.new ≡ self.old) }
+        ensures put { IfErr result (λ back. back ≡ put) }
     {
-        let Ok(key) = put.key.copy() else {
-            drop(put);
-            return Err(NoMemory);
+        let Ok(awaited) = put.key.copy() else {
+            return Err(put);
         };
-        let Put {
-            key: awaited,
-            holding,
-            ..
-        } = put;
-        drop(holding);
         let Ok(()) = await_newer(&mut self.awaiting, awaited) else {
-            drop(key);
-            return Err(NoMemory);
+            return Err(put);
         };
-        self.waiting.remove(&key);
-        drop(key);
-        drop(self.out.take());
+        self.waiting.remove(&put.key);
+        drop(put);
         Ok(())
     }
 
     /// The key may have the record: its addresses stay claimed.
-    fn in_doubt(&mut self, put: Put) -> Result<(), NoMemory>
-        requires out { self.old.out ≡ Some put }
-        requires reached { IsReached self.old }
+    fn in_doubt(&mut self, put: Put) -> Result<(), Put>
+        requires out { self.old.out ≡ None }
+        requires reached { IsReached (record self.old { out = Some put }) }
         ensures ok { OnOk result (self.new ≡ in_doubt self.old put) }
         ensures err { OnErr result (self.new ≡ self.old) }
+        ensures put { IfErr result (λ back. back ≡ put) }
     {
         let Ok(claim) = reserved_claim(self.alloc, &self.cache, &mut self.book, &put) else {
-            drop(put);
-            return Err(NoMemory);
+            return Err(put);
         };
-        let Put { key, holding, .. } = put;
-        drop(holding);
-        let Ok(()) = push_new(&mut self.queue, key) else {
+        let Ok(queued) = put.key.copy() else {
             drop(claim);
-            return Err(NoMemory);
+            return Err(put);
         };
-        self.waiting.remove(claim.key());
-        doubt(&mut self.book, claim);
-        drop(self.out.take());
+        let Ok(()) = push_new(&mut self.queue, queued) else {
+            drop(claim);
+            return Err(put);
+        };
+        self.waiting.remove(&put.key);
+        drop(put);
+        self.book.doubt_prepared(claim);
         Ok(())
     }
 }
@@ -134,15 +138,14 @@ impl CoreState {
 /// memory nothing has changed.
 fn queue_and_let_wait(
     queue: &mut Keys,
-    more: &[Key],
+    more: Vec<Key>,
     waiting: &mut WaitingKeys,
     class: Option<&Text>,
     services: &Services,
     put: &Put,
 ) -> Result<(), NoMemory>
-    requires once { AreApart more.now }
-    requires unqueued { NoneAmong more.now queue.old }
-    ensures queue { OnOk result (queue.new ≡ queue.old ++ more.now) }
+    requires { GoBehind more.items queue.old }
+    ensures queue { OnOk result (queue.new ≡ queue.old ++ more.items) }
     ensures waiting { OnOk result ((k : KeyValue) → contains key_cmp waiting.new k
         ≡ (if same_key put.now.key k
         then lacks_with (option_copied class.entry) put.now.holding (object_at key_cmp services.now put.now.key)

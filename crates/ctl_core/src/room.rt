@@ -3,7 +3,7 @@ ghost use Rattle.std.specs.Prelude.{◌≡◌, ◌++◌, ◌∷◌, [], if◌the
 ghost use Rattle.kube_model.specs.Keys.{has_key};
 ghost use Rattle.alloc_book.specs.Book.{HasRoom};
 ghost use Rattle.core_rules.specs.Replied.{put_terms};
-ghost use Rattle.core_laws.specs.Queue.{AreApart, NoneAmong};
+ghost use Rattle.ctl_core.specs.Queued.{GoBehind};
 
 use crate::claims::claim_of;
 use crate::keys::Keys;
@@ -33,10 +33,9 @@ pub(crate) fn reserved_claim(
 }
 
 /// The keys, which aren't queued and differ from one another, to the back of the queue. After want of memory it is unchanged.
-pub(crate) fn append_new(queue: &mut Keys, more: &[Key]) -> Result<(), NoMemory>
-    requires once { AreApart more.now }
-    requires unqueued { NoneAmong more.now queue.old }
-    ensures ok { OnOk result (queue.new ≡ queue.old ++ more.now) }
+pub(crate) fn append_new(queue: &mut Keys, more: Vec<Key>) -> Result<(), NoMemory>
+    requires { GoBehind more.items queue.old }
+    ensures ok { OnOk result (queue.new ≡ queue.old ++ more.items) }
     ensures err { OnErr result (queue.new ≡ queue.old) }
 {
     queue.append(more)

@@ -1,6 +1,5 @@
 //! Events that are taken.
 ghost use Rattle.std.specs.Prelude.{◌≡◌, ◌↔◌, ◌⊎◌, ◌+◌, ◌++◌, ◌&&◌, ◌||◌, [], if◌then◌else◌, not, is_some, None, true, IsErrOf, OnOk, OnErr, IfOk, IfErr};
-ghost use Rattle.kube_model.specs.declared.event.Event.TheVariants.{Changed as ChangedEvent, Deleted as DeletedEvent, ListEnd as ListEndEvent};
 ghost use Rattle.kube_model.specs.Keys.{key_cmp};
 ghost use Rattle.object_history.specs.Observations.{Watched, WatchExpired};
 ghost use Rattle.object_history.specs.Cache.{cached_after};
@@ -10,27 +9,26 @@ ghost use Rattle.object_cache.specs.declared.change.TakeNote.TheVariants.{Quiet 
 ghost use Rattle.versioned_map.specs.Entries.{is_newer};
 ghost use Rattle.claim_index.specs.Claims.{has_claims};
 ghost use Rattle.core_rules.specs.Core.{all_free, is_ready};
-ghost use Rattle.core_rules.specs.Take.{Configures, concern, core_take, core_note, core_expired, limits, with_service, without_service, with_services_listed, listed_and_free, have_claims, shows, is_accepted, is_namespace, configured};
-ghost use Rattle.core_laws.specs.Queue.{AreApart, NoneAmong};
+ghost use Rattle.core_rules.specs.Take.{Configures, concern, core_take, core_note, core_expired, limits, with_service, without_service, with_services_listed, lapsed, listed_and_free, have_claims, shows, is_accepted, is_namespace, configured};
 ghost use Rattle.ctl_core.specs.Holding.{IsPrepared, held_service};
+ghost use Rattle.ctl_core.specs.Queued.{GoBehind};
 ghost use Rattle.ctl_core.specs.Reached.{IsReached};
 ghost use Rattle.ctl_core.specs.Waking.{may_wake, ends_config};
 
 use crate::awaiting::{keep_awaiting, stop_awaiting};
-use crate::claims::{have_claims, keep_listed_claims, loses, shown_claim};
+use crate::claims::{have_claims, keep_listed_claims, shown_claim};
 use crate::keys::{Keys, all_free, drop_key, keep_listed, listed_and_free, own_and_waiting};
 use crate::room::{append_new, truncate_unless};
 use crate::state::{CoreState, is_ready};
 use alloc_book::Claim;
 use core_rules::TakeFault;
 use kube_model::{Event, Group, Key, Kind, Object, Service};
-use mlb_base::{NoMemory, TryCopy};
+use mlb_base::NoMemory;
 use object_cache::{Applied, Change, MOST_SERVICES, ObjectCache, TakeNote};
 
 /// What there is to do where a service is held: its claim, and the keys that are queued.
 #[derive(Drop)]
 struct Prepared {
-    key: Key,
     claim: Claim,
     is_lost: bool,
     more: Vec<Key>,
@@ -48,60 +46,48 @@ impl CoreState {
         ensures faults { IfErr result (λ fault. (fault ≡ TakeFault.Limit (most_services + 1)) ⊎ (fault ≡ TakeFault.NoMemory)) }
         ensures err { OnErr result (self.new ≡ self.old) }
     {
-        if self.limits(&event) {
-            drop(event);
-            return Err(TakeFault::Limit {
-                count: MOST_SERVICES + 1,
-            });
-        }
-        match self.apply(event) {
-            Ok(note) => Ok(note),
-            Err(NoMemory) => Err(TakeFault::NoMemory),
-        }
-    }
-
-    /// Whether the event would have one service more held than may be.
-    fn limits(&self, event: &Event) -> bool
-        ensures { result ≡ limits self.now event.now }
-    {
         match event {
-            Event::Changed { version, object } => match object {
-                Object::Service(service) => self.passes(*version, &service.key),
-                _ => false,
-            },
-            _ => false,
-        }
-    }
-
-    fn passes(&self, version: u64, key: &Key) -> bool
-        ensures { result ≡ passes key_cmp most_services self.now.held.services key.now version }
-    {
-        version > 0
-            && self.cache.services().len() as u64 >= MOST_SERVICES
-            && self.cache.service(key).is_none()
-    }
-
-    fn apply(&mut self, event: Event) -> Result<TakeNote, NoMemory>
-        requires { IsReached self.old }
-        ensures note { IfOk result (λ note. note ≡ core_note self.old event) }
-        ensures ok { OnOk result (self.new ≡ core_take self.old event) }
-        ensures err { OnErr result (self.new ≡ self.old) }
-    {
-        match event {
-            Event::Changed { version, object } => self.show(version, object),
-            Event::Deleted { kind, key } => self.delete(kind, key),
-            Event::ListEnd { group } => self.end_list(group),
-            Event::Expired => self.lapse(),
-            Event::Members { names } => {
-                drop(names);
+            Event::Changed {
+                version,
+                object: Object::Service(service),
+            } => self.show_service(version, service),
+            Event::Deleted {
+                kind: Kind::Service,
+                key,
+            } => {
+                let dropped = self.drop_service(&key);
+                drop(key);
+                dropped?;
                 Ok(TakeNote::Quiet)
             }
-            Event::Frame { interface, bytes } => {
-                drop(interface);
-                drop(bytes);
+            Event::ListEnd {
+                group: Group::Service,
+            } => {
+                self.end_services()?;
                 Ok(TakeNote::Quiet)
             }
-            Event::Ignored => Ok(TakeNote::Quiet),
+            Event::Expired => {
+                self.lapse();
+                Ok(TakeNote::Quiet)
+            }
+            Event::Changed {
+                object: Object::Node(_) | Object::Slice(_),
+                ..
+            }
+            | Event::Deleted {
+                kind: Kind::Node | Kind::Slice,
+                ..
+            }
+            | Event::ListEnd {
+                group: Group::Endpoint,
+            }
+            | Event::Members { .. }
+            | Event::Frame { .. }
+            | Event::Ignored => {
+                drop(event);
+                Ok(TakeNote::Quiet)
+            }
+            _ => Ok(self.configure(event)?),
         }
     }
 
@@ -118,55 +104,21 @@ impl CoreState {
         self.waiting.clear();
     }
 
-    fn show(&mut self, version: u64, object: Object) -> Result<TakeNote, NoMemory>
-        requires { IsReached self.old }
-        ensures note { IfOk result (λ note. note ≡ core_note self.old (ChangedEvent version object)) }
-        ensures ok { OnOk result (self.new ≡ core_take self.old (ChangedEvent version object)) }
-        ensures err { OnErr result (self.new ≡ self.old) }
-    {
-        match object {
-            Object::Service(service) => self.show_service(version, service),
-            Object::Node(node) => {
-                drop(node);
-                Ok(TakeNote::Quiet)
-            }
-            Object::Slice(slice) => {
-                drop(slice);
-                Ok(TakeNote::Quiet)
-            }
-            Object::Pool(pool) => self.configure(Event::Changed {
-                version,
-                object: Object::Pool(pool),
-            }),
-            Object::L2(advertisement) => self.configure(Event::Changed {
-                version,
-                object: Object::L2(advertisement),
-            }),
-            Object::Bgp(advertisement) => self.configure(Event::Changed {
-                version,
-                object: Object::Bgp(advertisement),
-            }),
-            Object::Peer(peer) => self.configure(Event::Changed {
-                version,
-                object: Object::Peer(peer),
-            }),
-            Object::Community(community) => self.configure(Event::Changed {
-                version,
-                object: Object::Community(community),
-            }),
-            Object::Namespace(namespace) => self.configure(Event::Changed {
-                version,
-                object: Object::Namespace(namespace),
-            }),
-        }
-    }
-
-    fn show_service(&mut self, version: u64, service: Service) -> Result<TakeNote, NoMemory>
+    fn show_service(&mut self, version: u64, service: Service) -> Result<TakeNote, TakeFault>
         requires { IsReached self.old }
         ensures note { IfOk result (λ note. note ≡ QuietNote) }
         ensures ok { OnOk result (self.new ≡ with_service self.old version service) }
+        ensures limit { IsErrOf result (TakeFault.Limit (most_services + 1))
+            ↔ (passes key_cmp most_services self.old.held.services service.key version ≡ true) }
+        ensures faults { IfErr result (λ fault. (fault ≡ TakeFault.Limit (most_services + 1)) ⊎ (fault ≡ TakeFault.NoMemory)) }
         ensures err { OnErr result (self.new ≡ self.old) }
     {
+        if self.cache.passes_limit(version, &service.key) {
+            drop(service);
+            return Err(TakeFault::Limit {
+                count: MOST_SERVICES + 1,
+            });
+        }
         if version <= self.cache.services().version_of(&service.key) {
             drop(service);
             return Ok(TakeNote::Quiet);
@@ -197,7 +149,7 @@ impl CoreState {
         ensures { IfOk result (IsPrepared self.now service.now) }
     {
         let claim = shown_claim(self.alloc, service)?;
-        let is_lost = loses(&self.book, &claim);
+        let is_lost = self.book.loses(&claim);
         let Ok(more) = own_and_waiting(
             self.alloc,
             is_ready(&self.cache),
@@ -209,13 +161,7 @@ impl CoreState {
             drop(claim);
             return Err(NoMemory);
         };
-        let Ok(key) = service.key.copy() else {
-            drop(claim);
-            drop(more);
-            return Err(NoMemory);
-        };
         Ok(Prepared {
-            key,
             claim,
             is_lost,
             more,
@@ -234,89 +180,41 @@ impl CoreState {
         ensures ok { OnOk result (self.new ≡ held_service self.old version service) }
         ensures err { OnErr result (self.new ≡ self.old) }
     {
-        let Ok(()) = self.book.reserve(&prepared.claim) else {
-            drop(service);
-            drop(prepared);
-            return Err(NoMemory);
-        };
-        let object = Object::Service(service);
-        let event = Event::Changed { version, object };
-        let Ok(applied) = queue_and_apply(&mut self.queue, &mut self.cache, &prepared.more, event)
-        else {
-            drop(prepared);
-            return Err(NoMemory);
-        };
-        drop(applied);
         let Prepared {
-            key,
             claim,
             is_lost,
             more,
         } = prepared;
-        drop(more);
+        let Ok(()) = self.book.reserve(&claim) else {
+            drop(service);
+            drop(more);
+            drop(claim);
+            return Err(NoMemory);
+        };
+        let Ok(()) = queue_and_show(&mut self.queue, &mut self.cache, more, version, service) else {
+            drop(claim);
+            return Err(NoMemory);
+        };
+        stop_awaiting(&mut self.awaiting, claim.key());
+        self.waiting.release(is_lost, claim.key());
         self.book.settle_prepared(claim);
-        stop_awaiting(&mut self.awaiting, &key);
-        self.waiting.release(is_lost, &key);
-        drop(key);
         Ok(())
     }
 
-    fn delete(&mut self, kind: Kind, key: Key) -> Result<TakeNote, NoMemory>
+    fn drop_service(&mut self, key: &Key) -> Result<(), NoMemory>
         requires { IsReached self.old }
-        ensures note { IfOk result (λ note. note ≡ core_note self.old (DeletedEvent kind key)) }
-        ensures ok { OnOk result (self.new ≡ core_take self.old (DeletedEvent kind key)) }
+        ensures ok { OnOk result (self.new ≡ without_service self.old key.now) }
         ensures err { OnErr result (self.new ≡ self.old) }
     {
-        match kind {
-            Kind::Service => self.drop_service(key),
-            Kind::Node | Kind::Slice => Ok(TakeNote::Quiet),
-            Kind::Pool => self.configure(Event::Deleted {
-                kind: Kind::Pool,
-                key,
-            }),
-            Kind::L2 => self.configure(Event::Deleted {
-                kind: Kind::L2,
-                key,
-            }),
-            Kind::Bgp => self.configure(Event::Deleted {
-                kind: Kind::Bgp,
-                key,
-            }),
-            Kind::Peer => self.configure(Event::Deleted {
-                kind: Kind::Peer,
-                key,
-            }),
-            Kind::Community => self.configure(Event::Deleted {
-                kind: Kind::Community,
-                key,
-            }),
-            Kind::Namespace => self.configure(Event::Deleted {
-                kind: Kind::Namespace,
-                key,
-            }),
-        }
-    }
-
-    fn drop_service(&mut self, key: Key) -> Result<TakeNote, NoMemory>
-        requires { IsReached self.old }
-        ensures note { IfOk result (λ note. note ≡ QuietNote) }
-        ensures ok { OnOk result (self.new ≡ without_service self.old key) }
-        ensures err { OnErr result (self.new ≡ self.old) }
-    {
-        let gone = key.copy()?;
-        let is_lost = self.gives_up(&key);
-        let more = self.waiting.others_where(self.alloc, is_lost, &key)?;
-        let event = Event::Deleted {
-            kind: Kind::Service,
-            key,
-        };
-        let applied = queue_and_apply(&mut self.queue, &mut self.cache, &more, event)?;
-        drop(applied);
-        self.book.drop_name(&gone);
-        stop_awaiting(&mut self.awaiting, &gone);
-        drop_key(&mut self.queue, &gone);
-        self.waiting.release(is_lost, &gone);
-        Ok(TakeNote::Quiet)
+        let is_lost = self.gives_up(key);
+        let more = self.waiting.others_where(self.alloc, is_lost, key)?;
+        append_new(&mut self.queue, more)?;
+        self.cache.delete_service(key);
+        self.book.drop_name(key);
+        stop_awaiting(&mut self.awaiting, key);
+        drop_key(&mut self.queue, key);
+        self.waiting.release(is_lost, key);
+        Ok(())
     }
 
     /// Whether the key has a claim that others may wait for.
@@ -326,39 +224,20 @@ impl CoreState {
         is_ready(&self.cache) && self.book.has_claims(key)
     }
 
-    fn end_list(&mut self, group: Group) -> Result<TakeNote, NoMemory>
+    fn end_services(&mut self) -> Result<(), NoMemory>
         requires { IsReached self.old }
-        ensures note { IfOk result (λ note. note ≡ core_note self.old (ListEndEvent group)) }
-        ensures ok { OnOk result (self.new ≡ core_take self.old (ListEndEvent group)) }
-        ensures err { OnErr result (self.new ≡ self.old) }
-    {
-        match group {
-            Group::Config => self.configure(Event::ListEnd {
-                group: Group::Config,
-            }),
-            Group::Service => self.end_services(),
-            Group::Endpoint => Ok(TakeNote::Quiet),
-        }
-    }
-
-    fn end_services(&mut self) -> Result<TakeNote, NoMemory>
-        requires { IsReached self.old }
-        ensures note { IfOk result (λ note. note ≡ QuietNote) }
         ensures ok { OnOk result (self.new ≡ with_services_listed self.old) }
         ensures err { OnErr result (self.new ≡ self.old) }
     {
         let is_lost = have_claims(&self.book, self.cache.services());
         let more = self.listed_and_free(is_lost)?;
-        let event = Event::ListEnd {
-            group: Group::Service,
-        };
-        let applied = queue_and_apply(&mut self.queue, &mut self.cache, &more, event)?;
-        drop(applied);
+        append_new(&mut self.queue, more)?;
+        self.cache.end_services();
         keep_listed_claims(&mut self.book, self.cache.services());
         keep_awaiting(&mut self.awaiting, self.cache.services());
         keep_listed(&mut self.queue, self.cache.services());
         self.waiting.keep_listed(is_lost, self.cache.services());
-        Ok(TakeNote::Quiet)
+        Ok(())
     }
 
     /// What is queued where the list of services ends.
@@ -393,11 +272,7 @@ impl CoreState {
             drop(event);
             return Err(NoMemory);
         };
-        let Ok(applied) = queue_and_apply(&mut self.queue, &mut self.cache, &woken, event) else {
-            drop(woken);
-            return Err(NoMemory);
-        };
-        drop(woken);
+        let applied = queue_and_apply(&mut self.queue, &mut self.cache, woken, event)?;
         let wakes = wakes(was_ready, &applied, is_ready(&self.cache));
         truncate_unless(wakes, &mut self.queue, queued);
         self.waiting.clear_where(wakes);
@@ -411,12 +286,6 @@ impl CoreState {
         if !may_wake(&self.cache, event) {
             return Ok(Vec::new(self.alloc));
         }
-        self.all_free()
-    }
-
-    fn all_free(&self) -> Result<Vec<Key>, NoMemory>
-        ensures { IfOk result (λ keys. keys.items ≡ all_free self.now.queue self.now.awaiting self.now.held.services) }
-    {
         all_free(
             self.alloc,
             &self.queue,
@@ -426,16 +295,40 @@ impl CoreState {
     }
 
     /// The watches have expired.
-    fn lapse(&mut self) -> Result<TakeNote, NoMemory>
-        ensures note { IfOk result (λ note. note ≡ QuietNote) }
-        ensures ok { OnOk result (self.new ≡ core_take self.old Event.Expired) }
-        ensures err { OnErr result (self.new ≡ self.old) }
+    fn lapse(&mut self)
+        ensures { self.new ≡ lapsed self.old }
     {
-        let applied = apply(&mut self.cache, Event::Expired)?;
-        drop(applied);
+        self.cache.expire_all();
         self.queue.clear();
         self.waiting.clear();
-        Ok(TakeNote::Quiet)
+    }
+}
+
+/// The keys are queued, and the service is shown. After want of memory nothing has changed.
+fn queue_and_show(
+    queue: &mut Keys,
+    cache: &mut ObjectCache,
+    more: Vec<Key>,
+    version: u64,
+    service: Service,
+) -> Result<(), NoMemory>
+    requires { GoBehind more.items queue.old }
+    ensures cache { OnOk result (cache.new ≡ cached_after (Watched (shows version service)) cache.old) }
+    ensures queue { OnOk result (queue.new ≡ queue.old ++ more.items) }
+    ensures cache_err { OnErr result (cache.new ≡ cache.old) }
+    ensures queue_err { OnErr result (queue.new ≡ queue.old) }
+{
+    let queued = queue.len();
+    if append_new(queue, more).is_err() {
+        drop(service);
+        return Err(NoMemory);
+    }
+    match cache.show_service(version, service) {
+        Ok(()) => Ok(()),
+        Err(NoMemory) => {
+            queue.truncate(queued);
+            Err(NoMemory)
+        }
     }
 }
 
@@ -443,14 +336,13 @@ impl CoreState {
 fn queue_and_apply(
     queue: &mut Keys,
     cache: &mut ObjectCache,
-    more: &[Key],
+    more: Vec<Key>,
     event: Event,
 ) -> Result<Applied, NoMemory>
-    requires once { AreApart more.now }
-    requires unqueued { NoneAmong more.now queue.old }
+    requires { GoBehind more.items queue.old }
     ensures applied { IfOk result (λ a. a ≡ applied cache.old event) }
     ensures cache { OnOk result (cache.new ≡ cached_after (Watched event) cache.old) }
-    ensures queue { OnOk result (queue.new ≡ queue.old ++ more.now) }
+    ensures queue { OnOk result (queue.new ≡ queue.old ++ more.items) }
     ensures cache_err { OnErr result (cache.new ≡ cache.old) }
     ensures queue_err { OnErr result (queue.new ≡ queue.old) }
 {
@@ -506,16 +398,4 @@ fn wakes(was_ready: bool, applied: &Applied, is_ready: bool) -> bool
         && (!was_ready
             || matches!(applied.note, TakeNote::Accepted)
             || matches!(applied.change, Change::Namespace { .. }))
-}
-
-/// The event is applied. One that isn't within the limits was refused before.
-fn apply(cache: &mut ObjectCache, event: Event) -> Result<Applied, NoMemory>
-    ensures applied { IfOk result (λ a. a ≡ applied cache.old event) }
-    ensures ok { OnOk result (cache.new ≡ cached_after (Watched event) cache.old) }
-    ensures err { OnErr result (cache.new ≡ cache.old) }
-{
-    match cache.apply(event) {
-        Ok(applied) => Ok(applied),
-        Err(_) => Err(NoMemory),
-    }
 }

@@ -17,6 +17,13 @@ or-false_left : (a b : Bool) → a ≡ false → (a || b) ≡ b
 or-false_left false b p = refl
 or-false_left true b p = absurd (true≢false p)
 
+-- ---- the beginning of a list
+abbrev pub Begins : {T : Type 0} → List T → List T → Type 0
+Begins {T} first all = (rest : List T) × (all ≡ first ++ rest)
+
+pub take-begun : {T : Type 0} (first all : List T) → Begins first all → take (length first) all ≡ first
+take-begun first all begun = rw begun.1 (take_at first begun.0 (length first) refl)
+
 -- ---- keys that came
 module _ {K : Type 0} (eq : K → K → Bool) where
   -- a key that is there isn't queued again
@@ -27,20 +34,15 @@ module _ {K : Type 0} (eq : K → K → Bool) where
   pub queued-new : (keys : List K) (key : K) → list_any (eq key) keys ≡ false → queued eq keys key ≡ keys ++ key ∷ []
   queued-new keys key absent = ap (λ b. if b then keys else keys ++ key ∷ []) absent
 
-  -- what was there is the beginning of what is there after more came
-  begun-by : (b : Bool) (keys : List K) (key : K) → (rest : List K) × ((if b then keys else keys ++ key ∷ []) ≡ keys ++ rest)
+  begun-by : (b : Bool) (keys : List K) (key : K) → Begins keys (if b then keys else keys ++ key ∷ [])
   begun-by true keys key = ([], sym (append-nil keys))
   begun-by false keys key = (key ∷ [], refl)
 
-  begun : (more keys : List K) → (rest : List K) × (queued_all eq keys more ≡ keys ++ rest)
-  begun [] keys = ([], sym (append-nil keys))
-  begun (key ∷ more) keys =
+  -- what was there is the beginning of what is there after one more came
+  pub begun-queued : (old keys : List K) (key : K) → Begins old keys → Begins old (queued eq keys key)
+  begun-queued old keys key begun =
       let one = begun-by (list_any (eq key) keys) keys key in
-      let all = begun more (queued eq keys key) in
-      (one.0 ++ all.0, all.1 ∙ ap (λ ks. ks ++ all.0) one.1 ∙ append_assoc keys one.0 all.0)
-
-  pub take-queued_all : (keys more : List K) → take (length keys) (queued_all eq keys more) ≡ keys
-  take-queued_all keys more = let all = begun more keys in rw all.1 (take_at keys all.0 (length keys) refl)
+      (begun.0 ++ one.0, one.1 ∙ ap (λ ks. ks ++ one.0) begun.1 ∙ append_assoc old begun.0 one.0)
 
 -- ---- keys that are distinct
 module _ {K : Type 0} (P : K → Type 0) where

@@ -5,7 +5,7 @@ ghost use Rattle.std.specs.Option.{option_copied};
 ghost use Rattle.key_queue.specs.Queue.{in_order, queued, queued_all, AreDistinct};
 
 use indexmap::IndexSet;
-use mlb_base::{NoMemory, TryCopy};
+use mlb_base::NoMemory;
 use std::alloc::Global;
 use std::hash::Hash;
 use std::marker::Model;
@@ -90,16 +90,16 @@ impl<K: Eq + Hash> KeyQueue<K> {
     }
 }
 
-impl<K: Eq + Hash + TryCopy> KeyQueue<K> {
-    /// Copies of the keys to the back of the queue, in their order, of each that isn't in the queue yet. After want of memory the queue
-    /// is unchanged.
-    pub fn append(&mut self, keys: &[K]) -> Result<(), NoMemory>
-        ensures ok { OnOk result (self.new ≡ queued_all K.eq self.old keys.now) }
+impl<K: Eq + Hash + Drop> KeyQueue<K> {
+    /// The keys to the back of the queue, in their order, each that isn't in the queue yet. After want of memory the queue is
+    /// unchanged.
+    pub fn append(&mut self, keys: Vec<K>) -> Result<(), NoMemory>
+        ensures ok { OnOk result (self.new ≡ queued_all K.eq self.old keys.items) }
         ensures err { OnErr result (self.new ≡ self.old) }
     {
         let len = self.len();
         for key in keys {
-            match self.push_copy(key) {
+            match self.push(key) {
                 Ok(()) => {}
                 Err(NoMemory) => {
                     self.truncate(len);
@@ -110,15 +110,6 @@ impl<K: Eq + Hash + TryCopy> KeyQueue<K> {
         Ok(())
     }
 
-    fn push_copy(&mut self, key: &K) -> Result<(), NoMemory>
-        ensures ok { OnOk result (self.new ≡ queued K.eq self.old key.now) }
-        ensures err { OnErr result (self.new ≡ self.old) }
-    {
-        self.push(key.copy()?)
-    }
-}
-
-impl<K: Eq + Hash + Drop> KeyQueue<K> {
     /// The key to the back of the queue, where it isn't in the queue yet. After want of memory the queue is unchanged.
     #[tactic(auto, using(crate::proofs::QueueLaws::queued_behind, crate::proofs::QueueLaws::queued_in_front))]
     pub fn push(&mut self, key: K) -> Result<(), NoMemory>

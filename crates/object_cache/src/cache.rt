@@ -10,7 +10,7 @@ ghost use Rattle.pool_config.specs.Objects.{set_shown, set_shows, set_without, s
 ghost use Rattle.object_history.specs.Observations.{Watched, WatchExpired, Written};
 ghost use Rattle.object_history.specs.Cache.{Cached, nothing, cached_after};
 ghost use Rattle.object_cache.specs.Change.{applied, config_applied, with_objects, has_ended};
-ghost use Rattle.object_cache.specs.Limits.{limit_of, object_limit};
+ghost use Rattle.object_cache.specs.Limits.{limit_of, object_limit, most_services, passes};
 
 use crate::change::{Applied, ApplyFault, Change, TakeNote};
 use crate::kinds::{
@@ -152,6 +152,15 @@ impl ObjectCache {
         }
     }
 
+    /// All watches have expired, and begin anew. This takes no memory.
+    pub fn expire_all(&mut self)
+        ensures { self.new ≡ cached_after (Watched ExpiredEvent) self.old }
+    {
+        self.expire_config();
+        self.expire_services();
+        self.expire_endpoints();
+    }
+
     fn expire_config(&mut self)
         ensures { self.new ≡ cached_after (WatchExpired Group.Config) self.old }
     {
@@ -180,6 +189,38 @@ impl ObjectCache {
         ensures { self.new ≡ cached_after (Written key.now version holding) self.old }
     {
         store_record(&mut self.services, key, version, holding);
+    }
+
+    /// Whether a service of this key and version would be held beside as many as may be held.
+    pub fn passes_limit(&self, version: u64, key: &Key) -> bool
+        ensures { result ≡ passes key_cmp most_services self.now.services key.now version }
+    {
+        passes(&self.services, MOST_SERVICES, version, key)
+    }
+
+    /// A service is shown, and held where it is newer than what is held. The limit isn't asked. After want of memory the cache is
+    /// unchanged.
+    pub fn show_service(&mut self, version: u64, service: Service) -> Result<(), NoMemory>
+        ensures ok { OnOk result (self.new ≡ cached_after (Watched (Changed version (Object.Service service))) self.old) }
+        ensures err { OnErr result (self.new ≡ self.old) }
+    {
+        drop(show_service(&mut self.services, version, service)?);
+        Ok(())
+    }
+
+    /// A service is deleted, held or not. This takes no memory.
+    pub fn delete_service(&mut self, key: &Key)
+        ensures { self.new ≡ cached_after (Watched (Deleted Kind.Service key.now)) self.old }
+    {
+        drop(self.services.remove(key));
+    }
+
+    /// The list of services has ended: those that weren't listed aren't held any more. This takes no memory.
+    pub fn end_services(&mut self)
+        ensures { self.new ≡ cached_after (Watched (ListEnd Group.Service)) self.old }
+    {
+        self.services.drop_unlisted();
+        self.services_ended = true;
     }
 
     /// Applies an event. A changed object whose version isn't greater than the held one is passed over; a key that isn't held
@@ -219,7 +260,7 @@ impl ObjectCache {
     {
         match object {
             Object::Service(service) => {
-                if !passes(&self.services, MOST_SERVICES, version, &service.key) {
+                if !self.passes_limit(version, &service.key) {
                     return None;
                 }
                 Some((Kind::Service, MOST_SERVICES + 1))
@@ -254,9 +295,7 @@ impl ObjectCache {
             }
             Event::Expired => {
                 drop(event);
-                self.expire_config();
-                self.expire_services();
-                self.expire_endpoints();
+                self.expire_all();
                 Ok(quietly(Change::Other))
             }
             Event::Members { .. } | Event::Frame { .. } | Event::Ignored => {
@@ -405,8 +444,7 @@ impl ObjectCache {
             Group::Config => self.end_config(),
             Group::Service => {
                 let unlisted = self.services.unlisted(self.alloc)?;
-                self.services.drop_unlisted();
-                self.services_ended = true;
+                self.end_services();
                 Ok(quietly(Change::Services {
                     unlisted: Sequence::from_vec(unlisted),
                 }))

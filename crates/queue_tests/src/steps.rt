@@ -125,9 +125,18 @@ const ROWS: [Row; 8] = [
     ),
 ];
 
-fn take(queue: &mut KeyQueue<u32>, step: Step) -> Result<(), NoMemory> {
+/// The numbers, in a list of their own.
+fn listed(alloc: Global, numbers: &[u32]) -> Result<Vec<u32>, NoMemory> {
+    let mut list = Vec::new(alloc);
+    for number in numbers {
+        list.push(*number)?;
+    }
+    Ok(list)
+}
+
+fn take(alloc: Global, queue: &mut KeyQueue<u32>, step: Step) -> Result<(), NoMemory> {
     match step {
-        Step::Append(keys) => return queue.append(keys),
+        Step::Append(keys) => return queue.append(listed(alloc, keys)?),
         Step::PopFirst => {
             let _first = queue.pop_first();
         }
@@ -160,16 +169,20 @@ fn are_given(queue: &mut KeyQueue<u32>, keys: &[u32]) -> bool {
     queue.is_empty() && queue.first().is_none()
 }
 
-fn is_right(queue: &mut KeyQueue<u32>, (steps, keys): Row) -> Result<bool, NoMemory> {
+fn is_right(
+    alloc: Global,
+    queue: &mut KeyQueue<u32>,
+    (steps, keys): Row,
+) -> Result<bool, NoMemory> {
     for step in steps {
-        take(queue, *step)?;
+        take(alloc, queue, *step)?;
     }
     Ok(holds(queue, keys) && are_given(queue, keys))
 }
 
 fn is_right_anew(alloc: Global, row: Row) -> Result<bool, NoMemory> {
     let mut queue = KeyQueue::new(alloc);
-    let is_right = is_right(&mut queue, row);
+    let is_right = is_right(alloc, &mut queue, row);
     drop(queue);
     is_right
 }

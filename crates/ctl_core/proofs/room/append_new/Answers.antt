@@ -5,4 +5,4 @@ use Rattle.ctl_core.proofs.room.append_new.Goals as goal
 
 pub returns-clause-ok : goal.returns-clause-ok
 returns-clause-ok c =
-    on_ok_weaker c.append.result (λ is. is ∙ queued-as-they-are c.args.queue.now c.args.more.now c.requires.once c.requires.unqueued) c.append.ensures.ok
+    on_ok_weaker c.append.result (λ is. is ∙ queued-as-they-are c.args.queue.now c.args.more.items c.requires.0 c.requires.1) c.append.ensures.ok

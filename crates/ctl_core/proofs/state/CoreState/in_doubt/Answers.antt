@@ -1,7 +1,6 @@
-use Rattle.std.proofs.Common.{◌≡◌, not, ◌&&◌, List, Some, sym, ap, subst, ◌∙◌}
-use Rattle.std.specs.BTreeSet.{contains}
+use Rattle.std.proofs.Common.{◌≡◌, false, List, [], ◌∷◌, ◌++◌, Some, None, refl, sym, ap, subst, ◌∙◌}
 use Rattle.kube_model.specs.declared.key.Key.{Key}
-use Rattle.kube_model.specs.Keys.{key_cmp, same_key}
+use Rattle.kube_model.specs.Keys.{has_key}
 use Rattle.claim_index.specs.Claims.{ClaimValue, doubted}
 use Rattle.core_rules.specs.Core.{State}
 use Rattle.core_rules.specs.Replied.{put_terms}
@@ -14,25 +13,25 @@ use Rattle.ctl_core.proofs.state.CoreState.in_doubt.Goals as goal
 pub push_new-requires : goal.push_new-requires
 push_new-requires c =
     let i = c.self.inside in
-    let s : State = record { class = i.class; held = i.cache; claims = i.book.claims; queue = i.queue; awaiting = i.awaiting; out = i.out } in
+    let s : State = record { class = i.class; held = i.cache; claims = i.book.claims; queue = i.queue; awaiting = i.awaiting; out = Some c.args.put } in
     let reached : IsReached s = rw (← c.self.view_is) at c.requires.reached in
-    let out : s.out ≡ Some c.args.put = rw (← c.self.view_is) at c.requires.out in
-    (reached-orderly s reached).out_queue c.args.put out
+    subst (λ (k : Key). has_key i.queue k ≡ false) (sym c.in-Ok-copy.ensures) ((reached-orderly s reached).out_queue c.args.put refl)
 
 pub invariant_of-self-2 : goal.invariant_of-self-2
 invariant_of-self-2 c =
     let i = c.self.inside in
-    let own = c.key.ensures ∙ ap (λ (x : ClaimValue). x.key) c.in-Ok.ensures.claim in
-    subst (λ (keys : List Key). AreWaiting i.class i.cache keys i.awaiting c.remove.new.self) (sym c.in-Ok-push_new.ensures.ok)
-    (waiting-in_doubt i.class i.cache i.queue i.awaiting c.args.put.key i.waiting c.remove.new.self c.self.invariant
-    (λ k. c.remove.ensures k ∙ ap (λ (x : Key). not (same_key x k) && contains key_cmp i.waiting k) own))
+    let queue_is = c.in-Ok-push_new.ensures.ok ∙ ap (λ (k : Key). i.queue ++ k ∷ []) c.in-Ok-copy.ensures in
+    subst (λ (keys : List Key). AreWaiting i.class i.cache keys i.awaiting c.remove.new.self) (sym queue_is)
+    (waiting-in_doubt i.class i.cache i.queue i.awaiting c.args.put.key i.waiting c.remove.new.self c.self.invariant c.remove.ensures)
 
 pub returns-clause-ok : goal.returns-clause-ok
 returns-clause-ok c =
     let i = c.self.inside in
-    let s : State = record { class = i.class; held = i.cache; claims = i.book.claims; queue = i.queue; awaiting = i.awaiting; out = i.out } in
+    let s : State = record { class = i.class; held = i.cache; claims = i.book.claims; queue = i.queue; awaiting = i.awaiting; out = Some c.args.put } in
+    let queue_is = c.in-Ok-push_new.ensures.ok ∙ ap (λ (k : Key). i.queue ++ k ∷ []) c.in-Ok-copy.ensures in
     let put = c.args.put in
-    let claims_are : c.doubt.new.book.claims ≡ doubted put.key put.holding (put_terms s.held put) s.claims = c.doubt.ensures
+    let unset : i.out ≡ None = rw (← c.self.view_is) at c.requires.out in
+    let claims_are : c.doubt_prepared.new.self.claims ≡ doubted put.key put.holding (put_terms s.held put) s.claims = c.doubt_prepared.ensures
     ∙ ap (λ (x : ClaimValue). doubted x.key x.holding x.terms c.reserved_claim.new.book.claims) c.in-Ok.ensures.claim
     ∙ ap (doubted put.key put.holding (put_terms s.held put)) c.reserved_claim.ensures.claims in
-    rw (← c.self.view_is, c.take.ensures.after) (in_doubt-is s put c.doubt.new.book.claims c.push_new.new.keys claims_are c.in-Ok-push_new.ensures.ok)
+    rw (← c.self.view_is, unset) (in_doubt-is s put c.doubt_prepared.new.self.claims c.push_new.new.keys claims_are queue_is)

@@ -16,9 +16,8 @@ returns c =
     let reached : IsReached s = rw (← c.self.view_is) at c.requires in
     let service = c.args.service.now in
     let lost = c.loses-is_lost.result in
-    let lost_is = c.loses-is_lost.ensures ∙ ap (λ (x : ClaimValue). loses x.key x.holding x.terms s.claims) c.in_ok-claim.ensures in
-    let prepared : IsPrepared s service (record { key = c.in-Ok-copy.key; claim = c.in_ok-claim.claim; is_lost = lost; more = c.in-Ok.more }) = record {
-      key_is = c.in-Ok-copy.ensures;
+    let lost_is = c.loses-is_lost.ensures.value ∙ ap (λ (x : ClaimValue). loses x.key x.holding x.terms s.claims) c.in_ok-claim.ensures in
+    let prepared : IsPrepared s service (record { claim = c.in_ok-claim.claim; is_lost = lost; more = c.in-Ok.more }) = record {
       claim_is = c.in_ok-claim.ensures;
       lost_is = lost_is;
       more_is = c.in-Ok.ensures.keys

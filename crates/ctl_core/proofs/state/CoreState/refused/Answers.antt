@@ -1,7 +1,6 @@
-use Rattle.std.proofs.Common.{◌≡◌, not, ◌&&◌, List, Some, sym, ap, subst, ◌∙◌}
-use Rattle.std.specs.BTreeSet.{contains}
+use Rattle.std.proofs.Common.{◌≡◌, false, List, [], ◌∷◌, ◌++◌, Some, None, refl, sym, ap, subst, ◌∙◌}
 use Rattle.kube_model.specs.declared.key.Key.{Key}
-use Rattle.kube_model.specs.Keys.{key_cmp, same_key}
+use Rattle.kube_model.specs.Keys.{has_key}
 use Rattle.core_rules.specs.Core.{State}
 use Rattle.ctl_core.specs.Reached.{IsReached}
 use Rattle.ctl_core.specs.Waiting.{AreWaiting}
@@ -12,14 +11,20 @@ use Rattle.ctl_core.proofs.state.CoreState.refused.Goals as goal
 pub await_newer-requires : goal.await_newer-requires
 await_newer-requires c =
     let i = c.self.inside in
-    let s : State = record { class = i.class; held = i.cache; claims = i.book.claims; queue = i.queue; awaiting = i.awaiting; out = i.out } in
+    let s : State = record { class = i.class; held = i.cache; claims = i.book.claims; queue = i.queue; awaiting = i.awaiting; out = Some c.args.put } in
     let reached : IsReached s = rw (← c.self.view_is) at c.requires.reached in
-    let out : s.out ≡ Some c.args.put = rw (← c.self.view_is) at c.requires.out in
-    (reached-orderly s reached).out_free c.args.put out
+    subst (λ (k : Key). has_key i.awaiting k ≡ false) (sym c.in-Ok.ensures) ((reached-orderly s reached).out_free c.args.put refl)
 
 pub invariant_of-self-2 : goal.invariant_of-self-2
 invariant_of-self-2 c =
     let i = c.self.inside in
-    subst (λ (keys : List Key). AreWaiting i.class i.cache i.queue keys c.remove.new.self) (sym c.in-Ok-await_newer.ensures.ok)
-    (waiting-refused i.class i.cache i.queue i.awaiting c.args.put.key i.waiting c.remove.new.self c.self.invariant
-    (λ k. c.remove.ensures k ∙ ap (λ (x : Key). not (same_key x k) && contains key_cmp i.waiting k) c.in-Ok.ensures))
+    let awaiting_are = c.in-Ok-await_newer.ensures.ok ∙ ap (λ (k : Key). i.awaiting ++ k ∷ []) c.in-Ok.ensures in
+    subst (λ (keys : List Key). AreWaiting i.class i.cache i.queue keys c.remove.new.self) (sym awaiting_are)
+    (waiting-refused i.class i.cache i.queue i.awaiting c.args.put.key i.waiting c.remove.new.self c.self.invariant c.remove.ensures)
+
+pub returns-clause-ok : goal.returns-clause-ok
+returns-clause-ok c =
+    let i = c.self.inside in
+    let awaiting_are = c.in-Ok-await_newer.ensures.ok ∙ ap (λ (k : Key). i.awaiting ++ k ∷ []) c.in-Ok.ensures in
+    let unset : i.out ≡ None = rw (← c.self.view_is) at c.requires.out in
+    rw (← c.self.view_is, unset, awaiting_are) refl

@@ -9,4 +9,5 @@ pub mod Granted
 pub mod Laws
 pub mod Least
 pub mod Search
+pub mod Searching
 pub mod Usable

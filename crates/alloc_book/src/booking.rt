@@ -306,21 +306,6 @@ impl Book {
         least_usable(self, pool, key, terms, family)
     }
 
-    fn chosen(
-        &self,
-        config: &Config,
-        class: Option<&Text>,
-        service: &Service,
-        namespace: &Labels,
-    ) -> Result<Choice, NoMemory>
-        ensures value { IfOk result (λ c. c
-            ≡ choose self.now.claims (offer_of config.now.pools service.now namespace.now) (option_copied class.entry) service.now) }
-        ensures terms { OnOk result (AreTerms (terms_of service.now)) }
-    {
-        let alloc = self.alloc;
-        choose(alloc, self, config, class, service, namespace)
-    }
-
     /// What is chosen for the service, whose namespace has these labels, by the claims of the book: the first case of the table
     /// that holds. A chosen record has the mark of the service's terms.
     pub fn choose(
@@ -341,6 +326,6 @@ impl Book {
         ensures terms { OnOk result (AreTerms (terms_of service.now)) }
         ensures marked { IfOk result (λ c. (r : Record) → IsFor r c → IsMarkOf (terms_of service.now) r.mark) }
     {
-        self.chosen(config, class, service, namespace)
+        choose(self.alloc, self, config, class, service, namespace)
     }
 }

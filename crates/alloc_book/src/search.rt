@@ -10,6 +10,7 @@ ghost use Rattle.alloc_book.specs.Asking.{asking};
 ghost use Rattle.claim_index.specs.Groups.{group_of};
 ghost use Rattle.alloc_book.specs.Candidates.{is_own, is_offered, is_free, AreBarred, Covers};
 ghost use Rattle.number_sets.specs.Least.{IsLeastIn, NonePasses};
+ghost use Rattle.alloc_book.specs.Searching.{claims_for, usable_by};
 ghost use Rattle.alloc_book.specs.Search.{usable, numbered, least_between, least_in, least_usable, least_each, first_pool, first_of, first_option};
 ghost use Rattle.claim_index.specs.Holders.{address_of};
 ghost use Rattle.claim_index.specs.Claims.{holders};
@@ -95,74 +96,6 @@ fn first_free(
     None
 }
 
-/// Whether the address is of the family, has a number from low to high, and may be used.
-fn usable_number(
-    book: &Book,
-    pool: &CompiledPool,
-    key: &Key,
-    terms: &GroupedTerms,
-    family: Family,
-    low: u128,
-    high: u128,
-    address: &Address,
-) -> bool
-    ensures { result ≡ (same_family address.now.family family && nat_le low address.now.number && nat_le address.now.number high
-        && usable book.now.claims key.now terms.now pool.now address.now) }
-{
-    address.family == family
-        && low <= address.number
-        && address.number <= high
-        && may_use(book, pool, key, terms, address)
-}
-
-/// The least number from low to high of one of the addresses that may be used.
-fn least_among(
-    book: &Book,
-    pool: &CompiledPool,
-    key: &Key,
-    terms: &GroupedTerms,
-    family: Family,
-    low: u128,
-    high: u128,
-    addresses: &[Address],
-) -> Option<u128>
-    ensures { Covers (numbered (has_address addresses.now) family) (numbered (usable book.now.claims key.now terms.now pool.now) family) low high result }
-{
-    let mut least = None;
-    for address in addresses {
-        let last = least.unwrap_or(high);
-        if usable_number(book, pool, key, terms, family, low, last, address) {
-            least = Some(address.number);
-        }
-    }
-    least
-}
-
-/// The least number from low to high of an address that the key has already and may use.
-fn least_own(
-    book: &Book,
-    pool: &CompiledPool,
-    key: &Key,
-    terms: &GroupedTerms,
-    family: Family,
-    low: u128,
-    high: u128,
-) -> Option<u128>
-    ensures { Covers (numbered (is_own key.now book.now.claims) family) (numbered (usable book.now.claims key.now terms.now pool.now) family) low high result }
-{
-    let index = book.index();
-    let mut least = None;
-    for number in index.numbers_of(key) {
-        let Some(claim) = index.claim(*number) else {
-            continue;
-        };
-        let last = least.unwrap_or(high);
-        let lesser = least_among(book, pool, key, terms, family, low, last, claim.addresses());
-        least = lesser.or(least);
-    }
-    least
-}
-
 /// A number from low to high before which each address of the family has a claim with one of the ports; `None` where each up to
 /// high has. It takes the logarithm of the number of addresses for each port.
 fn first_left(
@@ -183,98 +116,134 @@ fn first_left(
     Some(left)
 }
 
-/// A number from low to high of an address that may be used, before which there is none that may be used, that a claim of the terms'
-/// group has, and that the key doesn't have. Runs of addresses with a claim on one port of the terms are passed over at once, port by
-/// port; what is left is tested one by one.
-fn least_shared(
-    book: &Book,
-    pool: &CompiledPool,
-    key: &Key,
-    terms: &GroupedTerms,
+/// A search for an address that a service may use.
+#[derive(Drop)]
+struct AddressSearch<'a> {
+    /// The book, by whose claims an address may be used or not.
+    book: &'a Book,
+    /// The pool that the address is to be of.
+    pool: &'a CompiledPool,
+    /// The key of the service.
+    key: &'a Key,
+    /// The terms under which the service would have it.
+    terms: &'a GroupedTerms,
+    /// The family that the address is to be of.
     family: Family,
-    low: u128,
-    high: u128,
-) -> Option<u128>
-    requires { high < 2 ^ width_of family }
-    ensures { Covers (numbered (is_offered key.now (group_of terms.now) book.now.claims) family) (numbered (usable book.now.claims key.now terms.now pool.now) family) low high result }
-{
-    if terms.terms().key.as_str().is_empty() {
-        return None;
+}
+
+impl<'a> AddressSearch<'a> {
+    /// Whether the address is of the family, has a number from low to high, and may be used.
+    fn usable_number(&self, low: u128, high: u128, address: &Address) -> bool
+        ensures { result ≡ (same_family address.now.family self.now.family && nat_le low address.now.number && nat_le address.now.number high
+            && usable_by self.now address.now) }
+    {
+        address.family == self.family
+            && low <= address.number
+            && address.number <= high
+            && may_use(self.book, self.pool, self.key, self.terms, address)
     }
-    let index = book.index();
-    let ports = terms.terms().ports.as_slice();
-    let mut from = low;
-    while let Some(shared) = index.first_shared(family, terms, from, high) {
-        let number = first_left(index, ports, family, shared, high)?;
-        if may_use(book, pool, key, terms, &Address { family, number }) {
-            return Some(number);
+
+    /// The least number from low to high of one of the addresses that may be used.
+    fn least_among(&self, low: u128, high: u128, addresses: &[Address]) -> Option<u128>
+        ensures { Covers (numbered (has_address addresses.now) self.now.family) (numbered (usable_by self.now) self.now.family) low high result }
+    {
+        let mut least = None;
+        for address in addresses {
+            let last = least.unwrap_or(high);
+            if self.usable_number(low, last, address) {
+                least = Some(address.number);
+            }
         }
-        if number == high {
+        least
+    }
+
+    /// The least number from low to high of an address that the key has already and may use.
+    fn least_own(&self, low: u128, high: u128) -> Option<u128>
+        ensures { Covers (numbered (is_own self.now.key.now (claims_for self.now)) self.now.family) (numbered (usable_by self.now) self.now.family) low high result }
+    {
+        let index = self.book.index();
+        let mut least = None;
+        for number in index.numbers_of(self.key) {
+            let Some(claim) = index.claim(*number) else {
+                continue;
+            };
+            let last = least.unwrap_or(high);
+            let lesser = self.least_among(low, last, claim.addresses());
+            least = lesser.or(least);
+        }
+        least
+    }
+
+    /// A number from low to high of an address that may be used, before which there is none that may be used, that a claim of the terms'
+    /// group has, and that the key doesn't have. Runs of addresses with a claim on one port of the terms are passed over at once, port by
+    /// port; what is left is tested one by one.
+    fn least_shared(&self, low: u128, high: u128) -> Option<u128>
+        requires { high < 2 ^ width_of self.now.family }
+        ensures { Covers (numbered (is_offered self.now.key.now (group_of self.now.terms.now) (claims_for self.now)) self.now.family)
+            (numbered (usable_by self.now) self.now.family) low high result }
+    {
+        if self.terms.terms().key.as_str().is_empty() {
             return None;
         }
-        from = number + 1;
-    }
-    None
-}
-
-/// The least address of the range, which is one of the pool's, that may be used: the least of those that no claim has, of those that
-/// the key has already, and of those that a claim of its group has.
-fn least_number(
-    book: &Book,
-    pool: &CompiledPool,
-    key: &Key,
-    terms: &GroupedTerms,
-    family: Family,
-    span: &Span,
-) -> Option<Address>
-    requires family { span.now.family ≡ family }
-    requires listed { Contains pool.now.spans span.now }
-    ensures { result ≡ option_map (address_of family) (least_between (numbered (usable book.now.claims key.now terms.now pool.now) family) span.now.low (span.now.high + 1 - span.now.low)) }
-{
-    let free = first_free(book.index(), pool, family, span.low, span.high);
-    let last = free.unwrap_or(span.high);
-    let own = least_own(book, pool, key, terms, family, span.low, last);
-    let last = own.unwrap_or(last);
-    let shared = least_shared(book, pool, key, terms, family, span.low, last);
-    let number = shared.or(own).or(free)?;
-    Some(Address { family, number })
-}
-
-/// The least address of one range of the pool that may be used.
-fn least_in(
-    book: &Book,
-    pool: &CompiledPool,
-    key: &Key,
-    terms: &GroupedTerms,
-    family: Family,
-    span: &Span,
-) -> Option<Address>
-    requires { Contains pool.now.spans span.now }
-    ensures { result ≡ least_in (usable book.now.claims key.now terms.now pool.now) family span.now }
-{
-    if span.family != family {
-        return None;
-    }
-    least_number(book, pool, key, terms, family, span)
-}
-
-/// The first address of the family that may be used, entry by entry.
-fn least_listed(
-    book: &Book,
-    pool: &CompiledPool,
-    key: &Key,
-    terms: &GroupedTerms,
-    family: Family,
-) -> Option<Address>
-    ensures { result ≡ least_usable book.now.claims key.now terms.now pool.now family }
-{
-    for span in pool.spans.as_slice() {
-        let least = least_in(book, pool, key, terms, family, span);
-        if least.is_some() {
-            return least;
+        let family = self.family;
+        let index = self.book.index();
+        let ports = self.terms.terms().ports.as_slice();
+        let mut from = low;
+        while let Some(shared) = index.first_shared(family, self.terms, from, high) {
+            let number = first_left(index, ports, family, shared, high)?;
+            let address = Address { family, number };
+            if may_use(self.book, self.pool, self.key, self.terms, &address) {
+                return Some(number);
+            }
+            if number == high {
+                return None;
+            }
+            from = number + 1;
         }
+        None
     }
-    None
+
+    /// The least address of the range, which is one of the pool's, that may be used: the least of those that no claim has, of those that
+    /// the key has already, and of those that a claim of its group has.
+    fn least_number(&self, span: &Span) -> Option<Address>
+        requires family { span.now.family ≡ self.now.family }
+        requires listed { Contains self.now.pool.now.spans span.now }
+        ensures { result ≡ option_map (address_of self.now.family)
+            (least_between (numbered (usable_by self.now) self.now.family) span.now.low (span.now.high + 1 - span.now.low)) }
+    {
+        let family = self.family;
+        let free = first_free(self.book.index(), self.pool, family, span.low, span.high);
+        let last = free.unwrap_or(span.high);
+        let own = self.least_own(span.low, last);
+        let last = own.unwrap_or(last);
+        let shared = self.least_shared(span.low, last);
+        let number = shared.or(own).or(free)?;
+        Some(Address { family, number })
+    }
+
+    /// The least address of one range of the pool that may be used.
+    fn least_in(&self, span: &Span) -> Option<Address>
+        requires { Contains self.now.pool.now.spans span.now }
+        ensures { result ≡ least_in (usable_by self.now) self.now.family span.now }
+    {
+        if span.family != self.family {
+            return None;
+        }
+        self.least_number(span)
+    }
+
+    /// The first address of the family that may be used, entry by entry.
+    fn least_listed(&self) -> Option<Address>
+        ensures { result ≡ least_usable (claims_for self.now) self.now.key.now self.now.terms.now self.now.pool.now self.now.family }
+    {
+        for span in self.pool.spans.as_slice() {
+            let least = self.least_in(span);
+            if least.is_some() {
+                return least;
+            }
+        }
+        None
+    }
 }
 
 /// The first address of the family that may be used: entries as listed, addresses of an entry ascending. It takes no
@@ -290,7 +259,14 @@ pub fn least_usable(
     ensures least { IfSome result (IsLeast (holders book.now.claims) key.now terms.now pool.now family) }
     ensures none { IfNone result ((a : AddressValue) → ¬ (IsUsableOf (holders book.now.claims) key.now terms.now pool.now family a)) }
 {
-    least_listed(book, pool, key, terms, family)
+    let search = AddressSearch {
+        book,
+        pool,
+        key,
+        terms,
+        family,
+    };
+    search.least_listed()
 }
 
 /// The first address of each family that may be used, where there is one of each.

@@ -112,9 +112,10 @@ left_free true has shared e = refl
 left_free false false shared e = refl
 left_free false true shared e = absurd (true≢false e)
 
-free_by : (held avoided : Bool) → (not held && not avoided) ≡ true → (held ≡ false) × (not avoided ≡ true)
-free_by false avoided e = (refl, e)
-free_by true avoided e = absurd (true≢false (sym e))
+free_by : (held avoided : Bool) → (not avoided && not held) ≡ true → (held ≡ false) × (not avoided ≡ true)
+free_by false false e = (refl, refl)
+free_by true false e = absurd (true≢false (sym e))
+free_by held true e = absurd (true≢false (sym e))
 
 pub free-usable : (claims : List ClaimValue) (key : Key) (terms : Terms) (pool : CompiledPool) (span : SpanValue) (family : Family) (n : ℕ)
     → Contains pool.spans span → span.family ≡ family → span.low ≤ n → n ≤ span.high
@@ -167,7 +168,7 @@ held_candidate claims key terms pool a c there has left =
 candidate_by : (held : Bool) (claims : List ClaimValue) (key : Key) (terms : Terms) (pool : CompiledPool) (a : AddressValue)
     → held ≡ is_held claims a → not (pool.avoid_buggy && is_buggy a) ≡ true → list_all (leaves key terms a) claims ≡ true → IsCandidate claims key terms pool a
 candidate_by false claims key terms pool a s kept left =
-    inl (inl (and_from (not (is_held claims a)) (not (pool.avoid_buggy && is_buggy a)) (ap not (sym s)) kept))
+    inl (inl (and_from (not (pool.avoid_buggy && is_buggy a)) (not (is_held claims a)) kept (ap not (sym s))))
 candidate_by true claims key terms pool a s kept left =
     let found = any-found (λ (d : ClaimValue). has_address d.holding.addresses a) claims (sym s) in
     held_candidate claims key terms pool a found.0 found.1 found.2 (all-contains (leaves key terms a) claims found.0 left found.1)
@@ -386,17 +387,6 @@ before-more P low from n before here m first below = ⊎_elim (λ less. before m
 pub before-next : (P : ℕ → Type 0) (low from n : ℕ) → ((m : ℕ) → low ≤ m → m < from → P m) → ((m : ℕ) → from ≤ m → m < n → P m) → P n → (m : ℕ) → low ≤ m → m < n + 1 → P m
 before-next P low from n before here last m first below =
     ⊎_elim (λ less. before-more P low from n before here m first less) (λ more. let same : n ≡ m = omega (arith, more, below) in subst P same last) (cases_lt m n)
-
--- by whether a claim has it, and whether the pool avoids it, an address is free
-pub free-held : (claims : List ClaimValue) (pool : CompiledPool) (a : AddressValue) → not (is_held claims a) ≡ false → is_free claims pool a ≡ false
-free-held claims pool a e = rw e refl
-
-pub free-avoided : (claims : List ClaimValue) (pool : CompiledPool) (a : AddressValue) → (pool.avoid_buggy && is_buggy a) ≡ true → is_free claims pool a ≡ false
-free-avoided claims pool a e = false_from_ne_true (is_free claims pool a) (λ free.
-    true≢false (sym e ∙ not-true (pool.avoid_buggy && is_buggy a) (and_parts (not (is_held claims a)) (not (pool.avoid_buggy && is_buggy a)) free).1))
-
-pub free-from : (claims : List ClaimValue) (pool : CompiledPool) (a : AddressValue) → not (is_held claims a) ≡ true → (pool.avoid_buggy && is_buggy a) ≡ false → is_free claims pool a ≡ true
-free-from claims pool a unheld kept = and_from (not (is_held claims a)) (not (pool.avoid_buggy && is_buggy a)) unheld (ap not kept)
 
 -- nothing that another key has is left to terms without a sharing key
 keyless : (terms t : Terms) → eqb (length terms.key) 0 ≡ true → may_share terms t ≡ false

@@ -30,7 +30,7 @@ is_offered key group claims a = is_shared group claims a && not (is_own key clai
 
 -- no claim has the address, and the pool doesn't avoid it
 abbrev pub is_free : List ClaimValue → CompiledPool → AddressValue → Bool
-is_free claims pool a = not (is_held claims a) && not (pool.avoid_buggy && is_buggy a)
+is_free claims pool a = not (pool.avoid_buggy && is_buggy a) && not (is_held claims a)
 
 -- of the numbers from low to high that are candidates this is the least that passes, or one that passes ahead of each of them
 abbrev pub Covers : (ℕ → Bool) → (ℕ → Bool) → ℕ → ℕ → Option ℕ → Type 0

@@ -79,21 +79,10 @@ fn first_free(
     low: u128,
     high: u128,
 ) -> Option<u128>
-    requires { high < 2 ^ width_of family }
     ensures some { IfSome result (λ n. IsLeastIn (numbered (is_free (values_of index.now.items) pool.now) family) low high n) }
     ensures none { IfNone result (NonePasses (numbered (is_free (values_of index.now.items) pool.now) family) low high) }
 {
-    let mut from = low;
-    while let Some(number) = index.first_unheld(&Slot::Any, family, from, high) {
-        if !is_avoided(pool, &Address { family, number }) {
-            return Some(number);
-        }
-        if number == high {
-            return None;
-        }
-        from = number + 1;
-    }
-    None
+    index.first_unheld(&Slot::Any, pool.avoid_buggy, family, low, high)
 }
 
 /// A number from low to high before which each address of the family has a claim with one of the ports; `None` where each up to
@@ -111,7 +100,7 @@ fn first_left(
 {
     let mut left = low;
     for port in ports {
-        left = index.first_unheld(&Slot::OfPort(*port), family, left, high)?;
+        left = index.first_unheld(&Slot::OfPort(*port), false, family, left, high)?;
     }
     Some(left)
 }

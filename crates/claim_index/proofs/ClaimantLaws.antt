@@ -6,6 +6,7 @@ use Rattle.std.proofs.lemmas.Bool.Decides.{nat_tests}
 use Rattle.std.specs.Ordering.{nat_cmp}
 use Rattle.std.specs.BTreeMap.{is_at}
 use Rattle.mlb_base.specs.Items.{is_nil}
+use Rattle.number_sets.specs.Blocks.{is_edge, is_open}
 use Rattle.number_sets.specs.Least.{IsLeastIn, NonePasses}
 use Rattle.number_sets.specs.Runs.{RunsValue, has}
 use Rattle.numbered_items.specs.Index.{IndexValue, numbers_under}
@@ -125,16 +126,17 @@ twice : (b : Bool) → not (not b) ≡ b
 twice true = refl
 twice false = refl
 
-unheld : (runs : RunsValue) (claims : IndexValue ℕ) → AreListed runs claims → ◌≡◌ {A = ℕ → Bool} (λ n. not (has runs n)) (λ n. is_nil (numbers_under nat_cmp claims n))
-unheld runs claims are = λ i n. (ap (λ f. not (f n)) are ∙ twice (is_nil (numbers_under nat_cmp claims n))) i
+unheld : (inside : Bool) (runs : RunsValue) (claims : IndexValue ℕ) → AreListed runs claims
+    → ◌≡◌ {A = ℕ → Bool} (is_open inside runs) (λ n. not (inside && is_edge n) && is_nil (numbers_under nat_cmp claims n))
+unheld inside runs claims are = λ i n. not (inside && is_edge n) && (ap (λ f. not (f n)) are ∙ twice (is_nil (numbers_under nat_cmp claims n))) i
 
-pub least-unheld : (runs : RunsValue) (claims : IndexValue ℕ) (found : Option ℕ) (low high : ℕ) → AreListed runs claims
-    → IfSome found (λ n. IsLeastIn (λ m. not (has runs m)) low high n) → IfSome found (λ n. IsLeastIn (λ m. is_nil (numbers_under nat_cmp claims m)) low high n)
-least-unheld runs claims found low high are least = subst (λ (test : ℕ → Bool). IfSome found (λ n. IsLeastIn test low high n)) (unheld runs claims are) least
+pub least-unheld : (inside : Bool) (runs : RunsValue) (claims : IndexValue ℕ) (found : Option ℕ) (low high : ℕ) → AreListed runs claims
+    → IfSome found (λ n. IsLeastIn (is_open inside runs) low high n) → IfSome found (λ n. IsLeastIn (λ m. not (inside && is_edge m) && is_nil (numbers_under nat_cmp claims m)) low high n)
+least-unheld inside runs claims found low high are least = subst (λ (test : ℕ → Bool). IfSome found (λ n. IsLeastIn test low high n)) (unheld inside runs claims are) least
 
-pub none-unheld : (runs : RunsValue) (claims : IndexValue ℕ) (found : Option ℕ) (low high : ℕ) → AreListed runs claims
-    → IfNone found (NonePasses (λ m. not (has runs m)) low high) → IfNone found (NonePasses (λ m. is_nil (numbers_under nat_cmp claims m)) low high)
-none-unheld runs claims found low high are none = subst (λ (test : ℕ → Bool). IfNone found (NonePasses test low high)) (unheld runs claims are) none
+pub none-unheld : (inside : Bool) (runs : RunsValue) (claims : IndexValue ℕ) (found : Option ℕ) (low high : ℕ) → AreListed runs claims
+    → IfNone found (NonePasses (is_open inside runs) low high) → IfNone found (NonePasses (λ m. not (inside && is_edge m) && is_nil (numbers_under nat_cmp claims m)) low high)
+none-unheld inside runs claims found low high are none = subst (λ (test : ℕ → Bool). IfNone found (NonePasses test low high)) (unheld inside runs claims are) none
 
 -- ---- the least number that a claim has
 held : (runs : RunsValue) (claims : IndexValue ℕ) → AreListed runs claims → ◌≡◌ {A = ℕ → Bool} (has runs) (λ n. not (is_nil (numbers_under nat_cmp claims n)))

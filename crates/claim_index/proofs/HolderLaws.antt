@@ -1,14 +1,15 @@
 -- Who has the addresses of one family, and of both, after each change.
-use Rattle.std.proofs.Common.{◌≡◌, ℕ, cond, ◌&&◌, ◌==◌, List, [], refl, sym, ap, subst}
+use Rattle.std.proofs.Common.{◌≡◌, ℕ, Bool, true, false, not, cond, ◌&&◌, ◌==◌, List, [], refl, sym, ap, subst}
 use Rattle.ip_ranges.specs.declared.family.Family.{Family}
 use Rattle.ip_ranges.specs.declared.family.Family.TheVariants.{V4, V6}
-use Rattle.ip_ranges.specs.Values.{AddressValue, same_family}
+use Rattle.ip_ranges.specs.Values.{AddressValue, same_family, is_buggy}
+use Rattle.mlb_base.specs.Items.{is_nil}
 use Rattle.claim_index.specs.declared.slot.Slot.{Slot}
-use Rattle.claim_index.specs.Holders.{HoldersValue, AddressHoldersValue, claims_at, in_slot_at, in_slot, claims_having}
+use Rattle.claim_index.specs.Holders.{HoldersValue, AddressHoldersValue, claims_at, in_slot_at, in_slot, claims_having, address_of, is_open_at, is_open_in}
 
 -- ---- both families
 
-abbrev both : HoldersValue → HoldersValue → AddressHoldersValue
+abbrev pub both : HoldersValue → HoldersValue → AddressHoldersValue
 both four six = record { v4 = four; v6 = six }
 
 -- what is one for each family and number is one for each address
@@ -58,3 +59,17 @@ pub changed-v6 : (change : List ℕ → List ℕ) (slot : Slot) (four six new : 
 changed-v6 change slot four six new family number is listed =
     subst (λ (f : Family). claims_having (both four new) slot ≡ (λ a. changed_at change slot f number (both four six) a.family a.number)) (sym is)
     (λ i a. by-family (λ f. claims_at (in_slot (both four new) slot f)) (changed_at change slot V6 number (both four six)) refl listed a i)
+
+-- ---- addresses of a family that no claim in the slot has, and that aren't avoided
+module _ (avoiding : Bool) (h : AddressHoldersValue) (slot : Slot) where
+  pub unheld-v4 : (family : Family) → family ≡ V4 → ◌≡◌ {A = ℕ → Bool} (is_open_at avoiding (in_slot_at h.v4 slot)) (λ m. is_open_in avoiding h slot (address_of family m))
+  unheld-v4 family is = subst (λ f. ◌≡◌ {A = ℕ → Bool} (is_open_at avoiding (in_slot_at h.v4 slot)) (λ m. is_open_in avoiding h slot (address_of f m))) (sym is) refl
+
+  kept-v6 : (b : Bool) (m : ℕ) → (b && is_buggy (address_of V6 m)) ≡ false
+  kept-v6 true m = refl
+  kept-v6 false m = refl
+
+  pub unheld-v6 : (family : Family) → family ≡ V6 → ◌≡◌ {A = ℕ → Bool} (is_open_at false (in_slot_at h.v6 slot)) (λ m. is_open_in avoiding h slot (address_of family m))
+  unheld-v6 family is =
+      subst (λ f. ◌≡◌ {A = ℕ → Bool} (is_open_at false (in_slot_at h.v6 slot)) (λ m. is_open_in avoiding h slot (address_of f m))) (sym is)
+      (λ i m. not (sym (kept-v6 avoiding m) i) && is_nil (claims_at (in_slot_at h.v6 slot) m))

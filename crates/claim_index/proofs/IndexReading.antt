@@ -8,7 +8,7 @@ use Rattle.std.specs.Ordering.{nat_cmp}
 use Rattle.std.proofs.lemmas.Bool.Decides.{nat_tests}
 use Rattle.std.proofs.lemmas.Bool.{true≢false}
 use Rattle.ip_ranges.specs.declared.family.Family.{Family}
-use Rattle.ip_ranges.specs.Values.{AddressValue, has_address}
+use Rattle.ip_ranges.specs.Values.{AddressValue, has_address, is_buggy}
 use Rattle.kube_model.specs.declared.key.Key.{Key}
 use Rattle.kube_model.specs.declared.record.Record.{Record}
 use Rattle.kube_model.specs.Keys.{same_key}
@@ -21,8 +21,8 @@ use Rattle.claim_index.specs.declared.slot.Slot.{Slot}
 use Rattle.claim_index.specs.declared.slot.Slot.TheVariants.{Any, OfGroup}
 use Rattle.claim_index.specs.Slots.{occupies}
 use Rattle.claim_index.specs.Claims.{ClaimValue, has_claims, loses, claims_it}
-use Rattle.claim_index.specs.Holders.{AddressHoldersValue, claims_having, address_of}
-use Rattle.claim_index.specs.Index.{numbers_of, numbered, numbers_at, is_taken, is_shared, NoneShared}
+use Rattle.claim_index.specs.Holders.{AddressHoldersValue, claims_having, address_of, is_open_in}
+use Rattle.claim_index.specs.Index.{numbers_of, numbered, numbers_at, is_taken, is_open, is_shared, NoneShared}
 use Rattle.claim_index.specs.Reading.{is_claim_under, gives_way, is_of, yields, leaves}
 
 -- ---- numbers and tests
@@ -252,6 +252,7 @@ pub has_claims-is : (key : Key) (items : List (ℕ × ClaimValue)) (numbers : Li
 has_claims-is key items numbers are = ap not (empty-is numbers ∙ ap is_nil are ∙ nil-of key items) ∙ not-not (has_claims key (values_of items))
 
 -- ---- an address has no claim where it has no number
-pub unheld-is : (items : List (ℕ × ClaimValue)) (h : AddressHoldersValue) (slot : Slot) → claims_having h slot ≡ (λ a. numbers_at slot a items) → (family : Family)
-    → ◌≡◌ {A = ℕ → Bool} (λ m. is_nil (claims_having h slot (address_of family m))) (λ m. not (is_taken slot (values_of items) (address_of family m)))
-unheld-is items h slot are family = λ i m. (ap (λ (f : AddressValue → List ℕ). is_nil (f (address_of family m))) are ∙ nil-at (address_of family m) slot items) i
+pub unheld-is : (avoiding : Bool) (items : List (ℕ × ClaimValue)) (h : AddressHoldersValue) (slot : Slot) → claims_having h slot ≡ (λ a. numbers_at slot a items) → (family : Family)
+    → ◌≡◌ {A = ℕ → Bool} (λ m. is_open_in avoiding h slot (address_of family m)) (λ m. is_open avoiding slot (values_of items) (address_of family m))
+unheld-is avoiding items h slot are family =
+    λ i m. not (avoiding && is_buggy (address_of family m)) && (ap (λ (f : AddressValue → List ℕ). is_nil (f (address_of family m))) are ∙ nil-at (address_of family m) slot items) i

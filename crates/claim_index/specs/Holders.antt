@@ -1,12 +1,14 @@
 -- Who has the addresses: by each address the numbers of the claims that have it.
-use Rattle.std.specs.Prelude.{◌≤◌, ◌<◌, ℕ, List, []}
+use Rattle.std.specs.Prelude.{◌≤◌, ◌<◌, ◌&&◌, not, ℕ, Bool, List, []}
 use Rattle.std.specs.List.{Contains}
 use Rattle.std.specs.Map.{lookup}
 use Rattle.std.specs.Option.{unwrap_or}
 use Rattle.std.specs.Ordering.{nat_cmp}
 use Rattle.ip_ranges.specs.declared.family.Family.{Family}
 use Rattle.ip_ranges.specs.declared.family.Family.TheVariants.{V4, V6}
-use Rattle.ip_ranges.specs.Values.{AddressValue}
+use Rattle.ip_ranges.specs.Values.{AddressValue, is_buggy}
+use Rattle.mlb_base.specs.Items.{is_nil}
+use Rattle.number_sets.specs.Blocks.{is_edge}
 use Rattle.numbered_items.specs.Index.{IndexValue, numbers_under, room_under}
 use Rattle.claim_index.specs.declared.slot.Slot.{Slot}
 use Rattle.claim_index.specs.Slots.{same_slot}
@@ -33,6 +35,10 @@ claims_at c n = numbers_under nat_cmp c.claims n
 abbrev pub claim_room_at : ClaimantsValue → ℕ → ℕ
 claim_room_at c n = room_under nat_cmp c.claims n
 
+-- no claim is listed at the address, and it is no edge where it is sought inside blocks
+abbrev pub is_open_at : Bool → ClaimantsValue → ℕ → Bool
+is_open_at inside c n = not (inside && is_edge n) && is_nil (claims_at c n)
+
 -- no claim is listed, and there is no room for one
 abbrev pub no_claimants : ClaimantsValue
 no_claimants = record { claims = []; room = 0 }
@@ -53,6 +59,10 @@ in_slot h slot family = in_slot_at (of_family h family) slot
 -- the numbers of the claims in the slot that have the address
 abbrev pub claims_having : AddressHoldersValue → Slot → AddressValue → List ℕ
 claims_having h slot a = claims_at (in_slot h slot a.family) a.number
+
+-- no claim in the slot has the address, and it isn't a buggy one where those are avoided
+abbrev pub is_open_in : Bool → AddressHoldersValue → Slot → AddressValue → Bool
+is_open_in avoiding h slot a = not (avoiding && is_buggy a) && is_nil (claims_having h slot a)
 
 -- how many claims more may be listed there without memory
 abbrev pub claim_room : AddressHoldersValue → Slot → AddressValue → ℕ

@@ -4,7 +4,7 @@ use Rattle.std.specs.List.{Contains, list_any, slice_get}
 use Rattle.std.specs.Map.{lookup, keys_of, values_of}
 use Rattle.std.specs.Option.{option_and_then, option_map_or}
 use Rattle.ip_ranges.specs.declared.family.Family.{Family}
-use Rattle.ip_ranges.specs.Values.{AddressValue, has_address}
+use Rattle.ip_ranges.specs.Values.{AddressValue, has_address, is_buggy}
 use Rattle.kube_model.specs.declared.key.Key.{Key}
 use Rattle.kube_model.specs.Keys.{key_cmp, same_key}
 use Rattle.numbered_items.specs.Index.{IndexValue, numbers_under}
@@ -47,6 +47,10 @@ is_shared group claims a = list_any (λ c. is_grouped group c.terms && has_addre
 -- a claim that is listed in the slot has the address
 abbrev pub is_taken : Slot → List ClaimValue → AddressValue → Bool
 is_taken slot claims a = list_any (λ c. occupies slot c && has_address c.holding.addresses a) claims
+
+-- no claim that is listed in the slot has the address, and it isn't a buggy one where those are avoided
+abbrev pub is_open : Bool → Slot → List ClaimValue → AddressValue → Bool
+is_open avoiding slot claims a = not (avoiding && is_buggy a) && not (is_taken slot claims a)
 
 -- the terms of each claim have a group
 abbrev pub HaveGroups : List ClaimValue → Type 0

@@ -4,7 +4,7 @@ ghost use Rattle.ip_ranges.specs.declared.family.Family.{Family};
 ghost use Rattle.ip_ranges.specs.Values.{AddressValue, same_address};
 ghost use Rattle.mlb_base.specs.Items.{is_nil};
 ghost use Rattle.claim_index.specs.declared.slot.Slot.{Slot};
-ghost use Rattle.claim_index.specs.Holders.{in_slot, claims_having, claim_room, address_room, address_of};
+ghost use Rattle.claim_index.specs.Holders.{in_slot, claims_having, claim_room, address_room, address_of, is_open_in};
 ghost use Rattle.claim_index.specs.Slots.{same_slot};
 ghost use Rattle.number_sets.specs.Least.{IsLeastIn, NonePasses};
 
@@ -99,20 +99,23 @@ impl AddressHolders {
         }
     }
 
-    /// The least number from low to high of an address of the family that no claim in the slot has.
+    /// The least number from low to high of an address of the family that no claim in the slot has, and that isn't a buggy one where
+    /// those are avoided.
     pub(crate) fn first_unheld(
         &self,
         slot: &Slot,
+        avoiding: bool,
         family: Family,
         low: u128,
         high: u128,
     ) -> Option<u128>
-        ensures some { IfSome result (λ n. IsLeastIn (λ m. is_nil (claims_having self.now slot.now (address_of family m))) low high n) }
-        ensures none { IfNone result (NonePasses (λ m. is_nil (claims_having self.now slot.now (address_of family m))) low high) }
+        ensures some { IfSome result (λ n. IsLeastIn (λ m. is_open_in avoiding self.now slot.now (address_of family m)) low high n) }
+        ensures none { IfNone result (NonePasses (λ m. is_open_in avoiding self.now slot.now (address_of family m)) low high) }
     {
         match family {
-            Family::V4 => self.v4.first_unheld(slot, low, high),
-            Family::V6 => self.v6.first_unheld(slot, low, high),
+            // An IPv4 address is buggy at an edge of its block of 256.
+            Family::V4 => self.v4.first_unheld(slot, avoiding, low, high),
+            Family::V6 => self.v6.first_unheld(slot, false, low, high),
         }
     }
 

@@ -1,11 +1,11 @@
 //! The claims that are listed at the addresses of one family.
 ghost use Rattle.std.specs.Prelude.{◌≡◌, ◌≤◌, ◌<◌, ◌+◌, ◌==◌, ℕ, ◌∷◌, ◌++◌, [], not, filter, if◌then◌else◌, IsTrue, OnOk, IfSome, IfNone};
 ghost use Rattle.mlb_base.specs.Items.{is_nil};
-ghost use Rattle.claim_index.specs.Holders.{claims_at, claim_room_at};
+ghost use Rattle.claim_index.specs.Holders.{claims_at, claim_room_at, is_open_at};
 ghost use Rattle.number_sets.specs.Least.{IsLeastIn, NonePasses};
 
 use mlb_base::NoMemory;
-use number_sets::NumberRuns;
+use number_sets::BlockSet;
 use numbered_items::InvertedIndex;
 use std::alloc::Global;
 use std::marker::Model;
@@ -15,7 +15,7 @@ use std::marker::Model;
 #[derive(Drop)]
 pub(crate) struct Claimants {
     by_number: InvertedIndex<u128>,
-    held: NumberRuns,
+    held: BlockSet,
 }
 
 impl Model for Claimants {
@@ -34,13 +34,13 @@ impl Model for Claimants {
 }
 
 impl Claimants {
-    /// No claim is listed. It takes no memory.
-    pub(crate) fn new(alloc: Global) -> Claimants
+    /// No claim is listed. It takes no memory. It is said whether addresses are sought here inside their blocks.
+    pub(crate) fn new(alloc: Global, inside: bool) -> Claimants
         ensures numbers { claims_at result ≡ (λ n. []) }
     {
         Claimants {
             by_number: InvertedIndex::new(alloc),
-            held: NumberRuns::new(alloc),
+            held: BlockSet::new(alloc, inside),
         }
     }
 
@@ -85,12 +85,12 @@ impl Claimants {
         self.by_number.numbers(&number)
     }
 
-    /// The least address from low to high at which no claim is listed.
-    pub(crate) fn first_unheld(&self, low: u128, high: u128) -> Option<u128>
-        ensures some { IfSome result (λ n. IsLeastIn (λ m. is_nil (claims_at self.now m)) low high n) }
-        ensures none { IfNone result (NonePasses (λ m. is_nil (claims_at self.now m)) low high) }
+    /// The least address from low to high at which no claim is listed, and that is no edge where it is sought inside blocks.
+    pub(crate) fn first_unheld(&self, inside: bool, low: u128, high: u128) -> Option<u128>
+        ensures some { IfSome result (λ n. IsLeastIn (is_open_at inside self.now) low high n) }
+        ensures none { IfNone result (NonePasses (is_open_at inside self.now) low high) }
     {
-        self.held.first_absent(low, high)
+        self.held.first_absent(inside, low, high)
     }
 
     /// The least address from low to high at which a claim is listed.

@@ -2,7 +2,7 @@
 ghost use Rattle.std.specs.Prelude.{◌≡◌, ◌≤◌, ◌<◌, ◌+◌, ◌==◌, ℕ, ◌∷◌, ◌++◌, [], false, not, filter, if◌then◌else◌, OnOk, IfSome, IfNone};
 ghost use Rattle.mlb_base.specs.Items.{is_nil};
 ghost use Rattle.claim_index.specs.declared.slot.Slot.{Slot};
-ghost use Rattle.claim_index.specs.Holders.{claims_at, claim_room_at, in_slot_at};
+ghost use Rattle.claim_index.specs.Holders.{claims_at, claim_room_at, in_slot_at, is_open_at};
 ghost use Rattle.claim_index.specs.Slots.{same_slot};
 ghost use Rattle.number_sets.specs.Least.{IsLeastIn, NonePasses};
 
@@ -52,7 +52,7 @@ impl Holders {
             return claimants.reserve(number, more);
         }
         let made = slot.copy()?;
-        let mut claimants = Claimants::new(self.alloc);
+        let mut claimants = Claimants::new(self.alloc, slot.is_any());
         claimants.reserve(number, more)?;
         let _none = self.by_slot.insert(made, claimants)?;
         Ok(())
@@ -108,15 +108,24 @@ impl Holders {
         }
     }
 
-    /// The least address from low to high at which no claim is listed in the slot.
-    pub(crate) fn first_unheld(&self, slot: &Slot, low: u128, high: u128) -> Option<u128>
-        ensures some { IfSome result (λ n. IsLeastIn (λ m. is_nil (claims_at (in_slot_at self.now slot.now) m)) low high n) }
-        ensures none { IfNone result (NonePasses (λ m. is_nil (claims_at (in_slot_at self.now slot.now) m)) low high) }
+    /// The least address from low to high at which no claim is listed in the slot, and that is no edge where it is sought inside
+    /// blocks.
+    pub(crate) fn first_unheld(
+        &self,
+        slot: &Slot,
+        inside: bool,
+        low: u128,
+        high: u128,
+    ) -> Option<u128>
+        ensures some { IfSome result (λ n. IsLeastIn (is_open_at inside (in_slot_at self.now slot.now)) low high n) }
+        ensures none { IfNone result (NonePasses (is_open_at inside (in_slot_at self.now slot.now)) low high) }
     {
         match self.by_slot.get(slot) {
-            Some(claimants) => claimants.first_unheld(low, high),
-            None if low <= high => Some(low),
-            None => None,
+            Some(claimants) => claimants.first_unheld(inside, low, high),
+            None => {
+                let none = Claimants::new(self.alloc, false);
+                none.first_unheld(inside, low, high)
+            }
         }
     }
 

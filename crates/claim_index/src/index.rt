@@ -11,7 +11,7 @@ ghost use Rattle.mlb_base.specs.Items.{is_nil};
 ghost use Rattle.claim_index.specs.Claims.{AreAssigned, loses, claims_it, has_claims};
 ghost use Rattle.claim_index.specs.Room.{HasRoomFor};
 ghost use Rattle.claim_index.specs.Groups.{group_of};
-ghost use Rattle.claim_index.specs.Index.{numbers_of, first_but, first_other, is_taken, NoneShared};
+ghost use Rattle.claim_index.specs.Index.{numbers_of, first_but, first_other, is_open, NoneShared};
 ghost use Rattle.claim_index.specs.Reading.{is_claim_under, gives_way, is_of, yields, is_odd, belongs, leaves};
 ghost use Rattle.claim_index.specs.Holders.{address_of};
 ghost use Rattle.number_sets.specs.Least.{IsLeastIn, NonePasses};
@@ -218,12 +218,20 @@ impl ClaimIndex {
             .all(|number| gives_way(claims, *number, key, terms))
     }
 
-    /// The least number from low to high of an address of the family that no claim in the slot has.
-    pub fn first_unheld(&self, slot: &Slot, family: Family, low: u128, high: u128) -> Option<u128>
-        ensures some { IfSome result (λ n. IsLeastIn (λ m. not (is_taken slot.now (values_of self.now.items) (address_of family m))) low high n) }
-        ensures none { IfNone result (NonePasses (λ m. not (is_taken slot.now (values_of self.now.items) (address_of family m))) low high) }
+    /// The least number from low to high of an address of the family that no claim in the slot has, and that isn't a buggy one where
+    /// those are avoided; in the logarithm of the number of addresses.
+    pub fn first_unheld(
+        &self,
+        slot: &Slot,
+        avoiding: bool,
+        family: Family,
+        low: u128,
+        high: u128,
+    ) -> Option<u128>
+        ensures some { IfSome result (λ n. IsLeastIn (λ m. is_open avoiding slot.now (values_of self.now.items) (address_of family m)) low high n) }
+        ensures none { IfNone result (NonePasses (λ m. is_open avoiding slot.now (values_of self.now.items) (address_of family m)) low high) }
     {
-        self.holders.first_unheld(slot, family, low, high)
+        self.holders.first_unheld(slot, avoiding, family, low, high)
     }
 
     /// A number from low to high before which no address of the family has a claim of the terms' group; `None` where none up to high has.

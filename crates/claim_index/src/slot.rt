@@ -1,4 +1,8 @@
 //! In what claims are listed at an address.
+ghost use Rattle.std.specs.Prelude.{◌≡◌};
+ghost use Rattle.claim_index.specs.declared.slot.Slot.TheVariants.{Any};
+ghost use Rattle.claim_index.specs.Slots.{same_slot};
+
 use kube_labels::Text;
 use kube_model::Port;
 use mlb_base::{NoMemory, TryCopy};
@@ -12,6 +16,15 @@ pub enum Slot {
     OfPort(Port),
     /// The list of those of this group.
     OfGroup(Text),
+}
+
+impl Slot {
+    /// Whether it is the list of all claims.
+    pub(crate) fn is_any(&self) -> bool
+        ensures { result ≡ same_slot self.now Any }
+    {
+        matches!(self, Slot::Any)
+    }
 }
 
 impl TryCopy for Slot {

@@ -1,3 +1,4 @@
+pub mod Blocks
 pub mod Least
 pub mod RunLists
 pub mod Runs

@@ -1,6 +1,8 @@
 //! Sets of numbers, as sorted runs.
 #![tactic(auto)]
 
+mod blocks;
 mod runs;
 
+pub use blocks::BlockSet;
 pub use runs::NumberRuns;

@@ -64,6 +64,13 @@ impl NumberRuns {
         Ok(())
     }
 
+    /// Whether there is room for a number more.
+    pub fn has_room(&self) -> bool
+        ensures { IsTrue result → 0 < self.now.room }
+    {
+        self.count < self.runs.capacity()
+    }
+
     /// Puts the number in. There is room for it, so it takes no memory.
     pub fn insert(&mut self, number: u128)
         requires { 0 < self.old.room }

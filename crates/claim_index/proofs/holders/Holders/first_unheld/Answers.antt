@@ -1,7 +1,8 @@
-use Rattle.std.proofs.Common.{IfSome, IfNone, ap, arith}
+use Rattle.std.proofs.Common.{ℕ, List, not, ◌&&◌, IfSome, IfNone, sym, ap, ◌∙◌, subst}
 use Rattle.mlb_base.specs.Items.{is_nil}
+use Rattle.number_sets.specs.Blocks.{is_edge}
 use Rattle.number_sets.specs.Least.{IsLeastIn, NonePasses}
-use Rattle.claim_index.specs.Holders.{claims_at}
+use Rattle.claim_index.specs.Holders.{claims_at, is_open_at}
 use Rattle.claim_index.proofs.SlotLaws.{slot-absent, of-found}
 use Rattle.claim_index.proofs.holders.Holders.first_unheld.Goals as goal
 
@@ -9,19 +10,22 @@ pub returns-in-Some-clause-some : goal.returns-in-Some-clause-some
 returns-in-Some-clause-some c =
     rw (← c.self.view_is)
     (of-found c.args.slot.now c.self.inside.by_slot.entries c.in-Some.claimants.now c.in-Some.ensures.value
-    (λ claimants. IfSome c.first_unheld.result (λ n. IsLeastIn (λ m. is_nil (claims_at claimants m)) c.args.low c.args.high n)) c.first_unheld.ensures.some)
+    (λ claimants. IfSome c.first_unheld.result (λ n. IsLeastIn (is_open_at c.args.inside claimants) c.args.low c.args.high n)) c.first_unheld.ensures.some)
 
 pub returns-in-Some-clause-none : goal.returns-in-Some-clause-none
 returns-in-Some-clause-none c =
     rw (← c.self.view_is)
     (of-found c.args.slot.now c.self.inside.by_slot.entries c.in-Some.claimants.now c.in-Some.ensures.value
-    (λ claimants. IfNone c.first_unheld.result (NonePasses (λ m. is_nil (claims_at claimants m)) c.args.low c.args.high)) c.first_unheld.ensures.none)
+    (λ claimants. IfNone c.first_unheld.result (NonePasses (is_open_at c.args.inside claimants) c.args.low c.args.high)) c.first_unheld.ensures.none)
 
 pub returns-in-None-clause-some : goal.returns-in-None-clause-some
 returns-in-None-clause-some c =
-    rw (← c.self.view_is) (
-      omega arith,
-      omega (arith, c.if-low-high.true),
-      ap (λ claimants. is_nil (claims_at claimants c.args.low)) (slot-absent c.args.slot.now c.self.inside.by_slot.entries c.in-None.ensures.value),
-      λ m from below. absurd (omega (arith, from, below)),
-    )
+    rw (← c.self.view_is)
+    (subst (λ (f : ℕ → List ℕ). IfSome c.first_unheld-in-None.result (λ n. IsLeastIn (λ m. not (c.args.inside && is_edge m) && is_nil (f m)) c.args.low c.args.high n))
+    (c.new-none.ensures.numbers ∙ sym (ap claims_at (slot-absent c.args.slot.now c.self.inside.by_slot.entries c.in-None.ensures.value))) c.first_unheld-in-None.ensures.some)
+
+pub returns-in-None-clause-none : goal.returns-in-None-clause-none
+returns-in-None-clause-none c =
+    rw (← c.self.view_is)
+    (subst (λ (f : ℕ → List ℕ). IfNone c.first_unheld-in-None.result (NonePasses (λ m. not (c.args.inside && is_edge m) && is_nil (f m)) c.args.low c.args.high))
+    (c.new-none.ensures.numbers ∙ sym (ap claims_at (slot-absent c.args.slot.now c.self.inside.by_slot.entries c.in-None.ensures.value))) c.first_unheld-in-None.ensures.none)

@@ -2,6 +2,7 @@
 import asyncio
 import contextlib
 import json
+import time
 import urllib.parse
 
 LONGEST = 2 ** 24
@@ -72,8 +73,9 @@ class Api:
             writer.close()
 
     def head(self, method, path, body, kind):
-        lines = [f"{method} {path} HTTP/1.1", f"Host: {self.host}:{self.port}", f"User-Agent: {self.agent}", "Accept: application/json",
-                 f"Content-Type: {kind}", f"Content-Length: {len(body)}", "Connection: close", "", ""]
+        """The head of a request. Its number grows with the time, so that a server's log shows which of two came first, whichever is read first."""
+        lines = [f"{method} {path} HTTP/1.1", f"Host: {self.host}:{self.port}", f"User-Agent: {self.agent}", f"X-Request-Id: {time.monotonic_ns()}",
+                 "Accept: application/json", f"Content-Type: {kind}", f"Content-Length: {len(body)}", "Connection: close", "", ""]
         return "\r\n".join(lines).encode()
 
 

@@ -41,10 +41,11 @@ class Faults:
 
 
 class Watch:
-    """What a watch was given so far. `sent` is the version up to which its changes were written, or are about to be."""
+    """What a watch was given so far. `sent` is the version up to which its changes were written, or are about to be. Of two of an agent the one that was
+    asked for later has the greater `number`; a server that is slow may read them the other way round."""
 
-    def __init__(self, agent, kind, listed):
-        self.agent, self.kind, self.listed = agent, kind, listed  # `listed`: the version of its list, where it began with one
+    def __init__(self, agent, kind, listed, number=0):
+        self.agent, self.kind, self.listed, self.number = agent, kind, listed, number  # `listed`: the version of its list, where it began with one
         self.sent, self.ended, self.began = listed or 0, listed is None, time.monotonic()
 
 
@@ -288,7 +289,9 @@ class Stream:
         with store.lock:
             items, begun = store.list(self.kind, self.server.faults.of_list(self.kind) if marked else 0)
             listed, missing = store.version, store.since(begun)
-            self.watch = Watch(self.handler.headers.get("User-Agent", ""), self.kind, listed if version is None else None)
+            headers = self.handler.headers
+            number = headers.get("X-Request-Id", "")
+            self.watch = Watch(headers.get("User-Agent", ""), self.kind, listed if version is None else None, int(number) if number.isdigit() else 0)
             self.watch.sent = listed if version is None else version
             self.server.watches.append(self.watch)
             for told in self.server.on_watch:

@@ -22,7 +22,7 @@ class Shown:
 
     def __init__(self):
         self.versions, self.states = [0], [{}]
-        self.watches = []
+        self.watches, self.number = [], 0
 
     def add(self, change):
         state = dict(self.states[-1])
@@ -126,6 +126,9 @@ class Judge:
         if watch.agent != self.agent or kind not in self.shown:
             return
         shown = self.shown[kind]
+        if watch.number < shown.number:
+            return  # it was given up before the one that is there was asked for
+        shown.number = watch.number
         if watch.listed is None:
             shown.watches.append(watch)
             return

@@ -20,7 +20,7 @@ use Rattle.bgp_routes.specs.declared.contributors.Aggregate.{Aggregate}
 use Rattle.bgp_routes.specs.declared.held.Advertisement.{Advertisement}
 use Rattle.bgp_routes.specs.Contribution.{Counts, IsContribution, contribution}
 use Rattle.bgp_routes.specs.Contributors.{aggregate_of, contributes, is_own, may_stand}
-use Rattle.bgp_routes.specs.Held.{advertisement_of, choice_at, choice_of, hears, is_chosen, is_set, peer_by, pools_in, pools_of, prefix_of}
+use Rattle.bgp_routes.specs.Held.{advertisement_of, choice_at, choice_of, receives, is_chosen, is_set, peer_by, pools_in, pools_of, prefix_of}
 use Rattle.bgp_routes.specs.Parts.{bgp_in, bgp_of}
 use Rattle.bgp_routes.specs.Placed.{place_cmp, place_of}
 use Rattle.bgp_routes.specs.Routes.{counts, is_for}
@@ -98,7 +98,7 @@ module _ (v : ViewValue) (node : List ℕ) (both : Bool) where
     chosen-at false n a adv at announced e = absurd (no-flag n e)
 
     contribution-by : (config : Option ConfigValue) → v.held.config ≡ config → (n : ℕ) (a : AddressValue) (adv : CompiledBgp) → slice_get (bgp_in config) n ≡ Some adv → Counts both a.family
-        → Chosen config a adv → hears labels peer adv ≡ true → IsContribution v node peer both (contribution peer a adv)
+        → Chosen config a adv → receives labels peer adv ≡ true → IsContribution v node peer both (contribution peer a adv)
     contribution-by None in_force n a adv at counted chosen heard = absurd (let wrong : None ≡ Some adv = at in cc)
     contribution-by (Some config) in_force n a adv at counted chosen heard =
         let hear = and_parts (selects peer.node_selectors labels) (is_for peer adv) heard in
@@ -121,7 +121,7 @@ module _ (v : ViewValue) (node : List ℕ) (both : Bool) where
           is = refl;
         }
 
-    pub contributes-listed : (g : Aggregate) (a : AddressValue) (adv : CompiledBgp) → slice_get bgp g.advertisement ≡ Some adv → contributes v node both g a ≡ true → hears labels peer adv ≡ true
+    pub contributes-listed : (g : Aggregate) (a : AddressValue) (adv : CompiledBgp) → slice_get bgp g.advertisement ≡ Some adv → contributes v node both g a ≡ true → receives labels peer adv ≡ true
         → IsContribution v node peer both (contribution peer a adv)
     contributes-listed g a adv at e heard =
         let parts = and_parts (may_stand both (map advertisement_of bgp) g a) (is_set (choice_at v node a) g.advertisement) e in
@@ -135,7 +135,7 @@ module _ (v : ViewValue) (node : List ℕ) (both : Bool) where
       pub at : slice_get bgp place ≡ Some adv
       pub address : AddressValue
       pub contributes : contributes v node both (aggregate_of place (advertisement_of adv) address) address ≡ true
-      pub heard : hears labels peer adv ≡ true
+      pub heard : receives labels peer adv ≡ true
       pub is : c ≡ contribution peer address adv
 
     chosen-flag : (a : AddressValue) (pool : CompiledPool) (n : ℕ) (adv : CompiledBgp) → announced_from v a node ≡ true → pool_with (pools_of v) a ≡ Some pool → slice_get bgp n ≡ Some adv
@@ -173,6 +173,6 @@ module _ (v : ViewValue) (node : List ℕ) (both : Bool) where
           is = by.is;
         }
 
-    -- whether the peer hears an advertisement, by its place
-    pub hears-at : (n : ℕ) (adv : CompiledBgp) → slice_get bgp n ≡ Some adv → is_set (peer_by labels bgp peer).hears n ≡ hears labels peer adv
-    hears-at n adv at = flag-at (hears labels peer) bgp n adv at
+    -- whether the peer receives an advertisement, by its place
+    pub receives-at : (n : ℕ) (adv : CompiledBgp) → slice_get bgp n ≡ Some adv → is_set (peer_by labels bgp peer).receives n ≡ receives labels peer adv
+    receives-at n adv at = flag-at (receives labels peer) bgp n adv at

@@ -17,22 +17,22 @@ use Rattle.speaker_view.proofs.AddressOrder.{address_exact, address_total}
 use Rattle.bgp_updates.specs.declared.route.Terms.{Terms}
 use Rattle.bgp_updates.specs.Received.{same_prefix}
 use Rattle.bgp_updates.specs.Tables.{IsTable, before, families_before, numbers_before}
-use Rattle.bgp_routes.specs.contracts.uniting.PlaceOrd.TheImpl as derived
-use Rattle.bgp_routes.specs.declared.uniting.Place.{Place}
+use Rattle.bgp_routes.specs.contracts.uniting.PrefixKeyOrd.TheImpl as derived
+use Rattle.bgp_routes.specs.declared.uniting.PrefixKey.{PrefixKey}
 use Rattle.bgp_routes.specs.Placed.{ArePlaced, place_cmp, place_of, united_with}
 use Rattle.bgp_routes.specs.Uniting.{with_contribution}
 use Rattle.bgp_routes.proofs.Placing.{stays}
 
 abbrev Entries : Type 0
-Entries = List (Place × (PrefixValue × Terms))
+Entries = List (PrefixKey × (PrefixValue × Terms))
 
 -- ---- the order of places
 pub place_cmp-total : IsTotalOrder place_cmp
-place_cmp-total = then_total (on_total (λ (p : Place). p.first) address_total) (on_total (λ (p : Place). p.length) nat_cmp_total)
+place_cmp-total = then_total (on_total (λ (p : PrefixKey). p.first) address_total) (on_total (λ (p : PrefixKey). p.length) nat_cmp_total)
 
 pub place_cmp-exact : CmpEqualImpliesEq place_cmp
 place_cmp-exact a b e =
-    let at : AddressValue × ℕ → Place = λ p. record { first = p.0; length = p.1 } in
+    let at : AddressValue × ℕ → PrefixKey = λ p. record { first = p.0; length = p.1 } in
     ap at (exact_pairs address_cmp nat_cmp address_exact exact_unsigned (a.first, a.length) (b.first, b.length) e)
 
 -- it is the one by which the code compares
@@ -78,7 +78,7 @@ before-by-place : (p q : PrefixValue) → before p q ≡ is_less (place_cmp (pla
 before-by-place p q = families-before p.family q.family p.number q.number p.length q.length
 
 -- ---- the route that stands at the place
-found-by : (r : Ordering) (e : Place × (PrefixValue × Terms)) (rest : Option (PrefixValue × Terms)) (place : Place) (route : PrefixValue × Terms) → place_cmp place e.0 ≡ r → e.0 ≡ place_of e.1.0
+found-by : (r : Ordering) (e : PrefixKey × (PrefixValue × Terms)) (rest : Option (PrefixValue × Terms)) (place : PrefixKey) (route : PrefixValue × Terms) → place_cmp place e.0 ≡ r → e.0 ≡ place_of e.1.0
     → (rest ≡ Some route → place_of route.0 ≡ place) → cond (is_eq r) (Some e.1) rest ≡ Some route → place_of route.0 ≡ place
 found-by Less e rest place route is own later found = later found
 found-by Equal e rest place route is own later found =
@@ -86,7 +86,7 @@ found-by Equal e rest place route is own later found =
     ap (λ (r : PrefixValue × Terms). place_of r.0) (sym first) ∙ sym own ∙ sym (place_cmp-exact place e.0 is)
 found-by Greater e rest place route is own later found = later found
 
-found-place : (entries : Entries) (place : Place) (route : PrefixValue × Terms) → ArePlaced entries → lookup (is_at (place_cmp place)) entries ≡ Some route → place_of route.0 ≡ place
+found-place : (entries : Entries) (place : PrefixKey) (route : PrefixValue × Terms) → ArePlaced entries → lookup (is_at (place_cmp place)) entries ≡ Some route → place_of route.0 ≡ place
 found-place [] place route placed found = absurd (cc)
 found-place (e ∷ entries) place route placed found =
     found-by (place_cmp place e.0) e (lookup (is_at (place_cmp place)) entries) place route refl placed.0 (found-place entries place route placed.1) found
@@ -97,19 +97,19 @@ united-place None c same = refl
 united-place (Some route) c same = same route refl
 
 -- ---- the entries with the contribution
-placed-by : (r : Ordering) (e : Place × (PrefixValue × Terms)) (entries more : Entries) (place : Place) (route : PrefixValue × Terms)
+placed-by : (r : Ordering) (e : PrefixKey × (PrefixValue × Terms)) (entries more : Entries) (place : PrefixKey) (route : PrefixValue × Terms)
     → place_cmp place e.0 ≡ r → place ≡ place_of route.0 → ArePlaced (e ∷ entries) → ArePlaced more
     → ArePlaced (match_ordering r ((place, route) ∷ e ∷ entries) ((e.0, route) ∷ entries) (e ∷ more))
 placed-by Less e entries more place route is own placed ih = (own, placed)
 placed-by Equal e entries more place route is own placed ih = (sym (place_cmp-exact place e.0 is) ∙ own, placed.1)
 placed-by Greater e entries more place route is own placed ih = (placed.0, ih)
 
-stay-placed : (entries : Entries) (place : Place) (route : PrefixValue × Terms) → place ≡ place_of route.0 → ArePlaced entries → ArePlaced (insert_entry place_cmp entries place route)
+stay-placed : (entries : Entries) (place : PrefixKey) (route : PrefixValue × Terms) → place ≡ place_of route.0 → ArePlaced entries → ArePlaced (insert_entry place_cmp entries place route)
 stay-placed [] place route own placed = (own, tt)
 stay-placed (e ∷ entries) place route own placed =
     placed-by (place_cmp place e.0) e entries (insert_entry place_cmp entries place route) place route refl own placed (stay-placed entries place route own placed.1)
 
-values-by : (r : Ordering) (e : Place × (PrefixValue × Terms)) (entries more : Entries) (place : Place) (c : PrefixValue × Terms) (found : Option (PrefixValue × Terms))
+values-by : (r : Ordering) (e : PrefixKey × (PrefixValue × Terms)) (entries more : Entries) (place : PrefixKey) (c : PrefixValue × Terms) (found : Option (PrefixValue × Terms))
     → same_prefix c.0 e.1.0 ≡ is_eq r → before c.0 e.1.0 ≡ is_less r
     → (r ≡ Less → found ≡ None) → (r ≡ Equal → found ≡ Some e.1) → (r ≡ Greater → values_of more ≡ with_contribution (values_of entries) c)
     → values_of (match_ordering r ((place, united_with found c) ∷ e ∷ entries) ((e.0, united_with found c) ∷ entries) (e ∷ more)) ≡ with_contribution (values_of (e ∷ entries)) c
@@ -133,7 +133,7 @@ values-with : (entries : Entries) (c : PrefixValue × Terms) → ArePlaced entri
 unfolding IsStrictlySortedBy
 values-with [] c placed sorted = refl
 values-with (e ∷ entries) c placed sorted =
-    let place : Place = place_of c.0 in
+    let place : PrefixKey = place_of c.0 in
     let found : Option (PrefixValue × Terms) = lookup (is_at (place_cmp place)) (e ∷ entries) in
     let rest : Option (PrefixValue × Terms) = lookup (is_at (place_cmp place)) entries in
     let at : place_cmp place (place_of e.1.0) ≡ place_cmp place e.0 = ap (place_cmp place) (sym placed.0) in
@@ -146,22 +146,22 @@ values-with (e ∷ entries) c placed sorted =
     ∙ values-with entries c placed.1 sorted.1)
 
 -- The route that is made of the contribution is put at its place, by an order of places.
-pub record Puts (R : Place → Place → Ordering) (entries after : Entries) (c made : PrefixValue × Terms) (place : Place) : Type 0 where
+pub record Puts (R : PrefixKey → PrefixKey → Ordering) (entries after : Entries) (c made : PrefixValue × Terms) (place : PrefixKey) : Type 0 where
   pub sorted : IsStrictlySortedBy R (keys_of entries)
   pub is_place : place ≡ place_of c.0
   pub is_made : made ≡ united_with (lookup (is_at (R place)) entries) c
   pub is_after : after ≡ insert_entry R entries place made
 
-module _ (entries after : Entries) (c made : PrefixValue × Terms) (place : Place) (is : IsPrefix c.0) (placed : ArePlaced entries × IsTable (values_of entries))
+module _ (entries after : Entries) (c made : PrefixValue × Terms) (place : PrefixKey) (is : IsPrefix c.0) (placed : ArePlaced entries × IsTable (values_of entries))
     (put : Puts derived.cmp-value.it entries after c made place) where
   puts : Puts place_cmp entries after c made place
-  puts = subst (λ (R : Place → Place → Ordering). Puts R entries after c made place) place_cmp-is put
+  puts = subst (λ (R : PrefixKey → PrefixKey → Ordering). Puts R entries after c made place) place_cmp-is put
 
   pub contribution-placed : values_of after ≡ with_contribution (values_of entries) c
   contribution-placed =
       ap values_of puts.is_after
       ∙ ap (λ (m : PrefixValue × Terms). values_of (insert_entry place_cmp entries place m)) puts.is_made
-      ∙ ap (λ (p : Place). values_of (insert_entry place_cmp entries p (united_with (lookup (is_at (place_cmp p)) entries) c))) puts.is_place
+      ∙ ap (λ (p : PrefixKey). values_of (insert_entry place_cmp entries p (united_with (lookup (is_at (place_cmp p)) entries) c))) puts.is_place
       ∙ values-with entries c placed.0 puts.sorted
 
   made-place : place ≡ place_of made.0

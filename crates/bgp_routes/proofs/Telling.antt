@@ -26,7 +26,7 @@ use Rattle.bgp_routes.specs.Parts.{bgp_of, is_touched, part_of, prefix_under}
 use Rattle.bgp_routes.specs.Placed.{place_of}
 use Rattle.bgp_routes.specs.Routes.{contributions, routes_of}
 use Rattle.bgp_routes.specs.Uniting.{with_contributions}
-use Rattle.bgp_routes.proofs.Contributing.{Contributing, at-in, at-map, contributes-listed, hears-at, listed-contributes, map-at, same-prefix-at, standing-place}
+use Rattle.bgp_routes.proofs.Contributing.{Contributing, at-in, at-map, contributes-listed, receives-at, listed-contributes, map-at, same-prefix-at, standing-place}
 use Rattle.bgp_routes.proofs.Elements.{same_prefix-itself}
 use Rattle.bgp_routes.proofs.Few.{all-from, each-of}
 use Rattle.bgp_routes.proofs.Listing.{contributions-listed, flat-from, flat-in, keep, kept, passed, pass}
@@ -77,7 +77,7 @@ module _ (entries : Entries) (advertisements : List Advertisement) (peer : HeldP
     pub place : ℕ
     pub adv : Advertisement
     pub at : slice_get advertisements place ≡ Some adv
-    pub heard : is_set peer.hears place ≡ true
+    pub heard : is_set peer.receives place ≡ true
     pub stands : (a : AddressValue) × (has entries (aggregate_of place adv address) a ≡ true)
     pub is : c ≡ route_for peer address adv
 
@@ -87,7 +87,7 @@ module _ (entries : Entries) (advertisements : List Advertisement) (peer : HeldP
     pub address : AddressValue
     pub adv : Advertisement
     pub at : slice_get advertisements aggregate.advertisement ≡ Some adv
-    pub heard : is_set peer.hears aggregate.advertisement ≡ true
+    pub heard : is_set peer.receives aggregate.advertisement ≡ true
     pub stands : has entries aggregate address ≡ true
     pub is : c ≡ route_for peer address adv
 
@@ -99,7 +99,7 @@ module _ (entries : Entries) (advertisements : List Advertisement) (peer : HeldP
       let told = told-from entries peer a 0 advertisements c of.own in
       let zero-more : 0 + told.index ≡ told.index = omega arith in
       let is = subst (λ n. is_told entries peer a n told.adv ≡ true) zero-more told.told in
-      let both = and_parts (is_set peer.hears told.index) (is_some (one_of entries (aggregate_of told.index told.adv a))) is in
+      let both = and_parts (is_set peer.receives told.index) (is_some (one_of entries (aggregate_of told.index told.adv a))) is in
       let one = there-is (one_of entries (aggregate_of told.index told.adv a)) both.1 in (
         record {
           address = a;
@@ -116,13 +116,13 @@ module _ (entries : Entries) (advertisements : List Advertisement) (peer : HeldP
   pub source-part : (addresses : List AddressValue) (c : PrefixValue × Terms) (s : Source c) → IsIn addresses s.address → IsIn (flat_map (of_address entries advertisements peer) addresses) c
   source-part addresses c s there =
       let g = aggregate_of s.place s.adv s.address in
-      let told = and_from (is_set peer.hears s.place) (is_some (one_of entries g)) s.heard (stands-one entries g s.stands.0 s.stands.1) in
+      let told = and_from (is_set peer.receives s.place) (is_some (one_of entries g)) s.heard (stands-one entries g s.stands.0 s.stands.1) in
       let more-zero : s.place ≡ 0 + s.place = omega arith in
       subst (IsIn (flat_map (of_address entries advertisements peer) addresses)) (sym s.is)
       (flat-in (of_address entries advertisements peer) addresses s.address (route_for peer s.address s.adv) there
       (from-told entries peer s.address 0 advertisements s.place s.adv s.at (subst (λ n. is_told entries peer s.address n s.adv ≡ true) more-zero told)))
 
-  from-contributor : (g : Aggregate) (o : Option AddressValue) (p : Option Advertisement) (c : PrefixValue × Terms) → is_set peer.hears g.advertisement ≡ true
+  from-contributor : (g : Aggregate) (o : Option AddressValue) (p : Option Advertisement) (c : PrefixValue × Terms) → is_set peer.receives g.advertisement ≡ true
       → one_of entries g ≡ o → slice_get advertisements g.advertisement ≡ p → IsIn (of_contributor peer o p) c → Standing c
   from-contributor g None p c heard one at none = absurd none
   from-contributor g (Some a) None c heard one at none = absurd none
@@ -136,11 +136,11 @@ module _ (entries : Entries) (advertisements : List Advertisement) (peer : HeldP
   whole-standing c there =
       let of = flat-from (of_aggregate entries advertisements peer) (keys_of entries) c there in
       let g : Aggregate = of.item in
-      let own = passed (is_set peer.hears g.advertisement) (of_contributor peer (one_of entries g) (slice_get advertisements g.advertisement)) c of.own in
+      let own = passed (is_set peer.receives g.advertisement) (of_contributor peer (one_of entries g) (slice_get advertisements g.advertisement)) c of.own in
       from-contributor g (one_of entries g) (slice_get advertisements g.advertisement) c own.0 refl refl own.1
 
   -- whichever address is taken of those that stand with it
-  pub standing-whole : (g : Aggregate) (a : AddressValue) (adv : Advertisement) → slice_get advertisements g.advertisement ≡ Some adv → is_set peer.hears g.advertisement ≡ true → has entries g a ≡ true
+  pub standing-whole : (g : Aggregate) (a : AddressValue) (adv : Advertisement) → slice_get advertisements g.advertisement ≡ Some adv → is_set peer.receives g.advertisement ≡ true → has entries g a ≡ true
       → (c : PrefixValue × Terms) → ((b : AddressValue) → has entries g b ≡ true → c ≡ route_for peer b adv)
       → IsIn (flat_map (of_aggregate entries advertisements peer) (keys_of entries)) c
   standing-whole g a adv at heard stands c same =
@@ -152,7 +152,7 @@ module _ (entries : Entries) (advertisements : List Advertisement) (peer : HeldP
       subst (λ (o : Option AddressValue). IsIn (of_contributor peer o (slice_get advertisements g.advertisement)) c) (sym one.1)
       (subst (λ (p : Option Advertisement). IsIn (of_contributor peer (Some b) p) c) (sym at) here) in
       flat-in (of_aggregate entries advertisements peer) (keys_of entries) g c (stands-among entries g a stands)
-      (pass (is_set peer.hears g.advertisement) (of_contributor peer (one_of entries g) (slice_get advertisements g.advertisement)) c heard by)
+      (pass (is_set peer.receives g.advertisement) (of_contributor peer (one_of entries g) (slice_get advertisements g.advertisement)) c heard by)
 
 -- ---- by a view
 module _ (v : ViewValue) (node : List ℕ) (peer : CompiledPeer) (both : Bool) (entries : Entries) (right : (g : Aggregate) (a : AddressValue) → has entries g a ≡ contributes v node both g a)
@@ -179,10 +179,10 @@ module _ (v : ViewValue) (node : List ℕ) (peer : CompiledPeer) (both : Bool) (
   same-route : (a b : AddressValue) (adv : CompiledBgp) → prefix_under adv a ≡ prefix_under adv b → route_for held a (advertisement_of adv) ≡ route_for held b (advertisement_of adv)
   same-route a b adv same = λ i. (same i, (route_for held b (advertisement_of adv)).1)
 
-  listed-by : (g : Aggregate) (a : AddressValue) (adv : CompiledBgp) → slice_get bgp g.advertisement ≡ Some adv → is_set held.hears g.advertisement ≡ true → has entries g a ≡ true
+  listed-by : (g : Aggregate) (a : AddressValue) (adv : CompiledBgp) → slice_get bgp g.advertisement ≡ Some adv → is_set held.receives g.advertisement ≡ true → has entries g a ≡ true
       → IsContribution v node peer both (contribution peer a adv)
   listed-by g a adv at heard stands =
-      contributes-listed v node both peer g a adv at (sym (right g a) ∙ stands) (sym (hears-at v node both peer g.advertisement adv at) ∙ heard)
+      contributes-listed v node both peer g a adv at (sym (right g a) ∙ stands) (sym (receives-at v node both peer g.advertisement adv at) ∙ heard)
 
   -- ---- the whole table
   whole-listed : (c : PrefixValue × Terms) → IsIn (flat_map (of_aggregate entries advertisements held) (keys_of entries)) c → IsContribution v node peer both c
@@ -197,7 +197,7 @@ module _ (v : ViewValue) (node : List ℕ) (peer : CompiledPeer) (both : Bool) (
       let s : Contributing v node both peer c = listed-contributes v node both peer c by in
       let g : Aggregate = aggregate_of s.place (advertisement_of s.adv) s.address in
       let stands : has entries g s.address ≡ true = right g s.address ∙ s.contributes in
-      standing-whole entries advertisements held g s.address (advertisement_of s.adv) (at-map advertisement_of bgp s.place s.adv s.at) (hears-at v node both peer s.place s.adv s.at ∙ s.heard) stands c
+      standing-whole entries advertisements held g s.address (advertisement_of s.adv) (at-map advertisement_of bgp s.place s.adv s.at) (receives-at v node both peer s.place s.adv s.at ∙ s.heard) stands c
       (λ b own. s.is ∙ sym (same-route b s.address s.adv (same-prefix g b s.address s.adv s.at own refl)))
 
   -- ---- a part
@@ -253,7 +253,7 @@ module _ (v : ViewValue) (node : List ℕ) (peer : CompiledPeer) (both : Bool) (
         place = s.place;
         adv = advertisement_of adv;
         at = at-map advertisement_of bgp s.place adv s.at;
-        heard = hears-at v node both peer s.place adv s.at ∙ s.heard;
+        heard = receives-at v node both peer s.place adv s.at ∙ s.heard;
         stands = (s.address, moved);
         is = s.is ∙ same-route s.address a adv same;
       })

@@ -79,9 +79,9 @@ abbrev pub AreTouched : ViewValue → List ℕ → Bool → List AddressValue �
 AreTouched v node both addresses old new = (g : Aggregate) (b : AddressValue) → has new g b ≡ (if has_address addresses b then contributes v node both g b else has old g b)
 
 -- ---- what a peer is told
--- something contributes to the address's prefix under the advertisement, and the peer hears it
+-- something contributes to the address's prefix under the advertisement, and the peer receives it
 abbrev pub is_told : Entries → HeldPeer → AddressValue → ℕ → Advertisement → Bool
-is_told entries peer a place adv = is_set peer.hears place && is_some (one_of entries (aggregate_of place adv a))
+is_told entries peer a place adv = is_set peer.receives place && is_some (one_of entries (aggregate_of place adv a))
 
 -- what is contributed to the prefixes of the address by these advertisements, of which the first has the place
 abbrev pub of_advertisements : Entries → HeldPeer → AddressValue → ℕ → List Advertisement → List (PrefixValue × Terms)
@@ -101,4 +101,4 @@ of_contributor peer (Some a) (Some adv) = route_for peer a adv ∷ []
 -- what is contributed to the aggregate
 abbrev pub of_aggregate : Entries → List Advertisement → HeldPeer → Aggregate → List (PrefixValue × Terms)
 of_aggregate entries advertisements peer g =
-    if is_set peer.hears g.advertisement then of_contributor peer (one_of entries g) (slice_get advertisements g.advertisement) else []
+    if is_set peer.receives g.advertisement then of_contributor peer (one_of entries g) (slice_get advertisements g.advertisement) else []

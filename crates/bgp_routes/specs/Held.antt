@@ -58,11 +58,11 @@ abbrev pub choice_by : List (List ℕ × List ℕ) → List CompiledBgp → Comp
 choice_by labels bgp pool = map (is_chosen labels pool) bgp
 
 -- the peer selects a node of these labels, and the advertisement is for it
-abbrev pub hears : List (List ℕ × List ℕ) → CompiledPeer → CompiledBgp → Bool
-hears labels peer adv = selects peer.node_selectors labels && is_for peer adv
+abbrev pub receives : List (List ℕ × List ℕ) → CompiledPeer → CompiledBgp → Bool
+receives labels peer adv = selects peer.node_selectors labels && is_for peer adv
 
 abbrev pub peer_by : List (List ℕ × List ℕ) → List CompiledBgp → CompiledPeer → HeldPeer
-peer_by labels bgp peer = record { name = peer.name; my_asn = peer.my_asn; peer_asn = peer.peer_asn; hears = map (hears labels peer) bgp }
+peer_by labels bgp peer = record { name = peer.name; my_asn = peer.my_asn; peer_asn = peer.peer_asn; receives = map (receives labels peer) bgp }
 
 -- what is right for the view
 abbrev pub held_for : ViewValue → List ℕ → HeldValue

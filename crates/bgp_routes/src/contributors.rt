@@ -4,7 +4,7 @@ ghost use Rattle.std.specs.Map.{keys_of};
 ghost use Rattle.std.specs.Option.{option_copied};
 ghost use Rattle.bgp_routes.specs.Contributors.{IsPutAt, first_of, has, one_of};
 
-use crate::uniting::Place;
+use crate::uniting::PrefixKey;
 use grouped_keys::GroupedKeys;
 use ip_ranges::Address;
 use mlb_base::NoMemory;
@@ -16,7 +16,7 @@ use std::marker::Model;
 /// A prefix, by its place, under the advertisement at a place of the configuration's list.
 #[derive(Clone, Copy, PartialEq, Eq, PartialOrd, Ord, Drop)]
 pub(crate) struct Aggregate {
-    pub(crate) place: Place,
+    pub(crate) place: PrefixKey,
     pub(crate) advertisement: usize,
 }
 

@@ -4,7 +4,7 @@ ghost use Rattle.std.specs.Option.{option_copied, option_map};
 ghost use Rattle.std.specs.List.{find};
 ghost use Rattle.ip_ranges.specs.Values.{IsPrefix, width_of};
 ghost use Rattle.bgp_routes.specs.Contributors.{aggregate_of};
-ghost use Rattle.bgp_routes.specs.Held.{AreFew, advertisement_of, choice_at, choice_by, choice_in, hears, held_for, is_before, is_chosen, is_held_of, is_set, length_in, peer_by, pool_at, pools_of, prefix_of, route_for};
+ghost use Rattle.bgp_routes.specs.Held.{AreFew, advertisement_of, choice_at, choice_by, choice_in, receives, held_for, is_before, is_chosen, is_held_of, is_set, length_in, peer_by, pool_at, pools_of, prefix_of, route_for};
 ghost use Rattle.bgp_routes.specs.Parts.{bgp_of};
 ghost use Rattle.pool_config.specs.PoolOf.{pool_with};
 
@@ -12,7 +12,7 @@ use crate::announced::is_for;
 use crate::contributors::Aggregate;
 use crate::finding::peer_among;
 use crate::peers::peers_of;
-use crate::uniting::Place;
+use crate::uniting::PrefixKey;
 use bgp_updates::Route;
 use ip_ranges::{Address, Family, Prefix, mask};
 use kube_labels::{Labels, Text};
@@ -41,7 +41,7 @@ pub(crate) struct HeldPeer {
     name: Text,
     my_asn: u32,
     peer_asn: u32,
-    hears: Sequence<bool>,
+    receives: Sequence<bool>,
 }
 
 /// The advertisements and the peers of a configuration, and for each pool which of the advertisements choose it and select the node.
@@ -168,7 +168,7 @@ impl Advertisement {
         ensures { result ≡ aggregate_of place self.now address.now }
     {
         Aggregate {
-            place: Place::of(&self.prefix(address)),
+            place: PrefixKey::of(&self.prefix(address)),
             advertisement: place,
         }
     }
@@ -183,12 +183,12 @@ impl HeldPeer {
     ) -> Result<HeldPeer, NoMemory>
         ensures { IfOk result (λ held. held ≡ peer_by labels.now bgp.now peer.now) }
     {
-        let hears = all_hears(alloc, labels, bgp, peer)?;
+        let receives = all_receives(alloc, labels, bgp, peer)?;
         Ok(HeldPeer {
             name: peer.name.copy()?,
             my_asn: peer.my_asn,
             peer_asn: peer.peer_asn,
-            hears,
+            receives,
         })
     }
 
@@ -206,10 +206,10 @@ impl HeldPeer {
     }
 
     /// Whether the advertisement at the place is for the peer, on the node.
-    pub(crate) fn hears(&self, place: usize) -> bool
-        ensures { result ≡ is_set self.now.hears place }
+    pub(crate) fn receives(&self, place: usize) -> bool
+        ensures { result ≡ is_set self.now.receives place }
     {
-        is_set(self.hears.as_slice(), place)
+        is_set(self.receives.as_slice(), place)
     }
 
     fn told(&self, preference: u32) -> Option<u32>
@@ -344,23 +344,23 @@ fn peers_by(
     Ok(held)
 }
 
-fn all_hears(
+fn all_receives(
     alloc: Global,
     labels: &Labels,
     bgp: &[CompiledBgp],
     peer: &CompiledPeer,
 ) -> Result<Sequence<bool>, NoMemory>
-    ensures { IfOk result (λ all. all ≡ map (hears labels.now peer.now) bgp.now) }
+    ensures { IfOk result (λ all. all ≡ map (receives labels.now peer.now) bgp.now) }
 {
     let mut all = Sequence::new(alloc);
     for advertisement in bgp {
-        all.push(hears(labels, peer, advertisement))?;
+        all.push(receives(labels, peer, advertisement))?;
     }
     Ok(all)
 }
 
-fn hears(labels: &Labels, peer: &CompiledPeer, advertisement: &CompiledBgp) -> bool
-    ensures { result ≡ hears labels.now peer.now advertisement.now }
+fn receives(labels: &Labels, peer: &CompiledPeer, advertisement: &CompiledBgp) -> bool
+    ensures { result ≡ receives labels.now peer.now advertisement.now }
 {
     peer.selects(labels) && is_for(peer, advertisement)
 }

@@ -93,7 +93,7 @@ fn is_told(
 ) -> bool
     ensures { result ≡ is_told contributors.now peer.now address.now place advertisement.now }
 {
-    peer.hears(place)
+    peer.receives(place)
         && contributors
             .one_of(&advertisement.aggregate(place, address))
             .is_some()
@@ -122,7 +122,7 @@ fn add_aggregate(
 ) -> Result<(), NoMemory>
     ensures { OnOk result (routes.new ≡ with_contributions routes.old (of_aggregate contributors.now advertisements.now peer.now aggregate.now)) }
 {
-    if !peer.hears(aggregate.advertisement) {
+    if !peer.receives(aggregate.advertisement) {
         return Ok(());
     }
     let Some(address) = contributors.one_of(aggregate) else {

@@ -23,12 +23,12 @@ use std::marker::Model;
 #[derive(Drop)]
 pub(crate) struct UnitedRoutes {
     alloc: Global,
-    routes: BTreeMap<Place, Route>,
+    routes: BTreeMap<PrefixKey, Route>,
 }
 
 /// The place of a prefix: places ascend by the first address, IPv4 before IPv6, then by length.
 #[derive(Clone, Copy, PartialEq, Eq, PartialOrd, Ord)]
-pub(crate) struct Place {
+pub(crate) struct PrefixKey {
     first: Address,
     length: u8,
 }
@@ -79,11 +79,11 @@ impl UnitedRoutes {
     }
 }
 
-impl Place {
-    pub(crate) fn of(prefix: &Prefix) -> Place
+impl PrefixKey {
+    pub(crate) fn of(prefix: &Prefix) -> PrefixKey
         ensures { result ≡ place_of prefix.now }
     {
-        Place {
+        PrefixKey {
             first: Address {
                 family: prefix.family,
                 number: prefix.number,
@@ -93,10 +93,10 @@ impl Place {
     }
 }
 
-fn place_of(route: &Route) -> Place
+fn place_of(route: &Route) -> PrefixKey
     ensures { result ≡ place_of route.now.0 }
 {
-    Place::of(&route.prefix)
+    PrefixKey::of(&route.prefix)
 }
 
 /// The contribution, united with the route that stands at its place, if any.

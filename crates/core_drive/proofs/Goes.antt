@@ -18,8 +18,8 @@ use Rattle.core_laws.proofs.Puts.{idle-queue}
 use Rattle.core_laws.proofs.QuietShown.{runs_are_quiet_as_shown}
 use Rattle.core_laws.proofs.Sound.{runs_are_sound}
 use Rattle.core_laws.proofs.Telling.{notes_are_right}
-use Rattle.core_drive.specs.Drive.{Driven, Entry, turned, turns, taking, lapsing, hearing, core_entry, behind}
-use Rattle.core_drive.specs.Laws.{BeginsFresh, EventsGoOn, LapsesGoOn, RepliesGoOn, DrivesAreSound, DrivesAreQuiet}
+use Rattle.core_drive.specs.Drive.{Driven, Entry, turned, turns, taking, expiring, hearing, core_entry, behind}
+use Rattle.core_drive.specs.Laws.{BeginsFresh, EventsGoOn, ExpiriesGoOn, RepliesGoOn, DrivesAreSound, DrivesAreQuiet}
 use Rattle.core_drive.specs.Sound.{AreNotesRight, LeadsTo, ShowsTerms, ShowsFamilies, HasFamilies}
 
 -- ---- transcripts one behind the other
@@ -80,8 +80,8 @@ module _ (class : Option (List ℕ)) where
       let rest = turns-go (core_take (core_after class run) event).queue (TookByCore event ∷ run) entered (took-out (core_after class run) event ∙ none) refl in
       record { is = rest.is; core = rest.core; typed = λ all. rest.typed (typed, all); families = λ all. rest.families (families, all); notes = (notes_are_right class event run is, rest.notes); idle = rest.idle }
 
-  lapsing-goes : (group : Group) (run : List CoreEntry) → IsRun class run → (core_after class run).out ≡ None → GoesOn class run (lapsing (core_after class run) group)
-  lapsing-goes group run is none =
+  expiring-goes : (group : Group) (run : List CoreEntry) → IsRun class run → (core_after class run).out ≡ None → GoesOn class run (expiring (core_after class run) group)
+  expiring-goes group run is none =
       let entered : IsRun class (ExpiredByCore group ∷ run) = (none, is) in
       let rest = turns-go (core_expired (core_after class run) group).queue (ExpiredByCore group ∷ run) entered none refl in
       record { is = rest.is; core = rest.core; typed = λ all. rest.typed (tt, all); families = λ all. rest.families (tt, all); notes = (tt, rest.notes); idle = rest.idle }
@@ -113,10 +113,10 @@ events_go_on class told s event leads none typed families =
     let goes = taking-goes class event (behind told []) leads.is (ap (λ (x : State). x.out) leads.core ∙ none) typed families in
     goes-by class (taking s event) s told leads (subst (λ (x : State). GoesOn class (behind told []) (taking x event)) leads.core goes)
 
-pub lapses_go_on : LapsesGoOn
-lapses_go_on class told s group leads none =
-    let goes = lapsing-goes class group (behind told []) leads.is (ap (λ (x : State). x.out) leads.core ∙ none) in
-    goes-by class (lapsing s group) s told leads (subst (λ (x : State). GoesOn class (behind told []) (lapsing x group)) leads.core goes)
+pub expiries_go_on : ExpiriesGoOn
+expiries_go_on class told s group leads none =
+    let goes = expiring-goes class group (behind told []) leads.is (ap (λ (x : State). x.out) leads.core ∙ none) in
+    goes-by class (expiring s group) s told leads (subst (λ (x : State). GoesOn class (behind told []) (expiring x group)) leads.core goes)
 
 pub replies_go_on : RepliesGoOn
 replies_go_on class told s reply leads some =

@@ -16,7 +16,7 @@ use Rattle.core_rules.specs.Run.{Entry as CoreEntry, Took as TookByCore, Expired
 -- an entry of a transcript
 pub data Entry : Type 0 where
   Took : (event : Event) → (note : TakeNote) → Entry  -- an event was taken, and this is noted of it
-  Lapsed : (group : Group) → Entry  -- the watch of one list has expired
+  ListExpired : (group : Group) → Entry  -- the watch of one list has expired
   Turned : (turn : Turn) → Entry  -- a turn came to this
   Heard : (reply : PutReply) → Entry  -- the put that was out was answered
 
@@ -50,8 +50,8 @@ abbrev pub taking : State → Event → Driven
 taking s event = with_turns (Took event (core_note s event)) (core_take s event)
 
 -- the watch of one list expires, and turns follow
-abbrev pub lapsing : State → Group → Driven
-lapsing s group = with_turns (Lapsed group) (core_expired s group)
+abbrev pub expiring : State → Group → Driven
+expiring s group = with_turns (ListExpired group) (core_expired s group)
 
 -- a reply is heard, and turns follow
 abbrev pub hearing : State → PutReply → Driven
@@ -59,7 +59,7 @@ hearing s reply = with_turns (Heard reply) (core_reply s reply)
 
 abbrev pub core_entry : Entry → CoreEntry
 core_entry (Took event note) = TookByCore event
-core_entry (Lapsed group) = ExpiredByCore group
+core_entry (ListExpired group) = ExpiredByCore group
 core_entry (Turned turn) = TurnedByCore turn
 core_entry (Heard reply) = HeardByCore reply
 

@@ -5,7 +5,7 @@ use Rattle.kube_model.specs.declared.event.Group.{Group}
 use Rattle.kube_model.specs.declared.reply.PutReply.{PutReply}
 use Rattle.core_rules.specs.Core.{State, fresh}
 use Rattle.core_laws.specs.QuietShown.{IsQuietAsShown}
-use Rattle.core_drive.specs.Drive.{Entry, behind, taking, lapsing, hearing}
+use Rattle.core_drive.specs.Drive.{Entry, behind, taking, expiring, hearing}
 use Rattle.core_drive.specs.Settled.{AllHaveTheirOwn}
 use Rattle.core_drive.specs.Sound.{IsSound, LeadsTo, ShowsTerms, ShowsFamilies}
 
@@ -20,10 +20,10 @@ EventsGoOn =
     → LeadsTo class (told ++ (taking s event).entries) (taking s event).core
 
 -- and so does the end of one list's watch
-abbrev pub LapsesGoOn : Type 0
-LapsesGoOn =
+abbrev pub ExpiriesGoOn : Type 0
+ExpiriesGoOn =
     (class : Option (List ℕ)) (told : List Entry) (s : State) (group : Group) → LeadsTo class told s → s.out ≡ None
-    → LeadsTo class (told ++ (lapsing s group).entries) (lapsing s group).core
+    → LeadsTo class (told ++ (expiring s group).entries) (expiring s group).core
 
 -- and so does a reply, where one is
 abbrev pub RepliesGoOn : Type 0

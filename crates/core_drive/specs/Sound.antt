@@ -7,17 +7,17 @@ use Rattle.kube_model.specs.Families.{AreFamilies}
 use Rattle.sharing_terms.specs.Marked.{AreTerms}
 use Rattle.sharing_terms.specs.Terms.{terms_of}
 use Rattle.core_rules.specs.Core.{State}
-use Rattle.core_rules.specs.Take.{concern}
+use Rattle.core_rules.specs.Take.{effect_of}
 use Rattle.core_rules.specs.Run.{Entry as CoreEntry, IsRun, core_after, observed}
 use Rattle.core_laws.specs.Shared.{AllShowTerms}
-use Rattle.core_laws.specs.Shown.{OfConcern, HoldsOfShown}
+use Rattle.core_laws.specs.Shown.{OfEffect, HoldsOfShown}
 use Rattle.core_laws.specs.Sound.{IsSoundRun}
 use Rattle.core_laws.specs.Telling.{IsRightNote}
-use Rattle.core_drive.specs.Drive.{Entry, Took, Lapsed, Turned, Heard, core_entry, behind}
+use Rattle.core_drive.specs.Drive.{Entry, Took, ListExpired, Turned, Heard, core_entry, behind}
 
 abbrev pub IsRightTelling : Entry → List CoreEntry → Type 0
 IsRightTelling (Took event note) earlier = IsRightNote note event (observed earlier)
-IsRightTelling (Lapsed group) earlier = ⊤
+IsRightTelling (ListExpired group) earlier = ⊤
 IsRightTelling (Turned turn) earlier = ⊤
 IsRightTelling (Heard reply) earlier = ⊤
 
@@ -33,7 +33,7 @@ pub record IsSound (class : Option (List ℕ)) (transcript : List Entry) : Type 
 
 -- the service that the event shows, if it shows one, has terms that there can be
 abbrev pub ShowsTerms : Event → Type 0
-ShowsTerms event = OfConcern (λ key service. AreTerms (terms_of service)) (concern event)
+ShowsTerms event = OfEffect (λ key service. AreTerms (terms_of service)) (effect_of event)
 
 -- the service, of whatever key, wants an address of one family, or of two
 abbrev pub HasFamilies : Key → Service → Type 0
@@ -41,7 +41,7 @@ HasFamilies key service = AreFamilies service.families
 
 -- so does the one that the event shows, if it shows one
 abbrev pub ShowsFamilies : Event → Type 0
-ShowsFamilies event = OfConcern HasFamilies (concern event)
+ShowsFamilies event = OfEffect HasFamilies (effect_of event)
 
 -- What was told is a run of the core that leads to this state, of services as there can be, with right notes; a put is out, or nothing is queued.
 pub record LeadsTo (class : Option (List ℕ)) (told : List Entry) (s : State) : Type 0 where

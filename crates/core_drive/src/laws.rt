@@ -1,11 +1,11 @@
 //! What holds of every drive.
-ghost use Rattle.core_drive.specs.Laws.{BeginsFresh, EventsGoOn, LapsesGoOn, RepliesGoOn, DrivesAreSound, DrivesAreQuiet, DrivesAreSettled};
+ghost use Rattle.core_drive.specs.Laws.{BeginsFresh, EventsGoOn, ExpiriesGoOn, RepliesGoOn, DrivesAreSound, DrivesAreQuiet, DrivesAreSettled};
 
 /// Whatever arrives at a core that holds nothing, what is told is a run of the core, which leads to its state.
 pub fn what_arrives_goes_on()
     ensures begins { BeginsFresh }
     ensures events { EventsGoOn }
-    ensures lapses { LapsesGoOn }
+    ensures expiries { ExpiriesGoOn }
     ensures replies { RepliesGoOn }
 {}
 

@@ -18,7 +18,7 @@ use Rattle.core_rules.specs.Core.{State, shown_terms}
 use Rattle.core_rules.specs.Take.{core_by, core_take, is_unlisted}
 use Rattle.core_rules.specs.Replied.{replied_to, put_terms}
 use Rattle.core_rules.specs.Run.{Entry, Took, Expired, Turned, Heard, core_after}
-use Rattle.core_rules.proofs.Concerns.{by_concern}
+use Rattle.core_rules.proofs.Effects.{by_effect}
 use Rattle.sharing_terms.specs.declared.terms.Terms.{Terms}
 
 settled-assigned : (claims : List ClaimValue) (key : Key) (r : Record) (t : Terms) → AreAssigned claims → AreAssigned (settled key r t claims)
@@ -29,7 +29,7 @@ assigned-if true after claims x y = x
 assigned-if false after claims x y = y
 
 took-assigned : (s : State) → AreAssigned s.claims → (event : Event) → AreAssigned (core_take s event).claims
-took-assigned s a = by_concern (λ event c. AreAssigned (core_by c s event).claims)
+took-assigned s a = by_effect (λ event c. AreAssigned (core_by c s event).claims)
     (λ version service. assigned-if (is_newer key_cmp s.held.services service.key version) (settled service.key service.holding (shown_terms service) s.claims) s.claims (settled-assigned s.claims service.key service.holding (shown_terms service) a) a)
     (λ key. assigned-others s.claims key a)
     (λ c there. a c (filter-contains (λ (x : ClaimValue). not (is_unlisted (core_take s (ListEnd groups.Service)).held.services x.key)) s.claims c there).0)

@@ -13,11 +13,11 @@ use Rattle.object_history.specs.Kinds.{service_resource}
 use Rattle.object_history.specs.LookBack.{last_shown}
 use Rattle.kube_model.proofs.KeyLaws.{same_key-is}
 use Rattle.core_rules.specs.Core.{State}
-use Rattle.core_rules.specs.Take.{core_by, core_take, concern, is_unlisted}
+use Rattle.core_rules.specs.Take.{core_by, core_take, effect_of, is_unlisted}
 use Rattle.core_rules.specs.Replied.{replied_to}
 use Rattle.core_rules.specs.Run.{Entry, Took, Expired, Turned, Heard, core_after, IsRun, observed, version_shown}
 use Rattle.core_rules.proofs.Claims.{version-held, ended-version}
-use Rattle.core_rules.proofs.Concerns.{by_concern}
+use Rattle.core_rules.proofs.Effects.{by_effect}
 use Rattle.core_rules.proofs.Runs.{core_holds_what_was_observed}
 use Rattle.core_laws.specs.Waits.{awaits_told, awaits_heard, awaits_shown}
 use Rattle.core_laws.proofs.Rows.{has_key-append}
@@ -60,8 +60,8 @@ shown-by false false late own key keys before s a e = a
 
 took-awaits : (s : State) (key : Key) (v : ℕ) (before : Bool) → version_at key_cmp s.held.services key ≡ v → has_key s.awaiting key ≡ before
     → is_unlisted (core_take s (ListEnd groups.Service)).held.services key ≡ eqb v 0
-    → (event : Event) → has_key (core_take s event).awaiting key ≡ awaits_told key (concern event) v before
-took-awaits s key v before version a ends = by_concern (λ event c. has_key (core_by c s event).awaiting key ≡ awaits_told key c v before)
+    → (event : Event) → has_key (core_take s event).awaiting key ≡ awaits_told key (effect_of event) v before
+took-awaits s key v before version a ends = by_effect (λ event c. has_key (core_by c s event).awaiting key ≡ awaits_told key c v before)
     (λ at service. shown-by (same_key service.key key) (not (leb at (version_at key_cmp s.held.services service.key))) (not (leb at v)) service.key key s.awaiting before refl a
     (λ same. ap (λ n. not (leb at n)) (ap (version_at key_cmp s.held.services) (same_key-is service.key key same) ∙ version)))
     (λ gone. has_key-without gone s.awaiting key ∙ ap (cond (same_key gone key) false) a)

@@ -17,18 +17,18 @@ use Rattle.alloc_book.proofs.BookLaws.{claim_of-is}
 use Rattle.core_rules.specs.declared.turn.Turn.{Turn}
 use Rattle.core_rules.specs.declared.turn.Turn.TheVariants.{Idle, NoPut, Wants}
 use Rattle.core_rules.specs.Core.{shown_terms}
-use Rattle.core_rules.specs.Take.{Concern, Shows, Drops, EndsServices, Configures, Lapses, Nothing, concern}
+use Rattle.core_rules.specs.Take.{Effect, Shows, Drops, EndsServices, Configures, Expires, Nothing, effect_of}
 use Rattle.core_rules.specs.Turn.{put_in}
 use Rattle.core_rules.specs.Run.{Entry, Took, Expired, Turned, Heard, core_after, IsRun, put_out, version_shown, terms_shown, claims_shown, claims_told, claims_heard}
 use Rattle.core_laws.specs.Shared.{claim_out, may_have, is_event}
 
 -- the key whose claims an entry may add to
-pub shown_key : Concern → Option Key
+pub shown_key : Effect → Option Key
 shown_key (Shows version service) = Some service.key
 shown_key (Drops key) = None
 shown_key EndsServices = None
 shown_key Configures = None
-shown_key Lapses = None
+shown_key Expires = None
 shown_key Nothing = None
 
 pub put_key : Option Put → Option Key
@@ -36,7 +36,7 @@ put_key None = None
 put_key (Some put) = Some put.key
 
 pub source_of : Entry → Option Key
-source_of (Took event) = shown_key (concern event)
+source_of (Took event) = shown_key (effect_of event)
 source_of (Expired group) = None
 source_of (Turned turn) = put_key (put_in turn)
 source_of (Heard reply) = None
@@ -60,14 +60,14 @@ gone-by : (b : Bool) (before rest : List ClaimValue) (c : ClaimValue) → Contai
 gone-by true before rest c there = Contains-append_right before rest c there
 gone-by false before rest c there = there
 
-came-told : (about : Concern) (key : Key) (version : ℕ) (before rest : List ClaimValue) (c : ClaimValue) → Contains (claims_told key about version before ++ rest) c → ¬ (Contains (before ++ rest) c) → shown_key about ≡ Some key
+came-told : (about : Effect) (key : Key) (version : ℕ) (before rest : List ClaimValue) (c : ClaimValue) → Contains (claims_told key about version before ++ rest) c → ¬ (Contains (before ++ rest) c) → shown_key about ≡ Some key
 unfolding shown_key
 came-told (Shows v service) key version before rest c there not =
     told-by (same_key service.key key) _ service.key key (claim_of service.key service.holding (shown_terms service)) before rest c refl there not
 came-told (Drops k) key version before rest c there not = absurd (not (gone-by (same_key k key) before rest c there))
 came-told EndsServices key version before rest c there not = absurd (not (gone-by (eqb version 0) before rest c there))
 came-told Configures key version before rest c there not = absurd (not there)
-came-told Lapses key version before rest c there not = absurd (not there)
+came-told Expires key version before rest c there not = absurd (not there)
 came-told Nothing key version before rest c there not = absurd (not there)
 
 -- the claim of the record that is being written
@@ -123,8 +123,8 @@ came class (Took event) earlier alike is key c there not =
     let none : put_out earlier ≡ None = alike is.0 in
     record {
       source =
-          came-told (concern event) key (version_shown key earlier) (claims_shown key earlier) [] c
-          (subst (λ (o : Option Put). Contains (claims_told key (concern event) (version_shown key earlier) (claims_shown key earlier) ++ claim_out key o (terms_shown key (Took event ∷ earlier))) c) none there)
+          came-told (effect_of event) key (version_shown key earlier) (claims_shown key earlier) [] c
+          (subst (λ (o : Option Put). Contains (claims_told key (effect_of event) (version_shown key earlier) (claims_shown key earlier) ++ claim_out key o (terms_shown key (Took event ∷ earlier))) c) none there)
           (λ old. not (subst (λ (cs : List ClaimValue). Contains cs c) (ap (λ (o : Option Put). claims_shown key earlier ++ claim_out key o (terms_shown key earlier)) (sym none)) old));
       by = inl refl;
     }

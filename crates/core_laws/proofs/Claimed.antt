@@ -36,7 +36,7 @@ use Rattle.core_rules.specs.Take.{core_by, core_take, core_expired, is_unlisted}
 use Rattle.core_rules.specs.Replied.{put_terms, replied_to}
 use Rattle.core_rules.specs.Run.{Entry, Took, Expired, Turned, Heard, core_after, observed, IsRun}
 use Rattle.core_rules.proofs.Claims.{claims_of-kept}
-use Rattle.core_rules.proofs.Concerns.{by_concern, config-services}
+use Rattle.core_rules.proofs.Effects.{by_effect, config-services}
 use Rattle.core_rules.proofs.Runs.{core_holds_what_was_observed}
 use Rattle.core_laws.specs.Claimed.{ServicesAreClaimed}
 use Rattle.core_laws.proofs.Orderly.{sorted-services}
@@ -100,7 +100,7 @@ module _ (s : State) (sorted : IsStrictlySortedBy key_cmp (keys_of s.held.servic
   here = held_at key_cmp s.held.services key
 
   took : (event : Event) → AreClaims (held_at key_cmp (core_take s event).held.services key) (claims_of key (core_take s event).claims)
-  took = by_concern (λ event c. AreClaims (held_at key_cmp (core_by c s event).held.services key) (claims_of key (core_by c s event).claims))
+  took = by_effect (λ event c. AreClaims (held_at key_cmp (core_by c s event).held.services key) (claims_of key (core_by c s event).claims))
       (λ version service.
       let old = leb version (version_at key_cmp s.held.services service.key) in
       let new : Versioned Service = record { version = version; object = service } in
@@ -127,8 +127,8 @@ module _ (s : State) (sorted : IsStrictlySortedBy key_cmp (keys_of s.held.servic
   expired_by true = held-as _ _ _ _ (held_at-expired key_cmp s.held.services key) refl (at-version here 0 (claims_of key s.claims) all)
   expired_by false = all
 
-  lapsed : (group : Group) → AreClaims (held_at key_cmp (core_expired s group).held.services key) (claims_of key (core_expired s group).claims)
-  lapsed group = expired_by (same_group group groups.Service)
+  one_expired : (group : Group) → AreClaims (held_at key_cmp (core_expired s group).held.services key) (claims_of key (core_expired s group).claims)
+  one_expired group = expired_by (same_group group groups.Service)
 
   -- ---- a reply
   terms-here : (g : Versioned Service) (put : Put) → put.key ≡ key → here ≡ Some g → terms_in s.held put.key ≡ terms_of g.object
@@ -184,7 +184,7 @@ held-claims class [] is key = none-held []
 held-claims class (Took event ∷ earlier) is key =
     took (core_after class earlier) (sorted-services (core_after class earlier) (observed earlier) (core_holds_what_was_observed class earlier is.1).0) key (held-claims class earlier is.1 key) event
 held-claims class (Expired group ∷ earlier) is key =
-    lapsed (core_after class earlier) (sorted-services (core_after class earlier) (observed earlier) (core_holds_what_was_observed class earlier is.1).0) key (held-claims class earlier is.1 key) group
+    one_expired (core_after class earlier) (sorted-services (core_after class earlier) (observed earlier) (core_holds_what_was_observed class earlier is.1).0) key (held-claims class earlier is.1 key) group
 held-claims class (Turned turn ∷ earlier) is key = held-claims class earlier is.1 key
 held-claims class (Heard reply ∷ earlier) is key =
     heard (core_after class earlier) (sorted-services (core_after class earlier) (observed earlier) (core_holds_what_was_observed class earlier is.1).0) key (held-claims class earlier is.1 key) (core_after class earlier).out reply

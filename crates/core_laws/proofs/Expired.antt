@@ -13,7 +13,7 @@ use Rattle.core_rules.specs.Core.{State}
 use Rattle.core_rules.specs.Take.{core_by, core_take}
 use Rattle.core_rules.specs.Replied.{replied_to}
 use Rattle.core_rules.specs.Run.{Entry, Took, Expired, Turned, Heard, core_after}
-use Rattle.core_rules.proofs.Concerns.{by_concern, config-endpoints}
+use Rattle.core_rules.proofs.Effects.{by_effect, config-endpoints}
 use Rattle.core_laws.specs.Expired.{ExpiredIsBoth}
 
 -- Nothing is held of endpoints, and their list hasn't ended.
@@ -22,7 +22,7 @@ pub record HasNoEndpoints (held : Cached) : Type 0 where
   pub unended : held.endpoints_ended ≡ false
 
 took-none : (s : State) → HasNoEndpoints s.held → (event : Event) → HasNoEndpoints (core_take s event).held
-took-none s none = by_concern (λ event c. HasNoEndpoints (core_by c s event).held)
+took-none s none = by_effect (λ event c. HasNoEndpoints (core_by c s event).held)
     (λ version service. record { slices = none.slices; unended = none.unended })
     (λ key. record { slices = none.slices; unended = none.unended })
     (record { slices = none.slices; unended = none.unended })

@@ -20,15 +20,15 @@ use Rattle.object_history.specs.Observations.{Observation, Watched, WatchExpired
 use Rattle.object_history.specs.Kinds.{service_resource}
 use Rattle.object_history.specs.LookBack.{object_in, held_on, expires, record_in, written_over, version_of, newer_than, last_shown}
 use Rattle.core_rules.specs.Core.{service_of}
-use Rattle.core_rules.specs.Take.{Concern, Shows, Drops, EndsServices, Configures, Lapses, Nothing, concern}
+use Rattle.core_rules.specs.Take.{Effect, Shows, Drops, EndsServices, Configures, Expires, Nothing, effect_of}
 use Rattle.core_rules.specs.Run.{Entry, Took, Expired, Turned, Heard, core_after, IsRun, observed, told_by, heard_by, heard_of, put_out}
-use Rattle.core_laws.specs.Shown.{OfConcern, HoldsOfShown}
+use Rattle.core_laws.specs.Shown.{OfEffect, HoldsOfShown}
 use Rattle.core_rules.proofs.Claims.{shown-held}
-use Rattle.core_rules.proofs.Concerns.{by_concern}
+use Rattle.core_rules.proofs.Effects.{by_effect}
 
 module _ (P : Key → Service → Type 0) where
   abbrev OfEvent : Event → Type 0
-  OfEvent event = OfConcern P (concern event)
+  OfEvent event = OfEffect P (effect_of event)
 
   abbrev OfObservation : Observation → Type 0
   OfObservation (Watched event) = OfEvent event
@@ -108,12 +108,12 @@ module _ (P : Key → Service → Type 0) where
         let is : h.object ≡ service = cc in
         subst (P key) is (each h refl)
 
-    told-all : (c : Concern) (event : Event) (earlier : List Observation) → (OfConcern P c → OfObservation (Watched event)) → OfConcern P c → OfAll earlier → OfAll (told_by c event earlier)
+    told-all : (c : Effect) (event : Event) (earlier : List Observation) → (OfEffect P c → OfObservation (Watched event)) → OfEffect P c → OfAll earlier → OfAll (told_by c event earlier)
     told-all (Shows version service) event earlier turn p all = (turn p, all)
     told-all (Drops key) event earlier turn p all = (turn p, all)
     told-all EndsServices event earlier turn p all = (turn p, all)
     told-all Configures event earlier turn p all = (turn p, all)
-    told-all Lapses event earlier turn p all = (turn p, all)
+    told-all Expires event earlier turn p all = (turn p, all)
     told-all Nothing event earlier turn p all = all
 
     replied-all : (put : Put) (reply : PutReply) (earlier : List Observation) → OfAll earlier → OfAll (heard_of put reply earlier)
@@ -128,7 +128,7 @@ module _ (P : Key → Service → Type 0) where
 
     pub observed-all : (run : List Entry) → HoldsOfShown P run → OfAll (observed run)
     observed-all [] all = tt
-    observed-all (Took event ∷ earlier) all = told-all (concern event) event (observed earlier) (λ p. p) all.0 (observed-all earlier all.1)
+    observed-all (Took event ∷ earlier) all = told-all (effect_of event) event (observed earlier) (λ p. p) all.0 (observed-all earlier all.1)
     observed-all (Expired group ∷ earlier) all = (tt, observed-all earlier all.1)
     observed-all (Turned turn ∷ earlier) all = observed-all earlier all.1
     observed-all (Heard reply ∷ earlier) all = heard-all (put_out earlier) reply (observed earlier) (observed-all earlier all.1)
@@ -140,8 +140,8 @@ module _ (P : Key → Service → Type 0) where
         (λ h e. shown-holds (observed run) key h (observed-all run all) (sym (shown-held class run is key) ∙ e)) found
 
 -- ---- each service is held under its own key
-own-key : (event : Event) → OfConcern (λ key service. service.key ≡ key) (concern event)
-own-key = by_concern (λ event c. OfConcern (λ key service. service.key ≡ key) c) (λ version service. refl) (λ key. tt) tt (λ event c. tt) tt (λ event. tt)
+own-key : (event : Event) → OfEffect (λ key service. service.key ≡ key) (effect_of event)
+own-key = by_effect (λ event c. OfEffect (λ key service. service.key ≡ key) c) (λ version service. refl) (λ key. tt) tt (λ event c. tt) tt (λ event. tt)
 
 pub own-keys : (run : List Entry) → HoldsOfShown (λ key service. service.key ≡ key) run
 own-keys [] = tt

@@ -24,7 +24,7 @@ use Rattle.claim_index.specs.Claims.{loses, has_claims}
 use Rattle.core_rules.specs.Core.{State, is_ready, is_free_with, all_free, waiting, shown_terms}
 use Rattle.core_rules.specs.Keys.{own_key}
 use Rattle.core_rules.specs.Take.{core_by, core_take, no_key, is_unlisted, listed_keys, have_claims, listed_and_free, own_and_waiting, wakes}
-use Rattle.core_rules.proofs.Concerns.{by_concern}
+use Rattle.core_rules.proofs.Effects.{by_effect}
 use Rattle.core_laws.specs.Queue.{AreApart, NoneAmong}
 use Rattle.core_laws.proofs.Awaiting.{has_key-without}
 use Rattle.core_laws.proofs.QueueOnce.{AreNew, apart-append, among-append, apart-kept, kept-among, among-kept, no-true, none-new, waiting-new, passing-apart, passing-found, and-left, free-parts, not-true}
@@ -157,7 +157,7 @@ pub sorted-services : (s : State) (observations : List Observation) → s.held �
 sorted-services s observations e = subst (λ (held : Cached). IsStrictlySortedBy key_cmp (keys_of held.services)) (sym e) (all_is_as_shown observations).services.ascend
 
 pub took-order : (s : State) (observations : List Observation) → s.held ≡ cached observations → IsInOrder s.queue s.awaiting → (event : Event) → IsInOrder (core_take s event).queue (core_take s event).awaiting
-took-order s observations e o = by_concern (λ event c. IsInOrder (core_by c s event).queue (core_by c s event).awaiting)
+took-order s observations e o = by_effect (λ event c. IsInOrder (core_by c s event).queue (core_by c s event).awaiting)
     (λ version service. shown-order (is_newer key_cmp s.held.services service.key version) s service.key (loses service.key service.holding (shown_terms service) s.claims) (sorted-services s observations e) o)
     (λ key. added (without key s.queue) (waiting (is_ready s.held && has_claims key s.claims) s.class (same_key key) s.queue s.awaiting s.held.services) (without key s.awaiting)
     (fewer-awaiting (λ k. same_key k key) (without key s.queue) s.awaiting (fewer-order (λ k. same_key k key) s.queue s.awaiting o))

@@ -40,7 +40,7 @@ use Rattle.core_rules.specs.Turn.{wanted_record, reason_in, chosen_at, turn_at, 
 use Rattle.core_rules.specs.Replied.{replied_to}
 use Rattle.core_rules.specs.Run.{Entry, Took, Expired, Turned, Heard, core_after, IsRun, observed, claims_shown}
 use Rattle.core_rules.proofs.Claims.{shown-held, claims_are_shown}
-use Rattle.core_rules.proofs.Concerns.{by_concern}
+use Rattle.core_rules.proofs.Effects.{by_effect}
 use Rattle.core_rules.proofs.Runs.{core_holds_what_was_observed}
 use Rattle.core_laws.specs.Puts.{labels_shown, IsRightDecision, PutsAreRight, TurnsAreReady}
 use Rattle.core_laws.proofs.Classes.{by-test, same_class-is}
@@ -48,7 +48,7 @@ use Rattle.core_laws.proofs.Ready.{runs-idle}
 
 -- ---- the class
 took-class : (s : State) (event : Event) → (core_take s event).class ≡ s.class
-took-class s = by_concern (λ event c. (core_by c s event).class ≡ s.class) (λ version service. refl) (λ key. refl) refl (λ event c. refl) refl (λ event. refl)
+took-class s = by_effect (λ event c. (core_by c s event).class ≡ s.class) (λ version service. refl) (λ key. refl) refl (λ event c. refl) refl (λ event. refl)
 
 heard-class : (out : Option Put) (reply : PutReply) (s : State) → (replied_to out s reply).class ≡ s.class
 heard-class None reply s = refl

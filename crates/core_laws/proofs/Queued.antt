@@ -32,7 +32,7 @@ use Rattle.core_rules.specs.Take.{core_by, core_take, no_key, is_unlisted, liste
 use Rattle.core_rules.specs.Turn.{turn_of, rest_of, put_in}
 use Rattle.core_rules.specs.Replied.{replied_to, put_terms}
 use Rattle.core_rules.specs.Run.{Entry, Took, Expired, Turned, Heard, core_after, IsRun, observed}
-use Rattle.core_rules.proofs.Concerns.{by_concern, config-services}
+use Rattle.core_rules.proofs.Effects.{by_effect, config-services}
 use Rattle.core_rules.proofs.Runs.{core_holds_what_was_observed, took-out, heard-out}
 use Rattle.core_laws.specs.Queue.{IsHeld, QueuesAreOrderly}
 use Rattle.core_laws.proofs.Awaiting.{has_key-kept, has_key-without, flip}
@@ -173,7 +173,7 @@ configured-in true s sorted all = append-in s.held.services s.queue (all_free s.
 configured-in false s sorted all = all
 
 took-in : (s : State) → IsStrictlySortedBy key_cmp (keys_of s.held.services) → AllIn s.held.services s.queue → (event : Event) → AllIn (core_take s event).held.services (core_take s event).queue
-took-in s sorted all = by_concern (λ event c. AllIn (core_by c s event).held.services (core_by c s event).queue)
+took-in s sorted all = by_effect (λ event c. AllIn (core_by c s event).held.services (core_by c s event).queue)
     (λ version service. shown-in (is_newer key_cmp s.held.services service.key version) (loses service.key service.holding (shown_terms service) s.claims) s version service sorted refl all)
     (λ key. dropped-in s key (is_ready s.held && has_claims key s.claims) sorted all)
     (append-in (listed s.held.services) (listed_keys (listed s.held.services) s.queue)

@@ -40,9 +40,9 @@ use Rattle.pool_choice.proofs.Filters.{filter-keeps}
 use Rattle.alloc_book.proofs.PendingLaws.{more-tighter}
 use Rattle.kube_model.proofs.KeyLaws.{same_key-is}
 use Rattle.core_rules.specs.Core.{State, is_ready, service_of, offer_in, is_free_with, all_free}
-use Rattle.core_rules.specs.Take.{Configures, concern, no_key, is_unlisted, listed_keys, listed_claims, have_claims, listed_and_free, with_services_listed, is_accepted, is_namespace, wakes, configured}
+use Rattle.core_rules.specs.Take.{Configures, effect_of, no_key, is_unlisted, listed_keys, listed_claims, have_claims, listed_and_free, with_services_listed, is_accepted, is_namespace, wakes, configured}
 use Rattle.core_rules.proofs.Claims.{ended-version}
-use Rattle.core_rules.proofs.Concerns.{config-services}
+use Rattle.core_rules.proofs.Effects.{config-services}
 use Rattle.core_laws.specs.Quiet.{MeetsRow, IsQuiet}
 use Rattle.core_laws.proofs.Rows.{has_key-append, neither, passing-has, row-on}
 use Rattle.core_laws.proofs.Quiet.{settled-parts, settled-from, waits-queued, row-handled, row-empty}
@@ -141,7 +141,7 @@ kept-config true (Ok config) c e = absurd (cc)
 kept-config true (Err fault) c e = refl
 kept-config false r c e = refl
 
-config-kept : (event : Event) (s : Cached) → concern event ≡ Configures → is_accepted (applied s event).note ≡ false → (cached_after (Watched event) s).config ≡ s.config
+config-kept : (event : Event) (s : Cached) → effect_of event ≡ Configures → is_accepted (applied s event).note ≡ false → (cached_after (Watched event) s).config ≡ s.config
 config-kept (Changed version (objects.Service service)) s c e = absurd (cc)
 config-kept (Changed version (objects.Pool pool)) s c e = kept-config _ (compiled (objects_after (Watched (Changed version (objects.Pool pool))) s.objects)) s.config e
 config-kept (Changed version (objects.L2 adv)) s c e = kept-config _ (compiled (objects_after (Watched (Changed version (objects.L2 adv))) s.objects)) s.config e
@@ -176,7 +176,7 @@ kept-shown : (old : Bool) (es : Namespaces) (namespace : Namespace) (v : Version
 kept-shown true es namespace v name e = refl
 kept-shown false es namespace v name e = absurd (cc)
 
-namespaces-kept : (event : Event) (s : Cached) → concern event ≡ Configures → listed s.namespaces ≡ s.namespaces → is_namespace (applied s event).change ≡ false → (cached_after (Watched event) s).namespaces ≡ s.namespaces
+namespaces-kept : (event : Event) (s : Cached) → effect_of event ≡ Configures → listed s.namespaces ≡ s.namespaces → is_namespace (applied s event).change ≡ false → (cached_after (Watched event) s).namespaces ≡ s.namespaces
 namespaces-kept (Changed version (objects.Service service)) s c l e = absurd (cc)
 namespaces-kept (Changed version (objects.Pool pool)) s c l e = refl
 namespaces-kept (Changed version (objects.L2 adv)) s c l e = refl
@@ -220,7 +220,7 @@ offer-same held held' c n x =
     ap (λ (config : Option ConfigValue). offer_in (record held { config = config }) x) c
     ∙ ap (λ (namespaces : Namespaces). offer_in (record held { config = held'.config; namespaces = namespaces }) x) n
 
-woken-by : (b : Bool) (s : State) (event : Event) (key : Key) (service : Service) → b ≡ wakes s.held (applied s.held event) (cached_after (Watched event) s.held) → concern event ≡ Configures
+woken-by : (b : Bool) (s : State) (event : Event) (key : Key) (service : Service) → b ≡ wakes s.held (applied s.held event) (cached_after (Watched event) s.held) → effect_of event ≡ Configures
     → (s.held.config_ended ≡ true → listed s.held.namespaces ≡ s.held.namespaces) → s.out ≡ None → IsQuiet s
     → is_ready (cached_after (Watched event) s.held) ≡ true → has_key (cond b (s.queue ++ all_free s.queue s.awaiting s.held.services) s.queue) key ≡ false → has_key s.awaiting key ≡ false
     → service_of s.held key ≡ Some service
@@ -236,7 +236,7 @@ woken-by false s event key service b c fresh o quiet ready q a found =
     (offer-same s.held (cached_after (Watched event) s.held) (sym (config-kept event s.held c rest.1)) (sym (namespaces-kept event s.held c (fresh ended) rest.2)))
     (λ reason is at left. left)
 
-pub configured-quiet : (s : State) (event : Event) → concern event ≡ Configures → (s.held.config_ended ≡ true → listed s.held.namespaces ≡ s.held.namespaces) → s.out ≡ None → IsQuiet s → IsQuiet (configured s event)
+pub configured-quiet : (s : State) (event : Event) → effect_of event ≡ Configures → (s.held.config_ended ≡ true → listed s.held.namespaces ≡ s.held.namespaces) → s.out ≡ None → IsQuiet s → IsQuiet (configured s event)
 configured-quiet s event c fresh o quiet key service is_set out found =
     let parts = settled-parts (configured s event) key is_set in
     woken-by (wakes s.held (applied s.held event) (cached_after (Watched event) s.held)) s event key service refl c fresh o quiet parts.0 parts.1 parts.2

@@ -25,10 +25,10 @@ use Rattle.claim_index.specs.Claims.{AreAssigned, holders}
 use Rattle.core_rules.specs.declared.turn.Turn.{Turn}
 use Rattle.core_rules.specs.declared.turn.Turn.TheVariants.{Idle, NoPut, Wants}
 use Rattle.core_rules.specs.Core.{State, is_ready, service_of, is_settled}
-use Rattle.core_rules.specs.Take.{Lapses, core_by, core_take, core_expired, without_service}
+use Rattle.core_rules.specs.Take.{Expires, core_by, core_take, core_expired, without_service}
 use Rattle.core_rules.specs.Turn.{core_turn, put_in, after_turn}
 use Rattle.core_rules.specs.Run.{Entry, Took, Expired, Turned, Heard, core_after, IsRun, observed}
-use Rattle.core_rules.proofs.Concerns.{by_concern}
+use Rattle.core_rules.proofs.Effects.{by_effect}
 use Rattle.core_rules.proofs.Runs.{core_holds_what_was_observed}
 use Rattle.core_laws.specs.Quiet.{IsQuiet, RunsAreQuiet}
 use Rattle.core_laws.proofs.Assigned.{runs-assigned}
@@ -58,12 +58,12 @@ gone-service s observations e gone key same =
 
 -- ---- events
 took-quiet : (s : State) (observations : List Observation) → s.held ≡ cached observations → s.out ≡ None → IsQuiet s → AreAssigned s.claims → (event : Event) → IsQuiet (core_take s event)
-took-quiet s observations e o quiet a = by_concern (λ event c. IsQuiet (core_by c s event))
+took-quiet s observations e o quiet a = by_effect (λ event c. IsQuiet (core_by c s event))
     (λ version service. shown-quiet s observations version service e o quiet a)
     (λ key. dropped-quiet s observations key e (gone-service s observations e key) o quiet)
     (listed-quiet s (seen-services s observations e (Watched (ListEnd groups.Service))) o quiet)
     (λ event c. configured-quiet s event c (subst (λ (held : Cached). held.config_ended ≡ true → listed held.namespaces ≡ held.namespaces) (sym e) (fresh observations)) o quiet)
-    (λ key service is_set out found. let parts = settled-parts (core_by Lapses s ExpiredEvent) key is_set in absurd (cc))
+    (λ key service is_set out found. let parts = settled-parts (core_by Expires s ExpiredEvent) key is_set in absurd (cc))
     (λ event. quiet)
 
 -- ---- an expired watch

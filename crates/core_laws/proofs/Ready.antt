@@ -21,11 +21,11 @@ use Rattle.pool_config.specs.Compile.{compiled}
 use Rattle.kube_model.specs.Keys.{key_cmp}
 use Rattle.claim_index.specs.Claims.{loses}
 use Rattle.core_rules.specs.Core.{State, is_ready, shown_terms}
-use Rattle.core_rules.specs.Take.{Configures, concern, core_by, core_take, own_and_waiting, listed_and_free, listed_keys, have_claims}
+use Rattle.core_rules.specs.Take.{Configures, effect_of, core_by, core_take, own_and_waiting, listed_and_free, listed_keys, have_claims}
 use Rattle.core_rules.specs.Turn.{turn_of, rest_of, put_in}
 use Rattle.core_rules.specs.Replied.{replied_to}
 use Rattle.core_rules.specs.Run.{Entry, Took, Expired, Turned, Heard, core_after, IsRun}
-use Rattle.core_rules.proofs.Concerns.{by_concern}
+use Rattle.core_rules.proofs.Effects.{by_effect}
 
 abbrev pub IsIdle : Bool → List Key → Option Put → Type 0
 IsIdle ready queue out = ready ≡ false → (queue ≡ []) × (out ≡ None)
@@ -46,7 +46,7 @@ ready-comes true false c d stays e = absurd (cc)
 ready-comes false b c d stays e = absurd (cc)
 
 -- an event of the configuration or of a namespace leaves a ready core ready
-pub config-ready : (event : Event) (s : Cached) → concern event ≡ Configures → is_ready s ≡ true → is_ready (cached_after (Watched event) s) ≡ true
+pub config-ready : (event : Event) (s : Cached) → effect_of event ≡ Configures → is_ready s ≡ true → is_ready (cached_after (Watched event) s) ≡ true
 config-ready (Changed version (objects.Service service)) s c e = absurd (cc)
 config-ready (Changed version (objects.Pool pool)) s c e = ready-stays s.config_ended s.services_ended s.config _ (in_force-stays _ s.config _) e
 config-ready (Changed version (objects.L2 adv)) s c e = ready-stays s.config_ended s.services_ended s.config _ (in_force-stays _ s.config _) e
@@ -97,7 +97,7 @@ before-ready true after stays n = absurd (true≢false (sym (stays refl) ∙ n))
 before-ready false after stays n = refl
 
 took-idle : (s : State) → IsIdle (is_ready s.held) s.queue s.out → s.out ≡ None → (event : Event) → IsIdle (is_ready (core_take s event).held) (core_take s event).queue (core_take s event).out
-took-idle s idle o = by_concern (λ event c. IsIdle (is_ready (core_by c s event).held) (core_by c s event).queue (core_by c s event).out)
+took-idle s idle o = by_effect (λ event c. IsIdle (is_ready (core_by c s event).held) (core_by c s event).queue (core_by c s event).out)
     (λ version service n. (shown-idle (is_newer key_cmp s.held.services service.key version) (is_ready s.held) s.queue (own_and_waiting (is_ready s.held) (loses service.key service.holding (shown_terms service) s.claims) s service.key) n (idle n).0 (rw n refl), o))
     (λ key n. (rw ((idle n).0, n) refl, o))
     (λ n. (

@@ -35,7 +35,7 @@ use Rattle.core_rules.specs.Turn.{wanted_record}
 use Rattle.core_rules.specs.Run.{Entry, Turned, core_after, IsRun, put_out, observed, terms_shown, claims_shown}
 use Rattle.core_rules.proofs.Runs.{core_holds_what_was_observed}
 use Rattle.core_laws.specs.Puts.{IsRightDecision, IsRightPut, labels_shown}
-use Rattle.core_laws.specs.Shared.{claim_out, may_have, has_claim, age_of, AreShared, CameShown, AreSharedOrShown, AllShowTerms, RunsAreShared}
+use Rattle.core_laws.specs.Shared.{claim_out, may_have, has_claim, age_of, ClaimsMayShare, CameShown, AreSharedOrShown, AllShowTerms, RunsAreShared}
 use Rattle.core_laws.proofs.Keyed.{own-keys, shown-holds, observed-all}
 use Rattle.core_laws.proofs.Puts.{puts_are_right}
 use Rattle.core_laws.proofs.Ages.{has-is, has-from, has-not, age-none, age-some, age-positive, was-older, was-new, suc-less}
@@ -98,7 +98,7 @@ put-shared class put pending earlier is all a in_put =
     )
 
 -- ---- one entry more
-pub turned : (c d : ClaimValue) → AreShared c d → AreShared d c
+pub turned : (c d : ClaimValue) → ClaimsMayShare c d → ClaimsMayShare d c
 turned c d s = may_share-turned c.terms d.terms s
 
 same-some : (key other : Key) → Some key ≡ Some other → key ≡ other
@@ -113,7 +113,7 @@ module _ (class : Option (List ℕ)) (x : Entry) (earlier : List Entry) (is : Is
 
   -- the key came to its record with this entry, and the other had its own before
   newer : (key other : Key) → key ≢ other → (r q : ClaimValue) → Contains (may_have key (x ∷ earlier)) r → has_claim key r earlier ≡ false → has_claim other q earlier ≡ true → has_claim other q (x ∷ earlier) ≡ true
-      → (a : AddressValue) → Contains r.holding.addresses a → Contains q.holding.addresses a → AreShared r q ⊎ CameShown key r other q (x ∷ earlier)
+      → (a : AddressValue) → Contains r.holding.addresses a → Contains q.holding.addresses a → ClaimsMayShare r q ⊎ CameShown key r other q (x ∷ earlier)
   newer key other apart r q there new before now a in_r in_q =
       let came_to : Came x (terms_shown key earlier) key r = came class x earlier (none-out class earlier is.1) is key r there (has-not key r earlier new) in
       let mine : age_of key r (x ∷ earlier) ≡ suc 0 = age-some key r x earlier (has-from key r (x ∷ earlier) there) ∙ ap suc (age-none key r earlier new) in
@@ -138,7 +138,7 @@ module _ (class : Option (List ℕ)) (x : Entry) (earlier : List Entry) (is : Is
       now' : has_claim other q (x ∷ earlier) ≡ true
       now' = has-from other q (x ∷ earlier) there'
 
-      by_tests : (b c : Bool) → has_claim key r earlier ≡ b → has_claim other q earlier ≡ c → AreShared r q ⊎ CameShown key r other q (x ∷ earlier) ⊎ CameShown other q key r (x ∷ earlier)
+      by_tests : (b c : Bool) → has_claim key r earlier ≡ b → has_claim other q earlier ≡ c → ClaimsMayShare r q ⊎ CameShown key r other q (x ∷ earlier) ⊎ CameShown other q key r (x ∷ earlier)
       by_tests true true e f =
           ⊎_elim (λ s. inl s)
           (λ shown. inr (⊎_elim (λ c. inl (older key other r q e now f now' c)) (λ c. inr (older other key q r f now' e now c)) shown))

@@ -26,7 +26,7 @@ use Rattle.alloc_book.specs.Chosen.{IsChosen}
 use Rattle.core_rules.specs.declared.turn.Turn.{Turn}
 use Rattle.core_rules.specs.declared.turn.Turn.TheVariants.{Idle, NoPut, Wants}
 use Rattle.core_rules.specs.Core.{State, service_of}
-use Rattle.core_rules.specs.Take.{Concern, Shows, Drops, EndsServices, Configures, Lapses, Nothing, concern, note_by}
+use Rattle.core_rules.specs.Take.{Effect, Shows, Drops, EndsServices, Configures, Expires, Nothing, effect_of, note_by}
 use Rattle.core_rules.specs.Turn.{wanted_record, reason_in, chosen_at, turn_at, turn_of}
 use Rattle.core_rules.specs.Run.{core_after, observed, claims_shown}
 use Rattle.core_rules.proofs.Runs.{core_holds_what_was_observed}
@@ -105,7 +105,7 @@ note-applied : (event : Event) (earlier : List Observation) → IsRightNote (app
 note-applied event earlier = note-by (event_compiles (cached earlier).objects (cached earlier).config_ended event) event earlier refl
 
 -- what concerns no configuration compiles none
-never-compiles : (event : Event) (c : Concern) → concern event ≡ c → c ≢ Configures → (earlier : List Observation) → ¬ (Compiles earlier (Watched event))
+never-compiles : (event : Event) (c : Effect) → effect_of event ≡ c → c ≢ Configures → (earlier : List Observation) → ¬ (Compiles earlier (Watched event))
 never-compiles (Changed version (objects.Service service)) c e other earlier turn = turn.0
 never-compiles (Changed version (objects.Pool pool)) c e other earlier turn = other (sym e)
 never-compiles (Changed version (objects.L2 adv)) c e other earlier turn = other (sym e)
@@ -132,13 +132,13 @@ never-compiles (Members names) c e other earlier turn = turn
 never-compiles (Frame interface bytes) c e other earlier turn = turn
 never-compiles Ignored c e other earlier turn = turn
 
-note-of : (c : Concern) (s : State) (event : Event) (earlier : List Observation) → concern event ≡ c → s.held ≡ cached earlier → IsRightNote (note_by c s event) event earlier
+note-of : (c : Effect) (s : State) (event : Event) (earlier : List Observation) → effect_of event ≡ c → s.held ≡ cached earlier → IsRightNote (note_by c s event) event earlier
 note-of Configures s event earlier e h = subst (λ (x : Cached). IsRightNote (applied x event).note event earlier) (sym h) (note-applied event earlier)
 note-of (Shows version service) s event earlier e h = never-compiles event (Shows version service) e (λ x. absurd (cc)) earlier
 note-of (Drops key) s event earlier e h = never-compiles event (Drops key) e (λ x. absurd (cc)) earlier
 note-of EndsServices s event earlier e h = never-compiles event EndsServices e (λ x. absurd (cc)) earlier
-note-of Lapses s event earlier e h = never-compiles event Lapses e (λ x. absurd (cc)) earlier
+note-of Expires s event earlier e h = never-compiles event Expires e (λ x. absurd (cc)) earlier
 note-of Nothing s event earlier e h = never-compiles event Nothing e (λ x. absurd (cc)) earlier
 
 pub notes_are_right : NotesAreRight
-notes_are_right class event earlier is = note-of (concern event) (core_after class earlier) event (observed earlier) refl (core_holds_what_was_observed class earlier is).0
+notes_are_right class event earlier is = note-of (effect_of event) (core_after class earlier) event (observed earlier) refl (core_holds_what_was_observed class earlier is).0

@@ -47,8 +47,8 @@ was_shown key c [] = false
 was_shown key c (e ∷ earlier) = if has_claim key c earlier then was_shown key c earlier else is_event e
 
 -- the terms of both may share: those of their records' marks, and where a record is the mark of none those of its service
-abbrev pub AreShared : ClaimValue → ClaimValue → Type 0
-AreShared c d = MayShare c.terms d.terms
+abbrev pub ClaimsMayShare : ClaimValue → ClaimValue → Type 0
+ClaimsMayShare c d = MayShare c.terms d.terms
 
 -- the key came to its claim later than the other came to its own, and by an event
 abbrev pub CameShown : Key → ClaimValue → Key → ClaimValue → List Entry → Type 0
@@ -60,7 +60,7 @@ abbrev pub AreSharedOrShown : List Entry → Type 0
 AreSharedOrShown run =
     (key other : Key) → key ≢ other → (c d : ClaimValue) → Contains (may_have key run) c → Contains (may_have other run) d
     → (a : AddressValue) → Contains c.holding.addresses a → Contains d.holding.addresses a
-    → AreShared c d ⊎ CameShown key c other d run ⊎ CameShown other d key c run
+    → ClaimsMayShare c d ⊎ CameShown key c other d run ⊎ CameShown other d key c run
 
 -- the services that events show have terms that there can be: their texts are texts, and their ports are ports
 abbrev pub AllShowTerms : List Entry → Type 0

@@ -7,15 +7,15 @@ use Rattle.kube_model.specs.declared.reply.PutReply.TheVariants.{Ok as StoredRep
 use Rattle.kube_model.specs.Keys.{same_key, has_key}
 use Rattle.core_rules.specs.declared.turn.Turn.{Turn}
 use Rattle.core_rules.specs.declared.turn.Turn.TheVariants.{Idle, NoPut, Wants}
-use Rattle.core_rules.specs.Take.{Concern, Shows, Drops, EndsServices, Configures, Lapses, Nothing, concern}
+use Rattle.core_rules.specs.Take.{Effect, Shows, Drops, EndsServices, Configures, Expires, Nothing, effect_of}
 use Rattle.core_rules.specs.Run.{core_after, Entry, Took, Expired, Turned, Heard, IsRun, put_out, version_shown}
 
-abbrev pub awaits_told : Key → Concern → ℕ → Bool → Bool
+abbrev pub awaits_told : Key → Effect → ℕ → Bool → Bool
 awaits_told key (Shows version service) shown before = if same_key service.key key && not (nat_le version shown) then false else before
 awaits_told key (Drops k) shown before = if same_key k key then false else before
 awaits_told key EndsServices shown before = if shown == 0 then false else before
 awaits_told key Configures shown before = before
-awaits_told key Lapses shown before = before
+awaits_told key Expires shown before = before
 awaits_told key Nothing shown before = before
 
 abbrev pub awaits_heard : Key → Option Put → PutReply → Bool → Bool
@@ -28,7 +28,7 @@ awaits_heard key (Some put) Unknown before = before
 -- The last put of the key that was answered was refused, and since then no newer event was shown, nor was the key deleted.
 abbrev pub awaits_shown : Key → List Entry → Bool
 awaits_shown key [] = false
-awaits_shown key (Took event ∷ earlier) = awaits_told key (concern event) (version_shown key earlier) (awaits_shown key earlier)
+awaits_shown key (Took event ∷ earlier) = awaits_told key (effect_of event) (version_shown key earlier) (awaits_shown key earlier)
 awaits_shown key (Expired group ∷ earlier) = awaits_shown key earlier
 awaits_shown key (Turned turn ∷ earlier) = awaits_shown key earlier
 awaits_shown key (Heard reply ∷ earlier) = awaits_heard key (put_out earlier) reply (awaits_shown key earlier)

@@ -25,7 +25,7 @@ use Rattle.core_rules.specs.Core.{State, shown_terms, terms_in}
 use Rattle.core_rules.specs.Take.{core_by, core_take, is_unlisted}
 use Rattle.core_rules.specs.Replied.{put_terms, replied_to}
 use Rattle.core_rules.specs.Run.{Took, Expired, Turned, Heard, core_after, ClaimsAreByMark}
-use Rattle.core_rules.proofs.Concerns.{by_concern}
+use Rattle.core_rules.proofs.Effects.{by_effect}
 
 -- the terms of the record's mark, where it is marked
 abbrev AreMarked : Record → Terms → Type 0
@@ -61,7 +61,7 @@ either true xs ys all rest = all
 either false xs ys all rest = rest
 
 took : (s : State) → AllByMark s.claims → (event : Event) → AllByMark (core_take s event).claims
-took s all = by_concern (λ event c. AllByMark (core_by c s event).claims)
+took s all = by_effect (λ event c. AllByMark (core_by c s event).claims)
     (λ version service. either (is_newer key_cmp s.held.services service.key version) (settled service.key service.holding (shown_terms service) s.claims) s.claims
     (settles s.claims service.key service.holding (terms_of service) all) all)
     (λ key. filtered (λ x. not (same_key x.key key)) s.claims all)

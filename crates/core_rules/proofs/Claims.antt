@@ -24,10 +24,10 @@ use Rattle.kube_model.proofs.KeyLaws.{key_cmp-total, key_cmp-exact, same_key-is}
 use Rattle.claim_index.specs.Claims.{ClaimValue, claims_of, claim_of, terms_under, added, settled}
 use Rattle.claim_index.proofs.ClaimLaws.{claims_of-settled, claims_of-doubted, claims_of-others}
 use Rattle.core_rules.specs.Core.{State, no_terms, terms_in, shown_terms}
-use Rattle.core_rules.specs.Take.{concern, core_by, core_take, is_unlisted}
+use Rattle.core_rules.specs.Take.{effect_of, core_by, core_take, is_unlisted}
 use Rattle.core_rules.specs.Replied.{put_terms, replied_to}
 use Rattle.core_rules.specs.Run.{Entry, Took, Expired, Turned, Heard, core_after, IsRun, observed, version_shown, terms_shown, claims_told, claims_heard, claims_shown, ClaimsAreShown}
-use Rattle.core_rules.proofs.Concerns.{by_concern}
+use Rattle.core_rules.proofs.Effects.{by_effect}
 use Rattle.core_rules.proofs.Runs.{core_holds_what_was_observed}
 
 -- what is held of a key, and at which version
@@ -78,8 +78,8 @@ shown_by false false late key k holding terms claims before e a s = a
 
 took-claims : (s : State) (key : Key) (v : ℕ) (before : List ClaimValue) → version_at key_cmp s.held.services key ≡ v → claims_of key s.claims ≡ before
     → is_unlisted (core_take s (ListEnd groups.Service)).held.services key ≡ eqb v 0
-    → (event : Event) → claims_of key (core_take s event).claims ≡ claims_told key (concern event) v before
-took-claims s key v before version a ends = by_concern (λ event c. claims_of key (core_by c s event).claims ≡ claims_told key c v before)
+    → (event : Event) → claims_of key (core_take s event).claims ≡ claims_told key (effect_of event) v before
+took-claims s key v before version a ends = by_effect (λ event c. claims_of key (core_by c s event).claims ≡ claims_told key c v before)
     (λ at service. shown_by (same_key service.key key) (not (leb at (version_at key_cmp s.held.services service.key))) (not (leb at v)) key service.key service.holding (shown_terms service) s.claims before
     (claims_of-settled s.claims service.key key service.holding (shown_terms service)) a
     (λ same. ap (λ n. not (leb at n)) (ap (version_at key_cmp s.held.services) (same_key-is service.key key same) ∙ version)))

@@ -10,14 +10,14 @@ use Rattle.kube_model.specs.declared.reply.PutReply.TheVariants.{Ok as StoredRep
 use Rattle.object_history.specs.Cache.{cached, cached_after}
 use Rattle.object_history.specs.Observations.{Observation, Watched, WatchExpired, Written}
 use Rattle.core_rules.specs.Core.{State}
-use Rattle.core_rules.specs.Take.{concern, core_by, core_take, shows}
+use Rattle.core_rules.specs.Take.{effect_of, core_by, core_take, shows}
 use Rattle.core_rules.specs.Turn.{put_in}
 use Rattle.core_rules.specs.Replied.{replied_to}
 use Rattle.core_rules.specs.Run.{Took, Expired, Turned, Heard, core_after, told_by, heard_by, observed, HoldsWhatWasObserved}
-use Rattle.core_rules.proofs.Concerns.{by_concern}
+use Rattle.core_rules.proofs.Effects.{by_effect}
 
-took-held : (s : State) (earlier : List Observation) → s.held ≡ cached earlier → (event : Event) → (core_take s event).held ≡ cached (told_by (concern event) event earlier)
-took-held s earlier e = by_concern (λ event c. (core_by c s event).held ≡ cached (told_by c event earlier))
+took-held : (s : State) (earlier : List Observation) → s.held ≡ cached earlier → (event : Event) → (core_take s event).held ≡ cached (told_by (effect_of event) event earlier)
+took-held s earlier e = by_effect (λ event c. (core_by c s event).held ≡ cached (told_by c event earlier))
     (λ version service. ap (cached_after (Watched (shows version service))) e)
     (λ key. ap (cached_after (Watched (Deleted kinds.Service key))) e)
     (ap (cached_after (Watched (ListEnd groups.Service))) e)
@@ -26,7 +26,7 @@ took-held s earlier e = by_concern (λ event c. (core_by c s event).held ≡ cac
     (λ event. e)
 
 pub took-out : (s : State) (event : Event) → (core_take s event).out ≡ s.out
-took-out s = by_concern (λ event c. (core_by c s event).out ≡ s.out) (λ version service. refl) (λ key. refl) refl (λ event c. refl) refl (λ event. refl)
+took-out s = by_effect (λ event c. (core_by c s event).out ≡ s.out) (λ version service. refl) (λ key. refl) refl (λ event c. refl) refl (λ event. refl)
 
 heard-held : (out : Option Put) (reply : PutReply) (s : State) (earlier : List Observation) → s.held ≡ cached earlier → (replied_to out s reply).held ≡ cached (heard_by out reply earlier)
 heard-held None reply s earlier e = e

@@ -20,7 +20,7 @@ use Rattle.claim_index.specs.Claims.{ClaimValue, claims_of, claim_of, terms_unde
 use Rattle.kube_model.specs.Keys.{same_key}
 use Rattle.core_rules.specs.declared.turn.Turn.{Turn}
 use Rattle.core_rules.specs.Core.{State, fresh, no_terms, shown_terms}
-use Rattle.core_rules.specs.Take.{Concern, Shows, Drops, EndsServices, Configures, Lapses, Nothing, concern, core_take, core_expired}
+use Rattle.core_rules.specs.Take.{Effect, Shows, Drops, EndsServices, Configures, Expires, Nothing, effect_of, core_take, core_expired}
 use Rattle.core_rules.specs.Turn.{core_turn, after_turn, put_in}
 use Rattle.core_rules.specs.Replied.{core_reply}
 
@@ -61,12 +61,12 @@ put_out (Expired group ∷ earlier) = put_out earlier
 put_out (Turned turn ∷ earlier) = put_in turn
 put_out (Heard reply ∷ earlier) = None
 
-abbrev pub told_by : Concern → Event → List Observation → List Observation
+abbrev pub told_by : Effect → Event → List Observation → List Observation
 told_by (Shows version service) event earlier = Watched event ∷ earlier
 told_by (Drops key) event earlier = Watched event ∷ earlier
 told_by EndsServices event earlier = Watched event ∷ earlier
 told_by Configures event earlier = Watched event ∷ earlier
-told_by Lapses event earlier = Watched event ∷ earlier
+told_by Expires event earlier = Watched event ∷ earlier
 told_by Nothing event earlier = earlier
 
 abbrev pub heard_of : Put → PutReply → List Observation → List Observation
@@ -82,7 +82,7 @@ heard_by (Some put) reply earlier = heard_of put reply earlier
 -- what observed to what is held
 abbrev pub observed : List Entry → List Observation
 observed [] = []
-observed (Took event ∷ earlier) = told_by (concern event) event (observed earlier)
+observed (Took event ∷ earlier) = told_by (effect_of event) event (observed earlier)
 observed (Expired group ∷ earlier) = WatchExpired group ∷ observed earlier
 observed (Turned turn ∷ earlier) = observed earlier
 observed (Heard reply ∷ earlier) = heard_by (put_out earlier) reply (observed earlier)
@@ -95,13 +95,13 @@ version_shown key run = version_last_shown service_resource key (observed run)
 abbrev pub terms_shown : Key → List Entry → Terms
 terms_shown key run = option_map_or (λ h. terms_of h.object) (last_shown service_resource key (observed run)) no_terms
 
-abbrev pub claims_told : Key → Concern → ℕ → List ClaimValue → List ClaimValue
+abbrev pub claims_told : Key → Effect → ℕ → List ClaimValue → List ClaimValue
 claims_told key (Shows version service) shown before =
     if same_key service.key key && not (nat_le version shown) then claim_of service.key service.holding (shown_terms service) else before
 claims_told key (Drops k) shown before = if same_key k key then [] else before
 claims_told key EndsServices shown before = if shown == 0 then [] else before
 claims_told key Configures shown before = before
-claims_told key Lapses shown before = before
+claims_told key Expires shown before = before
 claims_told key Nothing shown before = before
 
 abbrev pub claims_replied : Key → Put → PutReply → Terms → List ClaimValue → List ClaimValue
@@ -119,7 +119,7 @@ claims_heard key (Some put) reply adopted before = claims_replied key put reply 
 -- mark, and where it is the mark of none under those of the service as the last newer event showed it.
 abbrev pub claims_shown : Key → List Entry → List ClaimValue
 claims_shown key [] = []
-claims_shown key (Took event ∷ earlier) = claims_told key (concern event) (version_shown key earlier) (claims_shown key earlier)
+claims_shown key (Took event ∷ earlier) = claims_told key (effect_of event) (version_shown key earlier) (claims_shown key earlier)
 claims_shown key (Expired group ∷ earlier) = claims_shown key earlier
 claims_shown key (Turned turn ∷ earlier) = claims_shown key earlier
 claims_shown key (Heard reply ∷ earlier) = claims_heard key (put_out earlier) reply (terms_shown key earlier) (claims_shown key earlier)

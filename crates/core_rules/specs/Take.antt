@@ -28,49 +28,49 @@ use Rattle.core_rules.specs.Core.{State, shown_terms, is_ready, all_free, waitin
 use Rattle.core_rules.specs.Keys.{own_key}
 
 -- what an event is about, for a controller
-pub data Concern : Type 0 where
-  Shows : (version : ℕ) → (service : Service) → Concern  -- a service
-  Drops : (key : Key) → Concern  -- a service that isn't there any more
-  EndsServices : Concern  -- their list has ended
-  Configures : Concern  -- the configuration or a namespace
-  Lapses : Concern  -- the watches have expired
-  Nothing : Concern  -- nodes, endpoint slices and their list, members, frames: a controller holds none of them
+pub data Effect : Type 0 where
+  Shows : (version : ℕ) → (service : Service) → Effect  -- a service
+  Drops : (key : Key) → Effect  -- a service that isn't there any more
+  EndsServices : Effect  -- their list has ended
+  Configures : Effect  -- the configuration or a namespace
+  Expires : Effect  -- the watches have expired
+  Nothing : Effect  -- nodes, endpoint slices and their list, members, frames: a controller holds none of them
 
-abbrev pub shown_concern : ℕ → Object → Concern
-shown_concern version (objects.Service service) = Shows version service
-shown_concern version (objects.Node node) = Nothing
-shown_concern version (objects.Slice slice) = Nothing
-shown_concern version (objects.Pool pool) = Configures
-shown_concern version (objects.L2 adv) = Configures
-shown_concern version (objects.Bgp adv) = Configures
-shown_concern version (objects.Peer peer) = Configures
-shown_concern version (objects.Community community) = Configures
-shown_concern version (objects.Namespace namespace) = Configures
+abbrev pub shown_effect : ℕ → Object → Effect
+shown_effect version (objects.Service service) = Shows version service
+shown_effect version (objects.Node node) = Nothing
+shown_effect version (objects.Slice slice) = Nothing
+shown_effect version (objects.Pool pool) = Configures
+shown_effect version (objects.L2 adv) = Configures
+shown_effect version (objects.Bgp adv) = Configures
+shown_effect version (objects.Peer peer) = Configures
+shown_effect version (objects.Community community) = Configures
+shown_effect version (objects.Namespace namespace) = Configures
 
-abbrev pub deleted_concern : Kind → Key → Concern
-deleted_concern kinds.Service key = Drops key
-deleted_concern kinds.Node key = Nothing
-deleted_concern kinds.Slice key = Nothing
-deleted_concern kinds.Pool key = Configures
-deleted_concern kinds.L2 key = Configures
-deleted_concern kinds.Bgp key = Configures
-deleted_concern kinds.Peer key = Configures
-deleted_concern kinds.Community key = Configures
-deleted_concern kinds.Namespace key = Configures
+abbrev pub deleted_effect : Kind → Key → Effect
+deleted_effect kinds.Service key = Drops key
+deleted_effect kinds.Node key = Nothing
+deleted_effect kinds.Slice key = Nothing
+deleted_effect kinds.Pool key = Configures
+deleted_effect kinds.L2 key = Configures
+deleted_effect kinds.Bgp key = Configures
+deleted_effect kinds.Peer key = Configures
+deleted_effect kinds.Community key = Configures
+deleted_effect kinds.Namespace key = Configures
 
-abbrev pub listed_concern : Group → Concern
-listed_concern groups.Config = Configures
-listed_concern groups.Service = EndsServices
-listed_concern groups.Endpoint = Nothing
+abbrev pub listed_effect : Group → Effect
+listed_effect groups.Config = Configures
+listed_effect groups.Service = EndsServices
+listed_effect groups.Endpoint = Nothing
 
-abbrev pub concern : Event → Concern
-concern (Changed version object) = shown_concern version object
-concern (Deleted kind key) = deleted_concern kind key
-concern (ListEnd group) = listed_concern group
-concern Expired = Lapses
-concern (Members names) = Nothing
-concern (Frame interface bytes) = Nothing
-concern Ignored = Nothing
+abbrev pub effect_of : Event → Effect
+effect_of (Changed version object) = shown_effect version object
+effect_of (Deleted kind key) = deleted_effect kind key
+effect_of (ListEnd group) = listed_effect group
+effect_of Expired = Expires
+effect_of (Members names) = Nothing
+effect_of (Frame interface bytes) = Nothing
+effect_of Ignored = Nothing
 
 abbrev pub shows : ℕ → Service → Event
 shows version service = Changed version (objects.Service service)
@@ -163,44 +163,44 @@ configured s event =
     }
 
 -- the watches have expired
-abbrev pub lapsed : State → State
-lapsed s = record s { held = cached_after (Watched Expired) s.held; queue = [] }
+abbrev pub all_expired : State → State
+all_expired s = record s { held = cached_after (Watched Expired) s.held; queue = [] }
 
-abbrev pub core_by : Concern → State → Event → State
+abbrev pub core_by : Effect → State → Event → State
 core_by (Shows version service) s event = with_service s version service
 core_by (Drops key) s event = without_service s key
 core_by EndsServices s event = with_services_listed s
 core_by Configures s event = configured s event
-core_by Lapses s event = lapsed s
+core_by Expires s event = all_expired s
 core_by Nothing s event = s
 
 -- the core after an event
 abbrev pub core_take : State → Event → State
-core_take s event = core_by (concern event) s event
+core_take s event = core_by (effect_of event) s event
 
-abbrev pub note_by : Concern → State → Event → TakeNote
+abbrev pub note_by : Effect → State → Event → TakeNote
 note_by Configures s event = (applied s.held event).note
 note_by (Shows version service) s event = Quiet
 note_by (Drops key) s event = Quiet
 note_by EndsServices s event = Quiet
-note_by Lapses s event = Quiet
+note_by Expires s event = Quiet
 note_by Nothing s event = Quiet
 
 -- what is noted of an event
 abbrev pub core_note : State → Event → TakeNote
-core_note s event = note_by (concern event) s event
+core_note s event = note_by (effect_of event) s event
 
-abbrev pub limits_by : Concern → State → Bool
+abbrev pub limits_by : Effect → State → Bool
 limits_by (Shows version service) s = passes key_cmp most_services s.held.services service.key version
 limits_by (Drops key) s = false
 limits_by EndsServices s = false
 limits_by Configures s = false
-limits_by Lapses s = false
+limits_by Expires s = false
 limits_by Nothing s = false
 
 -- the event would have one more service held than may be
 abbrev pub limits : State → Event → Bool
-limits s event = limits_by (concern event) s
+limits s event = limits_by (effect_of event) s
 
 -- The watch of one list has expired. What is held of it is at version 0 from now on, and where it was the list of the
 -- configuration or of the services, the queue is empty.

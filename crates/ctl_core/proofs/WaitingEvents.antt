@@ -28,8 +28,8 @@ use Rattle.object_cache.specs.Told.{passing}
 use Rattle.claim_index.specs.Claims.{loses, has_claims}
 use Rattle.core_rules.specs.Core.{State, is_ready, service_of, is_free_with, all_free, waits, waiting, shown_terms}
 use Rattle.core_rules.specs.Keys.{own_key}
-use Rattle.core_rules.specs.Take.{Configures, concern, no_key, is_unlisted, listed_keys, have_claims, listed_and_free, without_service, with_services_listed, is_accepted, is_namespace, wakes, configured, core_expired}
-use Rattle.core_rules.proofs.Concerns.{config-services}
+use Rattle.core_rules.specs.Take.{Configures, effect_of, no_key, is_unlisted, listed_keys, have_claims, listed_and_free, without_service, with_services_listed, is_accepted, is_namespace, wakes, configured, core_expired}
+use Rattle.core_rules.proofs.Effects.{config-services}
 use Rattle.core_laws.proofs.Awaiting.{has_key-kept, has_key-without}
 use Rattle.core_laws.proofs.Orderly.{own-same}
 use Rattle.core_laws.proofs.QueueOnce.{no-true}
@@ -395,7 +395,7 @@ as-ready false true accepted namespace stays e = absurd (cc)
 as-ready false false accepted namespace stays e = refl
 
 configured-at : (b : Bool) (s : State) (event : Event) (old new : BTreeSet Key) (key : Key) → IsStrictlySortedBy key_cmp (keys_of s.held.services)
-    → b ≡ wakes s.held (applied s.held event) (cached_after (Watched event) s.held) → concern event ≡ Configures → WaitIn s old
+    → b ≡ wakes s.held (applied s.held event) (cached_after (Watched event) s.held) → effect_of event ≡ Configures → WaitIn s old
     → contains key_cmp new key ≡ (not b && contains key_cmp old key)
     → contains key_cmp new key
     ≡ (is_ready (cached_after (Watched event) s.held) && waits_at s.class (cond b (s.queue ++ all_free s.queue s.awaiting s.held.services) s.queue) s.awaiting key (service_of s.held key))
@@ -409,7 +409,7 @@ configured-at false s event old new key sorted b c waits_old new_is =
     (as-ready (is_ready s.held) (is_ready (cached_after (Watched event) s.held)) (is_accepted (applied s.held event).note) (is_namespace (applied s.held event).change)
     (config-ready event s.held c) (sym b))
 
-pub configured-wait : (s : State) (event : Event) (woken : Bool) (old new : BTreeSet Key) → IsReached s → concern event ≡ Configures → WaitIn s old
+pub configured-wait : (s : State) (event : Event) (woken : Bool) (old new : BTreeSet Key) → IsReached s → effect_of event ≡ Configures → WaitIn s old
     → woken ≡ wakes s.held (applied s.held event) (cached_after (Watched event) s.held)
     → ((key : Key) → contains key_cmp new key ≡ (not woken && contains key_cmp old key))
     → WaitIn (configured s event) new

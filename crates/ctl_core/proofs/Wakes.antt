@@ -10,8 +10,8 @@ use Rattle.object_history.specs.Cache.{Cached, cached_after}
 use Rattle.object_history.specs.Observations.{Watched}
 use Rattle.object_cache.specs.Change.{applied}
 use Rattle.core_rules.specs.Core.{State, is_ready, all_free}
-use Rattle.core_rules.specs.Take.{Configures, concern, is_accepted, is_namespace, wakes, configured}
-use Rattle.core_rules.proofs.Concerns.{config-services_ended}
+use Rattle.core_rules.specs.Take.{Configures, effect_of, is_accepted, is_namespace, wakes, configured}
+use Rattle.core_rules.proofs.Effects.{config-services_ended}
 use Rattle.ctl_core.specs.Waking.{ends_config, may_wake}
 
 config-ends : (event : Event) (s : Cached) → (cached_after (Watched event) s).config_ended ≡ true → (s.config_ended || ends_config event) ≡ true
@@ -26,7 +26,7 @@ config-ends (Frame interface bytes) s e = or_left s.config_ended false e
 config-ends Ignored s e = or_left s.config_ended false e
 
 -- where the core is ready after the event, it might
-ready-may : (event : Event) (s : Cached) → concern event ≡ Configures → is_ready (cached_after (Watched event) s) ≡ true → may_wake s event ≡ true
+ready-may : (event : Event) (s : Cached) → effect_of event ≡ Configures → is_ready (cached_after (Watched event) s) ≡ true → may_wake s event ≡ true
 ready-may event s c ready =
     let after = cached_after (Watched event) s in
     let parts = and_parts (after.config_ended && after.services_ended) (is_some after.config) ready in
@@ -39,7 +39,7 @@ taken-back true may queue free woken = ap (λ b. queue ++ cond b free []) (woken
 taken-back false may queue free woken = take_at queue (cond may free []) (length queue) refl
 
 -- the keys that might be woken are queued, and taken back where none is
-pub woken : (event : Event) (s : Cached) (told : Bool) (queue free : List Key) → concern event ≡ Configures
+pub woken : (event : Event) (s : Cached) (told : Bool) (queue free : List Key) → effect_of event ≡ Configures
     → let wakes = is_ready (cached_after (Watched event) s) && told in
     cond wakes (queue ++ cond (may_wake s event) free []) (take (length queue) (queue ++ cond (may_wake s event) free [])) ≡ cond wakes (queue ++ free) queue
 woken event s told queue free c =
@@ -47,7 +47,7 @@ woken event s told queue free c =
     (λ wakes. ready-may event s c (and_parts (is_ready (cached_after (Watched event) s)) told wakes).0)
 
 -- the state then
-pub woken-configured : (s : State) (event : Event) (held : Cached) (wake : Bool) (len : ℕ) (more queued queue : List Key) → concern event ≡ Configures
+pub woken-configured : (s : State) (event : Event) (held : Cached) (wake : Bool) (len : ℕ) (more queued queue : List Key) → effect_of event ≡ Configures
     → wake ≡ wakes s.held (applied s.held event) (cached_after (Watched event) s.held) → len ≡ length s.queue
     → more ≡ cond (may_wake s.held event) (all_free s.queue s.awaiting s.held.services) []
     → held ≡ cached_after (Watched event) s.held → queued ≡ s.queue ++ more → queue ≡ cond wake queued (take len queued)

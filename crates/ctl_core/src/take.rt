@@ -9,7 +9,7 @@ ghost use Rattle.object_cache.specs.declared.change.TakeNote.TheVariants.{Quiet 
 ghost use Rattle.versioned_map.specs.Entries.{is_newer};
 ghost use Rattle.claim_index.specs.Claims.{has_claims};
 ghost use Rattle.core_rules.specs.Core.{all_free, is_ready};
-ghost use Rattle.core_rules.specs.Take.{Configures, concern, core_take, core_note, core_expired, limits, with_service, without_service, with_services_listed, lapsed, listed_and_free, have_claims, shows, is_accepted, is_namespace, configured};
+ghost use Rattle.core_rules.specs.Take.{Configures, effect_of, core_take, core_note, core_expired, limits, with_service, without_service, with_services_listed, all_expired, listed_and_free, have_claims, shows, is_accepted, is_namespace, configured};
 ghost use Rattle.ctl_core.specs.Holding.{IsPrepared, held_service};
 ghost use Rattle.ctl_core.specs.Queued.{GoBehind};
 ghost use Rattle.ctl_core.specs.Reached.{IsReached};
@@ -67,7 +67,7 @@ impl CoreState {
                 Ok(TakeNote::Quiet)
             }
             Event::Expired => {
-                self.lapse();
+                self.expire_watches();
                 Ok(TakeNote::Quiet)
             }
             Event::Changed {
@@ -260,7 +260,7 @@ impl CoreState {
 
     /// An event of the configuration, or of a namespace.
     fn configure(&mut self, event: Event) -> Result<TakeNote, NoMemory>
-        requires configures { concern event ≡ Configures }
+        requires configures { effect_of event ≡ Configures }
         requires reached { IsReached self.old }
         ensures note { IfOk result (λ note. note ≡ (applied self.old.held event).note) }
         ensures ok { OnOk result (self.new ≡ configured self.old event) }
@@ -295,8 +295,8 @@ impl CoreState {
     }
 
     /// The watches have expired.
-    fn lapse(&mut self)
-        ensures { self.new ≡ lapsed self.old }
+    fn expire_watches(&mut self)
+        ensures { self.new ≡ all_expired self.old }
     {
         self.cache.expire_all();
         self.queue.clear();

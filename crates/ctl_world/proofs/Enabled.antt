@@ -14,7 +14,7 @@ use Rattle.versioned_map.specs.Entries.{version_at}
 use Rattle.alloc_book.specs.declared.choice.Choice.{Choice}
 use Rattle.status_store.specs.declared.change.Edit.{Edit}
 use Rattle.status_store.specs.declared.change.Edit.TheVariants.{Set, Reset, Delete}
-use Rattle.status_store.specs.Changes.{IsKept, DeletesNothing, record_of}
+use Rattle.status_store.specs.Changes.{IsWellFormed, DeletesNothing, record_of}
 use Rattle.status_store.proofs.EditLaws.{edit-absent}
 use Rattle.status_store.proofs.ChangeLaws.{same-version}
 use Rattle.core_rules.specs.declared.turn.Turn.TheVariants.{Idle, NoPut, Wants}
@@ -100,19 +100,19 @@ no-lanes groups.Endpoint e = refl
 
 -- ---- edits
 
-edits-there : (edit : Edit) (w : WorldValue) → IsKept w.store → may_edit edit w.store ≡ true → ¬ (DeletesNothing edit w.store.objects) × ResetsBare edit
+edits-there : (edit : Edit) (w : WorldValue) → IsWellFormed w.store → may_edit edit w.store ≡ true → ¬ (DeletesNothing edit w.store.objects) × ResetsBare edit
 edits-there (Set object) w kept e = (λ nothing. nothing, tt)
 edits-there (Reset object) w kept e = (λ nothing. nothing, not-true (is_assigned (record_of object)) e)
 edits-there (Delete kind key) w kept e = (λ nothing. true≢false (sym e ∙ (edit-absent (Delete kind key) w.store kept).1 nothing), tt)
 
-no-edits : (edit : Edit) (w : WorldValue) → IsKept w.store → may_edit edit w.store ≡ false → ¬ (¬ (DeletesNothing edit w.store.objects) × ResetsBare edit)
+no-edits : (edit : Edit) (w : WorldValue) → IsWellFormed w.store → may_edit edit w.store ≡ false → ¬ (¬ (DeletesNothing edit w.store.objects) × ResetsBare edit)
 no-edits (Set object) w kept e = absurd (true≢false e)
 no-edits (Reset object) w kept e = λ is. true≢false (sym (not-false (is_assigned (record_of object)) e) ∙ is.1)
 no-edits (Delete kind key) w kept e = λ is. is.0 ((edit-absent (Delete kind key) w.store kept).0 e)
 
 -- ---- steps
 
-pub enabled : (step : Step) (w : WorldValue) → IsKept w.store → is_enabled step w ≡ true → IsEnabled step w
+pub enabled : (step : Step) (w : WorldValue) → IsWellFormed w.store → is_enabled step w ≡ true → IsEnabled step w
 enabled (Edits edit) w kept e = edits-there edit w kept e
 enabled (Take group) w kept e =
     let parts = both (is_some w.core) _ e in
@@ -131,7 +131,7 @@ up (Some x) is = refl
 down-then : {X : Type 0} (o : Option X) (b : Bool) → is_some o && b ≡ false → o ≢ None → b ≡ false
 down-then o b e is = not-both (is_some o) b e (up o is)
 
-pub disabled : (step : Step) (w : WorldValue) → IsKept w.store → is_enabled step w ≡ false → ¬ (IsEnabled step w)
+pub disabled : (step : Step) (w : WorldValue) → IsWellFormed w.store → is_enabled step w ≡ false → ¬ (IsEnabled step w)
 disabled (Edits edit) w kept e = no-edits edit w kept e
 disabled (Take group) w kept e = λ is. is.1 (isn't-filled (lane_of group w) (not-false (is_nil (lane_of group w)) (down-then w.core _ e is.0)))
 disabled (Turns outcome) w kept e = λ is. is.0 (no-turns w.core e is.1)

@@ -10,7 +10,7 @@ use Rattle.status_store.specs.declared.change.Edit.TheVariants.{Set, Reset}
 use Rattle.status_store.specs.declared.stored.Stored.{Stored}
 use Rattle.status_store.specs.Places.{Place, place_of}
 use Rattle.status_store.specs.Objects.{IsStored, IsAbsent, is_of, stored_at}
-use Rattle.status_store.specs.Changes.{StoreValue, IsKept, with_record, kept_record, set_as, reset_as, edited_place, edited, empty_store}
+use Rattle.status_store.specs.Changes.{StoreValue, IsWellFormed, with_record, kept_record, set_as, reset_as, edited_place, edited, empty_store}
 use Rattle.status_store.proofs.ChangeLaws.{kept-with_stored, place_of-with_record}
 use Rattle.status_store.proofs.EditLaws.{edit-others}
 use Rattle.status_store.proofs.StoredLaws.{is_of-is, is_of-by, absent-found, stored-with_stored}
@@ -21,7 +21,7 @@ use Rattle.ctl_world.specs.Begun.{AreApart, first_stored, handed_in, AreStoredAs
 abbrev AreNew : List Object → StoreValue → Type 0
 AreNew objects s = AllByRecursion (λ o. IsAbsent s.objects (place_of o)) objects
 
-kept-empty : IsKept empty_store
+kept-empty : IsWellFormed empty_store
 unfolding IsStrictlySortedBy
 kept-empty = record { ascending = tt; counted = tt }
 
@@ -37,8 +37,8 @@ IsOneOf objects held = (object : Object) × Contains objects object × (place_of
 record Fills (edit : Object → Edit) (form : ℕ → Object → Stored) : Type 0 where
   place : (object : Object) → edited_place (edit object) ≡ place_of object
   counter : (s : StoreValue) (object : Object) → (edited (edit object) s).counter ≡ s.counter + 1
-  kept : (s : StoreValue) (object : Object) → IsKept s → IsKept (edited (edit object) s)
-  stored : (s : StoreValue) (object : Object) → IsKept s → IsAbsent s.objects (place_of object)
+  kept : (s : StoreValue) (object : Object) → IsWellFormed s → IsWellFormed (edited (edit object) s)
+  stored : (s : StoreValue) (object : Object) → IsWellFormed s → IsAbsent s.objects (place_of object)
       → IsStored (edited (edit object) s).objects (place_of object) (form (s.counter + 1) object)
 
 module _ (edit : Object → Edit) (form : ℕ → Object → Stored) (fills : Fills edit form) where
@@ -50,29 +50,29 @@ module _ (edit : Object → Edit) (form : ℕ → Object → Stored) (fills : Fi
   elsewhere : (object : Object) (place : Place) → place_of object ≢ place → place ≢ edited_place (edit object)
   elsewhere object place other = λ same. other (sym (fills.place object) ∙ sym same)
 
-  others-same : (s : StoreValue) (object : Object) (place : Place) (held : Stored) → IsKept s → place_of object ≢ place → IsStored s.objects place held
+  others-same : (s : StoreValue) (object : Object) (place : Place) (held : Stored) → IsWellFormed s → place_of object ≢ place → IsStored s.objects place held
       → IsStored (edited (edit object) s).objects place held
   others-same s object place held kept other stored = (edit-others (edit object) s kept place (elsewhere object place other) held).1 stored
 
-  others-absent : (s : StoreValue) (object : Object) (place : Place) → IsKept s → place_of object ≢ place → IsAbsent s.objects place
+  others-absent : (s : StoreValue) (object : Object) (place : Place) → IsWellFormed s → place_of object ≢ place → IsAbsent s.objects place
       → IsAbsent (edited (edit object) s).objects place
   others-absent s object place kept other absent = λ held stored. absent held ((edit-others (edit object) s kept place (elsewhere object place other) held).0 stored)
 
   -- what is stored stays while others are stored
-  stays : (objects : List Object) (s : StoreValue) (place : Place) (held : Stored) → IsKept s → AllByRecursion (λ other. place_of other ≢ place) objects
+  stays : (objects : List Object) (s : StoreValue) (place : Place) (held : Stored) → IsWellFormed s → AllByRecursion (λ other. place_of other ≢ place) objects
       → IsStored s.objects place held → IsStored (filled_by objects s).objects place held
   unfolding filled_by
   stays [] s place held kept others stored = stored
   stays (object ∷ more) s place held kept others stored =
       stays more (edited (edit object) s) place held (fills.kept s object kept) others.1 (others-same s object place held kept others.0 stored)
 
-  still-new : (objects : List Object) (s : StoreValue) (object : Object) → IsKept s → AllByRecursion (λ other. place_of other ≢ place_of object) objects → AreNew objects s
+  still-new : (objects : List Object) (s : StoreValue) (object : Object) → IsWellFormed s → AllByRecursion (λ other. place_of other ≢ place_of object) objects → AreNew objects s
       → AreNew objects (edited (edit object) s)
   still-new [] s object kept others new = tt
   still-new (next ∷ more) s object kept others new =
       (others-absent s object (place_of next) kept (λ same. others.0 (sym same)) new.0, still-new more s object kept others.1 new.1)
 
-  first-stored : (objects : List Object) (s : StoreValue) → IsKept s → AreApart objects → AreNew objects s → AreStoredAs form s.counter objects (filled_by objects s)
+  first-stored : (objects : List Object) (s : StoreValue) → IsWellFormed s → AreApart objects → AreNew objects s → AreStoredAs form s.counter objects (filled_by objects s)
   unfolding filled_by
   first-stored [] s kept apart new = tt
   first-stored (object ∷ more) s kept apart new = (
@@ -82,14 +82,14 @@ module _ (edit : Object → Edit) (form : ℕ → Object → Stored) (fills : Fi
   )
 
   -- what is stored after an object was stored was stored before, or it is the object
-  was-or-is : (b : Bool) (s : StoreValue) (object : Object) (held : Stored) → IsKept s → b ≡ is_of (place_of object) held → Contains (edited (edit object) s).objects held
+  was-or-is : (b : Bool) (s : StoreValue) (object : Object) (held : Stored) → IsWellFormed s → b ≡ is_of (place_of object) held → Contains (edited (edit object) s).objects held
       → Contains s.objects held ⊎ (place_of held.object ≡ place_of object)
   was-or-is true s object held kept is there = inr (is_of-is (place_of object) held (sym is))
   was-or-is false s object held kept is there =
       let other : place_of object ≢ place_of held.object = λ same. true≢false (sym (is_of-by (place_of object) held (sym same)) ∙ sym is) in
       inl ((edit-others (edit object) s kept (place_of held.object) (elsewhere object (place_of held.object) other) held).0 (there, refl)).0
 
-  only-these : (objects : List Object) (s : StoreValue) (held : Stored) → IsKept s → Contains (filled_by objects s).objects held → Contains s.objects held ⊎ IsOneOf objects held
+  only-these : (objects : List Object) (s : StoreValue) (held : Stored) → IsWellFormed s → Contains (filled_by objects s).objects held → Contains s.objects held ⊎ IsOneOf objects held
   unfolding filled_by
   only-these [] s held kept there = inl there
   only-these (object ∷ more) s held kept there =
@@ -116,7 +116,7 @@ module _ (edit : Object → Edit) (form : ℕ → Object → Stored) (fills : Fi
 abbrev set_over : StoreValue → Object → Option Stored → Stored
 set_over s object found = record { version = s.counter + 1; object = with_record (kept_record found) object }
 
-set-new : (s : StoreValue) (object : Object) → IsKept s → IsAbsent s.objects (place_of object)
+set-new : (s : StoreValue) (object : Object) → IsWellFormed s → IsAbsent s.objects (place_of object)
     → IsStored (edited (Set object) s).objects (place_of object) (first_stored (s.counter + 1) object)
 set-new s object kept absent =
     let none : stored_at s.objects (place_of object) ≡ None = absent-found s.objects (place_of object) kept.ascending absent in

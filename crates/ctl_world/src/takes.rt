@@ -2,7 +2,7 @@
 ghost use Rattle.std.specs.Prelude.{◌≡◌, ◌≢◌, None, true, false, IsErrOf, OnOk, OnErr};
 ghost use Rattle.kube_model.specs.declared.event.Group.TheVariants as groups;
 ghost use Rattle.core_rules.specs.Take.{core_take, limits};
-ghost use Rattle.world_rules.specs.World.{told, untold, PassesLimit, after_take, after_expiry, lapsed, lane_of, listed_anew};
+ghost use Rattle.world_rules.specs.World.{told, untold, PassesLimit, after_take, after_expiry, expired_core, lane_of, listed_anew};
 ghost use Rattle.ctl_world.specs.Steps.{HasNoneOut};
 
 use crate::lanes::listing;
@@ -114,7 +114,7 @@ fn relist(
     lane: &mut VecDeque<Event>,
 ) -> Result<(), NoMemory>
     requires { HasNoneOut core.old }
-    ensures core { OnOk result (core.new ≡ lapsed group core.old) }
+    ensures core { OnOk result (core.new ≡ expired_core group core.old) }
     ensures lane { OnOk result (lane.new.items ≡ listed_anew order group group store.now core.old lane.old.items) }
     ensures err_core { OnErr result (core.new ≡ core.old) }
     ensures err_lane { OnErr result (lane.new.items ≡ lane.old.items) }

@@ -5,7 +5,7 @@ ghost use Rattle.core_laws.specs.Quiet.{IsQuiet};
 ghost use Rattle.kube_model.specs.declared.key.Key.{Key as KeyValue};
 ghost use Rattle.kube_model.specs.declared.record.Record.{Record as RecordValue};
 ghost use Rattle.kube_model.specs.Records.{is_assigned};
-ghost use Rattle.status_store.specs.Changes.{IsKept, empty_store};
+ghost use Rattle.status_store.specs.Changes.{IsWellFormed, empty_store};
 ghost use Rattle.world_rules.specs.Clash.{Clash, IsLeastClash};
 ghost use Rattle.world_rules.specs.Good.{IsGood, IsOwn};
 ghost use Rattle.world_rules.specs.Invariant.{ConfigEndsOnce, IsInOrder};
@@ -122,7 +122,7 @@ impl World {
         ensures safe { IsSafe self.now.store }
 
         // The objects stand in their order, each once, at versions from 1 to that of the last change.
-        ensures kept { IsKept self.now.store }
+        ensures kept { IsWellFormed self.now.store }
     {
         &self.state.store
     }

@@ -11,7 +11,7 @@ use Rattle.neigh_frames.specs.Solicitation.{is_unspecified, options_in, source_o
 use Rattle.neigh_frames.proofs.Carry.{AreBytes}
 use Rattle.neigh_frames.proofs.RightSums.{ndp_reply-HasRightChecksum}
 use Rattle.frame_laws.specs.Sums.{AreOctets, message_length}
-use Rattle.frame_laws.specs.Valid.{AnswersAreValid, IsHardware, IsValidAdvertisement, UnaskedAreValid}
+use Rattle.frame_laws.specs.Valid.{AnswersAreValid, IsHardware, IsValidAdvertisement, UnsolicitedAreValid}
 use Rattle.frame_laws.proofs.PlainSums.{frames-summed, octet-at, octets-append, octets-drop, octets-literal, octets-take}
 
 -- an IPv6 address in octets
@@ -141,9 +141,9 @@ to-all-valid mac target flags m t flag unicast clear =
     reply-valid mac (0x33 ∷ 0x33 ∷ 0 ∷ 0 ∷ 0 ∷ 1 ∷ []) target all_nodes flags m (refl, octets-literal (0x33 ∷ 0x33 ∷ 0 ∷ 0 ∷ 0 ∷ 1 ∷ []) refl) t
     (refl, octets-literal all_nodes refl) flag unicast (λ all. clear)
 
-pub unasked-valid : UnaskedAreValid
+pub unsolicited-valid : UnsolicitedAreValid
 unfolding unasked_ndp_of
-unasked-valid mac number m unicast =
+unsolicited-valid mac number m unicast =
     to-all-valid mac (to_be_bytes w128 number) 0x20 m (refl, number-octets number) (omega arith) unicast refl
   where
     number-octets : (n : ℕ) → AreOctets (to_be_bytes w128 n)

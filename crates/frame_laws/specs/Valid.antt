@@ -34,6 +34,6 @@ abbrev pub AnswersAreValid : Type 0
 AnswersAreValid = (v : ViewValue) (node interface mac frame answer : List ℕ) → IsHardware mac → AreOctets frame → slice_index frame 22 ≢ 0xff
     → IsNdpAnswer v node interface mac frame answer → IsValidAdvertisement answer
 
--- so is what is sent unasked for an address that is no multicast address
-abbrev pub UnaskedAreValid : Type 0
-UnaskedAreValid = (mac : List ℕ) (number : ℕ) → IsHardware mac → slice_index (to_be_bytes w128 number) 0 ≢ 0xff → IsValidAdvertisement (unasked_ndp_of mac number)
+-- so is what is sent unsolicited for an address that is no multicast address
+abbrev pub UnsolicitedAreValid : Type 0
+UnsolicitedAreValid = (mac : List ℕ) (number : ℕ) → IsHardware mac → slice_index (to_be_bytes w128 number) 0 ≢ 0xff → IsValidAdvertisement (unasked_ndp_of mac number)

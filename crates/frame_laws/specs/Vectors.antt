@@ -87,7 +87,7 @@ to_host =
 abbrev pub AnsweredSolicitation : Type 0
 AnsweredSolicitation = ndp_digits ipv6 from_host ≡ Some to_host
 
--- what is sent unasked overrides
+-- what is sent unsolicited overrides
 abbrev pub overriding : List ℕ
 overriding =
     codes "33330000000102000000000a86dd6000000000203aff20010db8000000000000000000000010ff020000000000000000000000000001"

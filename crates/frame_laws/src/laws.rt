@@ -1,6 +1,6 @@
 //! What holds of the octets of frames.
 ghost use Rattle.frame_laws.specs.Sums.{ChecksumsArePlainSums, FramesAreSummed};
-ghost use Rattle.frame_laws.specs.Valid.{AnswersAreValid, UnaskedAreValid};
+ghost use Rattle.frame_laws.specs.Valid.{AnswersAreValid, UnsolicitedAreValid};
 ghost use Rattle.frame_laws.specs.Vectors.{AdvertisedUnasked, AnsweredArp, AnsweredSolicitation, AnsweredUnspecified, ToldUnasked};
 
 /// The frames for these addresses are those that were written out by hand: the ARP reply and the neighbor advertisement, asked for and
@@ -25,5 +25,5 @@ pub fn checksums_are_plain_sums()
 /// it meets RFC 4861, section 7.1.2. Of an answer that holds where the solicitation's source is no multicast address either.
 pub fn advertisements_are_valid()
     ensures answers { AnswersAreValid }
-    ensures unasked { UnaskedAreValid }
+    ensures unsolicited { UnsolicitedAreValid }
 {}

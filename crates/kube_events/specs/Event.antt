@@ -14,8 +14,8 @@ use Rattle.kube_model.specs.declared.event.Group.{Group}
 use Rattle.kube_model.specs.declared.event.Group.TheVariants as groups
 use Rattle.kube_model.specs.declared.object.Kind.{Kind}
 use Rattle.kube_model.specs.declared.object.Kind.TheVariants as kinds
-use Rattle.kube_events.specs.declared.reading.Change.{Change}
-use Rattle.kube_events.specs.declared.reading.Change.TheVariants as changes
+use Rattle.kube_events.specs.declared.reading.EventType.{EventType}
+use Rattle.kube_events.specs.declared.reading.EventType.TheVariants as changes
 use Rattle.kube_model.specs.Named.{kind_named}
 use Rattle.kube_events.specs.ObjectFields.{changed_of, deleted_of}
 use Rattle.kube_events.specs.Members.{members_of}
@@ -129,7 +129,7 @@ event_of_line line = event_if (value_of_line line)
 
 -- ---- as it is read
 
-abbrev pub says : Change → Says
+abbrev pub says : EventType → Says
 says changes.Set = set_event
 says changes.Deleted = deleted_event
 says changes.Bookmark = bookmark_event

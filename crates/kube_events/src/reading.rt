@@ -14,7 +14,7 @@ use std::alloc::Global;
 
 /// What happened to an object that is watched.
 #[derive(Clone, Copy)]
-enum Change {
+enum EventType {
     Set,
     Deleted,
     Bookmark,
@@ -57,7 +57,7 @@ fn bookmark_from(kind: Kind, object: &Value) -> Event
     }
 }
 
-fn watched(alloc: Global, change: Change, line: &Value) -> Result<Event, EventFault>
+fn watched(alloc: Global, change: EventType, line: &Value) -> Result<Event, EventFault>
     ensures { GivesEvent result (watched (says change) (get (codes "object") (view line.now))) }
 {
     let Some(object) = line.get("object") else {
@@ -70,9 +70,9 @@ fn watched(alloc: Global, change: Change, line: &Value) -> Result<Event, EventFa
         return Ok(Event::Ignored);
     };
     match change {
-        Change::Set => Ok(changed_from(alloc, kind, object)?),
-        Change::Deleted => Ok(deleted_from(alloc, kind, object)?),
-        Change::Bookmark => Ok(bookmark_from(kind, object)),
+        EventType::Set => Ok(changed_from(alloc, kind, object)?),
+        EventType::Deleted => Ok(deleted_from(alloc, kind, object)?),
+        EventType::Bookmark => Ok(bookmark_from(kind, object)),
     }
 }
 
@@ -81,9 +81,9 @@ fn event_of_type(alloc: Global, name: &str, line: &Value) -> Result<Event, Event
     ensures { GivesEvent result (of_type name.now (view line.now)) }
 {
     match name {
-        "ADDED" | "MODIFIED" => watched(alloc, Change::Set, line),
-        "DELETED" => watched(alloc, Change::Deleted, line),
-        "BOOKMARK" => watched(alloc, Change::Bookmark, line),
+        "ADDED" | "MODIFIED" => watched(alloc, EventType::Set, line),
+        "DELETED" => watched(alloc, EventType::Deleted, line),
+        "BOOKMARK" => watched(alloc, EventType::Bookmark, line),
         "ERROR" => Ok(Event::Expired),
         "MEMBERS" => Ok(members_from(alloc, line)?),
         "FRAME" => Ok(frame_from(alloc, line)?),

@@ -23,7 +23,7 @@ use Rattle.line_run.specs.declared.halt.Refusal.{Refusal}
 use Rattle.line_run.specs.declared.halt.Refusal.TheVariants.{Stopped, Halted}
 use Rattle.line_run.specs.Ended.{status_of_end, status_of_halt, status_of_refusal}
 use Rattle.line_run.specs.Ends.{Ends}
-use Rattle.line_run.specs.Machine.{Step, Goes, Stops}
+use Rattle.line_run.specs.Machine.{Transition, Goes, Stops}
 use Rattle.line_run.specs.Steps.{Refuses}
 use Rattle.mlb_edge.specs.Causes.{Rose}
 use Rattle.mlb_edge.specs.Failed.{with_closed}
@@ -110,7 +110,7 @@ comes_left bytes lines xs (Some input) follows are = (input, refl, sym are.0 ∙
 module _ {S E : Type 0} (rules : LaneRules S E) where
   -- ---- what is heard and taken is one
 
-  goes_same : (a b : S) (es fs : List E) (step : Step S E) → step ≡ Goes a es → step ≡ Goes b fs → a ≡ b
+  goes_same : (a b : S) (es fs : List E) (step : Transition S E) → step ≡ Goes a es → step ≡ Goes b fs → a ≡ b
   goes_same a b es fs step e f = cc
 
   -- the replies that were heard are the first of those that are heard until none is awaited

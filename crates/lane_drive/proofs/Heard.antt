@@ -6,7 +6,7 @@ use Rattle.std.proofs.lemmas.List.{append-nil}
 use Rattle.kube_model.specs.declared.status.Status.TheVariants as statuses
 use Rattle.lane_run.specs.Views.{Outside}
 use Rattle.line_run.specs.Ends.{Drives}
-use Rattle.line_run.specs.Machine.{Step, Goes, Stops}
+use Rattle.line_run.specs.Machine.{Transition, Goes, Stops}
 use Rattle.lane_drive.specs.LaneRules.{LaneRules, reply_rules}
 use Rattle.lane_drive.specs.Drive.{AreHeard}
 use Rattle.lane_drive.specs.Hearing.{HearsSome}
@@ -21,7 +21,7 @@ both_none (x ∷ xs) ys e = absurd (cc)
 
 module _ {S E : Type 0} (rules : LaneRules S E) where
   -- where a reply is awaited, the next line is it
-  pub hears_line : (b : Bool) (s : S) (line : Line) (step : Step S E) → rules.waits s ≡ b → b ≡ true → (if b then rules.hear s line else Stops (statuses.BadReply line.number line.bytes)) ≡ step → rules.hear s line ≡ step
+  pub hears_line : (b : Bool) (s : S) (line : Line) (step : Transition S E) → rules.waits s ≡ b → b ≡ true → (if b then rules.hear s line else Stops (statuses.BadReply line.number line.bytes)) ≡ step → rules.hear s line ≡ step
   hears_line true s line step is sure e = e
   hears_line false s line step is sure e = absurd (cc)
 

@@ -12,7 +12,7 @@ use Rattle.line_run.specs.declared.halt.Halt.{Halt}
 use Rattle.line_run.specs.declared.halt.Halt.TheVariants.{WriteFault, NoMemory}
 use Rattle.line_run.specs.declared.halt.Refusal.{Refusal}
 use Rattle.line_run.specs.declared.halt.Refusal.TheVariants.{Stopped, Halted}
-use Rattle.line_run.specs.Machine.{Step, Goes, Stops, Rules}
+use Rattle.line_run.specs.Machine.{Transition, Goes, Stops, Rules}
 use Rattle.line_run.specs.Statuses.{IsHeld}
 use Rattle.line_run.specs.Text.{line_of, Halts}
 use Rattle.mlb_edge.specs.declared.lines.Line.{Line}
@@ -21,11 +21,11 @@ use Rattle.mlb_edge.specs.Written.{Grows}
 -- What a machine makes of items and replies.
 pub record LaneRules (S E : Type 0) : Type 0 where
   -- what an item is to a state that awaits no reply
-  pub take : S → Item → Step S E
+  pub take : S → Item → Transition S E
   -- a reply is awaited: it is the next line of the input
   pub waits : S → Bool
   -- what that line is to a state that awaits it
-  pub hear : S → Line → Step S E
+  pub hear : S → Line → Transition S E
   -- the status where the input ends before it
   pub unanswered : S → Status
   -- there are replies; the input has no other lines, and is read to its end

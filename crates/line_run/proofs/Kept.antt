@@ -4,7 +4,7 @@ use Rattle.std.proofs.lemmas.List.{append-nil}
 use Rattle.kube_model.specs.declared.status.Status.{Status}
 use Rattle.mlb_edge.specs.declared.lines.Line.{Line}
 use Rattle.mlb_edge.specs.InputLines.{Ending}
-use Rattle.line_run.specs.Machine.{Step, Goes, Stops, Rules}
+use Rattle.line_run.specs.Machine.{Transition, Goes, Stops, Rules}
 use Rattle.line_run.specs.Run.{Run, runs_on, run_from, status_at}
 
 -- why a run stops in a state: no more lines can be read, or it isn't taken further by a line
@@ -19,7 +19,7 @@ pub record Kept {S E : Type 0} (rules : Rules S E) (Holds : List E → S → Typ
 
 module _ {S E : Type 0} (rules : Rules S E) (Holds : List E → S → Type 0)
     (keeps : (s next : S) (line : Line) (entries told : List E) → rules.step s line ≡ Goes next entries → Holds told s → Holds (told ++ entries) next) where
-  on_step : (step : Step S E) (s : S) (line : Line) (told : List E) (rest : S → Run E) → rules.step s line ≡ step → ((next : S) (more : List E) → Holds more next → Kept rules Holds more (rest next)) → Holds told s
+  on_step : (step : Transition S E) (s : S) (line : Line) (told : List E) (rest : S → Run E) → rules.step s line ≡ step → ((next : S) (more : List E) → Holds more next → Kept rules Holds more (rest next)) → Holds told s
       → Kept rules Holds told (runs_on step rest)
   on_step (Goes next entries) s line told rest is then holds =
       let more = then next (told ++ entries) (keeps s next line entries told is holds) in

@@ -11,7 +11,7 @@ use Rattle.mlb_edge.specs.declared.lines.Line.{Line}
 use Rattle.mlb_edge.specs.Written.{Grows, Grows-none}
 use Rattle.line_run.specs.declared.halt.Halt.{Halt}
 use Rattle.line_run.specs.declared.halt.Refusal.TheVariants.{Halted}
-use Rattle.line_run.specs.Machine.{Step, Goes}
+use Rattle.line_run.specs.Machine.{Transition, Goes}
 use Rattle.line_run.specs.Run.{text_of}
 use Rattle.line_run.specs.Steps.{Takes, Refuses}
 use Rattle.line_run.specs.Text.{Halts}
@@ -55,7 +55,7 @@ means_event s line event none reads = ap (λ (found : Option Review). step_where
 pub takes_event : (s t : ObjectSet) (line : Line) (event : Event) (before : Option (List ℕ)) → readable_review line.bytes ≡ None → event_of_line line.bytes ≡ Ok event → t ≡ objects_after (Watched event) s → Takes admit_rules (Judging s) (Judging t) line before before
 takes_event s t line event before none reads leads = record {
   entries = [];
-  steps = means_event s line event none reads ∙ ap (λ (next : ObjectSet). let step : Step Work Entry = Goes (Judging next) [] in step) (sym leads);
+  steps = means_event s line event none reads ∙ ap (λ (next : ObjectSet). let step : Transition Work Entry = Goes (Judging next) [] in step) (sym leads);
   wrote = Grows-none before;
 }
 

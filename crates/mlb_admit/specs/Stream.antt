@@ -17,7 +17,7 @@ use Rattle.admission_judge.specs.Judging.{verdict_of}
 use Rattle.explained_lines.specs.declared.explained.Explained.{Explained}
 use Rattle.explained_lines.specs.Explained.{explained_of}
 use Rattle.explained_lines.specs.Lines.{explained_text}
-use Rattle.line_run.specs.Machine.{Step, Goes, Stops, Rules}
+use Rattle.line_run.specs.Machine.{Transition, Goes, Stops, Rules}
 use Rattle.line_run.specs.Text.{line_of}
 use Rattle.mlb_edge.specs.declared.lines.Line.{Line}
 use Rattle.mlb_admit.specs.declared.work.Work.{Work}
@@ -52,12 +52,12 @@ readable_review bytes = review_where (review_of_line bytes)
 -- ---- a run that answers reviews
 
 -- it is no readable event, or the objects are held that it shows
-abbrev pub event_step : ObjectSet → Line → Result Event EventFault → Step Work Entry
+abbrev pub event_step : ObjectSet → Line → Result Event EventFault → Transition Work Entry
 event_step objects line (Err fault) = Stops (BadLine lanes.Input line.number line.bytes)
 event_step objects line (Ok event) = Goes (Judging (objects_after (Watched event) objects)) []
 
 -- A review changes no objects that are held.
-abbrev pub step_where : Option Review → ObjectSet → Line → Step Work Entry
+abbrev pub step_where : Option Review → ObjectSet → Line → Transition Work Entry
 step_where (Some review) objects line = Goes (Judging objects) (Answered (answer_of objects review) ∷ [])
 step_where None objects line = event_step objects line (event_of_line line.bytes)
 
@@ -67,7 +67,7 @@ step_where None objects line = event_step objects line (event_of_line line.bytes
 abbrev pub told_of : Line → Entry
 told_of line = Told line.number (explained_of line.bytes)
 
-abbrev pub line_step : Work → Line → Step Work Entry
+abbrev pub line_step : Work → Line → Transition Work Entry
 line_step (Judging objects) line = step_where (readable_review line.bytes) objects line
 line_step Explaining line = Goes Explaining (told_of line ∷ [])
 

@@ -2,8 +2,8 @@
 use Rattle.std.proofs.Common.{◌≡◌, ℕ, List, [], ◌∷◌, ◌++◌, Option, None, Ok, refl, sym, subst, append_assoc}
 use Rattle.std.proofs.lemmas.List.{append-nil}
 use Rattle.std.specs.List.{AllByRecursion}
-use Rattle.core_drive.proofs.Goes.{begins_fresh, lapses_go_on, drives_are_sound}
-use Rattle.core_drive.specs.Drive.{Entry, lapsing}
+use Rattle.core_drive.proofs.Goes.{begins_fresh, expiries_go_on, drives_are_sound}
+use Rattle.core_drive.specs.Drive.{Entry, expiring}
 use Rattle.core_drive.specs.Sound.{IsSound, LeadsTo}
 use Rattle.core_rules.specs.Core.{State, fresh}
 use Rattle.kube_events.specs.Event.{event_of_line}
@@ -31,7 +31,7 @@ use Rattle.mlb_edge.specs.declared.lines.Line.{Line}
 module _ (class : Option (List ℕ)) where
   item_goes : (event : Event) (s : State) (lane : Lane) (bytes : List ℕ) → s.out ≡ None → event_of_line bytes ≡ Ok event → GoesOn class s (lane_arrival s lane event)
   item_goes Expired s lane bytes none reads next entries told e leads =
-      by_driven class (lapsing s (lane_group lane)) next entries told e (lapses_go_on class told s (lane_group lane) leads none)
+      by_driven class (expiring s (lane_group lane)) next entries told e (expiries_go_on class told s (lane_group lane) leads none)
   item_goes (Changed version object) s lane bytes none reads next entries told e leads = arrival_goes class s bytes (Changed version object) none reads next entries told e leads
   item_goes (Deleted kind key) s lane bytes none reads next entries told e leads = arrival_goes class s bytes (Deleted kind key) none reads next entries told e leads
   item_goes (ListEnd group) s lane bytes none reads next entries told e leads = arrival_goes class s bytes (ListEnd group) none reads next entries told e leads

@@ -17,13 +17,13 @@ use Rattle.core_drive.specs.Sound.{IsSound, LeadsTo}
 use Rattle.core_drive.proofs.Goes.{begins_fresh, events_go_on, replies_go_on, drives_are_sound, drives_are_quiet}
 use Rattle.core_drive.proofs.Settled.{drives_are_settled}
 use Rattle.world_rules.proofs.Explaining.{runs_are_safe_in_worlds}
-use Rattle.line_run.specs.Machine.{Step, Goes, Stops}
+use Rattle.line_run.specs.Machine.{Transition, Goes, Stops}
 use Rattle.line_run.specs.Run.{run_from, status_at}
 use Rattle.line_run.proofs.Kept.{Kept, StopsIn, run-keeps}
 use Rattle.line_run.specs.RunOutput.{WritesOnly, StopsAs}
 use Rattle.mlb_edge.specs.declared.lines.Line.{Line}
 use Rattle.mlb_edge.specs.InputLines.{Ending, Whole, LongLine, LongInput, input_of}
-use Rattle.service_texts.proofs.EventTerms.{events_show_terms, events_show_families}
+use Rattle.shown_service_laws.proofs.EventTerms.{events_show_terms, events_show_families}
 use Rattle.object_cache.specs.Limits.{most_services}
 use Rattle.mlb_controller.specs.Causes.{line_causes}
 use Rattle.mlb_controller.specs.Stream.{goes_by, arrival, event_step, reply_step, step_where, controller_rules, end_of}
@@ -31,7 +31,7 @@ use Rattle.mlb_controller.specs.Sound.{WritesSound, RunsSound, IsSafeThroughout,
 
 module _ (class : Option (List ℕ)) where
   -- what goes on from a core goes on from what was told of it
-  abbrev pub GoesOn : State → Step State Entry → Type 0
+  abbrev pub GoesOn : State → Transition State Entry → Type 0
   GoesOn s step = (next : State) (entries told : List Entry) → step ≡ Goes next entries → LeadsTo class told s → LeadsTo class (told ++ entries) next
 
   pub by_driven : (d : Driven) (next : State) (entries told : List Entry) → goes_by d ≡ Goes next entries → LeadsTo class (told ++ d.entries) d.core → LeadsTo class (told ++ entries) next

@@ -13,7 +13,7 @@ use Rattle.object_cache.specs.declared.change.TakeNote.TheVariants.{Quiet}
 use Rattle.core_rules.specs.Core.{State}
 use Rattle.core_rules.specs.Replied.{core_reply}
 use Rattle.core_rules.specs.Take.{core_expired}
-use Rattle.core_drive.specs.Drive.{Entry, Lapsed, with_turns, hearing, lapsing, turns_from}
+use Rattle.core_drive.specs.Drive.{Entry, ListExpired, with_turns, hearing, expiring, turns_from}
 use Rattle.mlb_edge.specs.declared.lines.Line.{Line}
 use Rattle.mlb_edge.specs.Written.{Grows}
 use Rattle.lane_drive.specs.LaneRules.{BreaksItem, RefusesItem}
@@ -21,7 +21,7 @@ use Rattle.lane_mail.specs.declared.item.Item.{Item}
 use Rattle.line_run.specs.declared.halt.Halt.{Halt}
 use Rattle.line_run.specs.declared.halt.Halt.TheVariants.{WriteFault, NoMemory}
 use Rattle.line_run.specs.declared.halt.Refusal.TheVariants.{Halted}
-use Rattle.line_run.specs.Machine.{Step, Goes}
+use Rattle.line_run.specs.Machine.{Transition, Goes}
 use Rattle.line_run.specs.Steps.{Takes, Breaks, Refuses}
 use Rattle.line_run.specs.Text.{Halts, line_of}
 use Rattle.line_run.proofs.Refusals.{broken}
@@ -38,7 +38,7 @@ module _ (s t : State) (line : Line) (reply : PutReply) (some : IsSome s.out) (g
   pub hears : (u : State) (before after : Option (List ℕ)) → u ≡ (turns_from t).core → Grows before after (output_of (turns_from t).entries) → Takes controller_rules s u line before after
   hears u before after core wrote = record {
     entries = (hearing s reply).entries;
-    steps = meant s.out s line reply some gives ∙ ap (λ (next : State). let step : Step State Entry = Goes next (hearing s reply).entries in step) (sym (rw leads at core));
+    steps = meant s.out s line reply some gives ∙ ap (λ (next : State). let step : Transition State Entry = Goes next (hearing s reply).entries in step) (sym (rw leads at core));
     wrote = rw leads at wrote;
   }
 
@@ -51,8 +51,8 @@ module _ (s t : State) (line : Line) (reply : PutReply) (some : IsSome s.out) (g
   }
 
 -- the watch of one list expires
-pub enters_lapse : (s t : State) (group : Group) → t ≡ core_expired s group → Enters (goes_by (lapsing s group)) Quiet t
-enters_lapse s t group leads = record { entry = Lapsed group; steps = ap (λ (u : State). goes_by (with_turns (Lapsed group) u)) (sym leads); text = refl }
+pub enters_lapse : (s t : State) (group : Group) → t ≡ core_expired s group → Enters (goes_by (expiring s group)) Quiet t
+enters_lapse s t group leads = record { entry = ListExpired group; steps = ap (λ (u : State). goes_by (with_turns (ListExpired group) u)) (sym leads); text = refl }
 
 -- what an event of a line is to the core
 pub means_event : (s : State) (line : Line) (event : Event) → s.out ≡ None → event_of_line line.bytes ≡ Ok event → line_step s line ≡ arrival s event
@@ -64,7 +64,7 @@ item_broken WriteFault s item before after k n b = b
 item_broken NoMemory s item before after k n b = inr b
 
 -- what arrives is entered
-module _ (step : Step State Entry) (note : TakeNote) (t : State) (enters : Enters step note t) where
+module _ (step : Transition State Entry) (note : TakeNote) (t : State) (enters : Enters step note t) where
   -- what is told of it
   abbrev told : List ℕ
   told = note_text note ++ output_of (turns_from t).entries
@@ -73,7 +73,7 @@ module _ (step : Step State Entry) (note : TakeNote) (t : State) (enters : Enter
   told_is = ap (λ (text : List ℕ). text ++ output_of (turns_from t).entries) (sym enters.text)
 
   leads_to : (u : State) → u ≡ (turns_from t).core → step ≡ Goes u (with_turns enters.entry t).entries
-  leads_to u core = enters.steps ∙ ap (λ (next : State). let step : Step State Entry = Goes next (with_turns enters.entry t).entries in step) (sym core)
+  leads_to u core = enters.steps ∙ ap (λ (next : State). let step : Transition State Entry = Goes next (with_turns enters.entry t).entries in step) (sym core)
 
   pub takes : (s u : State) (line : Line) (before after : Option (List ℕ)) → line_step s line ≡ step → u ≡ (turns_from t).core → Grows before after told → Takes controller_rules s u line before after
   takes s u line before after means core wrote = record { entries = (with_turns enters.entry t).entries; steps = means ∙ leads_to u core; wrote = rw told_is at wrote }

@@ -1,6 +1,6 @@
 -- What the items of two lanes are to the controller: the objects of the configuration, and the services.
 use Rattle.std.specs.Prelude.{Bool, true, false, Option, Some, None, is_some}
-use Rattle.core_drive.specs.Drive.{Entry, lapsing}
+use Rattle.core_drive.specs.Drive.{Entry, expiring}
 use Rattle.core_rules.specs.Core.{State}
 use Rattle.kube_model.specs.Kinds.{kind_of, group_of}
 use Rattle.kube_model.specs.declared.event.Event.{Event}
@@ -13,7 +13,7 @@ use Rattle.lane_drive.specs.LaneRules.{LaneRules}
 use Rattle.lane_mail.specs.declared.item.Item.{Item}
 use Rattle.lane_mail.specs.declared.lane.Lane.{Lane}
 use Rattle.lane_mail.specs.declared.lane.Lane.TheVariants.{First, Second}
-use Rattle.line_run.specs.Machine.{Step}
+use Rattle.line_run.specs.Machine.{Transition}
 use Rattle.mlb_controller.specs.Output.{entry_text}
 use Rattle.mlb_controller.specs.Stream.{goes_by, arrival, line_step, end_of}
 
@@ -53,8 +53,8 @@ lane_group Second = groups.Service
 
 -- what an event that came by the lane is to this core: an expired watch is that of the lane's own group alone, and every other event is what
 -- it is in one stream
-abbrev pub lane_arrival : State → Lane → Event → Step State Entry
-lane_arrival s lane Expired = goes_by (lapsing s (lane_group lane))
+abbrev pub lane_arrival : State → Lane → Event → Transition State Entry
+lane_arrival s lane Expired = goes_by (expiring s (lane_group lane))
 lane_arrival s lane (Changed version object) = arrival s (Changed version object)
 lane_arrival s lane (Deleted kind key) = arrival s (Deleted kind key)
 lane_arrival s lane (ListEnd group) = arrival s (ListEnd group)
@@ -63,7 +63,7 @@ lane_arrival s lane (Frame interface bytes) = arrival s (Frame interface bytes)
 lane_arrival s lane Ignored = arrival s Ignored
 
 -- what an item is to this core
-abbrev pub item_step : State → Item → Step State Entry
+abbrev pub item_step : State → Item → Transition State Entry
 item_step s item = lane_arrival s item.lane item.event
 
 -- the controller, as a machine over items; the lines of the input are the replies to its puts

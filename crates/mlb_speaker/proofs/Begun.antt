@@ -8,9 +8,9 @@ use Rattle.speaker_words.specs.Interface.{InterfaceValue}
 use Rattle.speaker_words.specs.Reading.{said_in}
 use Rattle.speaker_words.specs.Words.{Said, Say}
 use Rattle.speaker_words.proofs.NamedWords.{say-read}
-use Rattle.mlb_speaker.specs.declared.station.NextHops.{NextHops}
+use Rattle.mlb_speaker.specs.declared.local_node.NextHops.{NextHops}
 use Rattle.mlb_speaker.specs.Clauses.{IsNamed, SpeaksFor, begun_with, lanes_in, lanes_of}
-use Rattle.mlb_speaker.specs.Station.{interface_by}
+use Rattle.mlb_speaker.specs.LocalNode.{interface_by}
 use Rattle.mlb_speaker.specs.Stream.{SpeakerState, first_state}
 
 pub named-begun : (words : List (List ℕ)) (said : Said) → Say words said → (begun_with (said_in words) ≡ first_state said) × (lanes_of words ≡ said.lanes)

@@ -24,11 +24,11 @@ use Rattle.mlb_edge.specs.declared.lines.Line.{Line}
 use Rattle.line_run.specs.Machine.{Goes}
 use Rattle.mlb_speaker.specs.declared.entries.Entry.{Entry}
 use Rattle.mlb_speaker.specs.declared.entries.Entry.TheVariants.{Noted, Withdrawn, Announced, Sent, Updated}
-use Rattle.mlb_speaker.specs.declared.station.Interface.{Interface}
-use Rattle.mlb_speaker.specs.declared.station.NextHops.{NextHops}
-use Rattle.mlb_speaker.specs.declared.station.Station.{Station}
+use Rattle.mlb_speaker.specs.declared.local_node.Interface.{Interface}
+use Rattle.mlb_speaker.specs.declared.local_node.NextHops.{NextHops}
+use Rattle.mlb_speaker.specs.declared.local_node.LocalNode.{LocalNode}
 use Rattle.mlb_speaker.specs.Entries.{withdrawn, withdrawals, announcements, entries_for}
-use Rattle.mlb_speaker.specs.Sends.{unasked_by, unasked, listening, announcement, sent_on, answer_on, answer_by, interface_of}
+use Rattle.mlb_speaker.specs.Sends.{unsolicited_by, unsolicited, listening, announcement, sent_on, answer_on, answer_by, interface_of}
 use Rattle.mlb_speaker.specs.Stream.{SpeakerState, Received, frame_in, entries_at, entries_of, line_step}
 use Rattle.mlb_speaker.specs.Told.{withdrawn_in, announced_in, AnnouncesAlone, TellsChange, TellsWhatChanges}
 use Rattle.bgp_routes.specs.Peers.{peers_of}
@@ -61,28 +61,28 @@ withdrawn-withdrawals : (zs : List AddressValue) → withdrawn_in (map withdrawn
 withdrawn-withdrawals [] = refl
 withdrawn-withdrawals (a ∷ zs) = ap (λ (bs : List AddressValue). a ∷ bs) (withdrawn-withdrawals zs)
 
-announced-unasked : (a : AddressValue) (interfaces : List Interface) → announced_in (map (unasked_by a) interfaces) ≡ []
-announced-unasked a [] = refl
-announced-unasked a (i ∷ interfaces) = announced-unasked a interfaces
+announced-unsolicited : (a : AddressValue) (interfaces : List Interface) → announced_in (map (unsolicited_by a) interfaces) ≡ []
+announced-unsolicited a [] = refl
+announced-unsolicited a (i ∷ interfaces) = announced-unsolicited a interfaces
 
-withdrawn-unasked : (a : AddressValue) (interfaces : List Interface) → withdrawn_in (map (unasked_by a) interfaces) ≡ []
-withdrawn-unasked a [] = refl
-withdrawn-unasked a (i ∷ interfaces) = withdrawn-unasked a interfaces
+withdrawn-unsolicited : (a : AddressValue) (interfaces : List Interface) → withdrawn_in (map (unsolicited_by a) interfaces) ≡ []
+withdrawn-unsolicited a [] = refl
+withdrawn-unsolicited a (i ∷ interfaces) = withdrawn-unsolicited a interfaces
 
-announced-announcements : (v : ViewValue) (station : Station) (zs : List AddressValue) → announced_in (flat_map (announcement v station) zs) ≡ zs
-announced-announcements v station [] = refl
-announced-announcements v station (a ∷ zs) =
+announced-announcements : (v : ViewValue) (local : LocalNode) (zs : List AddressValue) → announced_in (flat_map (announcement v local) zs) ≡ zs
+announced-announcements v local [] = refl
+announced-announcements v local (a ∷ zs) =
     ap (λ (bs : List AddressValue). a ∷ bs) (
-    announced-append (unasked v station a) (flat_map (announcement v station) zs)
-    ∙ ap (λ (bs : List AddressValue). bs ++ announced_in (flat_map (announcement v station) zs)) (announced-unasked a (listening v station a))
-    ∙ announced-announcements v station zs)
+    announced-append (unsolicited v local a) (flat_map (announcement v local) zs)
+    ∙ ap (λ (bs : List AddressValue). bs ++ announced_in (flat_map (announcement v local) zs)) (announced-unsolicited a (listening v local a))
+    ∙ announced-announcements v local zs)
 
-withdrawn-announcements : (v : ViewValue) (station : Station) (zs : List AddressValue) → withdrawn_in (flat_map (announcement v station) zs) ≡ []
-withdrawn-announcements v station [] = refl
-withdrawn-announcements v station (a ∷ zs) =
-    withdrawn-append (unasked v station a) (flat_map (announcement v station) zs)
-    ∙ ap (λ (bs : List AddressValue). bs ++ withdrawn_in (flat_map (announcement v station) zs)) (withdrawn-unasked a (listening v station a))
-    ∙ withdrawn-announcements v station zs
+withdrawn-announcements : (v : ViewValue) (local : LocalNode) (zs : List AddressValue) → withdrawn_in (flat_map (announcement v local) zs) ≡ []
+withdrawn-announcements v local [] = refl
+withdrawn-announcements v local (a ∷ zs) =
+    withdrawn-append (unsolicited v local a) (flat_map (announcement v local) zs)
+    ∙ ap (λ (bs : List AddressValue). bs ++ withdrawn_in (flat_map (announcement v local) zs)) (withdrawn-unsolicited a (listening v local a))
+    ∙ withdrawn-announcements v local zs
 
 -- what is told to peers has none
 pub record TellsNone (entries : List Entry) : Type 0 where
@@ -120,38 +120,38 @@ none-answer v node (Some i) frame = go (answer_on v node i frame) where
   go (Some answer) = record { announced = refl; withdrawn = refl }
 
 -- what is told of a change, with what is told to peers behind it
-module _ (v : ViewValue) (station : Station) (note : TakeNote) (before after : List AddressValue) (updates : List Entry) (none : TellsNone updates) where
+module _ (v : ViewValue) (local : LocalNode) (note : TakeNote) (before after : List AddressValue) (updates : List Entry) (none : TellsNone updates) where
   abbrev gone : List Entry
   gone = Noted note ∷ withdrawals before after
 
   abbrev come : List Entry
-  come = announcements v station before after ++ updates
+  come = announcements v local before after ++ updates
 
   come-announces : announced_in come ≡ difference after before
   come-announces =
-      announced-append (announcements v station before after) updates
-      ∙ ap (λ (zs : List AddressValue). announced_in (announcements v station before after) ++ zs) none.announced
-      ∙ append-nil (announced_in (announcements v station before after))
-      ∙ announced-announcements v station (difference after before)
+      announced-append (announcements v local before after) updates
+      ∙ ap (λ (zs : List AddressValue). announced_in (announcements v local before after) ++ zs) none.announced
+      ∙ append-nil (announced_in (announcements v local before after))
+      ∙ announced-announcements v local (difference after before)
 
   come-withdraws : withdrawn_in come ≡ []
   come-withdraws =
-      withdrawn-append (announcements v station before after) updates
-      ∙ ap (λ (zs : List AddressValue). withdrawn_in (announcements v station before after) ++ zs) none.withdrawn
-      ∙ append-nil (withdrawn_in (announcements v station before after))
-      ∙ withdrawn-announcements v station (difference after before)
+      withdrawn-append (announcements v local before after) updates
+      ∙ ap (λ (zs : List AddressValue). withdrawn_in (announcements v local before after) ++ zs) none.withdrawn
+      ∙ append-nil (withdrawn_in (announcements v local before after))
+      ∙ withdrawn-announcements v local (difference after before)
 
-  change-splits : entries_for v station note before after ++ updates ≡ gone ++ come
-  change-splits = append_assoc gone (announcements v station before after) updates
+  change-splits : entries_for v local note before after ++ updates ≡ gone ++ come
+  change-splits = append_assoc gone (announcements v local before after) updates
 
-  pub change-announces : announced_in (entries_for v station note before after ++ updates) ≡ difference after before
+  pub change-announces : announced_in (entries_for v local note before after ++ updates) ≡ difference after before
   change-announces =
       ap announced_in change-splits
       ∙ announced-append gone come
       ∙ ap (λ (zs : List AddressValue). zs ++ announced_in come) (announced-withdrawals (difference before after))
       ∙ come-announces
 
-  change-withdraws : withdrawn_in (entries_for v station note before after ++ updates) ≡ difference before after
+  change-withdraws : withdrawn_in (entries_for v local note before after ++ updates) ≡ difference before after
   change-withdraws =
       ap withdrawn_in change-splits
       ∙ withdrawn-append gone come
@@ -216,41 +216,41 @@ still node v entries none = record {
   later_announces = none.withdrawn;
 }
 
-event-told : (o : Option Received) (s : SpeakerState) (event : Event) → frame_in event ≡ o → TellsChange s.station.node s.view (view_after event s.view) (entries_at o s event)
+event-told : (o : Option Received) (s : SpeakerState) (event : Event) → frame_in event ≡ o → TellsChange s.local.node s.view (view_after event s.view) (entries_at o s event)
 event-told (Some received) s event is =
     let stays = frame_leaves event received s.view is in
-    subst (λ (w : ViewValue). TellsChange s.station.node s.view w (entries_at (Some received) s event)) (sym stays)
-    (still s.station.node s.view (entries_at (Some received) s event) (none-answer s.view s.station.node (interface_of s.station received.interface) received.frame))
+    subst (λ (w : ViewValue). TellsChange s.local.node s.view w (entries_at (Some received) s event)) (sym stays)
+    (still s.local.node s.view (entries_at (Some received) s event) (none-answer s.view s.local.node (interface_of s.local received.interface) received.frame))
 event-told None s event is =
-    let node = s.station.node in
+    let node = s.local.node in
     let v = s.view in
     let w = view_after event s.view in
     let note = note_by s.view event in
-    let none = none-updates v w node s.station.next_hops in
+    let none = none-updates v w node s.local.next_hops in
     let before = announced_by v node in
     let after = announced_by w node in
-    let updates = update_entries v w s.station in
-    let gone = change-withdraws w s.station note before after updates none in
-    let come = change-announces w s.station note before after updates none in
+    let updates = update_entries v w s.local in
+    let gone = change-withdraws w s.local note before after updates none in
+    let come = change-announces w s.local note before after updates none in
     record {
       withdrawn = λ a. subst (λ (zs : List AddressValue). IsIn zs a ↔ AnnouncesAlone node v w a) (sym gone) (alone-means node v w a);
       announced = λ a. subst (λ (zs : List AddressValue). IsIn zs a ↔ AnnouncesAlone node w v a) (sym come) (alone-means node w v a);
       withdrawn_ascend = subst (IsStrictlySortedBy address_cmp) (sym gone) (alone-ascends node v w);
       announced_ascend = subst (IsStrictlySortedBy address_cmp) (sym come) (alone-ascends node w v);
       first = Noted note ∷ withdrawals before after;
-      later = announcements w s.station before after ++ updates;
-      split = change-splits w s.station note before after updates none;
+      later = announcements w s.local before after ++ updates;
+      split = change-splits w s.local note before after updates none;
       first_withdraws = announced-withdrawals (difference before after);
-      later_announces = come-withdraws w s.station note before after updates none;
+      later_announces = come-withdraws w s.local note before after updates none;
     }
 
-pub line-told : (s : SpeakerState) (line : Line) (t : SpeakerState) (entries : List Entry) → line_step s line ≡ Goes t entries → TellsChange s.station.node s.view t.view entries
+pub line-told : (s : SpeakerState) (line : Line) (t : SpeakerState) (entries : List Entry) → line_step s line ≡ Goes t entries → TellsChange s.local.node s.view t.view entries
 line-told s line t entries goes =
     let by = event_applies (event_of_line line.bytes) s t line entries goes in
-    subst (λ (es : List Entry). TellsChange s.station.node s.view t.view es) (sym by.tells)
-    (subst (λ (u : SpeakerState). TellsChange s.station.node s.view u.view (entries_of s by.event)) (sym by.leads)
+    subst (λ (es : List Entry). TellsChange s.local.node s.view t.view es) (sym by.tells)
+    (subst (λ (u : SpeakerState). TellsChange s.local.node s.view u.view (entries_of s by.event)) (sym by.leads)
     (event-told (frame_in by.event) s by.event refl))
 
 pub lines_tell_what_changes : (start : SpeakerState) → TellsWhatChanges start
 lines_tell_what_changes start lines s told taken line t entries goes =
-    subst (λ (station : Station). TellsChange station.node s.view t.view entries) (station_kept lines start s told taken) (line-told s line t entries goes)
+    subst (λ (local : LocalNode). TellsChange local.node s.view t.view entries) (station_kept lines start s told taken) (line-told s line t entries goes)

@@ -10,7 +10,7 @@ use Rattle.speaker_view.specs.Held.{objects_of}
 use Rattle.speaker_view.specs.ViewValue.{ViewValue}
 use Rattle.speaker_words.specs.Reading.{said_in}
 use Rattle.bgp_routes.proofs.Few.{each-of}
-use Rattle.shown_views.specs.Numbered.{HasFittingAddresses, IsNumbered}
+use Rattle.shown_view_laws.specs.Numbered.{HasFittingAddresses, IsNumbered}
 use Rattle.mlb_speaker.specs.declared.entries.Entry.{Entry}
 use Rattle.mlb_speaker.specs.declared.entries.Entry.TheVariants.{Noted, Withdrawn, Announced, Sent, Updated}
 use Rattle.mlb_speaker.specs.Clauses.{begun_with}
@@ -44,8 +44,8 @@ line-fits : (s t : SpeakerState) (line : Line) (entries : List Entry) → line_s
 line-fits s t line entries goes before after =
     let told = line-told s line t entries goes in
     all-fit entries
-    (λ a there. announcer-fits s.view a s.station.node before ((told.withdrawn a).0 there).0)
-    (λ a there. announcer-fits t.view a s.station.node after ((told.announced a).0 there).0)
+    (λ a there. announcer-fits s.view a s.local.node before ((told.withdrawn a).0 there).0)
+    (λ a there. announcer-fits t.view a s.local.node after ((told.announced a).0 there).0)
 
 fit-append : (xs ys : List Entry) → AllFit xs → AllFit ys → AllFit (xs ++ ys)
 fit-append [] ys x y = y

@@ -13,7 +13,7 @@ use Rattle.ip_ranges.specs.declared.family.Family.TheVariants.{V4, V6}
 use Rattle.ip_ranges.specs.Values.{AddressValue, PrefixValue, width_of, same_family}
 use Rattle.kube_events.specs.Event.{event_of_line}
 use Rattle.kube_model.specs.declared.event.Event.{Event}
-use Rattle.line_events.proofs.Shown.{lines_show_numbers, text-fits}
+use Rattle.line_event_laws.proofs.Shown.{lines_show_numbers, text-fits}
 use Rattle.mlb_base.specs.Items.{IsIn}
 use Rattle.mlb_edge.specs.declared.lines.Line.{Line}
 use Rattle.object_cache.specs.declared.change.TakeNote.{TakeNote}
@@ -39,21 +39,21 @@ use Rattle.bgp_reading.proofs.ReceivedAgain.{of-sender, tables-received}
 use Rattle.bgp_routes.specs.Routes.{routes_of}
 use Rattle.bgp_routes.specs.Few.{HasFewInForce}
 use Rattle.bgp_routes.proofs.Few.{each-of}
-use Rattle.shown_views.proofs.InForce.{fresh-few, after-few}
-use Rattle.shown_views.specs.Numbered.{IsNumbered, IsNumberedConfig, HasCompiledAsn}
-use Rattle.shown_views.proofs.Kept.{fresh-numbered, after-numbered}
-use Rattle.shown_views.proofs.Tellable.{routes_can_be_told}
+use Rattle.shown_view_laws.proofs.InForce.{fresh-few, after-few}
+use Rattle.shown_view_laws.specs.Numbered.{IsNumbered, IsNumberedConfig, HasCompiledAsn}
+use Rattle.shown_view_laws.proofs.Kept.{fresh-numbered, after-numbered}
+use Rattle.shown_view_laws.proofs.Tellable.{routes_can_be_told}
 use Rattle.mlb_speaker.specs.declared.entries.Entry.{Entry}
-use Rattle.mlb_speaker.specs.declared.station.Interface.{Interface}
-use Rattle.mlb_speaker.specs.declared.station.NextHops.{NextHops}
-use Rattle.mlb_speaker.specs.declared.station.Station.{Station}
+use Rattle.mlb_speaker.specs.declared.local_node.Interface.{Interface}
+use Rattle.mlb_speaker.specs.declared.local_node.NextHops.{NextHops}
+use Rattle.mlb_speaker.specs.declared.local_node.LocalNode.{LocalNode}
 use Rattle.announced_set.specs.Announced.{announced_by}
 use Rattle.mlb_speaker.specs.Clauses.{nothing_said, begun_with}
 use Rattle.announced_set.specs.Changes.{difference}
 use Rattle.mlb_speaker.specs.Entries.{withdrawn, withdrawals, announcements, entries_for}
 use Rattle.mlb_speaker.specs.Heard.{message_to, messages_told, IsSamePeer, IsThere, StaysOver, HasComeSince, GiveTable, AreToldBy, HearsItsRoutes, PeersHearTheirRoutes}
-use Rattle.mlb_speaker.specs.Sends.{unasked_by, unasked, listening, announcement, answer_on, sent_on, answer_by, interface_of}
-use Rattle.mlb_speaker.specs.Station.{hops_of}
+use Rattle.mlb_speaker.specs.Sends.{unsolicited_by, unsolicited, listening, announcement, answer_on, sent_on, answer_by, interface_of}
+use Rattle.mlb_speaker.specs.LocalNode.{hops_of}
 use Rattle.mlb_speaker.specs.Stream.{SpeakerState, Received, first_state, frame_in, changes_of, entries_at, line_step, speaker_rules}
 use Rattle.bgp_routes.specs.Peers.{peers_in, peers_of}
 use Rattle.mlb_speaker.specs.Updates.{table_by, table_of, messages_to, updated, updates_to, updates_by, update_entries, are_hops, both_with, is_v6}
@@ -71,22 +71,22 @@ module _ (name : List ℕ) where
   told-withdrawn [] = refl
   told-withdrawn (a ∷ addresses) = told-withdrawn addresses
 
-  told-unasked : (a : AddressValue) (interfaces : List Interface) → messages_told name (map (unasked_by a) interfaces) ≡ []
-  told-unasked a [] = refl
-  told-unasked a (i ∷ interfaces) = told-unasked a interfaces
+  told-unsolicited : (a : AddressValue) (interfaces : List Interface) → messages_told name (map (unsolicited_by a) interfaces) ≡ []
+  told-unsolicited a [] = refl
+  told-unsolicited a (i ∷ interfaces) = told-unsolicited a interfaces
 
-  told-announced : (v : ViewValue) (station : Station) (addresses : List AddressValue) → messages_told name (flat_map (announcement v station) addresses) ≡ []
-  told-announced v station [] = refl
-  told-announced v station (a ∷ addresses) =
-      told-append (unasked v station a) (flat_map (announcement v station) addresses)
-      ∙ ap (λ ms. ms ++ messages_told name (flat_map (announcement v station) addresses)) (told-unasked a (listening v station a))
-      ∙ told-announced v station addresses
+  told-announced : (v : ViewValue) (local : LocalNode) (addresses : List AddressValue) → messages_told name (flat_map (announcement v local) addresses) ≡ []
+  told-announced v local [] = refl
+  told-announced v local (a ∷ addresses) =
+      told-append (unsolicited v local a) (flat_map (announcement v local) addresses)
+      ∙ ap (λ ms. ms ++ messages_told name (flat_map (announcement v local) addresses)) (told-unsolicited a (listening v local a))
+      ∙ told-announced v local addresses
 
-  told-changes : (v : ViewValue) (station : Station) (note : TakeNote) (before after : List AddressValue) → messages_told name (entries_for v station note before after) ≡ []
-  told-changes v station note before after =
-      told-append (withdrawals before after) (announcements v station before after)
-      ∙ ap (λ ms. ms ++ messages_told name (announcements v station before after)) (told-withdrawn (difference before after))
-      ∙ told-announced v station (difference after before)
+  told-changes : (v : ViewValue) (local : LocalNode) (note : TakeNote) (before after : List AddressValue) → messages_told name (entries_for v local note before after) ≡ []
+  told-changes v local note before after =
+      told-append (withdrawals before after) (announcements v local before after)
+      ∙ ap (λ ms. ms ++ messages_told name (announcements v local before after)) (told-withdrawn (difference before after))
+      ∙ told-announced v local (difference after before)
 
   told-answer : (v : ViewValue) (node : List ℕ) (i : Option Interface) (frame : List ℕ) → messages_told name (answer_by v node i frame) ≡ []
   told-answer v node None frame = refl
@@ -265,21 +265,21 @@ module _ (peer : CompiledPeer) (node : List ℕ) (hop : NextHops) (are : are_hop
 
   -- ---- an event
 
-  module _ (s : SpeakerState) (at : s.station.node ≡ node) (hops : s.station.next_hops ≡ Some hop) where
+  module _ (s : SpeakerState) (at : s.local.node ≡ node) (hops : s.local.next_hops ≡ Some hop) where
     changes-told : (event : Event) → told (changes_of s event) ≡ told (updates_by s.view (view_after event s.view) node (Some hop))
     changes-told event =
         let v' = view_after event s.view in
-        let others = entries_for v' s.station (note_by s.view event) (announced_by s.view s.station.node) (announced_by v' s.station.node) in
-        told-append peer.name others (update_entries s.view v' s.station)
-        ∙ ap (λ ms. ms ++ told (update_entries s.view v' s.station)) (told-changes peer.name v' s.station (note_by s.view event) (announced_by s.view s.station.node) (announced_by v' s.station.node))
-        ∙ ap (λ (n : List ℕ). told (updates_by s.view v' n s.station.next_hops)) at
+        let others = entries_for v' s.local (note_by s.view event) (announced_by s.view s.local.node) (announced_by v' s.local.node) in
+        told-append peer.name others (update_entries s.view v' s.local)
+        ∙ ap (λ ms. ms ++ told (update_entries s.view v' s.local)) (told-changes peer.name v' s.local (note_by s.view event) (announced_by s.view s.local.node) (announced_by v' s.local.node))
+        ∙ ap (λ (n : List ℕ). told (updates_by s.view v' n s.local.next_hops)) at
         ∙ ap (λ (h : Option NextHops). told (updates_by s.view v' node h)) hops
 
     event-leads : (event : Event) (o : Option Received) → frame_in event ≡ o → IsGoodView (view_after event s.view) → IsThere peer (view_after event s.view)
         → Leads s.view (view_after event s.view) (told (entries_at o s event))
     event-leads event (Some received) is good there =
         subst (λ (u : ViewValue). Leads s.view u (told (entries_at (Some received) s event))) (sym (frame_leaves event received s.view is))
-        (leads-nowhere s.view (told (entries_at (Some received) s event)) (told-answer peer.name s.view s.station.node (interface_of s.station received.interface) received.frame))
+        (leads-nowhere s.view (told (entries_at (Some received) s event)) (told-answer peer.name s.view s.local.node (interface_of s.local received.interface) received.frame))
     event-leads event None is good there =
         let v' = view_after event s.view in
         let (other, among, same) = has-peer peer (peers_of v') there in
@@ -300,16 +300,16 @@ module _ (peer : CompiledPeer) (node : List ℕ) (hop : NextHops) (are : are_hop
 
   -- ---- lines
 
-  lines-lead : (lines : List Line) (s t : SpeakerState) (entries : List Entry) → s.station.node ≡ node → s.station.next_hops ≡ Some hop → IsGoodView s.view → StaysOver peer lines s t entries → Leads s.view t.view (told entries)
+  lines-lead : (lines : List Line) (s t : SpeakerState) (entries : List Entry) → s.local.node ≡ node → s.local.next_hops ≡ Some hop → IsGoodView s.view → StaysOver peer lines s t entries → Leads s.view t.view (told entries)
   lines-lead [] s t entries at hops good stays =
       subst (λ (u : SpeakerState). Leads s.view u.view (told entries)) (sym stays.0) (leads-nowhere s.view (told entries) (ap told stays.1))
   lines-lead (line ∷ lines) s t entries at hops good (next, first, rest, goes, there, later, is) =
       let next_good = line-good s next line first goes good in
-      let kept : next.station ≡ s.station = ap (λ (u : SpeakerState). u.station) (event_applies (event_of_line line.bytes) s next line first goes).leads in
+      let kept : next.local ≡ s.local = ap (λ (u : SpeakerState). u.local) (event_applies (event_of_line line.bytes) s next line first goes).leads in
       subst (λ (ms : List (List ℕ)). Leads s.view t.view ms) (sym (ap told is ∙ told-append peer.name first rest))
       (leads-on s.view next.view t.view (told first) (told rest)
       (line-leads s at hops next line first goes next_good there)
-      (lines-lead lines next t rest (ap (λ (x : Station). x.node) kept ∙ at) (ap (λ (x : Station). x.next_hops) kept ∙ hops) next_good later))
+      (lines-lead lines next t rest (ap (λ (x : LocalNode). x.node) kept ∙ at) (ap (λ (x : LocalNode). x.next_hops) kept ∙ hops) next_good later))
 
   -- from where the peer isn't there
   leads-from : (v v' : ViewValue) (messages : List (List ℕ)) → ¬ (IsThere peer v) → (leads : Leads v v' messages) → messages ≡ messages_over peering [] leads.tables
@@ -414,8 +414,8 @@ module _ (said : Said) where
         come-by start peer lines [] start t [] all (refl, refl) (λ yet. absurd (nobody-yet peer yet)) taken (peer-has peer peer (peers_of t.view) there same),
         λ told since.
             let kept = station_kept since.earlier start since.s since.before since.reached in
-            let at : since.s.station.node ≡ said.node = ap (λ (x : Station). x.node) kept in
-            let next : since.s.station.next_hops ≡ Some hop = ap (λ (x : Station). x.next_hops) kept ∙ is in
+            let at : since.s.local.node ≡ said.node = ap (λ (x : LocalNode). x.node) kept in
+            let next : since.s.local.next_hops ≡ Some hop = ap (λ (x : LocalNode). x.next_hops) kept ∙ is in
             let begun = lines-good since.earlier start since.s since.before since.reached (fresh-good said.class) in
             let leads = lines-lead peer said.node hop by.are by.small by.small_v6 since.later since.s t told at next begun since.stays in (
               leads-table peer said.node hop by.are by.small by.small_v6 since.s.view t.view (messages_told peer.name told) since.absent good there leads,

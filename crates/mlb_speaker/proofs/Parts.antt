@@ -31,8 +31,8 @@ use Rattle.bgp_routes.proofs.Differing.{changed-differ}
 use Rattle.bgp_routes.proofs.Elements.{prefixes-ascend}
 use Rattle.bgp_routes.proofs.Families.{routes-of-ipv4}
 use Rattle.mlb_speaker.specs.declared.entries.Entry.{Entry}
-use Rattle.mlb_speaker.specs.declared.station.NextHops.{NextHops}
-use Rattle.mlb_speaker.specs.declared.station.Station.{Station}
+use Rattle.mlb_speaker.specs.declared.local_node.NextHops.{NextHops}
+use Rattle.mlb_speaker.specs.declared.local_node.LocalNode.{LocalNode}
 use Rattle.mlb_speaker.specs.Kept.{AreKeptWith, AreRoutesOf, WereKept, WereKeptWith, WereRoutes, changed_part, part_at, part_updates}
 use Rattle.mlb_speaker.specs.Updates.{is_one_peer, table_by, table_of, updated, updates_by, updates_to, are_hops, both_with, is_v6}
 use Rattle.mlb_speaker.proofs.NamedPeers.{NamesAscend, found}
@@ -151,11 +151,11 @@ were-with : (hop : Option NextHops) (kept : KeptValue) (v w : ViewValue) (change
 were-with None kept v w change are stay = are
 were-with (Some hop) kept v w change are stay = record { right = are; differs = λ some. changed-differ v w change stay some kept.node }
 
-pub were-routes : (kept : KeptValue) (v w : ViewValue) (station : Station) (change : ViewChange) → AreRoutesOf kept v station → OthersStay v w change → WereRoutes change kept v w station
-were-routes kept v w station change are stay = record {
+pub were-routes : (kept : KeptValue) (v w : ViewValue) (local : LocalNode) (change : ViewChange) → AreRoutesOf kept v local → OthersStay v w change → WereRoutes change kept v w local
+were-routes kept v w local change are stay = record {
   node = are.node;
   both = are.both;
-  right = were-with station.next_hops kept v w change are.right stay;
+  right = were-with local.next_hops kept v w change are.right stay;
 }
 
 -- ---- with the words' next hop, or without one

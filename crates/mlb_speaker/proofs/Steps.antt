@@ -24,7 +24,7 @@ use Rattle.line_run.specs.Run.{text_of}
 use Rattle.line_run.specs.Steps.{Breaks}
 use Rattle.line_run.specs.Text.{Halts}
 use Rattle.mlb_speaker.specs.declared.entries.Entry.{Entry}
-use Rattle.mlb_speaker.specs.declared.station.Station.{Station}
+use Rattle.mlb_speaker.specs.declared.local_node.LocalNode.{LocalNode}
 use Rattle.announced_set.specs.Announced.{announced_by}
 use Rattle.mlb_speaker.specs.Entries.{entries_for, entry_text, withdrawn}
 use Rattle.mlb_speaker.specs.Updates.{update_entries, updates_by}
@@ -52,28 +52,28 @@ pub handed_on : (fault told : ApplyFault) → unmade fault ≡ unmade told → r
 handed_on fault told e = let same : fault ≡ told = cc in ap refused same
 
 -- what is told where addresses are withdrawn and announced, of whichever view the announcers were
-pub entries-told : {E : Type 0} (r : Result (List Entry) E) (station : Station) (note : TakeNote) (held : List (AddressValue × List ℕ)) (v' : ViewValue) (gone come : List AddressValue)
-    → AreWithdrawn held v' station.node gone → AreComeSince held v' station.node come
-    → IfOk r (λ entries. entries ≡ Noted note ∷ map withdrawn gone ++ flat_map (announcement v' station) come)
-    → IfOk r (λ entries. (was : ViewValue) → AreKeptFor held was → entries ≡ entries_for v' station note (announced_by was station.node) (announced_by v' station.node))
-entries-told (Ok entries) station note held v' gone come w a is =
-    λ was kept. is ∙ (λ i. Noted note ∷ map withdrawn (w was kept i) ++ flat_map (announcement v' station) (a was kept i))
-entries-told (Err e) station note held v' gone come w a is = tt
+pub entries-told : {E : Type 0} (r : Result (List Entry) E) (local : LocalNode) (note : TakeNote) (held : List (AddressValue × List ℕ)) (v' : ViewValue) (gone come : List AddressValue)
+    → AreWithdrawn held v' local.node gone → AreComeSince held v' local.node come
+    → IfOk r (λ entries. entries ≡ Noted note ∷ map withdrawn gone ++ flat_map (announcement v' local) come)
+    → IfOk r (λ entries. (was : ViewValue) → AreKeptFor held was → entries ≡ entries_for v' local note (announced_by was local.node) (announced_by v' local.node))
+entries-told (Ok entries) local note held v' gone come w a is =
+    λ was kept. is ∙ (λ i. Noted note ∷ map withdrawn (w was kept i) ++ flat_map (announcement v' local) (a was kept i))
+entries-told (Err e) local note held v' gone come w a is = tt
 
-module _ (v : ViewValue) (station : Station) (event : Event) where
+module _ (v : ViewValue) (local : LocalNode) (event : Event) where
   -- what is told is what the views before and after it say
   pub changes-are : (note : TakeNote) (v' : ViewValue) (entries : List Entry)
-      → entries ≡ entries_for v' station note (announced_by v station.node) (announced_by v' station.node) ++ updates_by v v' station.node station.next_hops
-      → v' ≡ view_after event v → note ≡ note_by v event → entries ≡ changes_of (state_of v station) event
+      → entries ≡ entries_for v' local note (announced_by v local.node) (announced_by v' local.node) ++ updates_by v v' local.node local.next_hops
+      → v' ≡ view_after event v → note ≡ note_by v event → entries ≡ changes_of (state_of v local) event
   changes-are note v' entries is w n =
       is
-      ∙ ap (λ (m : TakeNote). entries_for v' station m (announced_by v station.node) (announced_by v' station.node) ++ updates_by v v' station.node station.next_hops) n
-      ∙ ap (λ (u : ViewValue). entries_for u station (note_by v event) (announced_by v station.node) (announced_by u station.node) ++ update_entries v u station) w
+      ∙ ap (λ (m : TakeNote). entries_for v' local m (announced_by v local.node) (announced_by v' local.node) ++ updates_by v v' local.node local.next_hops) n
+      ∙ ap (λ (u : ViewValue). entries_for u local (note_by v event) (announced_by v local.node) (announced_by u local.node) ++ update_entries v u local) w
 
   -- a line that reads as the event is to a state what the event is
   pub breaks : (line : Line) (t : SpeakerState) (halt : Halt) (entries : List Entry) (before after : Option (List ℕ)) (k n : ℕ) → event_of_line line.bytes ≡ Ok event
-      → step_by (state_of v station) event ≡ Goes t entries → Halts halt (text_of speaker_rules entries) before after k n
-      → Breaks halt speaker_rules (state_of v station) line before after k n
+      → step_by (state_of v local) event ≡ Goes t entries → Halts halt (text_of speaker_rules entries) before after k n
+      → Breaks halt speaker_rules (state_of v local) line before after k n
   breaks line t halt entries before after k n reads goes h = record { next = t; entries = entries; steps = rw (reads, goes) refl; halts = h }
 
 -- a frame changes nothing, and passes no limit

@@ -25,12 +25,12 @@ use Rattle.mlb_speaker.specs.declared.entries.Entry.{Entry}
 use Rattle.mlb_speaker.specs.declared.entries.Entry.TheVariants.{Noted, Withdrawn, Announced, Sent, Updated}
 use Rattle.announced_set.specs.Announced.{announced_by}
 use Rattle.mlb_speaker.specs.Clauses.{nothing_said, begun_with}
-use Rattle.mlb_speaker.specs.declared.station.Interface.{Interface}
-use Rattle.mlb_speaker.specs.declared.station.NextHops.{NextHops}
-use Rattle.mlb_speaker.specs.declared.station.Station.{Station}
+use Rattle.mlb_speaker.specs.declared.local_node.Interface.{Interface}
+use Rattle.mlb_speaker.specs.declared.local_node.NextHops.{NextHops}
+use Rattle.mlb_speaker.specs.declared.local_node.LocalNode.{LocalNode}
 use Rattle.announced_set.specs.Changes.{difference}
 use Rattle.mlb_speaker.specs.Entries.{withdrawn, withdrawals, announcements, entries_for}
-use Rattle.mlb_speaker.specs.Sends.{unasked_by, listening, announcement, answer_on, answer_by, sent_on, interface_of}
+use Rattle.mlb_speaker.specs.Sends.{unsolicited_by, listening, announcement, answer_on, answer_by, sent_on, interface_of}
 use Rattle.mlb_speaker.specs.Stream.{SpeakerState, Received, first_state, state_after, frame_in, changes_of, entries_at, entries_of, limit_step, event_step, line_step, speaker_rules}
 use Rattle.mlb_speaker.specs.Told.{AllLeave, IsToldOf, TellsWhatIsAnnounced, LinesTellWhatIsAnnounced}
 use Rattle.speaker_words.specs.Reading.{said_in}
@@ -106,16 +106,16 @@ module _ (a : AddressValue) where
   announced_bools false false d = refl
 
   -- a frame tells nothing of it
-  stands-sent : (x : AddressValue) (interfaces : List Interface) (b : Bool) → fold says b (map (unasked_by x) interfaces) ≡ b
+  stands-sent : (x : AddressValue) (interfaces : List Interface) (b : Bool) → fold says b (map (unsolicited_by x) interfaces) ≡ b
   stands-sent x [] b = refl
   stands-sent x (i ∷ interfaces) b = stands-sent x interfaces b
 
-  stands-announced : (v : ViewValue) (station : Station) (xs : List AddressValue) (b : Bool) → fold says b (flat_map (announcement v station) xs) ≡ (b || has_address xs a)
-  stands-announced v station [] b = or_false b
-  stands-announced v station (x ∷ xs) b =
-      fold-append says b (announcement v station x) (flat_map (announcement v station) xs)
-      ∙ ap (λ (c : Bool). fold says c (flat_map (announcement v station) xs)) (stands-sent x (listening v station x) (cond (same_address a x) true b))
-      ∙ stands-announced v station xs (cond (same_address a x) true b)
+  stands-announced : (v : ViewValue) (local : LocalNode) (xs : List AddressValue) (b : Bool) → fold says b (flat_map (announcement v local) xs) ≡ (b || has_address xs a)
+  stands-announced v local [] b = or_false b
+  stands-announced v local (x ∷ xs) b =
+      fold-append says b (announcement v local x) (flat_map (announcement v local) xs)
+      ∙ ap (λ (c : Bool). fold says c (flat_map (announcement v local) xs)) (stands-sent x (listening v local x) (cond (same_address a x) true b))
+      ∙ stands-announced v local xs (cond (same_address a x) true b)
       ∙ announced_bools b (same_address a x) (has_address xs a)
 
   pub has-difference : (xs ys : List AddressValue) → has_address (difference xs ys) a ≡ (has_address xs a && not (has_address ys a))
@@ -128,10 +128,10 @@ module _ (a : AddressValue) where
   turned false false = refl
 
   -- from what was announced before to what is announced now
-  stands-entries : (v : ViewValue) (station : Station) (note : TakeNote) (before after : List AddressValue) → fold says (has_address before a) (entries_for v station note before after) ≡ has_address after a
-  stands-entries v station note before after =
-      fold-append says (has_address before a) (Noted note ∷ withdrawals before after) (announcements v station before after)
-      ∙ stands-announced v station (difference after before) (fold says (has_address before a) (withdrawals before after))
+  stands-entries : (v : ViewValue) (local : LocalNode) (note : TakeNote) (before after : List AddressValue) → fold says (has_address before a) (entries_for v local note before after) ≡ has_address after a
+  stands-entries v local note before after =
+      fold-append says (has_address before a) (Noted note ∷ withdrawals before after) (announcements v local before after)
+      ∙ stands-announced v local (difference after before) (fold says (has_address before a) (withdrawals before after))
       ∙ ap (λ (b : Bool). b || has_address (difference after before) a) (stands-withdrawn (difference before after) (has_address before a))
       ∙ ap (λ (b : Bool). (has_address before a && not b) || has_address (difference after before) a) (has-difference before after)
       ∙ ap (λ (b : Bool). (has_address before a && not (has_address before a && not (has_address after a))) || b) (has-difference after before)
@@ -166,7 +166,7 @@ module _ (a : AddressValue) where
 
   -- what stands told is what is announced
   Keeps : SpeakerState → List Entry → Type 0
-  Keeps s told = fold says false told ≡ announces_of s.view s.station.node a
+  Keeps s told = fold says false told ≡ announces_of s.view s.local.node a
 
 -- ---- runs
 
@@ -191,35 +191,35 @@ event_applies (Ok event) s t line entries e = limit_applies (limit_by s.view eve
 module _ (a : AddressValue) where
   -- what is told of an event follows it
   told_by_event : (o : Option Received) (s : SpeakerState) (event : Event) → frame_in event ≡ o
-      → fold (says a) (announces_of s.view s.station.node a) (entries_at o s event) ≡ announces_of (view_after event s.view) s.station.node a
+      → fold (says a) (announces_of s.view s.local.node a) (entries_at o s event) ≡ announces_of (view_after event s.view) s.local.node a
   told_by_event (Some received) s event is =
-      stands-answer a s.view s.station.node (interface_of s.station received.interface) received.frame (announces_of s.view s.station.node a)
-      ∙ ap (λ (u : ViewValue). announces_of u s.station.node a) (sym (frame_leaves event received s.view is))
+      stands-answer a s.view s.local.node (interface_of s.local received.interface) received.frame (announces_of s.view s.local.node a)
+      ∙ ap (λ (u : ViewValue). announces_of u s.local.node a) (sym (frame_leaves event received s.view is))
   told_by_event None s event is =
-      ap (λ (b : Bool). fold (says a) b (changes_of s event)) (sym (has-announced s.view s.station.node a))
-      ∙ fold-append (says a) (has_address (announced_by s.view s.station.node) a)
-      (entries_for (view_after event s.view) s.station (note_by s.view event) (announced_by s.view s.station.node) (announced_by (view_after event s.view) s.station.node))
-      (update_entries s.view (view_after event s.view) s.station)
-      ∙ ap (λ (b : Bool). fold (says a) b (update_entries s.view (view_after event s.view) s.station))
-      (stands-entries a (view_after event s.view) s.station (note_by s.view event) (announced_by s.view s.station.node) (announced_by (view_after event s.view) s.station.node))
-      ∙ stands-updates a s.view (view_after event s.view) s.station.node s.station.next_hops (has_address (announced_by (view_after event s.view) s.station.node) a)
-      ∙ has-announced (view_after event s.view) s.station.node a
+      ap (λ (b : Bool). fold (says a) b (changes_of s event)) (sym (has-announced s.view s.local.node a))
+      ∙ fold-append (says a) (has_address (announced_by s.view s.local.node) a)
+      (entries_for (view_after event s.view) s.local (note_by s.view event) (announced_by s.view s.local.node) (announced_by (view_after event s.view) s.local.node))
+      (update_entries s.view (view_after event s.view) s.local)
+      ∙ ap (λ (b : Bool). fold (says a) b (update_entries s.view (view_after event s.view) s.local))
+      (stands-entries a (view_after event s.view) s.local (note_by s.view event) (announced_by s.view s.local.node) (announced_by (view_after event s.view) s.local.node))
+      ∙ stands-updates a s.view (view_after event s.view) s.local.node s.local.next_hops (has_address (announced_by (view_after event s.view) s.local.node) a)
+      ∙ has-announced (view_after event s.view) s.local.node a
 
-  kept : (s t : SpeakerState) (line : Line) (told entries : List Entry) → fold (says a) false told ≡ announces_of s.view s.station.node a → line_step s line ≡ Goes t entries
-      → fold (says a) false (told ++ entries) ≡ announces_of t.view t.station.node a
+  kept : (s t : SpeakerState) (line : Line) (told entries : List Entry) → fold (says a) false told ≡ announces_of s.view s.local.node a → line_step s line ≡ Goes t entries
+      → fold (says a) false (told ++ entries) ≡ announces_of t.view t.local.node a
   kept s t line told entries keeps goes =
       let by = event_applies (event_of_line line.bytes) s t line entries goes in
       let event = by.event in
       fold-append (says a) false told entries
       ∙ ap (λ (b : Bool). fold (says a) b entries) keeps
-      ∙ ap (λ (es : List Entry). fold (says a) (announces_of s.view s.station.node a) es) by.tells
+      ∙ ap (λ (es : List Entry). fold (says a) (announces_of s.view s.local.node a) es) by.tells
       ∙ told_by_event (frame_in event) s event refl
-      ∙ ap (λ (u : SpeakerState). announces_of u.view u.station.node a) (sym by.leads)
+      ∙ ap (λ (u : SpeakerState). announces_of u.view u.local.node a) (sym by.leads)
 
-  taken_keeps : (lines : List Line) (s t : SpeakerState) (told entries : List Entry) → fold (says a) false told ≡ announces_of s.view s.station.node a → AreTaken speaker_rules lines s t entries
-      → fold (says a) false (told ++ entries) ≡ announces_of t.view t.station.node a
+  taken_keeps : (lines : List Line) (s t : SpeakerState) (told entries : List Entry) → fold (says a) false told ≡ announces_of s.view s.local.node a → AreTaken speaker_rules lines s t entries
+      → fold (says a) false (told ++ entries) ≡ announces_of t.view t.local.node a
   taken_keeps [] s t told entries keeps taken =
-      ap (λ (es : List Entry). fold (says a) false (told ++ es)) taken.1 ∙ ap (λ (es : List Entry). fold (says a) false es) (append-nil told) ∙ keeps ∙ ap (λ (u : SpeakerState). announces_of u.view u.station.node a) (sym taken.0)
+      ap (λ (es : List Entry). fold (says a) false (told ++ es)) taken.1 ∙ ap (λ (es : List Entry). fold (says a) false es) (append-nil told) ∙ keeps ∙ ap (λ (u : SpeakerState). announces_of u.view u.local.node a) (sym taken.0)
   taken_keeps (line ∷ lines) s t told entries keeps (next, first, rest, goes, others, is) =
       ap (λ (es : List Entry). fold (says a) false (told ++ es)) is
       ∙ ap (λ (es : List Entry). fold (says a) false es) (sym (append_assoc told first rest))
@@ -299,17 +299,17 @@ module _ (a : AddressValue) where
   stands-told : (told : List Entry) → fold (says a) false told ≡ true → IsToldOf told a
   stands-told told h = told_of told (stands_cases told false h)
 
--- the station stays
-pub station_kept : (lines : List Line) (s t : SpeakerState) (entries : List Entry) → AreTaken speaker_rules lines s t entries → t.station ≡ s.station
-station_kept [] s t entries taken = ap (λ (u : SpeakerState). u.station) taken.0
+-- the local node stays
+pub station_kept : (lines : List Line) (s t : SpeakerState) (entries : List Entry) → AreTaken speaker_rules lines s t entries → t.local ≡ s.local
+station_kept [] s t entries taken = ap (λ (u : SpeakerState). u.local) taken.0
 station_kept (line ∷ lines) s t entries (next, first, rest, goes, others, is) =
-    station_kept lines next t rest others ∙ ap (λ (u : SpeakerState). u.station) (event_applies (event_of_line line.bytes) s next line first goes).leads
+    station_kept lines next t rest others ∙ ap (λ (u : SpeakerState). u.local) (event_applies (event_of_line line.bytes) s next line first goes).leads
 
 pub lines_tell_what_is_announced : LinesTellWhatIsAnnounced
 lines_tell_what_is_announced said lines s told taken a =
     let by_test : fold (says a) false told ≡ announces_of s.view said.node a =
     taken_keeps a lines (first_state said) s [] told (nothing_yet a said.node said.class) taken
-    ∙ ap (λ (n : Station). announces_of s.view n.node a) (station_kept lines (first_state said) s told taken) in (
+    ∙ ap (λ (n : LocalNode). announces_of s.view n.node a) (station_kept lines (first_state said) s told taken) in (
       λ is. announces-announcer s.view a said.node (sym by_test ∙ told-stands a told is),
       λ announcer. stands-told a told (by_test ∙ announcer-announces s.view a said.node announcer),
     )

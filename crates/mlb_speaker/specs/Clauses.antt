@@ -9,7 +9,7 @@ use Rattle.command_options.specs.Options.{texts_of}
 use Rattle.line_run.specs.Answered.{IsAnswered, MayBeAsked}
 use Rattle.line_run.specs.Clauses as run
 use Rattle.mlb_edge.specs.Reading.{Reading}
-use Rattle.mlb_speaker.specs.declared.station.Interface.{Interface}
+use Rattle.mlb_speaker.specs.declared.local_node.Interface.{Interface}
 use Rattle.mlb_speaker.specs.Stream.{SpeakerState, first_state, speaker_rules, IsCause}
 use Rattle.mlb_speaker.specs.Heard as heard
 use Rattle.mlb_speaker.specs.Meant as meant
@@ -61,11 +61,11 @@ IsNamed interface word = (interface.name ≡ word.name) × (interface.mac ≡ wo
 -- A run that begins so is that of what the words say: of the node and the class, by the interfaces in their order, with the next hops and over the
 -- lane files. Nothing was shown yet.
 pub record SpeaksFor (said : Said) (s : SpeakerState) (lanes : Option LaneNames) : Type 0 where
-  pub node : s.station.node ≡ said.node
+  pub node : s.local.node ≡ said.node
   pub class : s.view ≡ fresh said.class
-  pub interfaces : AllZip IsNamed s.station.interfaces said.interfaces
-  pub hops : (hop : AddressValue) → said.next_hop ≡ Some hop → s.station.next_hops ≡ Some (record { v4 = hop; v6 = said.next_hop_v6 })
-  pub no_hops : said.next_hop ≡ None → s.station.next_hops ≡ None
+  pub interfaces : AllZip IsNamed s.local.interfaces said.interfaces
+  pub hops : (hop : AddressValue) → said.next_hop ≡ Some hop → s.local.next_hops ≡ Some (record { v4 = hop; v6 = said.next_hop_v6 })
+  pub no_hops : said.next_hop ≡ None → s.local.next_hops ≡ None
   pub begun : s ≡ first_state said
   pub files : lanes ≡ said.lanes
 

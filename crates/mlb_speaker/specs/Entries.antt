@@ -10,7 +10,7 @@ use Rattle.announced_set.specs.Changes.{difference}
 use Rattle.line_run.specs.Text.{line_of}
 use Rattle.mlb_speaker.specs.declared.entries.Entry.{Entry}
 use Rattle.mlb_speaker.specs.declared.entries.Entry.TheVariants.{Noted, Withdrawn, Announced, Sent, Updated}
-use Rattle.mlb_speaker.specs.declared.station.Station.{Station}
+use Rattle.mlb_speaker.specs.declared.local_node.LocalNode.{LocalNode}
 use Rattle.mlb_speaker.specs.Sends.{announcement}
 
 abbrev pub withdrawn : AddressValue → Entry
@@ -21,12 +21,12 @@ abbrev pub withdrawals : List AddressValue → List AddressValue → List Entry
 withdrawals before after = map withdrawn (difference before after)
 
 -- what is announced after, and wasn't before, with the frames that are sent
-abbrev pub announcements : ViewValue → Station → List AddressValue → List AddressValue → List Entry
-announcements v station before after = flat_map (announcement v station) (difference after before)
+abbrev pub announcements : ViewValue → LocalNode → List AddressValue → List AddressValue → List Entry
+announcements v local before after = flat_map (announcement v local) (difference after before)
 
 -- what became of a configuration, then what isn't announced any more, then what is announced from now on
-abbrev pub entries_for : ViewValue → Station → TakeNote → List AddressValue → List AddressValue → List Entry
-entries_for v station note before after = Noted note ∷ withdrawals before after ++ announcements v station before after
+abbrev pub entries_for : ViewValue → LocalNode → TakeNote → List AddressValue → List AddressValue → List Entry
+entries_for v local note before after = Noted note ∷ withdrawals before after ++ announcements v local before after
 
 -- what became of a configuration that was compiled is told
 abbrev pub note_text : TakeNote → List ℕ

@@ -21,7 +21,7 @@ use Rattle.bgp_routes.specs.Peers.{peers_of}
 use Rattle.bgp_routes.specs.Routes.{routes_of}
 use Rattle.mlb_speaker.specs.declared.entries.Entry.{Entry}
 use Rattle.mlb_speaker.specs.declared.entries.Entry.TheVariants.{Noted, Withdrawn, Announced, Sent, Updated}
-use Rattle.mlb_speaker.specs.declared.station.NextHops.{NextHops}
+use Rattle.mlb_speaker.specs.declared.local_node.NextHops.{NextHops}
 use Rattle.mlb_speaker.specs.Stream.{SpeakerState, first_state, line_step, speaker_rules}
 
 -- the message to the peer of this name, if the entry is one
@@ -84,13 +84,13 @@ AreToldBy peer hops messages = (sender : Peering) × IsSender peer hops sender �
 abbrev pub HearsSince : (start : SpeakerState) (lines : List Line) (t : SpeakerState) → NextHops → CompiledPeer → Type 0
 HearsSince start lines t hops peer =
     ((told : List Entry) × HasComeSince start lines peer t told)
-    × ((told : List Entry) → HasComeSince start lines peer t told → GiveTable (messages_told peer.name told) (routes_of t.view start.station.node peer (is_some hops.v6))
+    × ((told : List Entry) → HasComeSince start lines peer t told → GiveTable (messages_told peer.name told) (routes_of t.view start.local.node peer (is_some hops.v6))
     × AreToldBy peer hops (messages_told peer.name told))
 
 -- so it is after any lines, with a next hop, with each peer of the configuration in force
 abbrev pub HearsItsRoutes : SpeakerState → Type 0
 HearsItsRoutes start = (lines : List Line) (t : SpeakerState) (all : List Entry) → AreTaken speaker_rules lines start t all
-    → (hops : NextHops) → start.station.next_hops ≡ Some hops → (peer : CompiledPeer) → IsIn (peers_of t.view) peer → HearsSince start lines t hops peer
+    → (hops : NextHops) → start.local.next_hops ≡ Some hops → (peer : CompiledPeer) → IsIn (peers_of t.view) peer → HearsSince start lines t hops peer
 
 -- so it is of a run that begins with what words say
 abbrev pub PeersHearTheirRoutes : Type 0

@@ -10,8 +10,8 @@ use Rattle.bgp_routes.specs.Differ.{DiffersAt}
 use Rattle.bgp_routes.specs.Kept.{AreKeptFor, HoldsNone, KeptValue}
 use Rattle.bgp_routes.specs.Parts.{part_of}
 use Rattle.mlb_speaker.specs.declared.entries.Entry.{Entry}
-use Rattle.mlb_speaker.specs.declared.station.NextHops.{NextHops}
-use Rattle.mlb_speaker.specs.declared.station.Station.{Station}
+use Rattle.mlb_speaker.specs.declared.local_node.NextHops.{NextHops}
+use Rattle.mlb_speaker.specs.declared.local_node.LocalNode.{LocalNode}
 use Rattle.mlb_speaker.specs.Updates.{both_with, table_of, updated}
 
 -- where the words name a next hop the routes of all peers by the view are kept, else none
@@ -24,16 +24,16 @@ abbrev pub AreOfBoth : Option NextHops → KeptValue → Type 0
 AreOfBoth None kept = ⊤
 AreOfBoth (Some hops) kept = kept.both ≡ both_with hops
 
--- These are kept so, of the station's node.
-pub record AreRoutesOf (kept : KeptValue) (v : ViewValue) (station : Station) : Type 0 where
-  pub node : kept.node ≡ station.node
-  pub both : AreOfBoth station.next_hops kept
-  pub right : AreKeptWith station.next_hops kept v
+-- These are kept so, of the local's node.
+pub record AreRoutesOf (kept : KeptValue) (v : ViewValue) (local : LocalNode) : Type 0 where
+  pub node : kept.node ≡ local.node
+  pub both : AreOfBoth local.next_hops kept
+  pub right : AreKeptWith local.next_hops kept v
 
 -- where routes are known, they are those of the view
-abbrev pub AreRoutesKnown : Option KeptValue → ViewValue → Station → Type 0
-AreRoutesKnown None v station = ⊤
-AreRoutesKnown (Some kept) v station = AreRoutesOf kept v station
+abbrev pub AreRoutesKnown : Option KeptValue → ViewValue → LocalNode → Type 0
+AreRoutesKnown None v local = ⊤
+AreRoutesKnown (Some kept) v local = AreRoutesOf kept v local
 
 -- The routes were right for the view before, which differs from the view after at the listed addresses at most, unless all may have changed.
 pub record WereKept (change : ViewChange) (kept : KeptValue) (before after : ViewValue) : Type 0 where
@@ -45,11 +45,11 @@ abbrev pub WereKeptWith : Option NextHops → ViewChange → KeptValue → ViewV
 WereKeptWith None change kept before after = HoldsNone kept
 WereKeptWith (Some hops) change kept before after = WereKept change kept before after
 
--- of the station's node
-pub record WereRoutes (change : ViewChange) (kept : KeptValue) (before after : ViewValue) (station : Station) : Type 0 where
-  pub node : kept.node ≡ station.node
-  pub both : AreOfBoth station.next_hops kept
-  pub right : WereKeptWith station.next_hops change kept before after
+-- of the local's node
+pub record WereRoutes (change : ViewChange) (kept : KeptValue) (before after : ViewValue) (local : LocalNode) : Type 0 where
+  pub node : kept.node ≡ local.node
+  pub both : AreOfBoth local.next_hops kept
+  pub right : WereKeptWith local.next_hops change kept before after
 
 -- what of the table the change may have changed
 abbrev pub changed_part : ViewChange → ViewValue → List (PrefixValue × Terms) → List (PrefixValue × Terms)

@@ -8,7 +8,7 @@ use Rattle.lane_drive.specs.LaneRules.{LaneRules}
 use Rattle.lane_mail.specs.declared.item.Item.{Item}
 use Rattle.lane_mail.specs.declared.lane.Lane.{Lane}
 use Rattle.lane_mail.specs.declared.lane.Lane.TheVariants.{First, Second}
-use Rattle.line_run.specs.Machine.{Step, Stops}
+use Rattle.line_run.specs.Machine.{Transition, Stops}
 use Rattle.mlb_speaker.specs.declared.entries.Entry.{Entry}
 use Rattle.mlb_speaker.specs.Entries.{entry_text}
 use Rattle.mlb_speaker.specs.Stream.{SpeakerState, frame_in, step_by}
@@ -23,7 +23,7 @@ name_of First = names.Watch
 name_of Second = names.Frame
 
 -- what an item is to this state: what its event is
-abbrev pub item_step : SpeakerState → Item → Step SpeakerState Entry
+abbrev pub item_step : SpeakerState → Item → Transition SpeakerState Entry
 item_step s item = step_by s item.event
 
 -- the speaker, as a machine over items; there are no replies, and the input isn't read

@@ -9,7 +9,7 @@ pub mod Lanes
 pub mod Meant
 pub mod Seen
 pub mod Sends
-pub mod Station
+pub mod LocalNode
 pub mod Stream
 pub mod Told
 pub mod Updates

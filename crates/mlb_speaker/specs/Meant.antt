@@ -15,58 +15,58 @@ use Rattle.line_run.specs.Run.{AreTaken}
 use Rattle.speaker_words.specs.Words.{Said}
 use Rattle.mlb_speaker.specs.declared.entries.Entry.{Entry}
 use Rattle.mlb_speaker.specs.declared.entries.Entry.TheVariants.{Noted, Withdrawn, Announced, Sent, Updated}
-use Rattle.mlb_speaker.specs.declared.station.Interface.{Interface}
-use Rattle.mlb_speaker.specs.declared.station.Station.{Station}
-use Rattle.mlb_speaker.specs.Sends.{unasked_of}
+use Rattle.mlb_speaker.specs.declared.local_node.Interface.{Interface}
+use Rattle.mlb_speaker.specs.declared.local_node.LocalNode.{LocalNode}
+use Rattle.mlb_speaker.specs.Sends.{unsolicited_of}
 use Rattle.mlb_speaker.specs.Told.{announced_in}
 use Rattle.mlb_speaker.specs.Stream.{SpeakerState, Received, first_state, frame_in, line_step, speaker_rules}
 
--- An interface of the words, on which the node listens for the address, says unasked that its hardware address has it: by a gratuitous ARP
+-- An interface of the words, on which the node listens for the address, says of itself that its hardware address has it: by a gratuitous ARP
 -- (RFC 5227, section 3) or an unsolicited advertisement (RFC 4861, section 7.2.6).
-pub record IsUnasked (v : ViewValue) (station : Station) (a : AddressValue) (name frame : List ℕ) : Type 0 where
+pub record IsUnasked (v : ViewValue) (local : LocalNode) (a : AddressValue) (name frame : List ℕ) : Type 0 where
   pub interface : Interface
-  pub of_words : Contains station.interfaces interface
+  pub of_words : Contains local.interfaces interface
   pub named : interface.name ≡ name
-  pub listens : Listens v station.node interface.name a
-  pub says : frame ≡ unasked_of a.family interface.mac a.number
+  pub listens : Listens v local.node interface.name a
+  pub says : frame ≡ unsolicited_of a.family interface.mac a.number
 
 -- The interface of the words by which a frame came answers it: a request (RFC 826) or a solicitation (RFC 4861, section 7.2.3) of an address for
 -- which the node listens on that interface.
-pub record IsAnswer (v : ViewValue) (station : Station) (received : Received) (frame : List ℕ) : Type 0 where
+pub record IsAnswer (v : ViewValue) (local : LocalNode) (received : Received) (frame : List ℕ) : Type 0 where
   pub interface : Interface
-  pub of_words : Contains station.interfaces interface
+  pub of_words : Contains local.interfaces interface
   pub named : interface.name ≡ received.interface
-  pub says : IsArpAnswer v station.node interface.name interface.mac received.frame frame ⊎ IsNdpAnswer v station.node interface.name interface.mac received.frame frame
+  pub says : IsArpAnswer v local.node interface.name interface.mac received.frame frame ⊎ IsNdpAnswer v local.node interface.name interface.mac received.frame frame
 
--- the entry is no frame, or an unasked one of an address that these entries announce
-abbrev pub IsOfThese : ViewValue → Station → List Entry → Entry → Type 0
-IsOfThese v station entries (Noted note) = ⊤
-IsOfThese v station entries (Withdrawn a) = ⊤
-IsOfThese v station entries (Announced a) = ⊤
-IsOfThese v station entries (Updated peer message) = ⊤
-IsOfThese v station entries (Sent name frame) = (a : AddressValue) × IsIn (announced_in entries) a × IsUnasked v station a name frame
+-- the entry is no frame, or an unsolicited one of an address that these entries announce
+abbrev pub IsOfThese : ViewValue → LocalNode → List Entry → Entry → Type 0
+IsOfThese v local entries (Noted note) = ⊤
+IsOfThese v local entries (Withdrawn a) = ⊤
+IsOfThese v local entries (Announced a) = ⊤
+IsOfThese v local entries (Updated peer message) = ⊤
+IsOfThese v local entries (Sent name frame) = (a : AddressValue) × IsIn (announced_in entries) a × IsUnasked v local a name frame
 
--- Just the unasked frames of the addresses that the entries announce are sent, each of them.
-pub record SendsUnasked (v : ViewValue) (station : Station) (entries : List Entry) : Type 0 where
-  pub only : AllByRecursion (IsOfThese v station entries) entries
-  pub each : (a : AddressValue) → IsIn (announced_in entries) a → (name frame : List ℕ) → IsUnasked v station a name frame → IsIn entries (Sent name frame)
+-- Just the unsolicited frames of the addresses that the entries announce are sent, each of them.
+pub record SendsUnasked (v : ViewValue) (local : LocalNode) (entries : List Entry) : Type 0 where
+  pub only : AllByRecursion (IsOfThese v local entries) entries
+  pub each : (a : AddressValue) → IsIn (announced_in entries) a → (name frame : List ℕ) → IsUnasked v local a name frame → IsIn entries (Sent name frame)
 
 -- the answer to the frame is sent by the interface by which it came, and nothing else is told; nothing where it has no answer
-abbrev pub SendsAnswer : ViewValue → Station → Received → List Entry → Type 0
-SendsAnswer v station received entries =
-    ((frame : List ℕ) × IsAnswer v station received frame × (entries ≡ Sent received.interface frame ∷ []))
-    ⊎ (((frame : List ℕ) → ¬ (IsAnswer v station received frame)) × (entries ≡ []))
+abbrev pub SendsAnswer : ViewValue → LocalNode → Received → List Entry → Type 0
+SendsAnswer v local received entries =
+    ((frame : List ℕ) × IsAnswer v local received frame × (entries ≡ Sent received.interface frame ∷ []))
+    ⊎ (((frame : List ℕ) → ¬ (IsAnswer v local received frame)) × (entries ≡ []))
 
--- what is sent of an event: of a received frame its answer, of others the unasked frames of what they announce
-abbrev pub SendsOf : ViewValue → Station → Option Received → List Entry → Type 0
-SendsOf v station None entries = SendsUnasked v station entries
-SendsOf v station (Some received) entries = SendsAnswer v station received entries
+-- what is sent of an event: of a received frame its answer, of others the unsolicited frames of what they announce
+abbrev pub SendsOf : ViewValue → LocalNode → Option Received → List Entry → Type 0
+SendsOf v local None entries = SendsUnasked v local entries
+SendsOf v local (Some received) entries = SendsAnswer v local received entries
 
 -- At each line of a run just the frames are sent that are meant of its event, by what was shown then.
 abbrev pub SendsWhatIsMeant : SpeakerState → Type 0
 SendsWhatIsMeant start = (lines : List Line) (s : SpeakerState) (told : List Entry) → AreTaken speaker_rules lines start s told
     → (line : Line) (t : SpeakerState) (entries : List Entry) → line_step s line ≡ Goes t entries
-    → (event : Event) → event_of_line line.bytes ≡ Ok event → SendsOf t.view t.station (frame_in event) entries
+    → (event : Event) → event_of_line line.bytes ≡ Ok event → SendsOf t.view t.local (frame_in event) entries
 
 -- so it is whatever the words say, where nothing was shown yet
 abbrev pub AllSendWhatIsMeant : Type 0

@@ -1,4 +1,4 @@
--- The frames that are sent: unasked ones, and answers.
+-- The frames that are sent: unsolicited ones, and answers.
 use Rattle.std.specs.Prelude.{ℕ, List, [], ◌∷◌, map, filter, Option, Some, None}
 use Rattle.std.specs.List.{find}
 use Rattle.std.specs.Option.{option_or}
@@ -13,29 +13,29 @@ use Rattle.neigh_frames.specs.Ndp.{ndp_answer_of}
 use Rattle.neigh_frames.specs.Advertisement.{unasked_ndp_of}
 use Rattle.mlb_speaker.specs.declared.entries.Entry.{Entry}
 use Rattle.mlb_speaker.specs.declared.entries.Entry.TheVariants.{Announced, Sent}
-use Rattle.mlb_speaker.specs.declared.station.Interface.{Interface}
-use Rattle.mlb_speaker.specs.declared.station.Station.{Station}
+use Rattle.mlb_speaker.specs.declared.local_node.Interface.{Interface}
+use Rattle.mlb_speaker.specs.declared.local_node.LocalNode.{LocalNode}
 
--- the unasked frame that says that this hardware address has the address
-abbrev pub unasked_of : Family → List ℕ → ℕ → List ℕ
-unasked_of V4 mac number = unasked_arp_of mac number
-unasked_of V6 mac number = unasked_ndp_of mac number
+-- the unsolicited frame that says that this hardware address has the address
+abbrev pub unsolicited_of : Family → List ℕ → ℕ → List ℕ
+unsolicited_of V4 mac number = unasked_arp_of mac number
+unsolicited_of V6 mac number = unasked_ndp_of mac number
 
 -- the same, by an interface
-abbrev pub unasked_by : AddressValue → Interface → Entry
-unasked_by a i = Sent i.name (unasked_of a.family i.mac a.number)
+abbrev pub unsolicited_by : AddressValue → Interface → Entry
+unsolicited_by a i = Sent i.name (unsolicited_of a.family i.mac a.number)
 
 -- the interfaces on which the node listens for the address
-abbrev pub listening : ViewValue → Station → AddressValue → List Interface
-listening v station a = filter (λ i. listens_of v station.node i.name a) station.interfaces
+abbrev pub listening : ViewValue → LocalNode → AddressValue → List Interface
+listening v local a = filter (λ i. listens_of v local.node i.name a) local.interfaces
 
--- what is sent where the address is announced from now on: an unasked frame by each of them
-abbrev pub unasked : ViewValue → Station → AddressValue → List Entry
-unasked v station a = map (unasked_by a) (listening v station a)
+-- what is sent where the address is announced from now on: an unsolicited frame by each of them
+abbrev pub unsolicited : ViewValue → LocalNode → AddressValue → List Entry
+unsolicited v local a = map (unsolicited_by a) (listening v local a)
 
 -- an announce line, and what is sent with it
-abbrev pub announcement : ViewValue → Station → AddressValue → List Entry
-announcement v station a = Announced a ∷ unasked v station a
+abbrev pub announcement : ViewValue → LocalNode → AddressValue → List Entry
+announcement v local a = Announced a ∷ unsolicited v local a
 
 -- the answer to a frame on an interface: that of ARP, else that of Neighbor Discovery
 abbrev pub answer_on : ViewValue → List ℕ → Interface → List ℕ → Option (List ℕ)
@@ -51,9 +51,9 @@ answer_by v node None frame = []
 answer_by v node (Some i) frame = sent_on i (answer_on v node i frame)
 
 -- the interface of this name
-abbrev pub interface_of : Station → List ℕ → Option Interface
-interface_of station name = find (λ i. bytes_eq i.name name) station.interfaces
+abbrev pub interface_of : LocalNode → List ℕ → Option Interface
+interface_of local name = find (λ i. bytes_eq i.name name) local.interfaces
 
 -- what is sent where an interface receives a frame: the answer, where it is one of the words' and the frame has one
-abbrev pub answers : ViewValue → Station → List ℕ → List ℕ → List Entry
-answers v station name frame = answer_by v station.node (interface_of station name) frame
+abbrev pub answers : ViewValue → LocalNode → List ℕ → List ℕ → List Entry
+answers v local name frame = answer_by v local.node (interface_of local name) frame

@@ -17,31 +17,31 @@ use Rattle.speaker_view.specs.View.{fresh, view_after, note_by, limit_by}
 use Rattle.line_run.specs.declared.halt.Halt.TheVariants as halts
 use Rattle.line_run.specs.declared.halt.Refusal.{Refusal}
 use Rattle.line_run.specs.declared.halt.Refusal.TheVariants.{Stopped, Halted}
-use Rattle.line_run.specs.Machine.{Step, Goes, Stops, Rules}
+use Rattle.line_run.specs.Machine.{Transition, Goes, Stops, Rules}
 use Rattle.mlb_edge.specs.declared.lines.Line.{Line}
 use Rattle.speaker_words.specs.Words.{Said}
 use Rattle.mlb_speaker.specs.declared.entries.Entry.{Entry}
-use Rattle.mlb_speaker.specs.declared.station.Station.{Station}
+use Rattle.mlb_speaker.specs.declared.local_node.LocalNode.{LocalNode}
 use Rattle.announced_set.specs.Announced.{announced_by}
 use Rattle.mlb_speaker.specs.Entries.{entries_for, entry_text}
 use Rattle.mlb_speaker.specs.Sends.{answers}
-use Rattle.mlb_speaker.specs.Station.{station_of}
+use Rattle.mlb_speaker.specs.LocalNode.{local_node_of}
 use Rattle.mlb_speaker.specs.Updates.{update_entries}
 
 -- the view, and the node whose announcements are told, with its interfaces and its next hop
 pub record SpeakerState : Type 0 where
   pub view : ViewValue
-  pub station : Station
+  pub local : LocalNode
 
-abbrev pub state_of : ViewValue → Station → SpeakerState
-state_of v station = record { view = v; station = station }
+abbrev pub state_of : ViewValue → LocalNode → SpeakerState
+state_of v local = record { view = v; local = local }
 
 -- nothing was shown yet
 abbrev pub first_state : Said → SpeakerState
-first_state said = state_of (fresh said.class) (station_of said)
+first_state said = state_of (fresh said.class) (local_node_of said)
 
 abbrev pub state_after : SpeakerState → Event → SpeakerState
-state_after s event = state_of (view_after event s.view) s.station
+state_after s event = state_of (view_after event s.view) s.local
 
 -- a frame that an interface received
 pub record Received : Type 0 where
@@ -62,12 +62,12 @@ frame_in Ignored = None
 -- peers
 abbrev pub changes_of : SpeakerState → Event → List Entry
 changes_of s event =
-    entries_for (view_after event s.view) s.station (note_by s.view event) (announced_by s.view s.station.node) (announced_by (view_after event s.view) s.station.node)
-    ++ update_entries s.view (view_after event s.view) s.station
+    entries_for (view_after event s.view) s.local (note_by s.view event) (announced_by s.view s.local.node) (announced_by (view_after event s.view) s.local.node)
+    ++ update_entries s.view (view_after event s.view) s.local
 
 -- a frame changes nothing, and may be answered
 abbrev pub entries_at : Option Received → SpeakerState → Event → List Entry
-entries_at (Some received) s event = answers s.view s.station received.interface received.frame
+entries_at (Some received) s event = answers s.view s.local received.interface received.frame
 entries_at None s event = changes_of s event
 
 -- what is told of the event
@@ -87,12 +87,12 @@ what_of kinds.Namespace = whats.Nodes
 what_of kinds.Slice = whats.Nodes
 
 -- with the event more would be held than may be, or it is applied
-abbrev pub limit_step : SpeakerState → Event → Option (Kind × ℕ) → Step SpeakerState Entry
+abbrev pub limit_step : SpeakerState → Event → Option (Kind × ℕ) → Transition SpeakerState Entry
 limit_step s event None = Goes (state_after s event) (entries_of s event)
 limit_step s event (Some p) = Stops (Limit (what_of p.0) p.1)
 
 -- what an event is to this state
-abbrev pub step_by : SpeakerState → Event → Step SpeakerState Entry
+abbrev pub step_by : SpeakerState → Event → Transition SpeakerState Entry
 step_by s event = limit_step s event (limit_by s.view event)
 
 -- why an event isn't applied: the run stops at it, or memory is wanting
@@ -101,12 +101,12 @@ IsUnapplied (Stopped status) s event = step_by s event ≡ Stops status
 IsUnapplied (Halted halt) s event = halt ≡ halts.NoMemory
 
 -- it is no readable event, or it is one
-abbrev pub event_step : SpeakerState → Line → Result Event EventFault → Step SpeakerState Entry
+abbrev pub event_step : SpeakerState → Line → Result Event EventFault → Transition SpeakerState Entry
 event_step s line (Err fault) = Stops (BadLine lanes.Input line.number line.bytes)
 event_step s line (Ok event) = step_by s event
 
 -- what a line is to this state
-abbrev pub line_step : SpeakerState → Line → Step SpeakerState Entry
+abbrev pub line_step : SpeakerState → Line → Transition SpeakerState Entry
 line_step s line = event_step s line (event_of_line line.bytes)
 
 -- the speaker, as a machine over lines; a run is done where the input ends

@@ -37,7 +37,7 @@ pub record IsToldOf (told : List Entry) (a : AddressValue) : Type 0 where
 -- those that the node announces.
 abbrev pub TellsWhatIsAnnounced : SpeakerState → Type 0
 TellsWhatIsAnnounced start = (lines : List Line) (s : SpeakerState) (told : List Entry) → AreTaken speaker_rules lines start s told
-    → (a : AddressValue) → IsToldOf told a ↔ IsAnnouncer s.view a start.station.node
+    → (a : AddressValue) → IsToldOf told a ↔ IsAnnouncer s.view a start.local.node
 
 -- so it is whatever the words say, where nothing was shown yet
 abbrev pub LinesTellWhatIsAnnounced : Type 0
@@ -82,4 +82,4 @@ pub record TellsChange (node : List ℕ) (before after : ViewValue) (entries : L
 -- At each line of a run just what its event changes is told so.
 abbrev pub TellsWhatChanges : SpeakerState → Type 0
 TellsWhatChanges start = (lines : List Line) (s : SpeakerState) (told : List Entry) → AreTaken speaker_rules lines start s told
-    → (line : Line) (t : SpeakerState) (entries : List Entry) → line_step s line ≡ Goes t entries → TellsChange start.station.node s.view t.view entries
+    → (line : Line) (t : SpeakerState) (entries : List Entry) → line_step s line ≡ Goes t entries → TellsChange start.local.node s.view t.view entries

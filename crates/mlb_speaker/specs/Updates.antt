@@ -12,8 +12,8 @@ use Rattle.bgp_routes.specs.Peers.{peers_of}
 use Rattle.bgp_routes.specs.Routes.{routes_of}
 use Rattle.mlb_speaker.specs.declared.entries.Entry.{Entry}
 use Rattle.mlb_speaker.specs.declared.entries.Entry.TheVariants.{Updated}
-use Rattle.mlb_speaker.specs.declared.station.NextHops.{NextHops}
-use Rattle.mlb_speaker.specs.declared.station.Station.{Station}
+use Rattle.mlb_speaker.specs.declared.local_node.NextHops.{NextHops}
+use Rattle.mlb_speaker.specs.declared.local_node.LocalNode.{LocalNode}
 
 -- they have one name and the same AS numbers
 abbrev pub is_one_peer : CompiledPeer → CompiledPeer → Bool
@@ -57,5 +57,5 @@ abbrev pub updates_by : ViewValue → ViewValue → List ℕ → Option NextHops
 updates_by v v' node None = []
 updates_by v v' node (Some hops) = if are_hops hops then flat_map (updates_to v v' node hops) (peers_of v') else []
 
-abbrev pub update_entries : ViewValue → ViewValue → Station → List Entry
-update_entries v v' station = updates_by v v' station.node station.next_hops
+abbrev pub update_entries : ViewValue → ViewValue → LocalNode → List Entry
+update_entries v v' local = updates_by v v' local.node local.next_hops

@@ -12,7 +12,7 @@ use Rattle.pool_config.specs.declared.compiled.CompiledPeer.{CompiledPeer}
 use Rattle.bgp_routes.specs.Peers.{peers_of}
 use Rattle.bgp_routes.specs.Routes.{routes_of}
 use Rattle.mlb_speaker.specs.declared.entries.Entry.{Entry}
-use Rattle.mlb_speaker.specs.declared.station.NextHops.{NextHops}
+use Rattle.mlb_speaker.specs.declared.local_node.NextHops.{NextHops}
 use Rattle.mlb_speaker.specs.Heard.{AreToldBy, GiveTable, HasComeSince}
 use Rattle.mlb_speaker.specs.Stream.{SpeakerState, speaker_rules}
 
@@ -35,7 +35,7 @@ pub record IsAnnouncedIn (lines : List (List ℕ)) (a : AddressValue) : Type 0 w
 -- are exactly those that the node announces.
 abbrev pub WritesWhatIsAnnounced : SpeakerState → Type 0
 WritesWhatIsAnnounced start = (lines : List Line) (s : SpeakerState) (told : List Entry) → AreTaken speaker_rules lines start s told
-    → (a : AddressValue) → IsOfFamily a → IsAnnouncedIn (written_lines told) a ↔ IsAnnouncer s.view a start.station.node
+    → (a : AddressValue) → IsOfFamily a → IsAnnouncedIn (written_lines told) a ↔ IsAnnouncer s.view a start.local.node
 
 -- the messages of the update lines for the peer of this name, in their order
 abbrev pub AreWrittenTo : List ℕ → List (List ℕ) → List (List ℕ) → Type 0
@@ -48,7 +48,7 @@ AreWrittenTo name (line ∷ lines) messages =
 -- its AS numbers last changed, carry messages which make its routes of the empty table.
 abbrev pub WritesPeersTheirRoutes : SpeakerState → Type 0
 WritesPeersTheirRoutes start = (lines : List Line) (t : SpeakerState) (all : List Entry) → AreTaken speaker_rules lines start t all
-    → (hops : NextHops) → start.station.next_hops ≡ Some hops → (peer : CompiledPeer) → IsIn (peers_of t.view) peer
+    → (hops : NextHops) → start.local.next_hops ≡ Some hops → (peer : CompiledPeer) → IsIn (peers_of t.view) peer
     → (told : List Entry) → HasComeSince start lines peer t told
     → (messages : List (List ℕ)) × AreWrittenTo peer.name (written_lines told) messages
-    × GiveTable messages (routes_of t.view start.station.node peer (is_some hops.v6)) × AreToldBy peer hops messages
+    × GiveTable messages (routes_of t.view start.local.node peer (is_some hops.v6)) × AreToldBy peer hops messages

@@ -12,9 +12,9 @@ ghost use Rattle.mlb_speaker.specs.Stream.{changes_of, state_after};
 ghost use Rattle.mlb_speaker.specs.Updates.{updates_by};
 
 use crate::entries::{Entry, entries_for};
+use crate::local_node::LocalNode;
 use crate::peers::{renew_routes, routes_by};
 use crate::speaker::Speaker;
-use crate::station::Station;
 use announced_set::renew_announcers;
 use bgp_routes::KeptRoutes;
 use kube_model::Event;
@@ -47,7 +47,7 @@ impl Speaker {
         // While the view changes, neither announcers nor routes are known to be those of it.
         let announcers = self.announcers.take();
         let routes = self.routes.take();
-        let mut standing = match standing_by(alloc, announcers, routes, &self.view, &self.station) {
+        let mut standing = match standing_by(alloc, announcers, routes, &self.view, &self.local) {
             Ok(standing) => standing,
             Err(NoMemory) => {
                 drop(event);
@@ -61,14 +61,8 @@ impl Speaker {
                 return Err(fault);
             }
         };
-        let Ok(entries) = told_since(
-            alloc,
-            &self.view,
-            &self.station,
-            note,
-            &change,
-            &mut standing,
-        ) else {
+        let Ok(entries) = told_since(alloc, &self.view, &self.local, note, &change, &mut standing)
+        else {
             drop(change);
             drop(standing);
             return Err(ApplyFault::NoMemory);
@@ -87,12 +81,12 @@ fn standing_by(
     announcers: Option<Announcers>,
     routes: Option<KeptRoutes>,
     view: &View,
-    station: &Station,
+    local: &LocalNode,
 ) -> Result<Standing, NoMemory>
     requires announcers { AreKnown announcers view.now }
-    requires routes { AreRoutesKnown routes view.now station.now }
+    requires routes { AreRoutesKnown routes view.now local.now }
     ensures announcers { IfOk result (λ s. AreKeptFor s.announcers view.now) }
-    ensures routes { IfOk result (λ s. AreRoutesOf s.routes view.now station.now) }
+    ensures routes { IfOk result (λ s. AreRoutesOf s.routes view.now local.now) }
 {
     let announcers = match announcers_by(alloc, announcers, view) {
         Ok(announcers) => announcers,
@@ -101,7 +95,7 @@ fn standing_by(
             return Err(refused);
         }
     };
-    match known_routes(alloc, routes, view, station) {
+    match known_routes(alloc, routes, view, local) {
         Ok(routes) => Ok(Standing { announcers, routes }),
         Err(refused) => {
             drop(announcers);
@@ -130,14 +124,14 @@ fn known_routes(
     alloc: Global,
     known: Option<KeptRoutes>,
     view: &View,
-    station: &Station,
+    local: &LocalNode,
 ) -> Result<KeptRoutes, NoMemory>
-    requires { AreRoutesKnown known view.now station.now }
-    ensures { IfOk result (λ routes. AreRoutesOf routes view.now station.now) }
+    requires { AreRoutesKnown known view.now local.now }
+    ensures { IfOk result (λ routes. AreRoutesOf routes view.now local.now) }
 {
     match known {
         Some(routes) => Ok(routes),
-        None => routes_by(alloc, view, station),
+        None => routes_by(alloc, view, local),
     }
 }
 
@@ -159,30 +153,23 @@ fn elected(alloc: Global, view: &View) -> Result<Announcers, NoMemory>
 fn told_since(
     alloc: Global,
     view: &View,
-    station: &Station,
+    local: &LocalNode,
     note: TakeNote,
     change: &ViewChange,
     standing: &mut Standing,
 ) -> Result<Sequence<Entry>, NoMemory>
     requires announcers { AreRightBut change.now standing.old.announcers view.now }
-    requires routes { (before : ViewValue) × WereRoutes change.now standing.old.routes before view.now station.now }
+    requires routes { (before : ViewValue) × WereRoutes change.now standing.old.routes before view.now local.now }
     ensures entries { IfOk result (λ entries. (before : ViewValue) → AreKeptFor standing.old.announcers before
-        → WereRoutes change.now standing.old.routes before view.now station.now → entries
-        ≡ entries_for view.now station.now note (announced_by before station.now.node) (announced_by view.now station.now.node)
-        ++ updates_by before view.now station.now.node station.now.next_hops) }
+        → WereRoutes change.now standing.old.routes before view.now local.now → entries
+        ≡ entries_for view.now local.now note (announced_by before local.now.node) (announced_by view.now local.now.node)
+        ++ updates_by before view.now local.now.node local.now.next_hops) }
     ensures announcers { OnOk result (AreKeptFor standing.new.announcers view.now) }
-    ensures routes { OnOk result (AreRoutesOf standing.new.routes view.now station.now) }
+    ensures routes { OnOk result (AreRoutesOf standing.new.routes view.now local.now) }
 {
-    let mut entries = changed_entries(
-        alloc,
-        view,
-        station,
-        note,
-        change,
-        &mut standing.announcers,
-    )?;
+    let mut entries = changed_entries(alloc, view, local, note, change, &mut standing.announcers)?;
     let routes = &mut standing.routes;
-    let Ok(()) = renew_routes(alloc, &mut entries, view, station, change, routes) else {
+    let Ok(()) = renew_routes(alloc, &mut entries, view, local, change, routes) else {
         drop(entries);
         return Err(NoMemory);
     };
@@ -193,24 +180,24 @@ fn told_since(
 fn changed_entries(
     alloc: Global,
     view: &View,
-    station: &Station,
+    local: &LocalNode,
     note: TakeNote,
     change: &ViewChange,
     announcers: &mut Announcers,
 ) -> Result<Sequence<Entry>, NoMemory>
     requires { AreRightBut change.now announcers.old view.now }
     ensures entries { IfOk result (λ entries. (was : ViewValue) → AreKeptFor announcers.old was
-        → entries ≡ entries_for view.now station.now note (announced_by was station.now.node) (announced_by view.now station.now.node)) }
+        → entries ≡ entries_for view.now local.now note (announced_by was local.now.node) (announced_by view.now local.now.node)) }
     ensures announcers { OnOk result (AreKeptFor announcers.new view.now) }
 {
-    let changes = match renew_announcers(alloc, announcers, view, &station.node, change) {
+    let changes = match renew_announcers(alloc, announcers, view, &local.node, change) {
         Ok(changes) => changes,
         Err(refused) => {
             drop(note);
             return Err(refused);
         }
     };
-    let entries = entries_for(alloc, view, announcers, station, note, &changes);
+    let entries = entries_for(alloc, view, announcers, local, note, &changes);
     drop(changes);
     entries
 }

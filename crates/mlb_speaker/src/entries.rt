@@ -5,8 +5,8 @@ ghost use Rattle.l2_elect.specs.Kept.{AreKeptFor};
 ghost use Rattle.mlb_speaker.specs.Entries.{withdrawn};
 ghost use Rattle.mlb_speaker.specs.Sends.{announcement};
 
+use crate::local_node::LocalNode;
 use crate::sends::push_all_unasked;
-use crate::station::Station;
 use announced_set::AddressChanges;
 use ip_ranges::Address;
 use kube_labels::Text;
@@ -37,13 +37,13 @@ pub(crate) fn entries_for(
     alloc: Global,
     view: &View,
     announcers: &Announcers,
-    station: &Station,
+    local: &LocalNode,
     note: TakeNote,
     changes: &AddressChanges,
 ) -> Result<Sequence<Entry>, NoMemory>
     requires { AreKeptFor announcers.now view.now }
     ensures { IfOk result (λ entries. entries
-        ≡ Entry.Noted note ∷ map withdrawn changes.now.withdrawn.keys ++ flat_map (announcement view.now station.now) changes.now.announced.keys) }
+        ≡ Entry.Noted note ∷ map withdrawn changes.now.withdrawn.keys ++ flat_map (announcement view.now local.now) changes.now.announced.keys) }
 {
     let mut entries = Sequence::new(alloc);
     entries.push(Entry::Noted { note })?;
@@ -53,7 +53,7 @@ pub(crate) fn entries_for(
         &mut entries,
         view,
         announcers,
-        station,
+        local,
         &changes.announced,
     )?;
     Ok(entries)
@@ -76,14 +76,14 @@ fn push_announcements(
     entries: &mut Sequence<Entry>,
     view: &View,
     announcers: &Announcers,
-    station: &Station,
+    local: &LocalNode,
     addresses: &BTreeSet<Address>,
 ) -> Result<(), NoMemory>
     requires { AreKeptFor announcers.now view.now }
-    ensures { OnOk result (entries.new ≡ entries.old ++ flat_map (announcement view.now station.now) addresses.now.keys) }
+    ensures { OnOk result (entries.new ≡ entries.old ++ flat_map (announcement view.now local.now) addresses.now.keys) }
 {
     for address in addresses {
-        push_announcement(alloc, entries, view, announcers, station, address)?;
+        push_announcement(alloc, entries, view, announcers, local, address)?;
     }
     Ok(())
 }
@@ -94,12 +94,12 @@ fn push_announcement(
     entries: &mut Sequence<Entry>,
     view: &View,
     announcers: &Announcers,
-    station: &Station,
+    local: &LocalNode,
     address: &Address,
 ) -> Result<(), NoMemory>
     requires { AreKeptFor announcers.now view.now }
-    ensures { OnOk result (entries.new ≡ entries.old ++ announcement view.now station.now address.now) }
+    ensures { OnOk result (entries.new ≡ entries.old ++ announcement view.now local.now address.now) }
 {
     entries.push(Entry::Announced { address: *address })?;
-    push_all_unasked(alloc, entries, view, announcers, station, address)
+    push_all_unasked(alloc, entries, view, announcers, local, address)
 }

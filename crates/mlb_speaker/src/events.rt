@@ -10,9 +10,9 @@ ghost use Rattle.mlb_speaker.specs.Sends.{answers};
 ghost use Rattle.mlb_speaker.specs.Stream.{state_after, frame_in, entries_of, step_by, IsUnapplied, what_of};
 
 use crate::entries::Entry;
+use crate::local_node::LocalNode;
 use crate::sends::answers;
 use crate::speaker::Speaker;
-use crate::station::Station;
 use kube_labels::Text;
 use kube_model::{Event, Kind, Status, What};
 use l2_elect::Announcers;
@@ -61,7 +61,7 @@ fn entries_by(
         alloc,
         &speaker.view,
         speaker.announcers.as_ref(),
-        &speaker.station,
+        &speaker.local,
         &event,
     ) {
         Ok(None) => speaker.changes_by(alloc, event),
@@ -81,17 +81,17 @@ fn answers_to(
     alloc: Global,
     view: &View,
     announcers: Option<&Announcers>,
-    station: &Station,
+    local: &LocalNode,
     event: &Event,
 ) -> Result<Option<Sequence<Entry>>, NoMemory>
     requires { AreKnown (option_copied announcers) view.now }
-    ensures { IfOk result (λ entries. entries ≡ option_map (λ r. answers view.now station.now r.interface r.frame) (frame_in event.now)) }
+    ensures { IfOk result (λ entries. entries ≡ option_map (λ r. answers view.now local.now r.interface r.frame) (frame_in event.now)) }
 {
     let Some(received) = frame_in(event) else {
         return Ok(None);
     };
     let frame = received.frame.as_slice();
-    let entries = answers(alloc, view, announcers, station, received.interface, frame)?;
+    let entries = answers(alloc, view, announcers, local, received.interface, frame)?;
     Ok(Some(entries))
 }
 

@@ -9,7 +9,7 @@ pub fn lines_tell_what_is_announced()
     ensures { LinesTellWhatIsAnnounced }
 {}
 
-/// At each line just the frames are sent that are meant of its event: of a received frame its answer, of others the unasked frames
+/// At each line just the frames are sent that are meant of its event: of a received frame its answer, of others the unsolicited frames
 /// of what is announced with it.
 pub fn all_send_what_is_meant()
     ensures { AllSendWhatIsMeant }

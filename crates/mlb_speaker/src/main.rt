@@ -7,12 +7,12 @@ mod events;
 mod lanes;
 mod laws;
 mod line;
+mod local_node;
 mod output;
 mod peers;
 mod run;
 mod sends;
 mod speaker;
-mod station;
 mod stream;
 
 use kube_model::Status;

@@ -11,7 +11,7 @@ ghost use Rattle.mlb_speaker.specs.Kept.{AreRoutesOf, WereKept, WereRoutes, chan
 ghost use Rattle.mlb_speaker.specs.Updates.{are_hops, both_with, is_v6, updated, updates_by, updates_to};
 
 use crate::entries::Entry;
-use crate::station::{NextHops, Station};
+use crate::local_node::{LocalNode, NextHops};
 use bgp_routes::{KeptRoutes, peers_of};
 use bgp_updates::{RouteTable, updates};
 use ip_ranges::{Address, Family};
@@ -24,12 +24,12 @@ use std::alloc::Global;
 pub(crate) fn routes_by(
     alloc: Global,
     view: &View,
-    station: &Station,
+    local: &LocalNode,
 ) -> Result<KeptRoutes, NoMemory>
-    ensures { IfOk result (λ kept. AreRoutesOf kept view.now station.now) }
+    ensures { IfOk result (λ kept. AreRoutesOf kept view.now local.now) }
 {
-    let node = station.node.copy()?;
-    match &station.next_hops {
+    let node = local.node.copy()?;
+    match &local.next_hops {
         None => Ok(KeptRoutes::new(alloc, node, false)),
         Some(hops) => rebuilt(view, KeptRoutes::new(alloc, node, hops.v6.is_some())),
     }
@@ -57,16 +57,16 @@ pub(crate) fn renew_routes(
     alloc: Global,
     entries: &mut Sequence<Entry>,
     view: &View,
-    station: &Station,
+    local: &LocalNode,
     change: &ViewChange,
     kept: &mut KeptRoutes,
 ) -> Result<(), NoMemory>
-    requires { (before : ViewValue) × WereRoutes change.now kept.old before view.now station.now }
-    ensures entries { OnOk result ((before : ViewValue) → WereRoutes change.now kept.old before view.now station.now
-        → entries.new ≡ entries.old ++ updates_by before view.now station.now.node station.now.next_hops) }
-    ensures kept { OnOk result (AreRoutesOf kept.new view.now station.now) }
+    requires { (before : ViewValue) × WereRoutes change.now kept.old before view.now local.now }
+    ensures entries { OnOk result ((before : ViewValue) → WereRoutes change.now kept.old before view.now local.now
+        → entries.new ≡ entries.old ++ updates_by before view.now local.now.node local.now.next_hops) }
+    ensures kept { OnOk result (AreRoutesOf kept.new view.now local.now) }
 {
-    match &station.next_hops {
+    match &local.next_hops {
         None => Ok(()),
         Some(hops) => renew_with_hops(alloc, entries, view, hops, change, kept),
     }

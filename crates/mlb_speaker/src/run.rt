@@ -71,8 +71,8 @@ pub fn run_speaker<
     ensures changes { TellsWhatChanges words.now }
 
     // At each line of a run just the frames are sent that are meant of its event, by what was shown then: of a received frame its answer by the
-    // interface of the words by which it came, where the node listens there for what is asked; of others, with each announce line, an unasked
-    // frame by each interface on which the node listens for the address.
+    // interface of the words by which it came, where the node listens there for what is asked; of others, with each announce line, a gratuitous
+    // ARP or an unsolicited Neighbor Advertisement by each interface on which the node listens for the address.
     ensures sends { SendsWhatIsMeant words.now }
 
     // After each line of a run, with a next hop, what a peer of the configuration in force was told since it came, or since its AS

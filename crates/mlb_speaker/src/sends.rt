@@ -4,10 +4,10 @@ ghost use Rattle.mlb_speaker.specs.declared.entries.Entry.TheVariants as told;
 ghost use Rattle.std.specs.Option.{option_copied};
 ghost use Rattle.l2_elect.specs.Kept.{AreKeptFor, AreKnown};
 ghost use Rattle.l2_elect.specs.Listening.{listens_of};
-ghost use Rattle.mlb_speaker.specs.Sends.{unasked_by, unasked, answer_on, sent_on, answers};
+ghost use Rattle.mlb_speaker.specs.Sends.{unsolicited_by, unsolicited, answer_on, sent_on, answers};
 
 use crate::entries::Entry;
-use crate::station::{Interface, Station};
+use crate::local_node::{Interface, LocalNode};
 use ip_ranges::{Address, Family};
 use kube_labels::Text;
 use l2_elect::{Announcers, listens_known};
@@ -30,14 +30,14 @@ fn push_sent(
     entries.push(Entry::Sent { interface, frame })
 }
 
-/// Has the unasked frame of the address sent by the interface.
+/// Has the unsolicited frame of the address sent by the interface.
 fn push_unasked(
     alloc: Global,
     entries: &mut Sequence<Entry>,
     interface: &Interface,
     address: &Address,
 ) -> Result<(), NoMemory>
-    ensures { OnOk result (entries.new ≡ entries.old ++ unasked_by address.now interface.now ∷ []) }
+    ensures { OnOk result (entries.new ≡ entries.old ++ unsolicited_by address.now interface.now ∷ []) }
 {
     match address.family {
         Family::V4 => push_sent(
@@ -55,20 +55,20 @@ fn push_unasked(
     }
 }
 
-/// Has the unasked frame of the address sent by each interface on which the node listens for it.
+/// Has the unsolicited frame of the address sent by each interface on which the node listens for it.
 pub(crate) fn push_all_unasked(
     alloc: Global,
     entries: &mut Sequence<Entry>,
     view: &View,
     announcers: &Announcers,
-    station: &Station,
+    local: &LocalNode,
     address: &Address,
 ) -> Result<(), NoMemory>
     requires { AreKeptFor announcers.now view.now }
-    ensures { OnOk result (entries.new ≡ entries.old ++ unasked view.now station.now address.now) }
+    ensures { OnOk result (entries.new ≡ entries.old ++ unsolicited view.now local.now address.now) }
 {
-    for interface in station.interfaces.as_slice() {
-        if is_listening(view, announcers, station, interface, address) {
+    for interface in local.interfaces.as_slice() {
+        if is_listening(view, announcers, local, interface, address) {
             push_unasked(alloc, entries, interface, address)?;
         }
     }
@@ -78,17 +78,17 @@ pub(crate) fn push_all_unasked(
 fn is_listening(
     view: &View,
     announcers: &Announcers,
-    station: &Station,
+    local: &LocalNode,
     interface: &Interface,
     address: &Address,
 ) -> bool
     requires { AreKeptFor announcers.now view.now }
-    ensures { result ≡ listens_of view.now station.now.node interface.now.name address.now }
+    ensures { result ≡ listens_of view.now local.now.node interface.now.name address.now }
 {
     listens_known(
         view,
         Some(announcers),
-        station.node.as_str(),
+        local.node.as_str(),
         interface.name.as_str(),
         address,
     )
@@ -99,21 +99,21 @@ pub(crate) fn answers(
     alloc: Global,
     view: &View,
     announcers: Option<&Announcers>,
-    station: &Station,
+    local: &LocalNode,
     interface: &Text,
     frame: &[u8],
 ) -> Result<Sequence<Entry>, NoMemory>
     requires { AreKnown (option_copied announcers) view.now }
-    ensures { IfOk result (λ entries. entries ≡ answers view.now station.now interface.now frame.now) }
+    ensures { IfOk result (λ entries. entries ≡ answers view.now local.now interface.now frame.now) }
 {
     let mut entries = Sequence::new(alloc);
-    if let Some(interface) = station.interface(interface) {
+    if let Some(interface) = local.interface(interface) {
         push_answer(
             alloc,
             &mut entries,
             view,
             announcers,
-            &station.node,
+            &local.node,
             interface,
             frame,
         )?;

@@ -5,7 +5,7 @@ ghost use Rattle.speaker_words.specs.Seen.{said_seen};
 ghost use Rattle.mlb_speaker.specs.Stream.{first_state};
 
 use crate::line::drive_line;
-use crate::station::Station;
+use crate::local_node::LocalNode;
 use bgp_routes::KeptRoutes;
 use kube_labels::Text;
 use kube_model::Status;
@@ -22,7 +22,7 @@ use std::marker::Model;
 #[derive(Drop)]
 pub(crate) struct Speaker {
     pub(crate) view: View,
-    pub(crate) station: Station,
+    pub(crate) local: LocalNode,
     // who announces each address by the view, once it is known: most events change it at few addresses
     pub(crate) announcers: Option<Announcers>,
     // the routes of all peers by the view, where there is a next hop, once they are known
@@ -36,9 +36,9 @@ impl Model for Speaker {
 
     ghost Value = { SpeakerState };
 
-    ghost view = { λ s. state_of s.view s.station };
+    ghost view = { λ s. state_of s.view s.local };
 
-    ghost invariant = { λ s. AreKnown s.announcers s.view × AreRoutesKnown s.routes s.view s.station };
+    ghost invariant = { λ s. AreKnown s.announcers s.view × AreRoutesKnown s.routes s.view s.local };
 }
 
 impl Speaker {
@@ -47,10 +47,10 @@ impl Speaker {
         ensures { IfOk result (λ speaker. speaker ≡ first_state (said_seen said.now)) }
     {
         let class = owned(alloc, said.class)?;
-        let station = Station::new(alloc, said)?;
+        let local = LocalNode::new(alloc, said)?;
         Ok(Speaker {
             view: View::new(alloc, class),
-            station,
+            local,
             announcers: None,
             routes: None,
         })

@@ -16,7 +16,7 @@ use std::alloc::Global;
 /// The work of the program on one stream, where the words name no lane files: each line of the input is an event. What comes of it
 /// is written before the source is asked for more, which may be one that gives the next line only once it has seen what came of
 /// those before: the note of a configuration, a withdraw line for each address that isn't announced any more, an announce line for
-/// each that is from now on, with the unasked frames that are sent, the update lines of each BGP peer, and the frame that is sent
+/// each that is from now on, with the unsolicited frames that are sent, the update lines of each BGP peer, and the frame that is sent
 /// in answer to one that was received.
 pub fn stream_speaker<S: PacedSource<K>, K: Sink>(
     alloc: Global,
@@ -49,8 +49,8 @@ pub fn stream_speaker<S: PacedSource<K>, K: Sink>(
     ensures changes { TellsWhatChanges words.now }
 
     // At each line of a run just the frames are sent that are meant of its event, by what was shown then: of a received frame its answer by the
-    // interface of the words by which it came, where the node listens there for what is asked; of others, with each announce line, an unasked
-    // frame by each interface on which the node listens for the address.
+    // interface of the words by which it came, where the node listens there for what is asked; of others, with each announce line, a gratuitous
+    // ARP or an unsolicited Neighbor Advertisement by each interface on which the node listens for the address.
     ensures sends { SendsWhatIsMeant words.now }
 
     // After each line of a run, with a next hop, what a peer of the configuration in force was told since it came, or since its AS

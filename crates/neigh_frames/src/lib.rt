@@ -1,4 +1,4 @@
-//! Answers to ARP requests and neighbor solicitations, and what is sent unasked: Ethernet frames of fixed sizes, which take no
+//! Answers to ARP requests and neighbor solicitations, gratuitous ARP and unsolicited Neighbor Advertisements: Ethernet frames of fixed sizes, which take no
 //! memory. Numbers in frames are big-endian, and addresses stand as they are sent.
 #![tactic(auto)]
 

@@ -5,7 +5,7 @@ use Rattle.kube_model.specs.declared.event.Event.{Event}
 use Rattle.versioned_map.specs.declared.map.Versioned.{Versioned}
 use Rattle.object_history.specs.Kinds.{Resource}
 use Rattle.object_history.specs.Observations.{Observation, Watched, WatchExpired, Written}
-use Rattle.object_history.specs.LookBack.{event_object, object_in, deletes_key, ends_list, held_on, held_through, version_of, newer_than, seen_after, last_shown, version_last_shown, replaces, IsKept, IsLastShown}
+use Rattle.object_history.specs.LookBack.{event_object, object_in, deletes_key, ends_list, held_on, held_through, version_of, newer_than, seen_after, last_shown, version_last_shown, replaces, NoneReplaces, IsLastShown}
 
 module _ {K T : Type 0} (resource : Resource K T) (key : K) where
   held_on_from : (observation : Observation) (before : Option (Versioned T)) (held : Versioned T) → option_map (held_on resource key observation) before ≡ Some held
@@ -79,7 +79,7 @@ module _ {K T : Type 0} (resource : Resource K T) (key : K) where
       let parts = or_parts (newer_than resource key (version_of resource key before) (object_in resource key observation)) (deletes_key resource key observation || (ends_list resource.group observation && eqb (version_of resource key before) 0)) same in
       rw (parts.0, parts.1, e) refl
 
-  shown_through : (later : List Observation) (event : Event) (earlier : List Observation) (told : Versioned T) → event_object resource key event ≡ Some told → version_last_shown resource key earlier < told.version → IsKept resource key later (Watched event ∷ earlier)
+  shown_through : (later : List Observation) (event : Event) (earlier : List Observation) (told : Versioned T) → event_object resource key event ≡ Some told → version_last_shown resource key earlier < told.version → NoneReplaces resource key later (Watched event ∷ earlier)
       → last_shown resource key (later ++ Watched event ∷ earlier) ≡ Some (held_through resource key later told)
   shown_through [] event earlier told e newer kept = shown_first (event_object resource key event) told (version_last_shown resource key earlier) _ e newer
   shown_through (observation ∷ later) event earlier told e newer kept =

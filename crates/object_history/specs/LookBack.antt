@@ -152,9 +152,9 @@ module _ {K T : Type 0} (resource : Resource K T) (key : K) where
       || (deletes_key observation || (ends_list resource.group observation && (version_last_shown earlier == 0)))
 
   -- none of the later observations does so
-  abbrev pub IsKept : List Observation → List Observation → Type 0
-  IsKept [] earlier = ⊤
-  IsKept (observation ∷ later) earlier = (replaces (later ++ earlier) observation ≡ false) × IsKept later earlier
+  abbrev pub NoneReplaces : List Observation → List Observation → Type 0
+  NoneReplaces [] earlier = ⊤
+  NoneReplaces (observation ∷ later) earlier = (replaces (later ++ earlier) observation ≡ false) × NoneReplaces later earlier
 
   -- The object is held as it was last shown: by an event that was newer than the version last shown before it, with no later newer
   -- event and no later deletion; since then expired watches and written records alone changed it.
@@ -166,7 +166,7 @@ module _ {K T : Type 0} (resource : Resource K T) (key : K) where
     pub split : observations ≡ later ++ Watched event ∷ earlier
     pub shown : event_object event ≡ Some object
     pub newer : version_last_shown earlier < object.version
-    pub kept : IsKept later (Watched event ∷ earlier)
+    pub kept : NoneReplaces later (Watched event ∷ earlier)
     pub held_is : held ≡ held_through later object
 
 -- what is held of the key is what was last shown of it

@@ -176,7 +176,7 @@ module _ (index : Index) where
   pub covers-after : (held : Cached) (event : Event) → IsStrictlySortedBy key_cmp (keys_of held.services) → IsStrictlySortedBy key_cmp (keys_of held.slices) → HasShown index event
       → Covers index held → Covers index (cached_after (Watched event) held)
   covers-after held event services slices has covers = record {
-    recorders = each-after service_resource key_cmp-total key_cmp-exact (IsUnderAll index) event held.services services (shown-service event has) covers.recorders;
+    services_by_address = each-after service_resource key_cmp-total key_cmp-exact (IsUnderAll index) event held.services services (shown-service event has) covers.services_by_address;
     slices = each-after slice_resource key_cmp-total key_cmp-exact UnderSlice event held.slices slices (shown-slice event has) covers.slices;
     own = each-after service_resource key_cmp-total key_cmp-exact OwnKey event held.services services (shown-own event) covers.own;
   }
@@ -184,24 +184,24 @@ module _ (index : Index) where
 -- nothing held needs nothing
 pub covers-nothing : (index : Index) → Covers index nothing
 covers-nothing index = record {
-  recorders = λ key service e. absurd (let wrong : None ≡ Some service = e in cc);
+  services_by_address = λ key service e. absurd (let wrong : None ≡ Some service = e in cc);
   slices = λ key slice e. absurd (let wrong : None ≡ Some slice = e in cc);
   own = λ key service e. absurd (let wrong : None ≡ Some service = e in cc);
 }
 
 -- ---- more keys
 pub grows-itself : (index : Index) → Grows index index
-grows-itself index = record { recorders = λ a key e. e; slices = λ service key e. e }
+grows-itself index = record { services_by_address = λ a key e. e; slices = λ service key e. e }
 
 pub grows-on : (a b c : Index) → Grows a b → Grows b c → Grows a c
 grows-on a b c first then = record {
-  recorders = λ x key e. then.recorders x key (first.recorders x key e);
+  services_by_address = λ x key e. then.services_by_address x key (first.services_by_address x key e);
   slices = λ service key e. then.slices service key (first.slices service key e);
 }
 
 pub covers-grown : (index index' : Index) (held : Cached) → Grows index index' → Covers index held → Covers index' held
 covers-grown index index' held grows covers = record {
-  recorders = λ key service e a has. grows.recorders a key (covers.recorders key service e a has);
+  services_by_address = λ key service e a has. grows.services_by_address a key (covers.services_by_address key service e a has);
   slices = λ key slice e. grows.slices (service_of slice) key (covers.slices key slice e);
   own = covers.own;
 }
@@ -218,8 +218,8 @@ module _ (index index' : Index) (held : Cached) (covers : Covers index held) whe
       → ((a : AddressValue) (key : Key) → is_recorder index' a key ≡ (not (same_address at a && same_key gone key) && is_recorder index a key))
       → ((service key : Key) → is_slice index' service key ≡ is_slice index service key) → Covers index' held
   covers-less_recorders at gone unrecorded taken others = record {
-    recorders = λ key service e a has.
-        let was : is_recorder index a key ≡ true = covers.recorders key service e a has in
+    services_by_address = λ key service e a has.
+        let was : is_recorder index a key ≡ true = covers.services_by_address key service e a has in
         taken a key
         ∙ fewer-by (same_address at a) (same_key gone key) (is_recorder index a key)
         (λ here same _.
@@ -238,7 +238,7 @@ module _ (index index' : Index) (held : Cached) (covers : Covers index held) whe
       → ((service key : Key) → is_slice index' service key ≡ (not (same_key at service && same_key gone key) && is_slice index service key))
       → ((a : AddressValue) (key : Key) → is_recorder index' a key ≡ is_recorder index a key) → Covers index' held
   covers-less_slices at gone unlike taken others = record {
-    recorders = λ key service e a has. others a key ∙ covers.recorders key service e a has;
+    services_by_address = λ key service e a has. others a key ∙ covers.services_by_address key service e a has;
     slices = λ key slice e.
         let was : is_slice index (service_of slice) key ≡ true = covers.slices key slice e in
         taken (service_of slice) key

@@ -59,36 +59,36 @@ module _ {G K : Type 0} (R : G → G → Ordering) (S : K → K → Ordering) (o
   result-has (Err x) o p put = tt
 
 -- ---- of the index
-module _ (index : Index) (recorders : List (AddressValue × BTreeSet Key)) (at : AddressValue) (key : Key) where
+module _ (index : Index) (services_by_address : List (AddressValue × BTreeSet Key)) (at : AddressValue) (key : Key) where
   abbrev with_recorders : Index
-  with_recorders = record { recorders = recorders; slices = index.slices }
+  with_recorders = record { services_by_address = services_by_address; slices = index.slices }
 
   -- by the order that the code compares by
-  put-recorders : {A E : Type 0} (r : Result A E) → OnOk r (IsPut derived.cmp-value.it key_cmp index.recorders recorders at key) → OnOk r (IsPut address_cmp key_cmp index.recorders recorders at key)
-  put-recorders {A} {E} r put = subst (λ (R : AddressValue → AddressValue → Ordering). OnOk r (IsPut R key_cmp index.recorders recorders at key)) address_cmp-is put
+  put-services_by_address : {A E : Type 0} (r : Result A E) → OnOk r (IsPut derived.cmp-value.it key_cmp index.services_by_address services_by_address at key) → OnOk r (IsPut address_cmp key_cmp index.services_by_address services_by_address at key)
+  put-services_by_address {A} {E} r put = subst (λ (R : AddressValue → AddressValue → Ordering). OnOk r (IsPut R key_cmp index.services_by_address services_by_address at key)) address_cmp-is put
 
-  pub recorder-grows : {A E : Type 0} (r : Result A E) → OnOk r (IsPut derived.cmp-value.it key_cmp index.recorders recorders at key) → OnErr r (recorders ≡ index.recorders) → Grows index with_recorders
+  pub recorder-grows : {A E : Type 0} (r : Result A E) → OnOk r (IsPut derived.cmp-value.it key_cmp index.services_by_address services_by_address at key) → OnErr r (services_by_address ≡ index.services_by_address) → Grows index with_recorders
   recorder-grows r put same = record {
-    recorders = result-keeps address_cmp key_cmp index.recorders recorders at key r (put-recorders r put) same;
+    services_by_address = result-keeps address_cmp key_cmp index.services_by_address services_by_address at key r (put-services_by_address r put) same;
     slices = λ service k e. e;
   }
 
-  pub recorder-has : {A E : Type 0} (r : Result A E) → OnOk r (IsPut derived.cmp-value.it key_cmp index.recorders recorders at key) → OnOk r (is_recorder with_recorders at key ≡ true)
-  recorder-has r put = result-has address_cmp key_cmp index.recorders recorders at key r address_total key_cmp-total (put-recorders r put)
+  pub recorder-has : {A E : Type 0} (r : Result A E) → OnOk r (IsPut derived.cmp-value.it key_cmp index.services_by_address services_by_address at key) → OnOk r (is_recorder with_recorders at key ≡ true)
+  recorder-has r put = result-has address_cmp key_cmp index.services_by_address services_by_address at key r address_total key_cmp-total (put-services_by_address r put)
 
-  pub recorder-taken : IsTaken derived.cmp-value.it key_cmp index.recorders recorders at key
+  pub recorder-taken : IsTaken derived.cmp-value.it key_cmp index.services_by_address services_by_address at key
       → (a : AddressValue) (k : Key) → is_recorder with_recorders a k ≡ (not (same_address at a && same_key key k) && is_recorder index a k)
   recorder-taken taken a k =
-      let by : IsTaken address_cmp key_cmp index.recorders recorders at key = subst (λ (R : AddressValue → AddressValue → Ordering). IsTaken R key_cmp index.recorders recorders at key) address_cmp-is taken in
+      let by : IsTaken address_cmp key_cmp index.services_by_address services_by_address at key = subst (λ (R : AddressValue → AddressValue → Ordering). IsTaken R key_cmp index.services_by_address services_by_address at key) address_cmp-is taken in
       ap (λ f. f a k) by ∙ (λ i. not (same-at at a i && is_eq-key_cmp key k i) && is_recorder index a k)
 
 module _ (index : Index) (slices : List (Key × BTreeSet Key)) (service key : Key) where
   abbrev with_slices : Index
-  with_slices = record { recorders = index.recorders; slices = slices }
+  with_slices = record { services_by_address = index.services_by_address; slices = slices }
 
   pub slice-grows : {A E : Type 0} (r : Result A E) → OnOk r (IsPut key_cmp key_cmp index.slices slices service key) → OnErr r (slices ≡ index.slices) → Grows index with_slices
   slice-grows r put same = record {
-    recorders = λ a k e. e;
+    services_by_address = λ a k e. e;
     slices = result-keeps key_cmp key_cmp index.slices slices service key r put same;
   }
 
@@ -100,9 +100,9 @@ module _ (index : Index) (slices : List (Key × BTreeSet Key)) (service key : Ke
   slice-taken taken s k = ap (λ f. f s k) taken ∙ (λ i. not (is_eq-key_cmp service s i && is_eq-key_cmp key k i) && is_slice index s k)
 
 -- what stands under an address
-pub under-address : (index : Index) (a : AddressValue) (found : Option (BTreeSet Key)) → found ≡ lookup (is_at (derived.cmp-value.it a)) index.recorders → (key : Key) → is_in key_cmp found key ≡ is_recorder index a key
+pub under-address : (index : Index) (a : AddressValue) (found : Option (BTreeSet Key)) → found ≡ lookup (is_at (derived.cmp-value.it a)) index.services_by_address → (key : Key) → is_in key_cmp found key ≡ is_recorder index a key
 under-address index a found is key =
-    ap (λ keys. is_in key_cmp keys key) (is ∙ ap (λ (R : AddressValue → AddressValue → Ordering). lookup (is_at (R a)) index.recorders) address_cmp-is)
+    ap (λ keys. is_in key_cmp keys key) (is ∙ ap (λ (R : AddressValue → AddressValue → Ordering). lookup (is_at (R a)) index.services_by_address) address_cmp-is)
 
 -- ---- whether an endpoint slice of a service serves
 module _ (index : Index) (held : Cached) (covers : Covers index held) (ascend : IsStrictlySortedBy key_cmp (keys_of held.slices)) (key : Key) (policy : Policy) (node : List ℕ) where
@@ -130,16 +130,16 @@ module _ (index : Index) (held : Cached) (covers : Covers index held) (ascend : 
 module _ (index : Index) (v : ViewValue) (covers : Covers index v.held) (ascend : IsStrictlySortedBy key_cmp (keys_of v.held.services)) (a : AddressValue) where
   -- of a test that passes at no others
   module _ (test : Service → Bool) (records : (service : Service) → test service ≡ true → has_address service.holding.addresses a ≡ true) where
-    among-recorders : (found : Option (BTreeSet Key)) → ((key : Key) → is_in key_cmp found key ≡ is_recorder index a key)
+    among-services_by_address : (found : Option (BTreeSet Key)) → ((key : Key) → is_in key_cmp found key ≡ is_recorder index a key)
         → (at : Key) (service : Service) → object_at key_cmp v.held.services at ≡ Some service → test service ≡ true → is_in key_cmp found at ≡ true
-    among-recorders found is at service there passed = is at ∙ covers.recorders at service there a (records service passed)
+    among-services_by_address found is at service there passed = is at ∙ covers.services_by_address at service there a (records service passed)
 
     found-some : (answer : Bool) (keys : BTreeSet Key) → answer ≡ list_any (λ at. passes test (object_at key_cmp v.held.services at)) keys.keys
         → ((key : Key) → contains key_cmp keys key ≡ is_recorder index a key) → answer ≡ list_any test (objects_of v.held.services)
-    found-some answer keys is there = is ∙ any-keys key_cmp-total key_cmp-exact test v.held.services keys.keys ascend (among-recorders (Some keys) there)
+    found-some answer keys is there = is ∙ any-keys key_cmp-total key_cmp-exact test v.held.services keys.keys ascend (among-services_by_address (Some keys) there)
 
     found-none : ((key : Key) → false ≡ is_recorder index a key) → false ≡ list_any test (objects_of v.held.services)
-    found-none none = any-keys key_cmp-total key_cmp-exact test v.held.services [] ascend (λ at service there passed. among-recorders None none at service there passed)
+    found-none none = any-keys key_cmp-total key_cmp-exact test v.held.services [] ascend (λ at service there passed. among-services_by_address None none at service there passed)
 
   -- whether there is one
   pub recorded-some : (answer : Bool) (keys : BTreeSet Key) → answer ≡ list_any (λ at. records_in (object_at key_cmp v.held.services at) a) keys.keys
@@ -189,10 +189,10 @@ stands-address (d ∷ entries) a key e =
     key-by (is_at (address_cmp a) d.0) (list_any (is_at (address_cmp a)) (keys_of entries)) (Some d.1) (lookup (is_at (address_cmp a)) entries) key e (stands-address entries a key)
 
 has-recorded : (index : Index) (v : ViewValue) → Covers index v.held → IsStrictlySortedBy key_cmp (keys_of v.held.services)
-    → (a : AddressValue) → is_recorded_in v a ≡ true → has_address (keys_of index.recorders) a ≡ true
+    → (a : AddressValue) → is_recorded_in v a ≡ true → has_address (keys_of index.services_by_address) a ≡ true
 has-recorded index v covers ascend a e =
     let p = passing key_cmp-total key_cmp-exact (λ (service : Service). has_address service.holding.addresses a) v.held.services ascend e in
-    sym (found-has (keys_of index.recorders) a) ∙ stands-address index.recorders a p.key (covers.recorders p.key p.object p.held a p.passed)
+    sym (found-has (keys_of index.services_by_address) a) ∙ stands-address index.services_by_address a p.key (covers.services_by_address p.key p.object p.held a p.passed)
 
 any-flat_map : {X A : Type 0} (test : A → Bool) (f : X → List A) (xs : List X) → list_any test (flat_map f xs) ≡ list_any (λ x. list_any test (f x)) xs
 any-flat_map test f [] = refl
@@ -212,7 +212,7 @@ pub has-recorded_addresses : (v : ViewValue) (a : AddressValue) → is_recorded_
 has-recorded_addresses v a e = has_address-is (recorded_addresses v) a (has-recorded_in v a ∙ e)
 
 -- those of the addresses of the index that are recorded are all that are
-pub all-recorded : (index : Index) (v : ViewValue) → Covers index v.held → IsStrictlySortedBy key_cmp (keys_of v.held.services) → (addresses : List AddressValue) → addresses ≡ keys_of index.recorders
+pub all-recorded : (index : Index) (v : ViewValue) → Covers index v.held → IsStrictlySortedBy key_cmp (keys_of v.held.services) → (addresses : List AddressValue) → addresses ≡ keys_of index.services_by_address
     → keys_with address_cmp [] (filter (is_recorded_in v) addresses) ≡ recorded_addresses v
 all-recorded index v covers ascend addresses are =
     let recorded = flat_map (λ (service : Service). service.holding.addresses) (objects_of v.held.services) in

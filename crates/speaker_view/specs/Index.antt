@@ -25,7 +25,7 @@ use Rattle.speaker_view.specs.ViewValue.{ViewValue}
 
 -- the key stands under the address
 abbrev pub is_recorder : Index → AddressValue → Key → Bool
-is_recorder index a key = in_group address_cmp key_cmp index.recorders a key
+is_recorder index a key = in_group address_cmp key_cmp index.services_by_address a key
 
 -- the key stands under the service
 abbrev pub is_slice : Index → Key → Key → Bool
@@ -38,13 +38,13 @@ IsUnderAll index key service = (a : AddressValue) → has_address service.holdin
 -- Each held service stands under its own key, and under each address that it records; each held endpoint slice stands under its service.
 -- What isn't held may stand there too.
 pub record Covers (index : Index) (held : Cached) : Type 0 where
-  pub recorders : (key : Key) (service : Service) → object_at key_cmp held.services key ≡ Some service → IsUnderAll index key service
+  pub services_by_address : (key : Key) (service : Service) → object_at key_cmp held.services key ≡ Some service → IsUnderAll index key service
   pub slices : (key : Key) (slice : EndpointSlice) → object_at key_cmp held.slices key ≡ Some slice → is_slice index (service_of slice) key ≡ true
   pub own : (key : Key) (service : Service) → object_at key_cmp held.services key ≡ Some service → service.key ≡ key
 
 -- what stands in the one stands in the other
 pub record Grows (index index' : Index) : Type 0 where
-  pub recorders : (a : AddressValue) (key : Key) → is_recorder index a key ≡ true → is_recorder index' a key ≡ true
+  pub services_by_address : (a : AddressValue) (key : Key) → is_recorder index a key ≡ true → is_recorder index' a key ≡ true
   pub slices : (service key : Key) → is_slice index service key ≡ true → is_slice index' service key ≡ true
 
 -- the object stands where it is looked for

@@ -30,13 +30,13 @@ use versioned_map::VersionedMap;
 /// there too: what is found by one is looked at before it counts.
 #[derive(Drop)]
 pub(crate) struct Index {
-    recorders: GroupedKeys<Address, Key>,
+    services_by_address: GroupedKeys<Address, Key>,
     slices: GroupedKeys<Key, Key>,
 }
 
 /// A key that stands in a group.
 #[derive(Drop)]
-struct Place<G> {
+struct GroupedKey<G> {
     group: G,
     key: Key,
 }
@@ -44,8 +44,8 @@ struct Place<G> {
 /// Keys that may not be needed any more where an event was applied.
 #[derive(Drop)]
 pub(crate) struct Stale {
-    recorders: Vec<Place<Address>>,
-    slices: Vec<Place<Key>>,
+    services_by_address: Vec<GroupedKey<Address>>,
+    slices: Vec<GroupedKey<Key>>,
 }
 
 impl Index {
@@ -54,23 +54,23 @@ impl Index {
         ensures { Covers result nothing }
     {
         Index {
-            recorders: GroupedKeys::new(alloc),
+            services_by_address: GroupedKeys::new(alloc),
             slices: GroupedKeys::new(alloc),
         }
     }
 
     /// The keys that stand under the address.
-    pub(crate) fn recorders(&self, address: &Address) -> Option<&BTreeSet<Key>>
+    pub(crate) fn services_by_address(&self, address: &Address) -> Option<&BTreeSet<Key>>
         ensures { (key : KeyValue) → is_in key_cmp (option_copied result) key ≡ is_recorder self.now address.now key }
     {
-        self.recorders.keys(address)
+        self.services_by_address.keys(address)
     }
 
     /// The addresses under which keys stand.
     pub(crate) fn addresses(&self) -> Keys<'_, Address, BTreeSet<Key>>
-        ensures { result ≡ keys_of self.now.recorders }
+        ensures { result ≡ keys_of self.now.services_by_address }
     {
-        self.recorders.groups()
+        self.services_by_address.groups()
     }
 
     /// Whether some slice of the service has an endpoint that serves the node. It looks at the slices of the service alone.
@@ -135,7 +135,7 @@ impl Index {
         ensures has { OnOk result (is_recorder self.new address.now key.now ≡ true) }
     {
         let key = key.copy()?;
-        self.recorders.insert(*address, key)
+        self.services_by_address.insert(*address, key)
     }
 
     /// The endpoint slice's key comes under its service.
@@ -153,7 +153,7 @@ impl Index {
         requires { Covers self.old cache.now }
         ensures { Covers self.new cache.now }
     {
-        for place in stale.recorders.as_slice() {
+        for place in stale.services_by_address.as_slice() {
             self.forget_recorder(cache, &place.group, &place.key);
         }
         for place in stale.slices.as_slice() {
@@ -168,7 +168,7 @@ impl Index {
         if records_at(cache, key, address) {
             return;
         }
-        self.recorders.remove(address, key);
+        self.services_by_address.remove(address, key);
     }
 
     fn forget_slice(&mut self, cache: &ObjectCache, service: &Key, key: &Key)
@@ -262,7 +262,7 @@ impl Stale {
     /// The keys that may not be needed any more where the event is applied.
     pub(crate) fn by(alloc: Global, cache: &ObjectCache, event: &Event) -> Result<Stale, NoMemory> {
         let mut stale = Stale {
-            recorders: Vec::new(alloc),
+            services_by_address: Vec::new(alloc),
             slices: Vec::new(alloc),
         };
         match event {
@@ -344,7 +344,7 @@ impl Stale {
     fn add_service(&mut self, service: &Service) -> Result<(), NoMemory> {
         for address in service.holding.addresses.as_slice() {
             let key = service.key.copy()?;
-            self.recorders.push(Place {
+            self.services_by_address.push(GroupedKey {
                 group: *address,
                 key,
             })?;
@@ -355,7 +355,7 @@ impl Stale {
     fn add_slice(&mut self, slice: &EndpointSlice) -> Result<(), NoMemory> {
         let group = service_of(slice)?;
         let key = slice.key.copy()?;
-        self.slices.push(Place { group, key })?;
+        self.slices.push(GroupedKey { group, key })?;
         Ok(())
     }
 }

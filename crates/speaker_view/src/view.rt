@@ -227,7 +227,7 @@ impl View {
         ensures { result ≡ is_recorded_in self.now address.now }
     {
         let _ascending = self.cache.services().len();
-        match self.index.recorders(address) {
+        match self.index.services_by_address(address) {
             None => false,
             Some(keys) => one_records(&self.cache, keys, address),
         }
@@ -277,7 +277,7 @@ impl View {
         ensures { result ≡ announced_from self.now address.now node.now }
     {
         let _ascending = self.cache.services().len();
-        match self.index.recorders(address) {
+        match self.index.services_by_address(address) {
             None => false,
             Some(keys) => self.announces_one(keys, address, node),
         }
@@ -290,7 +290,7 @@ impl View {
         ensures nowhere { (node : List ℕ) → result ≡ false → announced_from self.now address.now node ≡ false }
     {
         let _ascending = self.cache.services().len();
-        match self.index.recorders(address) {
+        match self.index.services_by_address(address) {
             None => false,
             Some(keys) => self.serves_one(keys, address),
         }

@@ -8,7 +8,7 @@ use Rattle.status_store.specs.declared.change.Edit.TheVariants.{Set, Reset, Dele
 use Rattle.status_store.specs.declared.stored.Stored.{Stored}
 use Rattle.status_store.specs.Places.{Place, place_of}
 use Rattle.status_store.specs.Objects.{IsAbsent, SameElsewhere, IsAscending, is_of, stored_at, with_stored, without_stored}
-use Rattle.status_store.specs.Changes.{StoreValue, IsKept, IsKeptRecord, SetsObject, OnSet, ResetsObject, OnReset, OnDelete, DeletesNothing, edited_place, with_record, kept_record, set_as, reset_as, is_change, edited}
+use Rattle.status_store.specs.Changes.{StoreValue, IsWellFormed, IsKeptRecord, SetsObject, OnSet, ResetsObject, OnReset, OnDelete, DeletesNothing, edited_place, with_record, kept_record, set_as, reset_as, is_change, edited}
 use Rattle.status_store.proofs.ChangeLaws.{place_of-with_record, stored_as}
 use Rattle.status_store.proofs.StoredLaws.{stored-found, absent-found, found-absent, stored-with_stored, elsewhere-with_stored, absent-without_stored, elsewhere-without_stored}
 
@@ -26,7 +26,7 @@ left-out : (objects : List Stored) (place : Place) → stored_at objects place �
 left-out [] place e = refl
 left-out (first ∷ more) place e = left_by (is_of place first) place first more (left-out more place) e
 
-pub edit-absent : (edit : Edit) (s : StoreValue) → IsKept s → (is_change edit s ≡ false) ↔ DeletesNothing edit s.objects
+pub edit-absent : (edit : Edit) (s : StoreValue) → IsWellFormed s → (is_change edit s ≡ false) ↔ DeletesNothing edit s.objects
 edit-absent (Set object) s kept = (λ e. true≢false e, λ none. absurd none)
 edit-absent (Reset object) s kept = (λ e. true≢false e, λ none. absurd none)
 edit-absent (Delete kind key) s kept = (
@@ -48,7 +48,7 @@ kept_record-is objects place s = record {
   absent = λ absent. ap kept_record (absent-found objects place s absent);
 }
 
-set-is : (object : Object) (s : StoreValue) → IsKept s → SetsObject object s (edited (Set object) s)
+set-is : (object : Object) (s : StoreValue) → IsWellFormed s → SetsObject object s (edited (Set object) s)
 set-is object s kept =
     let holding : Record = kept_record (stored_at s.objects (place_of object)) in
     let same : place_of (with_record holding object) ≡ place_of object = place_of-with_record holding object in
@@ -59,22 +59,22 @@ set-is object s kept =
       stored = (stored.0, same);
     }
 
-pub edit-set : (edit : Edit) (s : StoreValue) → IsKept s → OnSet edit (λ object. SetsObject object s (edited edit s))
+pub edit-set : (edit : Edit) (s : StoreValue) → IsWellFormed s → OnSet edit (λ object. SetsObject object s (edited edit s))
 edit-set (Set object) s kept = set-is object s kept
 edit-set (Reset object) s kept = tt
 edit-set (Delete kind key) s kept = tt
 
-pub edit-reset : (edit : Edit) (s : StoreValue) → IsKept s → OnReset edit (λ object. ResetsObject object s (edited edit s))
+pub edit-reset : (edit : Edit) (s : StoreValue) → IsWellFormed s → OnReset edit (λ object. ResetsObject object s (edited edit s))
 edit-reset (Set object) s kept = tt
 edit-reset (Reset object) s kept = let stored = stored-with_stored s.objects (reset_as s object) in (stored.0, refl)
 edit-reset (Delete kind key) s kept = tt
 
-pub edit-deleted : (edit : Edit) (s : StoreValue) → IsKept s → OnDelete edit (IsAbsent (edited edit s).objects)
+pub edit-deleted : (edit : Edit) (s : StoreValue) → IsWellFormed s → OnDelete edit (IsAbsent (edited edit s).objects)
 edit-deleted (Set object) s kept = tt
 edit-deleted (Reset object) s kept = tt
 edit-deleted (Delete kind key) s kept = absent-without_stored s.objects (kind, key) kept.ascending
 
-pub edit-others : (edit : Edit) (s : StoreValue) → IsKept s → SameElsewhere (edited_place edit) s.objects (edited edit s).objects
+pub edit-others : (edit : Edit) (s : StoreValue) → IsWellFormed s → SameElsewhere (edited_place edit) s.objects (edited edit s).objects
 edit-others (Set object) s kept =
     subst (λ (place : Place). SameElsewhere place s.objects (with_stored (set_as s object) s.objects))
     (place_of-with_record (kept_record (stored_at s.objects (place_of object))) object) (elsewhere-with_stored s.objects (set_as s object) kept.ascending)

@@ -8,11 +8,11 @@ use Rattle.status_store.specs.declared.change.Outcome.TheVariants.{Delivered, Lo
 use Rattle.status_store.specs.declared.stored.Stored.{Stored}
 use Rattle.status_store.specs.Places.{Place, place_of, service_at}
 use Rattle.status_store.specs.Objects.{IsStored, IsAbsent, SameElsewhere, stored_at, with_stored}
-use Rattle.status_store.specs.Changes.{StoreValue, IsKept, IsLost, arrives, IsCurrent, IsOutdated, IsStale, IsMade, RecordsPut, recorded, is_at_version, is_made, with_put, after_put, delivered_reply, reply_to}
+use Rattle.status_store.specs.Changes.{StoreValue, IsWellFormed, IsLost, arrives, IsCurrent, IsOutdated, IsStale, IsMade, RecordsPut, recorded, is_at_version, is_made, with_put, after_put, delivered_reply, reply_to}
 use Rattle.status_store.proofs.ChangeLaws.{version-same, other-version, version-other, place_of-with_record, stored_as}
 use Rattle.status_store.proofs.StoredLaws.{stored-found, found-stored, absent-found, found-absent, stored-with_stored, elsewhere-with_stored, elsewhere-itself}
 
-module _ (s : StoreValue) (put : Put) (kept : IsKept s) where
+module _ (s : StoreValue) (put : Put) (kept : IsWellFormed s) where
   -- the service is stored at the put's version exactly where the look-up finds it so
   current_by : (found : Option Stored) → found ≡ stored_at s.objects (service_at put.key) → is_at_version put.version found ≡ true → IsCurrent s.objects put
   current_by None is e = absurd (true≢false (sym e))
@@ -164,7 +164,7 @@ pub record PutFacts (s : StoreValue) (put : Put) (outcome : Outcome) : Type 0 wh
   pub others : SameElsewhere (service_at put.key) s.objects (after_put put outcome s).objects
   pub unchanged : ¬ (IsMade put outcome s.objects) → after_put put outcome s ≡ s
 
-facts-kept : (s : StoreValue) (put : Put) (outcome : Outcome) → IsKept s → PutFacts s put outcome
+facts-kept : (s : StoreValue) (put : Put) (outcome : Outcome) → IsWellFormed s → PutFacts s put outcome
 facts-kept s put outcome kept = record {
   unknown = reply-unknown s put kept outcome;
   missing = reply-missing s put kept outcome;
@@ -177,7 +177,7 @@ facts-kept s put outcome kept = record {
 }
 
 -- a put that doesn't arrive is told apart before the store is looked at
-pub put-facts : (s : StoreValue) (put : Put) (outcome : Outcome) → (IsTrue (arrives outcome) → IsKept s) → PutFacts s put outcome
+pub put-facts : (s : StoreValue) (put : Put) (outcome : Outcome) → (IsTrue (arrives outcome) → IsWellFormed s) → PutFacts s put outcome
 put-facts s put Delivered kept = facts-kept s put Delivered (kept refl)
 put-facts s put (Lost true) kept = facts-kept s put (Lost true) (kept refl)
 put-facts s put (Lost false) kept = record {

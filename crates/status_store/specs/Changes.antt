@@ -22,7 +22,7 @@ pub record StoreValue : Type 0 where
   pub counter : ℕ
 
 -- what holds of every store
-pub record IsKept (s : StoreValue) : Type 0 where
+pub record IsWellFormed (s : StoreValue) : Type 0 where
   pub ascending : IsAscending s.objects
   pub counted : AreCounted s.counter s.objects
 

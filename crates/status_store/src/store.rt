@@ -4,7 +4,7 @@ ghost use Rattle.std.specs.List.{slice_index_or};
 ghost use Rattle.std.specs.Option.{option_copied};
 ghost use Rattle.status_store.specs.Places.{place_of, service_at};
 ghost use Rattle.status_store.specs.Objects.{IsStored, IsAbsent, SameElsewhere, IsAscending, AreCounted, IsAt, IsGapFor, stored_at};
-ghost use Rattle.status_store.specs.Changes.{IsKept, empty_store, SetsObject, OnSet, ResetsObject, OnReset, OnDelete, DeletesNothing, edited_place, is_change, edited, IsLost, arrives, IsCurrent, IsStale, IsMade, RecordsPut, after_put, reply_to};
+ghost use Rattle.status_store.specs.Changes.{IsWellFormed, empty_store, SetsObject, OnSet, ResetsObject, OnReset, OnDelete, DeletesNothing, edited_place, is_change, edited, IsLost, arrives, IsCurrent, IsStale, IsMade, RecordsPut, after_put, reply_to};
 
 use crate::change::{Edit, Outcome};
 use crate::place::key_parts;
@@ -27,13 +27,13 @@ pub struct Store {
 }
 
 impl Model for Store {
-    ghost use Rattle.status_store.specs.Changes.{StoreValue, IsKept};
+    ghost use Rattle.status_store.specs.Changes.{StoreValue, IsWellFormed};
 
     ghost Value = { StoreValue };
 
     ghost view = { λ s. record { objects = s.objects; counter = s.counter } };
 
-    ghost invariant = { λ s. IsKept (record { objects = s.objects; counter = s.counter }) };
+    ghost invariant = { λ s. IsWellFormed (record { objects = s.objects; counter = s.counter }) };
 }
 
 impl Store {
@@ -105,7 +105,7 @@ impl Store {
     /// `edit`, whose clauses follow from what it makes of the whole store.
     fn edit_exactly(&mut self, edit: Edit) -> Result<bool, NoMemory>
         requires { self.old.counter < 2 ^ 64 - 1 }
-        ensures kept { IsKept self.old }
+        ensures kept { IsWellFormed self.old }
         ensures done { IfOk result (λ done. done ≡ is_change edit self.old) }
         ensures store { OnOk result (self.new ≡ edited edit self.old) }
         ensures err { OnErr result (self.new ≡ self.old) }
@@ -125,7 +125,7 @@ impl Store {
 
     fn set(&mut self, object: Object) -> Result<(), NoMemory>
         requires { self.old.counter < 2 ^ 64 - 1 }
-        ensures kept { IsKept self.old }
+        ensures kept { IsWellFormed self.old }
         ensures store { OnOk result (self.new ≡ edited (Edit.Set object) self.old) }
         ensures err { OnErr result (self.new ≡ self.old) }
     {
@@ -140,7 +140,7 @@ impl Store {
     fn replace(&mut self, at: usize, mut object: Object) -> Result<(), NoMemory>
         requires room { self.old.counter < 2 ^ 64 - 1 }
         requires found { IsAt self.old.objects (place_of object) at }
-        ensures kept { IsKept self.old }
+        ensures kept { IsWellFormed self.old }
         ensures store { OnOk result (self.new ≡ edited (Edit.Set object) self.old) }
         ensures err { OnErr result (self.new ≡ self.old) }
     {
@@ -154,7 +154,7 @@ impl Store {
     fn insert(&mut self, at: usize, mut object: Object) -> Result<(), NoMemory>
         requires room { self.old.counter < 2 ^ 64 - 1 }
         requires absent { IsGapFor self.old.objects (place_of object) at }
-        ensures kept { IsKept self.old }
+        ensures kept { IsWellFormed self.old }
         ensures store { OnOk result (self.new ≡ edited (Edit.Set object) self.old) }
         ensures err { OnErr result (self.new ≡ self.old) }
     {
@@ -164,7 +164,7 @@ impl Store {
 
     fn reset(&mut self, object: Object) -> Result<(), NoMemory>
         requires { self.old.counter < 2 ^ 64 - 1 }
-        ensures kept { IsKept self.old }
+        ensures kept { IsWellFormed self.old }
         ensures store { OnOk result (self.new ≡ edited (Edit.Reset object) self.old) }
         ensures err { OnErr result (self.new ≡ self.old) }
     {
@@ -179,7 +179,7 @@ impl Store {
     fn replace_whole(&mut self, at: usize, object: Object) -> Result<(), NoMemory>
         requires room { self.old.counter < 2 ^ 64 - 1 }
         requires found { IsAt self.old.objects (place_of object) at }
-        ensures kept { IsKept self.old }
+        ensures kept { IsWellFormed self.old }
         ensures store { OnOk result (self.new ≡ edited (Edit.Reset object) self.old) }
         ensures err { OnErr result (self.new ≡ self.old) }
     {
@@ -198,7 +198,7 @@ impl Store {
     fn insert_whole(&mut self, at: usize, object: Object) -> Result<(), NoMemory>
         requires room { self.old.counter < 2 ^ 64 - 1 }
         requires absent { IsGapFor self.old.objects (place_of object) at }
-        ensures kept { IsKept self.old }
+        ensures kept { IsWellFormed self.old }
         ensures store { OnOk result (self.new ≡ edited (Edit.Reset object) self.old) }
         ensures err { OnErr result (self.new ≡ self.old) }
     {
@@ -215,7 +215,7 @@ impl Store {
 
     fn delete(&mut self, kind: Kind, key: &Key) -> bool
         requires { self.old.counter < 2 ^ 64 - 1 }
-        ensures kept { IsKept self.old }
+        ensures kept { IsWellFormed self.old }
         ensures done { result ≡ is_change (Edit.Delete kind key.now) self.old }
         ensures store { self.new ≡ edited (Edit.Delete kind key.now) self.old }
     {
@@ -262,7 +262,7 @@ impl Store {
     /// `put`, whose clauses follow from its reply and from what it makes of the whole store.
     fn put_exactly(&mut self, put: &Put, outcome: Outcome) -> Result<PutReply, NoMemory>
         requires { self.old.counter < 2 ^ 64 - 1 }
-        ensures kept { IsTrue (arrives outcome) → IsKept self.old }
+        ensures kept { IsTrue (arrives outcome) → IsWellFormed self.old }
         ensures reply { IfOk result (λ reply. reply ≡ reply_to put.now outcome self.old) }
         ensures store { OnOk result (self.new ≡ after_put put.now outcome self.old) }
         ensures err { OnErr result (self.new ≡ self.old) }
@@ -282,7 +282,7 @@ impl Store {
     /// A put that reaches the store.
     fn write(&mut self, put: &Put) -> Result<PutReply, NoMemory>
         requires { self.old.counter < 2 ^ 64 - 1 }
-        ensures kept { IsKept self.old }
+        ensures kept { IsWellFormed self.old }
         ensures reply { IfOk result (λ reply. reply ≡ reply_to put.now Outcome.Delivered self.old) }
         ensures store { OnOk result (self.new ≡ after_put put.now Outcome.Delivered self.old) }
         ensures err { OnErr result (self.new ≡ self.old) }
@@ -319,7 +319,7 @@ impl Store {
             IsAt self.now.objects (kind, record { namespace = namespace.now; name = name.now })) }
         ensures absent { IfErr result (
             IsGapFor self.now.objects (kind, record { namespace = namespace.now; name = name.now })) }
-        ensures kept { IsKept self.now }
+        ensures kept { IsWellFormed self.now }
     {
         search(self.objects.as_slice(), kind, namespace, name)
     }

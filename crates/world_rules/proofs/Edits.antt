@@ -27,35 +27,35 @@ use Rattle.status_store.proofs.ChangeLaws.{place_of-with_record}
 use Rattle.status_store.proofs.ListLaws.{stored_at-with_stored, stored_at-without_stored}
 use Rattle.core_rules.specs.Core.{State}
 use Rattle.claim_index.specs.Claims.{records_of}
-use Rattle.world_rules.specs.Sight.{Shown, News, Shows, Gone, IsTracked}
+use Rattle.world_rules.specs.Tracked.{Shown, Notice, Shows, Gone, IsTracked}
 use Rattle.world_rules.specs.Moves.{stored_with, after_set}
 use Rattle.world_rules.specs.World.{WorldValue, as_shown, shown_edit, while_up, to_lane, after_edit}
-use Rattle.world_rules.specs.Good.{stored_as, stored_of, held_of, news_in, IsTrackedIn, IsOfGroup, IsFollowed, IsGood}
-use Rattle.world_rules.proofs.Sights.{at_next, stays-bare}
+use Rattle.world_rules.specs.Good.{stored_as, stored_of, held_of, notices_in, IsTrackedIn, IsOfGroup, IsFollowed, IsGood}
+use Rattle.world_rules.proofs.Following.{at_next, stays-bare}
 use Rattle.world_rules.proofs.Tracking.{tracked-other, tracked-set, tracked-create, tracked-delete}
-use Rattle.world_rules.proofs.Lanes.{all-append, all-either, news_in-push, tracked-as, of-lane, here-same}
+use Rattle.world_rules.proofs.Lanes.{all-append, all-either, notices_in-push, tracked-as, of-lane, here-same}
 use Rattle.world_rules.proofs.Storing.{set_store, good-set_store, good-delete}
 
 -- ---- a service is set or deleted, this one or another
-set_by : (b : Bool) (n : ℕ) (ended : Bool) (o : Option Stored) (service : Service) (h : Option Shown) (claims : List Record) (news : List News)
-    → (b ≡ true → is_assigned service.holding ≡ true → service.holding ≡ kept_record o) → IsTracked n ended (option_map stored_as o) h claims news
-    → IsTracked (n + 1) ended (option_map stored_as (cond b (Some (record { version = n + 1; object = objects.Service service })) o)) h claims (news ++ cond b (Shows (at_next n service.holding) ∷ []) [])
-set_by true n ended None service h claims news keeps t =
-    tracked-create n ended service.holding h claims news (stays-bare service.holding empty_record (keeps refl) refl) t
-set_by true n ended (Some held) service h claims news keeps t = tracked-set n ended (stored_as held) service.holding h claims news (keeps refl) t
-set_by false n ended o service h claims news keeps t =
-    subst (IsTracked (n + 1) ended (option_map stored_as o) h claims) (sym (append-nil news)) (tracked-other n ended (option_map stored_as o) h claims news t)
+set_by : (b : Bool) (n : ℕ) (ended : Bool) (o : Option Stored) (service : Service) (h : Option Shown) (claims : List Record) (notices : List Notice)
+    → (b ≡ true → is_assigned service.holding ≡ true → service.holding ≡ kept_record o) → IsTracked n ended (option_map stored_as o) h claims notices
+    → IsTracked (n + 1) ended (option_map stored_as (cond b (Some (record { version = n + 1; object = objects.Service service })) o)) h claims (notices ++ cond b (Shows (at_next n service.holding) ∷ []) [])
+set_by true n ended None service h claims notices keeps t =
+    tracked-create n ended service.holding h claims notices (stays-bare service.holding empty_record (keeps refl) refl) t
+set_by true n ended (Some held) service h claims notices keeps t = tracked-set n ended (stored_as held) service.holding h claims notices (keeps refl) t
+set_by false n ended o service h claims notices keeps t =
+    subst (IsTracked (n + 1) ended (option_map stored_as o) h claims) (sym (append-nil notices)) (tracked-other n ended (option_map stored_as o) h claims notices t)
 
 -- b: something is stored there; z: the key is the one that is deleted
-deleted_by : (b z : Bool) (n : ℕ) (ended : Bool) (o : Option Stored) (h : Option Shown) (claims : List Record) (news : List News)
-    → (z ≡ true → is_some o ≡ b) → IsTracked n ended (option_map stored_as o) h claims news
-    → IsTracked (cond b (n + 1) n) ended (option_map stored_as (cond z None o)) h claims (news ++ cond b (cond z (Gone ∷ []) []) [])
-deleted_by true true n ended o h claims news there t = tracked-delete n ended (option_map stored_as o) h claims news t
-deleted_by true false n ended o h claims news there t =
-    subst (IsTracked (n + 1) ended (option_map stored_as o) h claims) (sym (append-nil news)) (tracked-other n ended (option_map stored_as o) h claims news t)
-deleted_by false true n ended None h claims news there t = subst (IsTracked n ended None h claims) (sym (append-nil news)) t
-deleted_by false true n ended (Some held) h claims news there t = absurd (true≢false (there refl))
-deleted_by false false n ended o h claims news there t = subst (IsTracked n ended (option_map stored_as o) h claims) (sym (append-nil news)) t
+deleted_by : (b z : Bool) (n : ℕ) (ended : Bool) (o : Option Stored) (h : Option Shown) (claims : List Record) (notices : List Notice)
+    → (z ≡ true → is_some o ≡ b) → IsTracked n ended (option_map stored_as o) h claims notices
+    → IsTracked (cond b (n + 1) n) ended (option_map stored_as (cond z None o)) h claims (notices ++ cond b (cond z (Gone ∷ []) []) [])
+deleted_by true true n ended o h claims notices there t = tracked-delete n ended (option_map stored_as o) h claims notices t
+deleted_by true false n ended o h claims notices there t =
+    subst (IsTracked (n + 1) ended (option_map stored_as o) h claims) (sym (append-nil notices)) (tracked-other n ended (option_map stored_as o) h claims notices t)
+deleted_by false true n ended None h claims notices there t = subst (IsTracked n ended None h claims) (sym (append-nil notices)) t
+deleted_by false true n ended (Some held) h claims notices there t = absurd (true≢false (there refl))
+deleted_by false false n ended o h claims notices there t = subst (IsTracked n ended (option_map stored_as o) h claims) (sym (append-nil notices)) t
 
 -- the world after a deletion, but for its core
 abbrev edited_world : Edit → WorldValue → Option State → WorldValue
@@ -90,8 +90,8 @@ module _ (w : WorldValue) (s : State) (key : Key) where
       tracked-as _ _ _ _
       (ap (option_map stored_as)
       (stored_at-with_stored w.store.objects new (service_at key) ∙ ap (λ (b : Bool). cond b (Some new) here) (here-same key service.key)))
-      refl refl (news_in-push key w.service_lane (Changed (w.store.counter + 1) (objects.Service kept)))
-      (set_by (same_key service.key key) w.store.counter s.held.services_ended here kept (held_of s key) (records_of key s.claims) (news_in key w.service_lane)
+      refl refl (notices_in-push key w.service_lane (Changed (w.store.counter + 1) (objects.Service kept)))
+      (set_by (same_key service.key key) w.store.counter s.held.services_ended here kept (held_of s key) (records_of key s.claims) (notices_in key w.service_lane)
       (λ same has. keeps has ∙ ap (λ (k : Key). kept_record (stored_at w.store.objects (service_at k))) (same_key-is service.key key same)) t)
 
   other-set : (object : Object) (holding : Record) → is_of (service_at key) (stored_with w.store object holding) ≡ false → same_group (group_of (kind_of object)) groups.Service ≡ false
@@ -101,8 +101,8 @@ module _ (w : WorldValue) (s : State) (key : Key) where
       (ap (option_map stored_as)
       (stored_at-with_stored w.store.objects (stored_with w.store object holding) (service_at key) ∙ ap (λ (b : Bool). cond b (Some (stored_with w.store object holding)) here) apart))
       refl refl
-      (ap (λ (b : Bool). news_in key (w.service_lane ++ cond b (as_shown (stored_with w.store object holding) ∷ []) [])) lane ∙ ap (news_in key) (append-nil w.service_lane))
-      (tracked-other w.store.counter s.held.services_ended (stored_of w.store key) (held_of s key) (records_of key s.claims) (news_in key w.service_lane) t)
+      (ap (λ (b : Bool). notices_in key (w.service_lane ++ cond b (as_shown (stored_with w.store object holding) ∷ []) [])) lane ∙ ap (notices_in key) (append-nil w.service_lane))
+      (tracked-other w.store.counter s.held.services_ended (stored_of w.store key) (held_of s key) (records_of key s.claims) (notices_in key w.service_lane) t)
 
   set-tracked : (object : Object) (holding : Record) → (is_assigned holding ≡ true → holding ≡ kept_record (stored_at w.store.objects (place_of object))) → IsTrackedIn w s key → IsTrackedSet object holding
   set-tracked (objects.Service service) holding keeps t = service-set service holding keeps t
@@ -115,9 +115,9 @@ module _ (w : WorldValue) (s : State) (key : Key) where
   set-tracked (objects.Node node) holding keeps t = other-set (objects.Node node) holding refl refl t
   set-tracked (objects.Slice slice) holding keeps t = other-set (objects.Slice slice) holding refl refl t
 
-  news_by : (b : Bool) (gone : Key) → news_in key (w.service_lane ++ cond b (Deleted kinds.Service gone ∷ []) []) ≡ news_in key w.service_lane ++ cond b (cond (same_key gone key) (Gone ∷ []) []) []
-  news_by true gone = news_in-push key w.service_lane (Deleted kinds.Service gone)
-  news_by false gone = ap (news_in key) (append-nil w.service_lane) ∙ sym (append-nil (news_in key w.service_lane))
+  notices_by : (b : Bool) (gone : Key) → notices_in key (w.service_lane ++ cond b (Deleted kinds.Service gone ∷ []) []) ≡ notices_in key w.service_lane ++ cond b (cond (same_key gone key) (Gone ∷ []) []) []
+  notices_by true gone = notices_in-push key w.service_lane (Deleted kinds.Service gone)
+  notices_by false gone = ap (notices_in key) (append-nil w.service_lane) ∙ sym (append-nil (notices_in key w.service_lane))
 
   service-deleted : (gone : Key) → IsAscending w.store.objects → IsTrackedIn w s key → IsTrackedAfter (Delete kinds.Service gone)
   service-deleted gone sorted t =
@@ -125,12 +125,12 @@ module _ (w : WorldValue) (s : State) (key : Key) where
       tracked-as _ _ _ _
       (ap (option_map stored_as)
       (stored_at-without_stored w.store.objects (service_at gone) (service_at key) sorted ∙ ap (λ (b : Bool). cond b None here) (is_eq-key_cmp gone key)))
-      refl refl (news_by there gone)
-      (deleted_by there (same_key gone key) w.store.counter s.held.services_ended here (held_of s key) (records_of key s.claims) (news_in key w.service_lane)
+      refl refl (notices_by there gone)
+      (deleted_by there (same_key gone key) w.store.counter s.held.services_ended here (held_of s key) (records_of key s.claims) (notices_in key w.service_lane)
       (λ same. ap (λ (k : Key). is_some (stored_at w.store.objects (service_at k))) (sym (same_key-is gone key same))) t)
 
-  counted_by : (b : Bool) → IsTrackedIn w s key → IsTracked (cond b (w.store.counter + 1) w.store.counter) s.held.services_ended (stored_of w.store key) (held_of s key) (records_of key s.claims) (news_in key w.service_lane)
-  counted_by true t = tracked-other w.store.counter s.held.services_ended (stored_of w.store key) (held_of s key) (records_of key s.claims) (news_in key w.service_lane) t
+  counted_by : (b : Bool) → IsTrackedIn w s key → IsTracked (cond b (w.store.counter + 1) w.store.counter) s.held.services_ended (stored_of w.store key) (held_of s key) (records_of key s.claims) (notices_in key w.service_lane)
+  counted_by true t = tracked-other w.store.counter s.held.services_ended (stored_of w.store key) (held_of s key) (records_of key s.claims) (notices_in key w.service_lane) t
   counted_by false t = t
 
   other-deleted : (kind : Kind) (gone : Key) → IsAscending w.store.objects → (let place : Place = (kind, gone) in is_eq (place_cmp place (service_at key)) ≡ false) → same_group (group_of kind) groups.Service ≡ false
@@ -140,7 +140,7 @@ module _ (w : WorldValue) (s : State) (key : Key) where
       (ap (option_map stored_as)
       (stored_at-without_stored w.store.objects (kind, gone) (service_at key) sorted ∙ ap (λ (b : Bool). cond b None here) apart))
       refl refl
-      (ap (λ (b : Bool). news_in key (w.service_lane ++ cond b (shown_edit (Delete kind gone) w.store) [])) lane ∙ ap (news_in key) (append-nil w.service_lane))
+      (ap (λ (b : Bool). notices_in key (w.service_lane ++ cond b (shown_edit (Delete kind gone) w.store) [])) lane ∙ ap (notices_in key) (append-nil w.service_lane))
       (counted_by (is_some (stored_at w.store.objects (kind, gone))) t)
 
   deleted-tracked : (kind : Kind) (gone : Key) → IsAscending w.store.objects → IsTrackedIn w s key → IsTrackedAfter (Delete kind gone)

@@ -25,8 +25,8 @@ use Rattle.core_rules.proofs.Runs.{core_holds_what_was_observed, took-out, heard
 use Rattle.core_laws.proofs.Expired.{expired_is_both}
 use Rattle.core_laws.proofs.Puts.{idle-queue}
 use Rattle.core_laws.specs.Shared.{AllShowTerms}
-use Rattle.world_rules.specs.Moves.{Move, Sets, Deletes, Tells, Takes, Turns, Stops, Starts, ConfigLapses, ServicesLapse, EndsLater, entries_taken, entries_put, entries_turned, entries_of, run_along, after_move, after_moves, begun}
-use Rattle.world_rules.specs.Explaining.{Act, Shown, Lapsed, Decided, Answered, shown_of, acts_of_event, acts_of_turn, acts_of_entry, acts_of, answered, puts_of_entry, puts_of, IsRunning, IsExplained, RunsAreSafeInWorlds}
+use Rattle.world_rules.specs.Moves.{Move, Sets, Deletes, Tells, Takes, Turns, Stops, Starts, ConfigExpires, ServicesExpire, EndsLater, entries_taken, entries_put, entries_turned, entries_of, run_along, after_move, after_moves, begun}
+use Rattle.world_rules.specs.Explaining.{Act, Shown, ListExpired, Decided, Answered, shown_of, acts_of_event, acts_of_turn, acts_of_entry, acts_of, answered, puts_of_entry, puts_of, IsRunning, IsExplained, RunsAreSafeInWorlds}
 use Rattle.world_rules.specs.Good.{IsGood}
 use Rattle.world_rules.proofs.Worlds.{starts_are_good, good-moves, safe-along}
 use Rattle.world_rules.proofs.Turns.{good-turn}
@@ -66,7 +66,7 @@ normal (entry ∷ earlier) = normal_entry entry ++ normal earlier
 -- what an entry of it is
 abbrev act_of : Entry → Act
 act_of (Took event) = Shown event
-act_of (Expired group) = Lapsed group
+act_of (Expired group) = ListExpired group
 act_of (Turned turn) = Decided
 act_of (Heard reply) = Answered reply
 
@@ -272,9 +272,9 @@ module _ (class : Option (List ℕ)) where
       (put-through (put_in (core_turn (core_after class run))) outcome w run refl g)
   move-through (Stops applied) w run r g = absurd r
   move-through (Starts list) w run r g = absurd r
-  move-through ConfigLapses w run r g =
+  move-through ConfigExpires w run r g =
       record { class_is = g.class_is; is = rw g.core (g.none, g.is); core = rw g.core refl; none = rw g.core g.none }
-  move-through (ServicesLapse list) w run r g =
+  move-through (ServicesExpire list) w run r g =
       record { class_is = g.class_is; is = rw g.core (g.none, g.is); core = rw g.core refl; none = rw g.core g.none }
   move-through (EndsLater before event behind) w run r g = record { class_is = g.class_is; is = g.is; core = g.core; none = g.none }
 
@@ -296,9 +296,9 @@ module _ (class : Option (List ℕ)) where
   none-out run is none = sym (core_holds_what_was_observed class run is).1 ∙ none
 
   -- no put is out
-  calm : (w : WorldValue) (along run : List Entry) → w.core ≡ Some (core_after class run) → puts_of along ≡ puts_of run → answered run ≡ run → IsSafe w.store → put_out run ≡ None
+  quiescent : (w : WorldValue) (along run : List Entry) → w.core ≡ Some (core_after class run) → puts_of along ≡ puts_of run → answered run ≡ run → IsSafe w.store → put_out run ≡ None
       → IsExplained class w along run
-  calm w along run core puts same safe none =
+  quiescent w along run core puts same safe none =
       record {
         puts = puts ∙ ap puts_of (sym same);
         core = λ out. core;
@@ -328,13 +328,13 @@ module _ (class : Option (List ℕ)) where
 
   explains : (w : WorldValue) (along run : List Entry) → IsRun class run → w.core ≡ Some (core_after class (answered run)) → puts_of along ≡ puts_of (answered run) → IsGood w
       → IsExplained class w along run
-  explains w along [] is core puts good = calm w along [] core puts refl good.stored.safe refl
-  explains w along (Took event ∷ earlier) is core puts good = calm w along (Took event ∷ earlier) core puts refl good.stored.safe (none-out earlier is.1 is.0)
-  explains w along (Expired group ∷ earlier) is core puts good = calm w along (Expired group ∷ earlier) core puts refl good.stored.safe (none-out earlier is.1 is.0)
-  explains w along (Turned Idle ∷ earlier) is core puts good = calm w along (Turned Idle ∷ earlier) core puts refl good.stored.safe refl
-  explains w along (Turned (NoPut key pending) ∷ earlier) is core puts good = calm w along (Turned (NoPut key pending) ∷ earlier) core puts refl good.stored.safe refl
+  explains w along [] is core puts good = quiescent w along [] core puts refl good.stored.safe refl
+  explains w along (Took event ∷ earlier) is core puts good = quiescent w along (Took event ∷ earlier) core puts refl good.stored.safe (none-out earlier is.1 is.0)
+  explains w along (Expired group ∷ earlier) is core puts good = quiescent w along (Expired group ∷ earlier) core puts refl good.stored.safe (none-out earlier is.1 is.0)
+  explains w along (Turned Idle ∷ earlier) is core puts good = quiescent w along (Turned Idle ∷ earlier) core puts refl good.stored.safe refl
+  explains w along (Turned (NoPut key pending) ∷ earlier) is core puts good = quiescent w along (Turned (NoPut key pending) ∷ earlier) core puts refl good.stored.safe refl
   explains w along (Turned (Wants put pending) ∷ earlier) is core puts good = about-put w along earlier put core puts good (Wants put pending) is.0.1 refl refl
-  explains w along (Heard reply ∷ earlier) is core puts good = calm w along (Heard reply ∷ earlier) core puts refl good.stored.safe refl
+  explains w along (Heard reply ∷ earlier) is core puts good = quiescent w along (Heard reply ∷ earlier) core puts refl good.stored.safe refl
 
 -- ---- what was shown had terms, and has them without what is passed over
 terms-event : (event : Event) (more : List Entry) → AllShowTerms (Took event ∷ more) → AllShowTerms (normal_event event ++ more)

@@ -21,14 +21,14 @@ use Rattle.status_store.specs.declared.stored.Stored.{Stored}
 use Rattle.status_store.specs.Places.{Place, place_of, place_cmp, service_at}
 use Rattle.status_store.specs.Objects.{IsAscending, AreCounted, places_of, is_of, stored_at}
 use Rattle.status_store.specs.Changes.{StoreValue}
-use Rattle.world_rules.specs.Sight.{Shown, News, Shows, End, IsBehind, IsTracked, version_at}
+use Rattle.world_rules.specs.Tracked.{Shown, Notice, Shows, End, IsBehind, IsTracked, version_at}
 use Rattle.world_rules.specs.Safe.{HasTerms}
 use Rattle.world_rules.specs.Moves.{InAnyOrder, IsListOf}
 use Rattle.world_rules.specs.declared.step.ListOrder.{ListOrder}
 use Rattle.world_rules.specs.declared.step.ListOrder.TheVariants.{Ascending, Descending}
 use Rattle.world_rules.specs.World.{as_shown, is_of_group, in_order, listing, to_lane}
-use Rattle.world_rules.specs.Good.{stored_as, stored_of, news_of, news_in, IsOfGroup, ShowsTerms}
-use Rattle.world_rules.proofs.Tracking.{listed_news}
+use Rattle.world_rules.specs.Good.{stored_as, stored_of, notices_of, notices_in, IsOfGroup, ShowsTerms}
+use Rattle.world_rules.proofs.Tracking.{listed_notices}
 
 -- what holds of all of two lists holds of all of both together
 pub all-append : {X : Type 0} (P : X → Type 0) (xs ys : List X) → AllByRecursion P xs → AllByRecursion P ys → AllByRecursion P (xs ++ ys)
@@ -49,23 +49,23 @@ all-either true P xs ys all others = all
 all-either false P xs ys all others = others
 
 -- ---- what is pending of a service
-pub news_in-append : (key : Key) (xs ys : List Event) → news_in key (xs ++ ys) ≡ news_in key xs ++ news_in key ys
-news_in-append key [] ys = refl
-news_in-append key (x ∷ xs) ys =
-    ap (λ (ns : List News). news_of key x ++ ns) (news_in-append key xs ys) ∙ sym (append_assoc (news_of key x) (news_in key xs) (news_in key ys))
+pub notices_in-append : (key : Key) (xs ys : List Event) → notices_in key (xs ++ ys) ≡ notices_in key xs ++ notices_in key ys
+notices_in-append key [] ys = refl
+notices_in-append key (x ∷ xs) ys =
+    ap (λ (ns : List Notice). notices_of key x ++ ns) (notices_in-append key xs ys) ∙ sym (append_assoc (notices_of key x) (notices_in key xs) (notices_in key ys))
 
 -- one event more
-pub news_in-push : (key : Key) (xs : List Event) (x : Event) → news_in key (xs ++ x ∷ []) ≡ news_in key xs ++ news_of key x
-news_in-push key xs x = news_in-append key xs (x ∷ []) ∙ ap (λ (ns : List News). news_in key xs ++ ns) (append-nil (news_of key x))
+pub notices_in-push : (key : Key) (xs : List Event) (x : Event) → notices_in key (xs ++ x ∷ []) ≡ notices_in key xs ++ notices_of key x
+notices_in-push key xs x = notices_in-append key xs (x ∷ []) ∙ ap (λ (ns : List Notice). notices_in key xs ++ ns) (append-nil (notices_of key x))
 
 -- one that is followed is followed in other words
-pub tracked-as : {n : ℕ} {ended : Bool} {s h : Option Shown} {claims : List Record} {news : List News} (s' h' : Option Shown) (claims' : List Record) (news' : List News)
-    → s' ≡ s → h' ≡ h → claims' ≡ claims → news' ≡ news → IsTracked n ended s h claims news → IsTracked n ended s' h' claims' news'
-tracked-as {n} {ended} {s} {h} {claims} {news} s' h' claims' news' a b c d t =
-    subst (λ (x : Option Shown). IsTracked n ended x h' claims' news') (sym a)
-    (subst (λ (x : Option Shown). IsTracked n ended s x claims' news') (sym b)
-    (subst (λ (x : List Record). IsTracked n ended s h x news') (sym c)
-    (subst (λ (x : List News). IsTracked n ended s h claims x) (sym d) t)))
+pub tracked-as : {n : ℕ} {ended : Bool} {s h : Option Shown} {claims : List Record} {notices : List Notice} (s' h' : Option Shown) (claims' : List Record) (notices' : List Notice)
+    → s' ≡ s → h' ≡ h → claims' ≡ claims → notices' ≡ notices → IsTracked n ended s h claims notices → IsTracked n ended s' h' claims' notices'
+tracked-as {n} {ended} {s} {h} {claims} {notices} s' h' claims' notices' a b c d t =
+    subst (λ (x : Option Shown). IsTracked n ended x h' claims' notices') (sym a)
+    (subst (λ (x : Option Shown). IsTracked n ended s x claims' notices') (sym b)
+    (subst (λ (x : List Record). IsTracked n ended s h x notices') (sym c)
+    (subst (λ (x : List Notice). IsTracked n ended s h claims x) (sym d) t)))
 
 -- ---- what is stored of a service, and what its list shows
 counted_by : (b : Bool) (n : ℕ) (held : Stored) (rest : Option Stored) → (1 ≤ held.version) × (held.version ≤ n)
@@ -87,20 +87,20 @@ none-later (held ∷ more) place all =
     let other : is_of place held ≡ false = ap is_eq all.0 in
     ap (λ (b : Bool). cond b (Some held) (stored_at more place)) other ∙ none-later more place all.1
 
-abbrev one_news : Option Stored → List News
-one_news None = []
-one_news (Some held) = Shows (stored_as held) ∷ []
+abbrev one_notice : Option Stored → List Notice
+one_notice None = []
+one_notice (Some held) = Shows (stored_as held) ∷ []
 
 abbrev shows_each : List Stored → List Event
 shows_each held = map as_shown (filter (is_of_group groups.Service) held)
 
 -- the service itself, or another
 listed_by : (b : Bool) (version : ℕ) (service : Service) (more : List Stored) (key : Key) → b ≡ same_key service.key key
-    → (b ≡ true → stored_at more (service_at key) ≡ None) → news_in key (shows_each more) ≡ one_news (stored_at more (service_at key))
-    → cond b (Shows (record { version = version; holding = service.holding }) ∷ []) [] ++ news_in key (shows_each more)
-    ≡ one_news (cond b (Some (record { version = version; object = objects.Service service })) (stored_at more (service_at key)))
+    → (b ≡ true → stored_at more (service_at key) ≡ None) → notices_in key (shows_each more) ≡ one_notice (stored_at more (service_at key))
+    → cond b (Shows (record { version = version; holding = service.holding }) ∷ []) [] ++ notices_in key (shows_each more)
+    ≡ one_notice (cond b (Some (record { version = version; object = objects.Service service })) (stored_at more (service_at key)))
 listed_by true version service more key e none ih =
-    ap (λ (ns : List News). Shows (record { version = version; holding = service.holding }) ∷ ns) (ih ∙ ap one_news (none refl))
+    ap (λ (ns : List Notice). Shows (record { version = version; holding = service.holding }) ∷ ns) (ih ∙ ap one_notice (none refl))
 listed_by false version service more key e none ih = ih
 
 pub here-same : (key other : Key) → is_eq (key_cmp key other) ≡ same_key other key
@@ -108,13 +108,13 @@ here-same key other = is_eq-key_cmp key other ∙ same_key-flip key other
 
 listed-object : (object : Object) (version : ℕ) (more : List Stored) (key : Key)
     → AllByRecursion (λ other. place_cmp (place_of object) other ≡ Less) (places_of more)
-    → news_in key (shows_each more) ≡ one_news (stored_at more (service_at key))
-    → (let held : Stored = record { version = version; object = object } in news_in key (shows_each (held ∷ more)) ≡ one_news (stored_at (held ∷ more) (service_at key)))
+    → notices_in key (shows_each more) ≡ one_notice (stored_at more (service_at key))
+    → (let held : Stored = record { version = version; object = object } in notices_in key (shows_each (held ∷ more)) ≡ one_notice (stored_at (held ∷ more) (service_at key)))
 listed-object (objects.Service service) version more key below ih =
     let held : Stored = record { version = version; object = objects.Service service } in
     listed_by (same_key service.key key) version service more key refl
     (λ same. none-later more (service_at key) (subst (λ k. AllByRecursion (λ other. place_cmp (service_at k) other ≡ Less) (places_of more)) (same_key-is service.key key same) below)) ih
-    ∙ ap (λ (b : Bool). one_news (cond b (Some held) (stored_at more (service_at key)))) (sym (here-same key service.key))
+    ∙ ap (λ (b : Bool). one_notice (cond b (Some held) (stored_at more (service_at key)))) (sym (here-same key service.key))
 listed-object (objects.Pool pool) version more key below ih = ih
 listed-object (objects.L2 adv) version more key below ih = ih
 listed-object (objects.Bgp adv) version more key below ih = ih
@@ -124,12 +124,12 @@ listed-object (objects.Namespace namespace) version more key below ih = ih
 listed-object (objects.Node node) version more key below ih = ih
 listed-object (objects.Slice slice) version more key below ih = ih
 
-news-shown : (held : List Stored) (key : Key) → IsAscending held → news_in key (shows_each held) ≡ one_news (stored_at held (service_at key))
+notices-shown : (held : List Stored) (key : Key) → IsAscending held → notices_in key (shows_each held) ≡ one_notice (stored_at held (service_at key))
 unfolding IsStrictlySortedBy
-news-shown [] key s = refl
-news-shown (held ∷ more) key s = listed-object held.object held.version more key s.0 (news-shown more key s.1)
+notices-shown [] key s = refl
+notices-shown (held ∷ more) key s = listed-object held.object held.version more key s.0 (notices-shown more key s.1)
 
-ended_list : (found : Option Stored) → one_news found ++ End ∷ [] ≡ listed_news (option_map stored_as found)
+ended_list : (found : Option Stored) → one_notice found ++ End ∷ [] ≡ listed_notices (option_map stored_as found)
 ended_list None = refl
 ended_list (Some held) = refl
 
@@ -200,49 +200,49 @@ of-lane lane group events all = to_by (same_group group lane) lane group events 
 pub all-lane : (P : Event → Type 0) (lane group : Group) (events : List Event) → AllByRecursion P events → AllByRecursion P (to_lane lane group events)
 all-lane P lane group events all = all-either (same_group group lane) P events [] all tt
 
--- ---- the news of a list in any order
--- at most one piece of news
-abbrev AtMostOne : List News → Type 0
-AtMostOne ns = (ns ≡ []) ⊎ ((n : News) × (ns ≡ n ∷ []))
+-- ---- the notices of a list in any order
+-- at most one notice
+abbrev AtMostOne : List Notice → Type 0
+AtMostOne ns = (ns ≡ []) ⊎ ((n : Notice) × (ns ≡ n ∷ []))
 
-none-after : (n : News) (ns more : List News) → AtMostOne ((n ∷ ns) ++ more) → (ns ≡ []) × (more ≡ [])
+none-after : (n : Notice) (ns more : List Notice) → AtMostOne ((n ∷ ns) ++ more) → (ns ≡ []) × (more ≡ [])
 none-after n [] more (inl none) = absurd (cc)
 none-after n [] more (inr one) = (refl, (let e : n ∷ more ≡ one.0 ∷ [] = one.1 in cc))
 none-after n (m ∷ ns) more (inl none) = absurd (cc)
 none-after n (m ∷ ns) more (inr one) = let e : n ∷ m ∷ (ns ++ more) ≡ one.0 ∷ [] = one.1 in absurd (cc)
 
--- one piece of news stands anywhere among none
-among : (here more xs ys : List News) → AtMostOne (here ++ more) → xs ++ ys ≡ more → xs ++ (here ++ ys) ≡ here ++ more
+-- one notice stands anywhere among none
+among : (here more xs ys : List Notice) → AtMostOne (here ++ more) → xs ++ ys ≡ more → xs ++ (here ++ ys) ≡ here ++ more
 among [] more xs ys one is = is
-among (n ∷ ns) more [] ys one is = ap (λ (z : List News). n ∷ (ns ++ z)) is
+among (n ∷ ns) more [] ys one is = ap (λ (z : List Notice). n ∷ (ns ++ z)) is
 among (n ∷ ns) more (x ∷ xs) ys one is =
     let none : x ∷ (xs ++ ys) ≡ [] = is ∙ (none-after n ns more one).1 in
     absurd (cc)
 
-later-one : (here more : List News) → AtMostOne (here ++ more) → AtMostOne more
+later-one : (here more : List Notice) → AtMostOne (here ++ more) → AtMostOne more
 later-one [] more one = one
 later-one (n ∷ ns) more one = inl (none-after n ns more one).1
 
-news-any : (key : Key) (events lane : List Event) → InAnyOrder events lane → AtMostOne (news_in key events) → news_in key lane ≡ news_in key events
-news-any key [] lane is one = ap (news_in key) is
-news-any key (event ∷ more) lane is one =
-    ap (news_in key) is.2
-    ∙ news_in-append key is.0 (event ∷ is.1)
-    ∙ among (news_of key event) (news_in key more) (news_in key is.0) (news_in key is.1) one
-    (sym (news_in-append key is.0 is.1) ∙ news-any key more (is.0 ++ is.1) is.3 (later-one (news_of key event) (news_in key more) one))
+notices-any : (key : Key) (events lane : List Event) → InAnyOrder events lane → AtMostOne (notices_in key events) → notices_in key lane ≡ notices_in key events
+notices-any key [] lane is one = ap (notices_in key) is
+notices-any key (event ∷ more) lane is one =
+    ap (notices_in key) is.2
+    ∙ notices_in-append key is.0 (event ∷ is.1)
+    ∙ among (notices_of key event) (notices_in key more) (notices_in key is.0) (notices_in key is.1) one
+    (sym (notices_in-append key is.0 is.1) ∙ notices-any key more (is.0 ++ is.1) is.3 (later-one (notices_of key event) (notices_in key more) one))
 
-one-at-most : (found : Option Stored) → AtMostOne (one_news found)
+one-at-most : (found : Option Stored) → AtMostOne (one_notice found)
 one-at-most None = inl refl
 one-at-most (Some held) = inr (Shows (stored_as held), refl)
 
 -- a list of the services shows each as it is stored, and ends
-pub news-list : (store : StoreValue) (list : List Event) (key : Key) → IsAscending store.objects → IsListOf store list → news_in key list ≡ listed_news (stored_of store key)
-news-list store list key s listed =
-    ap (news_in key) listed.1
-    ∙ news_in-push key listed.0 (ListEnd groups.Service)
-    ∙ ap (λ (ns : List News). ns ++ End ∷ [])
-    (news-any key (shows_each store.objects) listed.0 listed.2 (subst AtMostOne (sym (news-shown store.objects key s)) (one-at-most (stored_at store.objects (service_at key))))
-    ∙ news-shown store.objects key s)
+pub notices-list : (store : StoreValue) (list : List Event) (key : Key) → IsAscending store.objects → IsListOf store list → notices_in key list ≡ listed_notices (stored_of store key)
+notices-list store list key s listed =
+    ap (notices_in key) listed.1
+    ∙ notices_in-push key listed.0 (ListEnd groups.Service)
+    ∙ ap (λ (ns : List Notice). ns ++ End ∷ [])
+    (notices-any key (shows_each store.objects) listed.0 listed.2 (subst AtMostOne (sym (notices-shown store.objects key s)) (one-at-most (stored_at store.objects (service_at key))))
+    ∙ notices-shown store.objects key s)
     ∙ ended_list (stored_at store.objects (service_at key))
 
 pub of-list : (store : StoreValue) (list : List Event) → IsListOf store list → AllByRecursion (IsOfGroup groups.Service) list

@@ -1,4 +1,4 @@
-pub mod Sights
+pub mod Following
 pub mod Tracking
 pub mod Lanes
 pub mod Later

@@ -27,13 +27,13 @@ use Rattle.status_store.specs.Changes.{StoreValue, empty_store, kept_record, rec
 use Rattle.status_store.proofs.ChangeLaws.{place_of-with_record}
 use Rattle.status_store.proofs.StoredLaws.{found-stored}
 use Rattle.core_rules.specs.Core.{State}
-use Rattle.core_rules.specs.Take.{concern}
+use Rattle.core_rules.specs.Take.{effect_of}
 use Rattle.core_rules.specs.Turn.{core_turn, after_turn, put_in}
 use Rattle.core_rules.specs.Replied.{replied_to}
 use Rattle.core_rules.specs.Run.{Turned}
-use Rattle.core_rules.proofs.Concerns.{by_concern}
+use Rattle.core_rules.proofs.Effects.{by_effect}
 use Rattle.core_rules.specs.declared.turn.Turn.{Turn}
-use Rattle.core_laws.specs.Shown.{OfConcern}
+use Rattle.core_laws.specs.Shown.{OfEffect}
 use Rattle.core_laws.specs.Shared.{AllShowTerms}
 use Rattle.sharing_terms.specs.Marked.{AreTerms}
 use Rattle.sharing_terms.specs.Terms.{terms_of}
@@ -42,10 +42,10 @@ use Rattle.world_rules.specs.declared.step.ListOrder.TheVariants.{Ascending}
 use Rattle.world_rules.specs.declared.step.Step.TheVariants.{Edit as Edits, Take, Turn as Turns, Crash, Restart, Expire}
 use Rattle.world_rules.specs.Good.{IsOfGroup, ShowsTerms, ConfigEnds, IsFollowed, IsGood, IsOwn}
 use Rattle.world_rules.specs.Laws.{StartsAreOwn, StepsAreMoves, StepsKeepOwn, StoresHaveTerms}
-use Rattle.world_rules.specs.Moves.{Move, Sets, Deletes, Tells, Takes, Stops, Starts, ConfigLapses, ServicesLapse, IsStep, entries_taken, entries_put, entries_turned, entries_lapsed, after_start, relisted, but_config, begun}
+use Rattle.world_rules.specs.Moves.{Move, Sets, Deletes, Tells, Takes, Stops, Starts, ConfigExpires, ServicesExpire, IsStep, entries_taken, entries_put, entries_turned, entries_expired, after_start, relisted, but_config, begun}
 use Rattle.world_rules.specs.Moves.{Turns as Makes}
 use Rattle.world_rules.specs.Safe.{HasTerms, SetsTerms}
-use Rattle.world_rules.specs.World.{WorldValue, as_shown, listing, shown_edit, shown_stored, shown_put, while_up, to_lane, told, untold, after_edit, after_take, turned, after_turning, next_put, reached, after_crash, restarted, lapsed, listed_anew, after_expiry, store_of, with_object, records_store}
+use Rattle.world_rules.specs.World.{WorldValue, as_shown, listing, shown_edit, shown_stored, shown_put, while_up, to_lane, told, untold, after_edit, after_take, turned, after_turning, next_put, reached, after_crash, restarted, expired_core, listed_anew, after_expiry, store_of, with_object, records_store}
 use Rattle.world_rules.proofs.ConfigEnds.{ends-edited, ends-taken, config-ended, config-unended, ends-listing, ends-expired}
 use Rattle.world_rules.proofs.Lanes.{all-append, all-either, of-lane, all-lane, of-listing, typed-listing, listing-list}
 use Rattle.world_rules.proofs.Worlds.{starts_are_good, good-else}
@@ -55,12 +55,12 @@ use Rattle.world_rules.proofs.Storing.{AreTyped, typed-record, typed-with_stored
 abbrev Typed : Key → Service → Type 0
 Typed key service = AreTerms (terms_of service)
 
-shown-typed : (event : Event) → ShowsTerms event → OfConcern Typed (concern event)
-shown-typed = by_concern (λ event c. ShowsTerms event → OfConcern Typed c) (λ version service t. t) (λ key t. tt) (λ t. tt) (λ event c t. tt) (λ t. tt) (λ event t. tt)
+shown-typed : (event : Event) → ShowsTerms event → OfEffect Typed (effect_of event)
+shown-typed = by_effect (λ event c. ShowsTerms event → OfEffect Typed c) (λ version service t. t) (λ key t. tt) (λ t. tt) (λ event c t. tt) (λ t. tt) (λ event t. tt)
 
 -- no event of the configuration shows a service
-config-typed : (event : Event) → IsOfGroup groups.Config event → OfConcern Typed (concern event)
-config-typed = by_concern (λ event c. IsOfGroup groups.Config event → OfConcern Typed c) (λ version service of. absurd (cc)) (λ key of. tt) (λ of. tt) (λ event c of. tt) (λ of. tt) (λ event of. tt)
+config-typed : (event : Event) → IsOfGroup groups.Config event → OfEffect Typed (effect_of event)
+config-typed = by_effect (λ event c. IsOfGroup groups.Config event → OfEffect Typed c) (λ version service of. absurd (cc)) (λ key of. tt) (λ of. tt) (λ event c of. tt) (λ of. tt) (λ event of. tt)
 
 taken-typed : (c : Option State) (lane : List Event) → AllByRecursion ShowsTerms lane → AllShowTerms (entries_taken c lane)
 taken-typed None lane all = tt
@@ -75,9 +75,9 @@ turned-typed : (c : Option State) (outcome : Outcome) (store : StoreValue) → A
 turned-typed None outcome store = tt
 turned-typed (Some s) outcome store = put-entries (put_in (core_turn s)) (core_turn s) outcome store
 
-lapsed-typed : (c : Option State) (group : Group) → AllShowTerms (entries_lapsed c group)
-lapsed-typed None group = tt
-lapsed-typed (Some s) group = (tt, tt)
+expired_core-typed : (c : Option State) (group : Group) → AllShowTerms (entries_expired c group)
+expired_core-typed None group = tt
+expired_core-typed (Some s) group = (tt, tt)
 
 -- ---- steps are moves
 config_taken : (class : Option (List ℕ)) (store : StoreValue) (config services : List Event) (c : Option State) → c ≢ None → config ≢ [] → AllByRecursion (IsOfGroup groups.Config) config
@@ -95,16 +95,16 @@ abbrev expired_by : Group → ListOrder → Option State → WorldValue → Worl
 expired_by group order c w = record w {
   config_lane = listed_anew order groups.Config group w.store c w.config_lane;
   service_lane = listed_anew order groups.Service group w.store c w.service_lane;
-  core = lapsed group c;
+  core = expired_core group c;
 }
 
 config_leads : (order : ListOrder) (c : Option State) (w : WorldValue)
-    → (let v : WorldValue = record w { core = lapsed groups.Config c } in but_config (expired_by groups.Config order c w) ≡ but_config v)
+    → (let v : WorldValue = record w { core = expired_core groups.Config c } in but_config (expired_by groups.Config order c w) ≡ but_config v)
 config_leads order None w = refl
 config_leads order (Some s) w = refl
 
 services_lead : (order : ListOrder) (c : Option State) (w : WorldValue)
-    → (let v : WorldValue = record w { service_lane = relisted c (listing order groups.Service w.store) w.service_lane; core = lapsed groups.Service c } in but_config (expired_by groups.Service order c w) ≡ but_config v)
+    → (let v : WorldValue = record w { service_lane = relisted c (listing order groups.Service w.store) w.service_lane; core = expired_core groups.Service c } in but_config (expired_by groups.Service order c w) ≡ but_config v)
 services_lead order None w = refl
 services_lead order (Some s) w = refl
 
@@ -148,10 +148,10 @@ steps_are_moves w (Turns outcome) enabled own = (Makes outcome, record { may = t
 steps_are_moves w (Crash applied) enabled own = (Stops applied, record { may = tt; typed = tt; leads = refl })
 steps_are_moves w (Restart order) enabled own =
     (Starts (listing order groups.Service w.store), record { may = listing-list order w.store; typed = tt; leads = restart_leads order w.core w })
-steps_are_moves w (Expire groups.Config order) enabled own = (ConfigLapses, record { may = tt; typed = lapsed-typed w.core groups.Config; leads = config_leads order w.core w })
+steps_are_moves w (Expire groups.Config order) enabled own = (ConfigExpires, record { may = tt; typed = expired_core-typed w.core groups.Config; leads = config_leads order w.core w })
 steps_are_moves w (Expire groups.Service order) enabled own = (
-  ServicesLapse (listing order groups.Service w.store),
-  record { may = listing-list order w.store; typed = lapsed-typed w.core groups.Service; leads = services_lead order w.core w },
+  ServicesExpire (listing order groups.Service w.store),
+  record { may = listing-list order w.store; typed = expired_core-typed w.core groups.Service; leads = services_lead order w.core w },
 )
 steps_are_moves w (Expire groups.Endpoint order) enabled own = absurd (enabled.1 refl)
 
@@ -299,7 +299,7 @@ anew-all P order lane group store None pending list all = all
 anew-all P order lane group store (Some s) pending list all = all-either (same_group group lane) P (listing order lane store) pending list all
 
 expiry_ends : (order : ListOrder) (c : Option State) (group : Group) (store : StoreValue) (lane : List Event) → IfSome c (λ s. ConfigEnds s.held.config_ended lane)
-    → IfSome (lapsed group c) (λ s. ConfigEnds s.held.config_ended (listed_anew order groups.Config group store c lane))
+    → IfSome (expired_core group c) (λ s. ConfigEnds s.held.config_ended (listed_anew order groups.Config group store c lane))
 expiry_ends order None group store lane ends = tt
 expiry_ends order (Some s) group store lane ends = ends-expired (same_group group groups.Config) s.held.config_ended order store lane ends
 

@@ -26,14 +26,14 @@ use Rattle.core_laws.specs.Queue.{IsOrderlyQueue}
 use Rattle.core_laws.specs.Quiet.{IsQuiet}
 use Rattle.core_laws.proofs.Queued.{queues_are_orderly}
 use Rattle.core_laws.proofs.QuietRuns.{runs_are_quiet}
-use Rattle.world_rules.specs.Sight.{Shown, News, Shows, Gone, End, version_at, IsBare, has_gone, IsJust, IsCarried, Follows, IsClaimed, WillBeClaimed, EndsOnce, IsTracked}
-use Rattle.world_rules.specs.Good.{ends_config, NoneEnds, OneEnds, ConfigEnds, stored_as, stored_of, held_as, held_of, news_of, news_in, IsFollowed, IsGoodStore}
-use Rattle.world_rules.specs.Invariant.{IsHeld, IsPending, shows_service, deletes_service, ends_services, IsNewer, IsBareIn, IsAsShown, IsLive, AreCounted, StoredAreClaimed, WillBeShown, StoredAreListed, HeldAreCurrent, LiveAreStored, DeletedAreBare, HeldAreClaimed, IsCalm, AreInOrder, WillBeShownAt, UnheldAreShown, EndsOnceIn, WillBeListed, UnlistedAreShown, IsInOrder}
+use Rattle.world_rules.specs.Tracked.{Shown, Notice, Shows, Gone, End, version_at, IsBare, has_gone, IsJust, IsCarried, Follows, IsClaimed, WillBeClaimed, EndsOnce, IsTracked}
+use Rattle.world_rules.specs.Good.{ends_config, NoneEnds, OneEnds, ConfigEnds, stored_as, stored_of, held_as, held_of, notices_of, notices_in, IsFollowed, IsGoodStore}
+use Rattle.world_rules.specs.Invariant.{IsHeld, IsPending, shows_service, deletes_service, ends_services, IsNewer, IsBareIn, IsAsShown, IsLive, AreCounted, StoredAreClaimed, WillBeShown, StoredAreListed, HeldAreCurrent, LiveAreStored, DeletedAreBare, HeldAreClaimed, IsQuiescent, AreInOrder, WillBeShownAt, UnheldAreShown, EndsOnceIn, WillBeListed, UnlistedAreShown, IsInOrder}
 use Rattle.world_rules.specs.Laws.{WorldsAreInOrder, OwnEndsOnce}
 use Rattle.world_rules.specs.Safe.{IsRecorded}
 use Rattle.world_rules.specs.World.{WorldValue}
-use Rattle.world_rules.proofs.Lanes.{news_in-append}
-use Rattle.world_rules.proofs.Sights.{Follows-old}
+use Rattle.world_rules.proofs.Lanes.{notices_in-append}
+use Rattle.world_rules.proofs.Following.{Follows-old}
 use Rattle.world_rules.proofs.Rows.{has_end, held-up_to, pending-up_to, gone-bare, pending-behind, given-above, old-shows, current-stays, live-carried, IsListed, claimed-or-listed, IsComing, IsHeldAt, held-or-coming, IsBeforeEnd, unlisted-shown}
 use Rattle.world_rules.proofs.ClaimRecords.{records-there}
 use Rattle.core_laws.specs.Claimed.{IsClaimedAs}
@@ -46,28 +46,28 @@ pub record ShowsIt (key : Key) (event : Event) : Type 0 where
   pub service : Service
   pub is : event ≡ shows_service version service
   pub of_key : service.key ≡ key
-  pub news : news_of key event ≡ Shows (record { version = version; holding = service.holding }) ∷ []
+  pub notices : notices_of key event ≡ Shows (record { version = version; holding = service.holding }) ∷ []
 
 -- It deletes the service, or it ends the list.
 pub record DeletesIt (key : Key) (event : Event) : Type 0 where
   pub is : event ≡ deletes_service key
-  pub news : news_of key event ≡ Gone ∷ []
+  pub notices : notices_of key event ≡ Gone ∷ []
 
 pub record EndsIt (key : Key) (event : Event) : Type 0 where
   pub is : event ≡ ends_services
-  pub news : news_of key event ≡ End ∷ []
+  pub notices : notices_of key event ≡ End ∷ []
 
 -- Nothing, and neither of the last two.
 pub record IsOther (key : Key) (event : Event) : Type 0 where
   pub kept : event ≢ deletes_service key
   pub goes_on : event ≢ ends_services
-  pub news : news_of key event ≡ []
+  pub notices : notices_of key event ≡ []
 
 abbrev pub IsOne : Key → Event → Type 0
 IsOne key event = ShowsIt key event ⊎ DeletesIt key event ⊎ EndsIt key event ⊎ IsOther key event
 
-nothing : (key : Key) (event : Event) → event ≢ deletes_service key → event ≢ ends_services → news_of key event ≡ [] → IsOne key event
-nothing key event kept goes_on news = inr (inr (inr (record { kept = kept; goes_on = goes_on; news = news })))
+nothing : (key : Key) (event : Event) → event ≢ deletes_service key → event ≢ ends_services → notices_of key event ≡ [] → IsOne key event
+nothing key event kept goes_on notices = inr (inr (inr (record { kept = kept; goes_on = goes_on; notices = notices })))
 
 one-shown : (b : Bool) (key : Key) (version : ℕ) (service : Service) → b ≡ same_key service.key key → IsOne key (shows_service version service)
 one-shown true key version service e =
@@ -76,12 +76,12 @@ one-shown true key version service e =
       service = service;
       is = refl;
       of_key = same_key-is service.key key (sym e);
-      news = rw (← e) refl;
+      notices = rw (← e) refl;
     })
 one-shown false key version service e = nothing key (shows_service version service) (λ no. absurd (cc no)) (λ no. absurd (cc no)) (rw (← e) refl)
 
 one-deleted : (b : Bool) (key other : Key) → b ≡ same_key other key → IsOne key (deletes_service other)
-one-deleted true key other e = inr (inl (record { is = ap deletes_service (same_key-is other key (sym e)); news = rw (← e) refl }))
+one-deleted true key other e = inr (inl (record { is = ap deletes_service (same_key-is other key (sym e)); notices = rw (← e) refl }))
 one-deleted false key other e =
     nothing key (deletes_service other) (λ same. let is : other ≡ key = cc same in true≢false (sym (same_key-by other key is) ∙ sym e)) (λ no. absurd (cc no)) (rw (← e) refl)
 
@@ -104,7 +104,7 @@ one-is key (Deleted kinds.Community other) = nothing key (Deleted kinds.Communit
 one-is key (Deleted kinds.Namespace other) = nothing key (Deleted kinds.Namespace other) (λ no. absurd (cc no)) (λ no. absurd (cc no)) refl
 one-is key (Deleted kinds.Node other) = nothing key (Deleted kinds.Node other) (λ no. absurd (cc no)) (λ no. absurd (cc no)) refl
 one-is key (Deleted kinds.Slice other) = nothing key (Deleted kinds.Slice other) (λ no. absurd (cc no)) (λ no. absurd (cc no)) refl
-one-is key (ListEnd groups.Service) = inr (inr (inl (record { is = refl; news = refl })))
+one-is key (ListEnd groups.Service) = inr (inr (inl (record { is = refl; notices = refl })))
 one-is key (ListEnd groups.Config) = nothing key (ListEnd groups.Config) (λ no. absurd (cc no)) (λ no. absurd (cc no)) refl
 one-is key (ListEnd groups.Endpoint) = nothing key (ListEnd groups.Endpoint) (λ no. absurd (cc no)) (λ no. absurd (cc no)) refl
 one-is key Expired = nothing key Expired (λ no. absurd (cc no)) (λ no. absurd (cc no)) refl
@@ -113,35 +113,35 @@ one-is key (Frame interface bytes) = nothing key (Frame interface bytes) (λ no.
 one-is key Ignored = nothing key Ignored (λ no. absurd (cc no)) (λ no. absurd (cc no)) refl
 
 -- ---- the lane of a service
-abbrev as_news : ℕ → Service → Shown
-as_news version service = record { version = version; holding = service.holding }
+abbrev as_notices : ℕ → Service → Shown
+as_notices version service = record { version = version; holding = service.holding }
 
--- where an event shows the service, its news stands there
-news-shows : (key : Key) (version : ℕ) (service : Service) (before behind : List Event) → service.key ≡ key
-    → news_in key (before ++ shows_service version service ∷ behind) ≡ news_in key before ++ Shows (as_news version service) ∷ news_in key behind
-news-shows key version service before behind e =
-    news_in-append key before (shows_service version service ∷ behind)
-    ∙ ap (λ b. news_in key before ++ (cond b (Shows (as_news version service) ∷ []) [] ++ news_in key behind)) (same_key-by service.key key e)
+-- where an event shows the service, its notice stands there
+notices-shows : (key : Key) (version : ℕ) (service : Service) (before behind : List Event) → service.key ≡ key
+    → notices_in key (before ++ shows_service version service ∷ behind) ≡ notices_in key before ++ Shows (as_notices version service) ∷ notices_in key behind
+notices-shows key version service before behind e =
+    notices_in-append key before (shows_service version service ∷ behind)
+    ∙ ap (λ b. notices_in key before ++ (cond b (Shows (as_notices version service) ∷ []) [] ++ notices_in key behind)) (same_key-by service.key key e)
 
-news-gone : (key : Key) (before behind : List Event) → news_in key (before ++ deletes_service key ∷ behind) ≡ news_in key before ++ Gone ∷ news_in key behind
-news-gone key before behind =
-    news_in-append key before (deletes_service key ∷ behind)
-    ∙ ap (λ b. news_in key before ++ (cond b (Gone ∷ []) [] ++ news_in key behind)) (same_key-itself key)
+notices-gone : (key : Key) (before behind : List Event) → notices_in key (before ++ deletes_service key ∷ behind) ≡ notices_in key before ++ Gone ∷ notices_in key behind
+notices-gone key before behind =
+    notices_in-append key before (deletes_service key ∷ behind)
+    ∙ ap (λ b. notices_in key before ++ (cond b (Gone ∷ []) [] ++ notices_in key behind)) (same_key-itself key)
 
-news-ends : (key : Key) (before behind : List Event) → news_in key (before ++ ends_services ∷ behind) ≡ news_in key before ++ End ∷ news_in key behind
-news-ends key before behind = news_in-append key before (ends_services ∷ behind)
+notices-ends : (key : Key) (before behind : List Event) → notices_in key (before ++ ends_services ∷ behind) ≡ notices_in key before ++ End ∷ notices_in key behind
+notices-ends key before behind = notices_in-append key before (ends_services ∷ behind)
 
--- Where news shows the service, an event does.
-pub record StandsIn (key : Key) (lane : List Event) (x : Shown) (behind : List News) : Type 0 where
+-- Where a notice shows the service, an event does.
+pub record StandsIn (key : Key) (lane : List Event) (x : Shown) (behind : List Notice) : Type 0 where
   pub earlier : List Event
   pub service : Service
   pub later : List Event
   pub is : lane ≡ earlier ++ shows_service x.version service ∷ later
   pub of_key : service.key ≡ key
   pub holding : service.holding ≡ x.holding
-  pub later_is : news_in key later ≡ behind
+  pub later_is : notices_in key later ≡ behind
 
-stands-behind : (key : Key) (event : Event) (lane : List Event) (x : Shown) (behind : List News) → StandsIn key lane x behind → StandsIn key (event ∷ lane) x behind
+stands-behind : (key : Key) (event : Event) (lane : List Event) (x : Shown) (behind : List Notice) → StandsIn key lane x behind → StandsIn key (event ∷ lane) x behind
 stands-behind key event lane x behind st =
     record {
       earlier = event ∷ st.earlier;
@@ -153,108 +153,108 @@ stands-behind key event lane x behind st =
       later_is = st.later_is;
     }
 
-same-shown : (version : ℕ) (service : Service) (x : Shown) (event : Event) → event ≡ shows_service version service → as_news version service ≡ x → event ≡ shows_service x.version service
+same-shown : (version : ℕ) (service : Service) (x : Shown) (event : Event) → event ≡ shows_service version service → as_notices version service ≡ x → event ≡ shows_service x.version service
 same-shown version service x event is e = is ∙ ap (λ (y : Shown). shows_service y.version service) e
 
--- one piece of news first
-first-stands : (key : Key) (event : Event) (lane : List Event) (n : News) (before : List News) (x : Shown) (behind : List News)
+-- one notice first
+first-stands : (key : Key) (event : Event) (lane : List Event) (n : Notice) (before : List Notice) (x : Shown) (behind : List Notice)
     → ((y : Shown) → n ≡ Shows y → (service : Service) × (event ≡ shows_service y.version service) × (service.key ≡ key) × (service.holding ≡ y.holding))
-    → n ∷ news_in key lane ≡ before ++ Shows x ∷ behind
-    → ((rest : List News) → news_in key lane ≡ rest ++ Shows x ∷ behind → StandsIn key lane x behind) → StandsIn key (event ∷ lane) x behind
+    → n ∷ notices_in key lane ≡ before ++ Shows x ∷ behind
+    → ((rest : List Notice) → notices_in key lane ≡ rest ++ Shows x ∷ behind → StandsIn key lane x behind) → StandsIn key (event ∷ lane) x behind
 first-stands key event lane n [] x behind shown e ih =
     let heads : n ≡ Shows x = cc in
-    let tails : news_in key lane ≡ behind = cc in
+    let tails : notices_in key lane ≡ behind = cc in
     let s = shown x heads in
     record { earlier = []; service = s.0; later = lane; is = ap (λ (y : Event). y ∷ lane) s.1; of_key = s.2; holding = s.3; later_is = tails }
 first-stands key event lane n (m ∷ before) x behind shown e ih =
-    let tails : news_in key lane ≡ before ++ Shows x ∷ behind = cc in
+    let tails : notices_in key lane ≡ before ++ Shows x ∷ behind = cc in
     stands-behind key event lane x behind (ih before tails)
 
-shown-is : (key : Key) (event : Event) (s : ShowsIt key event) (y : Shown) → Shows (as_news s.version s.service) ≡ Shows y
+shown-is : (key : Key) (event : Event) (s : ShowsIt key event) (y : Shown) → Shows (as_notices s.version s.service) ≡ Shows y
     → (service : Service) × (event ≡ shows_service y.version service) × (service.key ≡ key) × (service.holding ≡ y.holding)
 shown-is key event s y e =
-    let same : as_news s.version s.service ≡ y = cc in
+    let same : as_notices s.version s.service ≡ y = cc in
     (s.service, same-shown s.version s.service y event s.is same, s.of_key, ap (λ (z : Shown). z.holding) same)
 
-no-shown : (n : News) → ((y : Shown) → n ≡ Shows y → ⊥) → (key : Key) (event : Event) (y : Shown) → n ≡ Shows y
+no-shown : (n : Notice) → ((y : Shown) → n ≡ Shows y → ⊥) → (key : Key) (event : Event) (y : Shown) → n ≡ Shows y
     → (service : Service) × (event ≡ shows_service y.version service) × (service.key ≡ key) × (service.holding ≡ y.holding)
 no-shown n not key event y e = absurd (not y e)
 
-pub stands-in : (key : Key) (lane : List Event) (before : List News) (x : Shown) (behind : List News) → news_in key lane ≡ before ++ Shows x ∷ behind → StandsIn key lane x behind
+pub stands-in : (key : Key) (lane : List Event) (before : List Notice) (x : Shown) (behind : List Notice) → notices_in key lane ≡ before ++ Shows x ∷ behind → StandsIn key lane x behind
 stands-in key [] [] x behind e = absurd (cc)
 stands-in key [] (m ∷ before) x behind e = absurd (cc)
 stands-in key (event ∷ lane) before x behind e =
-    let ih : (rest : List News) → news_in key lane ≡ rest ++ Shows x ∷ behind → StandsIn key lane x behind = λ rest is. stands-in key lane rest x behind is in
+    let ih : (rest : List Notice) → notices_in key lane ≡ rest ++ Shows x ∷ behind → StandsIn key lane x behind = λ rest is. stands-in key lane rest x behind is in
     ⊎_elim
-    (λ s. first-stands key event lane (Shows (as_news s.version s.service)) before x behind (shown-is key event s) (ap (λ (ns : List News). ns ++ news_in key lane) (sym s.news) ∙ e) ih)
+    (λ s. first-stands key event lane (Shows (as_notices s.version s.service)) before x behind (shown-is key event s) (ap (λ (ns : List Notice). ns ++ notices_in key lane) (sym s.notices) ∙ e) ih)
     (λ rest. ⊎_elim
-    (λ d. first-stands key event lane Gone before x behind (no-shown Gone (λ y no. absurd (cc no)) key event) (ap (λ (ns : List News). ns ++ news_in key lane) (sym d.news) ∙ e) ih)
+    (λ d. first-stands key event lane Gone before x behind (no-shown Gone (λ y no. absurd (cc no)) key event) (ap (λ (ns : List Notice). ns ++ notices_in key lane) (sym d.notices) ∙ e) ih)
     (λ more. ⊎_elim
-    (λ d. first-stands key event lane End before x behind (no-shown End (λ y no. absurd (cc no)) key event) (ap (λ (ns : List News). ns ++ news_in key lane) (sym d.news) ∙ e) ih)
-    (λ o. stands-behind key event lane x behind (ih before (ap (λ (ns : List News). ns ++ news_in key lane) (sym o.news) ∙ e)))
+    (λ d. first-stands key event lane End before x behind (no-shown End (λ y no. absurd (cc no)) key event) (ap (λ (ns : List Notice). ns ++ notices_in key lane) (sym d.notices) ∙ e) ih)
+    (λ o. stands-behind key event lane x behind (ih before (ap (λ (ns : List Notice). ns ++ notices_in key lane) (sym o.notices) ∙ e)))
     more)
     rest)
     (one-is key event)
 
 -- ---- deletions and ends in a lane
-gone-over : (xs ys : List News) → has_gone ys ≡ true → has_gone (xs ++ ys) ≡ true
+gone-over : (xs ys : List Notice) → has_gone ys ≡ true → has_gone (xs ++ ys) ≡ true
 gone-over [] ys e = e
 gone-over (Shows x ∷ more) ys e = gone-over more ys e
 gone-over (Gone ∷ more) ys e = refl
 gone-over (End ∷ more) ys e = gone-over more ys e
 
-end-over : (xs ys : List News) → has_end ys ≡ true → has_end (xs ++ ys) ≡ true
+end-over : (xs ys : List Notice) → has_end ys ≡ true → has_end (xs ++ ys) ≡ true
 end-over [] ys e = e
 end-over (Shows x ∷ more) ys e = end-over more ys e
 end-over (Gone ∷ more) ys e = end-over more ys e
 end-over (End ∷ more) ys e = refl
 
-pub gone-there : (key : Key) (lane : List Event) → Contains lane (deletes_service key) → has_gone (news_in key lane) ≡ true
+pub gone-there : (key : Key) (lane : List Event) → Contains lane (deletes_service key) → has_gone (notices_in key lane) ≡ true
 gone-there key [] there = absurd (contains-none (deletes_service key) there)
 gone-there key (event ∷ lane) there =
     ⊎_elim
-    (λ is. subst (λ (x : Event). has_gone (news_of key x ++ news_in key lane) ≡ true) (sym is)
-    (ap (λ b. has_gone (cond b (Gone ∷ []) [] ++ news_in key lane)) (same_key-itself key)))
-    (λ later. gone-over (news_of key event) (news_in key lane) (gone-there key lane later))
+    (λ is. subst (λ (x : Event). has_gone (notices_of key x ++ notices_in key lane) ≡ true) (sym is)
+    (ap (λ b. has_gone (cond b (Gone ∷ []) [] ++ notices_in key lane)) (same_key-itself key)))
+    (λ later. gone-over (notices_of key event) (notices_in key lane) (gone-there key lane later))
     (contains-cons event lane (deletes_service key) there)
 
-pub end-there : (key : Key) (lane : List Event) → Contains lane ends_services → has_end (news_in key lane) ≡ true
+pub end-there : (key : Key) (lane : List Event) → Contains lane ends_services → has_end (notices_in key lane) ≡ true
 end-there key [] there = absurd (contains-none ends_services there)
 end-there key (event ∷ lane) there =
     ⊎_elim
-    (λ is. subst (λ (x : Event). has_end (news_of key x ++ news_in key lane) ≡ true) (sym is) refl)
-    (λ later. end-over (news_of key event) (news_in key lane) (end-there key lane later))
+    (λ is. subst (λ (x : Event). has_end (notices_of key x ++ notices_in key lane) ≡ true) (sym is) refl)
+    (λ later. end-over (notices_of key event) (notices_in key lane) (end-there key lane later))
     (contains-cons event lane ends_services there)
 
 contains-is : (event x : Event) (lane : List Event) → event ≡ x → Contains (event ∷ lane) x
 contains-is event x lane is = subst (λ (y : Event). Contains (event ∷ lane) y) is (contains-first event lane)
 
-pub there-gone : (key : Key) (lane : List Event) → has_gone (news_in key lane) ≡ true → Contains lane (deletes_service key)
+pub there-gone : (key : Key) (lane : List Event) → has_gone (notices_in key lane) ≡ true → Contains lane (deletes_service key)
 there-gone key [] e = absurd (cc)
 there-gone key (event ∷ lane) e =
-    let later : has_gone (news_in key lane) ≡ true → Contains (event ∷ lane) (deletes_service key) = λ f. contains-later event lane (deletes_service key) (there-gone key lane f) in
+    let later : has_gone (notices_in key lane) ≡ true → Contains (event ∷ lane) (deletes_service key) = λ f. contains-later event lane (deletes_service key) (there-gone key lane f) in
     ⊎_elim
-    (λ s. later (sym (ap (λ (ns : List News). has_gone (ns ++ news_in key lane)) s.news) ∙ e))
+    (λ s. later (sym (ap (λ (ns : List Notice). has_gone (ns ++ notices_in key lane)) s.notices) ∙ e))
     (λ rest. ⊎_elim
     (λ d. contains-is event (deletes_service key) lane d.is)
     (λ more. ⊎_elim
-    (λ d. later (sym (ap (λ (ns : List News). has_gone (ns ++ news_in key lane)) d.news) ∙ e))
-    (λ o. later (sym (ap (λ (ns : List News). has_gone (ns ++ news_in key lane)) o.news) ∙ e))
+    (λ d. later (sym (ap (λ (ns : List Notice). has_gone (ns ++ notices_in key lane)) d.notices) ∙ e))
+    (λ o. later (sym (ap (λ (ns : List Notice). has_gone (ns ++ notices_in key lane)) o.notices) ∙ e))
     more)
     rest)
     (one-is key event)
 
-pub there-end : (key : Key) (lane : List Event) → has_end (news_in key lane) ≡ true → Contains lane ends_services
+pub there-end : (key : Key) (lane : List Event) → has_end (notices_in key lane) ≡ true → Contains lane ends_services
 there-end key [] e = absurd (cc)
 there-end key (event ∷ lane) e =
-    let later : has_end (news_in key lane) ≡ true → Contains (event ∷ lane) ends_services = λ f. contains-later event lane ends_services (there-end key lane f) in
+    let later : has_end (notices_in key lane) ≡ true → Contains (event ∷ lane) ends_services = λ f. contains-later event lane ends_services (there-end key lane f) in
     ⊎_elim
-    (λ s. later (sym (ap (λ (ns : List News). has_end (ns ++ news_in key lane)) s.news) ∙ e))
+    (λ s. later (sym (ap (λ (ns : List Notice). has_end (ns ++ notices_in key lane)) s.notices) ∙ e))
     (λ rest. ⊎_elim
-    (λ d. later (sym (ap (λ (ns : List News). has_end (ns ++ news_in key lane)) d.news) ∙ e))
+    (λ d. later (sym (ap (λ (ns : List Notice). has_end (ns ++ notices_in key lane)) d.notices) ∙ e))
     (λ more. ⊎_elim
     (λ d. contains-is event ends_services lane d.is)
-    (λ o. later (sym (ap (λ (ns : List News). has_end (ns ++ news_in key lane)) o.news) ∙ e))
+    (λ o. later (sym (ap (λ (ns : List Notice). has_end (ns ++ notices_in key lane)) o.notices) ∙ e))
     more)
     rest)
     (one-is key event)
@@ -267,19 +267,19 @@ true-false : (b : Bool) → b ≡ true → b ≡ false → ⊥
 true-false b t f = true≢false (sym t ∙ f)
 
 -- the list ends once
-ended-none : (news : List News) → EndsOnce true news → has_end news ≡ false
+ended-none : (notices : List Notice) → EndsOnce true notices → has_end notices ≡ false
 ended-none [] e = refl
 ended-none (Shows x ∷ more) e = ended-none more e
 ended-none (Gone ∷ more) e = ended-none more e
 ended-none (End ∷ more) e = absurd e
 
-unended-some : (news : List News) → EndsOnce false news → has_end news ≡ true
+unended-some : (notices : List Notice) → EndsOnce false notices → has_end notices ≡ true
 unended-some [] e = absurd e
 unended-some (Shows x ∷ more) e = unended-some more e
 unended-some (Gone ∷ more) e = unended-some more e
 unended-some (End ∷ more) e = refl
 
-end-once : (before : List News) (behind : List News) (ended : Bool) → EndsOnce ended (before ++ End ∷ behind) → has_end behind ≡ false
+end-once : (before : List Notice) (behind : List Notice) (ended : Bool) → EndsOnce ended (before ++ End ∷ behind) → has_end behind ≡ false
 end-once [] behind true e = absurd e
 end-once [] behind false e = ended-none behind e
 end-once (Shows x ∷ before) behind true e = end-once before behind true e
@@ -364,7 +364,7 @@ module _ (w : WorldValue) (s : State) (stored : IsGoodStore w.store) (up : IsFol
           let same : stored_as held ≡ x = cc in
           (held, found-stored w.store.objects (service_at key) held f, ap (λ (y : Shown). y.holding) same)
 
-  tracked-at : (key : Key) (x : Shown) → stored_of w.store key ≡ Some x → IsTracked w.store.counter s.held.services_ended (Some x) (held_of s key) (records_of key s.claims) (news_in key w.service_lane)
+  tracked-at : (key : Key) (x : Shown) → stored_of w.store key ≡ Some x → IsTracked w.store.counter s.held.services_ended (Some x) (held_of s key) (records_of key s.claims) (notices_in key w.service_lane)
   tracked-at key x e = rw e at (up.tracked key)
 
   stored_claimed : StoredAreClaimed w s
@@ -374,7 +374,7 @@ module _ (w : WorldValue) (s : State) (stored : IsGoodStore w.store) (up : IsFol
       let claimed : IsClaimed (Some x.0) (records_of key s.claims) = match-true _ _ s.held.services_ended ended t.claimed in
       subst (λ (q : Record). Contains (records_of key s.claims) q) x.2 (claimed (ap is_assigned x.2 ∙ has))
 
-  listed-there : (key : Key) (r : Record) → IsListed (held_of s key) (news_in key w.service_lane) r → WillBeShown w s key r
+  listed-there : (key : Key) (r : Record) → IsListed (held_of s key) (notices_in key w.service_lane) r → WillBeShown w s key r
   listed-there key r l =
       let at = stands-in key w.service_lane l.stands.before l.x l.behind l.stands.is in
       record {
@@ -393,45 +393,45 @@ module _ (w : WorldValue) (s : State) (stored : IsGoodStore w.store) (up : IsFol
   stored_listed unended key r rec has =
       let x = recorded-at key r rec in
       let t = tracked-at key x.0 x.1 in
-      let will : WillBeClaimed (Some x.0) (held_of s key) (records_of key s.claims) (news_in key w.service_lane) = match-false _ _ s.held.services_ended unended t.claimed in
-      let ends : EndsOnce false (news_in key w.service_lane) = subst (λ b. EndsOnce b (news_in key w.service_lane)) unended t.ends in
+      let will : WillBeClaimed (Some x.0) (held_of s key) (records_of key s.claims) (notices_in key w.service_lane) = match-false _ _ s.held.services_ended unended t.claimed in
+      let ends : EndsOnce false (notices_in key w.service_lane) = subst (λ b. EndsOnce b (notices_in key w.service_lane)) unended t.ends in
       ⊎_elim
       (λ there. inl (subst (λ (q : Record). Contains (records_of key s.claims) q) x.2 there))
-      (λ l. inr (listed-there key r (subst (λ (q : Record). IsListed (held_of s key) (news_in key w.service_lane) q) x.2 l)))
-      (claimed-or-listed (news_in key w.service_lane) x.0 (held_of s key) (records_of key s.claims) (ap is_assigned x.2 ∙ has) ends t.follows will)
+      (λ l. inr (listed-there key r (subst (λ (q : Record). IsListed (held_of s key) (notices_in key w.service_lane) q) x.2 l)))
+      (claimed-or-listed (notices_in key w.service_lane) x.0 (held_of s key) (records_of key s.claims) (ap is_assigned x.2 ∙ has) ends t.follows will)
 
   both-at : (key : Key) (st : Stored) (held : Versioned Service) → IsStored w.store.objects (service_at key) st → IsHeld s key held
-      → IsTracked w.store.counter s.held.services_ended (Some (stored_as st)) (Some (held_as held)) (records_of key s.claims) (news_in key w.service_lane)
+      → IsTracked w.store.counter s.held.services_ended (Some (stored_as st)) (Some (held_as held)) (records_of key s.claims) (notices_in key w.service_lane)
   both-at key st held there is = rw (held-at key held is) at (tracked-at key (stored_as st) (stored-at key st there))
 
   current : HeldAreCurrent w s
   current key st held there is same =
       let t = both-at key st held there is in
-      let old = Follows-old (stored_as st) (held_as held) (news_in key w.service_lane) same t.stored_later t.follows in
-      let stays = current-stays (news_in key w.service_lane) (stored_as st) (held_as held) same t.stored_later t.follows in
+      let old = Follows-old (stored_as st) (held_as held) (notices_in key w.service_lane) same t.stored_later t.follows in
+      let stays = current-stays (notices_in key w.service_lane) (stored_as st) (held_as held) same t.stored_later t.follows in
       record {
         same = ap (λ (x : Shown). x.holding) old.1;
         none_newer = λ before behind version service pending of_key.
-            (let le = old-shows (news_in key before) (news_in key behind) st.version (as_news version service) (rw (pending, news-shows key version service before behind of_key) at old.0) in
+            (let le = old-shows (notices_in key before) (notices_in key behind) st.version (as_notices version service) (rw (pending, notices-shows key version service before behind of_key) at old.0) in
             omega (arith, le, same));
         no_deletion = λ before behind pending.
-            true-false (has_gone (news_in key w.service_lane)) (ap (λ (lane : List Event). has_gone (news_in key lane)) pending ∙ ap has_gone (news-gone key before behind) ∙ gone-over (news_in key before) (Gone ∷ news_in key behind) refl) stays;
+            true-false (has_gone (notices_in key w.service_lane)) (ap (λ (lane : List Event). has_gone (notices_in key lane)) pending ∙ ap has_gone (notices-gone key before behind) ∙ gone-over (notices_in key before) (Gone ∷ notices_in key behind) refl) stays;
       }
 
-  -- what is pending of a service is in its news
+  -- what is pending of a service is in its notices
   split : (before behind : List Event) (version : ℕ) (service : Service) → IsPending w before (shows_service version service) behind
-      → news_in service.key w.service_lane ≡ news_in service.key before ++ Shows (as_news version service) ∷ news_in service.key behind
-  split before behind version service pending = ap (news_in service.key) pending ∙ news-shows service.key version service before behind refl
+      → notices_in service.key w.service_lane ≡ notices_in service.key before ++ Shows (as_notices version service) ∷ notices_in service.key behind
+  split before behind version service pending = ap (notices_in service.key) pending ∙ notices-shows service.key version service before behind refl
 
   carried-at : (before behind : List Event) (version : ℕ) (service : Service) → IsPending w before (shows_service version service) behind → IsLive s before version service.key
-      → IsCarried (stored_of w.store service.key) service.holding (news_in service.key behind)
+      → IsCarried (stored_of w.store service.key) service.holding (notices_in service.key behind)
   carried-at before behind version service pending live =
       let t = up.tracked service.key in
       let is = split before behind version service pending in
-      let given = rw is at t.news_given in
+      let given = rw is at t.notices_given in
       let follows = rw is at t.follows in
-      let above = (given-above (news_in service.key before) (news_in service.key behind) 0 w.store.counter (as_news version service) given).0 in
-      live-carried (news_in service.key before) (news_in service.key behind) 0 w.store.counter (stored_of w.store service.key) (held_of s service.key) (as_news version service) follows given
+      let above = (given-above (notices_in service.key before) (notices_in service.key behind) 0 w.store.counter (as_notices version service) given).0 in
+      live-carried (notices_in service.key before) (notices_in service.key behind) 0 w.store.counter (stored_of w.store service.key) (held_of s service.key) (as_notices version service) follows given
       (⊎_elim (λ newer. inl (newer-at service.key version newer above)) (λ gone. inr (gone-there service.key before gone)) live)
 
   just-recorded : (b : Bool) (key : Key) (r : Record) (o : Option Shown) → stored_of w.store key ≡ o → b ≡ false → MatchBool b (IsBare o) (IsJust o r) → IsAsShown w.store key r
@@ -450,19 +450,19 @@ module _ (w : WorldValue) (s : State) (stored : IsGoodStore w.store) (up : IsFol
   live =
       record {
         last = λ before behind version service pending is none.
-            just-recorded (has_gone (news_in service.key behind)) service.key service.holding (stored_of w.store service.key) refl
-            (not-gone (has_gone (news_in service.key behind)) (λ e. none (there-gone service.key behind e)))
+            just-recorded (has_gone (notices_in service.key behind)) service.key service.holding (stored_of w.store service.key) refl
+            (not-gone (has_gone (notices_in service.key behind)) (λ e. none (there-gone service.key behind e)))
             (carried-at before behind version service pending is);
         gone = λ before behind version service pending is gone.
-            bare-recorded (has_gone (news_in service.key behind)) service.key service.holding (stored_of w.store service.key) refl (gone-there service.key behind gone)
+            bare-recorded (has_gone (notices_in service.key behind)) service.key service.holding (stored_of w.store service.key) refl (gone-there service.key behind gone)
             (carried-at before behind version service pending is);
       }
 
   deleted : DeletedAreBare w s
   deleted before behind key pending st there =
       let t = tracked-at key (stored_as st) (stored-at key st there) in
-      let gone : has_gone (news_in key w.service_lane) ≡ true = ap (λ (lane : List Event). has_gone (news_in key lane)) pending ∙ ap has_gone (news-gone key before behind) ∙ gone-over (news_in key before) (Gone ∷ news_in key behind) refl in
-      let bare = gone-bare (news_in key w.service_lane) (Some (stored_as st)) (held_of s key) gone t.follows in
+      let gone : has_gone (notices_in key w.service_lane) ≡ true = ap (λ (lane : List Event). has_gone (notices_in key lane)) pending ∙ ap has_gone (notices-gone key before behind) ∙ gone-over (notices_in key before) (Gone ∷ notices_in key behind) refl in
+      let bare = gone-bare (notices_in key w.service_lane) (Some (stored_as st)) (held_of s key) gone t.follows in
       (at-newer key st.version bare.1, bare.0)
 
   held-claimed : (key : Key) (held : Versioned Service) → IsHeld s key held → is_assigned held.object.holding ≡ true → IsClaimedAs s.claims key held.object
@@ -484,8 +484,8 @@ module _ (w : WorldValue) (s : State) (stored : IsGoodStore w.store) (up : IsFol
   held_claimed : HeldAreClaimed s
   held_claimed = record { held = held-claimed; claims = claims-held }
 
-  calm : IsCalm s
-  calm =
+  quiescent : IsQuiescent s
+  quiescent =
       let orderly = subst (λ (t : State). IsOrderlyQueue t) up.leads (queues_are_orderly w.class up.run up.is) in
       record {
         quiet = subst (λ (t : State). IsQuiet t) up.leads (runs_are_quiet w.class up.run up.is);
@@ -498,12 +498,12 @@ module _ (w : WorldValue) (s : State) (stored : IsGoodStore w.store) (up : IsFol
         stored = stored.kept;
         held = λ key held is. (let given = rw (held-at key held is) at (up.tracked key).held_given in given);
         pending = λ before behind version service pending.
-            (let given = rw (split before behind version service pending) at (up.tracked service.key).news_given in
-            (given-above (news_in service.key before) (news_in service.key behind) 0 w.store.counter (as_news version service) given).1);
+            (let given = rw (split before behind version service pending) at (up.tracked service.key).notices_given in
+            (given-above (notices_in service.key before) (notices_in service.key behind) 0 w.store.counter (as_notices version service) given).1);
       }
 
   follows-at : (before behind : List Event) (version : ℕ) (service : Service) (st : Stored) → IsPending w before (shows_service version service) behind → IsStored w.store.objects (service_at service.key) st
-      → Follows (Some (stored_as st)) (held_of s service.key) (news_in service.key before ++ Shows (as_news version service) ∷ news_in service.key behind)
+      → Follows (Some (stored_as st)) (held_of s service.key) (notices_in service.key before ++ Shows (as_notices version service) ∷ notices_in service.key behind)
   follows-at before behind version service st pending there =
       let t = tracked-at service.key (stored_as st) (stored-at service.key st there) in
       rw (split before behind version service pending) at t.follows
@@ -512,25 +512,25 @@ module _ (w : WorldValue) (s : State) (stored : IsGoodStore w.store) (up : IsFol
       → w.service_lane ≡ before ++ (shows_service first service ∷ (between ++ (shows_service second other ∷ behind))) → first < second
   ascending before between behind first second service other same is =
       let key = service.key in
-      let one : news_in key w.service_lane ≡ news_in key before ++ Shows (as_news first service) ∷ news_in key (between ++ shows_service second other ∷ behind) =
-      ap (news_in key) is ∙ news-shows key first service before (between ++ shows_service second other ∷ behind) refl in
-      let given = rw one at (up.tracked key).news_given in
-      let after = (given-above (news_in key before) (news_in key (between ++ shows_service second other ∷ behind)) 0 w.store.counter (as_news first service) given).2 in
-      let two = rw (news-shows key second other between behind (sym same)) at after in
-      (given-above (news_in key between) (news_in key behind) first w.store.counter (as_news second other) two).0
+      let one : notices_in key w.service_lane ≡ notices_in key before ++ Shows (as_notices first service) ∷ notices_in key (between ++ shows_service second other ∷ behind) =
+      ap (notices_in key) is ∙ notices-shows key first service before (between ++ shows_service second other ∷ behind) refl in
+      let given = rw one at (up.tracked key).notices_given in
+      let after = (given-above (notices_in key before) (notices_in key (between ++ shows_service second other ∷ behind)) 0 w.store.counter (as_notices first service) given).2 in
+      let two = rw (notices-shows key second other between behind (sym same)) at after in
+      (given-above (notices_in key between) (notices_in key behind) first w.store.counter (as_notices second other) two).0
 
   ordered : AreInOrder w s
   ordered =
       record {
-        held = λ key st held there is. (let t = both-at key st held there is in held-up_to (news_in key w.service_lane) (Some (stored_as st)) (Some (held_as held)) t.follows);
+        held = λ key st held there is. (let t = both-at key st held there is in held-up_to (notices_in key w.service_lane) (Some (stored_as st)) (Some (held_as held)) t.follows);
         ascending = ascending;
         stored = λ before behind version service st pending there.
-            pending-up_to (news_in service.key before) (news_in service.key behind) (Some (stored_as st)) (held_of s service.key) (as_news version service) (follows-at before behind version service st pending there);
+            pending-up_to (notices_in service.key before) (notices_in service.key behind) (Some (stored_as st)) (held_of s service.key) (as_notices version service) (follows-at before behind version service st pending there);
         deleted = λ before behind version service st pending there gone.
-            pending-behind (news_in service.key before) (news_in service.key behind) (Some (stored_as st)) (held_of s service.key) (as_news version service) (gone-there service.key behind gone) (follows-at before behind version service st pending there);
+            pending-behind (notices_in service.key before) (notices_in service.key behind) (Some (stored_as st)) (held_of s service.key) (as_notices version service) (gone-there service.key behind gone) (follows-at before behind version service st pending there);
       }
 
-  coming-there : (key : Key) (version : ℕ) → IsComing (news_in key w.service_lane) version → WillBeShownAt w key version
+  coming-there : (key : Key) (version : ℕ) → IsComing (notices_in key w.service_lane) version → WillBeShownAt w key version
   coming-there key version c =
       let at = stands-in key w.service_lane c.stands.before c.x c.behind c.stands.is in
       record {
@@ -539,7 +539,7 @@ module _ (w : WorldValue) (s : State) (stored : IsGoodStore w.store) (up : IsFol
         behind = at.later;
         pending = subst (λ v. w.service_lane ≡ at.earlier ++ shows_service v at.service ∷ at.later) c.at_version at.is;
         of_key = at.of_key;
-        stays = λ there. true-false (has_gone (news_in key at.later)) (gone-there key at.later there) (ap has_gone at.later_is ∙ c.stays);
+        stays = λ there. true-false (has_gone (notices_in key at.later)) (gone-there key at.later there) (ap has_gone at.later_is ∙ c.stays);
       }
 
   held-there : (key : Key) (version : ℕ) → IsHeldAt (held_of s key) version → (held : Versioned Service) × IsHeld s key held × (held.version ≡ version)
@@ -553,7 +553,7 @@ module _ (w : WorldValue) (s : State) (stored : IsGoodStore w.store) (up : IsFol
   unheld : UnheldAreShown w s
   unheld key st there =
       let t = tracked-at key (stored_as st) (stored-at key st there) in
-      ⊎_elim (λ at. inl (held-there key st.version at)) (λ c. inr (coming-there key st.version c)) (held-or-coming (news_in key w.service_lane) (stored_as st) (held_of s key) t.stored_later t.follows)
+      ⊎_elim (λ at. inl (held-there key st.version at)) (λ c. inr (coming-there key st.version c)) (held-or-coming (notices_in key w.service_lane) (stored_as st) (held_of s key) t.stored_later t.follows)
 
   -- any service tells of the end of the list
   some_key : Key
@@ -562,15 +562,15 @@ module _ (w : WorldValue) (s : State) (stored : IsGoodStore w.store) (up : IsFol
   ends : EndsOnceIn ends_services s.held.services_ended w.service_lane
   ends =
       record {
-        pending = λ unended. (let once : EndsOnce false (news_in some_key w.service_lane) = subst (λ b. EndsOnce b (news_in some_key w.service_lane)) unended (up.tracked some_key).ends in there-end some_key w.service_lane (unended-some (news_in some_key w.service_lane) once));
-        none = λ ended there. (let once : EndsOnce true (news_in some_key w.service_lane) = subst (λ b. EndsOnce b (news_in some_key w.service_lane)) ended (up.tracked some_key).ends in
-            true-false (has_end (news_in some_key w.service_lane)) (end-there some_key w.service_lane there) (ended-none (news_in some_key w.service_lane) once));
+        pending = λ unended. (let once : EndsOnce false (notices_in some_key w.service_lane) = subst (λ b. EndsOnce b (notices_in some_key w.service_lane)) unended (up.tracked some_key).ends in there-end some_key w.service_lane (unended-some (notices_in some_key w.service_lane) once));
+        none = λ ended there. (let once : EndsOnce true (notices_in some_key w.service_lane) = subst (λ b. EndsOnce b (notices_in some_key w.service_lane)) ended (up.tracked some_key).ends in
+            true-false (has_end (notices_in some_key w.service_lane)) (end-there some_key w.service_lane there) (ended-none (notices_in some_key w.service_lane) once));
         once = λ before behind pending there.
-            (let once = subst (λ (ns : List News). EndsOnce s.held.services_ended ns) (ap (news_in some_key) pending ∙ news-ends some_key before behind) (up.tracked some_key).ends in
-            true-false (has_end (news_in some_key behind)) (end-there some_key behind there) (end-once (news_in some_key before) (news_in some_key behind) s.held.services_ended once));
+            (let once = subst (λ (ns : List Notice). EndsOnce s.held.services_ended ns) (ap (notices_in some_key) pending ∙ notices-ends some_key before behind) (up.tracked some_key).ends in
+            true-false (has_end (notices_in some_key behind)) (end-there some_key behind there) (end-once (notices_in some_key before) (notices_in some_key behind) s.held.services_ended once));
       }
 
-  before-there : (key : Key) → IsBeforeEnd (news_in key w.service_lane) → WillBeListed w key
+  before-there : (key : Key) → IsBeforeEnd (notices_in key w.service_lane) → WillBeListed w key
   before-there key l =
       let at = stands-in key w.service_lane l.stands.before l.x l.behind l.stands.is in
       record {
@@ -586,7 +586,7 @@ module _ (w : WorldValue) (s : State) (stored : IsGoodStore w.store) (up : IsFol
   unlisted : UnlistedAreShown w s
   unlisted unended key held is none st there =
       let t = both-at key st held there is in
-      let once : EndsOnce false (news_in key w.service_lane) = subst (λ b. EndsOnce b (news_in key w.service_lane)) unended t.ends in
+      let once : EndsOnce false (notices_in key w.service_lane) = subst (λ b. EndsOnce b (notices_in key w.service_lane)) unended t.ends in
       ⊎_elim
       (λ l. inl (before-there key l))
       (λ bare. inr (
@@ -599,7 +599,7 @@ module _ (w : WorldValue) (s : State) (stored : IsGoodStore w.store) (up : IsFol
             (λ c. c)
             (unheld key st there),
       ))
-      (unlisted-shown (news_in key w.service_lane) (stored_as st) (held_as held) none once t.follows)
+      (unlisted-shown (notices_in key w.service_lane) (stored_as st) (held_as held) none once t.follows)
     where
       one-held : (x y : Versioned Service) → held_at key_cmp s.held.services key ≡ Some x → held_at key_cmp s.held.services key ≡ Some y → x ≡ y
       one-held x y e f = let same : Some x ≡ Some y = sym e ∙ f in cc
@@ -615,7 +615,7 @@ module _ (w : WorldValue) (s : State) (stored : IsGoodStore w.store) (up : IsFol
         live = live;
         deleted = deleted;
         held_claimed = held_claimed;
-        calm = calm;
+        quiescent = quiescent;
         ordered = ordered;
         unheld = unheld;
         ends = ends;

@@ -26,7 +26,7 @@ use Rattle.status_store.specs.declared.change.Outcome.{Outcome}
 use Rattle.status_store.specs.declared.stored.Stored.{Stored}
 use Rattle.status_store.specs.Places.{Place, place_of, place_cmp, service_at}
 use Rattle.status_store.specs.Objects.{is_of, stored_at, with_stored, without_stored}
-use Rattle.status_store.specs.Changes.{StoreValue, IsKept, record_of, with_record, kept_record, edited, empty_store, recorded, arrives, is_at_version, is_made, with_put, after_put}
+use Rattle.status_store.specs.Changes.{StoreValue, IsWellFormed, record_of, with_record, kept_record, edited, empty_store, recorded, arrives, is_at_version, is_made, with_put, after_put}
 use Rattle.status_store.proofs.ChangeLaws.{place_of-with_record, kept-with_stored}
 use Rattle.status_store.proofs.ListLaws.{stored_at-with_stored, stored_at-without_stored, ascending-without_stored, counted-less, counted-without_stored}
 use Rattle.status_store.proofs.StoredLaws.{is_of-is, found-stored, stored-found}
@@ -51,7 +51,7 @@ are-safe store safe key other apart a there there' =
     safe key other apart (record_at store key) (record_at store other) (recorded_as store key (stored_at store.objects (service_at key)) refl a there)
     (recorded_as store other (stored_at store.objects (service_at other)) refl a there') a there there'
 
-pub record-at : (store : StoreValue) → IsKept store → (key : Key) (r : Record) → IsRecorded store key r → record_at store key ≡ r
+pub record-at : (store : StoreValue) → IsWellFormed store → (key : Key) (r : Record) → IsRecorded store key r → record_at store key ≡ r
 record-at store kept key r is = ap kept_record (stored-found store.objects (service_at key) is.0 kept.ascending is.1) ∙ is.2
 
 recorded_at_by : (found : Option Stored) (store : StoreValue) (key : Key) (r : Record) → stored_at store.objects (service_at key) ≡ found → kept_record found ≡ r → is_assigned r ≡ true → IsRecorded store key r
@@ -69,7 +69,7 @@ shared-by r q r' q' a e d shares there there' =
     (subst (λ (x : Record). ShareByMarks r' x) d
     (shares (subst (λ (x : Record). Contains x.addresses a) (sym e) there) (subst (λ (x : Record). Contains x.addresses a) (sym d) there')))
 
-pub is-safe : (store : StoreValue) → IsKept store → AreSafe (record_at store) → IsSafe store
+pub is-safe : (store : StoreValue) → IsWellFormed store → AreSafe (record_at store) → IsSafe store
 is-safe store kept safe key other apart r q is is' a there there' =
     shared-by r q (record_at store key) (record_at store other) a (record-at store kept key r is) (record-at store kept other q is')
     (safe key other apart a) there there'
@@ -199,7 +199,7 @@ set-records object holding store keeps key =
 pub good-set_store : (object : Object) (holding : Record) (store : StoreValue) → (is_assigned holding ≡ true → holding ≡ kept_record (stored_at store.objects (place_of object)))
     → IsGoodStore store → IsGoodStore (set_store object holding store)
 good-set_store object holding store keeps good =
-    let kept : IsKept (set_store object holding store) = kept-with_stored store (stored_with store object holding) refl good.kept in
+    let kept : IsWellFormed (set_store object holding store) = kept-with_stored store (stored_with store object holding) refl good.kept in
     record {
       safe = is-safe (set_store object holding store) kept (safe-less (record_at store) (record_at (set_store object holding store)) (set-records object holding store keeps) (are-safe store good.safe));
       kept = kept;
@@ -214,7 +214,7 @@ more-by true n = omega arith
 more-by false n = omega arith
 
 -- a deletion leaves each record, or drops it
-pub delete-records : (kind : Kind) (gone : Key) (store : StoreValue) → IsKept store
+pub delete-records : (kind : Kind) (gone : Key) (store : StoreValue) → IsWellFormed store
     → (key : Key) → (record_at store key ≡ record_at (edited (Delete kind gone) store) key) ⊎ (is_assigned (record_at (edited (Delete kind gone) store) key) ≡ false)
 delete-records kind gone store kept key =
     let place : Place = (kind, gone) in
@@ -225,7 +225,7 @@ pub good-delete : (kind : Kind) (key : Key) (store : StoreValue) → IsGoodStore
 good-delete kind key store good =
     let place : Place = (kind, key) in
     let b = is_some (stored_at store.objects place) in
-    let kept : IsKept (edited (Delete kind key) store) = record {
+    let kept : IsWellFormed (edited (Delete kind key) store) = record {
       ascending = ascending-without_stored store.objects place good.kept.ascending;
       counted =
           counted-without_stored (cond b (store.counter + 1) store.counter) store.objects place
@@ -282,7 +282,7 @@ made_by true put (Some held) store is good there beside =
     let r = put.holding in
     let place : place_of held.object ≡ service_at put.key = (found-stored store.objects (service_at put.key) held is).1 in
     let after : StoreValue = record { objects = with_stored (recorded n r held) store.objects; counter = n } in
-    let kept : IsKept after = kept-with_stored store (recorded n r held) refl good.kept in
+    let kept : IsWellFormed after = kept-with_stored store (recorded n r held) refl good.kept in
     let at : (key : Key) → record_at after key ≡ cond (same_key put.key key) r (record_at store key) = λ key.
     ap kept_record (stored_at-recorded store.objects held put.key key r n is) ∙ put_by (same_key put.key key) n r held (stored_at store.objects (service_at key)) (given-record r held.object put.key place) in
     record {

@@ -24,14 +24,14 @@ use Rattle.core_rules.specs.Core.{State, shown_terms}
 use Rattle.core_rules.specs.Take.{core_by, core_take, is_unlisted as was_unlisted}
 use Rattle.core_rules.specs.Run.{Took, observed}
 use Rattle.core_rules.proofs.Claims.{claims_of-kept}
-use Rattle.core_rules.proofs.Concerns.{by_concern, config-services, config-services_ended}
+use Rattle.core_rules.proofs.Effects.{by_effect, config-services, config-services_ended}
 use Rattle.core_rules.proofs.Runs.{took-out, core_holds_what_was_observed}
 use Rattle.core_laws.specs.Shared.{AllShowTerms}
 use Rattle.core_laws.proofs.Orderly.{sorted-services}
-use Rattle.world_rules.specs.Sight.{Shown, News, Shows, Gone, End, version_at, is_unlisted, EndsOnce, IsKept, IsTracked}
+use Rattle.world_rules.specs.Tracked.{Shown, Notice, Shows, Gone, End, version_at, is_unlisted, EndsOnce, MatchesClaims, IsTracked}
 use Rattle.world_rules.specs.World.{WorldValue, told, untold, after_take}
 use Rattle.world_rules.specs.Moves.{Tells, entries_taken, after_move}
-use Rattle.world_rules.specs.Good.{held_as, stored_of, held_of, news_in, news_of, IsTrackedIn, IsOfGroup, IsFollowed, IsGood}
+use Rattle.world_rules.specs.Good.{held_as, stored_of, held_of, notices_in, notices_of, IsTrackedIn, IsOfGroup, IsFollowed, IsGood}
 use Rattle.world_rules.proofs.Tracking.{tracked-newer, tracked-older, tracked-gone, tracked-end}
 use Rattle.world_rules.proofs.Lanes.{tracked-as, here-same}
 use Rattle.sharing_terms.specs.declared.terms.Terms.{Terms}
@@ -42,42 +42,42 @@ held-version None = refl
 held-version (Some v) = refl
 
 -- old: the event isn't newer than what is held; b: it is about this service
-shown_by : (old b : Bool) (n : ℕ) (ended : Bool) (st : Option Shown) (o : Option (Versioned Service)) (version : ℕ) (service : Service) (claims : List Record) (news : List News)
+shown_by : (old b : Bool) (n : ℕ) (ended : Bool) (st : Option Shown) (o : Option (Versioned Service)) (version : ℕ) (service : Service) (claims : List Record) (notices : List Notice)
     → (b ≡ true → leb version (version_at (option_map held_as o)) ≡ old)
-    → IsTracked n ended st (option_map held_as o) claims (cond b (Shows (record { version = version; holding = service.holding }) ∷ []) [] ++ news)
-    → IsTracked n ended st (option_map held_as (cond old o (cond b (Some (record { version = version; object = service })) o))) (cond old claims (cond b (claimed_by service.holding) claims)) news
-shown_by true true n ended st o version service claims news late t =
-    tracked-older n ended st (option_map held_as o) (record { version = version; holding = service.holding }) claims news (leb-true version (version_at (option_map held_as o)) (late refl)) t
-shown_by false true n ended st o version service claims news late t =
-    tracked-newer n ended st (option_map held_as o) (record { version = version; holding = service.holding }) claims news (leb-false version (version_at (option_map held_as o)) (late refl)) t
-shown_by true false n ended st o version service claims news late t = t
-shown_by false false n ended st o version service claims news late t = t
+    → IsTracked n ended st (option_map held_as o) claims (cond b (Shows (record { version = version; holding = service.holding }) ∷ []) [] ++ notices)
+    → IsTracked n ended st (option_map held_as (cond old o (cond b (Some (record { version = version; object = service })) o))) (cond old claims (cond b (claimed_by service.holding) claims)) notices
+shown_by true true n ended st o version service claims notices late t =
+    tracked-older n ended st (option_map held_as o) (record { version = version; holding = service.holding }) claims notices (leb-true version (version_at (option_map held_as o)) (late refl)) t
+shown_by false true n ended st o version service claims notices late t =
+    tracked-newer n ended st (option_map held_as o) (record { version = version; holding = service.holding }) claims notices (leb-false version (version_at (option_map held_as o)) (late refl)) t
+shown_by true false n ended st o version service claims notices late t = t
+shown_by false false n ended st o version service claims notices late t = t
 
-gone_by : (b : Bool) (n : ℕ) (ended : Bool) (st : Option Shown) (o : Option (Versioned Service)) (claims : List Record) (news : List News)
-    → IsTracked n ended st (option_map held_as o) claims (cond b (Gone ∷ []) [] ++ news)
-    → IsTracked n ended st (option_map held_as (cond b None o)) (cond b [] claims) news
-gone_by true n ended st o claims news t = tracked-gone n ended st (option_map held_as o) claims news t
-gone_by false n ended st o claims news t = t
+gone_by : (b : Bool) (n : ℕ) (ended : Bool) (st : Option Shown) (o : Option (Versioned Service)) (claims : List Record) (notices : List Notice)
+    → IsTracked n ended st (option_map held_as o) claims (cond b (Gone ∷ []) [] ++ notices)
+    → IsTracked n ended st (option_map held_as (cond b None o)) (cond b [] claims) notices
+gone_by true n ended st o claims notices t = tracked-gone n ended st (option_map held_as o) claims notices t
+gone_by false n ended st o claims notices t = t
 
-end_at : (b : Bool) (n : ℕ) (st : Option Shown) (v : Versioned Service) (claims : List Record) (news : List News)
-    → IsTracked n true st (cond b None (Some (held_as v))) (cond b [] claims) news
-    → IsTracked n true st (option_map held_as (cond (not b) (Some v) None)) (cond b [] claims) news
-end_at true n st v claims news t = t
-end_at false n st v claims news t = t
+end_at : (b : Bool) (n : ℕ) (st : Option Shown) (v : Versioned Service) (claims : List Record) (notices : List Notice)
+    → IsTracked n true st (cond b None (Some (held_as v))) (cond b [] claims) notices
+    → IsTracked n true st (option_map held_as (cond (not b) (Some v) None)) (cond b [] claims) notices
+end_at true n st v claims notices t = t
+end_at false n st v claims notices t = t
 
 -- what is held after the list has ended
 abbrev left_of : Option (Versioned Service) → Option (Versioned Service)
 left_of o = option_filter (λ (v : Versioned Service). not (eqb v.version 0)) o
 
-end_by : (n : ℕ) (st : Option Shown) (o : Option (Versioned Service)) (claims : List Record) (news : List News)
-    → IsTracked n false st (option_map held_as o) claims (End ∷ news)
-    → IsTracked n true st (option_map held_as (left_of o)) (cond (is_unlisted (option_map held_as o)) [] claims) news
-end_by n st None claims news t = tracked-end n st None claims news t
-end_by n st (Some v) claims news t = end_at (eqb v.version 0) n st v claims news (tracked-end n st (Some (held_as v)) claims news t)
+end_by : (n : ℕ) (st : Option Shown) (o : Option (Versioned Service)) (claims : List Record) (notices : List Notice)
+    → IsTracked n false st (option_map held_as o) claims (End ∷ notices)
+    → IsTracked n true st (option_map held_as (left_of o)) (cond (is_unlisted (option_map held_as o)) [] claims) notices
+end_by n st None claims notices t = tracked-end n st None claims notices t
+end_by n st (Some v) claims notices t = end_at (eqb v.version 0) n st v claims notices (tracked-end n st (Some (held_as v)) claims notices t)
 
-not-ended : (b : Bool) (news : List News) → EndsOnce b (End ∷ news) → b ≡ false
-not-ended true news e = absurd e
-not-ended false news e = refl
+not-ended : (b : Bool) (notices : List Notice) → EndsOnce b (End ∷ notices) → b ≡ false
+not-ended true notices e = absurd e
+not-ended false notices e = refl
 
 -- what is unlisted then is what isn't held, or wasn't listed before
 unlisted_at : (b : Bool) (v : Versioned Service) → eqb v.version 0 ≡ b → eqb (option_map_or (λ (x : Versioned Service). x.version) (cond (not b) (Some v) None) 0) 0 ≡ b
@@ -100,10 +100,10 @@ module _ (w : WorldValue) (s : State) (sorted : IsStrictlySortedBy key_cmp (keys
   here = held_at key_cmp s.held.services key
 
   abbrev WasTracked : Event → Type 0
-  WasTracked event = IsTracked w.store.counter s.held.services_ended (stored_of w.store key) (held_of s key) (records_of key s.claims) (news_of key event ++ news_in key lane)
+  WasTracked event = IsTracked w.store.counter s.held.services_ended (stored_of w.store key) (held_of s key) (records_of key s.claims) (notices_of key event ++ notices_in key lane)
 
   abbrev NowTracked : State → Type 0
-  NowTracked t = IsTracked w.store.counter t.held.services_ended (stored_of w.store key) (held_of t key) (records_of key t.claims) (news_in key lane)
+  NowTracked t = IsTracked w.store.counter t.held.services_ended (stored_of w.store key) (held_of t key) (records_of key t.claims) (notices_in key lane)
 
   service-shown : (version : ℕ) (service : Service) → WasTracked (Changed version (objects.Service service)) → NowTracked (core_take s (Changed version (objects.Service service)))
   service-shown version service t =
@@ -114,7 +114,7 @@ module _ (w : WorldValue) (s : State) (sorted : IsStrictlySortedBy key_cmp (keys
       (held_at-shown key_cmp-total s.held.services service.key key version service
       ∙ ap (λ (b : Bool). cond old here (cond b (Some new) here)) (here-same key service.key)))
       (claimed_by_new old key service.key service.holding (shown_terms service) s.claims) refl
-      (shown_by old (same_key service.key key) w.store.counter s.held.services_ended (stored_of w.store key) here version service (records_of key s.claims) (news_in key lane)
+      (shown_by old (same_key service.key key) w.store.counter s.held.services_ended (stored_of w.store key) here version service (records_of key s.claims) (notices_in key lane)
       (λ same. ap (leb version) (sym (held-version here)) ∙ ap (λ (k : Key). leb version (version_held key_cmp s.held.services k)) (sym (same_key-is service.key key same))) t)
 
   service-deleted : (gone : Key) → WasTracked (Deleted kinds.Service gone) → NowTracked (core_take s (Deleted kinds.Service gone))
@@ -122,23 +122,23 @@ module _ (w : WorldValue) (s : State) (sorted : IsStrictlySortedBy key_cmp (keys
       tracked-as _ _ _ _ refl
       (ap (option_map held_as) (held_at-removed key_cmp-total s.held.services gone key sorted ∙ ap (λ (b : Bool). cond b None here) (is_eq-key_cmp gone key)))
       (records_of-others s.claims gone key) refl
-      (gone_by (same_key gone key) w.store.counter s.held.services_ended (stored_of w.store key) here (records_of key s.claims) (news_in key lane) t)
+      (gone_by (same_key gone key) w.store.counter s.held.services_ended (stored_of w.store key) here (records_of key s.claims) (notices_in key lane) t)
 
   none-claimed : (o : Option (Versioned Service)) → here ≡ o → WasTracked (ListEnd groups.Service) → o ≡ None → records_of key s.claims ≡ []
-  none-claimed o e t none = subst (λ (x : Option (Versioned Service)). IsKept (option_map held_as x) (records_of key s.claims)) (e ∙ none) t.kept
+  none-claimed o e t none = subst (λ (x : Option (Versioned Service)). MatchesClaims (option_map held_as x) (records_of key s.claims)) (e ∙ none) t.kept
 
   services-ended : WasTracked (ListEnd groups.Service) → NowTracked (core_take s (ListEnd groups.Service))
   services-ended t =
       let left = held_at-listed key_cmp-total s.held.services key sorted in
-      let unended = not-ended s.held.services_ended (news_in key lane) t.ends in
+      let unended = not-ended s.held.services_ended (notices_in key lane) t.ends in
       tracked-as _ _ _ _ refl
       (ap (option_map held_as) left)
       (ap records_in (claims_of-kept (was_unlisted (listed s.held.services)) s.claims key)
       ∙ records-either (was_unlisted (listed s.held.services) key) [] (claims_of key s.claims)
       ∙ ap (λ (o : Option (Versioned Service)). cond (eqb (option_map_or (λ (x : Versioned Service). x.version) o 0) 0) [] (records_of key s.claims)) left
       ∙ unlisted_by here (records_of key s.claims) (none-claimed here refl t)) refl
-      (end_by w.store.counter (stored_of w.store key) here (records_of key s.claims) (news_in key lane)
-      (subst (λ (b : Bool). IsTracked w.store.counter b (stored_of w.store key) (held_of s key) (records_of key s.claims) (End ∷ news_in key lane)) unended t))
+      (end_by w.store.counter (stored_of w.store key) here (records_of key s.claims) (notices_in key lane)
+      (subst (λ (b : Bool). IsTracked w.store.counter b (stored_of w.store key) (held_of s key) (records_of key s.claims) (End ∷ notices_in key lane)) unended t))
 
   -- an event of the list of services
   service-event : (event : Event) → IsOfGroup groups.Service event → WasTracked event → NowTracked (core_take s event)
@@ -175,7 +175,7 @@ HasSameServices t s = (t.held.services ≡ s.held.services) × (t.held.services_
 
 -- an event of the list of the configuration leaves them so
 config-event : (s : State) (event : Event) → IsOfGroup groups.Config event → HasSameServices (core_take s event) s
-config-event s = by_concern (λ event c. IsOfGroup groups.Config event → HasSameServices (core_by c s event) s)
+config-event s = by_effect (λ event c. IsOfGroup groups.Config event → HasSameServices (core_by c s event) s)
     (λ version service of. absurd (cc))
     (λ gone of. absurd (cc))
     (λ of. absurd (cc))
@@ -183,11 +183,11 @@ config-event s = by_concern (λ event c. IsOfGroup groups.Config event → HasSa
     (λ of. absurd of)
     (λ event of. (refl, refl, refl))
 
-pub same-tracked : (counter : ℕ) (st : Option Shown) (news : List News) (s t : State) (key : Key) → HasSameServices t s
-    → IsTracked counter s.held.services_ended st (held_of s key) (records_of key s.claims) news
-    → IsTracked counter t.held.services_ended st (held_of t key) (records_of key t.claims) news
-same-tracked counter st news s t key same k =
-    subst (λ (b : Bool). IsTracked counter b st (held_of t key) (records_of key t.claims) news) (sym same.1)
+pub same-tracked : (counter : ℕ) (st : Option Shown) (notices : List Notice) (s t : State) (key : Key) → HasSameServices t s
+    → IsTracked counter s.held.services_ended st (held_of s key) (records_of key s.claims) notices
+    → IsTracked counter t.held.services_ended st (held_of t key) (records_of key t.claims) notices
+same-tracked counter st notices s t key same k =
+    subst (λ (b : Bool). IsTracked counter b st (held_of t key) (records_of key t.claims) notices) (sym same.1)
     (tracked-as _ _ _ _ refl (ap (λ (es : List (Key × Versioned Service)). option_map held_as (held_at key_cmp es key)) same.0) (ap (records_of key) same.2) refl k)
 
 pub services-sorted : (w : WorldValue) (s : State) → IsFollowed w s → IsStrictlySortedBy key_cmp (keys_of s.held.services)
@@ -206,7 +206,7 @@ service-up w s event lane is typed up =
       none_out = took-out s event ∙ up.none_out;
       services = of.1;
       tracked = λ key. service-event w s (services-sorted w s up) lane key event of.0
-          (subst (λ (events : List Event). IsTracked w.store.counter s.held.services_ended (stored_of w.store key) (held_of s key) (records_of key s.claims) (news_in key events)) is (up.tracked key));
+          (subst (λ (events : List Event). IsTracked w.store.counter s.held.services_ended (stored_of w.store key) (held_of s key) (records_of key s.claims) (notices_in key events)) is (up.tracked key));
     }
 
 service_by : (w : WorldValue) (c : Option State) (lane : List Event) → w.service_lane ≡ lane → AllShowTerms (entries_taken c lane) → IfSome c (IsFollowed w)
@@ -215,7 +215,7 @@ service_by w None lane is typed up = tt
 service_by w (Some s) [] is typed up =
     let none : WorldValue = record w { service_lane = []; core = Some s } in
     let same : (key : Key) → IsTrackedIn none s key = λ key.
-    subst (λ (events : List Event). IsTracked w.store.counter s.held.services_ended (stored_of w.store key) (held_of s key) (records_of key s.claims) (news_in key events)) is (up.tracked key) in
+    subst (λ (events : List Event). IsTracked w.store.counter s.held.services_ended (stored_of w.store key) (held_of s key) (records_of key s.claims) (notices_in key events)) is (up.tracked key) in
     record {
       run = up.run;
       is = up.is;
@@ -239,7 +239,7 @@ config-up w s event of typed up = record {
   typed = (typed.0, up.typed);
   none_out = took-out s event ∙ up.none_out;
   services = up.services;
-  tracked = λ key. same-tracked w.store.counter (stored_of w.store key) (news_in key w.service_lane) s (core_take s event) key (config-event s event of) (up.tracked key);
+  tracked = λ key. same-tracked w.store.counter (stored_of w.store key) (notices_in key w.service_lane) s (core_take s event) key (config-event s event of) (up.tracked key);
 }
 
 config_by : (w : WorldValue) (c : Option State) (event : Event) → IsOfGroup groups.Config event → AllShowTerms (entries_taken c (event ∷ [])) → IfSome c (IsFollowed w)

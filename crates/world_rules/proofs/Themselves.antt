@@ -11,7 +11,7 @@ use Rattle.core_rules.specs.Core.{State}
 use Rattle.core_rules.specs.Turn.{core_turn, put_in}
 use Rattle.core_rules.specs.Run.{Entry, Turned}
 use Rattle.world_rules.specs.Explaining.{WorldsExplainThemselves, acts_of, answered}
-use Rattle.world_rules.specs.Moves.{Move, Sets, Deletes, Tells, Takes, Turns, Stops, Starts, ConfigLapses, ServicesLapse, EndsLater, after_move, entries_taken, entries_put, entries_turned, entries_lapsed, entries_of, run_along, begun}
+use Rattle.world_rules.specs.Moves.{Move, Sets, Deletes, Tells, Takes, Turns, Stops, Starts, ConfigExpires, ServicesExpire, EndsLater, after_move, entries_taken, entries_put, entries_turned, entries_expired, entries_of, run_along, begun}
 use Rattle.world_rules.specs.World.{WorldValue}
 
 -- each put of the run has its reply
@@ -32,9 +32,9 @@ turned-whole : (c : Option State) (outcome : Outcome) (store : StoreValue) (earl
 turned-whole None outcome store earlier whole = whole
 turned-whole (Some s) outcome store earlier whole = turn-whole (core_turn s) outcome store earlier
 
-lapsed-whole : (c : Option State) (group : Group) (earlier : List Entry) → IsWhole earlier → IsWhole (entries_lapsed c group ++ earlier)
-lapsed-whole None group earlier whole = whole
-lapsed-whole (Some s) group earlier whole = refl
+expired_core-whole : (c : Option State) (group : Group) (earlier : List Entry) → IsWhole earlier → IsWhole (entries_expired c group ++ earlier)
+expired_core-whole None group earlier whole = whole
+expired_core-whole (Some s) group earlier whole = refl
 
 move-whole : (move : Move) (w : WorldValue) (earlier : List Entry) → IsWhole earlier → IsWhole (entries_of move w ++ earlier)
 move-whole (Sets object holding) w earlier whole = whole
@@ -44,8 +44,8 @@ move-whole Takes w earlier whole = taken-whole w.core w.service_lane earlier who
 move-whole (Turns outcome) w earlier whole = turned-whole w.core outcome w.store earlier whole
 move-whole (Stops applied) w earlier whole = whole
 move-whole (Starts list) w earlier whole = whole
-move-whole ConfigLapses w earlier whole = lapsed-whole w.core groups.Config earlier whole
-move-whole (ServicesLapse list) w earlier whole = lapsed-whole w.core groups.Service earlier whole
+move-whole ConfigExpires w earlier whole = expired_core-whole w.core groups.Config earlier whole
+move-whole (ServicesExpire list) w earlier whole = expired_core-whole w.core groups.Service earlier whole
 move-whole (EndsLater before event behind) w earlier whole = whole
 
 run-whole : (moves : List Move) (w : WorldValue) (earlier : List Entry) → IsWhole earlier → IsWhole (run_along moves w earlier)

@@ -47,12 +47,12 @@ use Rattle.core_rules.proofs.Runs.{heard-out}
 use Rattle.core_laws.specs.Shared.{may_have}
 use Rattle.core_laws.proofs.Queued.{queues_are_orderly}
 use Rattle.core_laws.proofs.Shared.{put-shared, alone, none-out}
-use Rattle.world_rules.specs.Sight.{Shown, News, Shows, IsClaimed, WillBeClaimed, IsTracked}
+use Rattle.world_rules.specs.Tracked.{Shown, Notice, Shows, IsClaimed, WillBeClaimed, IsTracked}
 use Rattle.world_rules.specs.World.{WorldValue, as_shown, shown_stored, shown_put, put_by, turned, after_turning, next_put, reached, after_crash}
-use Rattle.world_rules.specs.Good.{stored_as, stored_of, held_as, held_of, news_in, news_of, news_shown, IsTrackedIn, IsOfGroup, IsFollowed, IsGoodStore, IsGood}
-use Rattle.world_rules.proofs.Sights.{at_next}
+use Rattle.world_rules.specs.Good.{stored_as, stored_of, held_as, held_of, notices_in, notices_of, notices_shown, IsTrackedIn, IsOfGroup, IsFollowed, IsGoodStore, IsGood}
+use Rattle.world_rules.proofs.Following.{at_next}
 use Rattle.world_rules.proofs.Tracking.{Grows, tracked-other, tracked-accepted, tracked-lost, tracked-doubted}
-use Rattle.world_rules.proofs.Lanes.{all-append, all-either, news_in-push, tracked-as}
+use Rattle.world_rules.proofs.Lanes.{all-append, all-either, notices_in-push, tracked-as}
 use Rattle.world_rules.proofs.Storing.{assigned_by, record_at, StandsBeside, service-at, given-record, stored_at-recorded, good-put}
 use Rattle.sharing_terms.specs.declared.terms.Terms.{Terms}
 use Rattle.sharing_terms.specs.Marked.{IsMarkOf}
@@ -143,47 +143,47 @@ claimed_at None claims a claimed there = absurd (contains-none a there)
 claimed_at (Some held) claims a claimed there = claimed (assigned_by (record_of held.object).addresses a there)
 
 -- ---- one service, by whether the put is of it
-doubted_by : (z : Bool) (n : ℕ) (st : Option Shown) (o : Option (Versioned Service)) (h : Versioned Service) (claims more : List Record) (news : List News) → Grows claims more
-    → (z ≡ true → o ≡ Some h) → IsTracked n true st (option_map held_as o) claims news → IsTracked n true st (option_map held_as o) (cond z more claims) news
-doubted_by true n st o h claims more news grows is t =
-    subst (λ (x : Option (Versioned Service)). IsTracked n true st (option_map held_as x) more news) (sym (is refl))
-    (tracked-doubted n st (held_as h) claims more news grows
-    (subst (λ (x : Option (Versioned Service)). IsTracked n true st (option_map held_as x) claims news) (is refl) t))
-doubted_by false n st o h claims more news grows is t = t
+doubted_by : (z : Bool) (n : ℕ) (st : Option Shown) (o : Option (Versioned Service)) (h : Versioned Service) (claims more : List Record) (notices : List Notice) → Grows claims more
+    → (z ≡ true → o ≡ Some h) → IsTracked n true st (option_map held_as o) claims notices → IsTracked n true st (option_map held_as o) (cond z more claims) notices
+doubted_by true n st o h claims more notices grows is t =
+    subst (λ (x : Option (Versioned Service)). IsTracked n true st (option_map held_as x) more notices) (sym (is refl))
+    (tracked-doubted n st (held_as h) claims more notices grows
+    (subst (λ (x : Option (Versioned Service)). IsTracked n true st (option_map held_as x) claims notices) (is refl) t))
+doubted_by false n st o h claims more notices grows is t = t
 
 -- both are there, at one version
 abbrev AtOneVersion : Option Stored → Option (Versioned Service) → Stored → Versioned Service → Type 0
 AtOneVersion o p g h = (o ≡ Some g) × (p ≡ Some h)
 
-both-there : (n : ℕ) (o : Option Stored) (p : Option (Versioned Service)) (g : Stored) (h : Versioned Service) (claims : List Record) (news : List News) → AtOneVersion o p g h
-    → IsTracked n true (option_map stored_as o) (option_map held_as p) claims news → IsTracked n true (Some (stored_as g)) (Some (held_as h)) claims news
-both-there n o p g h claims news is t =
-    subst (λ (x : Option Stored). IsTracked n true (option_map stored_as x) (Some (held_as h)) claims news) is.0
-    (subst (λ (x : Option (Versioned Service)). IsTracked n true (option_map stored_as o) (option_map held_as x) claims news) is.1 t)
+both-there : (n : ℕ) (o : Option Stored) (p : Option (Versioned Service)) (g : Stored) (h : Versioned Service) (claims : List Record) (notices : List Notice) → AtOneVersion o p g h
+    → IsTracked n true (option_map stored_as o) (option_map held_as p) claims notices → IsTracked n true (Some (stored_as g)) (Some (held_as h)) claims notices
+both-there n o p g h claims notices is t =
+    subst (λ (x : Option Stored). IsTracked n true (option_map stored_as x) (Some (held_as h)) claims notices) is.0
+    (subst (λ (x : Option (Versioned Service)). IsTracked n true (option_map stored_as o) (option_map held_as x) claims notices) is.1 t)
 
-accepted_by : (z : Bool) (n : ℕ) (o : Option Stored) (p : Option (Versioned Service)) (g : Stored) (h : Versioned Service) (r : Record) (claims : List Record) (news : List News)
+accepted_by : (z : Bool) (n : ℕ) (o : Option Stored) (p : Option (Versioned Service)) (g : Stored) (h : Versioned Service) (r : Record) (claims : List Record) (notices : List Notice)
     → (z ≡ true → AtOneVersion o p g h) → h.version ≡ g.version → record_of (with_record r g.object) ≡ r
-    → IsTracked n true (option_map stored_as o) (option_map held_as p) claims news
+    → IsTracked n true (option_map stored_as o) (option_map held_as p) claims notices
     → IsTracked (n + 1) true (option_map stored_as (cond z (Some (recorded (n + 1) r g)) o)) (option_map held_as (cond z (Some (record { version = n + 1; object = with_holding r h.object })) p))
-    (cond z (claimed_by r) claims) (news ++ cond z (Shows (at_next n r) ∷ []) [])
-accepted_by true n o p g h r claims news is same own t =
-    subst (λ (q : Record). IsTracked (n + 1) true (Some (at_next n q)) (Some (at_next n r)) (claimed_by r) (news ++ Shows (at_next n r) ∷ [])) (sym own)
-    (tracked-accepted n (stored_as g) (held_as h) r claims news same (both-there n o p g h claims news (is refl) t))
-accepted_by false n o p g h r claims news is same own t =
-    subst (IsTracked (n + 1) true (option_map stored_as o) (option_map held_as p) claims) (sym (append-nil news)) (tracked-other n true (option_map stored_as o) (option_map held_as p) claims news t)
+    (cond z (claimed_by r) claims) (notices ++ cond z (Shows (at_next n r) ∷ []) [])
+accepted_by true n o p g h r claims notices is same own t =
+    subst (λ (q : Record). IsTracked (n + 1) true (Some (at_next n q)) (Some (at_next n r)) (claimed_by r) (notices ++ Shows (at_next n r) ∷ [])) (sym own)
+    (tracked-accepted n (stored_as g) (held_as h) r claims notices same (both-there n o p g h claims notices (is refl) t))
+accepted_by false n o p g h r claims notices is same own t =
+    subst (IsTracked (n + 1) true (option_map stored_as o) (option_map held_as p) claims) (sym (append-nil notices)) (tracked-other n true (option_map stored_as o) (option_map held_as p) claims notices t)
 
-lost_by : (z : Bool) (n : ℕ) (o : Option Stored) (p : Option (Versioned Service)) (g : Stored) (h : Versioned Service) (r : Record) (claims more : List Record) (news : List News)
+lost_by : (z : Bool) (n : ℕ) (o : Option Stored) (p : Option (Versioned Service)) (g : Stored) (h : Versioned Service) (r : Record) (claims more : List Record) (notices : List Notice)
     → Grows claims more → (is_assigned r ≡ true → Contains more r) → (z ≡ true → AtOneVersion o p g h) → h.version ≡ g.version → record_of (with_record r g.object) ≡ r
-    → IsTracked n true (option_map stored_as o) (option_map held_as p) claims news
+    → IsTracked n true (option_map stored_as o) (option_map held_as p) claims notices
     → IsTracked (n + 1) true (option_map stored_as (cond z (Some (recorded (n + 1) r g)) o)) (option_map held_as p)
-    (cond z more claims) (news ++ cond z (Shows (at_next n r) ∷ []) [])
-lost_by true n o p g h r claims more news grows has is same own t =
+    (cond z more claims) (notices ++ cond z (Shows (at_next n r) ∷ []) [])
+lost_by true n o p g h r claims more notices grows has is same own t =
     let there = is refl in
-    subst (λ (x : Option (Versioned Service)). IsTracked (n + 1) true (Some (stored_as (recorded (n + 1) r g))) (option_map held_as x) more (news ++ Shows (at_next n r) ∷ [])) (sym there.1)
-    (subst (λ (q : Record). IsTracked (n + 1) true (Some (at_next n q)) (Some (held_as h)) more (news ++ Shows (at_next n r) ∷ [])) (sym own)
-    (tracked-lost n (stored_as g) (held_as h) r claims more news same grows has (both-there n o p g h claims news there t)))
-lost_by false n o p g h r claims more news grows has is same own t =
-    subst (IsTracked (n + 1) true (option_map stored_as o) (option_map held_as p) claims) (sym (append-nil news)) (tracked-other n true (option_map stored_as o) (option_map held_as p) claims news t)
+    subst (λ (x : Option (Versioned Service)). IsTracked (n + 1) true (Some (stored_as (recorded (n + 1) r g))) (option_map held_as x) more (notices ++ Shows (at_next n r) ∷ [])) (sym there.1)
+    (subst (λ (q : Record). IsTracked (n + 1) true (Some (at_next n q)) (Some (held_as h)) more (notices ++ Shows (at_next n r) ∷ [])) (sym own)
+    (tracked-lost n (stored_as g) (held_as h) r claims more notices same grows has (both-there n o p g h claims notices there t)))
+lost_by false n o p g h r claims more notices grows has is same own t =
+    subst (IsTracked (n + 1) true (option_map stored_as o) (option_map held_as p) claims) (sym (append-nil notices)) (tracked-other n true (option_map stored_as o) (option_map held_as p) claims notices t)
 
 -- ---- what a put that was made shows
 module _ (store : StoreValue) (put : Put) where
@@ -204,18 +204,18 @@ module _ (store : StoreValue) (put : Put) where
       ap shown_stored (stored_at-recorded store.objects g put.key put.key put.holding next found
       ∙ ap (λ (b : Bool). cond b (Some (recorded next put.holding g)) stored_now) (same_key-itself put.key))
 
-  made-news : (g : Stored) (key : Key) → stored_now ≡ Some g → news_of key (as_shown (recorded next put.holding g)) ≡ cond (same_key put.key key) (Shows (at_next store.counter put.holding) ∷ []) []
-  made-news g key found =
+  made-notices : (g : Stored) (key : Key) → stored_now ≡ Some g → notices_of key (as_shown (recorded next put.holding g)) ≡ cond (same_key put.key key) (Shows (at_next store.counter put.holding) ∷ []) []
+  made-notices g key found =
       let is = service-at g.object put.key (found-stored store.objects (service_at put.key) g found).1 in
-      ap (λ (x : Object). news_shown key next (with_record put.holding x)) is.1
+      ap (λ (x : Object). notices_shown key next (with_record put.holding x)) is.1
       ∙ ap (λ (k : Key). cond (same_key k key) (Shows (at_next store.counter put.holding) ∷ []) []) is.2
 
   made-lane : (g : Stored) (key : Key) (lane : List Event) → stored_now ≡ Some g
-      → news_in key (lane ++ put_shown true (Some g)) ≡ news_in key lane ++ cond (same_key put.key key) (Shows (at_next store.counter put.holding) ∷ []) []
+      → notices_in key (lane ++ put_shown true (Some g)) ≡ notices_in key lane ++ cond (same_key put.key key) (Shows (at_next store.counter put.holding) ∷ []) []
   made-lane g key lane found =
-      ap (λ (events : List Event). news_in key (lane ++ events)) (made-shown g found)
-      ∙ news_in-push key lane (as_shown (recorded next put.holding g))
-      ∙ ap (λ (ns : List News). news_in key lane ++ ns) (made-news g key found)
+      ap (λ (events : List Event). notices_in key (lane ++ events)) (made-shown g found)
+      ∙ notices_in-push key lane (as_shown (recorded next put.holding g))
+      ∙ ap (λ (ns : List Notice). notices_in key lane ++ ns) (made-notices g key found)
 
 -- what is stored of a service is shown to the services' lane
 stored_of_group : (found : Option Stored) (place : Place) → group_of place.0 ≡ groups.Service → ((held : Stored) → found ≡ Some held → place_of held.object ≡ place) → AllByRecursion (IsOfGroup groups.Service) (shown_stored found)
@@ -243,13 +243,13 @@ module _ (w : WorldValue) (s : State) (put : Put) (h : Versioned Service) (held 
     Result b found reply =
         let t = replied (after_turn s) put reply in
         IsTracked (cond b (w.store.counter + 1) w.store.counter) t.held.services_ended (option_map stored_as (stored_at (objects_with w.store put b found) (service_at key)))
-        (held_of t key) (records_of key t.claims) (news_in key (w.service_lane ++ put_shown w.store put b found))
+        (held_of t key) (records_of key t.claims) (notices_in key (w.service_lane ++ put_shown w.store put b found))
 
-    ended-up : IsTracked w.store.counter true (stored_of w.store key) (held_of s key) (records_of key s.claims) (news_in key w.service_lane)
-    ended-up = subst (λ (b : Bool). IsTracked w.store.counter b (stored_of w.store key) (held_of s key) (records_of key s.claims) (news_in key w.service_lane)) ended up
+    ended-up : IsTracked w.store.counter true (stored_of w.store key) (held_of s key) (records_of key s.claims) (notices_in key w.service_lane)
+    ended-up = subst (λ (b : Bool). IsTracked w.store.counter b (stored_of w.store key) (held_of s key) (records_of key s.claims) (notices_in key w.service_lane)) ended up
 
-    none-more : news_in key (w.service_lane ++ []) ≡ news_in key w.service_lane
-    none-more = ap (news_in key) (append-nil w.service_lane)
+    none-more : notices_in key (w.service_lane ++ []) ≡ notices_in key w.service_lane
+    none-more = ap (notices_in key) (append-nil w.service_lane)
 
     -- the records of the key, and that of the put
     abbrev more-records : List Record
@@ -269,9 +269,9 @@ module _ (w : WorldValue) (s : State) (put : Put) (h : Versioned Service) (held 
 
     doubt-result : (found : Option Stored) → Result false found replies.Unknown
     doubt-result found =
-        subst (λ (b : Bool). IsTracked w.store.counter b (stored_of w.store key) (held_of s key) (records_of key (replied (after_turn s) put replies.Unknown).claims) (news_in key (w.service_lane ++ []))) (sym ended)
+        subst (λ (b : Bool). IsTracked w.store.counter b (stored_of w.store key) (held_of s key) (records_of key (replied (after_turn s) put replies.Unknown).claims) (notices_in key (w.service_lane ++ []))) (sym ended)
         (tracked-as _ _ _ _ refl refl (records-doubted s.claims put.key key put.holding (put_terms s.held put)) none-more
-        (doubted_by (same_key put.key key) w.store.counter (stored_of w.store key) held_here h (records_of key s.claims) more-records (news_in key w.service_lane) more-grows same-held ended-up))
+        (doubted_by (same_key put.key key) w.store.counter (stored_of w.store key) held_here h (records_of key s.claims) more-records (notices_in key w.service_lane) more-grows same-held ended-up))
 
     module _ (g : Stored) (found : stored_at w.store.objects (service_at put.key) ≡ Some g) (current : g.version ≡ put.version) where
       both-here : same_key put.key key ≡ true → AtOneVersion here held_here g h
@@ -294,16 +294,16 @@ module _ (w : WorldValue) (s : State) (put : Put) (h : Versioned Service) (held 
       accepted-result : Result true (Some g) (replies.Ok (w.store.counter + 1))
       accepted-result =
           let t = replied (after_turn s) put (replies.Ok (w.store.counter + 1)) in
-          subst (λ (b : Bool). IsTracked (w.store.counter + 1) b (option_map stored_as (stored_at (objects_with w.store put true (Some g)) (service_at key))) (held_of t key) (records_of key t.claims) (news_in key (w.service_lane ++ put_shown w.store put true (Some g)))) (sym ended)
+          subst (λ (b : Bool). IsTracked (w.store.counter + 1) b (option_map stored_as (stored_at (objects_with w.store put true (Some g)) (service_at key))) (held_of t key) (records_of key t.claims) (notices_in key (w.service_lane ++ put_shown w.store put true (Some g)))) (sym ended)
           (tracked-as _ _ _ _ stored-now held-now (records_of-settled s.claims put.key key put.holding (put_terms s.held put)) (made-lane w.store put g key w.service_lane found)
-          (accepted_by (same_key put.key key) w.store.counter here held_here g h put.holding (records_of key s.claims) (news_in key w.service_lane) both-here (at ∙ sym current) own-record ended-up))
+          (accepted_by (same_key put.key key) w.store.counter here held_here g h put.holding (records_of key s.claims) (notices_in key w.service_lane) both-here (at ∙ sym current) own-record ended-up))
 
       lost-result : Result true (Some g) replies.Unknown
       lost-result =
           let t = replied (after_turn s) put replies.Unknown in
-          subst (λ (b : Bool). IsTracked (w.store.counter + 1) b (option_map stored_as (stored_at (objects_with w.store put true (Some g)) (service_at key))) (held_of t key) (records_of key t.claims) (news_in key (w.service_lane ++ put_shown w.store put true (Some g)))) (sym ended)
+          subst (λ (b : Bool). IsTracked (w.store.counter + 1) b (option_map stored_as (stored_at (objects_with w.store put true (Some g)) (service_at key))) (held_of t key) (records_of key t.claims) (notices_in key (w.service_lane ++ put_shown w.store put true (Some g)))) (sym ended)
           (tracked-as _ _ _ _ stored-now refl (records-doubted s.claims put.key key put.holding (put_terms s.held put)) (made-lane w.store put g key w.service_lane found)
-          (lost_by (same_key put.key key) w.store.counter here held_here g h put.holding (records_of key s.claims) more-records (news_in key w.service_lane)
+          (lost_by (same_key put.key key) w.store.counter here held_here g h put.holding (records_of key s.claims) more-records (notices_in key w.service_lane)
           more-grows (added-own put.key put.holding (put_terms s.held put) (claims_of key s.claims)) both-here (at ∙ sym current) own-record ended-up))
 
     delivered_on : (b : Bool) (g : Stored) → stored_at w.store.objects (service_at put.key) ≡ Some g → eqb g.version put.version ≡ b
@@ -350,7 +350,7 @@ module _ (w : WorldValue) (s : State) (put : Put) (wanted : put_in (core_turn s)
       let q = record_at w.store other in
       let of_other = up.tracked other in
       let claimed : IsClaimed (stored_of w.store other) (records_of other s.claims) =
-      subst (λ (b : Bool). MatchBool b (IsClaimed (stored_of w.store other) (records_of other s.claims)) (WillBeClaimed (stored_of w.store other) (held_of s other) (records_of other s.claims) (news_in other w.service_lane))) ended-services of_other.claimed in
+      subst (λ (b : Bool). MatchBool b (IsClaimed (stored_of w.store other) (records_of other s.claims)) (WillBeClaimed (stored_of w.store other) (held_of s other) (records_of other s.claims) (notices_in other w.service_lane))) ended-services of_other.claimed in
       let has : Contains (records_of other s.claims) q = claimed_at (stored_at w.store.objects (service_at other)) (records_of other s.claims) a claimed in_other in
       let found = records-from (claims_of other s.claims) q has in
       let shown : claims_of other s.claims ≡ may_have other up.run =

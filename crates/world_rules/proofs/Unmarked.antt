@@ -13,11 +13,11 @@ use Rattle.sharing_terms.specs.Marked.{IsMarkOf}
 use Rattle.status_store.specs.declared.change.Edit.TheVariants.{Delete}
 use Rattle.status_store.specs.declared.change.Outcome.{Outcome}
 use Rattle.status_store.specs.declared.change.Outcome.TheVariants.{Lost}
-use Rattle.status_store.specs.Changes.{StoreValue, IsKept, edited, empty_store, after_put}
+use Rattle.status_store.specs.Changes.{StoreValue, IsWellFormed, edited, empty_store, after_put}
 use Rattle.status_store.proofs.ChangeLaws.{kept-with_stored}
 use Rattle.core_rules.specs.Core.{State}
 use Rattle.core_rules.specs.Turn.{core_turn, after_turn, put_in}
-use Rattle.world_rules.specs.Moves.{Move, Sets, Deletes, Tells, Takes, Turns, Stops, Starts, ConfigLapses, ServicesLapse, EndsLater, IsMove, after_move, after_start}
+use Rattle.world_rules.specs.Moves.{Move, Sets, Deletes, Tells, Takes, Turns, Stops, Starts, ConfigExpires, ServicesExpire, EndsLater, IsMove, after_move, after_start}
 use Rattle.world_rules.specs.Good.{IsGood, IsFollowed}
 use Rattle.world_rules.specs.Laws.{RecordsAreGood, UnmarkedStay}
 use Rattle.world_rules.specs.World.{WorldValue, with_object, records_store, turned, after_turning, next_put, reached}
@@ -26,11 +26,11 @@ use Rattle.world_rules.proofs.Turns.{put-marked}
 use Rattle.world_rules.proofs.Worlds.{steps_keep_good}
 
 -- ---- stores of objects
-kept-more : (held : List Object) (store : StoreValue) → IsKept store → IsKept (records_store held store)
+kept-more : (held : List Object) (store : StoreValue) → IsWellFormed store → IsWellFormed (records_store held store)
 kept-more [] store kept = kept
 kept-more (object ∷ more) store kept = kept-more more (with_object object store) (kept-with_stored store (record { version = store.counter + 1; object = object }) refl kept)
 
-kept-empty : IsKept empty_store
+kept-empty : IsWellFormed empty_store
 unfolding IsStrictlySortedBy
 kept-empty = record { ascending = tt; counted = tt }
 
@@ -82,8 +82,8 @@ move-unmarked Takes w may good = same-records (record_at w.store)
 move-unmarked (Turns outcome) w may good = turning_by w.core w outcome good.up
 move-unmarked (Stops applied) w may good = crashed_by w.core applied w good.up
 move-unmarked (Starts list) w may good = start_by w.core list w
-move-unmarked ConfigLapses w may good = same-records (record_at w.store)
-move-unmarked (ServicesLapse list) w may good = same-records (record_at w.store)
+move-unmarked ConfigExpires w may good = same-records (record_at w.store)
+move-unmarked (ServicesExpire list) w may good = same-records (record_at w.store)
 move-unmarked (EndsLater before event behind) w may good = same-records (record_at w.store)
 
 pub unmarked_stay : UnmarkedStay

@@ -15,13 +15,13 @@ use Rattle.core_rules.specs.Core.{State, fresh}
 use Rattle.core_rules.specs.Take.{core_expired}
 use Rattle.core_rules.specs.Run.{Entry, Expired}
 use Rattle.core_laws.specs.Shared.{AllShowTerms}
-use Rattle.world_rules.specs.Sight.{version_at, IsBehind}
-use Rattle.world_rules.specs.Moves.{Move, Sets, Deletes, Tells, Takes, Turns, Stops, Starts, ConfigLapses, ServicesLapse, EndsLater, IsMove, IsListOf, AreMoves, entries_of, run_along, after_move, after_moves, after_start, relisted, but_config, begun}
-use Rattle.world_rules.specs.World.{WorldValue, lapsed}
-use Rattle.world_rules.specs.Good.{held_as, stored_of, held_of, news_in, IsTrackedIn, IsFollowed, IsGoodStore, IsGood}
+use Rattle.world_rules.specs.Tracked.{version_at, IsBehind}
+use Rattle.world_rules.specs.Moves.{Move, Sets, Deletes, Tells, Takes, Turns, Stops, Starts, ConfigExpires, ServicesExpire, EndsLater, IsMove, IsListOf, AreMoves, entries_of, run_along, after_move, after_moves, after_start, relisted, but_config, begun}
+use Rattle.world_rules.specs.World.{WorldValue, expired_core}
+use Rattle.world_rules.specs.Good.{held_as, stored_of, held_of, notices_in, IsTrackedIn, IsFollowed, IsGoodStore, IsGood}
 use Rattle.world_rules.specs.Laws.{IsSafeWorld, AreSafeAlong, StartsAreGood, StepsKeepGood, WorldsAreSafe}
 use Rattle.world_rules.proofs.Tracking.{tracked-fresh, tracked-expired, unversion}
-use Rattle.world_rules.proofs.Lanes.{tracked-as, counted-at, news-list, of-list}
+use Rattle.world_rules.proofs.Lanes.{tracked-as, counted-at, notices-list, of-list}
 use Rattle.world_rules.proofs.Edits.{good-set, good-deleted}
 use Rattle.world_rules.proofs.Later.{good-late}
 use Rattle.world_rules.proofs.Places.{worlds_are_in_order}
@@ -43,7 +43,7 @@ started-followed w list good listed = record {
   where
     fresh-tracked : (key : Key) → (version_at (stored_of w.store key) ≤ w.store.counter) × IsBehind (stored_of w.store key) 0
         → (let v : WorldValue = record w { service_lane = list; core = Some (fresh w.class) } in IsTrackedIn v (fresh w.class) key)
-    fresh-tracked key given = tracked-as _ _ _ _ refl refl refl (news-list w.store list key good.kept.ascending listed) (tracked-fresh w.store.counter (stored_of w.store key) given.0 given.1)
+    fresh-tracked key given = tracked-as _ _ _ _ refl refl refl (notices-list w.store list key good.kept.ascending listed) (tracked-fresh w.store.counter (stored_of w.store key) given.0 given.1)
 
 -- a world without a controller
 abbrev down : Option (List ℕ) → StoreValue → WorldValue
@@ -61,9 +61,9 @@ unversioned : (o : Option (Versioned Service)) → option_map held_as (option_ma
 unversioned None = refl
 unversioned (Some v) = refl
 
-services-lapsed : (w : WorldValue) (s : State) (list : List Event) → IsGoodStore w.store → IsListOf w.store list → IsFollowed w s
+services-expired_core : (w : WorldValue) (s : State) (list : List Event) → IsGoodStore w.store → IsListOf w.store list → IsFollowed w s
     → (let v : WorldValue = record w { service_lane = list; core = Some (core_expired s groups.Service) } in IsFollowed v (core_expired s groups.Service))
-services-lapsed w s list good listed up = record {
+services-expired_core w s list good listed up = record {
   run = Expired groups.Service ∷ up.run;
   is = (ap (λ (t : State). t.out) up.leads ∙ up.none_out, up.is);
   leads = ap (λ (t : State). core_expired t groups.Service) up.leads;
@@ -73,17 +73,17 @@ services-lapsed w s list good listed up = record {
   tracked = λ key.
       tracked-as _ _ _ _ refl
       (ap (option_map held_as) (held_at-expired key_cmp s.held.services key) ∙ unversioned (held_at key_cmp s.held.services key))
-      refl (news-list w.store list key good.kept.ascending listed)
-      (tracked-expired w.store.counter s.held.services_ended (stored_of w.store key) (held_of s key) (records_of key s.claims) (news_in key w.service_lane) (up.tracked key));
+      refl (notices-list w.store list key good.kept.ascending listed)
+      (tracked-expired w.store.counter s.held.services_ended (stored_of w.store key) (held_of s key) (records_of key s.claims) (notices_in key w.service_lane) (up.tracked key));
 }
 
 services_by : (c : Option State) (list : List Event) (w : WorldValue) → IsGoodStore w.store → IsListOf w.store list → IfSome c (IsFollowed w)
-    → (let v : WorldValue = record w { service_lane = relisted c list w.service_lane; core = lapsed groups.Service c } in IfSome (lapsed groups.Service c) (IsFollowed v))
+    → (let v : WorldValue = record w { service_lane = relisted c list w.service_lane; core = expired_core groups.Service c } in IfSome (expired_core groups.Service c) (IsFollowed v))
 services_by None list w good listed up = tt
-services_by (Some s) list w good listed up = services-lapsed w s list good listed up
+services_by (Some s) list w good listed up = services-expired_core w s list good listed up
 
 config_by : (c : Option State) (w : WorldValue) → IfSome c (IsFollowed w)
-    → (let v : WorldValue = record w { core = lapsed groups.Config c } in IfSome (lapsed groups.Config c) (IsFollowed v))
+    → (let v : WorldValue = record w { core = expired_core groups.Config c } in IfSome (expired_core groups.Config c) (IsFollowed v))
 config_by None w up = tt
 config_by (Some s) w up = record {
   run = Expired groups.Config ∷ up.run;
@@ -92,7 +92,7 @@ config_by (Some s) w up = record {
   typed = (tt, up.typed);
   none_out = up.none_out;
   services = up.services;
-  tracked = λ key. same-tracked w.store.counter (stored_of w.store key) (news_in key w.service_lane) s (core_expired s groups.Config) key (refl, refl, refl) (up.tracked key);
+  tracked = λ key. same-tracked w.store.counter (stored_of w.store key) (notices_in key w.service_lane) s (core_expired s groups.Config) key (refl, refl, refl) (up.tracked key);
 }
 
 -- ---- each move, and all of them
@@ -104,8 +104,8 @@ good-move Takes w may typed good = good-take w typed good
 good-move (Turns outcome) w may typed good = good-turn outcome w good
 good-move (Stops applied) w may typed good = good-crash applied w good
 good-move (Starts list) w may typed good = start_by w.core list w may good
-good-move ConfigLapses w may typed good = record { stored = good.stored; up = config_by w.core w good.up }
-good-move (ServicesLapse list) w may typed good = record { stored = good.stored; up = services_by w.core list w good.stored may good.up }
+good-move ConfigExpires w may typed good = record { stored = good.stored; up = config_by w.core w good.up }
+good-move (ServicesExpire list) w may typed good = record { stored = good.stored; up = services_by w.core list w good.stored may good.up }
 good-move (EndsLater before event behind) w may typed good = good-late before event behind w may good
 
 -- nothing of it is about the lane of the configuration

@@ -17,7 +17,7 @@ use Rattle.core_rules.specs.Turn.{core_turn, after_turn, put_in}
 use Rattle.core_laws.specs.Shared.{AllShowTerms}
 use Rattle.core_rules.specs.Run.{Entry, Took, Expired, Turned, Heard, core_after, put_out, IsRun}
 use Rattle.world_rules.specs.Good.{IsGoodStore}
-use Rattle.world_rules.specs.Moves.{Move, Sets, Deletes, Tells, Takes, Turns, Stops, Starts, ConfigLapses, ServicesLapse, EndsLater, IsListOf, AreMoves, after_moves, run_along, begun}
+use Rattle.world_rules.specs.Moves.{Move, Sets, Deletes, Tells, Takes, Turns, Stops, Starts, ConfigExpires, ServicesExpire, EndsLater, IsListOf, AreMoves, after_moves, run_along, begun}
 use Rattle.world_rules.specs.Safe.{IsSafe}
 use Rattle.world_rules.specs.Laws.{AreSafeAlong}
 use Rattle.world_rules.specs.World.{WorldValue}
@@ -26,7 +26,7 @@ use Rattle.world_rules.specs.World.{WorldValue}
 
 pub data Act : Type 0 where
   Shown : (event : Event) → Act  -- an event was taken
-  Lapsed : (group : Group) → Act  -- the watch of one list has expired
+  ListExpired : (group : Group) → Act  -- the watch of one list has expired
   Decided : Act  -- a turn was made
   Answered : (reply : PutReply) → Act  -- the put that was out was answered
 
@@ -42,7 +42,7 @@ abbrev pub acts_of_event : Event → List Act
 acts_of_event (Changed version object) = shown_of (group_of (kind_of object)) (Changed version object)
 acts_of_event (Deleted kind key) = shown_of (group_of kind) (Deleted kind key)
 acts_of_event (ListEnd group) = shown_of group (ListEnd group)
-acts_of_event WatchesExpired = Lapsed groups.Service ∷ Lapsed groups.Config ∷ []
+acts_of_event WatchesExpired = ListExpired groups.Service ∷ ListExpired groups.Config ∷ []
 acts_of_event (Members names) = []
 acts_of_event (Frame interface bytes) = []
 acts_of_event Ignored = []
@@ -55,7 +55,7 @@ acts_of_turn (Wants put pending) = Decided ∷ []
 
 abbrev pub acts_of_entry : Entry → List Act
 acts_of_entry (Took event) = acts_of_event event
-acts_of_entry (Expired group) = Lapsed group ∷ []
+acts_of_entry (Expired group) = ListExpired group ∷ []
 acts_of_entry (Turned turn) = acts_of_turn turn
 acts_of_entry (Heard reply) = Answered reply ∷ []
 
@@ -101,8 +101,8 @@ IsRunning Takes = ⊤
 IsRunning (Turns outcome) = ⊤
 IsRunning (Stops applied) = ⊥
 IsRunning (Starts list) = ⊥
-IsRunning ConfigLapses = ⊤
-IsRunning (ServicesLapse list) = ⊤
+IsRunning ConfigExpires = ⊤
+IsRunning (ServicesExpire list) = ⊤
 IsRunning (EndsLater before event behind) = ⊤
 
 -- A world explains a run of a core: a controller was started over a store that is safe, and was going to be shown a list of its services;

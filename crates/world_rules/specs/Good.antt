@@ -19,12 +19,12 @@ use Rattle.versioned_map.specs.Entries.{held_at}
 use Rattle.status_store.specs.declared.stored.Stored.{Stored}
 use Rattle.status_store.specs.Places.{service_at}
 use Rattle.status_store.specs.Objects.{stored_at}
-use Rattle.status_store.specs.Changes.{StoreValue, IsKept as IsKeptStore, record_of}
+use Rattle.status_store.specs.Changes.{StoreValue, IsWellFormed, record_of}
 use Rattle.claim_index.specs.Claims.{records_of}
 use Rattle.core_rules.specs.Core.{State}
 use Rattle.core_rules.specs.Run.{Entry, core_after, IsRun}
 use Rattle.core_laws.specs.Shared.{AllShowTerms}
-use Rattle.world_rules.specs.Sight.{Shown, News, Shows, Gone, End, IsTracked}
+use Rattle.world_rules.specs.Tracked.{Shown, Notice, Shows, Gone, End, IsTracked}
 use Rattle.world_rules.specs.Safe.{IsSafe, HasTerms}
 use Rattle.world_rules.specs.World.{WorldValue}
 
@@ -47,55 +47,55 @@ abbrev pub held_of : State → Key → Option Shown
 held_of s key = option_map held_as (held_at key_cmp s.held.services key)
 
 -- what showing an object is for the service
-abbrev pub news_shown : Key → ℕ → Object → List News
-news_shown key version (objects.Service service) =
+abbrev pub notices_shown : Key → ℕ → Object → List Notice
+notices_shown key version (objects.Service service) =
     if same_key service.key key then Shows (record { version = version; holding = service.holding }) ∷ [] else []
-news_shown key version (objects.Pool pool) = []
-news_shown key version (objects.L2 adv) = []
-news_shown key version (objects.Bgp adv) = []
-news_shown key version (objects.Peer peer) = []
-news_shown key version (objects.Community community) = []
-news_shown key version (objects.Namespace namespace) = []
-news_shown key version (objects.Node node) = []
-news_shown key version (objects.Slice slice) = []
+notices_shown key version (objects.Pool pool) = []
+notices_shown key version (objects.L2 adv) = []
+notices_shown key version (objects.Bgp adv) = []
+notices_shown key version (objects.Peer peer) = []
+notices_shown key version (objects.Community community) = []
+notices_shown key version (objects.Namespace namespace) = []
+notices_shown key version (objects.Node node) = []
+notices_shown key version (objects.Slice slice) = []
 
 -- what a deletion is
-abbrev pub news_deleted : Key → Kind → Key → List News
-news_deleted key kinds.Service other = if same_key other key then Gone ∷ [] else []
-news_deleted key kinds.Pool other = []
-news_deleted key kinds.L2 other = []
-news_deleted key kinds.Bgp other = []
-news_deleted key kinds.Peer other = []
-news_deleted key kinds.Community other = []
-news_deleted key kinds.Namespace other = []
-news_deleted key kinds.Node other = []
-news_deleted key kinds.Slice other = []
+abbrev pub notices_deleted : Key → Kind → Key → List Notice
+notices_deleted key kinds.Service other = if same_key other key then Gone ∷ [] else []
+notices_deleted key kinds.Pool other = []
+notices_deleted key kinds.L2 other = []
+notices_deleted key kinds.Bgp other = []
+notices_deleted key kinds.Peer other = []
+notices_deleted key kinds.Community other = []
+notices_deleted key kinds.Namespace other = []
+notices_deleted key kinds.Node other = []
+notices_deleted key kinds.Slice other = []
 
 -- what the end of a list is
-abbrev pub news_ended : Group → List News
-news_ended groups.Service = End ∷ []
-news_ended groups.Config = []
-news_ended groups.Endpoint = []
+abbrev pub notices_ended : Group → List Notice
+notices_ended groups.Service = End ∷ []
+notices_ended groups.Config = []
+notices_ended groups.Endpoint = []
 
 -- what an event is for the service
-abbrev pub news_of : Key → Event → List News
-news_of key (Changed version object) = news_shown key version object
-news_of key (Deleted kind other) = news_deleted key kind other
-news_of key (ListEnd group) = news_ended group
-news_of key Expired = []
-news_of key (Members names) = []
-news_of key (Frame interface bytes) = []
-news_of key Ignored = []
+abbrev pub notices_of : Key → Event → List Notice
+notices_of key (Changed version object) = notices_shown key version object
+notices_of key (Deleted kind other) = notices_deleted key kind other
+notices_of key (ListEnd group) = notices_ended group
+notices_of key Expired = []
+notices_of key (Members names) = []
+notices_of key (Frame interface bytes) = []
+notices_of key Ignored = []
 
 -- what is still to be shown of the service
-abbrev pub news_in : Key → List Event → List News
-news_in key [] = []
-news_in key (event ∷ more) = news_of key event ++ news_in key more
+abbrev pub notices_in : Key → List Event → List Notice
+notices_in key [] = []
+notices_in key (event ∷ more) = notices_of key event ++ notices_in key more
 
 -- the service is followed
 abbrev pub IsTrackedIn : WorldValue → State → Key → Type 0
 IsTrackedIn w s key =
-    IsTracked w.store.counter s.held.services_ended (stored_of w.store key) (held_of s key) (records_of key s.claims) (news_in key w.service_lane)
+    IsTracked w.store.counter s.held.services_ended (stored_of w.store key) (held_of s key) (records_of key s.claims) (notices_in key w.service_lane)
 
 -- ---- what is pending
 
@@ -153,7 +153,7 @@ pub record IsFollowed (w : WorldValue) (s : State) : Type 0 where
 -- The store is safe, in its order and with its versions.
 pub record IsGoodStore (store : StoreValue) : Type 0 where
   pub safe : IsSafe store
-  pub kept : IsKeptStore store
+  pub kept : IsWellFormed store
 
 -- What holds of every world.
 pub record IsGood (w : WorldValue) : Type 0 where

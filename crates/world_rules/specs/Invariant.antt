@@ -16,7 +16,7 @@ use Rattle.versioned_map.specs.Entries.{held_at}
 use Rattle.status_store.specs.declared.stored.Stored.{Stored}
 use Rattle.status_store.specs.Places.{service_at}
 use Rattle.status_store.specs.Objects.{IsStored}
-use Rattle.status_store.specs.Changes.{StoreValue, IsKept, record_of}
+use Rattle.status_store.specs.Changes.{StoreValue, IsWellFormed, record_of}
 use Rattle.claim_index.specs.Claims.{ClaimValue, claims_of, records_of}
 use Rattle.core_rules.specs.Core.{State, is_ready}
 use Rattle.core_laws.specs.Claimed.{IsClaimedAs}
@@ -68,7 +68,7 @@ IsLive s before version key = IsNewer s key version ⊎ Contains before (deletes
 
 -- Versions are at most the store's counter: stored, held and pending ones.
 pub record AreCounted (w : WorldValue) (s : State) : Type 0 where
-  pub stored : IsKept w.store
+  pub stored : IsWellFormed w.store
   pub held : (key : Key) (held : Versioned Service) → IsHeld s key held → held.version ≤ w.store.counter
   pub pending : (before behind : List Event) (version : ℕ) (service : Service) → IsPending w before (shows_service version service) behind → version ≤ w.store.counter
 
@@ -128,7 +128,7 @@ pub record HeldAreClaimed (s : State) : Type 0 where
   pub claims : (key : Key) (c : ClaimValue) → Contains (claims_of key s.claims) c → (held : Versioned Service) × IsHeld s key held
 
 -- Nothing is left waiting that could be served; and while the core isn't ready, nothing is queued.
-pub record IsCalm (s : State) : Type 0 where
+pub record IsQuiescent (s : State) : Type 0 where
   pub quiet : IsQuiet s
   pub idle : is_ready s.held ≡ false → s.queue ≡ []
 
@@ -195,7 +195,7 @@ pub record IsInOrder (w : WorldValue) (s : State) : Type 0 where
   pub live : LiveAreStored w s
   pub deleted : DeletedAreBare w s
   pub held_claimed : HeldAreClaimed s
-  pub calm : IsCalm s
+  pub quiescent : IsQuiescent s
   pub ordered : AreInOrder w s
   pub unheld : UnheldAreShown w s
   pub ends : EndsOnceIn ends_services s.held.services_ended w.service_lane

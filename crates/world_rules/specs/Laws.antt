@@ -7,7 +7,7 @@ use Rattle.kube_model.specs.declared.object.Object.{Object}
 use Rattle.kube_model.specs.declared.record.Record.{Record}
 use Rattle.kube_model.specs.Records.{is_assigned}
 use Rattle.core_laws.specs.Shared.{AllShowTerms}
-use Rattle.status_store.specs.Changes.{StoreValue, IsKept, empty_store}
+use Rattle.status_store.specs.Changes.{StoreValue, IsWellFormed, empty_store}
 use Rattle.world_rules.specs.declared.step.Step.{Step}
 use Rattle.world_rules.specs.Good.{IsGood, IsGoodStore, IsOwn}
 use Rattle.world_rules.specs.Invariant.{ConfigEndsOnce, IsInOrder}
@@ -26,7 +26,7 @@ StepsKeepGood = (old new : WorldValue) (move : Move) → IsStep old move new →
 -- The store is safe, stands in its order, and has no version past its counter; and while the controller is up, all rows hold.
 pub record IsSafeWorld (w : WorldValue) : Type 0 where
   pub safe : IsSafe w.store
-  pub kept : IsKept w.store
+  pub kept : IsWellFormed w.store
   pub ordered : IfSome w.core (IsInOrder w)
 
 -- so it is before and behind each of the moves

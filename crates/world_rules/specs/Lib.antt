@@ -1,4 +1,4 @@
-pub mod Sight
+pub mod Tracked
 pub mod World
 pub mod Safe
 pub mod Good

@@ -25,7 +25,7 @@ use Rattle.core_rules.specs.Turn.{core_turn, put_in}
 use Rattle.core_rules.specs.Run.{Entry, Took, Expired, Turned, Heard}
 use Rattle.core_laws.specs.Shared.{AllShowTerms}
 use Rattle.world_rules.specs.Good.{IsOfGroup}
-use Rattle.world_rules.specs.World.{WorldValue, as_shown, is_of_group, while_up, to_lane, after_edit, after_take, after_turning, after_crash, lapsed}
+use Rattle.world_rules.specs.World.{WorldValue, as_shown, is_of_group, while_up, to_lane, after_edit, after_take, after_turning, after_crash, expired_core}
 
 pub data Move : Type 0 where
   Sets : (object : Object) (holding : Record) → Move  -- somebody sets an object; a service is stored with this record
@@ -35,8 +35,8 @@ pub data Move : Type 0 where
   Turns : (outcome : Outcome) → Move  -- it makes a turn; where it wants a put, the put goes so, and its reply is heard
   Stops : (applied : Bool) → Move  -- it stops; the put that its next turn would want has reached the store, if it is applied
   Starts : (list : List Event) → Move  -- it is started anew, and is going to be shown this list of the services
-  ConfigLapses : Move  -- the watch of the configuration expires
-  ServicesLapse : (list : List Event) → Move  -- that of the services does, and this list is going to be shown
+  ConfigExpires : Move  -- the watch of the configuration expires
+  ServicesExpire : (list : List Event) → Move  -- that of the services does, and this list is going to be shown
   EndsLater : (before : List Event) (event : Event) (behind : List Event) → Move  -- a change is going to be shown ahead of the list's end
 
 -- ---- which moves there are
@@ -63,8 +63,8 @@ IsMove Takes w = ⊤
 IsMove (Turns outcome) w = ⊤
 IsMove (Stops applied) w = ⊤
 IsMove (Starts list) w = IsListOf w.store list
-IsMove ConfigLapses w = ⊤
-IsMove (ServicesLapse list) w = IsListOf w.store list
+IsMove ConfigExpires w = ⊤
+IsMove (ServicesExpire list) w = IsListOf w.store list
 IsMove (EndsLater before event behind) w = w.service_lane ≡ before ++ ListEnd groups.Service ∷ event ∷ behind
 
 -- ---- what each makes of a world
@@ -100,8 +100,8 @@ after_move Takes w = after_take groups.Service w
 after_move (Turns outcome) w = after_turning w.core outcome w
 after_move (Stops applied) w = after_crash applied w
 after_move (Starts list) w = after_start w.core list w
-after_move ConfigLapses w = record w { core = lapsed groups.Config w.core }
-after_move (ServicesLapse list) w = record w { service_lane = relisted w.core list w.service_lane; core = lapsed groups.Service w.core }
+after_move ConfigExpires w = record w { core = expired_core groups.Config w.core }
+after_move (ServicesExpire list) w = record w { service_lane = relisted w.core list w.service_lane; core = expired_core groups.Service w.core }
 after_move (EndsLater before event behind) w = record w { service_lane = before ++ event ∷ ListEnd groups.Service ∷ behind }
 
 -- ---- what each is to the core, the newest first
@@ -123,9 +123,9 @@ entries_turned None outcome store = []
 entries_turned (Some s) outcome store = entries_put (put_in (core_turn s)) outcome store ++ Turned (core_turn s) ∷ []
 
 -- the watch of a list expires
-abbrev pub entries_lapsed : Option State → Group → List Entry
-entries_lapsed None group = []
-entries_lapsed (Some s) group = Expired group ∷ []
+abbrev pub entries_expired : Option State → Group → List Entry
+entries_expired None group = []
+entries_expired (Some s) group = Expired group ∷ []
 
 abbrev pub entries_of : Move → WorldValue → List Entry
 entries_of (Sets object holding) w = []
@@ -135,8 +135,8 @@ entries_of Takes w = entries_taken w.core w.service_lane
 entries_of (Turns outcome) w = entries_turned w.core outcome w.store
 entries_of (Stops applied) w = []
 entries_of (Starts list) w = []
-entries_of ConfigLapses w = entries_lapsed w.core groups.Config
-entries_of (ServicesLapse list) w = entries_lapsed w.core groups.Service
+entries_of ConfigExpires w = entries_expired w.core groups.Config
+entries_of (ServicesExpire list) w = entries_expired w.core groups.Service
 entries_of (EndsLater before event behind) w = []
 
 -- ---- the relation, and lists of moves

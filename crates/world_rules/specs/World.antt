@@ -162,9 +162,9 @@ restarted order None w = record w {
 }
 
 -- the core after a watch of its own has expired
-abbrev pub lapsed : Group → Option State → Option State
-lapsed group None = None
-lapsed group (Some s) = Some (core_expired s group)
+abbrev pub expired_core : Group → Option State → Option State
+expired_core group None = None
+expired_core group (Some s) = Some (core_expired s group)
 
 -- the list of the group in place of what was pending
 abbrev pub listed_anew : ListOrder → Group → Group → StoreValue → Option State → List Event → List Event
@@ -176,7 +176,7 @@ abbrev pub after_expiry : Group → ListOrder → WorldValue → WorldValue
 after_expiry group order w = record w {
   config_lane = listed_anew order groups.Config group w.store w.core w.config_lane;
   service_lane = listed_anew order groups.Service group w.store w.core w.service_lane;
-  core = lapsed group w.core;
+  core = expired_core group w.core;
 }
 
 -- the world after a step

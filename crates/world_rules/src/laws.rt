@@ -9,7 +9,7 @@ ghost use Rattle.world_rules.specs.Laws.{NewStoresAreGood, OwnEndsOnce, RecordsA
 pub fn worlds_are_safe()
     ensures safe { WorldsAreSafe }
     ensures starts { StartsAreGood }
-    ensures news { NewStoresAreGood }
+    ensures new_stores { NewStoresAreGood }
     ensures records { RecordsAreGood }
     ensures steps { StepsKeepGood }
     ensures unmarked { UnmarkedStay }

@@ -4,7 +4,7 @@ use Rattle.std.proofs.lemmas.Bool.{true≢false, and_parts, and_from, eqb-true, 
 use Rattle.std.specs.Prelude.{IsErrOf}
 use Rattle.kube_model.specs.declared.event.Event.{Event}
 use Rattle.core_rules.specs.Core.{State}
-use Rattle.status_store.specs.Changes.{IsKept}
+use Rattle.status_store.specs.Changes.{IsWellFormed}
 use Rattle.world_rules.specs.declared.step.Step.{Step}
 use Rattle.world_rules.specs.declared.step.Step.TheVariants.{Edit, Take, Turn, Crash, Restart, Expire}
 use Rattle.world_rules.specs.declared.step.StepFault.{StepFault}
@@ -47,7 +47,7 @@ made-by true false E L is isn't l = (λ e. (is refl, λ limit. true≢false (sym
 made-by false b E L is isn't l = (λ e. absurd (true≢false (sym e)), λ both. absurd (isn't refl both.0))
 
 -- a step is made exactly where there is such a step and it passes no limit
-pub made-is : (step : Step) (w : WorldValue) → IsKept w.store → (is_made step w ≡ true) ↔ (IsEnabled step w × ¬ (IsLimited step w))
+pub made-is : (step : Step) (w : WorldValue) → IsWellFormed w.store → (is_made step w ≡ true) ↔ (IsEnabled step w × ¬ (IsLimited step w))
 unfolding is_made
 made-is step w kept = made-by (is_enabled step w) (is_limited step w) (IsEnabled step w) (IsLimited step w) (enabled step w kept) (disabled step w kept) (limited step w)
 
@@ -61,7 +61,7 @@ is-not : (b : Bool) (P : Type 0) → (b ≡ true) ↔ P → ¬ (¬ P) → b ≡ 
 is-not true P is isn't = refl
 is-not false P is isn't = absurd (isn't (λ p. true≢false (sym (is.1 p))))
 
-module _ {T : Type 0} (r : Result T StepFault) (step : Step) (w : WorldValue) (kept : IsKept w.store)
+module _ {T : Type 0} (r : Result T StepFault) (step : Step) (w : WorldValue) (kept : IsWellFormed w.store)
     (not_enabled : IsErrOf r NotEnabled ↔ ¬ (IsEnabled step w)) where
   -- a step that was made is made
   pub made-ok : (done : T) → r ≡ Ok done → (IsEnabled step w × IsLimited step w → IsErrOf r Limit ⊎ (IsErrOf r NoMemory × IsTake step)) → is_made step w ≡ true

@@ -2,7 +2,7 @@
 ghost use Rattle.std.specs.Prelude.{◌≡◌, ◌≤◌, IfOk, OnOk, is_some, if◌then◌else◌};
 ghost use Rattle.std.specs.Option.{option_copied};
 ghost use Rattle.core_rules.specs.Turn.{core_turn, put_in};
-ghost use Rattle.status_store.specs.Changes.{IsKept};
+ghost use Rattle.status_store.specs.Changes.{IsWellFormed};
 ghost use Rattle.world_rules.specs.World.{world_step};
 ghost use Rattle.world_trial.specs.Run.{is_made, next_puts, step_puts, after, puts_in, after_draw, draw_puts};
 
@@ -64,7 +64,7 @@ fn step_puts(world: &World, step: &Step) -> Result<u64, NoMemory>
 
 /// Whatever is stored stands in order, at the versions of a counter.
 fn is_kept(world: &World)
-    ensures { IsKept world.now.store }
+    ensures { IsWellFormed world.now.store }
 {
     let _stored = world.store().list();
 }

@@ -12,7 +12,7 @@ told_since-requires-clause-announcers c =
 
 pub told_since-requires-clause-routes : goal.told_since-requires-clause-routes
 told_since-requires-clause-routes c =
-    (c.self.inside.view, were-routes c.in-Ok.standing.routes c.self.inside.view c.apply_noting.new.self c.self.inside.station _ c.in-Ok.ensures.routes c.in-Ok-apply_noting.ensures.stay)
+    (c.self.inside.view, were-routes c.in-Ok.standing.routes c.self.inside.view c.apply_noting.new.self c.self.inside.local _ c.in-Ok.ensures.routes c.in-Ok-apply_noting.ensures.stay)
 
 pub returns-clause-within : goal.returns-clause-within
 returns-clause-within c = rw (← c.self.view_is) (no_limit c.in-Ok-apply_noting.noted _ c.in-Ok-apply_noting.ensures.limit)
@@ -22,9 +22,9 @@ returns-in-Err-apply_noting-clause-limit c = rw (← c.self.view_is) (λ kind co
 
 pub returns-clause-ok : goal.returns-clause-ok
 returns-clause-ok c =
-    let was : state_of c.self.inside.view c.self.inside.station ≡ c.args.self.now = c.self.view_is in
-    changes-are c.self.inside.view c.self.inside.station c.args.event c.in-Ok-apply_noting.noted.0 c.apply_noting.new.self c.in-Ok-told_since.entries
+    let was : state_of c.self.inside.view c.self.inside.local ≡ c.args.self.now = c.self.view_is in
+    changes-are c.self.inside.view c.self.inside.local c.args.event c.in-Ok-apply_noting.noted.0 c.apply_noting.new.self c.in-Ok-told_since.entries
     (c.in-Ok-told_since.ensures.entries c.self.inside.view c.in-Ok.ensures.announcers
-    (were-routes c.in-Ok.standing.routes c.self.inside.view c.apply_noting.new.self c.self.inside.station _ c.in-Ok.ensures.routes c.in-Ok-apply_noting.ensures.stay))
+    (were-routes c.in-Ok.standing.routes c.self.inside.view c.apply_noting.new.self c.self.inside.local _ c.in-Ok.ensures.routes c.in-Ok-apply_noting.ensures.stay))
     c.in-Ok-apply_noting.ensures.ok c.in-Ok-apply_noting.ensures.note
     ∙ ap (λ (s : SpeakerState). changes_of s c.args.event) was

@@ -1,5 +1,0 @@
-use Rattle.field_tables.proofs.LineLaws.{lines_as_told}
-use Rattle.field_tables.proofs.tables.lines_are_told.Goals as goal
-
-pub returns : goal.returns
-returns c = lines_as_told

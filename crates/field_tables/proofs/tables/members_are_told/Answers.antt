@@ -1,5 +1,0 @@
-use Rattle.field_tables.proofs.ObjectLaws.{members_as_told}
-use Rattle.field_tables.proofs.tables.members_are_told.Goals as goal
-
-pub returns : goal.returns
-returns c = members_as_told

@@ -1,5 +1,0 @@
-use Rattle.field_tables.proofs.LineLaws.{others_are_passed_by}
-use Rattle.field_tables.proofs.tables.others_are_passed_by.Goals as goal
-
-pub returns : goal.returns
-returns c = others_are_passed_by

@@ -1,5 +1,0 @@
-use Rattle.field_tables.proofs.ObjectLaws.{stated_as_told}
-use Rattle.field_tables.proofs.tables.stated_objects_are_told.Goals as goal
-
-pub returns : goal.returns
-returns c = stated_as_told

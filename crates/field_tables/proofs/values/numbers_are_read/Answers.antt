@@ -1,5 +1,0 @@
-use Rattle.field_tables.proofs.TypeReads.{numbers_are_read}
-use Rattle.field_tables.proofs.values.numbers_are_read.Goals as goal
-
-pub returns : goal.returns
-returns c = numbers_are_read

@@ -1,5 +1,0 @@
-use Rattle.json_texts.proofs.Readers.{text_maps_are_labels}
-use Rattle.json_texts.proofs.laws.text_maps_are_labels.Goals as goal
-
-pub returns : goal.returns
-returns c = text_maps_are_labels

@@ -1,5 +1,0 @@
-use Rattle.json_texts.proofs.Values.{values_have_texts}
-use Rattle.json_texts.proofs.laws.values_have_texts.Goals as goal
-
-pub returns : goal.returns
-returns c = values_have_texts

@@ -1,5 +1,0 @@
-use Rattle.line_events.proofs.Shown.{lines_show_numbers}
-use Rattle.line_events.proofs.laws.lines_show_numbers.Goals as goal
-
-pub returns : goal.returns
-returns c = lines_show_numbers

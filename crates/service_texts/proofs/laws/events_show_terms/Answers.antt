@@ -1,8 +1,0 @@
-use Rattle.service_texts.proofs.EventTerms.{events_show_terms, events_show_families}
-use Rattle.service_texts.proofs.laws.events_show_terms.Goals as goal
-
-pub returns-clause-terms : goal.returns-clause-terms
-returns-clause-terms c = events_show_terms
-
-pub returns-clause-families : goal.returns-clause-families
-returns-clause-families c = events_show_families

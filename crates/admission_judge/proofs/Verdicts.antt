@@ -35,7 +35,8 @@ named_by s (Ok config) is message = (
   (λ (n : NamesFault s message). let other : compiled s ≡ Err n.0 = (refused_is s n.0).1 n.1 in absurd (cc)),
 )
 named_by s (Err fault) is message = (
-  (λ (e : Refused (fault_text fault) ≡ Refused message). (fault, (refused_is s fault).0 is, same_message message (fault_text fault) (Refused message) refl (sym e))),
+  (λ (e : Refused (fault_text fault) ≡ Refused message).
+      (fault, (refused_is s fault).0 is, same_message message (fault_text fault) (Refused message) refl (sym e))),
   (λ (n : NamesFault s message).
       let other : compiled s ≡ Err n.0 = (refused_is s n.0).1 n.1 in
       let one : fault ≡ n.0 = cc in
@@ -67,5 +68,6 @@ named_is s (Remove kind name) message = named_on (after_change s (Remove kind na
 pub allowed_where : (s : ObjectSet) (change : Change) (verdict : Verdict) → verdict ≡ verdict_of s change → (verdict ≡ Allowed) ↔ IsAllowed s change
 allowed_where s change verdict is = subst (λ (v : Verdict). (v ≡ Allowed) ↔ IsAllowed s change) (sym is) (allowed_is s change)
 
-pub named_where : (s : ObjectSet) (change : Change) (verdict : Verdict) → verdict ≡ verdict_of s change → (message : List ℕ) → (verdict ≡ Refused message) ↔ Names s change message
+pub named_where : (s : ObjectSet) (change : Change) (verdict : Verdict) → verdict ≡ verdict_of s change → (message : List ℕ)
+    → (verdict ≡ Refused message) ↔ Names s change message
 named_where s change verdict is message = subst (λ (v : Verdict). (v ≡ Refused message) ↔ Names s change message) (sym is) (named_is s change message)

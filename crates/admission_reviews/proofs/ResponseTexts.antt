@@ -18,7 +18,8 @@ response_is uid Allowed =
     (append_assoc (quoted uid) (125 ∷ []) (125 ∷ []))
 response_is uid (Refused message) =
     let uid_text : List ℕ = codes ",\"uid\":" ++ (quoted uid ++ 125 ∷ []) in
-    ap (λ (rest : List ℕ). codes "{\"apiVersion\":\"admission.k8s.io/v1\",\"kind\":\"AdmissionReview\",\"response\":{\"allowed\":false,\"status\":{\"message\":" ++ rest)
+    ap (λ (rest : List ℕ). codes "{\"apiVersion\":\"admission.k8s.io/v1\",\"kind\":\"AdmissionReview\",\"response\":{\"allowed\":false,\"status\":{\"message\":"
+    ++ rest)
     (append_assoc (quoted message ++ 125 ∷ []) uid_text (125 ∷ [])
     ∙ append_assoc (quoted message) (125 ∷ []) (uid_text ++ 125 ∷ [])
     ∙ ap (λ (rest : List ℕ). quoted message ++ 125 ∷ (codes ",\"uid\":" ++ rest)) (append_assoc (quoted uid) (125 ∷ []) (125 ∷ [])))

@@ -5,7 +5,8 @@ ghost use Rattle.json_fields.specs.Reading.{Gives, GivesIf};
 ghost use Rattle.kube_events.specs.Fields.{name_field};
 ghost use Rattle.admission_reviews.specs.Given.{GivesLine};
 ghost use Rattle.admission_reviews.specs.Admitted.{admitted_of};
-ghost use Rattle.admission_reviews.specs.Reviews.{set_change, remove_change, removal, written_of, gone_of, change_by, request_of, is_review, review_of, review_of_line};
+ghost use Rattle.admission_reviews.specs.Reviews.{set_change, remove_change, removal, written_of, gone_of};
+ghost use Rattle.admission_reviews.specs.Reviews.{change_by, request_of, is_review, review_of, review_of_line};
 
 use crate::admitted::{admitted_from, is_config_kind};
 use crate::operation::Operation;

@@ -1,5 +1,6 @@
 -- Claims leave the numbered claims: the other claims of a key, all of a key, or those of keys that a list doesn't show.
-use Rattle.std.proofs.Common.{◌≡◌, ℕ, ◌+◌, ◌-◌, ◌<◌, ◌≤◌, ◌==◌, Bool, true, false, cond, not, ◌&&◌, ◌||◌, List, [], ◌∷◌, ◌++◌, filter, length, Option, Some, None, is_some, refl, sym, ap, ◌∙◌, subst, arith, All, nat_lt, ⊎_elim, Less, append-nil}
+use Rattle.std.proofs.Common.{◌≡◌, ℕ, ◌+◌, ◌-◌, ◌<◌, ◌≤◌, ◌==◌, Bool, true, false, cond, not, ◌&&◌, ◌||◌, List, [], ◌∷◌, ◌++◌, filter}
+use Rattle.std.proofs.Common.{length, Option, Some, None, is_some, refl, sym, ap, ◌∙◌, subst, arith, All, nat_lt, ⊎_elim, Less, append-nil}
 use Rattle.std.specs.Ordering.{nat_cmp}
 use Rattle.std.specs.Option.{option_map, option_and_then}
 use Rattle.std.specs.List.{AllByRecursion, Contains, find, list_any, slice_get}
@@ -21,7 +22,8 @@ use Rattle.claim_index.specs.Index.{numbers_of, first_but, first_other}
 
 -- ---- filters and searches along a list
 module _ {X : Type 0} where
-  twice-by : (S : X → Bool) (t u : Bool) (x : X) (kept rest : List X) → (t && S x) ≡ u → filter S kept ≡ rest → filter S (cond t (x ∷ kept) kept) ≡ cond u (x ∷ rest) rest
+  twice-by : (S : X → Bool) (t u : Bool) (x : X) (kept rest : List X) → (t && S x) ≡ u → filter S kept ≡ rest
+      → filter S (cond t (x ∷ kept) kept) ≡ cond u (x ∷ rest) rest
   twice-by S true u x kept rest e ih = cc
   twice-by S false u x kept rest e ih = rw (← e) ih
 
@@ -29,11 +31,13 @@ module _ {X : Type 0} where
   pub filter-twice : (S T U : X → Bool) (xs : List X) → ((x : X) → Contains xs x → (T x && S x) ≡ U x) → filter S (filter T xs) ≡ filter U xs
   filter-twice S T U [] each = refl
   filter-twice S T U (x ∷ xs) each =
-      twice-by S (T x) (U x) x (filter T xs) (filter U xs) (each x (contains-first x xs)) (filter-twice S T U xs (λ y there. each y (contains-later x xs y there)))
+      twice-by S (T x) (U x) x (filter T xs) (filter U xs) (each x (contains-first x xs))
+      (filter-twice S T U xs (λ y there. each y (contains-later x xs y there)))
 
   pub filter-whole : (T : X → Bool) (xs : List X) → ((x : X) → Contains xs x → T x ≡ true) → filter T xs ≡ xs
   filter-whole T [] each = refl
-  filter-whole T (x ∷ xs) each = rw (each x (contains-first x xs)) (ap (λ (l : List X). x ∷ l) (filter-whole T xs (λ y there. each y (contains-later x xs y there))))
+  filter-whole T (x ∷ xs) each =
+      rw (each x (contains-first x xs)) (ap (λ (l : List X). x ∷ l) (filter-whole T xs (λ y there. each y (contains-later x xs y there))))
 
   within-by : (b : Bool) (y : X) (kept ys : List X) → length kept ≤ length ys → length (cond b (y ∷ kept) kept) ≤ length (y ∷ ys)
   within-by true y kept ys h = omega arith
@@ -59,7 +63,8 @@ module _ {X : Type 0} where
       (λ more. shorter-by (T y) y (filter T ys) ys (filter-shorter T ys x more e))
       (contains-cons y ys x there)
 
-  found-by : (T : X → Bool) (b : Bool) (y : X) (ys : List X) (x : X) → b ≡ T y → (find T ys ≡ Some x → Contains ys x × (T x ≡ true)) → cond b (Some y) (find T ys) ≡ Some x → Contains (y ∷ ys) x × (T x ≡ true)
+  found-by : (T : X → Bool) (b : Bool) (y : X) (ys : List X) (x : X) → b ≡ T y → (find T ys ≡ Some x → Contains ys x × (T x ≡ true))
+      → cond b (Some y) (find T ys) ≡ Some x → Contains (y ∷ ys) x × (T x ≡ true)
   found-by T true y ys x s ih e = let same : y ≡ x = cc in (subst (Contains (y ∷ ys)) same (contains-first y ys), ap T (sym same) ∙ sym s)
   found-by T false y ys x s ih e = let found = ih e in (contains-later y ys x found.0, found.1)
 
@@ -120,15 +125,18 @@ module _ {X : Type 0} where
       ⊎_elim
       (λ first. ⊎_elim
       (λ second. sym first ∙ second)
-      (λ later. let below : e.0 < q.0 = above-item e.0 items q sorted.0 later in let is : e.0 ≡ p.0 = ap (λ (x : ℕ × X). x.0) first in absurd (omega (arith, below, is, same)))
+      (λ later. let below : e.0 < q.0 = above-item e.0 items q sorted.0 later in let is : e.0 ≡ p.0 = ap (λ (x : ℕ × X). x.0) first in
+      absurd (omega (arith, below, is, same)))
       (contains-cons e items q also))
       (λ more. ⊎_elim
-      (λ second. let below : e.0 < p.0 = above-item e.0 items p sorted.0 more in let is : e.0 ≡ q.0 = ap (λ (x : ℕ × X). x.0) second in absurd (omega (arith, below, is, same)))
+      (λ second. let below : e.0 < p.0 = above-item e.0 items p sorted.0 more in let is : e.0 ≡ q.0 = ap (λ (x : ℕ × X). x.0) second in
+      absurd (omega (arith, below, is, same)))
       (λ later. unique items p q sorted.1 more later same)
       (contains-cons e items q also))
       (contains-cons e items p there)
 
-  least-by : (T : ℕ × X → Bool) (b : Bool) (e : ℕ × X) (items : List (ℕ × X)) (p q : ℕ × X) → b ≡ T e → AllByRecursion (λ m. nat_cmp e.0 m ≡ Less) (keys_of items)
+  least-by : (T : ℕ × X → Bool) (b : Bool) (e : ℕ × X) (items : List (ℕ × X)) (p q : ℕ × X) → b ≡ T e
+      → AllByRecursion (λ m. nat_cmp e.0 m ≡ Less) (keys_of items)
       → (find T items ≡ Some q → Contains items p → q.0 ≤ p.0) → cond b (Some e) (find T items) ≡ Some q → Contains (e ∷ items) p → T p ≡ true → q.0 ≤ p.0
   least-by T true e items p q s above ih found there passes =
       let same : e ≡ q = cc in
@@ -167,11 +175,13 @@ module _ {X : Type 0} where
   lookup-here n [] x sorted there = absurd (contains-none (n, x) there)
   lookup-here n (e ∷ items) x sorted there =
       ⊎_elim
-      (λ same. let number : e.0 ≡ n = ap (λ (p : ℕ × X). p.0) same in let value : e.1 ≡ x = ap (λ (p : ℕ × X). p.1) same in rw (number-itself e.0 n number) (ap (λ (y : X). Some y) value))
+      (λ same. let number : e.0 ≡ n = ap (λ (p : ℕ × X). p.0) same in let value : e.1 ≡ x = ap (λ (p : ℕ × X). p.1) same in
+      rw (number-itself e.0 n number) (ap (λ (y : X). Some y) value))
       (λ more. let below : e.0 < n = above-item e.0 items (n, x) sorted.0 more in rw (number-apart e.0 n below) (lookup-here n items x sorted.1 more))
       (contains-cons e items (n, x) there)
 
-  kept-by : (b : Bool) (n m : ℕ) (e : ℕ × X) (kept items : List (ℕ × X)) → (e.0 == m) ≡ b → (m == n) ≡ false → lookup (λ k. k == n) kept ≡ lookup (λ k. k == n) items
+  kept-by : (b : Bool) (n m : ℕ) (e : ℕ × X) (kept items : List (ℕ × X)) → (e.0 == m) ≡ b → (m == n) ≡ false
+      → lookup (λ k. k == n) kept ≡ lookup (λ k. k == n) items
       → lookup (λ k. k == n) (cond (not b) (e ∷ kept) kept) ≡ cond (e.0 == n) (Some e.1) (lookup (λ k. k == n) items)
   kept-by true n m e kept items s apart ih = rw (number-other e.0 m n s apart) ih
   kept-by false n m e kept items s apart ih = ap (λ (o : Option X). cond (e.0 == n) (Some e.1) o) ih
@@ -201,7 +211,8 @@ module _ {X : Type 0} where
   values-filter T [] = refl
   values-filter T (e ∷ items) = values-by (T e.1) e (filter (λ p. T p.1) items) (filter T (values_of items)) (values-filter T items)
     where
-      values-by : (b : Bool) (e : ℕ × X) (kept : List (ℕ × X)) (rest : List X) → values_of kept ≡ rest → values_of (cond b (e ∷ kept) kept) ≡ cond b (e.1 ∷ rest) rest
+      values-by : (b : Bool) (e : ℕ × X) (kept : List (ℕ × X)) (rest : List X) → values_of kept ≡ rest
+          → values_of (cond b (e ∷ kept) kept) ≡ cond b (e.1 ∷ rest) rest
       values-by true e kept rest ih = ap (λ (l : List X). e.1 ∷ l) ih
       values-by false e kept rest ih = ih
 
@@ -227,12 +238,14 @@ number-of key items m there =
     let kept = filter-contains (λ (p : ℕ × ClaimValue). same_key p.1.key key) items found.0 found.1 in
     record { item = found.0; stands = kept.0; number = found.2; own = kept.1 }
 
-numbers-contain : (key : Key) (items : List (ℕ × ClaimValue)) (p : ℕ × ClaimValue) → Contains items p → same_key p.1.key key ≡ true → Contains (numbers_of key items) p.0
+numbers-contain : (key : Key) (items : List (ℕ × ClaimValue)) (p : ℕ × ClaimValue) → Contains items p → same_key p.1.key key ≡ true
+    → Contains (numbers_of key items) p.0
 numbers-contain key items p there own =
     keys-contain (filter (λ (q : ℕ × ClaimValue). same_key q.1.key key) items) p (filter-keeps (λ (q : ℕ × ClaimValue). same_key q.1.key key) items p there own)
 
 -- the item of the number is of the key
-own-number : (m : ℕ) (key : Key) (items : List (ℕ × ClaimValue)) (p : ℕ × ClaimValue) → Ascending items → IsNumberOf m key items → Contains items p → (p.0 == m) ≡ true → same_key p.1.key key ≡ true
+own-number : (m : ℕ) (key : Key) (items : List (ℕ × ClaimValue)) (p : ℕ × ClaimValue) → Ascending items → IsNumberOf m key items → Contains items p
+    → (p.0 == m) ≡ true → same_key p.1.key key ≡ true
 own-number m key items p sorted is there e =
     let same : p.0 ≡ is.item.0 = same-number p.0 m e ∙ sym is.number in
     let item : p ≡ is.item = unique items p is.item sorted there is.stands same in
@@ -244,7 +257,8 @@ pub record IsOther (n m : ℕ) (c : ClaimValue) (items : List (ℕ × ClaimValue
   pub apart : (m == n) ≡ false
   pub is : IsNumberOf m c.key items
 
-other-by : (n m : ℕ) (items : List (ℕ × ClaimValue)) (o : Option ClaimValue) → lookup (λ k. k == n) items ≡ o → option_and_then (λ c. first_but n (numbers_of c.key items)) o ≡ Some m → (c : ClaimValue) × IsOther n m c items
+other-by : (n m : ℕ) (items : List (ℕ × ClaimValue)) (o : Option ClaimValue) → lookup (λ k. k == n) items ≡ o
+    → option_and_then (λ c. first_but n (numbers_of c.key items)) o ≡ Some m → (c : ClaimValue) × IsOther n m c items
 other-by n m items None s e = absurd (cc)
 other-by n m items (Some c) s e =
     let found = find-found (λ k. not (k == n)) (numbers_of c.key items) m e in
@@ -255,7 +269,8 @@ other-is n m items e = other-by n m items (lookup (λ k. k == n) items) refl e
 
 -- Other claims of the key of the claim of this number have left, and nothing else.
 pub record IsThinned (n : ℕ) (before now : List (ℕ × ClaimValue)) : Type 0 where
-  pub alone : (c : ClaimValue) → lookup (λ k. k == n) before ≡ Some c → (lookup (λ k. k == n) now ≡ Some c) × (filter (is_alone n c.key) now ≡ filter (is_alone n c.key) before)
+  pub alone : (c : ClaimValue) → lookup (λ k. k == n) before ≡ Some c
+      → (lookup (λ k. k == n) now ≡ Some c) × (filter (is_alone n c.key) now ≡ filter (is_alone n c.key) before)
   pub ascending : Ascending now → Ascending before
 
 pub thinned-start : (n : ℕ) (items : List (ℕ × ClaimValue)) → IsThinned n items items
@@ -265,7 +280,8 @@ step-by : (b s t : Bool) → (b ≡ true → s ≡ true) → (b ≡ true → t �
 step-by true s t own apart = rw (own refl, apart refl) refl
 step-by false s t own apart = refl
 
-pub thinned-step : (n m : ℕ) (before now : List (ℕ × ClaimValue)) → Ascending now → first_other n now ≡ Some m → IsThinned n before now → IsThinned n before (filter (λ p. not (p.0 == m)) now)
+pub thinned-step : (n m : ℕ) (before now : List (ℕ × ClaimValue)) → Ascending now → first_other n now ≡ Some m → IsThinned n before now
+    → IsThinned n before (filter (λ p. not (p.0 == m)) now)
 thinned-step n m before now sorted e thin =
     let other = other-is n m now e in
     record {
@@ -273,7 +289,8 @@ thinned-step n m before now sorted e thin =
       ascending = λ _. thin.ascending sorted;
     }
   where
-    kept : (d : ClaimValue) → IsOther n m d now → (c : ClaimValue) → lookup (λ k. k == n) now ≡ Some c → filter (is_alone n c.key) (filter (λ p. not (p.0 == m)) now) ≡ filter (is_alone n c.key) now
+    kept : (d : ClaimValue) → IsOther n m d now → (c : ClaimValue) → lookup (λ k. k == n) now ≡ Some c
+        → filter (is_alone n c.key) (filter (λ p. not (p.0 == m)) now) ≡ filter (is_alone n c.key) now
     kept d other c here =
         let same_some : Some d ≡ Some c = sym other.here ∙ here in
         let same : d ≡ c = cc in
@@ -291,7 +308,8 @@ alone-by : (s t : Bool) → (s ≡ true → t ≡ true) → (not s || t) ≡ tru
 alone-by true t is = is refl
 alone-by false t is = refl
 
-pub thinned-end : (n : ℕ) (before now : List (ℕ × ClaimValue)) → first_other n now ≡ None → IsThinned n before now → (c : ClaimValue) → lookup (λ k. k == n) before ≡ Some c → now ≡ filter (is_alone n c.key) before
+pub thinned-end : (n : ℕ) (before now : List (ℕ × ClaimValue)) → first_other n now ≡ None → IsThinned n before now → (c : ClaimValue)
+    → lookup (λ k. k == n) before ≡ Some c → now ≡ filter (is_alone n c.key) before
 thinned-end n before now e thin c here =
     let so_far = thin.alone c here in
     let none : first_but n (numbers_of c.key now) ≡ None = sym (ap (option_and_then (λ (d : ClaimValue). first_but n (numbers_of d.key now))) so_far.0) ∙ e in
@@ -333,17 +351,20 @@ pub all-left : (key : Key) (n : ℕ) (rest : List ℕ) (items thinned : List (�
 all-left key n rest items thinned sorted e each =
     let is = number-of key items n (subst (λ (l : List ℕ). Contains l n) (sym e) (contains-first n rest)) in
     let c = is.item.1 in
-    let here : lookup (λ k. k == n) items ≡ Some c = subst (λ (m : ℕ). lookup (λ k. k == m) items ≡ Some c) is.number (lookup-here is.item.0 items c sorted is.stands) in
+    let here : lookup (λ k. k == n) items ≡ Some c =
+    subst (λ (m : ℕ). lookup (λ k. k == m) items ≡ Some c) is.number (lookup-here is.item.0 items c sorted is.stands) in
     let key_is : c.key ≡ key = same_key-is c.key key is.own in
     ap (filter (λ (p : ℕ × ClaimValue). not (p.0 == n))) (each c here)
     ∙ filter-twice (λ p. not (p.0 == n)) (is_alone n c.key) (λ p. not (same_key p.1.key key)) items
     (λ p there. last-by (same_key p.1.key c.key) (p.0 == n) (same_key p.1.key key) (ap (same_key p.1.key) key_is) (own-number n key items p sorted is there))
 
-pub others-values : (key : Key) (items left : List (ℕ × ClaimValue)) → left ≡ filter (λ p. not (same_key p.1.key key)) items → values_of left ≡ others key (values_of items)
+pub others-values : (key : Key) (items left : List (ℕ × ClaimValue)) → left ≡ filter (λ p. not (same_key p.1.key key)) items
+    → values_of left ≡ others key (values_of items)
 others-values key items left e = ap (λ (l : List (ℕ × ClaimValue)). values_of l) e ∙ values-filter (λ c. not (same_key c.key key)) items
 
 -- ---- a claim came at the end, and is left alone
-pushed-by : (s t : Bool) (e : ℕ × ClaimValue) (kept : List (ℕ × ClaimValue)) (rest : List ClaimValue) (c : ClaimValue) → t ≡ false → values_of kept ≡ rest ++ c ∷ []
+pushed-by : (s t : Bool) (e : ℕ × ClaimValue) (kept : List (ℕ × ClaimValue)) (rest : List ClaimValue) (c : ClaimValue) → t ≡ false
+    → values_of kept ≡ rest ++ c ∷ []
     → values_of (cond (not s || t) (e ∷ kept) kept) ≡ cond (not s) (e.1 ∷ rest) rest ++ c ∷ []
 pushed-by true t e kept rest c apart ih = rw apart ih
 pushed-by false t e kept rest c apart ih = ap (λ (l : List ClaimValue). e.1 ∷ l) ih
@@ -352,24 +373,29 @@ values-pushed : (items : List (ℕ × ClaimValue)) (n : ℕ) (c : ClaimValue) �
     → values_of (filter (is_alone n c.key) (items ++ (n, c) ∷ [])) ≡ others c.key (values_of items) ++ c ∷ []
 values-pushed [] n c fresh = rw (same_key-itself c.key, number-itself n n refl) refl
 values-pushed (e ∷ items) n c fresh =
-    pushed-by (same_key e.1.key c.key) (e.0 == n) e (filter (is_alone n c.key) (items ++ (n, c) ∷ [])) (others c.key (values_of items)) c (number-apart e.0 n fresh.0) (values-pushed items n c fresh.1)
+    pushed-by (same_key e.1.key c.key) (e.0 == n) e (filter (is_alone n c.key) (items ++ (n, c) ∷ [])) (others c.key (values_of items)) c
+    (number-apart e.0 n fresh.0) (values-pushed items n c fresh.1)
 
-pub settled-assigned : (items more thinned : List (ℕ × ClaimValue)) (n : ℕ) (c : ClaimValue) → is_assigned c.holding ≡ true → All (λ p. p.0 < n) items → more ≡ items ++ (n, c) ∷ []
+pub settled-assigned : (items more thinned : List (ℕ × ClaimValue)) (n : ℕ) (c : ClaimValue) → is_assigned c.holding ≡ true → All (λ p. p.0 < n) items
+    → more ≡ items ++ (n, c) ∷ []
     → ((d : ClaimValue) → lookup (λ k. k == n) more ≡ Some d → thinned ≡ filter (is_alone n d.key) more)
     → values_of thinned ≡ settled c.key c.holding c.terms (values_of items)
 settled-assigned items more thinned n c assigned all e each =
     let fresh = recursion_from_All (λ (p : ℕ × ClaimValue). p.0 < n) items all in
-    let here : lookup (λ k. k == n) more ≡ Some c = subst (λ (l : List (ℕ × ClaimValue)). lookup (λ k. k == n) l ≡ Some c) (sym e) (lookup-pushed items n c fresh) in
+    let here : lookup (λ k. k == n) more ≡ Some c =
+    subst (λ (l : List (ℕ × ClaimValue)). lookup (λ k. k == n) l ≡ Some c) (sym e) (lookup-pushed items n c fresh) in
     let left : thinned ≡ filter (is_alone n c.key) (items ++ (n, c) ∷ []) = each c here ∙ ap (filter (is_alone n c.key)) e in
     rw assigned (ap (λ (l : List (ℕ × ClaimValue)). values_of l) left ∙ values-pushed items n c fresh)
 
-pub settled-unassigned : (items left : List (ℕ × ClaimValue)) (key : Key) (r : Record) (t : Terms) → is_assigned r ≡ false → left ≡ filter (λ p. not (same_key p.1.key key)) items
+pub settled-unassigned : (items left : List (ℕ × ClaimValue)) (key : Key) (r : Record) (t : Terms) → is_assigned r ≡ false
+    → left ≡ filter (λ p. not (same_key p.1.key key)) items
     → values_of left ≡ settled key r t (values_of items)
 settled-unassigned items left key r t unassigned e = rw unassigned (others-values key items left e ∙ sym (append-nil (others key (values_of items))))
 
 -- ---- claims of keys that a list doesn't show
 module _ {X : Type 0} where
-  both-by : (T S : X → Bool) (b : Bool) (y : X) (ys : List X) (q : X) → b ≡ T y → S q ≡ true → (find T ys ≡ Some q → find (λ x. T x && S x) ys ≡ Some q) → cond b (Some y) (find T ys) ≡ Some q
+  both-by : (T S : X → Bool) (b : Bool) (y : X) (ys : List X) (q : X) → b ≡ T y → S q ≡ true → (find T ys ≡ Some q → find (λ x. T x && S x) ys ≡ Some q)
+      → cond b (Some y) (find T ys) ≡ Some q
       → cond (b && S y) (Some y) (find (λ x. T x && S x) ys) ≡ Some q
   both-by T S true y ys q s passes ih e = let same : y ≡ q = cc in rw (ap S same ∙ passes) e
   both-by T S false y ys q s passes ih e = ih e
@@ -408,7 +434,8 @@ module _ (lists : Key → Bool) where
   passed-by : (k next m : ℕ) → not (nat_lt m next) ≡ true → (not (nat_lt k next) ≡ true → m ≤ k) → (k ≡ m → ⊥) → nat_lt k next ≡ nat_lt k (m + 1)
   passed-by k next m from least other = grind (arith, nat_tests)
 
-  pub unlisted-step : (items : List (ℕ × ClaimValue)) (next : ℕ) (q : ℕ × ClaimValue) → Ascending items → find (λ p. not (nat_lt p.0 next)) items ≡ Some q → lists q.1.key ≡ true
+  pub unlisted-step : (items : List (ℕ × ClaimValue)) (next : ℕ) (q : ℕ × ClaimValue) → Ascending items → find (λ p. not (nat_lt p.0 next)) items ≡ Some q
+      → lists q.1.key ≡ true
       → find (is_due (q.0 + 1)) items ≡ find (is_due next) items
   unlisted-step items next q sorted e listed =
       let found = find-found (λ (p : ℕ × ClaimValue). not (nat_lt p.0 next)) items q e in
@@ -417,7 +444,8 @@ module _ (lists : Key → Bool) where
       (λ passes. find-least (λ p. not (nat_lt p.0 next)) items p q sorted e there passes)
       (λ same. true≢false (sym listed ∙ ap (λ (x : ℕ × ClaimValue). lists x.1.key) (sym (unique items p q sorted there found.0 same)) ∙ unlisted)))))
 
-  pub unlisted-found : (items : List (ℕ × ClaimValue)) (next : ℕ) (q : ℕ × ClaimValue) → find (λ p. not (nat_lt p.0 next)) items ≡ Some q → lists q.1.key ≡ false → find (is_due next) items ≡ Some q
+  pub unlisted-found : (items : List (ℕ × ClaimValue)) (next : ℕ) (q : ℕ × ClaimValue) → find (λ p. not (nat_lt p.0 next)) items ≡ Some q
+      → lists q.1.key ≡ false → find (is_due next) items ≡ Some q
   unlisted-found items next q e unlisted = find-both (λ p. not (nat_lt p.0 next)) (λ p. not (lists p.1.key)) items q e (ap not unlisted)
 
   pub unlisted-none : (items : List (ℕ × ClaimValue)) (next : ℕ) → find (λ p. not (nat_lt p.0 next)) items ≡ None → find (is_due next) items ≡ None
@@ -436,10 +464,12 @@ module _ (lists : Key → Bool) where
   due-by None from m now s e = absurd (cc)
   due-by (Some q) from m now s e = (q, s, (cc))
 
-  due-is : (from m : ℕ) (now : List (ℕ × ClaimValue)) → option_map (λ p. p.0) (find (is_due from) now) ≡ Some m → (q : ℕ × ClaimValue) × (find (is_due from) now ≡ Some q) × (q.0 ≡ m)
+  due-is : (from m : ℕ) (now : List (ℕ × ClaimValue)) → option_map (λ p. p.0) (find (is_due from) now) ≡ Some m
+      → (q : ℕ × ClaimValue) × (find (is_due from) now ≡ Some q) × (q.0 ≡ m)
   due-is from m now e = due-by (find (is_due from) now) from m now refl e
 
-  pub cleared-smaller : (from m : ℕ) (now : List (ℕ × ClaimValue)) → option_map (λ p. p.0) (find (is_due from) now) ≡ Some m → length (filter (λ p. not (p.0 == m)) now) < length now
+  pub cleared-smaller : (from m : ℕ) (now : List (ℕ × ClaimValue)) → option_map (λ p. p.0) (find (is_due from) now) ≡ Some m
+      → length (filter (λ p. not (p.0 == m)) now) < length now
   cleared-smaller from m now e =
       let due = due-is from m now e in
       let found = find-found (is_due from) now due.0 due.1 in
@@ -453,7 +483,8 @@ module _ (lists : Key → Bool) where
   below-by k from m true below listed least = refl
   below-by k from m false below listed least = grind (arith, nat_tests)
 
-  pub cleared-step : (from m : ℕ) (before now : List (ℕ × ClaimValue)) → Ascending now → option_map (λ p. p.0) (find (is_due from) now) ≡ Some m → IsCleared from before now
+  pub cleared-step : (from m : ℕ) (before now : List (ℕ × ClaimValue)) → Ascending now → option_map (λ p. p.0) (find (is_due from) now) ≡ Some m
+      → IsCleared from before now
       → IsCleared m before (filter (λ p. not (p.0 == m)) now)
   cleared-step from m before now sorted e clear =
       let due = due-is from m now e in
@@ -466,7 +497,8 @@ module _ (lists : Key → Bool) where
             ∙ clear.kept;
         listed = λ p there below.
             let stood = filter-contains (λ (x : ℕ × ClaimValue). not (x.0 == m)) now p there in
-            below-by p.0 from m (lists p.1.key) below (clear.listed p stood.0) (λ passes. subst (λ (k : ℕ). k ≤ p.0) due.2 (find-least (is_due from) now p due.0 sorted due.1 stood.0 passes));
+            below-by p.0 from m (lists p.1.key) below (clear.listed p stood.0)
+            (λ passes. subst (λ (k : ℕ). k ≤ p.0) due.2 (find-least (is_due from) now p due.0 sorted due.1 stood.0 passes));
       }
 
   none-due : (o : Option (ℕ × ClaimValue)) → option_map (λ p. p.0) o ≡ None → o ≡ None
@@ -477,18 +509,23 @@ module _ (lists : Key → Bool) where
   end-by k from true listed e = refl
   end-by k from false listed e = grind (arith, nat_tests)
 
-  pub cleared-end : (from : ℕ) (before now : List (ℕ × ClaimValue)) → option_map (λ p. p.0) (find (is_due from) now) ≡ None → IsCleared from before now → now ≡ filter (λ p. lists p.1.key) before
+  pub cleared-end : (from : ℕ) (before now : List (ℕ × ClaimValue)) → option_map (λ p. p.0) (find (is_due from) now) ≡ None → IsCleared from before now
+      → now ≡ filter (λ p. lists p.1.key) before
   cleared-end from before now e clear =
       let none = none-due (find (is_due from) now) e in
-      sym (filter-whole (λ p. lists p.1.key) now (λ p there. end-by p.0 from (lists p.1.key) (clear.listed p there) (find-none (is_due from) now p none there))) ∙ clear.kept
+      sym (filter-whole (λ p. lists p.1.key) now (λ p there. end-by p.0 from (lists p.1.key) (clear.listed p there) (find-none (is_due from) now p none there)))
+      ∙ clear.kept
 
-  any-by : (l : Bool) (p : ℕ × ClaimValue) (o : Option (ℕ × ClaimValue)) (rest : Bool) → is_some (option_map (λ q. q.0) o) ≡ rest → is_some (option_map (λ q. q.0) (cond (not l) (Some p) o)) ≡ (not l || rest)
+  any-by : (l : Bool) (p : ℕ × ClaimValue) (o : Option (ℕ × ClaimValue)) (rest : Bool) → is_some (option_map (λ q. q.0) o) ≡ rest
+      → is_some (option_map (λ q. q.0) (cond (not l) (Some p) o)) ≡ (not l || rest)
   any-by true p o rest ih = ih
   any-by false p o rest ih = refl
 
-  pub any-unlisted : (items : List (ℕ × ClaimValue)) → is_some (option_map (λ p. p.0) (find (is_due 0) items)) ≡ list_any (λ c. not (lists c.key)) (values_of items)
+  pub any-unlisted : (items : List (ℕ × ClaimValue))
+      → is_some (option_map (λ p. p.0) (find (is_due 0) items)) ≡ list_any (λ c. not (lists c.key)) (values_of items)
   any-unlisted [] = refl
-  any-unlisted (p ∷ items) = rw (from-none p.0) (any-by (lists p.1.key) p (find (is_due 0) items) (list_any (λ c. not (lists c.key)) (values_of items)) (any-unlisted items))
+  any-unlisted (p ∷ items) =
+      rw (from-none p.0) (any-by (lists p.1.key) p (find (is_due 0) items) (list_any (λ c. not (lists c.key)) (values_of items)) (any-unlisted items))
     where
       from-none : (k : ℕ) → nat_lt k 0 ≡ false
       from-none k = grind (arith, nat_tests)

@@ -1,5 +1,7 @@
 -- The least of several candidates is the least usable number, and each usable number is a candidate.
-use Rattle.std.proofs.Common.{◌≡◌, ℕ, ◌+◌, ◌-◌, ◌<◌, ◌≤◌, suc, zero, Bool, true, false, cond, not, ◌&&◌, ◌||◌, leb, eqb, add-one, get_or, IfSome, IfNone, List, [], ◌∷◌, take, drop, filter, length, Option, Some, None, ◌⊎◌, inl, inr, refl, sym, ap, ◌∙◌, subst, arith, ⊎_elim, eq-or-lt_of_le, leb-true, true≢false}
+use Rattle.std.proofs.Common.{◌≡◌, ℕ, ◌+◌, ◌-◌, ◌<◌, ◌≤◌, suc, zero, Bool, true, false, cond, not, ◌&&◌, ◌||◌, leb, eqb}
+use Rattle.std.proofs.Common.{add-one, get_or, IfSome, IfNone, List, [], ◌∷◌, take, drop, filter, length, Option, Some, None}
+use Rattle.std.proofs.Common.{◌⊎◌, inl, inr, refl, sym, ap, ◌∙◌, subst, arith, ⊎_elim, eq-or-lt_of_le, leb-true, true≢false}
 use Rattle.std.proofs.lemmas.Bool.{cases_lt, and_parts, and_from, or_left, or_right, or_cases, le-leb, not-true, not-false, false_from_ne_true}
 use Rattle.std.proofs.lemmas.Bool.Decides.{nat_tests}
 use Rattle.std.proofs.lemmas.List.{take_more, take-append-drop}
@@ -47,10 +49,12 @@ least_here test low count n same passes =
     let first : test low ≡ true = ap test same ∙ passes in
     rw first (ap (λ (m : ℕ). Some m) same)
 
-least_later : (test : ℕ → Bool) (low count : ℕ) (found : Option ℕ) → test low ≡ false → least_between test (low + 1) count ≡ found → least_between test low (suc count) ≡ found
+least_later : (test : ℕ → Bool) (low count : ℕ) (found : Option ℕ) → test low ≡ false → least_between test (low + 1) count ≡ found
+    → least_between test low (suc count) ≡ found
 least_later test low count found fails rest = rw fails rest
 
-pub least_between-some : (test : ℕ → Bool) (count low n : ℕ) → low ≤ n → n < low + count → test n ≡ true → ((m : ℕ) → low ≤ m → m < n → test m ≡ false) → least_between test low count ≡ Some n
+pub least_between-some : (test : ℕ → Bool) (count low n : ℕ) → low ≤ n → n < low + count → test n ≡ true → ((m : ℕ) → low ≤ m → m < n → test m ≡ false)
+    → least_between test low count ≡ Some n
 least_between-some test zero low n from below passes ahead = absurd (omega (arith, from, below))
 least_between-some test (suc count) low n from below passes ahead =
     ⊎_elim
@@ -70,15 +74,18 @@ abbrev pub Ahead : (ℕ → Type 0) → (ℕ → Bool) → ℕ → ℕ → Optio
 Ahead P test low high (Some n) = (low ≤ n) × (n ≤ high) × (test n ≡ true) × ((m : ℕ) → low ≤ m → m < n → P m → test m ≡ false)
 Ahead P test low high None = (m : ℕ) → low ≤ m → m ≤ high → P m → test m ≡ false
 
-pub covers-is : (candidate test : ℕ → Bool) (low high : ℕ) (found : Option ℕ) → Covers candidate test low high found → Ahead (λ m. candidate m ≡ true) test low high found
+pub covers-is : (candidate test : ℕ → Bool) (low high : ℕ) (found : Option ℕ) → Covers candidate test low high found
+    → Ahead (λ m. candidate m ≡ true) test low high found
 covers-is candidate test low high None covers = covers
 covers-is candidate test low high (Some n) covers = covers
 
-pub ahead-fewer : (P Q : ℕ → Type 0) (test : ℕ → Bool) (low high : ℕ) (found : Option ℕ) → ((m : ℕ) → Q m → P m) → Ahead P test low high found → Ahead Q test low high found
+pub ahead-fewer : (P Q : ℕ → Type 0) (test : ℕ → Bool) (low high : ℕ) (found : Option ℕ) → ((m : ℕ) → Q m → P m) → Ahead P test low high found
+    → Ahead Q test low high found
 ahead-fewer P Q test low high None each ahead = λ m from upto q. ahead m from upto (each m q)
 ahead-fewer P Q test low high (Some n) each ahead = (ahead.0, ahead.1, ahead.2, λ m from below q. ahead.3 m from below (each m q))
 
-pub covers-from : (P : ℕ → Type 0) (candidate test : ℕ → Bool) (low high : ℕ) (found : Option ℕ) → ((m : ℕ) → candidate m ≡ true → P m) → Ahead P test low high found → Covers candidate test low high found
+pub covers-from : (P : ℕ → Type 0) (candidate test : ℕ → Bool) (low high : ℕ) (found : Option ℕ) → ((m : ℕ) → candidate m ≡ true → P m)
+    → Ahead P test low high found → Covers candidate test low high found
 covers-from P candidate test low high None each ahead = λ m from upto q. ahead m from upto (each m q)
 covers-from P candidate test low high (Some n) each ahead = (ahead.0, ahead.1, ahead.2, λ m from below q. ahead.3 m from below (each m q))
 
@@ -98,7 +105,8 @@ pub ahead-least : (P : ℕ → Type 0) (test : ℕ → Bool) (low high : ℕ) (f
     → Ahead P test low high found → least_between test low (high + 1 - low) ≡ found
 ahead-least P test low high None each ahead =
     least_between-nothing test (high + 1 - low) low (λ m from below.
-    false_from_ne_true (test m) (λ passes. true≢false (sym passes ∙ ahead m from (omega (arith, from, below)) (each m from (omega (arith, from, below)) passes))))
+    false_from_ne_true (test m)
+    (λ passes. true≢false (sym passes ∙ ahead m from (omega (arith, from, below)) (each m from (omega (arith, from, below)) passes))))
 ahead-least P test low high (Some n) each ahead =
     let from = ahead.0 in
     let upto = ahead.1 in
@@ -128,7 +136,8 @@ free-usable claims key terms pool span family n listed same from upto free =
     let upper : leb n span.high ≡ true = le-leb n span.high upto in
     let within : is_in pool a ≡ true =
     any-contains (λ s. holds s a) pool.spans span listed
-    (and_from (same_family span.family family && leb span.low n) (leb n span.high) (and_from (same_family span.family family) (leb span.low n) families lower) upper) in
+    (and_from (same_family span.family family && leb span.low n) (leb n span.high) (and_from (same_family span.family family) (leb span.low n) families lower)
+    upper) in
     let left : list_all (leaves key terms a) claims ≡ true =
     all-from (leaves key terms a) claims (λ c there.
     left_free (same_key c.key key) (has_address c.holding.addresses a) (may_share terms c.terms)
@@ -140,7 +149,8 @@ free-usable claims key terms pool span family n listed same from upto free =
 -- terms that share with those are of their group
 grouped_by : (terms t : Terms) → may_share terms t ≡ true → is_grouped (group_of terms) t ≡ true
 grouped_by terms t e =
-    let most = and_parts (bytes_eq terms.key t.key && not (is_nil terms.key) && not (list_any (has_port t.ports) terms.ports)) (is_alike terms.backend t.backend) e in
+    let most =
+    and_parts (bytes_eq terms.key t.key && not (is_nil terms.key) && not (list_any (has_port t.ports) terms.ports)) (is_alike terms.backend t.backend) e in
     let key : terms.key ≡ t.key = (may_share-is terms t e).same_key in
     let backend : terms.backend ≡ t.backend = backend-same terms.backend t.backend most.1 in
     (bytes_eq-Decides (group_of t) (group_of terms)).1 (sym (group-same terms t key backend))
@@ -154,10 +164,12 @@ held_candidate : (claims : List ClaimValue) (key : Key) (terms : Terms) (pool : 
 held_candidate claims key terms pool a c there has left =
     ⊎_elim
     (λ first. ⊎_elim
-    (λ own. inl (inr (any-contains (λ (d : ClaimValue). same_key d.key key && has_address d.holding.addresses a) claims c there (and_from (same_key c.key key) (has_address c.holding.addresses a) own has))))
+    (λ own. inl (inr (any-contains (λ (d : ClaimValue). same_key d.key key && has_address d.holding.addresses a) claims c there
+    (and_from (same_key c.key key) (has_address c.holding.addresses a) own has))))
     (λ gone. absurd (true≢false (sym has ∙ not-true (has_address c.holding.addresses a) gone)))
     (or_cases (same_key c.key key) (not (has_address c.holding.addresses a)) first))
-    (λ shared. own-or_offered (is_own key claims a) refl (any-contains (λ (d : ClaimValue). is_grouped (group_of terms) d.terms && has_address d.holding.addresses a) claims c there
+    (λ shared. own-or_offered (is_own key claims a) refl
+    (any-contains (λ (d : ClaimValue). is_grouped (group_of terms) d.terms && has_address d.holding.addresses a) claims c there
     (and_from (is_grouped (group_of terms) c.terms) (has_address c.holding.addresses a) (grouped_by terms c.terms shared) has)))
     (or_cases (same_key c.key key || not (has_address c.holding.addresses a)) (may_share terms c.terms) left)
   where
@@ -173,7 +185,8 @@ candidate_by true claims key terms pool a s kept left =
     let found = any-found (λ (d : ClaimValue). has_address d.holding.addresses a) claims (sym s) in
     held_candidate claims key terms pool a found.0 found.1 found.2 (all-contains (leaves key terms a) claims found.0 left found.1)
 
-pub usable-candidate : (claims : List ClaimValue) (key : Key) (terms : Terms) (pool : CompiledPool) (a : AddressValue) → usable claims key terms pool a ≡ true → IsCandidate claims key terms pool a
+pub usable-candidate : (claims : List ClaimValue) (key : Key) (terms : Terms) (pool : CompiledPool) (a : AddressValue) → usable claims key terms pool a ≡ true
+    → IsCandidate claims key terms pool a
 usable-candidate claims key terms pool a e =
     let two = and_parts (is_in pool a && not (pool.avoid_buggy && is_buggy a)) (list_all (leaves key terms a) claims) e in
     let one = and_parts (is_in pool a) (not (pool.avoid_buggy && is_buggy a)) two.0 in
@@ -186,16 +199,22 @@ pub free-ahead : (claims : List ClaimValue) (key : Key) (terms : Terms) (pool : 
     → IfNone found (NonePasses (numbered (is_free claims pool) family) span.low span.high)
     → Ahead (λ m. numbered (is_free claims pool) family m ≡ true) (numbered (usable claims key terms pool) family) span.low span.high found
 free-ahead claims key terms pool span family None listed same some none = λ m from upto free. absurd (true≢false (sym free ∙ none m from upto))
-free-ahead claims key terms pool span family (Some n) listed same some none =
-    (some.0, some.1, free-usable claims key terms pool span family n listed same some.0 some.1 some.2, λ m from below free. absurd (true≢false (sym free ∙ some.3 m from below)))
+free-ahead claims key terms pool span family (Some n) listed same some none = (
+  some.0,
+  some.1,
+  free-usable claims key terms pool span family n listed same some.0 some.1 some.2,
+  λ m from below free. absurd (true≢false (sym free ∙ some.3 m from below)),
+)
 
 -- the three candidates together
-pub least-of_three : (claims : List ClaimValue) (key : Key) (terms : Terms) (pool : CompiledPool) (span : SpanValue) (family : Family) (free own shared : Option ℕ)
+pub least-of_three : (claims : List ClaimValue) (key : Key) (terms : Terms) (pool : CompiledPool) (span : SpanValue) (family : Family)
+    (free own shared : Option ℕ)
     → Contains pool.spans span → span.family ≡ family
     → IfSome free (IsLeastIn (numbered (is_free claims pool) family) span.low span.high)
     → IfNone free (NonePasses (numbered (is_free claims pool) family) span.low span.high)
     → Covers (numbered (is_own key claims) family) (numbered (usable claims key terms pool) family) span.low (unwrap_or free span.high) own
-    → Covers (numbered (is_offered key (group_of terms) claims) family) (numbered (usable claims key terms pool) family) span.low (unwrap_or own (unwrap_or free span.high)) shared
+    → Covers (numbered (is_offered key (group_of terms) claims) family) (numbered (usable claims key terms pool) family) span.low
+    (unwrap_or own (unwrap_or free span.high)) shared
     → least_between (numbered (usable claims key terms pool) family) span.low (span.high + 1 - span.low) ≡ option_or (option_or shared own) free
 least-of_three claims key terms pool span family free own shared listed same some none owned others =
     let test = numbered (usable claims key terms pool) family in
@@ -212,7 +231,8 @@ least-of_three claims key terms pool span family free own shared listed same som
     all
   where
     three_from : (m : ℕ) → IsCandidate claims key terms pool (address_of family m)
-        → (numbered (is_free claims pool) family m ≡ true) ⊎ ((numbered (is_own key claims) family m ≡ true) ⊎ (numbered (is_offered key (group_of terms) claims) family m ≡ true))
+        → (numbered (is_free claims pool) family m ≡ true)
+        ⊎ ((numbered (is_own key claims) family m ≡ true) ⊎ (numbered (is_offered key (group_of terms) claims) family m ≡ true))
     three_from m (inl (inl free_one)) = inl free_one
     three_from m (inl (inr own_one)) = inr (inl own_one)
     three_from m (inr shared_one) = inr (inr shared_one)
@@ -242,7 +262,8 @@ pub met-address : (xs : List AddressValue) (i : ℕ) (d a : AddressValue) (famil
     → Ahead (λ m. a ≡ address_of family m) test low (unwrap_or first high) second
     → Ahead (λ m. Contains (take (i + 1) xs) (address_of family m)) test low high (option_or second first)
 met-address xs i d a family test low high first second at within before here =
-    ahead-fewer (λ m. Contains (take i xs) (address_of family m) ⊎ (a ≡ address_of family m)) (λ m. Contains (take (i + 1) xs) (address_of family m)) test low high (option_or second first)
+    ahead-fewer (λ m. Contains (take i xs) (address_of family m) ⊎ (a ≡ address_of family m)) (λ m. Contains (take (i + 1) xs) (address_of family m)) test low
+    high (option_or second first)
     (λ m there. ⊎_elim (λ x. inl x) (λ y. inr (sym at ∙ y)) (taken_next xs i d (address_of family m) within there))
     (ahead-both (λ m. Contains (take i xs) (address_of family m)) (λ m. a ≡ address_of family m) test low high first second before here)
 
@@ -272,12 +293,14 @@ address-not_usable claims key terms pool family low high a e = λ m from upto is
     let used : usable claims key terms pool a ≡ true = subst (λ (x : AddressValue). usable claims key terms pool x ≡ true) (sym is) passes in
     let all =
     and_from (same_family a.family family && leb low a.number && leb a.number high) (usable claims key terms pool a)
-    (and_from (same_family a.family family && leb low a.number) (leb a.number high) (and_from (same_family a.family family) (leb low a.number) families lower) upper) used in
+    (and_from (same_family a.family family && leb low a.number) (leb a.number high) (and_from (same_family a.family family) (leb low a.number) families lower)
+    upper) used in
     true≢false (sym all ∙ e))
 
 -- the step over an address, by whether it may be used
 
-pub met-usable : (claims : List ClaimValue) (key : Key) (terms : Terms) (pool : CompiledPool) (family : Family) (low high last : ℕ) (xs : List AddressValue) (i : ℕ) (d a : AddressValue) (first : Option ℕ)
+pub met-usable : (claims : List ClaimValue) (key : Key) (terms : Terms) (pool : CompiledPool) (family : Family) (low high last : ℕ) (xs : List AddressValue)
+    (i : ℕ) (d a : AddressValue) (first : Option ℕ)
     → get_or xs i d ≡ a → i < length xs → last ≡ unwrap_or first high
     → (same_family a.family family && leb low a.number && leb a.number last && usable claims key terms pool a) ≡ true
     → Ahead (λ m. Contains (take i xs) (address_of family m)) (numbered (usable claims key terms pool) family) low high first
@@ -287,7 +310,8 @@ met-usable claims key terms pool family low high last xs i d a first at within i
     met-address xs i d a family test low high first (Some a.number) at within before
     (subst (λ h. Ahead (λ m. a ≡ address_of family m) test low h (Some a.number)) is (address-usable claims key terms pool family low last a e))
 
-pub met-not_usable : (claims : List ClaimValue) (key : Key) (terms : Terms) (pool : CompiledPool) (family : Family) (low high last : ℕ) (xs : List AddressValue) (i : ℕ) (d a : AddressValue) (first : Option ℕ)
+pub met-not_usable : (claims : List ClaimValue) (key : Key) (terms : Terms) (pool : CompiledPool) (family : Family) (low high last : ℕ) (xs : List AddressValue)
+    (i : ℕ) (d a : AddressValue) (first : Option ℕ)
     → get_or xs i d ≡ a → i < length xs → last ≡ unwrap_or first high
     → (same_family a.family family && leb low a.number && leb a.number last && usable claims key terms pool a) ≡ false
     → Ahead (λ m. Contains (take i xs) (address_of family m)) (numbered (usable claims key terms pool) family) low high first
@@ -319,7 +343,8 @@ IsOneOf items numbers family m = (p : ℕ × ClaimValue) × Contains items p × 
 pub no-claim_ahead : (items : List (ℕ × ClaimValue)) (family : Family) (test : ℕ → Bool) (low high : ℕ) → Ahead (IsOneOf items [] family) test low high None
 no-claim_ahead items family test low high = λ m from upto one. absurd (contains-none one.0.0 one.2)
 
-keyed : (b : Bool) (n : ℕ) (c : ClaimValue) (rest : List (ℕ × ClaimValue)) (x : ℕ) → Contains (keys_of rest) x → Contains (keys_of (cond b ((n, c) ∷ rest) rest)) x
+keyed : (b : Bool) (n : ℕ) (c : ClaimValue) (rest : List (ℕ × ClaimValue)) (x : ℕ) → Contains (keys_of rest) x
+    → Contains (keys_of (cond b ((n, c) ∷ rest) rest)) x
 keyed true n c rest x there = contains-later n (keys_of rest) x there
 keyed false n c rest x there = there
 
@@ -328,16 +353,26 @@ keyed_here true n c rest e = contains-first n (keys_of rest)
 keyed_here false n c rest e = absurd (true≢false (sym e))
 
 -- an own address is that of a claim with one of the key's numbers
-pub own-one : (items : List (ℕ × ClaimValue)) (key : Key) (family : Family) (m : ℕ) → is_own key (values_of items) (address_of family m) ≡ true → IsOneOf items (numbers_of key items) family m
+pub own-one : (items : List (ℕ × ClaimValue)) (key : Key) (family : Family) (m : ℕ) → is_own key (values_of items) (address_of family m) ≡ true
+    → IsOneOf items (numbers_of key items) family m
 own-one [] key family m e = absurd (true≢false (sym e))
 own-one ((n, c) ∷ items) key family m e =
     let a = address_of family m in
     ⊎_elim
-    (λ here. let parts = and_parts (same_key c.key key) (has_address c.holding.addresses a) here in
-    ((n, c), contains-first (n, c) items, keyed_here (same_key c.key key) n c (filter (λ (p : ℕ × ClaimValue). same_key p.1.key key) items) parts.0, has_address-is c.holding.addresses a parts.1))
-    (λ later. let one = own-one items key family m later in
-    (one.0, contains-later (n, c) items one.0 one.1, keyed (same_key c.key key) n c (filter (λ (p : ℕ × ClaimValue). same_key p.1.key key) items) one.0.0 one.2, one.3))
-    (or_cases (same_key c.key key && has_address c.holding.addresses a) (list_any (λ (d : ClaimValue). same_key d.key key && has_address d.holding.addresses a) (values_of items)) e)
+    (λ here. let parts = and_parts (same_key c.key key) (has_address c.holding.addresses a) here in (
+      (n, c),
+      contains-first (n, c) items,
+      keyed_here (same_key c.key key) n c (filter (λ (p : ℕ × ClaimValue). same_key p.1.key key) items) parts.0,
+      has_address-is c.holding.addresses a parts.1,
+    ))
+    (λ later. let one = own-one items key family m later in (
+      one.0,
+      contains-later (n, c) items one.0 one.1,
+      keyed (same_key c.key key) n c (filter (λ (p : ℕ × ClaimValue). same_key p.1.key key) items) one.0.0 one.2,
+      one.3,
+    ))
+    (or_cases (same_key c.key key && has_address c.holding.addresses a)
+    (list_any (λ (d : ClaimValue). same_key d.key key && has_address d.holding.addresses a) (values_of items)) e)
 
 one_more : (items : List (ℕ × ClaimValue)) (numbers : List ℕ) (i d n : ℕ) (found : Option ClaimValue) (family : Family) (m : ℕ)
     → get_or numbers i d ≡ n → i < length numbers → IsStrictlySortedBy nat_cmp (keys_of items) → found ≡ lookup (λ k. eqb k n) items
@@ -350,7 +385,8 @@ one_more items numbers i d n found family m at within sorted is one =
     (taken_next numbers i d one.0.0 within one.2)
 
 -- the claims met so far, and this one
-pub met-claim : (items : List (ℕ × ClaimValue)) (numbers : List ℕ) (i d n : ℕ) (c : ClaimValue) (family : Family) (test : ℕ → Bool) (low high : ℕ) (first second : Option ℕ)
+pub met-claim : (items : List (ℕ × ClaimValue)) (numbers : List ℕ) (i d n : ℕ) (c : ClaimValue) (family : Family) (test : ℕ → Bool) (low high : ℕ)
+    (first second : Option ℕ)
     → get_or numbers i d ≡ n → i < length numbers → IsStrictlySortedBy nat_cmp (keys_of items) → Some c ≡ lookup (λ k. eqb k n) items
     → Ahead (IsOneOf items (take i numbers) family) test low high first
     → Covers (numbered (has_address c.holding.addresses) family) test low (unwrap_or first high) second
@@ -360,12 +396,15 @@ met-claim items numbers i d n c family test low high first second at within sort
     let Q : ℕ → Type 0 = λ m. numbered (has_address c.holding.addresses) family m ≡ true in
     ahead-fewer (λ m. P m ⊎ Q m) (IsOneOf items (take (i + 1) numbers) family) test low high (option_or second first)
     (λ m one. ⊎_elim (λ x. inl x) (λ y. inr (has_it m y.0 y.1 y.2)) (one_more items numbers i d n (Some c) family m at within sorted is one))
-    (ahead-both P Q test low high first second before (covers-is (numbered (has_address c.holding.addresses) family) test low (unwrap_or first high) second here))
+    (ahead-both P Q test low high first second before
+    (covers-is (numbered (has_address c.holding.addresses) family) test low (unwrap_or first high) second here))
   where
-    has_it : (m : ℕ) (d : ClaimValue) → Some c ≡ Some d → Contains d.holding.addresses (address_of family m) → has_address c.holding.addresses (address_of family m) ≡ true
+    has_it : (m : ℕ) (d : ClaimValue) → Some c ≡ Some d → Contains d.holding.addresses (address_of family m)
+        → has_address c.holding.addresses (address_of family m) ≡ true
     has_it m d same there =
         let is_same : d ≡ c = cc in
-        has_address-from c.holding.addresses (address_of family m) (subst (λ (x : ClaimValue). Contains x.holding.addresses (address_of family m)) is_same there)
+        has_address-from c.holding.addresses (address_of family m)
+        (subst (λ (x : ClaimValue). Contains x.holding.addresses (address_of family m)) is_same there)
 
 pub met-none : (items : List (ℕ × ClaimValue)) (numbers : List ℕ) (i d n : ℕ) (family : Family) (test : ℕ → Bool) (low high : ℕ) (first : Option ℕ)
     → get_or numbers i d ≡ n → i < length numbers → IsStrictlySortedBy nat_cmp (keys_of items) → None ≡ lookup (λ k. eqb k n) items
@@ -381,12 +420,15 @@ met-none items numbers i d n family test low high first at within sorted is befo
 
 -- what holds of the numbers ahead
 
-pub before-more : (P : ℕ → Type 0) (low from n : ℕ) → ((m : ℕ) → low ≤ m → m < from → P m) → ((m : ℕ) → from ≤ m → m < n → P m) → (m : ℕ) → low ≤ m → m < n → P m
+pub before-more : (P : ℕ → Type 0) (low from n : ℕ) → ((m : ℕ) → low ≤ m → m < from → P m) → ((m : ℕ) → from ≤ m → m < n → P m) → (m : ℕ) → low ≤ m → m < n
+    → P m
 before-more P low from n before here m first below = ⊎_elim (λ less. before m first less) (λ more. here m more below) (cases_lt m from)
 
-pub before-next : (P : ℕ → Type 0) (low from n : ℕ) → ((m : ℕ) → low ≤ m → m < from → P m) → ((m : ℕ) → from ≤ m → m < n → P m) → P n → (m : ℕ) → low ≤ m → m < n + 1 → P m
+pub before-next : (P : ℕ → Type 0) (low from n : ℕ) → ((m : ℕ) → low ≤ m → m < from → P m) → ((m : ℕ) → from ≤ m → m < n → P m) → P n → (m : ℕ) → low ≤ m
+    → m < n + 1 → P m
 before-next P low from n before here last m first below =
-    ⊎_elim (λ less. before-more P low from n before here m first less) (λ more. let same : n ≡ m = omega (arith, more, below) in subst P same last) (cases_lt m n)
+    ⊎_elim (λ less. before-more P low from n before here m first less) (λ more. let same : n ≡ m = omega (arith, more, below) in subst P same last)
+    (cases_lt m n)
 
 -- nothing that another key has is left to terms without a sharing key
 keyless : (terms t : Terms) → eqb (length terms.key) 0 ≡ true → may_share terms t ≡ false
@@ -410,10 +452,12 @@ keyless-unusable claims key terms pool a e offered =
     let c = found.0 in
     let has = (and_parts (is_grouped (group_of terms) c.terms) (has_address c.holding.addresses a) found.2).1 in
     false_from_ne_true (usable claims key terms pool a) (λ passes.
-    let left = all-contains (leaves key terms a) claims c (and_parts (is_in pool a && not (pool.avoid_buggy && is_buggy a)) (list_all (leaves key terms a) claims) passes).1 found.1 in
+    let left = all-contains (leaves key terms a) claims c
+    (and_parts (is_in pool a && not (pool.avoid_buggy && is_buggy a)) (list_all (leaves key terms a) claims) passes).1 found.1 in
     ⊎_elim
     (λ first. ⊎_elim
-    (λ own. true≢false (sym (any-contains (λ (d : ClaimValue). same_key d.key key && has_address d.holding.addresses a) claims c found.1 (and_from (same_key c.key key) (has_address c.holding.addresses a) own has))
+    (λ own. true≢false (sym (any-contains (λ (d : ClaimValue). same_key d.key key && has_address d.holding.addresses a) claims c found.1
+    (and_from (same_key c.key key) (has_address c.holding.addresses a) own has))
     ∙ not-true (is_own key claims a) parts.1))
     (λ gone. true≢false (sym has ∙ not-true (has_address c.holding.addresses a) gone))
     (or_cases (same_key c.key key) (not (has_address c.holding.addresses a)) first))
@@ -421,15 +465,18 @@ keyless-unusable claims key terms pool a e offered =
     (or_cases (same_key c.key key || not (has_address c.holding.addresses a)) (may_share terms c.terms) left))
 
 -- what is found is within the bounds
-pub least-within : (test : ℕ → Bool) (low high bound : ℕ) (found : Option ℕ) → IfSome found (IsLeastIn test low high) → high < bound → unwrap_or found high < bound
+pub least-within : (test : ℕ → Bool) (low high bound : ℕ) (found : Option ℕ) → IfSome found (IsLeastIn test low high) → high < bound
+    → unwrap_or found high < bound
 least-within test low high bound None e within = within
 least-within test low high bound (Some n) e within = omega (arith, e.1, within)
 
-pub covers-within : (candidate test : ℕ → Bool) (low high bound : ℕ) (found : Option ℕ) → Covers candidate test low high found → high < bound → unwrap_or found high < bound
+pub covers-within : (candidate test : ℕ → Bool) (low high bound : ℕ) (found : Option ℕ) → Covers candidate test low high found → high < bound
+    → unwrap_or found high < bound
 covers-within candidate test low high bound None e within = within
 covers-within candidate test low high bound (Some n) e within = omega (arith, e.1, within)
 
-pub all-claims_met : (items : List (ℕ × ClaimValue)) (claims : List ClaimValue) (key : Key) (numbers : List ℕ) (i : ℕ) (family : Family) (test : ℕ → Bool) (low high : ℕ) (found : Option ℕ)
+pub all-claims_met : (items : List (ℕ × ClaimValue)) (claims : List ClaimValue) (key : Key) (numbers : List ℕ) (i : ℕ) (family : Family) (test : ℕ → Bool)
+    (low high : ℕ) (found : Option ℕ)
     → claims ≡ values_of items → numbers ≡ numbers_of key items → length numbers ≤ i
     → Ahead (IsOneOf items (take i numbers) family) test low high found → Covers (numbered (is_own key claims) family) test low high found
 all-claims_met items claims key numbers i family test low high found are listed all ahead =
@@ -441,11 +488,14 @@ all-claims_met items claims key numbers i family test low high found are listed 
 -- what is known of those that are offered, ahead of a number
 
 abbrev pub NoneUsable : List ClaimValue → Key → Terms → CompiledPool → Family → ℕ → Type 0
-NoneUsable claims key terms pool family m = numbered (is_offered key (group_of terms) claims) family m ≡ true → numbered (usable claims key terms pool) family m ≡ false
+NoneUsable claims key terms pool family m =
+    numbered (is_offered key (group_of terms) claims) family m ≡ true → numbered (usable claims key terms pool) family m ≡ false
 
-none_shared : (claims : List ClaimValue) (key : Key) (terms : Terms) (pool : CompiledPool) (family : Family) (m : ℕ) → is_shared (group_of terms) claims (address_of family m) ≡ false → NoneUsable claims key terms pool family m
+none_shared : (claims : List ClaimValue) (key : Key) (terms : Terms) (pool : CompiledPool) (family : Family) (m : ℕ)
+    → is_shared (group_of terms) claims (address_of family m) ≡ false → NoneUsable claims key terms pool family m
 none_shared claims key terms pool family m e =
-    λ offered. absurd (true≢false (sym (and_parts (is_shared (group_of terms) claims (address_of family m)) (not (is_own key claims (address_of family m))) offered).0 ∙ e))
+    λ offered. absurd
+    (true≢false (sym (and_parts (is_shared (group_of terms) claims (address_of family m)) (not (is_own key claims (address_of family m))) offered).0 ∙ e))
 
 -- where a claim of another key has one of the ports at the address, it doesn't share it
 pub barred-unusable : (claims : List ClaimValue) (key : Key) (terms : Terms) (pool : CompiledPool) (a : AddressValue)
@@ -456,21 +506,26 @@ barred-unusable claims key terms pool a barred others =
     let held = any-found (λ (c : ClaimValue). occupies (OfPort port.0) c && has_address c.holding.addresses a) claims port.2 in
     let c = held.0 in
     let parts = and_parts (occupies (OfPort port.0) c) (has_address c.holding.addresses a) held.2 in
-    let left = all-contains (leaves key terms a) claims c (and_parts (is_in pool a && not (pool.avoid_buggy && is_buggy a)) (list_all (leaves key terms a) claims) passes).1 held.1 in
+    let left = all-contains (leaves key terms a) claims c
+    (and_parts (is_in pool a && not (pool.avoid_buggy && is_buggy a)) (list_all (leaves key terms a) claims) passes).1 held.1 in
     let given = yields-left (same_key c.key key) (has_address c.holding.addresses a) terms c.terms port.0 port.1 left in
     let own : same_key c.key key ≡ true = subst (λ (b : Bool). (not b || same_key c.key key) ≡ true) held.2 given in
-    true≢false (sym (any-contains (λ (d : ClaimValue). same_key d.key key && has_address d.holding.addresses a) claims c held.1 (and_from (same_key c.key key) (has_address c.holding.addresses a) own parts.1)) ∙ others))
+    true≢false (sym (any-contains (λ (d : ClaimValue). same_key d.key key && has_address d.holding.addresses a) claims c held.1
+    (and_from (same_key c.key key) (has_address c.holding.addresses a) own parts.1)) ∙ others))
 
 -- each number ahead has a claim with one of the ports met so far
-any-step : {X : Type 0} (test : X → Bool) (xs : List X) (i : ℕ) (d : X) → i < length xs → list_any test (take (i + 1) xs) ≡ (list_any test (take i xs) || (test (get_or xs i d) || false))
+any-step : {X : Type 0} (test : X → Bool) (xs : List X) (i : ℕ) (d : X) → i < length xs
+    → list_any test (take (i + 1) xs) ≡ (list_any test (take i xs) || (test (get_or xs i d) || false))
 any-step test xs i d within = ap (list_any test) (take_more xs i d within) ∙ list_any-append test (take i xs) (get_or xs i d ∷ [])
 
-pub barred-more : (ports : List Port) (i : ℕ) (d port : Port) (claims : List ClaimValue) (family : Family) (low from n : ℕ) → i < length ports → get_or ports i d ≡ port
+pub barred-more : (ports : List Port) (i : ℕ) (d port : Port) (claims : List ClaimValue) (family : Family) (low from n : ℕ) → i < length ports
+    → get_or ports i d ≡ port
     → AreBarred (take i ports) claims family low from → ((m : ℕ) → from ≤ m → m < n → not (is_taken (OfPort port) claims (address_of family m)) ≡ false)
     → AreBarred (take (i + 1) ports) claims family low n
 barred-more ports i d port claims family low from n within at before here =
     before-more (λ m. is_barred (take (i + 1) ports) claims (address_of family m) ≡ true) low from n
-    (λ m first below. any-step (taken_at m) ports i d within ∙ or_left (is_barred (take i ports) claims (address_of family m)) (taken_at m (get_or ports i d) || false) (before m first below))
+    (λ m first below. any-step (taken_at m) ports i d within
+    ∙ or_left (is_barred (take i ports) claims (address_of family m)) (taken_at m (get_or ports i d) || false) (before m first below))
     (λ m first below. any-step (taken_at m) ports i d within
     ∙ or_right (is_barred (take i ports) claims (address_of family m)) (taken_at m (get_or ports i d) || false)
     (or_left (taken_at m (get_or ports i d)) false (ap (taken_at m) at ∙ not-false (taken_at m port) (here m first below))))
@@ -479,54 +534,67 @@ barred-more ports i d port claims family low from n within at before here =
     taken_at m q = is_taken (OfPort q) claims (address_of family m)
 
 -- those met so far are ports of the list
-pub barred-all : (ports : List Port) (i : ℕ) (claims : List ClaimValue) (family : Family) (low n : ℕ) → AreBarred (take i ports) claims family low n → AreBarred ports claims family low n
+pub barred-all : (ports : List Port) (i : ℕ) (claims : List ClaimValue) (family : Family) (low n : ℕ) → AreBarred (take i ports) claims family low n
+    → AreBarred ports claims family low n
 barred-all ports i claims family low n barred m from below =
     let port = any-found (λ port. is_taken (OfPort port) claims (address_of family m)) (take i ports) (barred m from below) in
-    any-contains (λ port. is_taken (OfPort port) claims (address_of family m)) ports port.0 (subst (λ (qs : List Port). Contains qs port.0) (take-append-drop i ports) (Contains-append_left (take i ports) (drop i ports) port.0 port.1)) port.2
+    any-contains (λ port. is_taken (OfPort port) claims (address_of family m)) ports port.0
+    (subst (λ (qs : List Port). Contains qs port.0) (take-append-drop i ports) (Contains-append_left (take i ports) (drop i ports) port.0 port.1)) port.2
 
-none_left : (claims : List ClaimValue) (key : Key) (terms : Terms) (pool : CompiledPool) (family : Family) (m : ℕ) → is_barred terms.ports claims (address_of family m) ≡ true → NoneUsable claims key terms pool family m
+none_left : (claims : List ClaimValue) (key : Key) (terms : Terms) (pool : CompiledPool) (family : Family) (m : ℕ)
+    → is_barred terms.ports claims (address_of family m) ≡ true → NoneUsable claims key terms pool family m
 none_left claims key terms pool family m barred = λ offered.
     barred-unusable claims key terms pool (address_of family m) barred
-    (not-true (is_own key claims (address_of family m)) (and_parts (is_shared (group_of terms) claims (address_of family m)) (not (is_own key claims (address_of family m))) offered).1)
+    (not-true (is_own key claims (address_of family m))
+    (and_parts (is_shared (group_of terms) claims (address_of family m)) (not (is_own key claims (address_of family m))) offered).1)
 
 -- the same of the claims and the ports of a walk
 pub none-shared_in : (found_in claims : List ClaimValue) (family : Family) (group : List ℕ) (low high : ℕ) → found_in ≡ claims
     → NoneShared family group found_in low high → NoneShared family group claims low high
 none-shared_in found_in claims family group low high is none = subst (λ (cs : List ClaimValue). NoneShared family group cs low high) is none
 
-pub barred-in : (ports_in ports : List Port) (found_in claims : List ClaimValue) (family : Family) (low high : ℕ) → ports_in ≡ ports → found_in ≡ claims → AreBarred ports_in found_in family low high → AreBarred ports claims family low high
+pub barred-in : (ports_in ports : List Port) (found_in claims : List ClaimValue) (family : Family) (low high : ℕ) → ports_in ≡ ports → found_in ≡ claims
+    → AreBarred ports_in found_in family low high → AreBarred ports claims family low high
 barred-in ports_in ports found_in claims family low high are is barred =
     subst (λ (qs : List Port). AreBarred qs claims family low high) are (subst (λ (cs : List ClaimValue). AreBarred ports_in cs family low high) is barred)
 
 -- none up to the next shared one, and from there none up to the next one that is left for the ports
-pub shared-more : (claims : List ClaimValue) (key : Key) (terms : Terms) (pool : CompiledPool) (family : Family) (low from n : ℕ) → ((m : ℕ) → low ≤ m → m < from → NoneUsable claims key terms pool family m)
+pub shared-more : (claims : List ClaimValue) (key : Key) (terms : Terms) (pool : CompiledPool) (family : Family) (low from n : ℕ)
+    → ((m : ℕ) → low ≤ m → m < from → NoneUsable claims key terms pool family m)
     → NoneShared family (group_of terms) claims from n → (m : ℕ) → low ≤ m → m < n → NoneUsable claims key terms pool family m
 shared-more claims key terms pool family low from n before here =
     before-more (NoneUsable claims key terms pool family) low from n before (λ m first below. none_shared claims key terms pool family m (here m first below))
 
-pub left-more : (claims : List ClaimValue) (key : Key) (terms : Terms) (pool : CompiledPool) (family : Family) (low from shared n : ℕ) → ((m : ℕ) → low ≤ m → m < from → NoneUsable claims key terms pool family m)
-    → NoneShared family (group_of terms) claims from shared → AreBarred terms.ports claims family shared n → (m : ℕ) → low ≤ m → m < n → NoneUsable claims key terms pool family m
+pub left-more : (claims : List ClaimValue) (key : Key) (terms : Terms) (pool : CompiledPool) (family : Family) (low from shared n : ℕ)
+    → ((m : ℕ) → low ≤ m → m < from → NoneUsable claims key terms pool family m)
+    → NoneShared family (group_of terms) claims from shared → AreBarred terms.ports claims family shared n → (m : ℕ) → low ≤ m → m < n
+    → NoneUsable claims key terms pool family m
 left-more claims key terms pool family low from shared n before here barred =
     before-more (NoneUsable claims key terms pool family) low shared n (shared-more claims key terms pool family low from shared before here)
     (λ m first below. none_left claims key terms pool family m (barred m first below))
 
-pub left-next : (claims : List ClaimValue) (key : Key) (terms : Terms) (pool : CompiledPool) (family : Family) (low from shared n : ℕ) → ((m : ℕ) → low ≤ m → m < from → NoneUsable claims key terms pool family m)
-    → NoneShared family (group_of terms) claims from shared → AreBarred terms.ports claims family shared n → usable claims key terms pool (address_of family n) ≡ false
+pub left-next : (claims : List ClaimValue) (key : Key) (terms : Terms) (pool : CompiledPool) (family : Family) (low from shared n : ℕ)
+    → ((m : ℕ) → low ≤ m → m < from → NoneUsable claims key terms pool family m)
+    → NoneShared family (group_of terms) claims from shared → AreBarred terms.ports claims family shared n
+    → usable claims key terms pool (address_of family n) ≡ false
     → (m : ℕ) → low ≤ m → m < n + 1 → NoneUsable claims key terms pool family m
 left-next claims key terms pool family low from shared n before here barred fails =
     before-next (NoneUsable claims key terms pool family) low shared n (shared-more claims key terms pool family low from shared before here)
     (λ m first below. none_left claims key terms pool family m (barred m first below)) (λ offered. fails)
 
 -- the same over the values of a walk
-pub least-number : (found_in claims : List ClaimValue) (key : Key) (terms : Terms) (pool : CompiledPool) (span : SpanValue) (family : Family) (low high last later : ℕ) (free own shared either found : Option ℕ)
-    → found_in ≡ claims → low ≡ span.low → high ≡ span.high → last ≡ unwrap_or free high → later ≡ unwrap_or own last → either ≡ option_or shared own → found ≡ option_or either free
+pub least-number : (found_in claims : List ClaimValue) (key : Key) (terms : Terms) (pool : CompiledPool) (span : SpanValue) (family : Family)
+    (low high last later : ℕ) (free own shared either found : Option ℕ)
+    → found_in ≡ claims → low ≡ span.low → high ≡ span.high → last ≡ unwrap_or free high → later ≡ unwrap_or own last → either ≡ option_or shared own
+    → found ≡ option_or either free
     → Contains pool.spans span → span.family ≡ family
     → IfSome free (IsLeastIn (numbered (is_free found_in pool) family) low high)
     → IfNone free (NonePasses (numbered (is_free found_in pool) family) low high)
     → Covers (numbered (is_own key claims) family) (numbered (usable claims key terms pool) family) low last own
     → Covers (numbered (is_offered key (group_of terms) claims) family) (numbered (usable claims key terms pool) family) low later shared
     → least_between (numbered (usable claims key terms pool) family) span.low (span.high + 1 - span.low) ≡ found
-least-number found_in claims key terms pool span family low high last later free own shared either found are low_is high_is last_is later_is either_is found_is listed same some none owned others =
+least-number found_in claims key terms pool span family low high last later free own shared either found are low_is high_is last_is later_is either_is found_is
+    listed same some none owned others =
     let test = numbered (usable claims key terms pool) family in
     let O = numbered (is_own key claims) family in
     let S = numbered (is_offered key (group_of terms) claims) family in

@@ -1,5 +1,6 @@
 -- What is computed is what is chosen.
-use Rattle.std.proofs.Common.{Bor, slice_get, drop, drop-cons, get_or, add-one, append_assoc, ◌++◌, ◌+◌, ◌<◌, ◌≡◌, ◌≢◌, ℕ, Bool, true, false, not, ◌&&◌, ◌||◌, eqb, eqb-true, List, [], ◌∷◌, Option, Some, None, is_some, is_none, length, refl, sym, ap, ◌∙◌, subst, ◌⊎◌, inl, inr, ⊎_elim}
+use Rattle.std.proofs.Common.{Bor, slice_get, drop, drop-cons, get_or, add-one, append_assoc, ◌++◌, ◌+◌, ◌<◌, ◌≡◌, ◌≢◌, ℕ, Bool, true, false, not, ◌&&◌, ◌||◌}
+use Rattle.std.proofs.Common.{eqb, eqb-true, List, [], ◌∷◌, Option, Some, None, is_some, is_none, length, refl, sym, ap, ◌∙◌, subst, ◌⊎◌, inl, inr, ⊎_elim}
 use Rattle.std.proofs.lemmas.Bool.{or_cases, or_left, or_right, not-true, not-false, not_from_false, eq-eqb, true≢false}
 use Rattle.std.proofs.lemmas.Slice.Eq.{bytes_eq-Decides}
 use Rattle.std.specs.Bool.{Decides}
@@ -21,7 +22,8 @@ use Rattle.alloc_book.specs.declared.choice.Choice.TheVariants.{Keep, New}
 use Rattle.pool_config.specs.declared.compiled.CompiledPool.{CompiledPool}
 use Rattle.alloc_book.specs.Asking.{Asker, Offer, asker_of, asked_in, is_asked, is_unreadable, is_given}
 use Rattle.mlb_base.specs.Cases.{IsFirst, NoneIs}
-use Rattle.alloc_book.specs.Choose.{addresses_of, wanted_of, one_of_each, fits_option, is_open, all_usable, same_addresses, is_kept, is_home, kept_in, home_of, is_refused, is_unusable, kept_from, asked_from, choose_for, choose}
+use Rattle.alloc_book.specs.Choose.{addresses_of, wanted_of, one_of_each, fits_option, is_open, all_usable, same_addresses, is_kept}
+use Rattle.alloc_book.specs.Choose.{is_home, kept_in, home_of, is_refused, is_unusable, kept_from, asked_from, choose_for, choose}
 use Rattle.alloc_book.specs.Chosen.{named, asked_pools, Gives, IsChosenFor, IsChosen}
 use Rattle.claim_index.specs.Claims.{ClaimValue, Holders, holders}
 use Rattle.alloc_book.specs.First.{record_in, IsOneOfEach, FitsOption, IsOpen, AllUsable, AreSame, IsKept, IsHome}
@@ -75,16 +77,19 @@ none-is (Some x) = (λ e. absurd (true≢false (sym e)), λ h. absurd (cc))
 number-is : (m n : ℕ) → Decides (eqb m n) (m ≡ n)
 number-is m n = (eqb-true m n, eq-eqb m n)
 
-by_family : (families : List Family) (addresses : List AddressValue) → addresses_of V4 addresses ≡ wanted_of V4 families → addresses_of V6 addresses ≡ wanted_of V6 families → IsOneOfEach families addresses
+by_family : (families : List Family) (addresses : List AddressValue) → addresses_of V4 addresses ≡ wanted_of V4 families
+    → addresses_of V6 addresses ≡ wanted_of V6 families → IsOneOfEach families addresses
 by_family families addresses four six V4 = four
 by_family families addresses four six V6 = six
 
 one_of_each-is : (families : List Family) (addresses : List AddressValue) → Decides (one_of_each families addresses) (IsOneOfEach families addresses)
 one_of_each-is families addresses =
-    let both = Decides-and (eqb (addresses_of V4 addresses) (wanted_of V4 families)) (eqb (addresses_of V6 addresses) (wanted_of V6 families)) (number-is (addresses_of V4 addresses) (wanted_of V4 families)) (number-is (addresses_of V6 addresses) (wanted_of V6 families)) in
+    let both = Decides-and (eqb (addresses_of V4 addresses) (wanted_of V4 families)) (eqb (addresses_of V6 addresses) (wanted_of V6 families))
+    (number-is (addresses_of V4 addresses) (wanted_of V4 families)) (number-is (addresses_of V6 addresses) (wanted_of V6 families)) in
     (λ e. let parts = both.0 e in by_family families addresses parts.0 parts.1, λ each. both.1 (each V4, each V6))
 
-all-is : {X : Type 0} (P : X → Type 0) (test : X → Bool) (xs : List X) → ((x : X) → Decides (test x) (P x)) → Decides (list_all test xs) ((x : X) → Contains xs x → P x)
+all-is : {X : Type 0} (P : X → Type 0) (test : X → Bool) (xs : List X) → ((x : X) → Decides (test x) (P x))
+    → Decides (list_all test xs) ((x : X) → Contains xs x → P x)
 all-is P test xs d = (λ e x there. (d x).0 (all-contains test xs x e there), λ each. all-from test xs (λ x there. (d x).1 (each x there)))
 
 any_by : {P : Type 0} {Q : Type 0} (a b : Bool) → Decides a P → Decides b Q → Decides (a || b) (P ⊎ Q)
@@ -98,14 +103,16 @@ any-is P test [] d = (λ e. true≢false (sym e), λ h. absurd h)
 any-is P test (x ∷ xs) d = any_by (test x) (list_any test xs) (d x) (any-is P test xs d)
 
 pub fits_option-is : (q : Asker) (addresses : List AddressValue) → Decides (fits_option q addresses) (FitsOption q addresses)
-fits_option-is q addresses = any-is (λ families. IsOneOfEach families addresses) (λ families. one_of_each families addresses) q.options (λ families. one_of_each-is families addresses)
+fits_option-is q addresses =
+    any-is (λ families. IsOneOfEach families addresses) (λ families. one_of_each families addresses) q.options (λ families. one_of_each-is families addresses)
 
 has_address-Decides : (addresses : List AddressValue) (a : AddressValue) → Decides (has_address addresses a) (Contains addresses a)
 has_address-Decides addresses a = (has_address-is addresses a, has_address-from addresses a)
 
 same_addresses-is : (xs ys : List AddressValue) → Decides (same_addresses xs ys) (AreSame xs ys)
 same_addresses-is xs ys =
-    Decides-and (list_all (has_address ys) xs) (list_all (has_address xs) ys) (all-is (Contains ys) (has_address ys) xs (has_address-Decides ys)) (all-is (Contains xs) (has_address xs) ys (has_address-Decides xs))
+    Decides-and (list_all (has_address ys) xs) (list_all (has_address xs) ys) (all-is (Contains ys) (has_address ys) xs (has_address-Decides ys))
+    (all-is (Contains xs) (has_address xs) ys (has_address-Decides xs))
 
 open-is : (o : Offer) (q : Asker) (pool : CompiledPool) → Decides (is_open o q pool) (IsOpen o q pool)
 open-is o q pool =
@@ -114,16 +121,19 @@ open-is o q pool =
     (λ e. let parts = both.0 e in (parts.0, λ given. parts.1 ((given-is q.pool_asked).1 given)), λ h. both.1 (h.0, λ e. h.1 ((given-is q.pool_asked).0 e)))
 
 module _ (claims : List ClaimValue) (o : Offer) (q : Asker) where
-  all_usable-is : (pool : CompiledPool) (addresses : List AddressValue) → Decides (all_usable claims q pool addresses) (AllUsable (holders claims) q pool addresses)
+  all_usable-is : (pool : CompiledPool) (addresses : List AddressValue)
+      → Decides (all_usable claims q pool addresses) (AllUsable (holders claims) q pool addresses)
   all_usable-is pool addresses =
-      all-is (IsUsable (holders claims) q.key q.terms pool) (usable claims q.key q.terms pool) addresses (λ a. (usable-is claims q.key q.terms pool a, usable-from claims q.key q.terms pool a))
+      all-is (IsUsable (holders claims) q.key q.terms pool) (usable claims q.key q.terms pool) addresses
+      (λ a. (usable-is claims q.key q.terms pool a, usable-from claims q.key q.terms pool a))
 
   kept-is : (pool : CompiledPool) → Decides (is_kept claims o q pool) (IsKept (holders claims) o q pool)
   kept-is pool =
       let asked = decides-then (is_asked q.wanted) (same_addresses q.recorded (asked_in q.wanted)) (same_addresses-is q.recorded (asked_in q.wanted)) in
       let two = Decides-and (is_open o q pool) (fits_option q q.recorded) (open-is o q pool) (fits_option-is q q.recorded) in
       let three = Decides-and (is_open o q pool && fits_option q q.recorded) (all_usable claims q pool q.recorded) two (all_usable-is pool q.recorded) in
-      let four = Decides-and (is_open o q pool && fits_option q q.recorded && all_usable claims q pool q.recorded) (not (is_asked q.wanted) || same_addresses q.recorded (asked_in q.wanted)) three asked in (
+      let four = Decides-and (is_open o q pool && fits_option q q.recorded && all_usable claims q pool q.recorded)
+      (not (is_asked q.wanted) || same_addresses q.recorded (asked_in q.wanted)) three asked in (
         λ e. let h = four.0 e in record { is_open = h.0.0.0; fits = h.0.0.1; usable = h.0.1; as_asked = h.1 },
         λ k. four.1 (((k.is_open, k.fits), k.usable), k.as_asked),
       )
@@ -134,14 +144,17 @@ module _ (claims : List ClaimValue) (o : Offer) (q : Asker) where
       let both = Decides-and (is_open o q pool) (list_all (is_in pool) (asked_in q.wanted)) (open-is o q pool) inside in
       (λ e. let h = both.0 e in record { is_open = h.0; in_pool = h.1 }, λ h. both.1 (h.is_open, h.in_pool))
 
-  kept_found : (found : Option CompiledPool) → found ≡ kept_in claims o q → is_some found ≡ true → (pool : CompiledPool) × IsFirst (IsKept (holders claims) o q) o.pools pool × (kept_from q found ≡ Keep (record_in pool q q.recorded))
+  kept_found : (found : Option CompiledPool) → found ≡ kept_in claims o q → is_some found ≡ true
+      → (pool : CompiledPool) × IsFirst (IsKept (holders claims) o q) o.pools pool × (kept_from q found ≡ Keep (record_in pool q q.recorded))
   kept_found None is e = absurd (true≢false (sym e))
   kept_found (Some pool) is e = (pool, find-first (IsKept (holders claims) o q) (is_kept claims o q) o.pools pool kept-is (sym is), refl)
 
-  some-kept : (found : Option CompiledPool) → found ≡ kept_in claims o q → Decides (is_some found) ((pool : CompiledPool) × IsFirst (IsKept (holders claims) o q) o.pools pool)
+  some-kept : (found : Option CompiledPool) → found ≡ kept_in claims o q
+      → Decides (is_some found) ((pool : CompiledPool) × IsFirst (IsKept (holders claims) o q) o.pools pool)
   some-kept None is = (
     λ e. absurd (true≢false (sym e)),
-    λ h. absurd (first-none (IsKept (holders claims) o q) o.pools h.0 h.1 (find-none (IsKept (holders claims) o q) (is_kept claims o q) o.pools kept-is (sym is))),
+    λ h. absurd
+        (first-none (IsKept (holders claims) o q) o.pools h.0 h.1 (find-none (IsKept (holders claims) o q) (is_kept claims o q) o.pools kept-is (sym is))),
   )
   some-kept (Some pool) is = (λ _. (pool, find-first (IsKept (holders claims) o q) (is_kept claims o q) o.pools pool kept-is (sym is)), λ _. refl)
 
@@ -152,7 +165,8 @@ module _ (claims : List ClaimValue) (o : Offer) (q : Asker) where
     λ none. absurd (first-none (IsHome o q) o.pools pool (find-first (IsHome o q) (is_home o q) o.pools pool home-is (sym is)) none),
   )
 
-  unusable-is : (found : Option CompiledPool) → found ≡ home_of o q → Decides (is_unusable claims q found) ((pool : CompiledPool) × IsFirst (IsHome o q) o.pools pool × ¬ (AllUsable (holders claims) q pool (asked_in q.wanted)))
+  unusable-is : (found : Option CompiledPool) → found ≡ home_of o q → Decides (is_unusable claims q found)
+      ((pool : CompiledPool) × IsFirst (IsHome o q) o.pools pool × ¬ (AllUsable (holders claims) q pool (asked_in q.wanted)))
   unusable-is None is = (
     λ e. absurd (true≢false (sym e)),
     λ h. absurd (first-none (IsHome o q) o.pools h.0 h.1 (find-none (IsHome o q) (is_home o q) o.pools home-is (sym is))),
@@ -161,14 +175,20 @@ module _ (claims : List ClaimValue) (o : Offer) (q : Asker) where
       let here = find-first (IsHome o q) (is_home o q) o.pools pool home-is (sym is) in
       let no = Decides-not (all_usable claims q pool (asked_in q.wanted)) (all_usable-is pool (asked_in q.wanted)) in (
         λ e. (pool, here, no.0 e),
-        λ h. no.1 (λ all. h.2 (subst (λ (p : CompiledPool). AllUsable (holders claims) q p (asked_in q.wanted)) (first-only (IsHome o q) o.pools pool h.0 here h.1) all)),
+        λ h. no.1 (λ all.
+            h.2 (subst (λ (p : CompiledPool). AllUsable (holders claims) q p (asked_in q.wanted)) (first-only (IsHome o q) o.pools pool h.0 here h.1) all)),
       )
 
   home_found : (found : Option CompiledPool) → found ≡ home_of o q → is_none found ≡ false → is_unusable claims q found ≡ false
-      → (pool : CompiledPool) × IsFirst (IsHome o q) o.pools pool × AllUsable (holders claims) q pool (asked_in q.wanted) × (asked_from q found ≡ New (record_in pool q (asked_in q.wanted)))
+      → (pool : CompiledPool) × IsFirst (IsHome o q) o.pools pool × AllUsable (holders claims) q pool (asked_in q.wanted)
+      × (asked_from q found ≡ New (record_in pool q (asked_in q.wanted)))
   home_found None is e u = absurd (true≢false e)
-  home_found (Some pool) is e u =
-      (pool, find-first (IsHome o q) (is_home o q) o.pools pool home-is (sym is), (all_usable-is pool (asked_in q.wanted)).0 (not-false (all_usable claims q pool (asked_in q.wanted)) u), refl)
+  home_found (Some pool) is e u = (
+    pool,
+    find-first (IsHome o q) (is_home o q) o.pools pool home-is (sym is),
+    (all_usable-is pool (asked_in q.wanted)).0 (not-false (all_usable claims q pool (asked_in q.wanted)) u),
+    refl,
+  )
 
   refused-is : (found : Option CompiledPool) → Decides (is_refused o found) ((pool : CompiledPool) × (found ≡ Some pool) × (o.serves pool ≡ false))
   refused-is None = (λ e. absurd (true≢false (sym e)), λ h. let none = h.1 in absurd (cc))
@@ -185,15 +205,18 @@ module _ (claims : List ClaimValue) (o : Offer) (q : Asker) where
   and-false false b s e = absurd (true≢false (sym s))
 
   -- what is computed is what is chosen
-  pub choose_for-is : (class : Option (List ℕ)) (service : Service) (c : Choice) → c ≡ choose_for claims o class service q → IsChosenFor (holders claims) o class service q c
+  pub choose_for-is : (class : Option (List ℕ)) (service : Service) (c : Choice) → c ≡ choose_for claims o class service q
+      → IsChosenFor (holders claims) o class service q c
   choose_for-is class service c start =
       case-at (service.balancer && not (same_class class service.class))
-      (Decides-and service.balancer (not (same_class class service.class)) (decides-itself service.balancer) (Decides-not (same_class class service.class) (same_class-is class service.class)))
+      (Decides-and service.balancer (not (same_class class service.class)) (decides-itself service.balancer)
+      (Decides-not (same_class class service.class) (same_class-is class service.class)))
       start (λ is _. is) (λ one _.
       case-at (not service.balancer) (decides-false service.balancer) one (λ is _. is) (λ two _.
       case-at (is_unreadable q.wanted) (unreadable-is q.wanted) two (λ is _. is) (λ three _.
       case-at (is_asked q.wanted && not (fits_option q (asked_in q.wanted)))
-      (Decides-and (is_asked q.wanted) (not (fits_option q (asked_in q.wanted))) (decides-itself (is_asked q.wanted)) (Decides-not (fits_option q (asked_in q.wanted)) (fits_option-is q (asked_in q.wanted))))
+      (Decides-and (is_asked q.wanted) (not (fits_option q (asked_in q.wanted))) (decides-itself (is_asked q.wanted))
+      (Decides-not (fits_option q (asked_in q.wanted)) (fits_option-is q (asked_in q.wanted))))
       three (λ is _. is) (λ four _.
       case-at (is_given q.pool_asked && is_none (named o.pools q.pool_asked))
       (Decides-and (is_given q.pool_asked) (is_none (named o.pools q.pool_asked)) (given-is q.pool_asked) (none-is (named o.pools q.pool_asked)))
@@ -210,13 +233,15 @@ module _ (claims : List ClaimValue) (o : Offer) (q : Asker) where
       (Decides-and (is_asked q.wanted) (is_unusable claims q (home_of o q)) (decides-itself (is_asked q.wanted)) (unusable-is (home_of o q) refl))
       eight (λ is _. is) (λ nine e9.
       case-at (is_asked q.wanted) (decides-itself (is_asked q.wanted))
-      nine (λ is asked. let h = home_found (home_of o q) refl (and-false (is_asked q.wanted) (is_none (home_of o q)) asked e8) (and-false (is_asked q.wanted) (is_unusable claims q (home_of o q)) asked e9) in (h.0, h.1, h.2, is ∙ h.3)) (λ ten _.
+      nine (λ is asked. let h = home_found (home_of o q) refl (and-false (is_asked q.wanted) (is_none (home_of o q)) asked e8)
+      (and-false (is_asked q.wanted) (is_unusable claims q (home_of o q)) asked e9) in (h.0, h.1, h.2, is ∙ h.3)) (λ ten _.
       case-at (is_given q.pool_asked) (given-is q.pool_asked)
       ten (λ is _. subst (Gives (holders claims) q (asked_pools o q) PoolExhausted) (sym is) (gives-is claims q (asked_pools o q) PoolExhausted)) (λ eleven _.
       case-at (is_nil o.eligible) (nil-Decides o.eligible) eleven (λ is _. is) (λ twelve _.
       subst (Gives (holders claims) q o.eligible Exhausted) (sym twelve) (gives-is claims q o.eligible Exhausted)))))))))))))
 
-pub choose-is : (claims : List ClaimValue) (o : Offer) (class : Option (List ℕ)) (service : Service) (c : Choice) → c ≡ choose claims o class service → IsChosen (holders claims) o class service c
+pub choose-is : (claims : List ClaimValue) (o : Offer) (class : Option (List ℕ)) (service : Service) (c : Choice) → c ≡ choose claims o class service
+    → IsChosen (holders claims) o class service c
 choose-is claims o class service c e = choose_for-is claims o (asker_of service) class service c e
 
 -- what a call answers
@@ -232,7 +257,8 @@ answer-only has o class service (Err f) chosen = tt
 
 -- the record chosen has the mark of the terms
 pub answer-marked : {E : Type 0} (has : Holders) (o : Offer) (class : Option (List ℕ)) (service : Service) (answer : Result Choice E)
-    → IfOk answer (IsChosen has o class service) → OnOk answer (AreTerms (terms_of service)) → IfOk answer (λ c. (r : Record) → IsFor r c → IsMarkOf (terms_of service) r.mark)
+    → IfOk answer (IsChosen has o class service) → OnOk answer (AreTerms (terms_of service))
+    → IfOk answer (λ c. (r : Record) → IsFor r c → IsMarkOf (terms_of service) r.mark)
 answer-marked has o class service (Ok c) chosen are = λ r for.
     let granted = chosen_for-granted has o (asker_of service) class service r c for chosen in
     record { terms = are; mark = sym (ap (λ (x : Record). x.mark) granted.is) }
@@ -249,7 +275,8 @@ filter_map-found {X} {Y} f (x ∷ xs) (y ∷ ys) e =
     let more : List Y → List Y = λ zs. y ∷ zs in
     rw here (ap more (filter_map-found f xs ys rest))
 
-pub filter_map-some : {Y : Type 0} (f : ℕ → Option Y) (xs : List ℕ) (i d : ℕ) (kept all : List Y) (y : Y) → i < length xs → Some y ≡ f (get_or xs i d) → kept ++ filter_map f (drop i xs) ≡ all
+pub filter_map-some : {Y : Type 0} (f : ℕ → Option Y) (xs : List ℕ) (i d : ℕ) (kept all : List Y) (y : Y) → i < length xs → Some y ≡ f (get_or xs i d)
+    → kept ++ filter_map f (drop i xs) ≡ all
     → (kept ++ y ∷ []) ++ filter_map f (drop (i + 1) xs) ≡ all
 filter_map-some f xs i d kept all y lt is e =
     let there = rw (drop-cons xs i d lt) at e in
@@ -257,7 +284,8 @@ filter_map-some f xs i d kept all y lt is e =
     let taken = rw same at there in
     rw (append_assoc kept (y ∷ []) (filter_map f (drop (i + 1) xs)), add-one) taken
 
-pub filter_map-none : {Y : Type 0} (f : ℕ → Option Y) (xs : List ℕ) (i d : ℕ) (kept all : List Y) → i < length xs → None ≡ f (get_or xs i d) → kept ++ filter_map f (drop i xs) ≡ all
+pub filter_map-none : {Y : Type 0} (f : ℕ → Option Y) (xs : List ℕ) (i d : ℕ) (kept all : List Y) → i < length xs → None ≡ f (get_or xs i d)
+    → kept ++ filter_map f (drop i xs) ≡ all
     → kept ++ filter_map f (drop (i + 1) xs) ≡ all
 filter_map-none f xs i d kept all lt is e =
     let there = rw (drop-cons xs i d lt) at e in
@@ -265,8 +293,11 @@ filter_map-none f xs i d kept all lt is e =
     let taken = rw same at there in
     rw add-one taken
 
-pub answer-found : {V E : Type 0} (items : V → List (Bor CompiledPool)) (pools same : List CompiledPool) (places those : List ℕ) (found : List CompiledPool) (answer : Result V E) → pools ≡ same → those ≡ places
-    → map (slice_get same) places ≡ map (λ p. Some p) found → IfOk answer (λ v. map (λ p. p.now) (items v) ≡ filter_map (slice_get pools) those) → IfOk answer (λ v. map (λ p. p.now) (items v) ≡ found)
+pub answer-found : {V E : Type 0} (items : V → List (Bor CompiledPool)) (pools same : List CompiledPool) (places those : List ℕ) (found : List CompiledPool)
+    (answer : Result V E) → pools ≡ same → those ≡ places
+    → map (slice_get same) places ≡ map (λ p. Some p) found → IfOk answer (λ v. map (λ p. p.now) (items v) ≡ filter_map (slice_get pools) those)
+    → IfOk answer (λ v. map (λ p. p.now) (items v) ≡ found)
 answer-found items pools same places those found (Ok v) one two is e =
-    e ∙ ap (λ (q : List CompiledPool). filter_map (slice_get q) those) one ∙ ap (λ (ps : List ℕ). filter_map (slice_get same) ps) two ∙ filter_map-found (slice_get same) places found is
+    e ∙ ap (λ (q : List CompiledPool). filter_map (slice_get q) those) one ∙ ap (λ (ps : List ℕ). filter_map (slice_get same) ps) two
+    ∙ filter_map-found (slice_get same) places found is
 answer-found items pools same places those found (Err f) one two is e = tt

@@ -4,7 +4,8 @@ use Rattle.std.specs.List.{Contains, AllZip}
 use Rattle.ip_ranges.specs.declared.family.Family.{Family}
 use Rattle.ip_ranges.specs.Values.{AddressValue}
 use Rattle.kube_model.specs.declared.reason.Reason.{Reason}
-use Rattle.kube_model.specs.declared.reason.Reason.TheVariants.{RequestUnreadable, RequestFamilies, PoolUnknown, PoolRefused, AddressOutside, AddressUnusable, PoolExhausted, NoPool, Exhausted}
+use Rattle.kube_model.specs.declared.reason.Reason.TheVariants.{RequestUnreadable, RequestFamilies, PoolUnknown, PoolRefused}
+use Rattle.kube_model.specs.declared.reason.Reason.TheVariants.{AddressOutside, AddressUnusable, PoolExhausted, NoPool, Exhausted}
 use Rattle.kube_model.specs.declared.record.Record.{Record}
 use Rattle.kube_model.specs.declared.service.Service.{Service}
 use Rattle.mlb_base.proofs.Among.{contains-none, contains-cons, contains-first, contains-later}
@@ -41,15 +42,18 @@ zip-map R S [] (y ∷ ys) f p = p
 zip-map R S (x ∷ xs) [] f p = p
 zip-map R S (x ∷ xs) (y ∷ ys) f p = (f x y p.0, zip-map R S xs ys f p.1)
 
-zip-each : {X Y : Type 0} (R : X → Y → Type 0) (Q : Y → Type 0) (xs : List X) (ys : List Y) → ((x : X) (y : Y) → R x y → Q y) → AllZip R xs ys → (y : Y) → Contains ys y → Q y
+zip-each : {X Y : Type 0} (R : X → Y → Type 0) (Q : Y → Type 0) (xs : List X) (ys : List Y) → ((x : X) (y : Y) → R x y → Q y) → AllZip R xs ys → (y : Y)
+    → Contains ys y → Q y
 zip-each R Q [] [] f p y there = absurd (contains-none y there)
 zip-each R Q [] (z ∷ zs) f p y there = absurd p
 zip-each R Q (x ∷ xs) [] f p y there = absurd p
 zip-each R Q (x ∷ xs) (z ∷ zs) f p y there =
     ⊎_elim (λ same. subst Q same (f x z p.0)) (λ later. zip-each R Q xs zs f p.1 y later) (contains-cons z zs y there)
 
-named_by : (b : Bool) (p : CompiledPool) (pools : List CompiledPool) (pool : CompiledPool) (found : Option CompiledPool) → (Contains (option_to_list found) pool → Contains pools pool) → Contains (option_to_list (cond b (Some p) found)) pool → Contains (p ∷ pools) pool
-named_by true p pools pool found ih there = ⊎_elim (λ same. subst (Contains (p ∷ pools)) same (contains-first p pools)) (λ none. absurd (contains-none pool none)) (contains-cons p [] pool there)
+named_by : (b : Bool) (p : CompiledPool) (pools : List CompiledPool) (pool : CompiledPool) (found : Option CompiledPool)
+    → (Contains (option_to_list found) pool → Contains pools pool) → Contains (option_to_list (cond b (Some p) found)) pool → Contains (p ∷ pools) pool
+named_by true p pools pool found ih there =
+    ⊎_elim (λ same. subst (Contains (p ∷ pools)) same (contains-first p pools)) (λ none. absurd (contains-none pool none)) (contains-cons p [] pool there)
 named_by false p pools pool found ih there = contains-later p pools pool (ih there)
 
 named-stands : (name : List ℕ) (pools : List CompiledPool) (pool : CompiledPool) → Contains (option_to_list (named pools name)) pool → Contains pools pool
@@ -60,8 +64,10 @@ module _ (has : Holders) (o : Offer) (q : Asker) where
   least-of_each-only : (pools : List CompiledPool) (families : List Family) → IsOnly (IsLeastOfEach has q pools families)
   least-of_each-only pools families r s here there =
       let pool : here.0 ≡ there.0 = first-only (HasEach has q families) pools here.0 there.0 here.1 there.1 in
-      let moved : AllZip (IsLeast has q.key q.terms there.0) families r.addresses = subst (λ (p : CompiledPool). AllZip (IsLeast has q.key q.terms p) families r.addresses) pool here.2 in
-      let addresses : r.addresses ≡ s.addresses = zip-only (IsLeast has q.key q.terms there.0) families (λ family a b. least-only has q.key q.terms there.0 family a b) r.addresses s.addresses moved there.2 in
+      let moved : AllZip (IsLeast has q.key q.terms there.0) families r.addresses =
+      subst (λ (p : CompiledPool). AllZip (IsLeast has q.key q.terms p) families r.addresses) pool here.2 in
+      let addresses : r.addresses ≡ s.addresses = zip-only (IsLeast has q.key q.terms there.0) families
+      (λ family a b. least-only has q.key q.terms there.0 family a b) r.addresses s.addresses moved there.2 in
       let by_pool : CompiledPool → Record = λ p. record_in p q r.addresses in
       let by_addresses : List AddressValue → Record = λ as'. record_in there.0 q as' in
       here.3 ∙ ap by_pool pool ∙ ap by_addresses addresses ∙ sym there.3
@@ -89,7 +95,8 @@ module _ (has : Holders) (o : Offer) (q : Asker) where
       let answer : CompiledPool → Choice = λ pool. Keep (record_in pool q q.recorded) in
       here.2 ∙ ap answer (first-only (IsKept has o q) o.pools here.0 there.0 here.1 there.1) ∙ sym there.2
 
-  home-only : IsOnly (λ (c : Choice). (pool : CompiledPool) × IsFirst (IsHome o q) o.pools pool × AllUsable has q pool (asked_in q.wanted) × (c ≡ New (record_in pool q (asked_in q.wanted))))
+  home-only : IsOnly (λ (c : Choice). (pool : CompiledPool) × IsFirst (IsHome o q) o.pools pool × AllUsable has q pool (asked_in q.wanted)
+      × (c ≡ New (record_in pool q (asked_in q.wanted))))
   home-only x y here there =
       let answer : CompiledPool → Choice = λ pool. New (record_in pool q (asked_in q.wanted)) in
       here.3 ∙ ap answer (first-only (IsHome o q) o.pools here.0 there.0 here.1 there.1) ∙ sym there.3
@@ -106,7 +113,8 @@ module _ (has : Holders) (o : Offer) (q : Asker) where
       (only-case _ (λ c. (pool : CompiledPool) × IsFirst (IsKept has o q) o.pools pool × (c ≡ Keep (record_in pool q q.recorded))) _ kept-only
       (only-case _ (λ c. c ≡ Pending AddressOutside) _ (only-is (Pending AddressOutside))
       (only-case _ (λ c. c ≡ Pending AddressUnusable) _ (only-is (Pending AddressUnusable))
-      (only-case _ (λ c. (pool : CompiledPool) × IsFirst (IsHome o q) o.pools pool × AllUsable has q pool (asked_in q.wanted) × (c ≡ New (record_in pool q (asked_in q.wanted)))) _ home-only
+      (only-case _ (λ c. (pool : CompiledPool) × IsFirst (IsHome o q) o.pools pool × AllUsable has q pool (asked_in q.wanted)
+      × (c ≡ New (record_in pool q (asked_in q.wanted)))) _ home-only
       (only-case _ (Gives has q (asked_pools o q) PoolExhausted) _ (gives-only (asked_pools o q) PoolExhausted)
       (only-case _ (λ c. c ≡ Pending NoPool) _ (only-is (Pending NoPool))
       (gives-only o.eligible Exhausted))))))))))))
@@ -114,11 +122,13 @@ module _ (has : Holders) (o : Offer) (q : Asker) where
   is_for-pending : (r : Record) (reason : Reason) (c : Choice) → c ≡ Pending reason → IsFor r c → ⊥
   is_for-pending r reason c is for = ⊎_elim (λ kept. absurd (cc)) (λ new. absurd (cc)) for
 
-  granted-with : (pool : CompiledPool) (addresses : List AddressValue) (r : Record) → Contains o.pools pool ⊎ Contains o.eligible pool → AllUsable has q pool addresses → record_in pool q addresses ≡ r → IsGranted has o q r
+  granted-with : (pool : CompiledPool) (addresses : List AddressValue) (r : Record) → Contains o.pools pool ⊎ Contains o.eligible pool
+      → AllUsable has q pool addresses → record_in pool q addresses ≡ r → IsGranted has o q r
   granted-with pool addresses r there usable is =
       subst (IsGranted has o q) is (record { pool = pool; stands = there; usable = usable; is = refl })
 
-  granted-kept : (r : Record) (c : Choice) → (pool : CompiledPool) × IsFirst (IsKept has o q) o.pools pool × (c ≡ Keep (record_in pool q q.recorded)) → IsFor r c → IsGranted has o q r
+  granted-kept : (r : Record) (c : Choice) → (pool : CompiledPool) × IsFirst (IsKept has o q) o.pools pool × (c ≡ Keep (record_in pool q q.recorded))
+      → IsFor r c → IsGranted has o q r
   granted-kept r c k for =
       let kept : IsKept has o q k.0 = first-holds (IsKept has o q) o.pools k.0 k.1 in
       let is = k.2 in
@@ -127,7 +137,8 @@ module _ (has : Holders) (o : Offer) (q : Asker) where
       (λ new. absurd (cc))
       for
 
-  granted-home : (r : Record) (c : Choice) → (pool : CompiledPool) × IsFirst (IsHome o q) o.pools pool × AllUsable has q pool (asked_in q.wanted) × (c ≡ New (record_in pool q (asked_in q.wanted))) → IsFor r c → IsGranted has o q r
+  granted-home : (r : Record) (c : Choice) → (pool : CompiledPool) × IsFirst (IsHome o q) o.pools pool × AllUsable has q pool (asked_in q.wanted)
+      × (c ≡ New (record_in pool q (asked_in q.wanted))) → IsFor r c → IsGranted has o q r
   granted-home r c k for =
       let is = k.3 in
       ⊎_elim
@@ -135,7 +146,8 @@ module _ (has : Holders) (o : Offer) (q : Asker) where
       (λ same. granted-with k.0 (asked_in q.wanted) r (inl (first-stands (IsHome o q) o.pools k.0 k.1)) k.2 (cc))
       for
 
-  granted-new : (pools : List CompiledPool) (reason : Reason) (r : Record) (c : Choice) → ((pool : CompiledPool) → Contains pools pool → Contains o.pools pool ⊎ Contains o.eligible pool) → Gives has q pools reason c → IsFor r c → IsGranted has o q r
+  granted-new : (pools : List CompiledPool) (reason : Reason) (r : Record) (c : Choice) → ((pool : CompiledPool) → Contains pools pool
+      → Contains o.pools pool ⊎ Contains o.eligible pool) → Gives has q pools reason c → IsFor r c → IsGranted has o q r
   granted-new pools reason r c among gives for =
       ⊎_elim
       (λ given.
@@ -143,7 +155,8 @@ module _ (has : Holders) (o : Offer) (q : Asker) where
       let families = given.1.0 in
       let least = given.1.2 in
       let pool = least.0 in
-      let usable : AllUsable has q pool given.0.addresses = zip-each (IsLeast has q.key q.terms pool) (IsUsable has q.key q.terms pool) families given.0.addresses (λ family a l. l.0.1) least.2 in
+      let usable : AllUsable has q pool given.0.addresses =
+      zip-each (IsLeast has q.key q.terms pool) (IsUsable has q.key q.terms pool) families given.0.addresses (λ family a l. l.0.1) least.2 in
       ⊎_elim
       (λ kept. absurd (cc))
       (λ same. granted-with pool given.0.addresses r (among pool (first-stands (HasEach has q families) pools pool least.1)) usable (sym least.3 ∙ (cc)))
@@ -152,7 +165,8 @@ module _ (has : Holders) (o : Offer) (q : Asker) where
       gives
 
   -- what is chosen may be used
-  pub chosen_for-granted : (class : Option (List ℕ)) (service : Service) (r : Record) (c : Choice) → IsFor r c → IsChosenFor has o class service q c → IsGranted has o q r
+  pub chosen_for-granted : (class : Option (List ℕ)) (service : Service) (r : Record) (c : Choice) → IsFor r c → IsChosenFor has o class service q c
+      → IsGranted has o q r
   chosen_for-granted class service r c for =
       case-has _ _ _ _ (λ _ is. absurd (⊎_elim (λ k. absurd (cc)) (λ n. absurd (cc)) for)) (λ _.
       case-has _ _ _ _ (λ _ is. absurd (⊎_elim (λ k. absurd (cc)) (λ n. absurd (cc)) for)) (λ _.
@@ -164,6 +178,7 @@ module _ (has : Holders) (o : Offer) (q : Asker) where
       case-has _ _ _ _ (λ _ is. absurd (is_for-pending r AddressOutside c is for)) (λ _.
       case-has _ _ _ _ (λ _ is. absurd (is_for-pending r AddressUnusable c is for)) (λ _.
       case-has _ _ _ _ (λ _ home. granted-home r c home for) (λ _.
-      case-has _ _ _ _ (λ _ gives. granted-new (asked_pools o q) PoolExhausted r c (λ pool there. inl (named-stands q.pool_asked o.pools pool there)) gives for) (λ _.
+      case-has _ _ _ _ (λ _ gives. granted-new (asked_pools o q) PoolExhausted r c (λ pool there. inl (named-stands q.pool_asked o.pools pool there)) gives for)
+      (λ _.
       case-has _ _ _ _ (λ _ is. absurd (is_for-pending r NoPool c is for)) (λ _ gives.
       granted-new o.eligible Exhausted r c (λ pool there. inr there) gives for))))))))))))

@@ -1,5 +1,6 @@
 -- What the search for the least address finds, and what it leaves out; the least is the only one.
-use Rattle.std.proofs.Common.{◌≡◌, ℕ, ◌+◌, ◌-◌, ◌<◌, ◌≤◌, suc, zero, Bool, true, false, cond, leb, ◌&&◌, ◌||◌, List, [], ◌∷◌, Option, Some, None, option_map, IfSome, IfNone, ◌⊎◌, inl, inr, refl, sym, ap, ◌∙◌, subst, arith, ⊎_elim, eq-or-lt_of_le, leb-true, true≢false}
+use Rattle.std.proofs.Common.{◌≡◌, ℕ, ◌+◌, ◌-◌, ◌<◌, ◌≤◌, suc, zero, Bool, true, false, cond, leb, ◌&&◌, ◌||◌, List, [], ◌∷◌, Option, Some, None}
+use Rattle.std.proofs.Common.{option_map, IfSome, IfNone, ◌⊎◌, inl, inr, refl, sym, ap, ◌∙◌, subst, arith, ⊎_elim, eq-or-lt_of_le, leb-true, true≢false}
 use Rattle.std.proofs.lemmas.Bool.{and_parts, and_from, le-leb, cases_order}
 use Rattle.std.specs.List.{list_any}
 use Rattle.ip_ranges.specs.declared.family.Family.{Family}
@@ -40,7 +41,8 @@ first-least test low count n passes same =
       least = λ m from below. absurd (omega (arith, same, from, below));
     }
 
-found_here : (b : Bool) (test : ℕ → Bool) (low count n : ℕ) (rest : Option ℕ) → b ≡ test low → (rest ≡ Some n → IsLeastOf test (low + 1) count n) → cond b (Some low) rest ≡ Some n → IsLeastOf test low (suc count) n
+found_here : (b : Bool) (test : ℕ → Bool) (low count n : ℕ) (rest : Option ℕ) → b ≡ test low → (rest ≡ Some n → IsLeastOf test (low + 1) count n)
+    → cond b (Some low) rest ≡ Some n → IsLeastOf test low (suc count) n
 found_here true test low count n rest s ih e = first-least test low count n (sym s) (cc)
 found_here false test low count n rest s ih e = later-least test low count n (sym s) (ih e)
 
@@ -48,7 +50,8 @@ pub least_between-found : (test : ℕ → Bool) (count low n : ℕ) → least_be
 least_between-found test zero low n e = absurd (cc)
 least_between-found test (suc count) low n e = found_here (test low) test low count n _ refl (least_between-found test count (low + 1) n) e
 
-none_here : (b : Bool) (test : ℕ → Bool) (low count m : ℕ) (rest : Option ℕ) → b ≡ test low → (rest ≡ None → low + 1 ≤ m → test m ≡ false) → cond b (Some low) rest ≡ None → low ≤ m → test m ≡ false
+none_here : (b : Bool) (test : ℕ → Bool) (low count m : ℕ) (rest : Option ℕ) → b ≡ test low → (rest ≡ None → low + 1 ≤ m → test m ≡ false)
+    → cond b (Some low) rest ≡ None → low ≤ m → test m ≡ false
 none_here true test low count m rest s ih e from = absurd (cc)
 none_here false test low count m rest s ih e from =
     ⊎_elim (λ same. subst (λ k. test k ≡ false) same (sym s)) (λ more. ih e (omega (arith, more))) (eq-or-lt_of_le from)
@@ -98,7 +101,8 @@ of_the_family : (b : Bool) (test : AddressValue → Bool) (family : Family) (spa
 of_the_family true test family span a found s then_is e = then_is (same_family-is span.family family (sym s)) e
 of_the_family false test family span a found s then_is e = absurd (cc)
 
-pub least_in-found : (test : AddressValue → Bool) (family : Family) (span : SpanValue) (a : AddressValue) → least_in test family span ≡ Some a → IsLeastIn test family span a
+pub least_in-found : (test : AddressValue → Bool) (family : Family) (span : SpanValue) (a : AddressValue) → least_in test family span ≡ Some a
+    → IsLeastIn test family span a
 least_in-found test family span a e =
     of_the_family (same_family span.family family) test family span a _ refl
     (λ same found. found_in test family span a (least_between (numbered test family) span.low (span.high + 1 - span.low)) same
@@ -158,7 +162,8 @@ first_later test family span spans a none later =
           ⊎_elim (λ ahead. least_in-none test family span none b of_family ahead.0 passes) (λ behind. later.first b of_family passes behind.1) before;
     }
 
-first_of : (here : Option AddressValue) (test : AddressValue → Bool) (family : Family) (span : SpanValue) (spans : List SpanValue) (rest : Option AddressValue) (a : AddressValue)
+first_of : (here : Option AddressValue) (test : AddressValue → Bool) (family : Family) (span : SpanValue) (spans : List SpanValue) (rest : Option AddressValue)
+    (a : AddressValue)
     → here ≡ least_in test family span
     → (rest ≡ Some a → IsFirstOf test family spans a)
     → or_else here rest ≡ Some a
@@ -166,7 +171,8 @@ first_of : (here : Option AddressValue) (test : AddressValue → Bool) (family :
 first_of (Some b) test family span spans rest a s ih e = first_here test family span spans a (least_in-found test family span a (sym s ∙ e))
 first_of None test family span spans rest a s ih e = first_later test family span spans a (sym s) (ih e)
 
-pub least_of-found : (test : AddressValue → Bool) (family : Family) (spans : List SpanValue) (a : AddressValue) → least_of test family spans ≡ Some a → IsFirstOf test family spans a
+pub least_of-found : (test : AddressValue → Bool) (family : Family) (spans : List SpanValue) (a : AddressValue) → least_of test family spans ≡ Some a
+    → IsFirstOf test family spans a
 least_of-found test family [] a e = absurd (cc)
 least_of-found test family (span ∷ spans) a e =
     first_of (least_in test family span) test family span spans _ a refl (least_of-found test family spans a) e
@@ -194,20 +200,24 @@ pub least_usable-is : (claims : List ClaimValue) (key : Key) (terms : Terms) (po
     → found ≡ least_usable claims key terms pool family → IfSome found (IsLeast (holders claims) key terms pool family)
 least_usable-is claims key terms pool family None e = tt
 least_usable-is claims key terms pool family (Some a) e =
-    let first = least_of-found (usable claims key terms pool) family pool.spans a (sym e) in
-    ((first.of_family, usable-is claims key terms pool a first.passes), λ b is_usable. first.first b is_usable.0 (usable-from claims key terms pool b is_usable.1))
+    let first = least_of-found (usable claims key terms pool) family pool.spans a (sym e) in (
+      (first.of_family, usable-is claims key terms pool a first.passes),
+      λ b is_usable. first.first b is_usable.0 (usable-from claims key terms pool b is_usable.1),
+    )
 
 -- where nothing is found there is none that may be used
 pub least_usable-none : (claims : List ClaimValue) (key : Key) (terms : Terms) (pool : CompiledPool) (family : Family) (found : Option AddressValue)
     → found ≡ least_usable claims key terms pool family → IfNone found ((a : AddressValue) → ¬ (IsUsableOf (holders claims) key terms pool family a))
 least_usable-none claims key terms pool family None e =
-    λ a is_usable. least_of-none (usable claims key terms pool) family pool.spans (sym e) a is_usable.0 (usable-from claims key terms pool a is_usable.1) is_usable.1.in_pool
+    λ a is_usable. least_of-none (usable claims key terms pool) family pool.spans (sym e) a is_usable.0 (usable-from claims key terms pool a is_usable.1)
+    is_usable.1.in_pool
 least_usable-none claims key terms pool family (Some a) e = tt
 
 pub holds-from : (span : SpanValue) (a : AddressValue) → Holds span a → holds span a ≡ true
 holds-from span a h =
     and_from (same_family span.family a.family && leb span.low a.number) (leb a.number span.high)
-    (and_from (same_family span.family a.family) (leb span.low a.number) (subst (λ f. same_family span.family f ≡ true) h.0 (same_family-itself span.family)) (le-leb span.low a.number h.1))
+    (and_from (same_family span.family a.family) (leb span.low a.number) (subst (λ f. same_family span.family f ≡ true) h.0 (same_family-itself span.family))
+    (le-leb span.low a.number h.1))
     (le-leb a.number span.high h.2)
 
 -- one of the two stands before the other, or they are one
@@ -252,14 +262,16 @@ or_rest true rest s e = absurd (true≢false s)
 or_rest false rest s e = e
 
 -- of two addresses of one family that lie in the ranges one stands before the other, or they are one
-pub stands-ordered : (spans : List SpanValue) (a b : AddressValue) → a.family ≡ b.family → list_any (λ span. holds span a) spans ≡ true → list_any (λ span. holds span b) spans ≡ true → AreOrdered spans a b
+pub stands-ordered : (spans : List SpanValue) (a b : AddressValue) → a.family ≡ b.family → list_any (λ span. holds span a) spans ≡ true
+    → list_any (λ span. holds span b) spans ≡ true → AreOrdered spans a b
 stands-ordered [] a b families here there = absurd (true≢false (sym here))
 stands-ordered (span ∷ spans) a b families here there =
     ordered_by (holds span a) (holds span b) span spans a b refl refl families
     (λ none nothing. stands-ordered spans a b families (or_rest (holds span a) _ none here) (or_rest (holds span b) _ nothing there))
 
 -- there is one least
-pub least-only : (has : Holders) (key : Key) (terms : Terms) (pool : CompiledPool) (family : Family) (a b : AddressValue) → IsLeast has key terms pool family a → IsLeast has key terms pool family b → a ≡ b
+pub least-only : (has : Holders) (key : Key) (terms : Terms) (pool : CompiledPool) (family : Family) (a b : AddressValue) → IsLeast has key terms pool family a
+    → IsLeast has key terms pool family b → a ≡ b
 least-only has key terms pool family a b here there =
     ⊎_elim
     (λ same. same)

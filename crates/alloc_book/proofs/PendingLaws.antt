@@ -56,8 +56,11 @@ module _ (before after : Holders) (o : Offer) (q : Asker) (tighter : IsTighter q
   kept_before pool k = record { is_open = k.is_open; fits = k.fits; usable = all_before pool q.recorded k.usable; as_asked = k.as_asked }
 
   each_before : (families : List Family) (pool : CompiledPool) → HasEach after q families pool → HasEach before q families pool
-  each_before families pool h =
-      (h.0, zip-map (IsUsableOf after q.key q.terms pool) (IsUsableOf before q.key q.terms pool) families h.0 (λ family a u. (u.0, usable_before pool a u.1)) h.1)
+  each_before families pool h = (
+    h.0,
+    zip-map (IsUsableOf after q.key q.terms pool) (IsUsableOf before q.key q.terms pool) families h.0 (λ family a u. (u.0, usable_before pool a u.1))
+        h.1,
+  )
 
   some_before : (pools : List CompiledPool) (families : List Family) → SomeHasEach after q pools families → SomeHasEach before q pools families
   some_before pools families some = has-more (HasEach after q families) (HasEach before q families) pools (each_before families) some
@@ -67,7 +70,8 @@ module _ (before after : Holders) (o : Offer) (q : Asker) (tighter : IsTighter q
 
   not_kept_after : ¬ ((pool : CompiledPool) × IsFirst (IsKept before o q) o.pools pool) → ¬ ((pool : CompiledPool) × IsFirst (IsKept after o q) o.pools pool)
   not_kept_after none found =
-      first-none (IsKept after o q) o.pools found.0 found.1 (none-fewer (IsKept before o q) (IsKept after o q) o.pools kept_before (no-first (IsKept before o q) o.pools none))
+      first-none (IsKept after o q) o.pools found.0 found.1
+      (none-fewer (IsKept before o q) (IsKept after o q) o.pools kept_before (no-first (IsKept before o q) o.pools none))
 
   gives_after : (pools : List CompiledPool) (reason r : Reason) → Gives before q pools reason (Pending r) → Gives after q pools reason (Pending r)
   gives_after pools reason r gives =
@@ -79,10 +83,14 @@ module _ (before after : Holders) (o : Offer) (q : Asker) (tighter : IsTighter q
 
   -- cases 9 and 10: an address may come to be unusable, but then it was chosen before
   nine_ten : (r : Reason) (R S : Type 0) → (R → S)
-      → Case (AsksAddresses q × ((pool : CompiledPool) × IsFirst (IsHome o q) o.pools pool × ¬ (AllUsable before q pool (asked_in q.wanted)))) (Pending r ≡ Pending AddressUnusable)
-      (Case (AsksAddresses q) ((pool : CompiledPool) × IsFirst (IsHome o q) o.pools pool × AllUsable before q pool (asked_in q.wanted) × (Pending r ≡ New (record_in pool q (asked_in q.wanted)))) R)
-      → Case (AsksAddresses q × ((pool : CompiledPool) × IsFirst (IsHome o q) o.pools pool × ¬ (AllUsable after q pool (asked_in q.wanted)))) (Pending r ≡ Pending AddressUnusable)
-      (Case (AsksAddresses q) ((pool : CompiledPool) × IsFirst (IsHome o q) o.pools pool × AllUsable after q pool (asked_in q.wanted) × (Pending r ≡ New (record_in pool q (asked_in q.wanted)))) S)
+      → Case (AsksAddresses q × ((pool : CompiledPool) × IsFirst (IsHome o q) o.pools pool × ¬ (AllUsable before q pool (asked_in q.wanted))))
+      (Pending r ≡ Pending AddressUnusable)
+      (Case (AsksAddresses q) ((pool : CompiledPool) × IsFirst (IsHome o q) o.pools pool × AllUsable before q pool (asked_in q.wanted)
+      × (Pending r ≡ New (record_in pool q (asked_in q.wanted)))) R)
+      → Case (AsksAddresses q × ((pool : CompiledPool) × IsFirst (IsHome o q) o.pools pool × ¬ (AllUsable after q pool (asked_in q.wanted))))
+      (Pending r ≡ Pending AddressUnusable)
+      (Case (AsksAddresses q) ((pool : CompiledPool) × IsFirst (IsHome o q) o.pools pool × AllUsable after q pool (asked_in q.wanted)
+      × (Pending r ≡ New (record_in pool q (asked_in q.wanted)))) S)
   nine_ten r R S rest c =
       ⊎_elim
       (λ here. inl (unusable_after here.0, here.1))
@@ -93,7 +101,8 @@ module _ (before after : Holders) (o : Offer) (q : Asker) (tighter : IsTighter q
       c
 
   -- what is pending stays so, for the same reason
-  pub pending_for-stays : (class : Option (List ℕ)) (service : Service) (r : Reason) → IsChosenFor before o class service q (Pending r) → IsChosenFor after o class service q (Pending r)
+  pub pending_for-stays : (class : Option (List ℕ)) (service : Service) (r : Reason) → IsChosenFor before o class service q (Pending r)
+      → IsChosenFor after o class service q (Pending r)
   pending_for-stays class service r =
       same _ _ _ _ (same _ _ _ _ (same _ _ _ _ (same _ _ _ _ (same _ _ _ _ (same _ _ _ _
       (case-off _ _ _ _ _ _ (λ kept. let is = kept.2 in absurd (cc)) not_kept_after
@@ -109,5 +118,6 @@ more-tighter key terms before after more a left other apart r there has = left o
 pub holders-same : (has has' : Holders) → ((key : Key) → has key ≡ has' key) → has ≡ has'
 holders-same has has' each = λ i key. each key i
 
-pub chosen-by : (has has' : Holders) (o : Offer) (class : Option (List ℕ)) (service : Service) (c : Choice) → ((key : Key) → has key ≡ has' key) → IsChosen has o class service c → IsChosen has' o class service c
+pub chosen-by : (has has' : Holders) (o : Offer) (class : Option (List ℕ)) (service : Service) (c : Choice) → ((key : Key) → has key ≡ has' key)
+    → IsChosen has o class service c → IsChosen has' o class service c
 chosen-by has has' o class service c each = subst (λ h. IsChosen h o class service c) (holders-same has has' each)

@@ -1,5 +1,6 @@
 -- The pool that has one of some addresses is the only one in which all of them may lie.
-use Rattle.std.proofs.Common.{◌≡◌, Bool, true, false, cond, ◌&&◌, List, [], ◌∷◌, Option, Some, None, find, slice_get, inl, inr, ◌⊎◌, ⊎_elim, refl, sym, ap, ◌∙◌, subst}
+use Rattle.std.proofs.Common.{◌≡◌, Bool, true, false, cond, ◌&&◌, List, [], ◌∷◌, Option, Some, None, find}
+use Rattle.std.proofs.Common.{slice_get, inl, inr, ◌⊎◌, ⊎_elim, refl, sym, ap, ◌∙◌, subst}
 use Rattle.std.proofs.lemmas.Bool.{and_parts, true≢false}
 use Rattle.std.proofs.lemmas.Option.{slice_get_within, get_or_from_slice_get}
 use Rattle.std.proofs.lemmas.List.Elements.{Contains-get_or}
@@ -37,7 +38,8 @@ module _ {X : Type 0} (test : X → Bool) where
       let is : z ≡ x = cc in
       absurd (true≢false (sym passes ∙ ap test (sym is) ∙ fails)))
 
-  here-by : (z y : X) (ys : List X) (b : Bool) → test y ≡ b → test z ≡ true → (y ≡ z) ⊎ IsIn ys z → IsOnly (Some z) (y ∷ ys) → (IsIn ys z → find test ys ≡ Some z)
+  here-by : (z y : X) (ys : List X) (b : Bool) → test y ≡ b → test z ≡ true → (y ≡ z) ⊎ IsIn ys z → IsOnly (Some z) (y ∷ ys)
+      → (IsIn ys z → find test ys ≡ Some z)
       → cond b (Some y) (find test ys) ≡ Some z
   here-by z y ys true e passes there only rest = sym (only y (inl refl) e)
   here-by z y ys false e passes there only rest =
@@ -54,7 +56,8 @@ first-in addresses a e =
     subst (Contains addresses) (get_or_from_slice_get addresses 0 a a (sym e)) (Contains-get_or addresses 0 a (slice_get_within addresses 0 a (sym e)))
 
 -- a pool in which the recorded addresses may stay has each of them
-kept-has : (claims : List ClaimValue) (o : Offer) (q : Asker) (pool : CompiledPool) (a : AddressValue) → Contains q.recorded a → is_kept claims o q pool ≡ true → HasAddress a pool
+kept-has : (claims : List ClaimValue) (o : Offer) (q : Asker) (pool : CompiledPool) (a : AddressValue) → Contains q.recorded a → is_kept claims o q pool ≡ true
+    → HasAddress a pool
 kept-has claims o q pool a there kept =
     let three = and_parts (is_open o q pool && fits_option q q.recorded && all_usable claims q pool q.recorded) _ kept in
     let all = (and_parts (is_open o q pool && fits_option q q.recorded) (all_usable claims q pool q.recorded) three.0).1 in
@@ -67,7 +70,8 @@ home-has o q pool a there home =
     let all = (and_parts (is_open o q pool) (list_all (is_in pool) (asked_in q.wanted)) home).1 in
     (address-Decides a pool).0 (all-contains (is_in pool) (asked_in q.wanted) a all there)
 
-module _ (pools : List CompiledPool) (a : AddressValue) (one : Option CompiledPool) (only : (pool : CompiledPool) → IsIn pools pool → HasAddress a pool → one ≡ Some pool) where
+module _ (pools : List CompiledPool) (a : AddressValue) (one : Option CompiledPool)
+    (only : (pool : CompiledPool) → IsIn pools pool → HasAddress a pool → one ≡ Some pool) where
   pub only-kept : (claims : List ClaimValue) (o : Offer) (q : Asker) → Some a ≡ slice_get q.recorded 0 → IsOnly (is_kept claims o q) one pools
   only-kept claims o q first pool there kept = only pool there (kept-has claims o q pool a (first-in q.recorded a first) kept)
 

@@ -29,37 +29,52 @@ none-has P [] none has = has
 none-has P (z ∷ zs) none has = ⊎_elim (λ here. none.0 here) (λ later. none-has P zs none.1 later) has
 
 module _ (claims : List ClaimValue) (q : Asker) where
-  both_found : (here : Option AddressValue) (rest : Option (List AddressValue)) (pool : CompiledPool) (family : Family) (families : List Family) (addresses : List AddressValue)
-      → here ≡ least_usable claims q.key q.terms pool family → ((more : List AddressValue) → rest ≡ Some more → AllZip (IsLeast (holders claims) q.key q.terms pool) families more)
+  both_found : (here : Option AddressValue) (rest : Option (List AddressValue)) (pool : CompiledPool) (family : Family) (families : List Family)
+      (addresses : List AddressValue)
+      → here ≡ least_usable claims q.key q.terms pool family
+      → ((more : List AddressValue) → rest ≡ Some more → AllZip (IsLeast (holders claims) q.key q.terms pool) families more)
       → both here rest ≡ Some addresses → AllZip (IsLeast (holders claims) q.key q.terms pool) (family ∷ families) addresses
   both_found None rest pool family families addresses is ih e = absurd (cc)
   both_found (Some a) None pool family families addresses is ih e = absurd (cc)
   both_found (Some a) (Some more) pool family families addresses is ih e =
       let all : (a ∷ more) ≡ addresses = cc in
-      subst (AllZip (IsLeast (holders claims) q.key q.terms pool) (family ∷ families)) all (least_usable-is claims q.key q.terms pool family (Some a) is, ih more refl)
+      subst (AllZip (IsLeast (holders claims) q.key q.terms pool) (family ∷ families)) all (
+        least_usable-is claims q.key q.terms pool family (Some a) is,
+        ih more refl,
+      )
 
-  least_each-found : (families : List Family) (pool : CompiledPool) (addresses : List AddressValue) → least_each claims q.key q.terms pool families ≡ Some addresses → AllZip (IsLeast (holders claims) q.key q.terms pool) families addresses
+  least_each-found : (families : List Family) (pool : CompiledPool) (addresses : List AddressValue)
+      → least_each claims q.key q.terms pool families ≡ Some addresses → AllZip (IsLeast (holders claims) q.key q.terms pool) families addresses
   least_each-found [] pool [] e = tt
   least_each-found [] pool (a ∷ addresses) e = absurd (cc)
   least_each-found (family ∷ families) pool addresses e =
-      both_found (least_usable claims q.key q.terms pool family) (least_each claims q.key q.terms pool families) pool family families addresses refl (λ more is. least_each-found families pool more is) e
+      both_found (least_usable claims q.key q.terms pool family) (least_each claims q.key q.terms pool families) pool family families addresses refl
+      (λ more is. least_each-found families pool more is) e
 
-  none_found : (here : Option AddressValue) (rest : Option (List AddressValue)) (pool : CompiledPool) (family : Family) (families : List Family) (addresses : List AddressValue)
-      → here ≡ least_usable claims q.key q.terms pool family → (rest ≡ None → (more : List AddressValue) → ¬ (AllZip (IsUsableOf (holders claims) q.key q.terms pool) families more))
+  none_found : (here : Option AddressValue) (rest : Option (List AddressValue)) (pool : CompiledPool) (family : Family) (families : List Family)
+      (addresses : List AddressValue)
+      → here ≡ least_usable claims q.key q.terms pool family
+      → (rest ≡ None → (more : List AddressValue) → ¬ (AllZip (IsUsableOf (holders claims) q.key q.terms pool) families more))
       → both here rest ≡ None → ¬ (AllZip (IsUsableOf (holders claims) q.key q.terms pool) (family ∷ families) addresses)
   none_found here rest pool family families [] is ih e = λ z. z
   none_found None rest pool family families (b ∷ addresses) is ih e = λ z. least_usable-none claims q.key q.terms pool family None is b z.0
   none_found (Some a) None pool family families (b ∷ addresses) is ih e = λ z. ih refl addresses z.1
   none_found (Some a) (Some more) pool family families (b ∷ addresses) is ih e = absurd (cc)
 
-  least_each-none : (families : List Family) (pool : CompiledPool) (addresses : List AddressValue) → least_each claims q.key q.terms pool families ≡ None → ¬ (AllZip (IsUsableOf (holders claims) q.key q.terms pool) families addresses)
+  least_each-none : (families : List Family) (pool : CompiledPool) (addresses : List AddressValue) → least_each claims q.key q.terms pool families ≡ None
+      → ¬ (AllZip (IsUsableOf (holders claims) q.key q.terms pool) families addresses)
   least_each-none [] pool addresses e = absurd (cc)
   least_each-none (family ∷ families) pool addresses e =
-      none_found (least_usable claims q.key q.terms pool family) (least_each claims q.key q.terms pool families) pool family families addresses refl (λ is more. least_each-none families pool more is) e
+      none_found (least_usable claims q.key q.terms pool family) (least_each claims q.key q.terms pool families) pool family families addresses refl
+      (λ is more. least_each-none families pool more is) e
 
-  least-usables : (families : List Family) (pool : CompiledPool) (addresses : List AddressValue) → AllZip (IsLeast (holders claims) q.key q.terms pool) families addresses → HasEach (holders claims) q families pool
-  least-usables families pool addresses z =
-      (addresses, zip-map (IsLeast (holders claims) q.key q.terms pool) (IsUsableOf (holders claims) q.key q.terms pool) families addresses (λ family a least. least.0) z)
+  least-usables : (families : List Family) (pool : CompiledPool) (addresses : List AddressValue)
+      → AllZip (IsLeast (holders claims) q.key q.terms pool) families addresses → HasEach (holders claims) q families pool
+  least-usables families pool addresses z = (
+    addresses,
+    zip-map (IsLeast (holders claims) q.key q.terms pool) (IsUsableOf (holders claims) q.key q.terms pool) families addresses
+        (λ family a least. least.0) z,
+  )
 
   found_in : (families : List Family) (found : Option (List AddressValue)) (pool : CompiledPool) (pools : List CompiledPool) (rest : Option Record) (r : Record)
       → found ≡ least_each claims q.key q.terms pool families → (rest ≡ Some r → IsLeastOfEach (holders claims) q pools families r)
@@ -72,10 +87,12 @@ module _ (claims : List ClaimValue) (q : Asker) where
       let later = ih e in
       (later.0, inr (λ each. least_each-none families pool each.0 (sym is) each.1, later.1), later.2, later.3)
 
-  first_pool-found : (families : List Family) (pools : List CompiledPool) (r : Record) → first_pool claims q families pools ≡ Some r → IsLeastOfEach (holders claims) q pools families r
+  first_pool-found : (families : List Family) (pools : List CompiledPool) (r : Record) → first_pool claims q families pools ≡ Some r
+      → IsLeastOfEach (holders claims) q pools families r
   first_pool-found families [] r e = absurd (cc)
   first_pool-found families (pool ∷ pools) r e =
-      found_in families (least_each claims q.key q.terms pool families) pool pools (first_pool claims q families pools) r refl (first_pool-found families pools r) e
+      found_in families (least_each claims q.key q.terms pool families) pool pools (first_pool claims q families pools) r refl
+      (first_pool-found families pools r) e
 
   none_in : (families : List Family) (found : Option (List AddressValue)) (pool : CompiledPool) (pools : List CompiledPool) (rest : Option Record)
       → found ≡ least_each claims q.key q.terms pool families → (rest ≡ None → NoneIs (HasEach (holders claims) q families) pools)
@@ -83,7 +100,8 @@ module _ (claims : List ClaimValue) (q : Asker) where
   none_in families (Some addresses) pool pools rest is ih e = absurd (cc)
   none_in families None pool pools rest is ih e = (λ each. least_each-none families pool each.0 (sym is) each.1, ih e)
 
-  first_pool-none : (families : List Family) (pools : List CompiledPool) → first_pool claims q families pools ≡ None → NoneIs (HasEach (holders claims) q families) pools
+  first_pool-none : (families : List Family) (pools : List CompiledPool) → first_pool claims q families pools ≡ None
+      → NoneIs (HasEach (holders claims) q families) pools
   first_pool-none families [] e = tt
   first_pool-none families (pool ∷ pools) e =
       none_in families (least_each claims q.key q.terms pool families) pool pools (first_pool claims q families pools) refl (first_pool-none families pools) e
@@ -91,14 +109,18 @@ module _ (claims : List ClaimValue) (q : Asker) where
   -- the first of the options for which a pool has one of each
   module _ (pools : List CompiledPool) where
     abbrev IsFound : List (List Family) → Record → Type 0
-    IsFound options r = (families : List Family) × IsFirst (SomeHasEach (holders claims) q pools) options families × IsLeastOfEach (holders claims) q pools families r
+    IsFound options r =
+        (families : List Family) × IsFirst (SomeHasEach (holders claims) q pools) options families × IsLeastOfEach (holders claims) q pools families r
 
     option_found : (families : List Family) (found : Option Record) (options : List (List Family)) (rest : Option Record) (r : Record)
         → found ≡ first_pool claims q families pools → (rest ≡ Some r → IsFound options r) → or_else found rest ≡ Some r → IsFound (families ∷ options) r
     option_found families (Some s) options rest r is ih e =
         let it : s ≡ r = cc in
-        let least = first_pool-found families pools s (sym is) in
-        (families, inl (first-has (HasEach (holders claims) q families) pools least.0 least.1, refl), subst (IsLeastOfEach (holders claims) q pools families) it least)
+        let least = first_pool-found families pools s (sym is) in (
+          families,
+          inl (first-has (HasEach (holders claims) q families) pools least.0 least.1, refl),
+          subst (IsLeastOfEach (holders claims) q pools families) it least,
+        )
     option_found families None options rest r is ih e =
         let later = ih e in
         (later.0, inr (none-has (HasEach (holders claims) q families) pools (first_pool-none families pools (sym is)), later.1), later.2)

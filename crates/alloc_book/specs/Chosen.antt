@@ -3,7 +3,8 @@ use Rattle.std.specs.Prelude.{◌≡◌, ◌≢◌, ◌⊎◌, ℕ, true, false,
 use Rattle.std.specs.Option.{option_to_list}
 use Rattle.std.specs.Str.{bytes_eq}
 use Rattle.kube_model.specs.declared.reason.Reason.{Reason}
-use Rattle.kube_model.specs.declared.reason.Reason.TheVariants.{RequestUnreadable, RequestFamilies, PoolUnknown, PoolRefused, AddressOutside, AddressUnusable, PoolExhausted, NoPool, Exhausted}
+use Rattle.kube_model.specs.declared.reason.Reason.TheVariants.{RequestUnreadable, RequestFamilies, PoolUnknown, PoolRefused}
+use Rattle.kube_model.specs.declared.reason.Reason.TheVariants.{AddressOutside, AddressUnusable, PoolExhausted, NoPool, Exhausted}
 use Rattle.kube_model.specs.declared.record.Record.{Record}
 use Rattle.kube_model.specs.declared.service.Service.{Service}
 use Rattle.kube_model.specs.declared.service.Wanted.TheVariants.{Unreadable}
@@ -53,9 +54,11 @@ IsChosenFor has o class service q c =
     -- 8: no one pool that it may use has all the addresses asked for
     (Case (AsksAddresses q × NoneIs (IsHome o q) o.pools) (c ≡ Pending AddressOutside)
     -- 9: one of them isn't usable
-    (Case (AsksAddresses q × ((pool : CompiledPool) × IsFirst (IsHome o q) o.pools pool × ¬ (AllUsable has q pool (asked_in q.wanted)))) (c ≡ Pending AddressUnusable)
+    (Case (AsksAddresses q × ((pool : CompiledPool) × IsFirst (IsHome o q) o.pools pool × ¬ (AllUsable has q pool (asked_in q.wanted))))
+    (c ≡ Pending AddressUnusable)
     -- 10: addresses are asked for, all of which may be used
-    (Case (AsksAddresses q) ((pool : CompiledPool) × IsFirst (IsHome o q) o.pools pool × AllUsable has q pool (asked_in q.wanted) × (c ≡ New (record_in pool q (asked_in q.wanted))))
+    (Case (AsksAddresses q) ((pool : CompiledPool) × IsFirst (IsHome o q) o.pools pool × AllUsable has q pool (asked_in q.wanted)
+    × (c ≡ New (record_in pool q (asked_in q.wanted))))
     -- 11: a pool is asked for
     (Case (AsksPool q) (Gives has q (asked_pools o q) PoolExhausted c)
     -- 12: no pool is eligible

@@ -22,16 +22,19 @@ use Rattle.alloc_book.specs.Least.{IsLeast}
 -- what is chosen may be used
 abbrev pub ChosenIsGranted : Type 0
 ChosenIsGranted =
-    (has : Holders) (o : Offer) (class : Option (List ℕ)) (service : Service) (r : Record) (c : Choice) → IsFor r c → IsChosen has o class service c → IsGranted has o (asker_of service) r
+    (has : Holders) (o : Offer) (class : Option (List ℕ)) (service : Service) (r : Record) (c : Choice) → IsFor r c → IsChosen has o class service c
+    → IsGranted has o (asker_of service) r
 
 -- one thing at most is chosen, and one address is the least
 abbrev pub ChosenIsOne : Type 0
 ChosenIsOne =
-    (has : Holders) (o : Offer) (class : Option (List ℕ)) (service : Service) (c d : Choice) → IsChosen has o class service c → IsChosen has o class service d → c ≡ d
+    (has : Holders) (o : Offer) (class : Option (List ℕ)) (service : Service) (c d : Choice) → IsChosen has o class service c → IsChosen has o class service d
+    → c ≡ d
 
 abbrev pub LeastIsOne : Type 0
 LeastIsOne =
-    (has : Holders) (key : Key) (terms : Terms) (pool : CompiledPool) (family : Family) (a b : AddressValue) → IsLeast has key terms pool family a → IsLeast has key terms pool family b → a ≡ b
+    (has : Holders) (key : Key) (terms : Terms) (pool : CompiledPool) (family : Family) (a b : AddressValue) → IsLeast has key terms pool family a
+    → IsLeast has key terms pool family b → a ≡ b
 
 -- what is pending stays so, for the same reason, where nothing is left to the service that wasn't left to it before
 abbrev pub PendingStays : Type 0

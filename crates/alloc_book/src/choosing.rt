@@ -5,7 +5,8 @@ ghost use Rattle.sharing_terms.specs.Marked.{AreTerms};
 ghost use Rattle.sharing_terms.specs.Terms.{terms_of};
 ghost use Rattle.pool_choice.specs.Eligible.{eligible};
 ghost use Rattle.alloc_book.specs.Asking.{offer_of};
-ghost use Rattle.alloc_book.specs.Choose.{new_or, is_unusable, is_refused, asked_from, kept_from, from_asked, from_eligible, unasked, anew, granted, pooled, fitting, choose_for, choose};
+ghost use Rattle.alloc_book.specs.Choose.{new_or, is_unusable, is_refused, asked_from, kept_from, from_asked};
+ghost use Rattle.alloc_book.specs.Choose.{from_eligible, unasked, anew, granted, pooled, fitting, choose_for, choose};
 ghost use Rattle.alloc_book.specs.Choosing.{claims_in, offer_for, asker_in};
 
 use crate::booking::Book;
@@ -215,7 +216,8 @@ impl<'a> Choosing<'a> {
 
     /// The whole table, where services of this class are handled.
     fn choose(&self, class: Option<&Text>) -> Result<Choice, NoMemory>
-        ensures { IfOk result (λ c. c ≡ choose_for (claims_in self.now) (offer_for self.now) (option_copied class.entry) self.now.service.now (asker_in self.now)) }
+        ensures { IfOk result
+            (λ c. c ≡ choose_for (claims_in self.now) (offer_for self.now) (option_copied class.entry) self.now.service.now (asker_in self.now)) }
     {
         if self.service.balancer && !self.service.is_handled(class) {
             return Ok(Choice::Foreign);

@@ -148,7 +148,8 @@ impl<'a> AddressSearch<'a> {
 
     /// The least number from low to high of an address that the key has already and may use.
     fn least_own(&self, low: u128, high: u128) -> Option<u128>
-        ensures { Covers (numbered (is_own self.now.key.now (claims_for self.now)) self.now.family) (numbered (usable_by self.now) self.now.family) low high result }
+        ensures { Covers (numbered (is_own self.now.key.now (claims_for self.now)) self.now.family) (numbered (usable_by self.now) self.now.family) low high
+            result }
     {
         let index = self.book.index();
         let mut least = None;

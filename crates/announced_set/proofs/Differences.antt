@@ -1,5 +1,6 @@
 -- What a node announces no more and from now on, told of the addresses at which that was looked at.
-use Rattle.std.proofs.Common.{◌≡◌, ℕ, Bool, true, false, cond, not, ◌&&◌, ◌||◌, List, [], ◌∷◌, ◌++◌, filter, Contains, Option, Some, None, Result, Ok, Err, refl, sym, ap, subst, ◌∙◌}
+use Rattle.std.proofs.Common.{◌≡◌, ℕ, Bool, true, false, cond, not, ◌&&◌, ◌||◌, List, [], ◌∷◌, ◌++◌, filter}
+use Rattle.std.proofs.Common.{Contains, Option, Some, None, Result, Ok, Err, refl, sym, ap, subst, ◌∙◌}
 use Rattle.std.proofs.lemmas.Bool.{false≢true}
 use Rattle.std.proofs.lemmas.List.Elements.{Contains-append_left, Contains-append_right}
 use Rattle.std.proofs.lemmas.List.Kept.{IsStrictlySortedBy-filter}
@@ -22,16 +23,19 @@ use Rattle.announced_set.specs.Announced.{address_cmp, announced_by}
 use Rattle.announced_set.specs.Changes.{AreComeSince, AreWithdrawn, difference, held_among, is_held}
 use Rattle.announced_set.proofs.Listed.{all_are_announced, has-announced}
 
-has-difference : (addresses others : List AddressValue) (a : AddressValue) → has_address (difference addresses others) a ≡ (not (has_address others a) && has_address addresses a)
+has-difference : (addresses others : List AddressValue) (a : AddressValue)
+    → has_address (difference addresses others) a ≡ (not (has_address others a) && has_address addresses a)
 has-difference addresses others a =
-    any-filter_same (same_address a) (λ x. not (has_address others x)) (not (has_address others a)) (λ x e. ap (λ y. not (has_address others y)) (sym (same_address-is a x e))) addresses
+    any-filter_same (same_address a) (λ x. not (has_address others x)) (not (has_address others a))
+    (λ x e. ap (λ y. not (has_address others y)) (sym (same_address-is a x e))) addresses
 
 -- ---- the addresses at which the announcers were looked at
 has-held : (entries : List (AddressValue × List ℕ)) (node : List ℕ) (addresses : List AddressValue) (a : AddressValue)
     → has_address (held_among entries node addresses) a ≡ (is_held entries node a && has_address addresses a)
 has-held entries node addresses a =
     has-distinct (filter (is_held entries node) addresses) a
-    ∙ any-filter_same (same_address a) (is_held entries node) (is_held entries node a) (λ k e. ap (is_held entries node) (sym (same_address-is a k e))) addresses
+    ∙ any-filter_same (same_address a) (is_held entries node) (is_held entries node a) (λ k e. ap (is_held entries node) (sym (same_address-is a k e)))
+    addresses
 
 -- `t`, it was looked at; `p`, it is one of the first; `q`, of the others
 differs_by : (t p q : Bool) → (t ≡ false → p ≡ q) → (not (q && t) && (p && t)) ≡ (not q && p)
@@ -46,7 +50,8 @@ differs_by false false false same = refl
 
 module _ (node : List ℕ) (addresses : List AddressValue) where
   -- the difference of two sets that were looked at is that of the two whole ones, where these are the same elsewhere
-  differs : (one other : List (AddressValue × List ℕ)) (v w : ViewValue) → ((a : AddressValue) → is_held one node a ≡ announces_of v node a) → ((a : AddressValue) → is_held other node a ≡ announces_of w node a)
+  differs : (one other : List (AddressValue × List ℕ)) (v w : ViewValue) → ((a : AddressValue) → is_held one node a ≡ announces_of v node a)
+      → ((a : AddressValue) → is_held other node a ≡ announces_of w node a)
       → ((a : AddressValue) → has_address addresses a ≡ false → announces_of v node a ≡ announces_of w node a)
       → difference (held_among one node addresses) (held_among other node addresses) ≡ difference (announced_by v node) (announced_by w node)
   differs one other v w first second same =
@@ -64,7 +69,8 @@ module _ (node : List ℕ) (addresses : List AddressValue) where
       ∙ sym (has-difference (announced_by v node) (announced_by w node) a))
 
   module _ (old new : List (AddressValue × List ℕ)) (v w : ViewValue) (was : AreKeptFor old v) (is : AreKeptFor new w) (but : AreKeptBut addresses old w) where
-    held-announced : (entries : List (AddressValue × List ℕ)) (u : ViewValue) → AreKeptFor entries u → (a : AddressValue) → is_held entries node a ≡ announces_of u node a
+    held-announced : (entries : List (AddressValue × List ℕ)) (u : ViewValue) → AreKeptFor entries u → (a : AddressValue)
+        → is_held entries node a ≡ announces_of u node a
     held-announced entries u kept a = ap (is_named node) (kept.each a)
 
     same-elsewhere : (a : AddressValue) → has_address addresses a ≡ false → announces_of v node a ≡ announces_of w node a
@@ -77,8 +83,10 @@ module _ (node : List ℕ) (addresses : List AddressValue) where
     announced-told = differs new old w v (held-announced new w is) (held-announced old v was) (λ a e. sym (same-elsewhere a e))
 
 -- what a call found in the two sets is told of whichever view the first announcers were of
-module _ {T E : Type 0} (found : T → List AddressValue) (r : Result T E) (node : List ℕ) (addresses : List AddressValue) (old new : List (AddressValue × List ℕ)) (w : ViewValue) (is : AreKeptFor new w)
-    (but : AreKeptBut addresses old w) (before after : List AddressValue) (was : before ≡ held_among old node addresses) (now : after ≡ held_among new node addresses) where
+module _ {T E : Type 0} (found : T → List AddressValue) (r : Result T E) (node : List ℕ) (addresses : List AddressValue)
+    (old new : List (AddressValue × List ℕ)) (w : ViewValue) (is : AreKeptFor new w)
+    (but : AreKeptBut addresses old w) (before after : List AddressValue) (was : before ≡ held_among old node addresses)
+    (now : after ≡ held_among new node addresses) where
   if_ok : {P Q : T → Type 0} (s : Result T E) → ((x : T) → P x → Q x) → IfOk s P → IfOk s Q
   if_ok (Ok x) h p = h x p
   if_ok (Err e) h p = tt
@@ -98,7 +106,8 @@ unheld_by false here there never none = none
 unheld : (entries : List (AddressValue × List ℕ)) (a : AddressValue) → ¬ (Contains (keys_of entries) a) → held_for entries a ≡ None
 unheld [] a none = refl
 unheld (e ∷ es) a none =
-    unheld_by (same_address a e.0) e.1 (held_for es a) (λ same. none (subst (λ (x : AddressValue). Contains (e.0 ∷ keys_of es) x) (sym (same_address-is a e.0 same)) (contains-first e.0 (keys_of es))))
+    unheld_by (same_address a e.0) e.1 (held_for es a)
+    (λ same. none (subst (λ (x : AddressValue). Contains (e.0 ∷ keys_of es) x) (sym (same_address-is a e.0 same)) (contains-first e.0 (keys_of es))))
     (unheld es a (λ there. none (contains-later e.0 (keys_of es) a there)))
 
 pub kept-but_all : (entries : List (AddressValue × List ℕ)) (v : ViewValue) → AreKeptBut (recorded_addresses v ++ keys_of entries) entries v

@@ -36,7 +36,8 @@ module _ (v : ViewValue) (node : List ℕ) where
   abbrev passes : AddressValue → Bool
   passes a = announces_of v node a
 
-  listed-passes : (services : List Service) (found : List AddressValue) (a : AddressValue) → IsIn (announced_with v node found services) a → IsIn found a ⊎ (announces_of v node a ≡ true)
+  listed-passes : (services : List Service) (found : List AddressValue) (a : AddressValue) → IsIn (announced_with v node found services) a
+      → IsIn found a ⊎ (announces_of v node a ≡ true)
   listed-passes [] found a there = inl there
   listed-passes (s ∷ services) found a there =
       let more = announced_of v node s.holding.addresses in
@@ -55,7 +56,8 @@ module _ (v : ViewValue) (node : List ℕ) where
       let more = announced_of v node s.holding.addresses in
       listed-keeps services (keys_with address_cmp found more) a (keys_in address_total address_exact found more a (inl there))
 
-  listed-has : (services : List Service) (found : List AddressValue) (service : Service) (a : AddressValue) → Contains services service → Contains service.holding.addresses a → announces_of v node a ≡ true
+  listed-has : (services : List Service) (found : List AddressValue) (service : Service) (a : AddressValue) → Contains services service
+      → Contains service.holding.addresses a → announces_of v node a ≡ true
       → IsIn (announced_with v node found services) a
   listed-has [] found service a there recorded e = absurd (contains-none service there)
   listed-has (s ∷ services) found service a there recorded e =
@@ -68,7 +70,8 @@ module _ (v : ViewValue) (node : List ℕ) where
         | inr later ↦ listed-has services (keys_with address_cmp found more) service a later recorded e
       ]
 
-  listed-ascend : (services : List Service) (found : List AddressValue) → IsStrictlySortedBy address_cmp found → IsStrictlySortedBy address_cmp (announced_with v node found services)
+  listed-ascend : (services : List Service) (found : List AddressValue) → IsStrictlySortedBy address_cmp found
+      → IsStrictlySortedBy address_cmp (announced_with v node found services)
   listed-ascend [] found s = s
   listed-ascend (service ∷ services) found s =
       let more = announced_of v node service.holding.addresses in

@@ -13,11 +13,13 @@ difference addresses others = filter (λ a. not (has_address others a)) addresse
 
 -- of whichever view the entries were: these are the addresses that the node announces by that one and not by the other
 abbrev pub AreWithdrawn : List (AddressValue × List ℕ) → ViewValue → List ℕ → List AddressValue → Type 0
-AreWithdrawn entries after node addresses = (before : ViewValue) → AreKeptFor entries before → addresses ≡ difference (announced_by before node) (announced_by after node)
+AreWithdrawn entries after node addresses =
+    (before : ViewValue) → AreKeptFor entries before → addresses ≡ difference (announced_by before node) (announced_by after node)
 
 -- and these those that it announces by the other and not by that one
 abbrev pub AreComeSince : List (AddressValue × List ℕ) → ViewValue → List ℕ → List AddressValue → Type 0
-AreComeSince entries after node addresses = (before : ViewValue) → AreKeptFor entries before → addresses ≡ difference (announced_by after node) (announced_by before node)
+AreComeSince entries after node addresses =
+    (before : ViewValue) → AreKeptFor entries before → addresses ≡ difference (announced_by after node) (announced_by before node)
 
 -- the node's name is held for the address
 abbrev pub is_held : List (AddressValue × List ℕ) → List ℕ → AddressValue → Bool

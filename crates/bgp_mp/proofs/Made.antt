@@ -16,7 +16,8 @@ use Rattle.bgp_reading.proofs.ReceivedAgain.{AreSent, sent-between, sent-of, upd
 use Rattle.bgp_mp.specs.Laws.{MakeTable, MessagesMakeTables, prefixes_read, prefixes_told}
 
 -- what is read of the messages names what they say
-told-updates : (peering : Peering) (messages : List (List ℕ)) (updates : List Update) → AreSent peering messages updates → prefixes_told messages ≡ prefixes_of updates
+told-updates : (peering : Peering) (messages : List (List ℕ)) (updates : List Update) → AreSent peering messages updates
+    → prefixes_told messages ≡ prefixes_of updates
 told-updates peering [] [] are = refl
 told-updates peering [] (update ∷ updates) are = absurd are
 told-updates peering (message ∷ messages) [] are = absurd are

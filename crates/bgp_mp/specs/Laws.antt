@@ -37,8 +37,10 @@ pub record MakeTable (peering : Peering) (old new : List (PrefixValue × Terms))
 
 -- So do the messages between two tables, where the new one can be told to the peer.
 abbrev pub MessagesMakeTables : Type 0
-MessagesMakeTables = (peering : Peering) (old new : List (PrefixValue × Terms)) → IsTable old → CanBeTold peering new → MakeTable peering old new (messages_between peering old new)
+MessagesMakeTables = (peering : Peering) (old new : List (PrefixValue × Terms)) → IsTable old → CanBeTold peering new
+    → MakeTable peering old new (messages_between peering old new)
 
 -- Where no route is of IPv6 or has a large community, they are the messages of IPv4 alone.
 abbrev pub PlainMessages : Type 0
-PlainMessages = (peering : Peering) (old new : List (PrefixValue × Terms)) → All IsPlain old → All IsPlain new → messages_between peering old new ≡ plain_messages peering old new
+PlainMessages = (peering : Peering) (old new : List (PrefixValue × Terms)) → All IsPlain old → All IsPlain new
+    → messages_between peering old new ≡ plain_messages peering old new

@@ -11,7 +11,8 @@ use Rattle.bgp_reading.proofs.Bytes.{AreOctets}
 use Rattle.bgp_reading.proofs.Meaning.{read-means}
 use Rattle.bgp_reading.proofs.ReadAgain.{messages-are-read}
 
-pub read-by : (bytes : List ℕ) (answer : Result UpdateParts UpdateFault) → AreOctets bytes → IfOk answer (λ parts. update_of bytes ≡ Some parts) → IfOk answer (λ parts. IsUpdate parts bytes)
+pub read-by : (bytes : List ℕ) (answer : Result UpdateParts UpdateFault) → AreOctets bytes → IfOk answer (λ parts. update_of bytes ≡ Some parts)
+    → IfOk answer (λ parts. IsUpdate parts bytes)
 read-by bytes (Ok parts) all read = read-means bytes parts all read
 read-by bytes (Err fault) all read = tt
 

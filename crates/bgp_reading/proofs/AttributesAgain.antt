@@ -1,5 +1,6 @@
 -- Path attributes that are written are read again.
-use Rattle.std.proofs.Common.{◌≡◌, ℕ, true, false, cond, nat_le, ◌==◌, ◌+◌, ◌/◌, ◌%◌, ◌<◌, ◌≤◌, ◌^◌, List, [], ◌∷◌, ◌++◌, length, take, drop, slice_index, Option, Some, None, IfSome, is_some, is_none, refl, ◌∙◌, ap, subst, arith, length-append}
+use Rattle.std.proofs.Common.{◌≡◌, ℕ, true, false, cond, nat_le, ◌==◌, ◌+◌, ◌/◌, ◌%◌, ◌<◌, ◌≤◌, ◌^◌, List, [], ◌∷◌, ◌++◌, length, take}
+use Rattle.std.proofs.Common.{drop, slice_index, Option, Some, None, IfSome, is_some, is_none, refl, ◌∙◌, ap, subst, arith, length-append}
 use Rattle.std.proofs.lemmas.Nat.{from_be_bytes-to_be_bytes_2, from_be_bytes-to_be_bytes_4}
 use Rattle.std.proofs.lemmas.Bool.{eq-eqb, ne_eqb}
 use Rattle.std.proofs.lemmas.List.{append-nil, take_at, drop_at}
@@ -14,8 +15,11 @@ use Rattle.large_numbers.specs.Large.{large_cmp}
 use Rattle.large_numbers.specs.declared.numbers.LargeCommunity.{LargeCommunity}
 use Rattle.bgp_updates.specs.declared.route.Terms.{Terms}
 use Rattle.bgp_updates.specs.declared.route.Peering.{Peering}
-use Rattle.bgp_updates.specs.Message.{attribute, communities_attribute, communities_bytes, front_of, hop_attribute, large_attribute, larges_bytes, optional_attribute, path_attribute, preference_attribute, reach_attribute}
-use Rattle.bgp_reading.specs.Places.{ascending_in, behind_at, behind_hop, behind_path, behind_size, by_threes, communities_in, is_of_type, large_in, larges_in, next_hop_in, numbers_in, optional_in, own_in, preference_in, reach_in, sender_in, short_at, terms_in, value_at, value_size, wide_in}
+use Rattle.bgp_updates.specs.Message.{attribute, communities_attribute, communities_bytes, front_of, hop_attribute, large_attribute}
+use Rattle.bgp_updates.specs.Message.{larges_bytes, optional_attribute, path_attribute, preference_attribute, reach_attribute}
+use Rattle.bgp_reading.specs.Places.{ascending_in, behind_at, behind_hop, behind_path, behind_size, by_threes, communities_in}
+use Rattle.bgp_reading.specs.Places.{is_of_type, large_in, larges_in, next_hop_in, numbers_in, optional_in, own_in}
+use Rattle.bgp_reading.specs.Places.{preference_in, reach_in, sender_in, short_at, terms_in, value_at, value_size, wide_in}
 use Rattle.bgp_reading.specs.Update.{AreValues, IsLarge, IsTold}
 use Rattle.pool_config.proofs.CommunitySets.{large_cmp-total}
 use Rattle.bgp_reading.proofs.Numbers.{keys_with-ascending}
@@ -35,7 +39,8 @@ transitive = record { plain = refl; extended = refl }
 
 pub type-attribute : (flags kind : ℕ) (value rest : List ℕ) → slice_index (attribute flags kind value ++ rest) 1 ≡ kind
 type-attribute flags kind value rest =
-    elim (nat_le (length value) 255) as (λ v. slice_index (cond v ((flags ∷ kind ∷ length value ∷ []) ++ value) (((flags + 0x10) ∷ kind ∷ []) ++ to_be_bytes w16 (length value) ++ value) ++ rest) 1 ≡ kind) [
+    elim (nat_le (length value) 255) as (λ v. slice_index
+    (cond v ((flags ∷ kind ∷ length value ∷ []) ++ value) (((flags + 0x10) ∷ kind ∷ []) ++ to_be_bytes w16 (length value) ++ value) ++ rest) 1 ≡ kind) [
       | true ↦ refl
       | false ↦ refl
     ]
@@ -44,13 +49,15 @@ other-type : (flags kind other : ℕ) (value rest : List ℕ) → (kind == other
 other-type flags kind other value rest differ = ap (λ k. k == other) (type-attribute flags kind value rest) ∙ differ
 
 cut : (value rest : List ℕ) (size : ℕ) → size ≡ length value → (take size (value ++ rest) ≡ value) × (drop size (value ++ rest) ≡ rest)
-cut value rest size is = (ap (λ n. take n (value ++ rest)) is ∙ take_at value rest (length value) refl, ap (λ n. drop n (value ++ rest)) is ∙ drop_at value rest (length value) refl)
+cut value rest size is =
+    (ap (λ n. take n (value ++ rest)) is ∙ take_at value rest (length value) refl, ap (λ n. drop n (value ++ rest)) is ∙ drop_at value rest (length value) refl)
 
 -- an attribute's value, and what follows it
 abbrev IsCut : ℕ → List ℕ → List ℕ → List ℕ → Type 0
 IsCut kind bytes value rest = (value_at kind bytes ≡ value) × (behind_at kind bytes ≡ rest)
 
-cut-by : (kind : ℕ) (bytes value rest : List ℕ) (size : ℕ) → is_of_type kind bytes ≡ true → value_size bytes ≡ size → behind_size bytes ≡ value ++ rest → size ≡ length value → IsCut kind bytes value rest
+cut-by : (kind : ℕ) (bytes value rest : List ℕ) (size : ℕ) → is_of_type kind bytes ≡ true → value_size bytes ≡ size → behind_size bytes ≡ value ++ rest
+    → size ≡ length value → IsCut kind bytes value rest
 unfolding value_at behind_at
 cut-by kind bytes value rest size own is_size behind is =
     let both = cut value rest size is in
@@ -62,15 +69,18 @@ plain-cut flags kind value rest are =
     cut-by kind bytes value rest (length value) (eq-eqb kind kind refl)
     (ap (λ b. cond b (short_at 2 bytes) (slice_index bytes 2)) are.plain) (ap (λ b. cond b (drop 4 bytes) (drop 3 bytes)) are.plain) refl
 
-extended-cut : (flags kind : ℕ) (value rest : List ℕ) → AreFlags flags → length value < 2 ^ 16 → IsCut kind ((flags + 0x10) ∷ kind ∷ (to_be_bytes w16 (length value) ++ (value ++ rest))) value rest
+extended-cut : (flags kind : ℕ) (value rest : List ℕ) → AreFlags flags → length value < 2 ^ 16
+    → IsCut kind ((flags + 0x10) ∷ kind ∷ (to_be_bytes w16 (length value) ++ (value ++ rest))) value rest
 extended-cut flags kind value rest are short =
     let bytes : List ℕ = (flags + 0x10) ∷ kind ∷ (to_be_bytes w16 (length value) ++ (value ++ rest)) in
     cut-by kind bytes value rest (short_at 2 bytes) (eq-eqb kind kind refl)
-    (ap (λ b. cond b (short_at 2 bytes) (slice_index bytes 2)) are.extended) (ap (λ b. cond b (drop 4 bytes) (drop 3 bytes)) are.extended) (from_be_bytes-to_be_bytes_2 (length value) short)
+    (ap (λ b. cond b (short_at 2 bytes) (slice_index bytes 2)) are.extended) (ap (λ b. cond b (drop 4 bytes) (drop 3 bytes)) are.extended)
+    (from_be_bytes-to_be_bytes_2 (length value) short)
 
 attribute-cut : (flags kind : ℕ) (value rest : List ℕ) → AreFlags flags → length value < 2 ^ 16 → IsCut kind (attribute flags kind value ++ rest) value rest
 attribute-cut flags kind value rest are short =
-    elim (nat_le (length value) 255) as (λ v. IsCut kind (cond v ((flags ∷ kind ∷ length value ∷ []) ++ value) (((flags + 0x10) ∷ kind ∷ []) ++ to_be_bytes w16 (length value) ++ value) ++ rest) value rest) [
+    elim (nat_le (length value) 255) as (λ v. IsCut kind
+    (cond v ((flags ∷ kind ∷ length value ∷ []) ++ value) (((flags + 0x10) ∷ kind ∷ []) ++ to_be_bytes w16 (length value) ++ value) ++ rest) value rest) [
       | true ↦ plain-cut flags kind value rest are
       | false ↦ extended-cut flags kind value rest are short
     ]
@@ -80,13 +90,15 @@ absent : (kind : ℕ) (rest : List ℕ) → is_of_type kind rest ≡ false → I
 unfolding value_at behind_at
 absent kind rest other = rw other (refl, refl)
 
-optional-cut : (flags kind : ℕ) (value rest : List ℕ) → AreFlags flags → length value < 2 ^ 16 → is_of_type kind rest ≡ false → IsCut kind (optional_attribute flags kind value ++ rest) value rest
+optional-cut : (flags kind : ℕ) (value rest : List ℕ) → AreFlags flags → length value < 2 ^ 16 → is_of_type kind rest ≡ false
+    → IsCut kind (optional_attribute flags kind value ++ rest) value rest
 optional-cut flags kind [] rest are short other = absent kind rest other
 optional-cut flags kind (b ∷ value) rest are short other =
     let some : (length (b ∷ value) == 0) ≡ false = ne_eqb (length (b ∷ value)) 0 (λ none. omega (arith, none)) in
     rw some (attribute-cut flags kind (b ∷ value) rest are short)
 
-optional-other : (flags kind other : ℕ) (value rest : List ℕ) → (kind == other) ≡ false → is_of_type other rest ≡ false → is_of_type other (optional_attribute flags kind value ++ rest) ≡ false
+optional-other : (flags kind other : ℕ) (value rest : List ℕ) → (kind == other) ≡ false → is_of_type other rest ≡ false
+    → is_of_type other (optional_attribute flags kind value ++ rest) ≡ false
 optional-other flags kind other [] rest differ absent = absent
 optional-other flags kind other (b ∷ value) rest differ absent =
     let some : (length (b ∷ value) == 0) ≡ false = ne_eqb (length (b ∷ value)) 0 (λ none. omega (arith, none)) in
@@ -103,7 +115,8 @@ attribute-alone kind value short =
 -- the value is no longer than the attribute
 pub value-within : (flags kind : ℕ) (value : List ℕ) → length value ≤ length (attribute flags kind value)
 value-within flags kind value =
-    elim (nat_le (length value) 255) as (λ v. length value ≤ length (cond v ((flags ∷ kind ∷ length value ∷ []) ++ value) (((flags + 0x10) ∷ kind ∷ []) ++ to_be_bytes w16 (length value) ++ value))) [
+    elim (nat_le (length value) 255) as (λ v. length value
+    ≤ length (cond v ((flags ∷ kind ∷ length value ∷ []) ++ value) (((flags + 0x10) ∷ kind ∷ []) ++ to_be_bytes w16 (length value) ++ value))) [
       | true ↦ omega arith
       | false ↦ omega arith
     ]
@@ -120,13 +133,15 @@ numbers_again [] all = refl
 numbers_again (n ∷ rest) all =
     rw (numbers_again rest all.1) (ap (λ m. m ∷ rest) (from_be_bytes-to_be_bytes_4 n all.0))
 
-ascending_again : (numbers : List ℕ) → AllByRecursion (λ n. n < 2 ^ 32) numbers → IsStrictlySortedBy nat_cmp numbers → ascending_in (communities_bytes numbers) ≡ numbers
+ascending_again : (numbers : List ℕ) → AllByRecursion (λ n. n < 2 ^ 32) numbers → IsStrictlySortedBy nat_cmp numbers
+    → ascending_in (communities_bytes numbers) ≡ numbers
 ascending_again numbers all ascending = rw (numbers_again numbers all) (keys_with-ascending nat_cmp_total [] numbers ascending)
 
 threes_again : (numbers : List LargeCommunity) → AllByRecursion IsLarge numbers → by_threes (numbers_in (larges_bytes numbers)) ≡ numbers
 threes_again [] all = refl
 threes_again (c ∷ rest) all =
-    let with_global : ℕ → List LargeCommunity → List LargeCommunity = λ n more. record { global = n; first = from_be_bytes w32 (to_be_bytes w32 c.first); second = from_be_bytes w32 (to_be_bytes w32 c.second) } ∷ more in
+    let with_global : ℕ → List LargeCommunity → List LargeCommunity =
+    λ n more. record { global = n; first = from_be_bytes w32 (to_be_bytes w32 c.first); second = from_be_bytes w32 (to_be_bytes w32 c.second) } ∷ more in
     let with_first : ℕ → List LargeCommunity = λ n. record { global = c.global; first = n; second = from_be_bytes w32 (to_be_bytes w32 c.second) } ∷ rest in
     let with_second : ℕ → List LargeCommunity = λ n. record { global = c.global; first = c.first; second = n } ∷ rest in
     ap (with_global (from_be_bytes w32 (to_be_bytes w32 c.global))) (threes_again rest all.1)
@@ -134,7 +149,8 @@ threes_again (c ∷ rest) all =
     ∙ ap with_first (from_be_bytes-to_be_bytes_4 c.first all.0.first)
     ∙ ap with_second (from_be_bytes-to_be_bytes_4 c.second all.0.second)
 
-larges_again : (numbers : List LargeCommunity) → AllByRecursion IsLarge numbers → IsStrictlySortedBy large_cmp numbers → larges_in (larges_bytes numbers) ≡ numbers
+larges_again : (numbers : List LargeCommunity) → AllByRecursion IsLarge numbers → IsStrictlySortedBy large_cmp numbers
+    → larges_in (larges_bytes numbers) ≡ numbers
 larges_again numbers all ascending = rw (threes_again numbers all) (keys_with-ascending large_cmp-total [] numbers ascending)
 
 -- ---- what follows COMMUNITIES: MP_REACH_NLRI in IPv6, and LARGE_COMMUNITY
@@ -155,7 +171,8 @@ large-other other numbers differ none =
 
 large-cut : (numbers : List LargeCommunity) → length (larges_bytes numbers) < 2 ^ 16 → value_at 32 (large_attribute numbers) ≡ larges_bytes numbers
 large-cut numbers short =
-    at-end (λ bytes. value_at 32 bytes ≡ larges_bytes numbers) (large_attribute numbers) (optional-cut 0xc0 32 (larges_bytes numbers) [] transitive short refl).0
+    at-end (λ bytes. value_at 32 bytes ≡ larges_bytes numbers) (large_attribute numbers)
+    (optional-cut 0xc0 32 (larges_bytes numbers) [] transitive short refl).0
 
 -- it doesn't begin with COMMUNITIES
 tail-other : (family : Family) (sender : Peering) (terms : Terms) (prefixes : List ℕ) → is_of_type 8 (tail_of family sender terms prefixes) ≡ false
@@ -172,12 +189,22 @@ tail-large : (family : Family) (sender : Peering) (terms : Terms) (prefixes : Li
 tail-large V4 sender terms prefixes short = (absent 14 (large_attribute terms.large) (large-other 14 terms.large refl refl)).1
 tail-large V6 sender terms prefixes short =
     let value = reach_value sender.next_hop_v6 prefixes in
-    (reach-cut sender terms prefixes (omega (arith, short, value-within 0x80 14 (reach_value sender.next_hop_v6 prefixes), length-append (attribute 0x80 14 (reach_value sender.next_hop_v6 prefixes)) (large_attribute terms.large)))).1
+    (reach-cut sender terms prefixes (omega (
+      arith,
+      short,
+      value-within 0x80 14 (reach_value sender.next_hop_v6 prefixes),
+      length-append (attribute 0x80 14 (reach_value sender.next_hop_v6 prefixes)) (large_attribute terms.large),
+    ))).1
 
-length-tail : (family : Family) (sender : Peering) (terms : Terms) (prefixes : List ℕ) → length (larges_bytes terms.large) ≤ length (tail_of family sender terms prefixes)
+length-tail : (family : Family) (sender : Peering) (terms : Terms) (prefixes : List ℕ)
+    → length (larges_bytes terms.large) ≤ length (tail_of family sender terms prefixes)
 length-tail V4 sender terms prefixes = optional-within 0xc0 32 (larges_bytes terms.large)
 length-tail V6 sender terms prefixes =
-    omega (arith, optional-within 0xc0 32 (larges_bytes terms.large), length-append (attribute 0x80 14 (reach_value sender.next_hop_v6 prefixes)) (large_attribute terms.large))
+    omega (
+      arith,
+      optional-within 0xc0 32 (larges_bytes terms.large),
+      length-append (attribute 0x80 14 (reach_value sender.next_hop_v6 prefixes)) (large_attribute terms.large),
+    )
 
 -- ---- the attributes that each message has
 -- what of the sender a message of the family tells
@@ -201,13 +228,24 @@ abbrev begun : Family → Option ℕ → ℕ → Option ℕ → List ℕ
 begun family own hop preference = (0x40 ∷ 1 ∷ 1 ∷ 2 ∷ []) ++ path_attribute own ++ hop_attribute family hop ++ preference_attribute own preference
 
 heard-by : (family : Family) (own preference : Option ℕ) (hop : ℕ) (communities tail : List ℕ) → is_some preference ≡ is_none own
-    → IfSome own (λ n. n < 2 ^ 32) → hop < 2 ^ 32 → IfSome preference (λ n. n < 2 ^ 32) → IsHeard family own preference hop communities tail ((begun family own hop preference ++ communities) ++ tail)
+    → IfSome own (λ n. n < 2 ^ 32) → hop < 2 ^ 32 → IfSome preference (λ n. n < 2 ^ 32)
+    → IsHeard family own preference hop communities tail ((begun family own hop preference ++ communities) ++ tail)
 heard-by family None None hop communities tail told own_few hop_few few = absurd (cc)
 heard-by family (Some own) (Some preference) hop communities tail told own_few hop_few few = absurd (cc)
 heard-by V4 None (Some preference) hop communities tail told own_few hop_few few =
-    record { own_is = refl; hop_is = from_be_bytes-to_be_bytes_4 hop hop_few; preference_is = ap Some (from_be_bytes-to_be_bytes_4 preference few); rest_is = refl }
+    record {
+      own_is = refl;
+      hop_is = from_be_bytes-to_be_bytes_4 hop hop_few;
+      preference_is = ap Some (from_be_bytes-to_be_bytes_4 preference few);
+      rest_is = refl;
+    }
 heard-by V4 (Some own) None hop communities tail told own_few hop_few few =
-    record { own_is = ap Some (from_be_bytes-to_be_bytes_4 own own_few); hop_is = from_be_bytes-to_be_bytes_4 hop hop_few; preference_is = refl; rest_is = refl }
+    record {
+      own_is = ap Some (from_be_bytes-to_be_bytes_4 own own_few);
+      hop_is = from_be_bytes-to_be_bytes_4 hop hop_few;
+      preference_is = refl;
+      rest_is = refl;
+    }
 heard-by V6 None (Some preference) hop communities tail told own_few hop_few few =
     record { own_is = refl; hop_is = refl; preference_is = ap Some (from_be_bytes-to_be_bytes_4 preference few); rest_is = refl }
 heard-by V6 (Some own) None hop communities tail told own_few hop_few few =
@@ -221,9 +259,11 @@ pub record AreWritten (family : Family) (sender : Peering) (terms : Terms) (pref
   pub short : length (attributes_with family sender terms prefixes) ≤ 4096
 
 are-heard : (family : Family) (sender : Peering) (terms : Terms) (prefixes : List ℕ) → AreWritten family sender terms prefixes
-    → IsHeard family sender.own terms.preference sender.next_hop (communities_attribute terms.communities) (tail_of family sender terms prefixes) (attributes_with family sender terms prefixes)
+    → IsHeard family sender.own terms.preference sender.next_hop (communities_attribute terms.communities) (tail_of family sender terms prefixes)
+    (attributes_with family sender terms prefixes)
 are-heard family sender terms prefixes are =
-    heard-by family sender.own terms.preference sender.next_hop (communities_attribute terms.communities) (tail_of family sender terms prefixes) are.told are.values.own are.values.next_hop are.values.preference
+    heard-by family sender.own terms.preference sender.next_hop (communities_attribute terms.communities) (tail_of family sender terms prefixes) are.told
+    are.values.own are.values.next_hop are.values.preference
 
 length-parts : (family : Family) (sender : Peering) (terms : Terms) (prefixes : List ℕ)
     → length (communities_bytes terms.communities) + length (tail_of family sender terms prefixes) ≤ length (attributes_with family sender terms prefixes)
@@ -237,9 +277,11 @@ length-parts family sender terms prefixes =
     )
 
 communities-cut : (family : Family) (sender : Peering) (terms : Terms) (prefixes : List ℕ) → AreWritten family sender terms prefixes
-    → IsCut 8 (communities_attribute terms.communities ++ tail_of family sender terms prefixes) (communities_bytes terms.communities) (tail_of family sender terms prefixes)
+    → IsCut 8 (communities_attribute terms.communities ++ tail_of family sender terms prefixes) (communities_bytes terms.communities)
+    (tail_of family sender terms prefixes)
 communities-cut family sender terms prefixes are =
-    optional-cut 0xc0 8 (communities_bytes terms.communities) (tail_of family sender terms prefixes) transitive (omega (arith, are.short, length-parts family sender terms prefixes))
+    optional-cut 0xc0 8 (communities_bytes terms.communities) (tail_of family sender terms prefixes) transitive
+    (omega (arith, are.short, length-parts family sender terms prefixes))
     (tail-other family sender terms prefixes)
 
 communities-read : (family : Family) (sender : Peering) (terms : Terms) (prefixes : List ℕ) → AreWritten family sender terms prefixes
@@ -263,7 +305,12 @@ pub reach-read : (sender : Peering) (terms : Terms) (prefixes : List ℕ) → Ar
     → reach_in (optional_in V6 (attributes_with V6 sender terms prefixes)) ≡ reach_value sender.next_hop_v6 prefixes
 reach-read sender terms prefixes are =
     let few : length (tail_of V6 sender terms prefixes) ≤ 4096 = omega (arith, are.short, length-parts V6 sender terms prefixes) in
-    let short : length (reach_value sender.next_hop_v6 prefixes) < 2 ^ 16 = omega (arith, few, value-within 0x80 14 (reach_value sender.next_hop_v6 prefixes), length-append (attribute 0x80 14 (reach_value sender.next_hop_v6 prefixes)) (large_attribute terms.large)) in
+    let short : length (reach_value sender.next_hop_v6 prefixes) < 2 ^ 16 = omega (
+      arith,
+      few,
+      value-within 0x80 14 (reach_value sender.next_hop_v6 prefixes),
+      length-append (attribute 0x80 14 (reach_value sender.next_hop_v6 prefixes)) (large_attribute terms.large),
+    ) in
     ap reach_in (are-heard V6 sender terms prefixes are).rest_is
     ∙ ap (value_at 14) (communities-cut V6 sender terms prefixes are).1
     ∙ (reach-cut sender terms prefixes short).0

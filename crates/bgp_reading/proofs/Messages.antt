@@ -1,5 +1,6 @@
 -- Where the parts of a message lie.
-use Rattle.std.proofs.Common.{◌≡◌, ℕ, ◌+◌, ◌<◌, ◌≤◌, ◌^◌, true, false, cond, nat_le, List, [], ◌∷◌, ◌++◌, length, take, drop, slice_index, refl, sym, ◌∙◌, ap, arith, append_assoc}
+use Rattle.std.proofs.Common.{◌≡◌, ℕ, ◌+◌, ◌<◌, ◌≤◌, ◌^◌, true, false, cond, nat_le, List, [], ◌∷◌, ◌++◌}
+use Rattle.std.proofs.Common.{length, take, drop, slice_index, refl, sym, ◌∙◌, ap, arith, append_assoc}
 use Rattle.std.proofs.lemmas.Bool.{le-leb, lt-leb}
 use Rattle.std.proofs.lemmas.List.{append-nil, take_at, drop_at}
 use Rattle.std.proofs.lemmas.Nat.{from_be_bytes-to_be_bytes_2}
@@ -8,7 +9,8 @@ use Rattle.ip_ranges.specs.declared.family.Family.TheVariants.{V4, V6}
 use Rattle.ip_ranges.specs.Values.{PrefixValue}
 use Rattle.bgp_updates.specs.declared.route.Terms.{Terms}
 use Rattle.bgp_updates.specs.declared.route.Peering.{Peering}
-use Rattle.bgp_updates.specs.Message.{announce_message, front_of, large_attribute, message_of, part_bytes, prefixes_bytes, reach_attribute, unreach_attribute, withdraw_message}
+use Rattle.bgp_updates.specs.Message.{announce_message, front_of, large_attribute, message_of, part_bytes}
+use Rattle.bgp_updates.specs.Message.{prefixes_bytes, reach_attribute, unreach_attribute, withdraw_message}
 use Rattle.bgp_updates.proofs.Sizes.{length-message}
 use Rattle.bgp_reading.specs.Places.{short_at}
 use Rattle.bgp_reading.specs.Reading.{announced_family, attributes_in}
@@ -43,10 +45,12 @@ fits-attributes : (a n : List ℕ) → length (message_of [] a n) ≤ 4096 → l
 fits-attributes a n short = omega (arith, short, length-message [] a n)
 
 pub attributes-read : (a n : List ℕ) → length (message_of [] a n) ≤ 4096 → attributes_in (message_of [] a n) ≡ a
-attributes-read a n short = front-at (drop 23 (message_of [] a n)) a n (short_at 21 (message_of [] a n)) (attributes-size a n (fits-attributes a n short)) (attributes-behind a n)
+attributes-read a n short =
+    front-at (drop 23 (message_of [] a n)) a n (short_at 21 (message_of [] a n)) (attributes-size a n (fits-attributes a n short)) (attributes-behind a n)
 
 pub behind-read : (a n : List ℕ) → length (message_of [] a n) ≤ 4096 → drop (short_at 21 (message_of [] a n)) (drop 23 (message_of [] a n)) ≡ n
-behind-read a n short = rest-at (drop 23 (message_of [] a n)) a n (short_at 21 (message_of [] a n)) (attributes-size a n (fits-attributes a n short)) (attributes-behind a n)
+behind-read a n short =
+    rest-at (drop 23 (message_of [] a n)) a n (short_at 21 (message_of [] a n)) (attributes-size a n (fits-attributes a n short)) (attributes-behind a n)
 
 -- the type of the first attribute
 pub first-type : (a n : List ℕ) → slice_index (message_of [] a n) 24 ≡ slice_index (a ++ n) 1
@@ -74,14 +78,17 @@ behind_of V4 prefixes = prefixes
 behind_of V6 prefixes = []
 
 pub announce-spelled : (family : Family) (sender : Peering) (terms : Terms) (prefixes : List PrefixValue)
-    → announce_message family sender terms prefixes ≡ message_of [] (attributes_with family sender terms (prefixes_bytes prefixes)) (behind_of family (prefixes_bytes prefixes))
+    → announce_message family sender terms prefixes
+    ≡ message_of [] (attributes_with family sender terms (prefixes_bytes prefixes)) (behind_of family (prefixes_bytes prefixes))
 unfolding part_bytes
 announce-spelled V4 sender terms prefixes = refl
 announce-spelled V6 sender terms prefixes =
-    ap (λ a. message_of [] a []) (append_assoc (front_of V6 sender terms) (reach_attribute sender.next_hop_v6 (prefixes_bytes prefixes)) (large_attribute terms.large))
+    ap (λ a. message_of [] a [])
+    (append_assoc (front_of V6 sender terms) (reach_attribute sender.next_hop_v6 (prefixes_bytes prefixes)) (large_attribute terms.large))
 
 -- a message doesn't depend on what it doesn't tell
-pub announce-heard : (family : Family) (sender : Peering) (terms : Terms) (prefixes : List PrefixValue) → announce_message family (heard family sender) terms prefixes ≡ announce_message family sender terms prefixes
+pub announce-heard : (family : Family) (sender : Peering) (terms : Terms) (prefixes : List PrefixValue)
+    → announce_message family (heard family sender) terms prefixes ≡ announce_message family sender terms prefixes
 announce-heard V4 sender terms prefixes = refl
 announce-heard V6 sender terms prefixes = refl
 

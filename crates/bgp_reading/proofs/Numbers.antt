@@ -1,5 +1,6 @@
 -- Communities: how many they are, and that those which ascend stay as they are.
-use Rattle.std.proofs.Common.{◌≡◌, ℕ, suc, ◌+◌, ◌-◌, ◌*◌, ◌<◌, ◌≤◌, true, false, cond, List, [], ◌∷◌, ◌++◌, length, take, drop, slice_index, Option, Some, None, Ordering, Less, Equal, Greater, refl, sym, ◌∙◌, ap, arith, append_assoc, length-drop, length-take}
+use Rattle.std.proofs.Common.{◌≡◌, ℕ, suc, ◌+◌, ◌-◌, ◌*◌, ◌<◌, ◌≤◌, true, false, cond, List, [], ◌∷◌, ◌++◌, length, take, drop, slice_index, Option}
+use Rattle.std.proofs.Common.{Some, None, Ordering, Less, Equal, Greater, refl, sym, ◌∙◌, ap, arith, append_assoc, length-drop, length-take}
 use Rattle.std.proofs.lemmas.List.{append-nil, take_all}
 use Rattle.std.specs.Cmp.{IsTotalOrder}
 use Rattle.std.specs.Ordering.{match_ordering, nat_cmp, ordering_reverse}
@@ -11,7 +12,8 @@ use Rattle.ip_ranges.specs.declared.family.Family.TheVariants.{V4, V6}
 use Rattle.large_numbers.specs.Large.{large_cmp}
 use Rattle.large_numbers.specs.declared.numbers.LargeCommunity.{LargeCommunity}
 use Rattle.pool_config.specs.KeySets.{keys_with}
-use Rattle.bgp_reading.specs.Places.{ascending_in, behind_at, behind_hop, behind_path, behind_preference, behind_size, by_threes, communities_in, is_extended, is_of_type, large_in, larges_in, number_at, numbers_in, optional_in, own_in, value_at, value_size}
+use Rattle.bgp_reading.specs.Places.{ascending_in, behind_at, behind_hop, behind_path, behind_preference, behind_size, by_threes, communities_in}
+use Rattle.bgp_reading.specs.Places.{is_extended, is_of_type, large_in, larges_in, number_at, numbers_in, optional_in, own_in, value_at, value_size}
 
 module _ {K : Type 0} (cmp : K → K → Ordering) where
   -- ---- how many
@@ -83,7 +85,8 @@ length-by_threes (a ∷ b ∷ c ∷ rest) = omega (arith, length-by_threes rest)
 
 -- each large community takes twelve
 length-larges_in : (bytes : List ℕ) → 12 * length (larges_in bytes) ≤ length bytes
-length-larges_in bytes = omega (arith, length-keys_with large_cmp [] (by_threes (numbers_in bytes)), length-by_threes (numbers_in bytes), length-numbers_in bytes)
+length-larges_in bytes =
+    omega (arith, length-keys_with large_cmp [] (by_threes (numbers_in bytes)), length-by_threes (numbers_in bytes), length-numbers_in bytes)
 
 -- ---- attributes lie within what they are read in
 length-behind_size : (rest : List ℕ) → length (behind_size rest) ≤ length rest
@@ -129,11 +132,19 @@ pub few-large : (family : Family) (attributes : List ℕ) → 12 * length (large
 few-large family attributes =
     let rest = optional_in family attributes in
     let behind = behind_at 14 (behind_at 8 rest) in
-    omega (arith, length-larges_in (value_at 32 behind), length-value_at 32 behind, length-behind_at 14 (behind_at 8 rest), length-behind_at 8 rest, length-optional_in family attributes)
+    omega (
+      arith,
+      length-larges_in (value_at 32 behind),
+      length-value_at 32 behind,
+      length-behind_at 14 (behind_at 8 rest),
+      length-behind_at 8 rest,
+      length-optional_in family attributes,
+    )
 
 -- ---- one more
 pub numbers-next : (held bytes : List ℕ) → 4 ≤ length bytes
-    → keys_with nat_cmp (insert_key nat_cmp held (number_at 0 bytes)) (numbers_in (take (length bytes - 4) (drop 4 bytes))) ≡ keys_with nat_cmp held (numbers_in bytes)
+    → keys_with nat_cmp (insert_key nat_cmp held (number_at 0 bytes)) (numbers_in (take (length bytes - 4) (drop 4 bytes)))
+    ≡ keys_with nat_cmp held (numbers_in bytes)
 numbers-next held [] some = absurd (omega arith)
 numbers-next held (a ∷ []) some = absurd (omega arith)
 numbers-next held (a ∷ b ∷ []) some = absurd (omega arith)
@@ -160,7 +171,8 @@ first-large (a ∷ b ∷ c ∷ d ∷ e ∷ f ∷ g ∷ h ∷ i ∷ j ∷ k ∷ [
 first-large (a ∷ b ∷ c ∷ d ∷ e ∷ f ∷ g ∷ h ∷ i ∷ j ∷ k ∷ l ∷ rest) some = refl
 
 pub larges-next : (held : List LargeCommunity) (bytes : List ℕ) → 12 ≤ length bytes
-    → keys_with large_cmp (insert_key large_cmp held (large_at bytes)) (by_threes (numbers_in (drop 12 bytes))) ≡ keys_with large_cmp held (by_threes (numbers_in bytes))
+    → keys_with large_cmp (insert_key large_cmp held (large_at bytes)) (by_threes (numbers_in (drop 12 bytes)))
+    ≡ keys_with large_cmp held (by_threes (numbers_in bytes))
 larges-next held bytes some = rw (first-large bytes some) refl
 
 -- fewer than twelve octets are none

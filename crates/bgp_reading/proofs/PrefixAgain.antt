@@ -1,5 +1,6 @@
 -- Prefixes that are written are read again.
-use Rattle.std.proofs.Common.{◌≡◌, ℕ, zero, suc, ◌+◌, ◌*◌, ◌-◌, ◌/◌, ◌%◌, ◌^◌, ◌<◌, ◌≤◌, List, [], ◌∷◌, ◌++◌, length, take, refl, sym, ◌∙◌, ap, arith, length-take}
+use Rattle.std.proofs.Common.{◌≡◌, ℕ, zero, suc, ◌+◌, ◌*◌, ◌-◌, ◌/◌, ◌%◌, ◌^◌, ◌<◌, ◌≤◌, List, [], ◌∷◌}
+use Rattle.std.proofs.Common.{◌++◌, length, take, refl, sym, ◌∙◌, ap, arith, length-take}
 use Rattle.std.proofs.Math.Nat.{div-add-mod'}
 use Rattle.std.proofs.lemmas.List.{take_at, drop_at}
 use Rattle.std.proofs.lemmas.Bool.{le-leb}
@@ -24,7 +25,8 @@ number_again n (suc (suc (suc zero))) fits few masked = omega arith
 number_again n (suc (suc (suc (suc zero)))) fits few masked = from_be_bytes-to_be_bytes_4 n fits
 number_again n (suc (suc (suc (suc (suc k))))) fits few masked = absurd (omega arith)
 
-address_again : (family : Family) (n k : ℕ) → n < 2 ^ width_of family → k ≤ width_of family / 8 → n % 256 ^ (width_of family / 8 - k) ≡ 0 → address_in family (take k (address_bytes family n)) ≡ n
+address_again : (family : Family) (n k : ℕ) → n < 2 ^ width_of family → k ≤ width_of family / 8 → n % 256 ^ (width_of family / 8 - k) ≡ 0
+    → address_in family (take k (address_bytes family n)) ≡ n
 address_again V4 n k fits few masked = number_again n k fits few masked
 address_again V6 n k fits few masked = wide-front n k fits masked
 
@@ -49,7 +51,8 @@ masked_octets family n bits short masked =
 whole : (n size : ℕ) → n % size ≡ 0 → n / size * size ≡ n
 whole n size masked = omega (arith, masked, div-add-mod' n size)
 
-prefix_again : (family : Family) (p : PrefixValue) (octets : List ℕ) → p.family ≡ family → p.number % size_at family p.length ≡ 0 → address_in family octets ≡ p.number → prefix_in family p.length octets ≡ p
+prefix_again : (family : Family) (p : PrefixValue) (octets : List ℕ) → p.family ≡ family → p.number % size_at family p.length ≡ 0
+    → address_in family octets ≡ p.number → prefix_in family p.length octets ≡ p
 prefix_again family p octets own masked number =
     let size = size_at family p.length in
     let with_number : ℕ → PrefixValue = λ n. record { family = family; number = n / size * size; length = p.length } in
@@ -57,7 +60,8 @@ prefix_again family p octets own masked number =
     let with_family : Family → PrefixValue = λ f. record { family = f; number = p.number; length = p.length } in
     ap with_number number ∙ ap plain (whole p.number size masked) ∙ ap with_family (sym own)
 
-pub prefixes_again : (family : Family) (prefixes : List PrefixValue) → AllByRecursion (IsOf family) prefixes → prefixes_in family (prefixes_bytes prefixes) ≡ prefixes
+pub prefixes_again : (family : Family) (prefixes : List PrefixValue) → AllByRecursion (IsOf family) prefixes
+    → prefixes_in family (prefixes_bytes prefixes) ≡ prefixes
 prefixes_again family [] all = refl
 prefixes_again family (p ∷ rest) all =
     let k = (p.length + 7) / 8 in
@@ -68,8 +72,10 @@ prefixes_again family (p ∷ rest) all =
     let few : k ≤ width_of family / 8 = few-octets family p.length short in
     let same : front ≡ take k (address_bytes family p.number) = ap (λ f. take k (address_bytes f p.number)) all.0.own in
     let long : length front ≡ k = ap length same ∙ length-take k (address_bytes family p.number) ∙ omega (arith, few, length-address family p.number) in
-    let number : address_in family front ≡ p.number = ap (address_in family) same ∙ address_again family p.number k fits few (masked_octets family p.number p.length short masked) in
+    let number : address_in family front ≡ p.number =
+    ap (address_in family) same ∙ address_again family p.number k fits few (masked_octets family p.number p.length short masked) in
     let own : prefix_in family p.length front ≡ p = prefix_again family p front all.0.own masked number in
     rw (le-leb p.length (width_of family) short, take_at front (prefixes_bytes rest) k long, own) (
-    ap (λ prefixes. p ∷ prefixes) (prefixes_behind-drop family k (front ++ prefixes_bytes rest) ∙ ap (prefixes_in family) (drop_at front (prefixes_bytes rest) k long) ∙ prefixes_again family rest all.1)
+    ap (λ prefixes. p ∷ prefixes) (prefixes_behind-drop family k (front ++ prefixes_bytes rest)
+    ∙ ap (prefixes_in family) (drop_at front (prefixes_bytes rest) k long) ∙ prefixes_again family rest all.1)
     )

@@ -26,7 +26,8 @@ part-within (Reached front hop back) prefixes =
     )
 
 -- so fewer octets aren't the message
-pub other-size : (part : Part) (prefixes : List PrefixValue) (bytes : List ℕ) → length bytes < length (prefixes_bytes prefixes) → bytes_eq (part_message part prefixes) bytes ≡ false
+pub other-size : (part : Part) (prefixes : List PrefixValue) (bytes : List ℕ) → length bytes < length (prefixes_bytes prefixes)
+    → bytes_eq (part_message part prefixes) bytes ≡ false
 other-size part prefixes bytes fewer = false_from_ne_true (bytes_eq (part_message part prefixes) bytes) (λ same.
     let is : part_message part prefixes ≡ bytes = (bytes_eq-Decides (part_message part prefixes) bytes).0 same in
     absurd (omega (arith, fewer, ap length is, part-within part (prefixes_bytes prefixes))))

@@ -1,5 +1,6 @@
 -- Numbers in sixteen octets.
-use Rattle.std.proofs.Common.{◌≡◌, ℕ, zero, suc, ◌+◌, ◌*◌, ◌-◌, ◌/◌, ◌%◌, ◌^◌, ◌<◌, ◌≤◌, Bool, true, false, nat_lt, List, ◌++◌, length, take, slice_index, slice_set, refl, sym, ◌∙◌, ap, arith}
+use Rattle.std.proofs.Common.{◌≡◌, ℕ, zero, suc, ◌+◌, ◌*◌, ◌-◌, ◌/◌, ◌%◌, ◌^◌, ◌<◌, ◌≤◌, Bool, true, false}
+use Rattle.std.proofs.Common.{nat_lt, List, ◌++◌, length, take, slice_index, slice_set, refl, sym, ◌∙◌, ap, arith}
 use Rattle.std.proofs.Math.Nat.{add-mul-mod_self_right, div-add-mod', mod-eq_of_lt, mul-mod_left, mul_assoc, pow-suc}
 use Rattle.std.proofs.lemmas.Bool.{ltb-true, ltb-false}
 use Rattle.std.proofs.lemmas.List.{get_or-set_other, get_or-set_same}
@@ -19,7 +20,8 @@ sum-same f g (suc k) same =
 pub wide-same : (xs ys : List ℕ) → ((i : ℕ) → i < 16 → slice_index xs i ≡ slice_index ys i) → wide_in xs ≡ wide_in ys
 unfolding wide_in
 wide-same xs ys same =
-    sum-same (λ i. byte_worth (15 - i) (slice_index xs i)) (λ i. byte_worth (15 - i) (slice_index ys i)) 15 (λ i le. ap (byte_worth (15 - i)) (same i (omega arith)))
+    sum-same (λ i. byte_worth (15 - i) (slice_index xs i)) (λ i. byte_worth (15 - i) (slice_index ys i)) 15
+    (λ i le. ap (byte_worth (15 - i)) (same i (omega arith)))
 
 -- it is read again, whatever follows it
 pub wide-again : (n : ℕ) (rest : List ℕ) → n < 2 ^ 128 → wide_in (to_be_bytes w128 n ++ rest) ≡ n
@@ -50,7 +52,8 @@ masked_bytes n bytes low few masked =
 quotient-zero : (n size : ℕ) → 0 < size → n % (size * 256) ≡ 0 → n / size % 256 ≡ 0
 quotient-zero n size some masked =
     let q = n / (size * 256) in
-    let is : n ≡ q * 256 * size + 0 = sym (div-add-mod' n (size * 256)) ∙ ap (λ r. q * (size * 256) + r) masked ∙ ap (λ m. m + 0) (sym (mul_assoc q size 256)) ∙ swapped q size in
+    let is : n ≡ q * 256 * size + 0 =
+    sym (div-add-mod' n (size * 256)) ∙ ap (λ r. q * (size * 256) + r) masked ∙ ap (λ m. m + 0) (sym (mul_assoc q size 256)) ∙ swapped q size in
     ap (λ m. m / size % 256) is ∙ ap (λ m. m % 256) (div-mul-add (q * 256) size 0 some) ∙ mul-mod_left q 256
   where
     swapped : (q size : ℕ) → q * size * 256 + 0 ≡ q * 256 * size + 0
@@ -69,7 +72,8 @@ all-zero zero n zeros i = refl
 all-zero (suc m) n zeros zero = zeros m (omega arith)
 all-zero (suc m) n zeros (suc i) = all-zero m n (λ j lt. zeros j (omega arith)) i
 
-take-same : (m k n : ℕ) → ((j : ℕ) → j < m - k → byte_at j n ≡ 0) → (i : ℕ) → slice_index (take k (bytes_high_first m n)) i ≡ slice_index (bytes_high_first m n) i
+take-same : (m k n : ℕ) → ((j : ℕ) → j < m - k → byte_at j n ≡ 0) → (i : ℕ)
+    → slice_index (take k (bytes_high_first m n)) i ≡ slice_index (bytes_high_first m n) i
 take-same zero zero n zeros i = refl
 take-same zero (suc k) n zeros i = refl
 take-same (suc m) zero n zeros i = sym (all-zero (suc m) n (λ j lt. zeros j (omega arith)) i)
@@ -83,7 +87,8 @@ wide-front n k fits masked =
     ∙ from_be_bytes-to_be_bytes_16 n fits
 
 -- one octet more is known
-pub set-known : (octets bytes : List ℕ) (place value : ℕ) → ((i : ℕ) → i < place → slice_index octets i ≡ slice_index bytes i) → place < length octets → value ≡ slice_index bytes place
+pub set-known : (octets bytes : List ℕ) (place value : ℕ) → ((i : ℕ) → i < place → slice_index octets i ≡ slice_index bytes i) → place < length octets
+    → value ≡ slice_index bytes place
     → (i : ℕ) → i < place + 1 → slice_index (slice_set octets place value) i ≡ slice_index bytes i
 set-known octets bytes place value known within is i here = by (nat_lt i place) refl where
   by : (b : Bool) → nat_lt i place ≡ b → slice_index (slice_set octets place value) i ≡ slice_index bytes i

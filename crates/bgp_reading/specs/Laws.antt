@@ -35,7 +35,8 @@ joined messages = flat_map (λ message. message) messages
 
 -- The octets of the joined messages between two tables are messages, and after them the table is the new one.
 abbrev pub UpdatesAreReceived : Type 0
-UpdatesAreReceived = (peering : Peering) (old new : List (PrefixValue × Terms)) → IsTable old → IsTable new → All HasFew new → AreOfPeer peering new → AreTyped peering new
+UpdatesAreReceived = (peering : Peering) (old new : List (PrefixValue × Terms)) → IsTable old → IsTable new → All HasFew new → AreOfPeer peering new
+    → AreTyped peering new
     → (p : PrefixValue) → option_map (λ table. table p) (received_bytes (terms_at old) (joined (messages_between peering old new))) ≡ Some (terms_at new p)
 
 -- What can be told to a peer in messages that are read as what they say: a table with few communities, whose numbers are what their types
@@ -58,10 +59,13 @@ last_table old (new ∷ later) = last_table new later
 
 -- So it is over any number of tables: after the octets of the messages from each to the next the first table is the last one.
 abbrev pub TablesAreReceived : Type 0
-TablesAreReceived = (peering : Peering) (old : List (PrefixValue × Terms)) (tables : List (List (PrefixValue × Terms))) → IsTable old → AllByRecursion (CanBeTold peering) tables
-    → (p : PrefixValue) → option_map (λ table. table p) (received_bytes (terms_at old) (joined (messages_over peering old tables))) ≡ Some (terms_at (last_table old tables) p)
+TablesAreReceived = (peering : Peering) (old : List (PrefixValue × Terms)) (tables : List (List (PrefixValue × Terms))) → IsTable old
+    → AllByRecursion (CanBeTold peering) tables
+    → (p : PrefixValue)
+    → option_map (λ table. table p) (received_bytes (terms_at old) (joined (messages_over peering old tables))) ≡ Some (terms_at (last_table old tables) p)
 
 -- Each of these messages is one of the sender.
 abbrev pub MessagesAreOfSender : Type 0
-MessagesAreOfSender = (peering : Peering) (old : List (PrefixValue × Terms)) (tables : List (List (PrefixValue × Terms))) → IsTable old → AllByRecursion (CanBeTold peering) tables
+MessagesAreOfSender = (peering : Peering) (old : List (PrefixValue × Terms)) (tables : List (List (PrefixValue × Terms))) → IsTable old
+    → AllByRecursion (CanBeTold peering) tables
     → AllByRecursion (IsMessageOf peering) (messages_over peering old tables)

@@ -1,7 +1,9 @@
 //! Path attributes, read.
 ghost use Rattle.std.specs.Prelude.{◌≡◌, ◌*◌, ◌≤◌, IfOk, drop, length};
 ghost use Rattle.ip_ranges.specs.declared.family.Family.TheVariants.{V6};
-ghost use Rattle.bgp_reading.specs.Places.{ascending_in, behind_at, behind_hop, behind_path, behind_preference, behind_size, communities_in, is_extended, large_in, larges_in, next_hop_in, next_hop_v6_in, number_at, optional_in, own_in, preference_in, reach_in, sender_in, terms_in, value_at, value_size};
+ghost use Rattle.bgp_reading.specs.Places.{ascending_in, behind_at, behind_hop, behind_path, behind_preference, behind_size};
+ghost use Rattle.bgp_reading.specs.Places.{communities_in, is_extended, large_in, larges_in, next_hop_in, next_hop_v6_in, number_at};
+ghost use Rattle.bgp_reading.specs.Places.{optional_in, own_in, preference_in, reach_in, sender_in, terms_in, value_at, value_size};
 
 use crate::octets::{behind, front, number_at, octet, short_at, wide_in};
 use bgp_updates::{Peering, Terms};

@@ -53,7 +53,8 @@ module _ (u v : ViewValue) (node : List ℕ) (addresses : List AddressValue) (di
         (any-in (λ adv. same_prefix c.0 (prefix_under adv by.address)) (bgp_of v) by.advertisement there own))
 
     announced : IsAnnounced v node both by.address
-    announced = to-announced v node both by.address by.announced.counts (sym (differs.announced by.address not-listed) ∙ from-announced u node both by.address by.announced)
+    announced = to-announced v node both by.address by.announced.counts
+        (sym (differs.announced by.address not-listed) ∙ from-announced u node both by.address by.announced)
 
     -- what isn't contributed by these addresses is contributed by both
     pub into : IsContribution v node peer both c
@@ -87,7 +88,8 @@ others-agree u v node addresses differs limited peer both p untouched =
     let limited-before : HasFewInForce u = λ config in_force. limited config (sym differs.config ∙ in_force) in
     let back = turned u v node addresses differs in
     routes-stated u node peer both p
-    ∙ stated-same p (contributions u node peer both) (contributions v node peer both) (contributions-ascend u node peer both limited-before) (contributions-ascend v node peer both limited)
+    ∙ stated-same p (contributions u node peer both) (contributions v node peer both) (contributions-ascend u node peer both limited-before)
+    (contributions-ascend v node peer both limited)
     (listed u v node addresses differs peer both p untouched)
     (listed v u node addresses back peer both p (untouched-before u v node addresses differs peer both p untouched))
     ∙ sym (routes-stated v node peer both p)

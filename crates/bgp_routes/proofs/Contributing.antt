@@ -1,5 +1,6 @@
 -- What contributes by the held configuration and the addresses that stand is what contributes by the view.
-use Rattle.std.proofs.Common.{◌≡◌, ℕ, zero, suc, Bool, true, false, cond, List, [], ◌∷◌, map, Option, Some, None, unwrap_or, inl, inr, refl, sym, ap, subst, ◌∙◌}
+use Rattle.std.proofs.Common.{◌≡◌, ℕ, zero, suc, Bool, true, false, cond, List, [], ◌∷◌, map, Option, Some}
+use Rattle.std.proofs.Common.{None, unwrap_or, inl, inr, refl, sym, ap, subst, ◌∙◌}
 use Rattle.std.proofs.lemmas.Bool.{and_from, and_parts, false≢true}
 use Rattle.std.proofs.lemmas.Option.{slice_get-map}
 use Rattle.std.specs.List.{slice_get}
@@ -68,7 +69,8 @@ module _ (v : ViewValue) (node : List ℕ) (both : Bool) where
   standing-counts g a e =
       (counts-Decides both a.family).0 (and_parts (counts both a.family) (is_own g a (slice_get (map advertisement_of bgp) g.advertisement)) e).0
 
-  pub standing-place : (g : Aggregate) (a : AddressValue) (adv : CompiledBgp) → slice_get bgp g.advertisement ≡ Some adv → may_stand both (map advertisement_of bgp) g a ≡ true
+  pub standing-place : (g : Aggregate) (a : AddressValue) (adv : CompiledBgp) → slice_get bgp g.advertisement ≡ Some adv
+      → may_stand both (map advertisement_of bgp) g a ≡ true
       → g.place ≡ place_of (prefix_of (advertisement_of adv) a)
   standing-place g a adv at e =
       let own = (and_parts (counts both a.family) (is_own g a (slice_get (map advertisement_of bgp) g.advertisement)) e).1 in
@@ -86,7 +88,8 @@ module _ (v : ViewValue) (node : List ℕ) (both : Bool) where
     no-flag : (n : ℕ) → is_set [] n ≡ true → ⊥
     no-flag n e = false≢true e
 
-    chosen-by : (o : Option CompiledPool) (n : ℕ) (adv : CompiledBgp) → slice_get bgp n ≡ Some adv → is_set (choice_of labels bgp o) n ≡ true → (pool : CompiledPool) × (o ≡ Some pool) × (is_chosen labels pool adv ≡ true)
+    chosen-by : (o : Option CompiledPool) (n : ℕ) (adv : CompiledBgp) → slice_get bgp n ≡ Some adv → is_set (choice_of labels bgp o) n ≡ true
+        → (pool : CompiledPool) × (o ≡ Some pool) × (is_chosen labels pool adv ≡ true)
     chosen-by None n adv at e = absurd (no-flag n e)
     chosen-by (Some pool) n adv at e = (pool, refl, sym (flag-at (is_chosen labels pool) bgp n adv at) ∙ e)
 
@@ -97,7 +100,8 @@ module _ (v : ViewValue) (node : List ℕ) (both : Bool) where
         record { announced = announced; pool = found.0; pool_is = found.1; is = found.2 }
     chosen-at false n a adv at announced e = absurd (no-flag n e)
 
-    contribution-by : (config : Option ConfigValue) → v.held.config ≡ config → (n : ℕ) (a : AddressValue) (adv : CompiledBgp) → slice_get (bgp_in config) n ≡ Some adv → Counts both a.family
+    contribution-by : (config : Option ConfigValue) → v.held.config ≡ config → (n : ℕ) (a : AddressValue) (adv : CompiledBgp)
+        → slice_get (bgp_in config) n ≡ Some adv → Counts both a.family
         → Chosen config a adv → receives labels peer adv ≡ true → IsContribution v node peer both (contribution peer a adv)
     contribution-by None in_force n a adv at counted chosen heard = absurd (let wrong : None ≡ Some adv = at in cc)
     contribution-by (Some config) in_force n a adv at counted chosen heard =
@@ -121,7 +125,8 @@ module _ (v : ViewValue) (node : List ℕ) (both : Bool) where
           is = refl;
         }
 
-    pub contributes-listed : (g : Aggregate) (a : AddressValue) (adv : CompiledBgp) → slice_get bgp g.advertisement ≡ Some adv → contributes v node both g a ≡ true → receives labels peer adv ≡ true
+    pub contributes-listed : (g : Aggregate) (a : AddressValue) (adv : CompiledBgp) → slice_get bgp g.advertisement ≡ Some adv
+        → contributes v node both g a ≡ true → receives labels peer adv ≡ true
         → IsContribution v node peer both (contribution peer a adv)
     contributes-listed g a adv at e heard =
         let parts = and_parts (may_stand both (map advertisement_of bgp) g a) (is_set (choice_at v node a) g.advertisement) e in
@@ -138,7 +143,8 @@ module _ (v : ViewValue) (node : List ℕ) (both : Bool) where
       pub heard : receives labels peer adv ≡ true
       pub is : c ≡ contribution peer address adv
 
-    chosen-flag : (a : AddressValue) (pool : CompiledPool) (n : ℕ) (adv : CompiledBgp) → announced_from v a node ≡ true → pool_with (pools_of v) a ≡ Some pool → slice_get bgp n ≡ Some adv
+    chosen-flag : (a : AddressValue) (pool : CompiledPool) (n : ℕ) (adv : CompiledBgp) → announced_from v a node ≡ true → pool_with (pools_of v) a ≡ Some pool
+        → slice_get bgp n ≡ Some adv
         → is_chosen labels pool adv ≡ true → is_set (choice_at v node a) n ≡ true
     chosen-flag a pool n adv announced pool_is at chosen =
         ap (λ b. is_set (cond b (choice_of labels bgp (pool_with (pools_of v) a)) []) n) announced
@@ -157,11 +163,13 @@ module _ (v : ViewValue) (node : List ℕ) (both : Bool) where
         let g : Aggregate = aggregate_of n (advertisement_of adv) a in
         let own : is_own g a (slice_get (map advertisement_of bgp) n) ≡ true =
         ap (is_own g a) (at-map advertisement_of bgp n adv found.1) ∙ at-itself place_cmp place_cmp-total (place_of (prefix_of (advertisement_of adv) a)) in
-        let stands = and_from (counts both a.family) (is_own g a (slice_get (map advertisement_of bgp) n)) ((counts-Decides both a.family).1 by.announced.counts) own in
+        let stands =
+        and_from (counts both a.family) (is_own g a (slice_get (map advertisement_of bgp) n)) ((counts-Decides both a.family).1 by.announced.counts) own in
         let pool_is : pool_with (pools_of v) a ≡ Some pool = ap (λ (o : Option ConfigValue). pool_with (pools_in o) a) in_force ∙ by.advertised.pool_is in
         let chosen : is_chosen labels pool adv ≡ true =
         and_from (chooses adv.pools adv.pool_selectors pool.name pool.labels) (selects adv.node_selectors labels)
-        ((chooses-Decides adv.pools adv.pool_selectors pool.name pool.labels).1 by.advertised.chosen) ((selects-Decides adv.node_selectors labels).1 by.advertised.selected) in
+        ((chooses-Decides adv.pools adv.pool_selectors pool.name pool.labels).1 by.advertised.chosen)
+        ((selects-Decides adv.node_selectors labels).1 by.advertised.selected) in
         let flag = chosen-flag a pool n adv (from-announced v node both a by.announced) pool_is found.1 chosen in
         record {
           place = n;
@@ -169,7 +177,8 @@ module _ (v : ViewValue) (node : List ℕ) (both : Bool) where
           at = found.1;
           address = a;
           contributes = and_from (may_stand both (map advertisement_of bgp) g a) (is_set (choice_at v node a) n) stands flag;
-          heard = and_from (selects peer.node_selectors labels) (is_for peer adv) ((selects-Decides peer.node_selectors labels).1 by.peer_selects) ((for-Decides v node peer both adv).1 by.advertised.named);
+          heard = and_from (selects peer.node_selectors labels) (is_for peer adv) ((selects-Decides peer.node_selectors labels).1 by.peer_selects)
+              ((for-Decides v node peer both adv).1 by.advertised.named);
           is = by.is;
         }
 

@@ -1,5 +1,6 @@
 -- Two tables of the same routes are one.
-use Rattle.std.proofs.Common.{◌≡◌, ◌↔◌, ℕ, ◌≤◌, Bool, true, false, cond, ◌==◌, List, [], ◌∷◌, Option, Some, None, Ordering, Less, Greater, inl, inr, refl, sym, ◌∙◌, ap, ap₂, subst, arith}
+use Rattle.std.proofs.Common.{◌≡◌, ◌↔◌, ℕ, ◌≤◌, Bool, true, false, cond, ◌==◌, List, [], ◌∷◌, Option, Some}
+use Rattle.std.proofs.Common.{None, Ordering, Less, Greater, inl, inr, refl, sym, ◌∙◌, ap, ap₂, subst, arith}
 use Rattle.std.proofs.lemmas.Cmp.{nat_cmp_total}
 use Rattle.std.specs.Cmp.{IsTotalOrder}
 use Rattle.std.specs.List.{AllByRecursion, list_all}
@@ -67,7 +68,8 @@ module _ {K : Type 0} {R : K → K → Ordering} (o : IsTotalOrder R) where
   keys-ascend [] sorted = tt
   keys-ascend (k ∷ keys) sorted = (sorted.0, keys-ascend keys sorted.1)
 
-  pub same-keys-ascending : (a b : List K) → IsStrictlySortedBy R a → IsStrictlySortedBy R b → ((k : K) → IsIn a k → IsIn b k) → ((k : K) → IsIn b k → IsIn a k) → a ≡ b
+  pub same-keys-ascending : (a b : List K) → IsStrictlySortedBy R a → IsStrictlySortedBy R b → ((k : K) → IsIn a k → IsIn b k) → ((k : K) → IsIn b k → IsIn a k)
+      → a ≡ b
   same-keys-ascending a b first second into back = same-items Lower lower-apart a b (keys-ascend a first) (keys-ascend b second) into back
 
 -- ---- routes
@@ -77,7 +79,8 @@ Earlier r s = before r.0 s.0 ≡ true
 pub earlier-apart : (r s : PrefixValue × Terms) → Earlier r s → Earlier s r → ⊥
 earlier-apart r s first second = before-other r.0 r.0 (before-before r.0 s.0 r.0 first second) (same_prefix-itself r.0)
 
-all-earlier : (r : PrefixValue × Terms) (routes : List (PrefixValue × Terms)) → list_all (before r.0) (keys_of routes) ≡ true → AllByRecursion (Earlier r) routes
+all-earlier : (r : PrefixValue × Terms) (routes : List (PrefixValue × Terms)) → list_all (before r.0) (keys_of routes) ≡ true
+    → AllByRecursion (Earlier r) routes
 all-earlier r [] all = tt
 all-earlier r (s ∷ routes) all =
     let parts = both_true (before r.0 s.0) (list_all (before r.0) (keys_of routes)) all in
@@ -93,7 +96,8 @@ module _ (v : ViewValue) (node : List ℕ) (peer : CompiledPeer) (both : Bool) w
   told-both true m n k none some = absurd (cc)
   told-both false m n k none some = absurd (cc)
 
-  told-one : (s t : Terms) (p : PrefixValue) (k : ℕ) → Contributes v node peer both p s → Contributes v node peer both p t → s.preference ≡ None → t.preference ≡ Some k → ⊥
+  told-one : (s t : Terms) (p : PrefixValue) (k : ℕ) → Contributes v node peer both p s → Contributes v node peer both p t → s.preference ≡ None
+      → t.preference ≡ Some k → ⊥
   told-one s t p k first second none some =
       told-both (peer.my_asn == peer.peer_asn) first.advertisement.local_pref second.advertisement.local_pref k
       (sym (ap (λ (c : PrefixValue × Terms). c.1.preference) first.is) ∙ none) (sym (ap (λ (c : PrefixValue × Terms). c.1.preference) second.is) ∙ some)
@@ -120,7 +124,8 @@ module _ (v : ViewValue) (node : List ℕ) (peer : CompiledPeer) (both : Bool) w
       let with_communities : List ℕ → Terms = λ ns. record { preference = t.preference; communities = ns; large = s.large } in
       let with_large : List LargeCommunity → Terms = λ cs. record { preference = t.preference; communities = t.communities; large = cs } in
       ap with_preference (one-preference p s.preference t.preference first.preference second.preference)
-      ∙ ap with_communities (one-kind nat_cmp_total (λ x. x.communities) p s.communities t.communities first.communities second.communities up.numbers down.numbers)
+      ∙ ap with_communities
+      (one-kind nat_cmp_total (λ x. x.communities) p s.communities t.communities first.communities second.communities up.numbers down.numbers)
       ∙ ap with_large (one-kind large_cmp-total (λ x. x.large) p s.large t.large first.large second.large up.large down.large)
 
   each-ascends : (routes : List (PrefixValue × Terms)) (r : PrefixValue × Terms) → AllByRecursion Ascends routes → IsIn routes r → Ascends r
@@ -133,12 +138,14 @@ module _ (v : ViewValue) (node : List ℕ) (peer : CompiledPeer) (both : Bool) w
       let route = first.routes.routes r there in
       let found = second.routes.all (r.0, route.preference.terms) route.preference.there in
       let other = second.routes.routes (r.0, found.0) found.1 in
-      let same : r.1 ≡ found.0 = one-terms r.0 r.1 found.0 route other (each-ascends t r first.communities there) (each-ascends t' (r.0, found.0) second.communities found.1) in
+      let same : r.1 ≡ found.0 =
+      one-terms r.0 r.1 found.0 route other (each-ascends t r first.communities there) (each-ascends t' (r.0, found.0) second.communities found.1) in
       subst (λ s. IsIn t' (r.0, s)) (sym same) found.1
 
   pub one-table : (t t' : List (PrefixValue × Terms)) → IsTableOf v node peer both t → IsTableOf v node peer both t' → t ≡ t'
   one-table t t' first second =
-      same-items Earlier earlier-apart t t' (routes-ascend t first.prefixes) (routes-ascend t' second.prefixes) (into t t' first second) (into t' t second first)
+      same-items Earlier earlier-apart t t' (routes-ascend t first.prefixes) (routes-ascend t' second.prefixes) (into t t' first second)
+      (into t' t second first)
 
 pub tables-determined : TablesAreDetermined
 tables-determined v node peer both t t' first second = one-table v node peer both t t' first second

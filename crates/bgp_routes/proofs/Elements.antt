@@ -1,5 +1,6 @@
 -- What the terms of a route tell: the communities and the greatest preference of all contributions of its prefix.
-use Rattle.std.proofs.Common.{◌≡◌, ℕ, ◌≤◌, ◌==◌, Bool, true, false, cond, List, [], ◌∷◌, ◌⊎◌, inl, inr, Option, Some, None, Ordering, refl, sym, ◌∙◌, ap, subst, arith}
+use Rattle.std.proofs.Common.{◌≡◌, ℕ, ◌≤◌, ◌==◌, Bool, true, false, cond, List, [], ◌∷◌, ◌⊎◌, inl, inr}
+use Rattle.std.proofs.Common.{Option, Some, None, Ordering, refl, sym, ◌∙◌, ap, subst, arith}
 use Rattle.std.specs.Cmp.{IsTotalOrder}
 use Rattle.std.specs.List.{list_any}
 use Rattle.std.specs.Bool.{⊤}
@@ -86,7 +87,8 @@ number-itself n = grind (arith, nat_tests)
 pub same_prefix-itself : (p : PrefixValue) → same_prefix p p ≡ true
 same_prefix-itself p = rw (family-itself p.family, number-itself p.number, number-itself p.length) refl
 
-module _ (P : Terms → Type 0) (split : (s t : Terms) → P (united_terms s t) → P s ⊎ P t) (join : (s t : Terms) → P s ⊎ P t → P (united_terms s t)) (p : PrefixValue) where
+module _ (P : Terms → Type 0) (split : (s t : Terms) → P (united_terms s t) → P s ⊎ P t) (join : (s t : Terms) → P s ⊎ P t → P (united_terms s t))
+    (p : PrefixValue) where
   joined-to : (found : Option Terms) (t : Terms) → P (joined found t) → There P found ⊎ P t
   joined-to None t now = inr now
   joined-to (Some s) t now = split s t now
@@ -111,14 +113,16 @@ module _ (P : Terms → Type 0) (split : (s t : Terms) → P (united_terms s t) 
         | inr later ↦ inr (told-later P p c more later)
       ])
 
-  own-first : (found : Option Terms) (c : PrefixValue × Terms) (more : List (PrefixValue × Terms)) → There P found ⊎ Told P p (c ∷ more) → P (joined found c.1) ⊎ Told P p more
+  own-first : (found : Option Terms) (c : PrefixValue × Terms) (more : List (PrefixValue × Terms)) → There P found ⊎ Told P p (c ∷ more)
+      → P (joined found c.1) ⊎ Told P p more
   own-first found c more (inl before) = inl (joined-from found c.1 (inl before))
   own-first found c more (inr told) = elim (told.there) [
     | inl is ↦ inl (joined-from found c.1 (inr (subst P (sym (ap (λ r. r.1) is)) told.tells)))
     | inr later ↦ inr (record { terms = told.terms; there = later; tells = told.tells })
   ]
 
-  other-first : (found : Option Terms) (c : PrefixValue × Terms) (more : List (PrefixValue × Terms)) → same_prefix p c.0 ≡ false → There P found ⊎ Told P p (c ∷ more) → There P found ⊎ Told P p more
+  other-first : (found : Option Terms) (c : PrefixValue × Terms) (more : List (PrefixValue × Terms)) → same_prefix p c.0 ≡ false
+      → There P found ⊎ Told P p (c ∷ more) → There P found ⊎ Told P p more
   other-first found c more other (inl before) = inl before
   other-first found c more other (inr told) = elim (told.there) [
     | inl is ↦ absurd (true≢false (sym (ap (same_prefix p) (ap (λ r. r.0) is) ∙ same_prefix-itself p) ∙ other))
@@ -130,8 +134,10 @@ module _ (P : Terms → Type 0) (split : (s t : Terms) → P (united_terms s t) 
   stated-from found [] (inr told) = absurd told.there
   stated-from found (c ∷ more) h =
       by_bool (There P (stated p found (c ∷ more))) (same_prefix p c.0)
-      (λ own. subst (λ b. There P (stated p (cond b (Some (joined found c.1)) found) more)) (sym own) (stated-from (Some (joined found c.1)) more (own-first found c more h)))
-      (λ other. subst (λ b. There P (stated p (cond b (Some (joined found c.1)) found) more)) (sym other) (stated-from found more (other-first found c more other h)))
+      (λ own. subst (λ b. There P (stated p (cond b (Some (joined found c.1)) found) more)) (sym own)
+      (stated-from (Some (joined found c.1)) more (own-first found c more h)))
+      (λ other.
+      subst (λ b. There P (stated p (cond b (Some (joined found c.1)) found) more)) (sym other) (stated-from found more (other-first found c more other h)))
 
   -- of no terms before
   pub tells-told : (cs : List (PrefixValue × Terms)) (terms : Terms) → stated p None cs ≡ Some terms → P terms → Told P p cs
@@ -142,13 +148,15 @@ module _ (P : Terms → Type 0) (split : (s t : Terms) → P (united_terms s t) 
 
 -- ---- tables
 
-any-key : (p : PrefixValue) (routes : List (PrefixValue × Terms)) (route : PrefixValue × Terms) → IsIn routes route → p ≡ route.0 → list_any (same_prefix p) (keys_of routes) ≡ true
+any-key : (p : PrefixValue) (routes : List (PrefixValue × Terms)) (route : PrefixValue × Terms) → IsIn routes route → p ≡ route.0
+    → list_any (same_prefix p) (keys_of routes) ≡ true
 any-key p [] route none e = absurd none
 any-key p (x ∷ routes) route (inl is) e =
     or_left (same_prefix p x.0) (list_any (same_prefix p) (keys_of routes)) (ap (same_prefix p) (ap (λ r. r.0) is ∙ sym e) ∙ same_prefix-itself p)
 any-key p (x ∷ routes) route (inr later) e = or_right (same_prefix p x.0) (list_any (same_prefix p) (keys_of routes)) (any-key p routes route later e)
 
-pub at-route : (routes : List (PrefixValue × Terms)) (route : PrefixValue × Terms) → AreDistinct routes → IsIn routes route → terms_at routes route.0 ≡ Some route.1
+pub at-route : (routes : List (PrefixValue × Terms)) (route : PrefixValue × Terms) → AreDistinct routes → IsIn routes route
+    → terms_at routes route.0 ≡ Some route.1
 at-route [] route apart none = absurd none
 at-route (x ∷ routes) route apart (inl is) = subst (λ q. terms_at (x ∷ routes) q.0 ≡ Some q.1) is (rw (same_prefix-itself x.0) refl)
 at-route (x ∷ routes) route apart (inr later) =
@@ -241,23 +249,27 @@ module _ (v : ViewValue) (node : List ℕ) (peer : CompiledPeer) (both : Bool) w
         told-tells (Reaches m) (split-reaches m) (join-reaches m) route.0 all_of route.1 (stated-at route there)
         (record { terms = others; there = (contributions-listed v node peer both (route.0, others)).1 by; tells = subst (AtLeast m) (sym is) (omega arith) })
 
-    none-greater : (others : Terms) (m n : ℕ) → IsContribution v node peer both (route.0, others) → others.preference ≡ Some m → route.1.preference ≡ Some n → m ≤ n
+    none-greater : (others : Terms) (m n : ℕ) → IsContribution v node peer both (route.0, others) → others.preference ≡ Some m → route.1.preference ≡ Some n
+        → m ≤ n
     none-greater others m n by is own = subst (AtLeast m) own (reached m others by is)
 
     -- the contribution whose preference is the route's
-    equal-by : (n x : ℕ) (others : Terms) → IsContribution v node peer both (route.0, others) → route.1.preference ≡ Some n → others.preference ≡ Some x → n ≤ x → others.preference ≡ route.1.preference
+    equal-by : (n x : ℕ) (others : Terms) → IsContribution v node peer both (route.0, others) → route.1.preference ≡ Some n → others.preference ≡ Some x → n ≤ x
+        → others.preference ≡ route.1.preference
     equal-by n x others by own is least =
         let most = none-greater others x n by is own in
         let one : x ≡ n = omega (arith, least, most) in
         is ∙ ap Some one ∙ sym own
 
-    some-reaches : (n : ℕ) (others : Terms) (preference : Option ℕ) → others.preference ≡ preference → AtLeast n preference → (x : ℕ) × (others.preference ≡ Some x) × (n ≤ x)
+    some-reaches : (n : ℕ) (others : Terms) (preference : Option ℕ) → others.preference ≡ preference → AtLeast n preference
+        → (x : ℕ) × (others.preference ≡ Some x) × (n ≤ x)
     some-reaches n others None is none = absurd none
     some-reaches n others (Some x) is least = (x, is, least)
 
     greatest-by : (preference : Option ℕ) → route.1.preference ≡ preference → IsGreatest v node peer both route.0 route.1.preference
     greatest-by (Some n) own =
-        let told = tells-told (Reaches n) (split-reaches n) (join-reaches n) route.0 all_of route.1 (stated-at route there) (subst (AtLeast n) (sym own) (omega arith)) in
+        let told = tells-told (Reaches n) (split-reaches n) (join-reaches n) route.0 all_of route.1 (stated-at route there)
+        (subst (AtLeast n) (sym own) (omega arith)) in
         let by = (contributions-listed v node peer both (route.0, told.terms)).0 told.there in
         let some = some-reaches n told.terms told.terms.preference refl told.tells in
         record { terms = told.terms; there = by; is = equal-by n some.0 told.terms by own some.1 some.2; greatest = none-greater }
@@ -266,7 +278,8 @@ module _ (v : ViewValue) (node : List ℕ) (peer : CompiledPeer) (both : Bool) w
         let by = (contributions-listed v node peer both (route.0, told.terms)).0 told.there in
         record { terms = told.terms; there = by; is = none-by told.terms by told.terms.preference refl ∙ sym own; greatest = none-greater }
       where
-        none-by : (others : Terms) → IsContribution v node peer both (route.0, others) → (preference : Option ℕ) → others.preference ≡ preference → others.preference ≡ None
+        none-by : (others : Terms) → IsContribution v node peer both (route.0, others) → (preference : Option ℕ) → others.preference ≡ preference
+            → others.preference ≡ None
         none-by others by None is = is
         none-by others by (Some m) is = absurd (subst (AtLeast m) own (reached m others by is))
 
@@ -279,8 +292,10 @@ module _ (v : ViewValue) (node : List ℕ) (peer : CompiledPeer) (both : Bool) w
 
   has-route : (c : PrefixValue × Terms) → IsContribution v node peer both c → (terms : Terms) × IsIn (routes_of v node peer both) (c.0, terms)
   has-route c by =
-      let told : Told (λ t. ⊤) c.0 (contributions v node peer both) = record { terms = c.1; there = (contributions-listed v node peer both c).1 by; tells = tt } in
-      let some = some-there (stated c.0 None (contributions v node peer both)) (stated-from (λ t. ⊤) (λ s t h. inl tt) (λ s t h. tt) c.0 None (contributions v node peer both) (inr told)) in
+      let told : Told (λ t. ⊤) c.0 (contributions v node peer both) =
+      record { terms = c.1; there = (contributions-listed v node peer both c).1 by; tells = tt } in
+      let some = some-there (stated c.0 None (contributions v node peer both))
+      (stated-from (λ t. ⊤) (λ s t h. inl tt) (λ s t h. tt) c.0 None (contributions v node peer both) (inr told)) in
       (some.0, at-in (routes_of v node peer both) c.0 some.0 (routes-stated v node peer both c.0 ∙ some.1))
 
 pub routes-unite : RoutesUniteContributions

@@ -33,11 +33,18 @@ routes-of-ipv4 v node peer =
 
 module _ (v : ViewValue) (node : List ℕ) (peer : CompiledPeer) where
   -- whether it counts is all that `both` decides
-  counted : (both other : Bool) (c : PrefixValue × Terms) (by : IsContribution v node peer both c) → Counts other by.address.family → IsContribution v node peer other c
+  counted : (both other : Bool) (c : PrefixValue × Terms) (by : IsContribution v node peer both c) → Counts other by.address.family
+      → IsContribution v node peer other c
   counted both other c by counts = record {
     peer_selects = by.peer_selects;
     address = by.address;
-    announced = record { counts = counts; service = by.announced.service; held = by.announced.held; recorded = by.announced.recorded; announces = by.announced.announces };
+    announced = record {
+      counts = counts;
+      service = by.announced.service;
+      held = by.announced.held;
+      recorded = by.announced.recorded;
+      announces = by.announced.announces;
+    };
     advertisement = by.advertisement;
     advertised = by.advertised;
     is = by.is;
@@ -46,13 +53,15 @@ module _ (v : ViewValue) (node : List ℕ) (peer : CompiledPeer) where
   own-family : (both : Bool) (c : PrefixValue × Terms) (by : IsContribution v node peer both c) → c.0.family ≡ by.address.family
   own-family both c by = ap (λ (d : PrefixValue × Terms). d.0.family) by.is
 
-  into : (p : PrefixValue) (t : Terms) → IsIn (contributions v node peer false) (p, t) → IsIn (contributions v node peer true) (p, t) × (same_family p.family V4 ≡ true)
+  into : (p : PrefixValue) (t : Terms) → IsIn (contributions v node peer false) (p, t)
+      → IsIn (contributions v node peer true) (p, t) × (same_family p.family V4 ≡ true)
   into p t there =
       let by = (contributions-listed v node peer false (p, t)).0 there in
       let four : p.family ≡ V4 = own-family false (p, t) by ∙ alone by.address.family by.announced.counts in
       ((contributions-listed v node peer true (p, t)).1 (counted false true (p, t) by (inr refl)), ap (λ f. same_family f V4) four)
 
-  back : (p : PrefixValue) (t : Terms) → same_family p.family V4 ≡ true → IsIn (contributions v node peer true) (p, t) → IsIn (contributions v node peer false) (p, t)
+  back : (p : PrefixValue) (t : Terms) → same_family p.family V4 ≡ true → IsIn (contributions v node peer true) (p, t)
+      → IsIn (contributions v node peer false) (p, t)
   back p t four there =
       let by = (contributions-listed v node peer true (p, t)).0 there in
       let own : by.address.family ≡ V4 = sym (own-family true (p, t) by) ∙ same_family-is p.family V4 four in
@@ -60,5 +69,6 @@ module _ (v : ViewValue) (node : List ℕ) (peer : CompiledPeer) where
 
 pub same-ipv4-routes : Ipv4RoutesAreTheSame
 same-ipv4-routes v node peer limited =
-    united-part (λ p. same_family p.family V4) (contributions v node peer false) (contributions v node peer true) (contributions-ascend v node peer false limited)
+    united-part (λ p. same_family p.family V4) (contributions v node peer false) (contributions v node peer true)
+    (contributions-ascend v node peer false limited)
     (contributions-ascend v node peer true limited) (into v node peer) (back v node peer)

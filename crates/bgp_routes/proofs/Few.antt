@@ -1,5 +1,6 @@
 -- The routes of a node for a peer have so few communities.
-use Rattle.std.proofs.Common.{◌≡◌, ℕ, ◌≤◌, Bool, true, false, cond, inl, inr, List, [], ◌∷◌, length, Option, Some, None, Ordering, Result, Ok, Err, arith, All, refl, sym, ap, ◌∙◌, subst}
+use Rattle.std.proofs.Common.{◌≡◌, ℕ, ◌≤◌, Bool, true, false, cond, inl, inr, List, [], ◌∷◌, length, Option}
+use Rattle.std.proofs.Common.{Some, None, Ordering, Result, Ok, Err, arith, All, refl, sym, ap, ◌∙◌, subst}
 use Rattle.std.proofs.lemmas.Cmp.{nat_cmp_total}
 use Rattle.std.proofs.lemmas.List.Elements.{All-from_recursion}
 use Rattle.std.proofs.lemmas.Map.Lookups.{CmpEqualImpliesEq, exact_unsigned}
@@ -54,7 +55,8 @@ terms-ascend p s t = record {
   large = united-ascend large_cmp-total large_cmp-exact s.large t.large;
 }
 
-one-ascends : (routes : List (PrefixValue × Terms)) (c : PrefixValue × Terms) → AllByRecursion Ascends routes → Ascends c → AllByRecursion Ascends (with_contribution routes c)
+one-ascends : (routes : List (PrefixValue × Terms)) (c : PrefixValue × Terms) → AllByRecursion Ascends routes → Ascends c
+    → AllByRecursion Ascends (with_contribution routes c)
 one-ascends [] c all own = (own, tt)
 one-ascends (route ∷ routes) c all own = by_test (same_prefix c.0 route.0) (before c.0 route.0) (one-ascends routes c all.1 own) where
   by_test : (same first : Bool) → AllByRecursion Ascends (with_contribution routes c)
@@ -63,7 +65,8 @@ one-ascends (route ∷ routes) c all own = by_test (same_prefix c.0 route.0) (be
   by_test false true rest = (own, all)
   by_test false false rest = (all.0, rest)
 
-pub all-ascend : (cs routes : List (PrefixValue × Terms)) → AllByRecursion Ascends routes → AllByRecursion Ascends cs → AllByRecursion Ascends (with_contributions routes cs)
+pub all-ascend : (cs routes : List (PrefixValue × Terms)) → AllByRecursion Ascends routes → AllByRecursion Ascends cs
+    → AllByRecursion Ascends (with_contributions routes cs)
 all-ascend [] routes all own = all
 all-ascend (c ∷ cs) routes all own = all-ascend cs (with_contribution routes c) (one-ascends routes c all own.0) own.1
 
@@ -85,7 +88,8 @@ module _ (v : ViewValue) (node : List ℕ) (peer : CompiledPeer) (both : Bool) (
   routes-ascend = all-ascend (contributions v node peer both) [] tt contributions-ascend
 
   -- a community of a route is one of an advertisement, so those of a kind are as few
-  module _ {K : Type 0} (p : PrefixValue) (kind : Terms → List K) (values : CompiledBgp → List K) (own : (a : AddressValue) (adv : CompiledBgp) → kind (contribution peer a adv).1 ≡ values adv) where
+  module _ {K : Type 0} (p : PrefixValue) (kind : Terms → List K) (values : CompiledBgp → List K)
+      (own : (a : AddressValue) (adv : CompiledBgp) → kind (contribution peer a adv).1 ≡ values adv) where
     value-of : (config : ConfigValue) → v.held.config ≡ Some config → (k : K) → HasCommunity kind v node peer both p k → HasValue values config k
     value-of config in_force k (terms, by, has) =
         let adv = by.advertised in
@@ -102,7 +106,8 @@ module _ (v : ViewValue) (node : List ℕ) (peer : CompiledPeer) (both : Bool) (
         let wrong : None ≡ Some by.advertised.config = sym none ∙ by.advertised.in_force in
         absurd (cc)
 
-    few-by : (o : Option ConfigValue) {R : K → K → Ordering} (ks : List K) (limit : ℕ) → v.held.config ≡ o → ((config : ConfigValue) → v.held.config ≡ Some config → HasAtMost limit R values config)
+    few-by : (o : Option ConfigValue) {R : K → K → Ordering} (ks : List K) (limit : ℕ) → v.held.config ≡ o
+        → ((config : ConfigValue) → v.held.config ≡ Some config → HasAtMost limit R values config)
         → IsStrictlySortedBy R ks → ((k : K) → IsIn ks k → HasCommunity kind v node peer both p k) → length ks ≤ limit
     few-by None ks limit none most ascend each = none-there ks limit none each
     few-by (Some config) ks limit in_force most ascend each =
@@ -113,14 +118,17 @@ module _ (v : ViewValue) (node : List ℕ) (peer : CompiledPeer) (both : Bool) (
       let is = (routes-unite v node peer both).routes route there in
       let up = each-of Ascends (routes_of v node peer both) route routes-ascend there in
       record {
-        communities = few-by route.0 (λ t. t.communities) (λ a. a.communities) (λ a adv. refl) v.held.config route.1.communities 512 refl (λ config e. (limited config e).numbers) up.numbers (λ n among. (is.communities n).0 among);
-        large = few-by route.0 (λ t. t.large) (λ a. a.large) (λ a adv. refl) v.held.config route.1.large 128 refl (λ config e. (limited config e).large) up.large (λ c among. (is.large c).0 among);
+        communities = few-by route.0 (λ t. t.communities) (λ a. a.communities) (λ a adv. refl) v.held.config route.1.communities 512 refl
+            (λ config e. (limited config e).numbers) up.numbers (λ n among. (is.communities n).0 among);
+        large = few-by route.0 (λ t. t.large) (λ a. a.large) (λ a adv. refl) v.held.config route.1.large 128 refl (λ config e. (limited config e).large)
+            up.large (λ c among. (is.large c).0 among);
       }
 
   pub routes-few : All HasFew (routes_of v node peer both)
   routes-few = All-from_recursion HasFew (routes_of v node peer both) (all-from HasFew (routes_of v node peer both) route-few)
 
   -- what a call gives
-  pub answer-few : {E : Type 0} (r : Result (List (PrefixValue × Terms)) E) → IfOk r (λ table. table ≡ routes_of v node peer both) → IfOk r (λ table. All HasFew table)
+  pub answer-few : {E : Type 0} (r : Result (List (PrefixValue × Terms)) E) → IfOk r (λ table. table ≡ routes_of v node peer both)
+      → IfOk r (λ table. All HasFew table)
   answer-few (Ok table) is = subst (All HasFew) (sym is) routes-few
   answer-few (Err e) is = tt

@@ -22,11 +22,13 @@ module _ {K : Type 0} (limit : ℕ) (R : K → K → Ordering) (kind : Advertise
   nothing = record { ascend = tt; few = λ ks sorted all. none-many ks all }
 
   module _ (config : ConfigValue) (known : HasAtMost limit R (λ adv. kind (advertisement_of adv)) config) where
-    all-held : (bgp : List CompiledBgp) → AllByRecursion (λ adv. IsStrictlySortedBy R (kind (advertisement_of adv))) bgp → AllByRecursion (λ adv. IsStrictlySortedBy R (kind adv)) (map advertisement_of bgp)
+    all-held : (bgp : List CompiledBgp) → AllByRecursion (λ adv. IsStrictlySortedBy R (kind (advertisement_of adv))) bgp
+        → AllByRecursion (λ adv. IsStrictlySortedBy R (kind adv)) (map advertisement_of bgp)
     all-held [] all = tt
     all-held (adv ∷ bgp) all = (all.0, all-held bgp all.1)
 
-    held-back : (bgp : List CompiledBgp) (k : K) → Has (λ adv. IsIn (kind adv) k) (map advertisement_of bgp) → Has (λ (adv : CompiledBgp). IsIn (kind (advertisement_of adv)) k) bgp
+    held-back : (bgp : List CompiledBgp) (k : K) → Has (λ adv. IsIn (kind adv) k) (map advertisement_of bgp)
+        → Has (λ (adv : CompiledBgp). IsIn (kind (advertisement_of adv)) k) bgp
     held-back [] k none = absurd none
     held-back (adv ∷ bgp) k (inl here) = inl here
     held-back (adv ∷ bgp) k (inr later) = inr (held-back bgp k later)

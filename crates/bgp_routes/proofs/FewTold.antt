@@ -53,17 +53,21 @@ module _ (advertisements : List Advertisement) (few : AreFew advertisements) whe
     stated-at : (route : PrefixValue × Terms) → IsIn table route → stated route.0 None cs ≡ Some route.1
     stated-at route there = sym (all-after [] cs route.0 tt) ∙ at-route table route (distinct table (ascend-all [] cs tt)) there
 
-    number-of : (route : PrefixValue × Terms) → IsIn table route → (n : ℕ) → IsIn route.1.communities n → HasItem (λ (adv : Advertisement). IsIn adv.communities n) advertisements
+    number-of : (route : PrefixValue × Terms) → IsIn table route → (n : ℕ) → IsIn route.1.communities n
+        → HasItem (λ (adv : Advertisement). IsIn adv.communities n) advertisements
     number-of route there n among =
-        let told = tells-told (λ x. IsIn (communities x) n) (λ x y. split-numbers x y n) (λ x y. join-numbers x y n) route.0 cs route.1 (stated-at route there) among in
+        let told = tells-told (λ x. IsIn (communities x) n) (λ x y. split-numbers x y n) (λ x y. join-numbers x y n) route.0 cs route.1 (stated-at route there)
+        among in
         let one = each (route.0, told.terms) told.there in
         has-at (λ (adv : Advertisement). IsIn adv.communities n) advertisements one.adv one.there (subst (λ (ns : List ℕ). IsIn ns n) one.numbers told.tells)
 
-    large-of : (route : PrefixValue × Terms) → IsIn table route → (c : LargeCommunity) → IsIn route.1.large c → HasItem (λ (adv : Advertisement). IsIn adv.large c) advertisements
+    large-of : (route : PrefixValue × Terms) → IsIn table route → (c : LargeCommunity) → IsIn route.1.large c
+        → HasItem (λ (adv : Advertisement). IsIn adv.large c) advertisements
     large-of route there c among =
         let told = tells-told (λ x. IsIn (large x) c) (λ x y. split-large x y c) (λ x y. join-large x y c) route.0 cs route.1 (stated-at route there) among in
         let one = each (route.0, told.terms) told.there in
-        has-at (λ (adv : Advertisement). IsIn adv.large c) advertisements one.adv one.there (subst (λ (cs : List LargeCommunity). IsIn cs c) one.large told.tells)
+        has-at (λ (adv : Advertisement). IsIn adv.large c) advertisements one.adv one.there
+        (subst (λ (cs : List LargeCommunity). IsIn cs c) one.large told.tells)
 
     route-few : (route : PrefixValue × Terms) → IsIn table route → HasFew route
     route-few route there =
@@ -78,7 +82,8 @@ module _ (advertisements : List Advertisement) (few : AreFew advertisements) whe
     all-few : All HasFew table
     all-few = All-from_recursion HasFew table (all-from HasFew table route-few)
 
-  of-one : (adv : Advertisement) (c d : PrefixValue × Terms) → c ≡ d → IsIn advertisements adv → d.1.communities ≡ adv.communities → d.1.large ≡ adv.large → IsOfOne c
+  of-one : (adv : Advertisement) (c d : PrefixValue × Terms) → c ≡ d → IsIn advertisements adv → d.1.communities ≡ adv.communities → d.1.large ≡ adv.large
+      → IsOfOne c
   of-one adv c d is there numbers larges = record {
     adv = adv;
     there = there;
@@ -86,13 +91,15 @@ module _ (advertisements : List Advertisement) (few : AreFew advertisements) whe
     large = ap (λ (x : PrefixValue × Terms). x.1.large) is ∙ larges;
   }
 
-  pub part-few : (entries : Entries) (peer : HeldPeer) (addresses : List AddressValue) → All HasFew (with_contributions [] (flat_map (of_address entries advertisements peer) addresses))
+  pub part-few : (entries : Entries) (peer : HeldPeer) (addresses : List AddressValue)
+      → All HasFew (with_contributions [] (flat_map (of_address entries advertisements peer) addresses))
   part-few entries peer addresses =
       all-few (flat_map (of_address entries advertisements peer) addresses) (λ c there.
       let s = (part-source entries advertisements peer addresses c there).0 in
       of-one s.adv c (route_for peer s.address s.adv) s.is (at-in advertisements s.adv s.place s.at) refl refl)
 
-  pub whole-few : (entries : Entries) (peer : HeldPeer) → All HasFew (with_contributions [] (flat_map (of_aggregate entries advertisements peer) (keys_of entries)))
+  pub whole-few : (entries : Entries) (peer : HeldPeer)
+      → All HasFew (with_contributions [] (flat_map (of_aggregate entries advertisements peer) (keys_of entries)))
   whole-few entries peer =
       all-few (flat_map (of_aggregate entries advertisements peer) (keys_of entries)) (λ c there.
       let s = whole-standing entries advertisements peer c there in

@@ -36,7 +36,8 @@ no-config v node none = λ i. record {
   peers = map (peer_by (node_labels v node) (bgp_in (sym none i))) (peers_in (sym none i));
 }
 
-nothing-contributes : (v : ViewValue) (node : List ℕ) (both : Bool) → v.held.config ≡ None → (g : Aggregate) (a : AddressValue) → false ≡ contributes v node both g a
+nothing-contributes : (v : ViewValue) (node : List ℕ) (both : Bool) → v.held.config ≡ None → (g : Aggregate) (a : AddressValue)
+    → false ≡ contributes v node both g a
 nothing-contributes v node both none g a =
     sym (ap (λ (config : Option ConfigValue). may_stand both (map advertisement_of (bgp_in config)) g a && is_set (choice_at v node a) g.advertisement) none
     ∙ ap (λ b. b && is_set (choice_at v node a) g.advertisement) (and-none (counts both a.family)))
@@ -47,7 +48,8 @@ cleared-none kept cleared v none = record {
   contributors = λ g a. ap (λ f. f g a) cleared.contributors ∙ nothing-contributes v kept.node kept.both none g a;
 }
 
-pub cleared-stand : (both : Bool) (advertisements : List Advertisement) (entries : Entries) → has entries ≡ (λ g a. false) → StandRight both advertisements entries
+pub cleared-stand : (both : Bool) (advertisements : List Advertisement) (entries : Entries) → has entries ≡ (λ g a. false)
+    → StandRight both advertisements entries
 cleared-stand both advertisements entries none g a stands = absurd (false≢true (sym (ap (λ f. f g a) none) ∙ stands))
 
 -- ---- all was made anew
@@ -72,10 +74,12 @@ module _ (v : ViewValue) (addresses : List AddressValue) (kept : KeptValue) (but
       let may = (and_parts (may_stand kept.both (held_for u kept.node).advertisements g a) (is_set (choice_at u kept.node a) g.advertisement) by).0 in
       subst (λ (h : HeldValue). may_stand kept.both h.advertisements g a ≡ true) (sym but.1.held) may
 
-  pub renewed : (new : Entries) → AreTouched v kept.node kept.both addresses kept.contributors new → AreKeptFor v (record { node = kept.node; both = kept.both; held = kept.held; contributors = new })
+  pub renewed : (new : Entries) → AreTouched v kept.node kept.both addresses kept.contributors new
+      → AreKeptFor v (record { node = kept.node; both = kept.both; held = kept.held; contributors = new })
   renewed new touched = record {
     held = held-but;
-    contributors = touched-all v kept.node kept.both addresses kept.contributors new (λ g a other. but.1.contributors g a ∙ same-elsewhere u v kept.node kept.both addresses but.2 g a other) touched;
+    contributors = touched-all v kept.node kept.both addresses kept.contributors new
+        (λ g a other. but.1.contributors g a ∙ same-elsewhere u v kept.node kept.both addresses but.2 g a other) touched;
   }
 
 -- ---- what is told
@@ -120,7 +124,8 @@ module _ (v : ViewValue) (kept : KeptValue) (right : AreKeptFor v kept) (peer : 
   none-by None e = refl
   none-by (Some p) e = absurd (let wrong : Some (made p) ≡ None = e in cc)
 
-  some-by : (o : Option CompiledPeer) (held : HeldPeer) → option_map made o ≡ Some held → (p : CompiledPeer) × (made p ≡ held) × (option_map routes o ≡ Some (routes p))
+  some-by : (o : Option CompiledPeer) (held : HeldPeer) → option_map made o ≡ Some held
+      → (p : CompiledPeer) × (made p ≡ held) × (option_map routes o ≡ Some (routes p))
   some-by None held e = absurd (let wrong : None ≡ Some held = e in cc)
   some-by (Some p) held e = (p, (let own : Some (made p) ≡ Some held = e in cc), refl)
 
@@ -135,13 +140,15 @@ module _ (v : ViewValue) (kept : KeptValue) (right : AreKeptFor v kept) (peer : 
     few-held : AreFew (map advertisement_of (bgp_of v))
     few-held = subst (λ (h : HeldValue). AreFew h.advertisements) right.held few
 
-    pub whole-told : Some (with_contributions [] (flat_map (of_aggregate kept.contributors kept.held.advertisements held) (keys_of kept.contributors))) ≡ table_found peer (tables_of v node both)
+    pub whole-told : Some (with_contributions [] (flat_map (of_aggregate kept.contributors kept.held.advertisements held) (keys_of kept.contributors)))
+        ≡ table_found peer (tables_of v node both)
     whole-told =
         (λ i. Some (with_contributions [] (flat_map (of_aggregate kept.contributors (right.held i).advertisements (sym one.1 i)) (keys_of kept.contributors))))
         ∙ ap Some (whole-is v node one.0 both kept.contributors right.contributors few-held)
         ∙ sym (found-table ∙ one.2)
 
-    pub part-told : (addresses : List AddressValue) → Some (with_contributions [] (flat_map (of_address kept.contributors kept.held.advertisements held) addresses))
+    pub part-told : (addresses : List AddressValue)
+        → Some (with_contributions [] (flat_map (of_address kept.contributors kept.held.advertisements held) addresses))
         ≡ option_map (part_of v addresses) (table_found peer (tables_of v node both))
     part-told addresses =
         (λ i. Some (with_contributions [] (flat_map (of_address kept.contributors (right.held i).advertisements (sym one.1 i)) addresses)))

@@ -89,7 +89,8 @@ module _ (v : ViewValue) (node : List ℕ) (peer : CompiledPeer) (both : Bool) w
 
   abbrev Advertises : CompiledPool → CompiledBgp → Type 0
   Advertises pool adv =
-      (Chooses adv.pools adv.pool_selectors pool.name pool.labels × Selects adv.node_selectors (node_labels v node)) × ((adv.peers ≡ []) ⊎ IsIn adv.peers peer.name)
+      (Chooses adv.pools adv.pool_selectors pool.name pool.labels × Selects adv.node_selectors (node_labels v node))
+      × ((adv.peers ≡ []) ⊎ IsIn adv.peers peer.name)
 
   advertises-Decides : (pool : CompiledPool) (adv : CompiledBgp) → Decides (advertises v node peer pool adv) (Advertises pool adv)
   advertises-Decides pool adv =
@@ -105,15 +106,18 @@ module _ (v : ViewValue) (node : List ℕ) (peer : CompiledPeer) (both : Bool) w
     pub passes : Advertises pool adv
     pub is : c ≡ contribution peer address adv
 
-  pool-passing : (address : AddressValue) (pool : CompiledPool) (bgp : List CompiledBgp) (c : PrefixValue × Terms) → IsIn (of_pool v node peer address pool bgp) c → Passing address pool bgp c
+  pool-passing : (address : AddressValue) (pool : CompiledPool) (bgp : List CompiledBgp) (c : PrefixValue × Terms)
+      → IsIn (of_pool v node peer address pool bgp) c → Passing address pool bgp c
   pool-passing address pool [] c none = absurd none
   pool-passing address pool (adv ∷ more) c there =
       elim (kept (advertises v node peer pool adv) (contribution peer address adv) (of_pool v node peer address pool more) c there) [
         | inl own ↦ record { adv = adv; there = inl refl; passes = (advertises-Decides pool adv).0 own.0; is = sym own.1 }
-        | inr later ↦ (let rest = pool-passing address pool more c later in record { adv = rest.adv; there = inr rest.there; passes = rest.passes; is = rest.is })
+        | inr later ↦
+            (let rest = pool-passing address pool more c later in record { adv = rest.adv; there = inr rest.there; passes = rest.passes; is = rest.is })
       ]
 
-  passing-pool : (address : AddressValue) (pool : CompiledPool) (bgp : List CompiledBgp) (adv : CompiledBgp) → IsIn bgp adv → Advertises pool adv → IsIn (of_pool v node peer address pool bgp) (contribution peer address adv)
+  passing-pool : (address : AddressValue) (pool : CompiledPool) (bgp : List CompiledBgp) (adv : CompiledBgp) → IsIn bgp adv → Advertises pool adv
+      → IsIn (of_pool v node peer address pool bgp) (contribution peer address adv)
   passing-pool address pool [] adv none passes = absurd none
   passing-pool address pool (first ∷ more) adv (inl is) passes =
       keep (advertises v node peer pool first) (contribution peer address first) (of_pool v node peer address pool more) (contribution peer address adv)
@@ -128,15 +132,29 @@ module _ (v : ViewValue) (node : List ℕ) (peer : CompiledPeer) (both : Bool) w
     pub pool_is : pools ≡ Some pool
     pub passing : Passing address pool bgp c
 
-  found-passing : (address : AddressValue) (pools : Option CompiledPool) (bgp : List CompiledBgp) (c : PrefixValue × Terms) → IsIn (of_found v node peer address pools bgp) c → Found address pools bgp c
+  found-passing : (address : AddressValue) (pools : Option CompiledPool) (bgp : List CompiledBgp) (c : PrefixValue × Terms)
+      → IsIn (of_found v node peer address pools bgp) c → Found address pools bgp c
   found-passing address None bgp c none = absurd none
   found-passing address (Some pool) bgp c there = record { pool = pool; pool_is = refl; passing = pool-passing address pool bgp c there }
 
-  advertised : (config : ConfigValue) (address : AddressValue) (c : PrefixValue × Terms) → v.held.config ≡ Some config → Found address (pool_with config.pools address) config.bgp c
+  advertised : (config : ConfigValue) (address : AddressValue) (c : PrefixValue × Terms) → v.held.config ≡ Some config
+      → Found address (pool_with config.pools address) config.bgp c
       → (adv : CompiledBgp) × IsAdvertisedBy v node peer address adv × (c ≡ contribution peer address adv)
   advertised config address c in_force found =
-      let by = found.passing in
-      (by.adv, record { config = config; in_force = in_force; there = by.there; pool = found.pool; pool_is = found.pool_is; chosen = by.passes.0.0; selected = by.passes.0.1; named = by.passes.1 }, by.is)
+      let by = found.passing in (
+        by.adv,
+        record {
+          config = config;
+          in_force = in_force;
+          there = by.there;
+          pool = found.pool;
+          pool_is = found.pool_is;
+          chosen = by.passes.0.0;
+          selected = by.passes.0.1;
+          named = by.passes.1;
+        },
+        by.is,
+      )
 
   listed-config : (config : ConfigValue) (c : PrefixValue × Terms) → v.held.config ≡ Some config → Selects peer.node_selectors (node_labels v node)
       → IsIn (flat_map (of_service v node peer both config) (objects_of v.held.services)) c → IsContribution v node peer both c
@@ -151,7 +169,13 @@ module _ (v : ViewValue) (node : List ℕ) (peer : CompiledPeer) (both : Bool) w
       record {
         peer_selects = peer_selects;
         address = address;
-        announced = record { counts = (counts-Decides both address.family).0 counted.0; service = service; held = of.there; recorded = at.there; announces = (can_announce-Decides v service node).0 on.0 };
+        announced = record {
+          counts = (counts-Decides both address.family).0 counted.0;
+          service = service;
+          held = of.there;
+          recorded = at.there;
+          announces = (can_announce-Decides v service node).0 on.0;
+        };
         advertisement = by.0;
         advertised = by.1;
         is = by.2;

@@ -1,5 +1,6 @@
 -- Where the halves of peers by ascending name meet, there a peer stands, if it is among them.
-use Rattle.std.proofs.Common.{◌≡◌, ℕ, zero, suc, ◌<◌, Bool, true, false, cond, ◌&&◌, ◌==◌, List, [], ◌∷◌, map, find, length, get_or, Option, Some, None, Ordering, Less, Equal, Greater, refl, sym, ap, subst, ◌∙◌, arith}
+use Rattle.std.proofs.Common.{◌≡◌, ℕ, zero, suc, ◌<◌, Bool, true, false, cond, ◌&&◌, ◌==◌, List, [], ◌∷◌, map, find, length}
+use Rattle.std.proofs.Common.{get_or, Option, Some, None, Ordering, Less, Equal, Greater, refl, sym, ap, subst, ◌∙◌, arith}
 use Rattle.std.proofs.lemmas.Bool.{and_parts, true≢false}
 use Rattle.std.proofs.lemmas.Slice.Eq.{bytes_eq-Decides}
 use Rattle.std.specs.Cmp.{tied_itself}
@@ -33,11 +34,13 @@ ascending [] ascend = tt
 ascending (held ∷ peers) ascend = (ascend.0, ascending peers ascend.1)
 
 -- what is held has the names of the peers that it is held of
-same-names : (labels : List (List ℕ × List ℕ)) (bgp : List CompiledBgp) (peers : List CompiledPeer) → map (λ (held : HeldPeer). held.name) (map (peer_by labels bgp) peers) ≡ map (λ (peer : CompiledPeer). peer.name) peers
+same-names : (labels : List (List ℕ × List ℕ)) (bgp : List CompiledBgp) (peers : List CompiledPeer)
+    → map (λ (held : HeldPeer). held.name) (map (peer_by labels bgp) peers) ≡ map (λ (peer : CompiledPeer). peer.name) peers
 same-names labels bgp [] = refl
 same-names labels bgp (peer ∷ peers) = ap (λ ns. peer.name ∷ ns) (same-names labels bgp peers)
 
-pub names-held : (labels : List (List ℕ × List ℕ)) (bgp : List CompiledBgp) (v : ViewValue) → Ascend (map (λ (peer : CompiledPeer). peer.name) (peers_of v)) → Ascend (names (map (peer_by labels bgp) (peers_of v)))
+pub names-held : (labels : List (List ℕ × List ℕ)) (bgp : List CompiledBgp) (v : ViewValue) → Ascend (map (λ (peer : CompiledPeer). peer.name) (peers_of v))
+    → Ascend (names (map (peer_by labels bgp) (peers_of v)))
 names-held labels bgp v ascend = subst Ascend (sym (same-names labels bgp (peers_of v))) ascend
 
 -- ---- halves
@@ -53,7 +56,8 @@ module _ (peer : CompiledPeer) where
   before-before : (g h : HeldPeer) → name_cmp g.name h.name ≡ Less → is_before peer h ≡ true → is_before peer g ≡ true
   before-before g h first e = ap is_lt (name_cmp-total.trans g.name h.name peer.name first (less-is (name_cmp h.name peer.name) e))
 
-  less-at : (name : List ℕ) (peers : List HeldPeer) (at : ℕ) (d : HeldPeer) → AllByRecursion (λ n. name_cmp name n ≡ Less) (names peers) → at < length peers → name_cmp name (get_or peers at d).name ≡ Less
+  less-at : (name : List ℕ) (peers : List HeldPeer) (at : ℕ) (d : HeldPeer) → AllByRecursion (λ n. name_cmp name n ≡ Less) (names peers) → at < length peers
+      → name_cmp name (get_or peers at d).name ≡ Less
   less-at name [] at d all lt = absurd (omega arith)
   less-at name (held ∷ peers) zero d all lt = all.0
   less-at name (held ∷ peers) (suc at) d all lt = less-at name peers at d all.1 (omega arith)
@@ -81,7 +85,8 @@ module _ (peer : CompiledPeer) where
       let same : name_cmp held.name peer.name ≡ Equal = ap (λ n. name_cmp n peer.name) (own-name held own) ∙ tied_itself name_cmp-total peer.name in
       true≢false (sym before ∙ ap is_lt same))
 
-  none-behind : (head : HeldPeer) (peers : List HeldPeer) → is_before peer head ≡ false → AllByRecursion (λ n. name_cmp head.name n ≡ Less) (names peers) → find (is_held_of peer) peers ≡ None
+  none-behind : (head : HeldPeer) (peers : List HeldPeer) → is_before peer head ≡ false → AllByRecursion (λ n. name_cmp head.name n ≡ Less) (names peers)
+      → find (is_held_of peer) peers ≡ None
   none-behind head [] late all = refl
   none-behind head (held ∷ peers) late all =
       let other : is_held_of peer held ≡ false =
@@ -104,11 +109,13 @@ module _ (peer : CompiledPeer) where
       rw (before-other held (meet.0 zero held (omega arith) (omega arith))) (found-at peers at ascend.1 (tail held peers at meet))
 
   -- Where they meet, the peer stands, if it is among them.
-  pub found-there : (peers : List HeldPeer) (at : ℕ) (there : HeldPeer) (own : Bool) → Ascend (names peers) → AreHalves peers at → slice_get peers at ≡ Some there → is_held_of peer there ≡ own
+  pub found-there : (peers : List HeldPeer) (at : ℕ) (there : HeldPeer) (own : Bool) → Ascend (names peers) → AreHalves peers at
+      → slice_get peers at ≡ Some there → is_held_of peer there ≡ own
       → find (is_held_of peer) peers ≡ cond own (Some there) None
   found-there peers at there own ascend meet is same =
       found-at peers at (ascending peers ascend) meet ∙ ap (option_and_then held_at) is ∙ ap (λ b. cond b (Some there) None) same
 
   -- Where they meet at the end, it isn't.
-  pub found-past : (peers : List HeldPeer) (at : ℕ) → Ascend (names peers) → AreHalves peers at → slice_get peers at ≡ None → find (is_held_of peer) peers ≡ None
+  pub found-past : (peers : List HeldPeer) (at : ℕ) → Ascend (names peers) → AreHalves peers at → slice_get peers at ≡ None
+      → find (is_held_of peer) peers ≡ None
   found-past peers at ascend meet past = found-at peers at (ascending peers ascend) meet ∙ ap (option_and_then held_at) past

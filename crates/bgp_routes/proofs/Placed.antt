@@ -1,5 +1,6 @@
 -- A contribution finds its place.
-use Rattle.std.proofs.Common.{◌≡◌, ℕ, Bool, true, false, cond, ◌&&◌, ◌==◌, List, [], ◌∷◌, Option, Some, None, Ordering, Less, Equal, Greater, is_eq, refl, sym, ap, ◌∙◌, subst, arith}
+use Rattle.std.proofs.Common.{◌≡◌, ℕ, Bool, true, false, cond, ◌&&◌, ◌==◌, List, [], ◌∷◌, Option, Some}
+use Rattle.std.proofs.Common.{None, Ordering, Less, Equal, Greater, is_eq, refl, sym, ap, ◌∙◌, subst, arith}
 use Rattle.std.proofs.lemmas.Bool.Decides.{nat_tests}
 use Rattle.std.proofs.lemmas.Map.{lookup-none}
 use Rattle.std.proofs.lemmas.Map.Entries.{none_below_head}
@@ -78,7 +79,8 @@ before-by-place : (p q : PrefixValue) → before p q ≡ is_less (place_cmp (pla
 before-by-place p q = families-before p.family q.family p.number q.number p.length q.length
 
 -- ---- the route that stands at the place
-found-by : (r : Ordering) (e : PrefixKey × (PrefixValue × Terms)) (rest : Option (PrefixValue × Terms)) (place : PrefixKey) (route : PrefixValue × Terms) → place_cmp place e.0 ≡ r → e.0 ≡ place_of e.1.0
+found-by : (r : Ordering) (e : PrefixKey × (PrefixValue × Terms)) (rest : Option (PrefixValue × Terms)) (place : PrefixKey) (route : PrefixValue × Terms)
+    → place_cmp place e.0 ≡ r → e.0 ≡ place_of e.1.0
     → (rest ≡ Some route → place_of route.0 ≡ place) → cond (is_eq r) (Some e.1) rest ≡ Some route → place_of route.0 ≡ place
 found-by Less e rest place route is own later found = later found
 found-by Equal e rest place route is own later found =
@@ -86,12 +88,14 @@ found-by Equal e rest place route is own later found =
     ap (λ (r : PrefixValue × Terms). place_of r.0) (sym first) ∙ sym own ∙ sym (place_cmp-exact place e.0 is)
 found-by Greater e rest place route is own later found = later found
 
-found-place : (entries : Entries) (place : PrefixKey) (route : PrefixValue × Terms) → ArePlaced entries → lookup (is_at (place_cmp place)) entries ≡ Some route → place_of route.0 ≡ place
+found-place : (entries : Entries) (place : PrefixKey) (route : PrefixValue × Terms) → ArePlaced entries → lookup (is_at (place_cmp place)) entries ≡ Some route
+    → place_of route.0 ≡ place
 found-place [] place route placed found = absurd (cc)
 found-place (e ∷ entries) place route placed found =
     found-by (place_cmp place e.0) e (lookup (is_at (place_cmp place)) entries) place route refl placed.0 (found-place entries place route placed.1) found
 
-united-place : (found : Option (PrefixValue × Terms)) (c : PrefixValue × Terms) → ((route : PrefixValue × Terms) → found ≡ Some route → place_of route.0 ≡ place_of c.0)
+united-place : (found : Option (PrefixValue × Terms)) (c : PrefixValue × Terms)
+    → ((route : PrefixValue × Terms) → found ≡ Some route → place_of route.0 ≡ place_of c.0)
     → place_of (united_with found c).0 ≡ place_of c.0
 united-place None c same = refl
 united-place (Some route) c same = same route refl
@@ -104,18 +108,23 @@ placed-by Less e entries more place route is own placed ih = (own, placed)
 placed-by Equal e entries more place route is own placed ih = (sym (place_cmp-exact place e.0 is) ∙ own, placed.1)
 placed-by Greater e entries more place route is own placed ih = (placed.0, ih)
 
-stay-placed : (entries : Entries) (place : PrefixKey) (route : PrefixValue × Terms) → place ≡ place_of route.0 → ArePlaced entries → ArePlaced (insert_entry place_cmp entries place route)
+stay-placed : (entries : Entries) (place : PrefixKey) (route : PrefixValue × Terms) → place ≡ place_of route.0 → ArePlaced entries
+    → ArePlaced (insert_entry place_cmp entries place route)
 stay-placed [] place route own placed = (own, tt)
 stay-placed (e ∷ entries) place route own placed =
-    placed-by (place_cmp place e.0) e entries (insert_entry place_cmp entries place route) place route refl own placed (stay-placed entries place route own placed.1)
+    placed-by (place_cmp place e.0) e entries (insert_entry place_cmp entries place route) place route refl own placed
+    (stay-placed entries place route own placed.1)
 
-values-by : (r : Ordering) (e : PrefixKey × (PrefixValue × Terms)) (entries more : Entries) (place : PrefixKey) (c : PrefixValue × Terms) (found : Option (PrefixValue × Terms))
+values-by : (r : Ordering) (e : PrefixKey × (PrefixValue × Terms)) (entries more : Entries) (place : PrefixKey) (c : PrefixValue × Terms)
+    (found : Option (PrefixValue × Terms))
     → same_prefix c.0 e.1.0 ≡ is_eq r → before c.0 e.1.0 ≡ is_less r
     → (r ≡ Less → found ≡ None) → (r ≡ Equal → found ≡ Some e.1) → (r ≡ Greater → values_of more ≡ with_contribution (values_of entries) c)
-    → values_of (match_ordering r ((place, united_with found c) ∷ e ∷ entries) ((e.0, united_with found c) ∷ entries) (e ∷ more)) ≡ with_contribution (values_of (e ∷ entries)) c
+    → values_of (match_ordering r ((place, united_with found c) ∷ e ∷ entries) ((e.0, united_with found c) ∷ entries) (e ∷ more))
+    ≡ with_contribution (values_of (e ∷ entries)) c
 values-by Less e entries more place c found same first none here rest = rw (same, first, none refl) refl
 values-by Equal e entries more place c found same first none here rest = rw (same, here refl) refl
-values-by Greater e entries more place c found same first none here rest = rw (same, first) (ap (λ (routes : List (PrefixValue × Terms)). e.1 ∷ routes) (rest refl))
+values-by Greater e entries more place c found same first none here rest =
+    rw (same, first) (ap (λ (routes : List (PrefixValue × Terms)). e.1 ∷ routes) (rest refl))
 
 -- a look-up passes over an entry before the place
 passes : {X : Type 0} (r : Ordering) (v : X) (rest : Option X) → r ≡ Greater → cond (is_eq r) (Some v) rest ≡ rest
@@ -129,7 +138,8 @@ finds Equal v rest e = refl
 finds Greater v rest e = absurd (cc)
 
 values-with : (entries : Entries) (c : PrefixValue × Terms) → ArePlaced entries → IsStrictlySortedBy place_cmp (keys_of entries)
-    → values_of (insert_entry place_cmp entries (place_of c.0) (united_with (lookup (is_at (place_cmp (place_of c.0))) entries) c)) ≡ with_contribution (values_of entries) c
+    → values_of (insert_entry place_cmp entries (place_of c.0) (united_with (lookup (is_at (place_cmp (place_of c.0))) entries) c))
+    ≡ with_contribution (values_of entries) c
 unfolding IsStrictlySortedBy
 values-with [] c placed sorted = refl
 values-with (e ∷ entries) c placed sorted =
@@ -142,7 +152,8 @@ values-with (e ∷ entries) c placed sorted =
     (before-by-place c.0 e.1.0 ∙ ap is_less at)
     (λ less. lookup-none (is_at (place_cmp place)) (e ∷ entries) (none_below_head place_cmp-total place e entries sorted less))
     (λ equal. finds (place_cmp place e.0) e.1 rest equal)
-    (λ greater. ap (λ (f : Option (PrefixValue × Terms)). values_of (insert_entry place_cmp entries place (united_with f c))) (passes (place_cmp place e.0) e.1 rest greater)
+    (λ greater. ap (λ (f : Option (PrefixValue × Terms)). values_of (insert_entry place_cmp entries place (united_with f c)))
+    (passes (place_cmp place e.0) e.1 rest greater)
     ∙ values-with entries c placed.1 sorted.1)
 
 -- The route that is made of the contribution is put at its place, by an order of places.
@@ -152,7 +163,8 @@ pub record Puts (R : PrefixKey → PrefixKey → Ordering) (entries after : Entr
   pub is_made : made ≡ united_with (lookup (is_at (R place)) entries) c
   pub is_after : after ≡ insert_entry R entries place made
 
-module _ (entries after : Entries) (c made : PrefixValue × Terms) (place : PrefixKey) (is : IsPrefix c.0) (placed : ArePlaced entries × IsTable (values_of entries))
+module _ (entries after : Entries) (c made : PrefixValue × Terms) (place : PrefixKey) (is : IsPrefix c.0)
+    (placed : ArePlaced entries × IsTable (values_of entries))
     (put : Puts derived.cmp-value.it entries after c made place) where
   puts : Puts place_cmp entries after c made place
   puts = subst (λ (R : PrefixKey → PrefixKey → Ordering). Puts R entries after c made place) place_cmp-is put

@@ -20,7 +20,8 @@ pub all-keys : (P : PrefixValue → Type 0) (routes : List (PrefixValue × Terms
     → AllByRecursion P (keys_of (with_contribution routes c))
 all-keys P [] c all is = (is, tt)
 all-keys P (route ∷ routes) c all is =
-    elim (same_prefix c.0 route.0) as (λ u. AllByRecursion P (keys_of (cond u ((route.0, united_terms route.1 c.1) ∷ routes) (cond (before c.0 route.0) (c ∷ route ∷ routes) (route ∷ with_contribution routes c))))) [
+    elim (same_prefix c.0 route.0) as (λ u. AllByRecursion P (keys_of
+    (cond u ((route.0, united_terms route.1 c.1) ∷ routes) (cond (before c.0 route.0) (c ∷ route ∷ routes) (route ∷ with_contribution routes c))))) [
       | true ↦ all
       | false ↦ elim (before c.0 route.0) as (λ v. AllByRecursion P (keys_of (cond v (c ∷ route ∷ routes) (route ∷ with_contribution routes c)))) [
         | true ↦ (is, all)
@@ -31,12 +32,14 @@ all-keys P (route ∷ routes) c all is =
 and_true : (a b : Bool) → a ≡ true → b ≡ true → (a && b) ≡ true
 and_true a b x y = rw (x, y) refl
 
-before-all : (p : PrefixValue) (routes : List (PrefixValue × Terms)) (c : PrefixValue × Terms) → list_all (before p) (keys_of routes) ≡ true → before p c.0 ≡ true
+before-all : (p : PrefixValue) (routes : List (PrefixValue × Terms)) (c : PrefixValue × Terms) → list_all (before p) (keys_of routes) ≡ true
+    → before p c.0 ≡ true
     → list_all (before p) (keys_of (with_contribution routes c)) ≡ true
 before-all p [] c all is = and_true (before p c.0) true is refl
 before-all p (route ∷ routes) c all is =
     let parts = both_true (before p route.0) (list_all (before p) (keys_of routes)) all in
-    elim (same_prefix c.0 route.0) as (λ u. list_all (before p) (keys_of (cond u ((route.0, united_terms route.1 c.1) ∷ routes) (cond (before c.0 route.0) (c ∷ route ∷ routes) (route ∷ with_contribution routes c)))) ≡ true) [
+    elim (same_prefix c.0 route.0) as (λ u. list_all (before p) (keys_of
+    (cond u ((route.0, united_terms route.1 c.1) ∷ routes) (cond (before c.0 route.0) (c ∷ route ∷ routes) (route ∷ with_contribution routes c)))) ≡ true) [
       | true ↦ all
       | false ↦ elim (before c.0 route.0) as (λ v. list_all (before p) (keys_of (cond v (c ∷ route ∷ routes) (route ∷ with_contribution routes c))) ≡ true) [
         | true ↦ and_true (before p c.0) (list_all (before p) (keys_of (route ∷ routes))) is all
@@ -44,7 +47,8 @@ before-all p (route ∷ routes) c all is =
       ]
     ]
 
-pub before-rest : (p q : PrefixValue) (prefixes : List PrefixValue) → before p q ≡ true → list_all (before q) prefixes ≡ true → list_all (before p) prefixes ≡ true
+pub before-rest : (p q : PrefixValue) (prefixes : List PrefixValue) → before p q ≡ true → list_all (before q) prefixes ≡ true
+    → list_all (before p) prefixes ≡ true
 before-rest p q [] first all = refl
 before-rest p q (r ∷ prefixes) first all =
     let parts = both_true (before q r) (list_all (before q) prefixes) all in
@@ -53,7 +57,8 @@ before-rest p q (r ∷ prefixes) first all =
 numbers-other : (a b l m : ℕ) → ((a == b) && (l == m)) ≡ false → numbers_before a b l m ≡ false → numbers_before b a m l ≡ true
 numbers-other a b l m other late = grind (arith, nat_tests)
 
-other-by : (f g : Family) (a b l m : ℕ) → ((same_family f g && (a == b)) && (l == m)) ≡ false → families_before f g (numbers_before a b l m) ≡ false → families_before g f (numbers_before b a m l) ≡ true
+other-by : (f g : Family) (a b l m : ℕ) → ((same_family f g && (a == b)) && (l == m)) ≡ false → families_before f g (numbers_before a b l m) ≡ false
+    → families_before g f (numbers_before b a m l) ≡ true
 other-by V4 V4 a b l m other late = numbers-other a b l m other late
 other-by V4 V6 a b l m other late = absurd (true≢false late)
 other-by V6 V4 a b l m other late = refl
@@ -69,7 +74,8 @@ ascend-with (route ∷ routes) c ascend =
     by_bool (Ascend (keys_of (with_contribution (route ∷ routes) c))) (same_prefix c.0 route.0)
     (λ own. rw own ascend)
     (λ other. by_bool (Ascend (keys_of (with_contribution (route ∷ routes) c))) (before c.0 route.0)
-    (λ first. rw (other, first) (and_true (before c.0 route.0) (list_all (before c.0) (keys_of routes)) first (before-rest c.0 route.0 (keys_of routes) first ascend.0), ascend))
+    (λ first. rw (other, first)
+    (and_true (before c.0 route.0) (list_all (before c.0) (keys_of routes)) first (before-rest c.0 route.0 (keys_of routes) first ascend.0), ascend))
     (λ late. rw (other, late) (before-all route.0 routes c ascend.0 (other-way c.0 route.0 other late), ascend-with routes c ascend.1)))
 
 pub stays : (routes : List (PrefixValue × Terms)) (c : PrefixValue × Terms) → IsTable routes → IsPrefix c.0 → IsTable (with_contribution routes c)
@@ -81,6 +87,7 @@ pub with-append : (routes a b : List (PrefixValue × Terms)) → with_contributi
 with-append routes [] b = refl
 with-append routes (c ∷ a) b = with-append (with_contribution routes c) a b
 
-pub with_each_flat : {A : Type 0} (f : A → List (PrefixValue × Terms)) (routes : List (PrefixValue × Terms)) (xs : List A) → with_each f routes xs ≡ with_contributions routes (flat_map f xs)
+pub with_each_flat : {A : Type 0} (f : A → List (PrefixValue × Terms)) (routes : List (PrefixValue × Terms)) (xs : List A)
+    → with_each f routes xs ≡ with_contributions routes (flat_map f xs)
 with_each_flat f routes [] = refl
 with_each_flat f routes (x ∷ more) = with_each_flat f (with_contributions routes (f x)) more ∙ sym (with-append routes (f x) (flat_map f more))

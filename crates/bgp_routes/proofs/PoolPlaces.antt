@@ -9,7 +9,8 @@ use Rattle.pool_config.specs.PoolOf.{pool_of, pool_with}
 use Rattle.pool_config.proofs.OnePool.{with_at, with_none}
 use Rattle.bgp_routes.specs.Held.{pool_at}
 
-pub found-pool : (pools : List CompiledPool) → AreApart (placed_spans pools) → (a : AddressValue) (found : Option ℕ) → found ≡ pool_of pools a → pool_at pools found ≡ pool_with pools a
+pub found-pool : (pools : List CompiledPool) → AreApart (placed_spans pools) → (a : AddressValue) (found : Option ℕ) → found ≡ pool_of pools a
+    → pool_at pools found ≡ pool_with pools a
 found-pool pools apart a None is = with_none pools apart a (sym is)
 found-pool pools apart a (Some place) is = with_at pools apart a place (sym is)
 

@@ -1,5 +1,6 @@
 -- What stands after an address, or some, were touched.
-use Rattle.std.proofs.Common.{◌≡◌, ℕ, ◌<◌, ◌+◌, ◌==◌, nat_lt, Bool, true, false, cond, ◌&&◌, ◌||◌, List, [], map, Option, Some, None, take, length, get_or, Contains, refl, sym, ap, subst, ◌∙◌, arith}
+use Rattle.std.proofs.Common.{◌≡◌, ℕ, ◌<◌, ◌+◌, ◌==◌, nat_lt, Bool, true, false, cond, ◌&&◌, ◌||◌, List, [], map}
+use Rattle.std.proofs.Common.{Option, Some, None, take, length, get_or, Contains, refl, sym, ap, subst, ◌∙◌, arith}
 use Rattle.std.proofs.lemmas.Bool.{and_from, and_parts, false≢true}
 use Rattle.std.proofs.lemmas.Bool.Decides.{nat_tests, same_from_decides}
 use Rattle.std.proofs.lemmas.List.Folds.{list_any_more}
@@ -17,7 +18,8 @@ use Rattle.speaker_view.proofs.Indexed.{has-recorded_addresses}
 use Rattle.bgp_updates.proofs.ReceivedLaws.{by_bool, not_true}
 use Rattle.bgp_routes.specs.declared.contributors.Aggregate.{Aggregate}
 use Rattle.bgp_routes.specs.declared.held.Advertisement.{Advertisement}
-use Rattle.bgp_routes.specs.Contributors.{AreTouched, Entries, IsPutAt, IsPutByAll, IsTouched, StandRight, aggregate_cmp, aggregate_of, contributes, has, is_own, may_stand}
+use Rattle.bgp_routes.specs.Contributors.{AreTouched, Entries, IsPutAt, IsPutByAll, IsTouched, StandRight}
+use Rattle.bgp_routes.specs.Contributors.{aggregate_cmp, aggregate_of, contributes, has, is_own, may_stand}
 use Rattle.bgp_routes.specs.Differ.{DiffersAt}
 use Rattle.bgp_routes.specs.Held.{advertisement_of, choice_at, choice_by, choice_of, held_for, is_set, peer_by, pools_in, pools_of, prefix_of}
 use Rattle.bgp_routes.specs.Parts.{bgp_in, bgp_of}
@@ -48,7 +50,8 @@ module _ (advertisements : List Advertisement) (flags : List Bool) (a : AddressV
   no-part false m l x y e = refl
 
   pub put-none : (entries : Entries) → IsPutUpTo 0 entries entries
-  put-none entries g b = sym (no-part (same_address a b) (own_at g b) (nat_lt g.advertisement 0) (is_set flags g.advertisement) (has entries g b) (none-below g.advertisement))
+  put-none entries g b =
+      sym (no-part (same_address a b) (own_at g b) (nat_lt g.advertisement 0) (is_set flags g.advertisement) (has entries g b) (none-below g.advertisement))
 
   one-more : (m n : ℕ) → nat_lt m (n + 1) ≡ (nat_lt m n || (m == n))
   one-more m n = grind (arith, nat_tests)
@@ -76,7 +79,8 @@ module _ (advertisements : List Advertisement) (flags : List Bool) (a : AddressV
     own-test g =
         same_from_decides {P = aggregate_of n adv a ≡ g} (is_at (aggregate_cmp (aggregate_of n adv a)) g) (own_at g a && (g.advertisement == n)) (
           at-same aggregate_cmp aggregate_cmp-exact (aggregate_of n adv a) g,
-          λ same. subst (λ (h : Aggregate). is_at (aggregate_cmp (aggregate_of n adv a)) h ≡ true) same (at-itself aggregate_cmp aggregate_cmp-total (aggregate_of n adv a)),
+          λ same. subst (λ (h : Aggregate). is_at (aggregate_cmp (aggregate_of n adv a)) h ≡ true) same
+              (at-itself aggregate_cmp aggregate_cmp-total (aggregate_of n adv a)),
         )
         (by-parts, λ same. subst (λ (h : Aggregate). (own_at h a && (h.advertisement == n)) ≡ true) same own-stands)
       where
@@ -117,10 +121,12 @@ module _ (advertisements : List Advertisement) (flags : List Bool) (a : AddressV
         ∙ ap (λ x. cond (is_at (aggregate_cmp (aggregate_of n adv a)) g && same_address a b) (is_set flags n) x) (so_far g b)
         ∙ (λ i. cond (is_at (aggregate_cmp (aggregate_of n adv a)) g && other i) (is_set flags n)
         (cond (other i && (own_at g b && nat_lt g.advertisement n)) (is_set flags g.advertisement) (has old g b)))
-        ∙ untouched (is_at (aggregate_cmp (aggregate_of n adv a)) g) (is_set flags n) (own_at g b && nat_lt g.advertisement n) (has old g b) (is_set flags g.advertisement)
+        ∙ untouched (is_at (aggregate_cmp (aggregate_of n adv a)) g) (is_set flags n) (own_at g b && nat_lt g.advertisement n) (has old g b)
+        (is_set flags g.advertisement)
         ∙ (λ i. cond (sym other i && (own_at g b && nat_lt g.advertisement (n + 1))) (is_set flags g.advertisement) (has old g b)))
 
-  below : (o : Option Advertisement) (g : Aggregate) (b : AddressValue) → slice_get advertisements g.advertisement ≡ o → is_own g b o ≡ true → g.advertisement < length advertisements
+  below : (o : Option Advertisement) (g : Aggregate) (b : AddressValue) → slice_get advertisements g.advertisement ≡ o → is_own g b o ≡ true
+      → g.advertisement < length advertisements
   below None g b at e = absurd (false≢true e)
   below (Some adv) g b at e = slice_get_within advertisements g.advertisement adv at
 
@@ -144,7 +150,8 @@ module _ (v : ViewValue) (node : List ℕ) (both : Bool) where
   advertisements = map advertisement_of (bgp_of v)
 
   -- what doesn't stand where it may doesn't stand
-  stands-not : (entries : Entries) → StandRight both advertisements entries → (g : Aggregate) (b : AddressValue) → may_stand both advertisements g b ≡ false → has entries g b ≡ false
+  stands-not : (entries : Entries) → StandRight both advertisements entries → (g : Aggregate) (b : AddressValue) → may_stand both advertisements g b ≡ false
+      → has entries g b ≡ false
   stands-not entries right g b none = not_true (has entries g b) (λ stands. false≢true (sym none ∙ right g b stands))
 
   by-choice : (m flag was : Bool) → (m ≡ false → was ≡ false) → cond m flag was ≡ (m && flag)
@@ -155,13 +162,15 @@ module _ (v : ViewValue) (node : List ℕ) (both : Bool) where
   abbrev own_by : Aggregate → AddressValue → Bool
   own_by g b = is_own g b (slice_get advertisements g.advertisement)
 
-  pub touched-counted : (a : AddressValue) (flags : List Bool) (old new : Entries) → counts both a.family ≡ true → flags ≡ choice_at v node a → StandRight both advertisements old
+  pub touched-counted : (a : AddressValue) (flags : List Bool) (old new : Entries) → counts both a.family ≡ true → flags ≡ choice_at v node a
+      → StandRight both advertisements old
       → IsPutByAll advertisements flags a old new → IsTouched v node both a old new
   touched-counted a flags old new counted chosen right put g b =
       by_bool (has new g b ≡ cond (same_address a b) (contributes v node both g b) (has old g b)) (same_address a b)
       (λ own.
       let same : a ≡ b = same_address-is a b own in
-      let flag : is_set flags g.advertisement ≡ is_set (choice_at v node b) g.advertisement = ap (λ fs. is_set fs g.advertisement) (chosen ∙ ap (choice_at v node) same) in
+      let flag : is_set flags g.advertisement ≡ is_set (choice_at v node b) g.advertisement =
+      ap (λ fs. is_set fs g.advertisement) (chosen ∙ ap (choice_at v node) same) in
       let counts_too : counts both b.family ≡ true = ap (λ (c : AddressValue). counts both c.family) (sym same) ∙ counted in
       put g b
       ∙ (λ i. cond (own i && own_by g b) (flag i) (has old g b))
@@ -173,7 +182,8 @@ module _ (v : ViewValue) (node : List ℕ) (both : Bool) where
       ∙ (λ i. cond (other i && own_by g b) (is_set flags g.advertisement) (has old g b))
       ∙ (λ i. cond (sym other i) (contributes v node both g b) (has old g b)))
 
-  pub touched-uncounted : (a : AddressValue) (entries : Entries) → counts both a.family ≡ false → StandRight both advertisements entries → IsTouched v node both a entries entries
+  pub touched-uncounted : (a : AddressValue) (entries : Entries) → counts both a.family ≡ false → StandRight both advertisements entries
+      → IsTouched v node both a entries entries
   touched-uncounted a entries uncounted right g b =
       by_bool (has entries g b ≡ cond (same_address a b) (contributes v node both g b) (has entries g b)) (same_address a b)
       (λ own.
@@ -185,11 +195,13 @@ module _ (v : ViewValue) (node : List ℕ) (both : Bool) where
       ∙ (λ i. cond (sym own i) (contributes v node both g b) (has entries g b)))
       (λ other. λ i. cond (sym other i) (contributes v node both g b) (has entries g b))
 
-  may-by : (s : Bool) (g : Aggregate) (b : AddressValue) (was : Bool) → (was ≡ true → may_stand both advertisements g b ≡ true) → cond s (contributes v node both g b) was ≡ true → may_stand both advertisements g b ≡ true
+  may-by : (s : Bool) (g : Aggregate) (b : AddressValue) (was : Bool) → (was ≡ true → may_stand both advertisements g b ≡ true)
+      → cond s (contributes v node both g b) was ≡ true → may_stand both advertisements g b ≡ true
   may-by true g b was right e = (and_parts (may_stand both advertisements g b) (is_set (choice_at v node b) g.advertisement) e).0
   may-by false g b was right e = right e
 
-  pub stand-after : (a : AddressValue) (old new : Entries) → StandRight both advertisements old → IsTouched v node both a old new → StandRight both advertisements new
+  pub stand-after : (a : AddressValue) (old new : Entries) → StandRight both advertisements old → IsTouched v node both a old new
+      → StandRight both advertisements new
   stand-after a old new right touched g b stands = may-by (same_address a b) g b (has old g b) (right g b) (sym (touched g b) ∙ stands)
 
   -- ---- one after the other
@@ -204,7 +216,8 @@ module _ (v : ViewValue) (node : List ℕ) (both : Bool) where
   touched_by false false now was = refl
 
   pub touched-more : (addresses : List AddressValue) (i : ℕ) (a : AddressValue) → i < length addresses → get_or addresses i a ≡ a
-      → (old now new : Entries) → AreTouched v node both (take i addresses) old now → IsTouched v node both a now new → AreTouched v node both (take (i + 1) addresses) old new
+      → (old now new : Entries) → AreTouched v node both (take i addresses) old now → IsTouched v node both a now new
+      → AreTouched v node both (take (i + 1) addresses) old new
   touched-more addresses i a below at old now new so_far here g b =
       let more : has_address (take (i + 1) addresses) b ≡ (has_address (take i addresses) b || same_address b a) =
       list_any_more (same_address b) addresses i a below ∙ ap (λ c. has_address (take i addresses) b || same_address b c) at in
@@ -219,7 +232,8 @@ module _ (v : ViewValue) (node : List ℕ) (both : Bool) where
   all_by true now was same = refl
   all_by false now was same = same refl
 
-  pub touched-all : (addresses : List AddressValue) (old new : Entries) → ((g : Aggregate) (b : AddressValue) → ¬ (Contains addresses b) → has old g b ≡ contributes v node both g b)
+  pub touched-all : (addresses : List AddressValue) (old new : Entries)
+      → ((g : Aggregate) (b : AddressValue) → ¬ (Contains addresses b) → has old g b ≡ contributes v node both g b)
       → AreTouched v node both addresses old new → (g : Aggregate) (b : AddressValue) → has new g b ≡ contributes v node both g b
   touched-all addresses old new others touched g b =
       touched g b
@@ -236,7 +250,8 @@ module _ (v : ViewValue) (node : List ℕ) (both : Bool) where
   pub unrecorded-none : (g : Aggregate) (a : AddressValue) → ¬ (Contains (recorded_addresses v) a) → false ≡ contributes v node both g a
   unrecorded-none g a none =
       let silent : announced_from v a node ≡ false = not_true (announced_from v a node) (λ e. none (announced-recorded a e)) in
-      let flag : is_set (choice_at v node a) g.advertisement ≡ false = ap (λ b. is_set (cond b (choice_of (node_labels v node) (bgp_of v) (pool_with (pools_of v) a)) []) g.advertisement) silent in
+      let flag : is_set (choice_at v node a) g.advertisement ≡ false =
+      ap (λ b. is_set (cond b (choice_of (node_labels v node) (bgp_of v) (pool_with (pools_of v) a)) []) g.advertisement) silent in
       sym (ap (λ f. may_stand both advertisements g a && f) flag ∙ and-none (may_stand both advertisements g a))
     where
       and-none : (m : Bool) → (m && false) ≡ false
@@ -251,8 +266,10 @@ same-held u v node addresses differs = λ i. record {
   peers = map (peer_by (differs.labels i) (bgp_in (differs.config i))) (peers_in (differs.config i));
 }
 
-pub same-elsewhere : (u v : ViewValue) (node : List ℕ) (both : Bool) (addresses : List AddressValue) → DiffersAt u v node addresses → (g : Aggregate) (a : AddressValue) → ¬ (Contains addresses a)
+pub same-elsewhere : (u v : ViewValue) (node : List ℕ) (both : Bool) (addresses : List AddressValue) → DiffersAt u v node addresses
+    → (g : Aggregate) (a : AddressValue) → ¬ (Contains addresses a)
     → contributes u node both g a ≡ contributes v node both g a
 same-elsewhere u v node both addresses differs g a other = λ i.
     may_stand both (map advertisement_of (bgp_in (differs.config i))) g a
-    && is_set (cond (differs.announced a other i) (choice_of (differs.labels i) (bgp_in (differs.config i)) (pool_with (pools_in (differs.config i)) a)) []) g.advertisement
+    && is_set (cond (differs.announced a other i) (choice_of (differs.labels i) (bgp_in (differs.config i)) (pool_with (pools_in (differs.config i)) a)) [])
+    g.advertisement

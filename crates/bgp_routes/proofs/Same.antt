@@ -1,5 +1,6 @@
 -- Equal lists that ascend are united already.
-use Rattle.std.proofs.Common.{◌≡◌, ℕ, ◌+◌, ◌≤◌, Bool, true, false, ◌&&◌, ◌==◌, nat_le, List, [], ◌∷◌, Less, Ordering, Result, Ok, Err, inr, ⊎_elim, refl, sym, ◌∙◌, ap, arith}
+use Rattle.std.proofs.Common.{◌≡◌, ℕ, ◌+◌, ◌≤◌, Bool, true, false, ◌&&◌, ◌==◌, nat_le, List, [], ◌∷◌, Less}
+use Rattle.std.proofs.Common.{Ordering, Result, Ok, Err, inr, ⊎_elim, refl, sym, ◌∙◌, ap, arith}
 use Rattle.std.proofs.lemmas.Bool.Decides.{nat_tests}
 use Rattle.std.proofs.lemmas.Cmp.{nat_cmp_total}
 use Rattle.std.proofs.lemmas.Map.Lookups.{CmpEqualImpliesEq, exact_unsigned}
@@ -81,7 +82,8 @@ larges-eq : (a b : List LargeCommunity) → pointwise derived.eq-value.it a b �
 larges-eq a b = ap (λ (E : LargeCommunity → LargeCommunity → Bool). pointwise E a b) (λ i c d. large-eq c d i)
 
 -- a copy of those that are equal to others is what is united of both
-pub copy-united : {E : Type 0} (a b : List LargeCommunity) (copy : Result (List LargeCommunity) E) → pointwise derived.eq-value.it a b ≡ true → IsStrictlySortedBy large_cmp a
+pub copy-united : {E : Type 0} (a b : List LargeCommunity) (copy : Result (List LargeCommunity) E) → pointwise derived.eq-value.it a b ≡ true
+    → IsStrictlySortedBy large_cmp a
     → IfOk copy (λ c. c ≡ a) → IfOk copy (λ c. c ≡ united large_cmp a b)
 copy-united a b (Err e) same ascend is = tt
 copy-united a b (Ok c) same ascend is =

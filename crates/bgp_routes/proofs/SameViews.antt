@@ -16,7 +16,8 @@ use Rattle.bgp_routes.proofs.Determined.{one-table}
 use Rattle.bgp_routes.proofs.Elements.{prefixes-ascend, routes-unite}
 
 -- ---- views that announce the same addresses
-module _ (u v : ViewValue) (node : List ℕ) (peer : CompiledPeer) (both : Bool) (there : (c : PrefixValue × Terms) → IsContribution u node peer both c → IsContribution v node peer both c)
+module _ (u v : ViewValue) (node : List ℕ) (peer : CompiledPeer) (both : Bool) (there : (c : PrefixValue × Terms) → IsContribution u node peer both c
+    → IsContribution v node peer both c)
     (back : (c : PrefixValue × Terms) → IsContribution v node peer both c → IsContribution u node peer both c) where
   greatest : (p : PrefixValue) (a : Option ℕ) → IsGreatest u node peer both p a → IsGreatest v node peer both p a
   greatest p a is = record {
@@ -34,7 +35,8 @@ module _ (u v : ViewValue) (node : List ℕ) (peer : CompiledPeer) (both : Bool)
 
   route : (r : PrefixValue × Terms) → IsRoute u node peer both r → IsRoute v node peer both r
   route r is = record {
-    communities = λ n. (λ among. has (λ t. t.communities) r.0 n ((is.communities n).0 among), λ told. (is.communities n).1 (has-back (λ t. t.communities) r.0 n told));
+    communities =
+        λ n. (λ among. has (λ t. t.communities) r.0 n ((is.communities n).0 among), λ told. (is.communities n).1 (has-back (λ t. t.communities) r.0 n told));
     large = λ c. (λ among. has (λ t. t.large) r.0 c ((is.large c).0 among), λ told. (is.large c).1 (has-back (λ t. t.large) r.0 c told));
     preference = greatest r.0 r.1.preference is.preference;
   }
@@ -45,21 +47,24 @@ module _ (u v : ViewValue) (node : List ℕ) (peer : CompiledPeer) (both : Bool)
     all = λ c by. are.all c (back c by);
   }
 
-module _ (u v : ViewValue) (node : List ℕ) (both : Bool) (differs : DiffersAt u v node []) (first : CommunitiesAscend u node both) (second : CommunitiesAscend v node both) where
+module _ (u v : ViewValue) (node : List ℕ) (both : Bool) (differs : DiffersAt u v node []) (first : CommunitiesAscend u node both)
+    (second : CommunitiesAscend v node both) where
   same-routes : (peer : CompiledPeer) → routes_of u node peer both ≡ routes_of v node peer both
   same-routes peer =
       one-table v node peer both (routes_of u node peer both) (routes_of v node peer both)
       (record {
         prefixes = prefixes-ascend u node peer both;
         communities = first peer;
-        routes = are-routes u v node peer both (λ c by. into u v node [] differs peer both c by refl) (λ c by. into v u node [] (turned u v node [] differs) peer both c by refl) (routes_of u node peer both) (routes-unite u node peer both);
+        routes = are-routes u v node peer both (λ c by. into u v node [] differs peer both c by refl)
+            (λ c by. into v u node [] (turned u v node [] differs) peer both c by refl) (routes_of u node peer both) (routes-unite u node peer both);
       })
       (record { prefixes = prefixes-ascend v node peer both; communities = second peer; routes = routes-unite v node peer both })
 
   same-tables : (peers : List CompiledPeer) → map (table_at u node both) peers ≡ map (table_at v node both) peers
   same-tables [] = refl
   same-tables (peer ∷ peers) =
-      ap₂ (λ (routes : List (PrefixValue × Terms)) (ts : List HeldTable). record { name = peer.name; my_asn = peer.my_asn; peer_asn = peer.peer_asn; routes = routes } ∷ ts) (same-routes peer) (same-tables peers)
+      ap₂ (λ (routes : List (PrefixValue × Terms)) (ts : List HeldTable).
+      record { name = peer.name; my_asn = peer.my_asn; peer_asn = peer.peer_asn; routes = routes } ∷ ts) (same-routes peer) (same-tables peers)
 
   pub same-kept : tables_of u node both ≡ tables_of v node both
   same-kept = same-tables (peers_of u) ∙ ap (λ (config : Option ConfigValue). map (table_at v node both) (peers_in config)) differs.config

@@ -17,7 +17,8 @@ use Rattle.bgp_routes.specs.Determined.{Ascends}
 use Rattle.bgp_routes.specs.Laws.{joined, stated}
 use Rattle.bgp_routes.specs.Uniting.{united_terms, with_contributions}
 use Rattle.bgp_routes.proofs.Determined.{Earlier, earlier-apart, routes-ascend, same-items, same-keys-ascending}
-use Rattle.bgp_routes.proofs.Elements.{AtLeast, There, Told, at-in, at-route, greater-from, greater-to, ascend-all, communities, join-large, join-numbers, large, split-large, split-numbers, stated-from, told-tells, tells-told}
+use Rattle.bgp_routes.proofs.Elements.{AtLeast, There, Told, at-in, at-route, greater-from, greater-to, ascend-all, communities}
+use Rattle.bgp_routes.proofs.Elements.{join-large, join-numbers, large, split-large, split-numbers, stated-from, told-tells, tells-told}
 use Rattle.bgp_routes.proofs.Few.{terms-ascend}
 use Rattle.bgp_routes.proofs.Stated.{all-after}
 
@@ -56,7 +57,8 @@ joined-ascends p (Some s) t own = terms-ascend p s t
 ascends-too : (p q : PrefixValue) (t : Terms) → Ascends (q, t) → Ascends (p, t)
 ascends-too p q t own = record { numbers = own.numbers; large = own.large }
 
-stated-ascends : (p : PrefixValue) (found : Option Terms) (cs : Contributions) → FoundAscends p found → AllByRecursion Ascends cs → FoundAscends p (stated p found cs)
+stated-ascends : (p : PrefixValue) (found : Option Terms) (cs : Contributions) → FoundAscends p found → AllByRecursion Ascends cs
+    → FoundAscends p (stated p found cs)
 stated-ascends p found [] first all = first
 stated-ascends p found (c ∷ cs) first all =
     stated-ascends p (cond (same_prefix p c.0) (Some (joined found c.1)) found) cs (by_test (same_prefix p c.0)) all.1
@@ -97,7 +99,8 @@ module _ (p : PrefixValue) (cs ds : Contributions) (first : AllByRecursion Ascen
         (λ c. over (λ x. IsIn (large x) c) (λ x y. split-large x y c) (λ x y. join-large x y c))
         (λ c. under (λ x. IsIn (large x) c) (λ x y. split-large x y c) (λ x y. join-large x y c)) in
         let preference : s.preference ≡ t.preference =
-        same-preference s.preference t.preference (λ m. over (Reaches m) (reaches-split m) (reaches-join m)) (λ m. under (Reaches m) (reaches-split m) (reaches-join m)) in
+        same-preference s.preference t.preference (λ m. over (Reaches m) (reaches-split m) (reaches-join m))
+        (λ m. under (Reaches m) (reaches-split m) (reaches-join m)) in
         λ i. record { preference = preference i; communities = numbers i; large = larges i }
 
   none-none : stated p None cs ≡ None → (t : Terms) → stated p None ds ≡ Some t → ⊥
@@ -130,13 +133,15 @@ stated-none p cs none = by-found (stated p None cs) refl where
       absurd (none told.terms told.there)
 
 -- ---- tables
-in-other : (xs ys : Contributions) → Ascend (keys_of xs) → ((p : PrefixValue) → terms_at xs p ≡ terms_at ys p) → (r : PrefixValue × Terms) → IsIn xs r → IsIn ys r
+in-other : (xs ys : Contributions) → Ascend (keys_of xs) → ((p : PrefixValue) → terms_at xs p ≡ terms_at ys p) → (r : PrefixValue × Terms) → IsIn xs r
+    → IsIn ys r
 in-other xs ys ascend same r there = at-in ys r.0 r.1 (sym (same r.0) ∙ at-route xs r (distinct xs ascend) there)
 
 -- tables with the same terms at each prefix are one
 pub one-table-at : (xs ys : Contributions) → Ascend (keys_of xs) → Ascend (keys_of ys) → ((p : PrefixValue) → terms_at xs p ≡ terms_at ys p) → xs ≡ ys
 one-table-at xs ys first second same =
-    same-items Earlier earlier-apart xs ys (routes-ascend xs first) (routes-ascend ys second) (in-other xs ys first same) (in-other ys xs second (λ p. sym (same p)))
+    same-items Earlier earlier-apart xs ys (routes-ascend xs first) (routes-ascend ys second) (in-other xs ys first same)
+    (in-other ys xs second (λ p. sym (same p)))
 
 module _ (keep : PrefixValue → Bool) where
   abbrev pub part : Contributions → Contributions
@@ -148,7 +153,8 @@ module _ (keep : PrefixValue → Bool) where
       let parts = both_true (before p route.0) (list_all (before p) (keys_of routes)) all in
       by_test (keep route.0) parts.0 (before-part p routes parts.1)
     where
-      by_test : (b : Bool) → before p route.0 ≡ true → list_all (before p) (keys_of (part routes)) ≡ true → list_all (before p) (keys_of (cond b (route ∷ part routes) (part routes))) ≡ true
+      by_test : (b : Bool) → before p route.0 ≡ true → list_all (before p) (keys_of (part routes)) ≡ true
+          → list_all (before p) (keys_of (cond b (route ∷ part routes) (part routes))) ≡ true
       by_test true first rest = and_from (before p route.0) (list_all (before p) (keys_of (part routes))) first rest
       by_test false first rest = rest
 
@@ -164,7 +170,8 @@ module _ (keep : PrefixValue → Bool) where
 
   -- ---- what is united of a part of the contributions is that part of what is united of all
   pub united-part : (cs ds : Contributions) → AllByRecursion Ascends cs → AllByRecursion Ascends ds
-      → ((p : PrefixValue) (t : Terms) → IsIn cs (p, t) → IsIn ds (p, t) × (keep p ≡ true)) → ((p : PrefixValue) (t : Terms) → keep p ≡ true → IsIn ds (p, t) → IsIn cs (p, t))
+      → ((p : PrefixValue) (t : Terms) → IsIn cs (p, t) → IsIn ds (p, t) × (keep p ≡ true))
+      → ((p : PrefixValue) (t : Terms) → keep p ≡ true → IsIn ds (p, t) → IsIn cs (p, t))
       → with_contributions [] cs ≡ part (with_contributions [] ds)
   united-part cs ds first second into back =
       one-table-at (with_contributions [] cs) (part (with_contributions [] ds)) (ascend-all [] cs tt)

@@ -1,5 +1,6 @@
 -- Which addresses stand with which aggregates.
-use Rattle.std.proofs.Common.{◌≡◌, ℕ, Bool, true, false, cond, not, ◌&&◌, ◌||◌, is_some, List, [], ◌∷◌, Option, Some, None, Result, Ok, Err, Ordering, Less, Equal, Greater, is_eq, refl, sym, ap, subst, ◌∙◌}
+use Rattle.std.proofs.Common.{◌≡◌, ℕ, Bool, true, false, cond, not, ◌&&◌, ◌||◌, is_some, List, [], ◌∷◌, Option, Some}
+use Rattle.std.proofs.Common.{None, Result, Ok, Err, Ordering, Less, Equal, Greater, is_eq, refl, sym, ap, subst, ◌∙◌}
 use Rattle.std.proofs.lemmas.Bool.{false≢true, or_left}
 use Rattle.std.proofs.lemmas.Map.Lookups.{CmpEqualImpliesEq, exact_unsigned}
 use Rattle.std.specs.BTreeMap.{is_at}
@@ -42,18 +43,22 @@ aggregate_cmp-exact g h e =
 
 -- it is the one by which the code compares
 by_families : (f g : Family) (m n k l x y : ℕ)
-    → derived_aggregates.cmp-value.it (record { place = place_of (record { family = f; number = m; length = k }); advertisement = x }) (record { place = place_of (record { family = g; number = n; length = l }); advertisement = y })
-    ≡ aggregate_cmp (record { place = place_of (record { family = f; number = m; length = k }); advertisement = x }) (record { place = place_of (record { family = g; number = n; length = l }); advertisement = y })
+    → derived_aggregates.cmp-value.it (record { place = place_of (record { family = f; number = m; length = k }); advertisement = x })
+    (record { place = place_of (record { family = g; number = n; length = l }); advertisement = y })
+    ≡ aggregate_cmp (record { place = place_of (record { family = f; number = m; length = k }); advertisement = x })
+    (record { place = place_of (record { family = g; number = n; length = l }); advertisement = y })
 by_families V4 V4 m n k l x y = refl
 by_families V4 V6 m n k l x y = refl
 by_families V6 V4 m n k l x y = refl
 by_families V6 V6 m n k l x y = refl
 
 aggregate_cmp-is : derived_aggregates.cmp-value.it ≡ aggregate_cmp
-aggregate_cmp-is = λ i g h. by_families g.place.first.family h.place.first.family g.place.first.number h.place.first.number g.place.length h.place.length g.advertisement h.advertisement i
+aggregate_cmp-is = λ i g h. by_families g.place.first.family h.place.first.family g.place.first.number h.place.first.number g.place.length h.place.length
+    g.advertisement h.advertisement i
 
 -- what is said by the orders of the code is said by these
-by-orders : (P : (Aggregate → Aggregate → Ordering) → (AddressValue → AddressValue → Ordering) → Type 0) → P derived_aggregates.cmp-value.it derived.cmp-value.it → P aggregate_cmp address_cmp
+by-orders : (P : (Aggregate → Aggregate → Ordering) → (AddressValue → AddressValue → Ordering) → Type 0)
+    → P derived_aggregates.cmp-value.it derived.cmp-value.it → P aggregate_cmp address_cmp
 by-orders P is =
     subst (λ (R : AddressValue → AddressValue → Ordering). P aggregate_cmp R) address_cmp-is
     (subst (λ (Q : Aggregate → Aggregate → Ordering). P Q derived.cmp-value.it) aggregate_cmp-is is)
@@ -112,7 +117,8 @@ first-stands (Some addresses) a e = by-keys addresses.keys e where
   by-keys [] e = absurd (let wrong : None ≡ Some a = e in cc)
   by-keys (k ∷ keys) e =
       let same : k ≡ a = let own : Some k ≡ Some a = e in cc in
-      or_left (is_at (address_cmp a) k) (list_any (is_at (address_cmp a)) keys) (subst (λ b. is_at (address_cmp a) b ≡ true) (sym same) (at-itself address_cmp address_total a))
+      or_left (is_at (address_cmp a) k) (list_any (is_at (address_cmp a)) keys)
+      (subst (λ b. is_at (address_cmp a) b ≡ true) (sym same) (at-itself address_cmp address_total a))
 
 stands-first : (found : Option (BTreeSet AddressValue)) (a : AddressValue) → is_in address_cmp found a ≡ true → is_some (first_of found) ≡ true
 stands-first None a e = absurd (false≢true e)
@@ -132,14 +138,16 @@ there-is None e = absurd (false≢true e)
 there-is (Some x) e = (x, refl)
 
 -- an aggregate with which one stands is among the keys
-key-by : (b more : Bool) (here there : Option (BTreeSet AddressValue)) (a : AddressValue) → is_in address_cmp (cond b here there) a ≡ true → (is_in address_cmp there a ≡ true → more ≡ true) → (b || more) ≡ true
+key-by : (b more : Bool) (here there : Option (BTreeSet AddressValue)) (a : AddressValue) → is_in address_cmp (cond b here there) a ≡ true
+    → (is_in address_cmp there a ≡ true → more ≡ true) → (b || more) ≡ true
 key-by true more here there a stands later = refl
 key-by false more here there a stands later = later stands
 
 stands-key : (entries : Entries) (g : Aggregate) (a : AddressValue) → has entries g a ≡ true → list_any (is_at (aggregate_cmp g)) (keys_of entries) ≡ true
 stands-key [] g a e = absurd (false≢true e)
 stands-key (d ∷ entries) g a e =
-    key-by (is_at (aggregate_cmp g) d.0) (list_any (is_at (aggregate_cmp g)) (keys_of entries)) (Some d.1) (lookup (is_at (aggregate_cmp g)) entries) a e (stands-key entries g a)
+    key-by (is_at (aggregate_cmp g) d.0) (list_any (is_at (aggregate_cmp g)) (keys_of entries)) (Some d.1) (lookup (is_at (aggregate_cmp g)) entries) a e
+    (stands-key entries g a)
 
 pub stands-among : (entries : Entries) (g : Aggregate) (a : AddressValue) → has entries g a ≡ true → IsIn (keys_of entries) g
 stands-among entries g a e =

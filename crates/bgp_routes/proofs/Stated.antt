@@ -14,13 +14,15 @@ use Rattle.bgp_routes.proofs.Placing.{ascend-with, before-rest}
 abbrev after : PrefixValue → Option Terms → PrefixValue × Terms → Option Terms
 after p found c = cond (same_prefix p c.0) (Some (joined found c.1)) found
 
-absent-before : (p : PrefixValue) (route : PrefixValue × Terms) (routes : List (PrefixValue × Terms)) → Ascend (keys_of (route ∷ routes)) → same_prefix p route.0 ≡ false → before p route.0 ≡ true
+absent-before : (p : PrefixValue) (route : PrefixValue × Terms) (routes : List (PrefixValue × Terms)) → Ascend (keys_of (route ∷ routes))
+    → same_prefix p route.0 ≡ false → before p route.0 ≡ true
     → terms_at (route ∷ routes) p ≡ None
 absent-before p route routes ascend other first =
     rw other (lookup-absent p routes (none-same p (keys_of routes) (before-rest p route.0 (keys_of routes) first ascend.0)))
 
 -- one contribution, cases on the prefix that is looked up
-one-after : (routes : List (PrefixValue × Terms)) (c : PrefixValue × Terms) (p : PrefixValue) → Ascend (keys_of routes) → terms_at (with_contribution routes c) p ≡ after p (terms_at routes p) c
+one-after : (routes : List (PrefixValue × Terms)) (c : PrefixValue × Terms) (p : PrefixValue) → Ascend (keys_of routes)
+    → terms_at (with_contribution routes c) p ≡ after p (terms_at routes p) c
 one-after [] c p ascend = refl
 one-after (route ∷ routes) c p ascend =
     by_bool (terms_at (with_contribution (route ∷ routes) c) p ≡ after p (terms_at (route ∷ routes) p) c) (same_prefix c.0 route.0)

@@ -36,7 +36,8 @@ module _ (v : ViewValue) (node : List ℕ) (both : Bool) (a : AddressValue) wher
 
   pub from-announced : IsAnnounced v node both a → announced_from v a node ≡ true
   from-announced h =
-      let recorded : has_address h.service.holding.addresses a ≡ true = any-in (same_address a) h.service.holding.addresses a h.recorded (same_address-itself a) in
+      let recorded : has_address h.service.holding.addresses a ≡ true =
+      any-in (same_address a) h.service.holding.addresses a h.recorded (same_address-itself a) in
       any-in announces (objects_of v.held.services) h.service h.held
       (and_from (has_address h.service.holding.addresses a) (can_announce v h.service node) recorded ((can_announce-Decides v h.service node).1 h.announces))
 

@@ -19,14 +19,16 @@ use Rattle.bgp_routes.specs.declared.contributors.Aggregate.{Aggregate}
 use Rattle.bgp_routes.specs.declared.held.Advertisement.{Advertisement}
 use Rattle.bgp_routes.specs.declared.held.HeldPeer.{HeldPeer}
 use Rattle.bgp_routes.specs.Contribution.{IsContribution, contribution, length_for}
-use Rattle.bgp_routes.specs.Contributors.{Entries, aggregate_of, contributes, has, is_told, may_stand, of_address, of_advertisements, of_aggregate, of_contributor, one_of}
+use Rattle.bgp_routes.specs.Contributors.{Entries, aggregate_of, contributes, has, is_told, may_stand}
+use Rattle.bgp_routes.specs.Contributors.{of_address, of_advertisements, of_aggregate, of_contributor, one_of}
 use Rattle.bgp_routes.specs.Determined.{Ascends}
 use Rattle.bgp_routes.specs.Held.{AreFew, advertisement_of, choice_at, is_set, peer_by, prefix_of, route_for}
 use Rattle.bgp_routes.specs.Parts.{bgp_of, is_touched, part_of, prefix_under}
 use Rattle.bgp_routes.specs.Placed.{place_of}
 use Rattle.bgp_routes.specs.Routes.{contributions, routes_of}
 use Rattle.bgp_routes.specs.Uniting.{with_contributions}
-use Rattle.bgp_routes.proofs.Contributing.{Contributing, at-in, at-map, contributes-listed, receives-at, listed-contributes, map-at, same-prefix-at, standing-place}
+use Rattle.bgp_routes.proofs.Contributing.{Contributing, at-in, at-map, contributes-listed, receives-at}
+use Rattle.bgp_routes.proofs.Contributing.{listed-contributes, map-at, same-prefix-at, standing-place}
 use Rattle.bgp_routes.proofs.Elements.{same_prefix-itself}
 use Rattle.bgp_routes.proofs.Few.{all-from, each-of}
 use Rattle.bgp_routes.proofs.Listing.{contributions-listed, flat-from, flat-in, keep, kept, passed, pass}
@@ -43,27 +45,35 @@ module _ (entries : Entries) (peer : HeldPeer) (a : AddressValue) where
     pub told : is_told entries peer a (place + index) adv ≡ true
     pub is : c ≡ route_for peer a adv
 
-  told-later : (place : ℕ) (first : Advertisement) (advertisements : List Advertisement) (c : PrefixValue × Terms) → Told (place + 1) advertisements c → Told place (first ∷ advertisements) c
+  told-later : (place : ℕ) (first : Advertisement) (advertisements : List Advertisement) (c : PrefixValue × Terms) → Told (place + 1) advertisements c
+      → Told place (first ∷ advertisements) c
   told-later place first advertisements c told =
       let next : place + 1 + told.index ≡ place + suc told.index = omega arith in
       record { index = suc told.index; adv = told.adv; at = told.at; told = subst (λ n. is_told entries peer a n told.adv ≡ true) next told.told; is = told.is }
 
-  pub told-from : (place : ℕ) (advertisements : List Advertisement) (c : PrefixValue × Terms) → IsIn (of_advertisements entries peer a place advertisements) c → Told place advertisements c
+  pub told-from : (place : ℕ) (advertisements : List Advertisement) (c : PrefixValue × Terms) → IsIn (of_advertisements entries peer a place advertisements) c
+      → Told place advertisements c
   told-from place [] c none = absurd none
   told-from place (adv ∷ advertisements) c there =
       elim (kept (is_told entries peer a place adv) (route_for peer a adv) (of_advertisements entries peer a (place + 1) advertisements) c there) [
-        | inl own ↦ (let same : place ≡ place + 0 = omega arith in record { index = 0; adv = adv; at = refl; told = subst (λ n. is_told entries peer a n adv ≡ true) same own.0; is = sym own.1 })
+        | inl own ↦ (let same : place ≡ place + 0 = omega arith in
+            record { index = 0; adv = adv; at = refl; told = subst (λ n. is_told entries peer a n adv ≡ true) same own.0; is = sym own.1 })
         | inr later ↦ told-later place adv advertisements c (told-from (place + 1) advertisements c later)
       ]
 
-  pub from-told : (place : ℕ) (advertisements : List Advertisement) (index : ℕ) (adv : Advertisement) → slice_get advertisements index ≡ Some adv → is_told entries peer a (place + index) adv ≡ true
+  pub from-told : (place : ℕ) (advertisements : List Advertisement) (index : ℕ) (adv : Advertisement) → slice_get advertisements index ≡ Some adv
+      → is_told entries peer a (place + index) adv ≡ true
       → IsIn (of_advertisements entries peer a place advertisements) (route_for peer a adv)
   from-told place [] index adv at told = absurd (let wrong : None ≡ Some adv = at in cc)
   from-told place (first ∷ advertisements) zero adv at told =
       let same : first ≡ adv = (let own : Some first ≡ Some adv = at in cc) in
       let here : place + 0 ≡ place = omega arith in
       keep (is_told entries peer a place first) (route_for peer a first) (of_advertisements entries peer a (place + 1) advertisements) (route_for peer a adv)
-      (inl (subst (λ n. is_told entries peer a n first ≡ true) here (subst (λ (x : Advertisement). is_told entries peer a (place + 0) x ≡ true) (sym same) told), ap (route_for peer a) same))
+      (inl (
+        subst (λ n. is_told entries peer a n first ≡ true) here
+            (subst (λ (x : Advertisement). is_told entries peer a (place + 0) x ≡ true) (sym same) told),
+        ap (route_for peer a) same,
+      ))
   from-told place (first ∷ advertisements) (suc index) adv at told =
       let next : place + suc index ≡ place + 1 + index = omega arith in
       keep (is_told entries peer a place first) (route_for peer a first) (of_advertisements entries peer a (place + 1) advertisements) (route_for peer a adv)
@@ -113,7 +123,8 @@ module _ (entries : Entries) (advertisements : List Advertisement) (peer : HeldP
         of.there,
       )
 
-  pub source-part : (addresses : List AddressValue) (c : PrefixValue × Terms) (s : Source c) → IsIn addresses s.address → IsIn (flat_map (of_address entries advertisements peer) addresses) c
+  pub source-part : (addresses : List AddressValue) (c : PrefixValue × Terms) (s : Source c) → IsIn addresses s.address
+      → IsIn (flat_map (of_address entries advertisements peer) addresses) c
   source-part addresses c s there =
       let g = aggregate_of s.place s.adv s.address in
       let told = and_from (is_set peer.receives s.place) (is_some (one_of entries g)) s.heard (stands-one entries g s.stands.0 s.stands.1) in
@@ -122,7 +133,8 @@ module _ (entries : Entries) (advertisements : List Advertisement) (peer : HeldP
       (flat-in (of_address entries advertisements peer) addresses s.address (route_for peer s.address s.adv) there
       (from-told entries peer s.address 0 advertisements s.place s.adv s.at (subst (λ n. is_told entries peer s.address n s.adv ≡ true) more-zero told)))
 
-  from-contributor : (g : Aggregate) (o : Option AddressValue) (p : Option Advertisement) (c : PrefixValue × Terms) → is_set peer.receives g.advertisement ≡ true
+  from-contributor : (g : Aggregate) (o : Option AddressValue) (p : Option Advertisement) (c : PrefixValue × Terms)
+      → is_set peer.receives g.advertisement ≡ true
       → one_of entries g ≡ o → slice_get advertisements g.advertisement ≡ p → IsIn (of_contributor peer o p) c → Standing c
   from-contributor g None p c heard one at none = absurd none
   from-contributor g (Some a) None c heard one at none = absurd none
@@ -140,7 +152,8 @@ module _ (entries : Entries) (advertisements : List Advertisement) (peer : HeldP
       from-contributor g (one_of entries g) (slice_get advertisements g.advertisement) c own.0 refl refl own.1
 
   -- whichever address is taken of those that stand with it
-  pub standing-whole : (g : Aggregate) (a : AddressValue) (adv : Advertisement) → slice_get advertisements g.advertisement ≡ Some adv → is_set peer.receives g.advertisement ≡ true → has entries g a ≡ true
+  pub standing-whole : (g : Aggregate) (a : AddressValue) (adv : Advertisement) → slice_get advertisements g.advertisement ≡ Some adv
+      → is_set peer.receives g.advertisement ≡ true → has entries g a ≡ true
       → (c : PrefixValue × Terms) → ((b : AddressValue) → has entries g b ≡ true → c ≡ route_for peer b adv)
       → IsIn (flat_map (of_aggregate entries advertisements peer) (keys_of entries)) c
   standing-whole g a adv at heard stands c same =
@@ -155,7 +168,8 @@ module _ (entries : Entries) (advertisements : List Advertisement) (peer : HeldP
       (pass (is_set peer.receives g.advertisement) (of_contributor peer (one_of entries g) (slice_get advertisements g.advertisement)) c heard by)
 
 -- ---- by a view
-module _ (v : ViewValue) (node : List ℕ) (peer : CompiledPeer) (both : Bool) (entries : Entries) (right : (g : Aggregate) (a : AddressValue) → has entries g a ≡ contributes v node both g a)
+module _ (v : ViewValue) (node : List ℕ) (peer : CompiledPeer) (both : Bool) (entries : Entries)
+    (right : (g : Aggregate) (a : AddressValue) → has entries g a ≡ contributes v node both g a)
     (few : AreFew (map advertisement_of (bgp_of v))) where
   abbrev bgp : List CompiledBgp
   bgp = bgp_of v
@@ -176,10 +190,12 @@ module _ (v : ViewValue) (node : List ℕ) (peer : CompiledPeer) (both : Bool) (
   same-prefix g a b adv at stands place =
       same-prefix-at (prefix_under adv a) (prefix_under adv b) (sym (standing-place v node both g a adv at (may g a stands)) ∙ place)
 
-  same-route : (a b : AddressValue) (adv : CompiledBgp) → prefix_under adv a ≡ prefix_under adv b → route_for held a (advertisement_of adv) ≡ route_for held b (advertisement_of adv)
+  same-route : (a b : AddressValue) (adv : CompiledBgp) → prefix_under adv a ≡ prefix_under adv b
+      → route_for held a (advertisement_of adv) ≡ route_for held b (advertisement_of adv)
   same-route a b adv same = λ i. (same i, (route_for held b (advertisement_of adv)).1)
 
-  listed-by : (g : Aggregate) (a : AddressValue) (adv : CompiledBgp) → slice_get bgp g.advertisement ≡ Some adv → is_set held.receives g.advertisement ≡ true → has entries g a ≡ true
+  listed-by : (g : Aggregate) (a : AddressValue) (adv : CompiledBgp) → slice_get bgp g.advertisement ≡ Some adv → is_set held.receives g.advertisement ≡ true
+      → has entries g a ≡ true
       → IsContribution v node peer both (contribution peer a adv)
   listed-by g a adv at heard stands =
       contributes-listed v node both peer g a adv at (sym (right g a) ∙ stands) (sym (receives-at v node both peer g.advertisement adv at) ∙ heard)
@@ -197,11 +213,13 @@ module _ (v : ViewValue) (node : List ℕ) (peer : CompiledPeer) (both : Bool) (
       let s : Contributing v node both peer c = listed-contributes v node both peer c by in
       let g : Aggregate = aggregate_of s.place (advertisement_of s.adv) s.address in
       let stands : has entries g s.address ≡ true = right g s.address ∙ s.contributes in
-      standing-whole entries advertisements held g s.address (advertisement_of s.adv) (at-map advertisement_of bgp s.place s.adv s.at) (receives-at v node both peer s.place s.adv s.at ∙ s.heard) stands c
+      standing-whole entries advertisements held g s.address (advertisement_of s.adv) (at-map advertisement_of bgp s.place s.adv s.at)
+      (receives-at v node both peer s.place s.adv s.at ∙ s.heard) stands c
       (λ b own. s.is ∙ sym (same-route b s.address s.adv (same-prefix g b s.address s.adv s.at own refl)))
 
   -- ---- a part
-  touched-by : (addresses : List AddressValue) (a : AddressValue) (adv : CompiledBgp) → IsIn addresses a → IsIn bgp adv → is_touched v addresses (prefix_under adv a) ≡ true
+  touched-by : (addresses : List AddressValue) (a : AddressValue) (adv : CompiledBgp) → IsIn addresses a → IsIn bgp adv
+      → is_touched v addresses (prefix_under adv a) ≡ true
   touched-by addresses a adv there among =
       any-in (λ (b : AddressValue). list_any (λ other. same_prefix (prefix_under adv a) (prefix_under other b)) bgp) addresses a there
       (any-in (λ other. same_prefix (prefix_under adv a) (prefix_under other a)) bgp adv among (same_prefix-itself (prefix_under adv a)))
@@ -227,7 +245,8 @@ module _ (v : ViewValue) (node : List ℕ) (peer : CompiledPeer) (both : Bool) (
   same-length : (p : PrefixValue) (adv other : CompiledBgp) (a b : AddressValue) → p ≡ prefix_under adv a → p ≡ prefix_under other b → p ≡ prefix_under adv b
   same-length p adv other a b own there =
       let families : a.family ≡ b.family = ap (λ (q : PrefixValue). q.family) (sym own ∙ there) in
-      let lengths : length_for b.family other ≡ length_for b.family adv = ap (λ (q : PrefixValue). q.length) (sym there ∙ own) ∙ ap (λ f. length_for f adv) families in
+      let lengths : length_for b.family other ≡ length_for b.family adv =
+      ap (λ (q : PrefixValue). q.length) (sym there ∙ own) ∙ ap (λ f. length_for f adv) families in
       there ∙ ap (masked b) lengths
 
   listed-part : (addresses : List AddressValue) (c : PrefixValue × Terms) → is_touched v addresses c.0 ≡ true → IsContribution v node peer both c
@@ -263,9 +282,11 @@ module _ (v : ViewValue) (node : List ℕ) (peer : CompiledPeer) (both : Bool) (
   ascends-by : (c : PrefixValue × Terms) → IsContribution v node peer both c → Ascends c
   ascends-by c by =
       let s : Contributing v node both peer c = listed-contributes v node both peer c by in
-      let there : IsIn advertisements (advertisement_of s.adv) = at-in advertisements (advertisement_of s.adv) s.place (at-map advertisement_of bgp s.place s.adv s.at) in
+      let there : IsIn advertisements (advertisement_of s.adv) =
+      at-in advertisements (advertisement_of s.adv) s.place (at-map advertisement_of bgp s.place s.adv s.at) in
       subst Ascends (sym s.is) (record {
-        numbers = each-of (λ (adv : Advertisement). IsStrictlySortedBy nat_cmp adv.communities) advertisements (advertisement_of s.adv) few.numbers.ascend there;
+        numbers =
+            each-of (λ (adv : Advertisement). IsStrictlySortedBy nat_cmp adv.communities) advertisements (advertisement_of s.adv) few.numbers.ascend there;
         large = each-of (λ (adv : Advertisement). IsStrictlySortedBy large_cmp adv.large) advertisements (advertisement_of s.adv) few.large.ascend there;
       })
 
@@ -280,7 +301,8 @@ module _ (v : ViewValue) (node : List ℕ) (peer : CompiledPeer) (both : Bool) (
       (λ p t there. (contributions-listed v node peer both (p, t)).1 (whole-listed (p, t) there))
       (λ p t there. listed-whole (p, t) ((contributions-listed v node peer both (p, t)).0 there))
 
-  pub part-is : (addresses : List AddressValue) → with_contributions [] (flat_map (of_address entries advertisements held) addresses) ≡ part_of v addresses (routes_of v node peer both)
+  pub part-is : (addresses : List AddressValue)
+      → with_contributions [] (flat_map (of_address entries advertisements held) addresses) ≡ part_of v addresses (routes_of v node peer both)
   part-is addresses =
       let cs = flat_map (of_address entries advertisements held) addresses in
       united-part (is_touched v addresses) cs (contributions v node peer both)

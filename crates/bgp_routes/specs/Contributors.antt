@@ -76,7 +76,8 @@ IsTouched v node both a old new = (g : Aggregate) (b : AddressValue) → has new
 
 -- the same at these
 abbrev pub AreTouched : ViewValue → List ℕ → Bool → List AddressValue → Entries → Entries → Type 0
-AreTouched v node both addresses old new = (g : Aggregate) (b : AddressValue) → has new g b ≡ (if has_address addresses b then contributes v node both g b else has old g b)
+AreTouched v node both addresses old new =
+    (g : Aggregate) (b : AddressValue) → has new g b ≡ (if has_address addresses b then contributes v node both g b else has old g b)
 
 -- ---- what a peer is told
 -- something contributes to the address's prefix under the advertisement, and the peer receives it

@@ -14,4 +14,5 @@ pub record DiffersAt (u v : ViewValue) (node : List ℕ) (addresses : List Addre
 
 -- Where a change leaves all at each address that it doesn't list, the views before and after differ at those that it lists at most.
 abbrev pub ChangedViewsDiffer : Type 0
-ChangedViewsDiffer = (v w : ViewValue) (change : ViewChange) → OthersStay v w change → change.all ≡ false → (node : List ℕ) → DiffersAt v w node change.addresses
+ChangedViewsDiffer = (v w : ViewValue) (change : ViewChange) → OthersStay v w change → change.all ≡ false → (node : List ℕ)
+    → DiffersAt v w node change.addresses

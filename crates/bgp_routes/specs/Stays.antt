@@ -8,7 +8,8 @@ use Rattle.bgp_updates.specs.declared.route.Terms.{Terms}
 use Rattle.bgp_routes.specs.Contribution.{IsContribution}
 
 -- It is contributed for this address.
-pub record IsContributionFor (v : ViewValue) (node : List ℕ) (peer : CompiledPeer) (both : Bool) (address : AddressValue) (c : PrefixValue × Terms) : Type 0 where
+pub record IsContributionFor (v : ViewValue) (node : List ℕ) (peer : CompiledPeer) (both : Bool) (address : AddressValue) (c : PrefixValue × Terms) : Type
+    0 where
   pub contribution : IsContribution v node peer both c
   pub address_is : contribution.address ≡ address
 

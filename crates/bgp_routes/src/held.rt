@@ -4,7 +4,8 @@ ghost use Rattle.std.specs.Option.{option_copied, option_map};
 ghost use Rattle.std.specs.List.{find};
 ghost use Rattle.ip_ranges.specs.Values.{IsPrefix, width_of};
 ghost use Rattle.bgp_routes.specs.Contributors.{aggregate_of};
-ghost use Rattle.bgp_routes.specs.Held.{AreFew, advertisement_of, choice_at, choice_by, choice_in, receives, held_for, is_before, is_chosen, is_held_of, is_set, length_in, peer_by, pool_at, pools_of, prefix_of, route_for};
+ghost use Rattle.bgp_routes.specs.Held.{AreFew, advertisement_of, choice_at, choice_by, choice_in, receives, held_for, is_before};
+ghost use Rattle.bgp_routes.specs.Held.{is_chosen, is_held_of, is_set, length_in, peer_by, pool_at, pools_of, prefix_of, route_for};
 ghost use Rattle.bgp_routes.specs.Parts.{bgp_of};
 ghost use Rattle.pool_config.specs.PoolOf.{pool_with};
 

@@ -37,7 +37,8 @@ pub(crate) fn all_told(
     advertisements: &[Advertisement],
     peer: &HeldPeer,
 ) -> Result<RouteTable, NoMemory>
-    ensures { IfOk result (λ table. table ≡ with_contributions [] (flat_map (of_aggregate contributors.now advertisements.now peer.now) (keys_of contributors.now))) }
+    ensures { IfOk result
+        (λ table. table ≡ with_contributions [] (flat_map (of_aggregate contributors.now advertisements.now peer.now) (keys_of contributors.now))) }
 {
     let mut routes = UnitedRoutes::new(alloc);
     add_aggregates(&mut routes, contributors, advertisements, peer)?;

@@ -16,7 +16,8 @@ pub record TellsAsMuch {A : Type 0} (takes inside whole : A → Bool) (x : A) : 
   pub taken : takes x ≡ true → inside x ≡ whole x
   pub left : takes x ≡ false → whole x ≡ false
 
-filter-inside : {A : Type 0} (takes inside whole : A → Bool) (xs : List A) → AllByRecursion (TellsAsMuch takes inside whole) xs → filter inside (filter takes xs) ≡ filter whole xs
+filter-inside : {A : Type 0} (takes inside whole : A → Bool) (xs : List A) → AllByRecursion (TellsAsMuch takes inside whole) xs
+    → filter inside (filter takes xs) ≡ filter whole xs
 filter-inside takes inside whole [] tell = refl
 filter-inside takes inside whole (x ∷ xs) tell =
     by_bool (filter inside (filter takes (x ∷ xs)) ≡ filter whole (x ∷ xs)) (takes x)
@@ -33,7 +34,8 @@ own-behind first table [] apart own = tt
 own-behind first table (route ∷ routes) apart own =
     let parts = or_parts (same_prefix first.0 route.0) (list_any (same_prefix first.0) (keys_of routes)) apart in
     let other : same_prefix route.0 first.0 ≡ false =
-    not_true (same_prefix route.0 first.0) (λ same. let there : same_prefix first.0 route.0 ≡ true = rw (same_prefix-is route.0 first.0 same) (same_prefix-itself first.0) in cc) in
+    not_true (same_prefix route.0 first.0)
+    (λ same. let there : same_prefix first.0 route.0 ≡ true = rw (same_prefix-is route.0 first.0 same) (same_prefix-itself first.0) in cc) in
     (rw other own.0, own-behind first table routes parts.1 own.1)
 
 own-terms : (routes : List (PrefixValue × Terms)) → AreDistinct routes → AllByRecursion (HasOwn routes) routes
@@ -50,7 +52,8 @@ module _ (takes : PrefixValue → Bool) (old new : List (PrefixValue × Terms)) 
   cut-at table p taken =
       lookup-filter-keys (same_prefix p) takes true (λ q is. ap takes (sym (same_prefix-is p q is)) ∙ taken) table
 
-  gone-tells : (route : PrefixValue × Terms) → HasOwn old route → TellsAsMuch (λ route. takes route.0) (λ route. is_none (terms_at (cut takes new) route.0)) (λ route. is_none (terms_at new route.0)) route
+  gone-tells : (route : PrefixValue × Terms) → HasOwn old route
+      → TellsAsMuch (λ route. takes route.0) (λ route. is_none (terms_at (cut takes new) route.0)) (λ route. is_none (terms_at new route.0)) route
   gone-tells route own = record {
     taken = λ is. ap is_none (cut-at new route.0 is);
     left = λ beside. ap is_none (sym (agree route.0 beside) ∙ own);
@@ -58,11 +61,13 @@ module _ (takes : PrefixValue → Bool) (old new : List (PrefixValue × Terms)) 
 
   pub gone-inside : AreDistinct old → gone (cut takes old) (cut takes new) ≡ gone old new
   gone-inside are =
-      filter-inside (λ (route : PrefixValue × Terms). takes route.0) (λ route. is_none (terms_at (cut takes new) route.0)) (λ route. is_none (terms_at new route.0)) old
+      filter-inside (λ (route : PrefixValue × Terms). takes route.0) (λ route. is_none (terms_at (cut takes new) route.0))
+      (λ route. is_none (terms_at new route.0)) old
       (each gone-tells old (own-terms old are))
 
   changed-tells : (route : PrefixValue × Terms) → HasOwn new route
-      → TellsAsMuch (λ route. takes route.0) (λ route. not (stands_as same_terms (terms_at (cut takes old) route.0) route.1)) (λ route. not (stands_as same_terms (terms_at old route.0) route.1)) route
+      → TellsAsMuch (λ route. takes route.0) (λ route. not (stands_as same_terms (terms_at (cut takes old) route.0) route.1))
+      (λ route. not (stands_as same_terms (terms_at old route.0) route.1)) route
   changed-tells route own = record {
     taken = λ is. ap (λ there. not (stands_as same_terms there route.1)) (cut-at old route.0 is);
     left = λ beside. ap (λ there. not (stands_as same_terms there route.1)) (agree route.0 beside ∙ own) ∙ ap not (same_terms-itself route.1);
@@ -70,5 +75,6 @@ module _ (takes : PrefixValue → Bool) (old new : List (PrefixValue × Terms)) 
 
   pub changed-inside : AreDistinct new → changed same_terms (cut takes old) (cut takes new) ≡ changed same_terms old new
   changed-inside are =
-      filter-inside (λ (route : PrefixValue × Terms). takes route.0) (λ route. not (stands_as same_terms (terms_at (cut takes old) route.0) route.1)) (λ route. not (stands_as same_terms (terms_at old route.0) route.1)) new
+      filter-inside (λ (route : PrefixValue × Terms). takes route.0) (λ route. not (stands_as same_terms (terms_at (cut takes old) route.0) route.1))
+      (λ route. not (stands_as same_terms (terms_at old route.0) route.1)) new
       (each changed-tells new (own-terms new are))

@@ -17,7 +17,8 @@ use Rattle.bgp_updates.specs.Tables.{AreV4, Ascend, HasFew, IsTable, before, fam
 use Rattle.bgp_updates.proofs.ReceivedLaws.{both_true}
 
 -- ---- the routes of a family are a table
-kept-prefixes : (keep : PrefixValue × Terms → Bool) (routes : List (PrefixValue × Terms)) → AllByRecursion IsPrefix (keys_of routes) → AllByRecursion IsPrefix (keys_of (filter keep routes))
+kept-prefixes : (keep : PrefixValue × Terms → Bool) (routes : List (PrefixValue × Terms)) → AllByRecursion IsPrefix (keys_of routes)
+    → AllByRecursion IsPrefix (keys_of (filter keep routes))
 kept-prefixes keep [] are = tt
 kept-prefixes keep (route ∷ routes) are =
     elim (keep route) as (λ v. AllByRecursion IsPrefix (keys_of (cond v (route ∷ filter keep routes) (filter keep routes)))) [
@@ -25,7 +26,8 @@ kept-prefixes keep (route ∷ routes) are =
       | false ↦ kept-prefixes keep routes are.1
     ]
 
-kept-all : (p : PrefixValue) (keep : PrefixValue × Terms → Bool) (routes : List (PrefixValue × Terms)) → list_all (before p) (keys_of routes) ≡ true → list_all (before p) (keys_of (filter keep routes)) ≡ true
+kept-all : (p : PrefixValue) (keep : PrefixValue × Terms → Bool) (routes : List (PrefixValue × Terms)) → list_all (before p) (keys_of routes) ≡ true
+    → list_all (before p) (keys_of (filter keep routes)) ≡ true
 kept-all p keep [] all = refl
 kept-all p keep (route ∷ routes) all =
     let parts = both_true (before p route.0) (list_all (before p) (keys_of routes)) all in
@@ -59,7 +61,8 @@ first-before V4 g b e is = refl
 first-before V6 V4 b e is = absurd (let h : false ≡ true = e in cc)
 first-before V6 V6 b e is = absurd (let h : false ≡ true = is in cc)
 
-before-at : (p : PrefixValue) (table : List (PrefixValue × Terms)) (at : ℕ) (d : PrefixValue × Terms) → list_all (before p) (keys_of table) ≡ true → at < length table → before p (get_or table at d).0 ≡ true
+before-at : (p : PrefixValue) (table : List (PrefixValue × Terms)) (at : ℕ) (d : PrefixValue × Terms) → list_all (before p) (keys_of table) ≡ true
+    → at < length table → before p (get_or table at d).0 ≡ true
 before-at p [] at d all lt = absurd (omega arith)
 before-at p (route ∷ table) zero d all lt = (both_true (before p route.0) (list_all (before p) (keys_of table)) all).0
 before-at p (route ∷ table) (suc at) d all lt = before-at p table at d (both_true (before p route.0) (list_all (before p) (keys_of table)) all).1 (omega arith)
@@ -126,7 +129,8 @@ none-second (route ∷ routes) are =
     let own : same_family route.0.family V6 ≡ false = ap (λ f. same_family f V6) (are 0 route (omega arith)) in
     rw own (none-second routes (All-tail (λ (route : PrefixValue × Terms). route.0.family ≡ V4) route routes are))
 
-pub one-family : (peering : Peering) (old new : List (PrefixValue × Terms)) → AreV4 old → AreV4 new → messages_between peering old new ≡ messages_for V4 peering old new
+pub one-family : (peering : Peering) (old new : List (PrefixValue × Terms)) → AreV4 old → AreV4 new
+    → messages_between peering old new ≡ messages_for V4 peering old new
 unfolding in_messages
 one-family peering old new old_are new_are =
     rw (all-first old old_are, all-first new new_are, none-second old old_are, none-second new new_are) (append-nil (messages_for V4 peering old new))

@@ -31,7 +31,8 @@ numbers-before-before a b c l m n first second = grind (arith, nat_tests)
 numbers-not_before : (a b c l m n : ℕ) → numbers_before a b l m ≡ true → numbers_before a c l n ≡ false → numbers_before c b n m ≡ true
 numbers-not_before a b c l m n first other = grind (arith, nat_tests)
 
-families-before-before : (f g h : Family) (x y z : Bool) → (x ≡ true → y ≡ true → z ≡ true) → families_before f g x ≡ true → families_before g h y ≡ true → families_before f h z ≡ true
+families-before-before : (f g h : Family) (x y z : Bool) → (x ≡ true → y ≡ true → z ≡ true) → families_before f g x ≡ true → families_before g h y ≡ true
+    → families_before f h z ≡ true
 families-before-before V4 V4 V4 x y z by first second = by first second
 families-before-before V4 V4 V6 x y z by first second = refl
 families-before-before V4 V6 V4 x y z by first second = absurd (let h : false ≡ true = second in cc)
@@ -40,7 +41,8 @@ families-before-before V6 V4 h x y z by first second = absurd (let h : false ≡
 families-before-before V6 V6 V4 x y z by first second = absurd (let h : false ≡ true = second in cc)
 families-before-before V6 V6 V6 x y z by first second = by first second
 
-families-not_before : (f g h : Family) (x y z : Bool) → (x ≡ true → y ≡ false → z ≡ true) → families_before f g x ≡ true → families_before f h y ≡ false → families_before h g z ≡ true
+families-not_before : (f g h : Family) (x y z : Bool) → (x ≡ true → y ≡ false → z ≡ true) → families_before f g x ≡ true → families_before f h y ≡ false
+    → families_before h g z ≡ true
 families-not_before V4 V4 V4 x y z by first other = by first other
 families-not_before V4 V4 V6 x y z by first other = absurd (let h : true ≡ false = other in cc)
 families-not_before V4 V6 V4 x y z by first other = refl
@@ -51,12 +53,14 @@ families-not_before V6 V6 V6 x y z by first other = by first other
 
 pub before-before : (p q r : PrefixValue) → before p q ≡ true → before q r ≡ true → before p r ≡ true
 before-before p q r first second =
-    families-before-before p.family q.family r.family (numbers_before p.number q.number p.length q.length) (numbers_before q.number r.number q.length r.length) (numbers_before p.number r.number p.length r.length)
+    families-before-before p.family q.family r.family (numbers_before p.number q.number p.length q.length) (numbers_before q.number r.number q.length r.length)
+    (numbers_before p.number r.number p.length r.length)
     (numbers-before-before p.number q.number r.number p.length q.length r.length) first second
 
 not_before : (p q r : PrefixValue) → before p q ≡ true → before p r ≡ false → before r q ≡ true
 not_before p q r first other =
-    families-not_before p.family q.family r.family (numbers_before p.number q.number p.length q.length) (numbers_before p.number r.number p.length r.length) (numbers_before r.number q.number r.length q.length)
+    families-not_before p.family q.family r.family (numbers_before p.number q.number p.length q.length) (numbers_before p.number r.number p.length r.length)
+    (numbers_before r.number q.number r.length q.length)
     (numbers-not_before p.number q.number r.number p.length q.length r.length) first other
 
 before-each : (p r : PrefixValue) (prefixes : List PrefixValue) → before p r ≡ false → list_all (before p) prefixes ≡ true → list_all (before r) prefixes ≡ true
@@ -65,7 +69,8 @@ before-each p r (q ∷ prefixes) other all =
     let parts = both_true (before p q) (list_all (before p) prefixes) all in
     rw (not_before p q r parts.0 other) (before-each p r prefixes other parts.1)
 
-before-at : (p : PrefixValue) (table : List (PrefixValue × Terms)) (at : ℕ) (d : PrefixValue × Terms) → list_all (before p) (keys_of table) ≡ true → at < length table → before p (get_or table at d).0 ≡ true
+before-at : (p : PrefixValue) (table : List (PrefixValue × Terms)) (at : ℕ) (d : PrefixValue × Terms) → list_all (before p) (keys_of table) ≡ true
+    → at < length table → before p (get_or table at d).0 ≡ true
 before-at p [] at d all lt = absurd (omega arith)
 before-at p (route ∷ table) zero d all lt = (both_true (before p route.0) (list_all (before p) (keys_of table)) all).0
 before-at p (route ∷ table) (suc at) d all lt = before-at p table at d (both_true (before p route.0) (list_all (before p) (keys_of table)) all).1 (omega arith)
@@ -84,7 +89,8 @@ terms_at-none p (route ∷ table) none =
     let parts = or_parts (same_prefix p route.0) (list_any (same_prefix p) (keys_of table)) none in
     rw parts.0 (terms_at-none p table parts.1)
 
-halves-tail : (p : PrefixValue) (route : PrefixValue × Terms) (table : List (PrefixValue × Terms)) (at : ℕ) → AreHalves p (route ∷ table) (suc at) → AreHalves p table at
+halves-tail : (p : PrefixValue) (route : PrefixValue × Terms) (table : List (PrefixValue × Terms)) (at : ℕ) → AreHalves p (route ∷ table) (suc at)
+    → AreHalves p table at
 halves-tail p route table at halves =
     (λ k d low high. halves.0 (suc k) d (omega arith) (omega arith), λ k d low high. halves.1 (suc k) d (omega arith) (omega arith))
 
@@ -104,11 +110,13 @@ terms_at-halves p (route ∷ table) (suc at) ascend halves =
     rw (below-other p route (halves.0 zero route (omega arith) (omega arith))) (terms_at-halves p table at ascend.1 (halves-tail p route table at halves))
 
 -- Where they meet, the prefix's route stands, if it has one.
-pub terms_at-there : (p : PrefixValue) (table : List (PrefixValue × Terms)) (at : ℕ) (there : PrefixValue × Terms) (own : Bool) → Ascend (keys_of table) → AreHalves p table at
+pub terms_at-there : (p : PrefixValue) (table : List (PrefixValue × Terms)) (at : ℕ) (there : PrefixValue × Terms) (own : Bool) → Ascend (keys_of table)
+    → AreHalves p table at
     → slice_get table at ≡ Some there → same_prefix p there.0 ≡ own → terms_at table p ≡ cond own (Some there.1) None
 terms_at-there p table at there own ascend halves is same =
     terms_at-halves p table at ascend halves ∙ ap (option_and_then (terms_for p)) is ∙ ap (λ v. cond v (Some there.1) None) same
 
 -- Where they meet at the end, it has none.
-pub terms_at-past : (p : PrefixValue) (table : List (PrefixValue × Terms)) (at : ℕ) → Ascend (keys_of table) → AreHalves p table at → slice_get table at ≡ None → terms_at table p ≡ None
+pub terms_at-past : (p : PrefixValue) (table : List (PrefixValue × Terms)) (at : ℕ) → Ascend (keys_of table) → AreHalves p table at → slice_get table at ≡ None
+    → terms_at table p ≡ None
 terms_at-past p table at ascend halves past = terms_at-halves p table at ascend halves ∙ ap (option_and_then (terms_for p)) past

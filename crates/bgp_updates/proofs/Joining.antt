@@ -1,5 +1,6 @@
 -- A route joins its group, which stands at its place.
-use Rattle.std.proofs.Common.{◌≡◌, ℕ, zero, suc, Bool, true, false, cond, ◌&&◌, ◌==◌, ◌<◌, List, [], ◌∷◌, ◌++◌, length, get_or, set, Option, Some, None, Result, Ordering, Less, Equal, Greater, is_eq, refl, sym, ◌∙◌, ap, subst, arith}
+use Rattle.std.proofs.Common.{◌≡◌, ℕ, zero, suc, Bool, true, false, cond, ◌&&◌, ◌==◌, ◌<◌, List, [], ◌∷◌, ◌++◌, length, get_or, set}
+use Rattle.std.proofs.Common.{Option, Some, None, Result, Ordering, Less, Equal, Greater, is_eq, refl, sym, ◌∙◌, ap, subst, arith}
 use Rattle.std.proofs.lemmas.Bool.Decides.{nat_tests}
 use Rattle.std.proofs.lemmas.Map.Text.{is_eq-slice_cmp}
 use Rattle.std.proofs.lemmas.Result.{on_ok_weaker}
@@ -27,7 +28,8 @@ set-with_prefix [] place p group lt is = absurd (omega arith)
 set-with_prefix (first ∷ groups) zero p group lt is = ap (λ (g : Group). record { terms = g.terms; prefixes = g.prefixes ++ p ∷ [] } ∷ groups) is
 set-with_prefix (first ∷ groups) (suc place) p group lt is = ap (λ rest. first ∷ rest) (set-with_prefix groups place p group (omega arith) is)
 
-within-by : (same : Bool) (found : Option ℕ) (place n : ℕ) → cond same (Some 0) (option_map (λ m. suc m) found) ≡ Some place → ((m : ℕ) → found ≡ Some m → m < n) → place < suc n
+within-by : (same : Bool) (found : Option ℕ) (place n : ℕ) → cond same (Some 0) (option_map (λ m. suc m) found) ≡ Some place
+    → ((m : ℕ) → found ≡ Some m → m < n) → place < suc n
 within-by true found place n is later = let first : 0 ≡ place = cc in omega (arith, first)
 within-by false None place n is later = absurd (cc)
 within-by false (Some m) place n is later = let next : suc m ≡ place = cc in omega (arith, next, later m refl)
@@ -38,30 +40,36 @@ place-within (group ∷ groups) terms place is =
     within-by (same_terms group.terms terms) (place_of groups terms) place (length groups) is (place-within groups terms)
 
 -- ---- the route joins the group of its terms
-joined-by : (same : Bool) (found : Option ℕ) (group : Group) (groups : List Group) (route : PrefixValue × Terms) (place : ℕ) → same_terms group.terms route.1 ≡ same
+joined-by : (same : Bool) (found : Option ℕ) (group : Group) (groups : List Group) (route : PrefixValue × Terms) (place : ℕ)
+    → same_terms group.terms route.1 ≡ same
     → ((m : ℕ) → found ≡ Some m → with_prefix groups m route.0 ≡ with_route same_terms groups route)
-    → cond same (Some 0) (option_map (λ m. suc m) found) ≡ Some place → with_prefix (group ∷ groups) place route.0 ≡ with_route same_terms (group ∷ groups) route
+    → cond same (Some 0) (option_map (λ m. suc m) found) ≡ Some place
+    → with_prefix (group ∷ groups) place route.0 ≡ with_route same_terms (group ∷ groups) route
 joined-by true found group groups route place same later is =
     let first : 0 ≡ place = cc in
-    rw same (subst (λ n. with_prefix (group ∷ groups) n route.0 ≡ record { terms = group.terms; prefixes = group.prefixes ++ route.0 ∷ [] } ∷ groups) first refl)
+    rw same (subst (λ n. with_prefix (group ∷ groups) n route.0 ≡ record { terms = group.terms; prefixes = group.prefixes ++ route.0 ∷ [] } ∷ groups) first
+    refl)
 joined-by false None group groups route place same later is = absurd (cc)
 joined-by false (Some m) group groups route place same later is =
     let next : suc m ≡ place = cc in
     rw same (subst (λ n. with_prefix (group ∷ groups) n route.0 ≡ group ∷ with_route same_terms groups route) next (ap (λ rest. group ∷ rest) (later m refl)))
 
-pub joined : (groups : List Group) (route : PrefixValue × Terms) (place : ℕ) → place_of groups route.1 ≡ Some place → with_prefix groups place route.0 ≡ with_route same_terms groups route
+pub joined : (groups : List Group) (route : PrefixValue × Terms) (place : ℕ) → place_of groups route.1 ≡ Some place
+    → with_prefix groups place route.0 ≡ with_route same_terms groups route
 joined [] route place is = absurd (cc)
 joined (group ∷ groups) route place is =
     joined-by (same_terms group.terms route.1) (place_of groups route.1) group groups route place refl (joined groups route) is
 
 appended-by : (same : Bool) (found : Option ℕ) (group : Group) (groups : List Group) (route : PrefixValue × Terms) → same_terms group.terms route.1 ≡ same
     → (found ≡ None → groups ++ record { terms = route.1; prefixes = route.0 ∷ [] } ∷ [] ≡ with_route same_terms groups route)
-    → cond same (Some 0) (option_map (λ m. suc m) found) ≡ None → (group ∷ groups) ++ record { terms = route.1; prefixes = route.0 ∷ [] } ∷ [] ≡ with_route same_terms (group ∷ groups) route
+    → cond same (Some 0) (option_map (λ m. suc m) found) ≡ None
+    → (group ∷ groups) ++ record { terms = route.1; prefixes = route.0 ∷ [] } ∷ [] ≡ with_route same_terms (group ∷ groups) route
 appended-by true found group groups route same later is = absurd (cc)
 appended-by false None group groups route same later is = rw same (ap (λ rest. group ∷ rest) (later refl))
 appended-by false (Some m) group groups route same later is = absurd (cc)
 
-pub appended : (groups : List Group) (route : PrefixValue × Terms) → place_of groups route.1 ≡ None → groups ++ record { terms = route.1; prefixes = route.0 ∷ [] } ∷ [] ≡ with_route same_terms groups route
+pub appended : (groups : List Group) (route : PrefixValue × Terms) → place_of groups route.1 ≡ None
+    → groups ++ record { terms = route.1; prefixes = route.0 ∷ [] } ∷ [] ≡ with_route same_terms groups route
 appended [] route is = refl
 appended (group ∷ groups) route is = appended-by (same_terms group.terms route.1) (place_of groups route.1) group groups route refl (appended groups route) is
 
@@ -72,7 +80,8 @@ place-with_prefix (group ∷ groups) zero p terms = refl
 place-with_prefix (group ∷ groups) (suc place) p terms =
     ap (λ found. cond (same_terms group.terms terms) (Some 0) (option_map (λ m. suc m) found)) (place-with_prefix groups place p terms)
 
-pub places-stay : (entries : List (TermsKey × ℕ)) (groups : List Group) (place : ℕ) (p : PrefixValue) → ArePlaces entries groups → ArePlaces entries (with_prefix groups place p)
+pub places-stay : (entries : List (TermsKey × ℕ)) (groups : List Group) (place : ℕ) (p : PrefixValue) → ArePlaces entries groups
+    → ArePlaces entries (with_prefix groups place p)
 places-stay entries groups place p are key = are key ∙ sym (place-with_prefix groups place p (terms_in key))
 
 -- the place of a group behind the others
@@ -86,7 +95,8 @@ last-next false same (Some m) n = refl
 last-next false true None n = refl
 last-next false false None n = refl
 
-place-append : (groups : List Group) (group : Group) (terms : Terms) → place_of (groups ++ group ∷ []) terms ≡ option_or (place_of groups terms) (last_place (length groups) (same_terms group.terms terms))
+place-append : (groups : List Group) (group : Group) (terms : Terms)
+    → place_of (groups ++ group ∷ []) terms ≡ option_or (place_of groups terms) (last_place (length groups) (same_terms group.terms terms))
 place-append [] group terms = elim (same_terms group.terms terms) as (λ s. cond s (Some 0) None ≡ last_place 0 s) [ true ↦ refl | false ↦ refl ]
 place-append (first ∷ groups) group terms =
     ap (λ found. cond (same_terms first.terms terms) (Some 0) (option_map (λ m. suc m) found)) (place-append groups group terms)
@@ -119,7 +129,8 @@ eq-larges : (c d : LargeCommunity) → is_eq (large_cmp c d) ≡ same_large c d
 eq-larges c d =
     eq-then (nat_cmp c.global d.global) (ordering_then (nat_cmp c.first d.first) (nat_cmp c.second d.second))
     ∙ ap (λ s. is_eq (nat_cmp c.global d.global) && s) (eq-then (nat_cmp c.first d.first) (nat_cmp c.second d.second))
-    ∙ rw (eq-numbers c.global d.global, eq-numbers c.first d.first, eq-numbers c.second d.second) (sym (and_assoc (c.global == d.global) (c.first == d.first) (c.second == d.second)))
+    ∙ rw (eq-numbers c.global d.global, eq-numbers c.first d.first, eq-numbers c.second d.second)
+    (sym (and_assoc (c.global == d.global) (c.first == d.first) (c.second == d.second)))
 
 eq-large_lists : (xs ys : List LargeCommunity) → is_eq (slice_cmp large_cmp xs ys) ≡ pointwise same_large xs ys
 eq-large_lists [] [] = refl
@@ -135,11 +146,14 @@ same-keys a b =
     let larges = slice_cmp large_cmp a.large.items b.large.items in
     eq-then preferences (ordering_then communities larges) ∙ ap (λ s. is_eq preferences && s) (eq-then communities larges)
     ∙ rw (eq-preferences a.preference b.preference, is_eq-slice_cmp a.communities.items b.communities.items, eq-large_lists a.large.items b.large.items)
-    (sym (and_assoc (same_preference a.preference b.preference) (bytes_eq a.communities.items b.communities.items) (pointwise same_large a.large.items b.large.items)))
+    (sym (and_assoc (same_preference a.preference b.preference) (bytes_eq a.communities.items b.communities.items)
+    (pointwise same_large a.large.items b.large.items)))
 
-module _ (before after : List (TermsKey × ℕ)) (groups : List Group) (group : Group) (key : TermsKey) (are : ArePlaces before groups) (own : terms_in key ≡ group.terms)
+module _ (before after : List (TermsKey × ℕ)) (groups : List Group) (group : Group) (key : TermsKey) (are : ArePlaces before groups)
+    (own : terms_in key ≡ group.terms)
     (absent : lookup (is_at (key_cmp key)) before ≡ None)
-    (updates : (q : TermsKey) → lookup (is_at (key_cmp q)) after ≡ cond (is_at (key_cmp key) q) (Some (length groups)) (lookup (is_at (key_cmp q)) before)) where
+    (updates : (q : TermsKey)
+    → lookup (is_at (key_cmp q)) after ≡ cond (is_at (key_cmp key) q) (Some (length groups)) (lookup (is_at (key_cmp q)) before)) where
   at-key : (q : TermsKey) (same : Bool) → same_terms group.terms (terms_in q) ≡ same
       → cond same (Some (length groups)) (place_of groups (terms_in q)) ≡ option_or (place_of groups (terms_in q)) (last_place (length groups) same)
   at-key q true same =
@@ -156,7 +170,10 @@ module _ (before after : List (TermsKey × ℕ)) (groups : List Group) (group : 
       ∙ at-key q (same_terms group.terms (terms_in q)) refl
       ∙ sym (place-append groups group (terms_in q))
 
-pub pushed : {T E : Type 0} (answer : Result T E) (groups : List Group) (place : ℕ) (p : PrefixValue) (group : Group) (prefixes : List PrefixValue) → place < length groups → group ≡ get_or groups place group
-    → OnOk answer (prefixes ≡ group.prefixes ++ p ∷ []) → OnOk answer (set groups place (record { terms = group.terms; prefixes = prefixes }) ≡ with_prefix groups place p)
+pub pushed : {T E : Type 0} (answer : Result T E) (groups : List Group) (place : ℕ) (p : PrefixValue) (group : Group) (prefixes : List PrefixValue)
+    → place < length groups → group ≡ get_or groups place group
+    → OnOk answer (prefixes ≡ group.prefixes ++ p ∷ [])
+    → OnOk answer (set groups place (record { terms = group.terms; prefixes = prefixes }) ≡ with_prefix groups place p)
 pushed answer groups place p group prefixes lt is told =
-    on_ok_weaker answer (λ e. ap (λ (ps : List PrefixValue). set groups place (record { terms = group.terms; prefixes = ps })) e ∙ set-with_prefix groups place p group lt is) told
+    on_ok_weaker answer (λ e. ap (λ (ps : List PrefixValue). set groups place (record { terms = group.terms; prefixes = ps })) e
+    ∙ set-with_prefix groups place p group lt is) told

@@ -1,5 +1,6 @@
 -- Each prefix stands in one message, once, and only where its routes differ.
-use Rattle.std.proofs.Common.{◌≡◌, ℕ, Bool, true, false, cond, ◌||◌, not, ◌+◌, ◌-◌, ◌≤◌, nat_le, is_none, is_some, List, [], ◌∷◌, ◌++◌, Option, Some, None, refl, sym, ◌∙◌, ap, arith}
+use Rattle.std.proofs.Common.{◌≡◌, ℕ, Bool, true, false, cond, ◌||◌, not, ◌+◌, ◌-◌, ◌≤◌, nat_le, is_none}
+use Rattle.std.proofs.Common.{is_some, List, [], ◌∷◌, ◌++◌, Option, Some, None, refl, sym, ◌∙◌, ap, arith}
 use Rattle.std.specs.List.{list_any}
 use Rattle.std.specs.Map.{keys_of}
 use Rattle.std.proofs.lemmas.Map.Made.{is_some-lookup}
@@ -12,10 +13,12 @@ use Rattle.bgp_updates.specs.declared.route.Peering.{Peering}
 use Rattle.ip_ranges.specs.declared.family.Family.{Family}
 use Rattle.ip_ranges.specs.declared.family.Family.TheVariants.{V4, V6}
 use Rattle.bgp_updates.specs.Message.{announced_part, octets, in_messages, packed, room_of, with_first, withdrawn_part}
-use Rattle.bgp_updates.specs.Received.{Update, AreDistinct, announcements, changed, gone, groups_from, same_prefix, same_preference, same_terms, stands_as, terms_at, withdrawals, with_route}
+use Rattle.bgp_updates.specs.Received.{Update, AreDistinct, announcements, changed, gone, groups_from, same_prefix}
+use Rattle.bgp_updates.specs.Received.{same_preference, same_terms, stands_as, terms_at, withdrawals, with_route}
 use Rattle.bgp_updates.specs.Laws.{NamedPrefixesDiffer, PrefixesStandOnce, count, names_prefix, prefixes_of, updates_between, updates_for}
 use Rattle.bgp_updates.specs.Tables.{of_family}
-use Rattle.bgp_updates.proofs.ReceivedLaws.{by_bool, changed-at, distinct, family-at, family-distinct, filter-absent, filter-distinct, gone-at, same_larges-Decides, in_parts, or_parts, same_prefix-is, unless_same}
+use Rattle.bgp_updates.proofs.ReceivedLaws.{by_bool, changed-at, distinct, family-at, family-distinct, filter-absent, filter-distinct}
+use Rattle.bgp_updates.proofs.ReceivedLaws.{gone-at, same_larges-Decides, in_parts, or_parts, same_prefix-is, unless_same}
 
 abbrev pub one : PrefixValue → PrefixValue → ℕ
 one p q = cond (same_prefix p q) 1 0
@@ -35,9 +38,11 @@ count-with_first p q (first ∷ more) = omega arith
 count-packed : (p : PrefixValue) (room left : ℕ) (prefixes : List PrefixValue) → parts_count p (packed room left prefixes) ≡ count p prefixes
 count-packed p room left [] = refl
 count-packed p room left (q ∷ rest) =
-    elim (nat_le (1 + octets q) left) as (λ v. parts_count p (cond v (with_first q (packed room (left - (1 + octets q)) rest)) ([] ∷ with_first q (packed room (room - (1 + octets q)) rest))) ≡ one p q + count p rest) [
+    elim (nat_le (1 + octets q) left) as (λ v. parts_count p (cond v (with_first q (packed room (left - (1 + octets q)) rest))
+    ([] ∷ with_first q (packed room (room - (1 + octets q)) rest))) ≡ one p q + count p rest) [
       | true ↦ count-with_first p q (packed room (left - (1 + octets q)) rest) ∙ ap (λ n. one p q + n) (count-packed p room (left - (1 + octets q)) rest)
-      | false ↦ omega arith ∙ count-with_first p q (packed room (room - (1 + octets q)) rest) ∙ ap (λ n. one p q + n) (count-packed p room (room - (1 + octets q)) rest)
+      | false ↦ omega arith ∙ count-with_first p q (packed room (room - (1 + octets q)) rest)
+          ∙ ap (λ n. one p q + n) (count-packed p room (room - (1 + octets q)) rest)
     ]
 
 count-in_messages : (p : PrefixValue) (room : ℕ) (prefixes : List PrefixValue) → parts_count p (in_messages room prefixes) ≡ count p prefixes
@@ -50,7 +55,8 @@ count-withdrawals p [] = refl
 count-withdrawals p (part ∷ parts) =
     count-append p (part ++ []) (prefixes_of (withdrawals parts)) ∙ omega (arith, count-append p part [], count-withdrawals p parts)
 
-count-announcements : (p : PrefixValue) (terms : Terms) (parts : List (List PrefixValue)) → count p (prefixes_of (announcements terms parts)) ≡ parts_count p parts
+count-announcements : (p : PrefixValue) (terms : Terms) (parts : List (List PrefixValue))
+    → count p (prefixes_of (announcements terms parts)) ≡ parts_count p parts
 count-announcements p terms [] = refl
 count-announcements p terms (part ∷ parts) =
     count-append p part (prefixes_of (announcements terms parts)) ∙ ap (λ n. count p part + n) (count-announcements p terms parts)
@@ -71,17 +77,20 @@ count-in_parts p room [] = refl
 count-in_parts p room (group ∷ groups) =
     let parts = in_messages (room group.terms) group.prefixes in
     count-updates p (announcements group.terms parts) (in_parts room groups)
-    ∙ ap (λ n. n + count p (prefixes_of (in_parts room groups))) (count-announcements p group.terms parts ∙ count-in_messages p (room group.terms) group.prefixes)
+    ∙ ap (λ n. n + count p (prefixes_of (in_parts room groups)))
+    (count-announcements p group.terms parts ∙ count-in_messages p (room group.terms) group.prefixes)
     ∙ ap (λ n. count p group.prefixes + n) (count-in_parts p room groups)
 
-count-with_route : (p : PrefixValue) (same : Terms → Terms → Bool) (groups : List Group) (route : PrefixValue × Terms) → groups_count p (with_route same groups route) ≡ groups_count p groups + one p route.0
+count-with_route : (p : PrefixValue) (same : Terms → Terms → Bool) (groups : List Group) (route : PrefixValue × Terms)
+    → groups_count p (with_route same groups route) ≡ groups_count p groups + one p route.0
 count-with_route p same [] route = omega arith
 count-with_route p same (group ∷ groups) route =
     by_bool (groups_count p (with_route same (group ∷ groups) route) ≡ groups_count p (group ∷ groups) + one p route.0) (same group.terms route.1)
     (λ e. rw e (ap (λ n. n + groups_count p groups) (count-append p group.prefixes (route.0 ∷ [])) ∙ omega arith))
     (λ e. rw e (ap (λ n. count p group.prefixes + n) (count-with_route p same groups route) ∙ omega arith))
 
-count-groups_from : (p : PrefixValue) (same : Terms → Terms → Bool) (groups : List Group) (routes : List (PrefixValue × Terms)) → groups_count p (groups_from same groups routes) ≡ groups_count p groups + count p (keys_of routes)
+count-groups_from : (p : PrefixValue) (same : Terms → Terms → Bool) (groups : List Group) (routes : List (PrefixValue × Terms))
+    → groups_count p (groups_from same groups routes) ≡ groups_count p groups + count p (keys_of routes)
 count-groups_from p same groups [] = omega arith
 count-groups_from p same groups (route ∷ routes) =
     count-groups_from p same (with_route same groups route) routes
@@ -91,7 +100,8 @@ count-groups_from p same groups (route ∷ routes) =
 abbrev pub differing : PrefixValue → List (PrefixValue × Terms) → List (PrefixValue × Terms) → ℕ
 differing p old new = count p (keys_of (gone old new)) + count p (keys_of (changed same_terms old new))
 
-counted-for : (family : Family) (peering : Peering) (old new : List (PrefixValue × Terms)) (p : PrefixValue) → count p (prefixes_of (updates_for family peering old new)) ≡ differing p old new
+counted-for : (family : Family) (peering : Peering) (old new : List (PrefixValue × Terms)) (p : PrefixValue)
+    → count p (prefixes_of (updates_for family peering old new)) ≡ differing p old new
 counted-for family peering old new p =
     let most = room_of (withdrawn_part family) in
     let room : Terms → ℕ = λ terms. room_of (announced_part family peering terms) in
@@ -99,11 +109,13 @@ counted-for family peering old new p =
     let groups = groups_from same_terms [] (changed same_terms old new) in
     count-updates p (withdrawals parts) (in_parts room groups)
     ∙ ap (λ n. n + count p (prefixes_of (in_parts room groups))) (count-withdrawals p parts ∙ count-in_messages p most (keys_of (gone old new)))
-    ∙ ap (λ n. count p (keys_of (gone old new)) + n) (count-in_parts p room groups ∙ count-groups_from p same_terms [] (changed same_terms old new) ∙ omega arith)
+    ∙ ap (λ n. count p (keys_of (gone old new)) + n)
+    (count-in_parts p room groups ∙ count-groups_from p same_terms [] (changed same_terms old new) ∙ omega arith)
 
 -- and all messages those of both
 counted : (peering : Peering) (old new : List (PrefixValue × Terms)) (p : PrefixValue)
-    → count p (prefixes_of (updates_between peering old new)) ≡ differing p (of_family V4 old) (of_family V4 new) + differing p (of_family V6 old) (of_family V6 new)
+    → count p (prefixes_of (updates_between peering old new))
+    ≡ differing p (of_family V4 old) (of_family V4 new) + differing p (of_family V6 old) (of_family V6 new)
 counted peering old new p =
     count-updates p (updates_for V4 peering (of_family V4 old) (of_family V4 new)) (updates_for V6 peering (of_family V6 old) (of_family V6 new))
     ∙ omega (arith, counted-for V4 peering (of_family V4 old) (of_family V4 new) p, counted-for V6 peering (of_family V6 old) (of_family V6 new) p)
@@ -124,7 +136,8 @@ count-distinct p (route ∷ routes) apart =
     rw own (omega (arith, count-none p (keys_of routes) absent)))
     (λ other. rw other (omega (arith, count-distinct p routes apart.1)))
 
-apart : (same : Terms → Terms → Bool) (there wanted : Option Terms) → is_some (cond (is_none wanted) there None) ≡ true → is_some (unless_same same there wanted) ≡ false
+apart : (same : Terms → Terms → Bool) (there wanted : Option Terms) → is_some (cond (is_none wanted) there None) ≡ true
+    → is_some (unless_same same there wanted) ≡ false
 apart same there None h = refl
 apart same there (Some t) h = cc
 
@@ -136,7 +149,8 @@ changed-any old new p are =
 once-for : (old new : List (PrefixValue × Terms)) (p : PrefixValue) → AreDistinct old → AreDistinct new → differing p old new ≤ 1
 once-for old new p old_are are =
     let gone_once = count-distinct p (gone old new) (filter-distinct (λ route. is_none (terms_at new route.0)) old old_are) in
-    let changed_once = count-distinct p (changed same_terms old new) (filter-distinct (λ route. not (stands_as same_terms (terms_at old route.0) route.1)) new are) in
+    let changed_once =
+    count-distinct p (changed same_terms old new) (filter-distinct (λ route. not (stands_as same_terms (terms_at old route.0) route.1)) new are) in
     by_bool (differing p old new ≤ 1) (list_any (same_prefix p) (keys_of (gone old new)))
     (λ there.
     let none = changed-any old new p are ∙ apart same_terms (terms_at old p) (terms_at new p) (sym (gone-at old new p) ∙ there) in
@@ -144,15 +158,19 @@ once-for old new p old_are are =
     (λ none. omega (arith, changed_once, count-none p (keys_of (gone old new)) none))
 
 -- ---- a family has no prefix of the other
-absent-for : (family : Family) (routes : List (PrefixValue × Terms)) (p : PrefixValue) → same_family p.family family ≡ false → list_any (same_prefix p) (keys_of (of_family family routes)) ≡ false
+absent-for : (family : Family) (routes : List (PrefixValue × Terms)) (p : PrefixValue) → same_family p.family family ≡ false
+    → list_any (same_prefix p) (keys_of (of_family family routes)) ≡ false
 absent-for family routes p other =
     sym (is_some-lookup (same_prefix p) (of_family family routes)) ∙ ap is_some (family-at family routes p ∙ ap (λ b. cond b (terms_at routes p) None) other)
 
-none-for : (family : Family) (old new : List (PrefixValue × Terms)) (p : PrefixValue) → same_family p.family family ≡ false → differing p (of_family family old) (of_family family new) ≡ 0
+none-for : (family : Family) (old new : List (PrefixValue × Terms)) (p : PrefixValue) → same_family p.family family ≡ false
+    → differing p (of_family family old) (of_family family new) ≡ 0
 none-for family old new p other =
-    let no_gone = count-none p (keys_of (gone (of_family family old) (of_family family new))) (filter-absent p (λ route. is_none (terms_at (of_family family new) route.0)) (of_family family old) (absent-for family old p other)) in
+    let no_gone = count-none p (keys_of (gone (of_family family old) (of_family family new)))
+    (filter-absent p (λ route. is_none (terms_at (of_family family new) route.0)) (of_family family old) (absent-for family old p other)) in
     let no_changed = count-none p (keys_of (changed same_terms (of_family family old) (of_family family new)))
-    (filter-absent p (λ route. not (stands_as same_terms (terms_at (of_family family old) route.0) route.1)) (of_family family new) (absent-for family new p other)) in
+    (filter-absent p (λ route. not (stands_as same_terms (terms_at (of_family family old) route.0) route.1)) (of_family family new)
+    (absent-for family new p other)) in
     omega (arith, no_gone, no_changed)
 
 pub either : (f : Family) → same_family f V4 ≡ true → same_family f V6 ≡ false
@@ -226,7 +244,8 @@ differ-for old new p are some equal =
     (λ no. absurd (omega (arith, some, count-none p (keys_of (gone old new)) none, count-none p (keys_of (changed same_terms old new)) no))))
 
 -- equal routes of a prefix are equal among those of a family
-equal-for : (family : Family) (old new : List (PrefixValue × Terms)) (p : PrefixValue) → terms_at old p ≡ terms_at new p → terms_at (of_family family old) p ≡ terms_at (of_family family new) p
+equal-for : (family : Family) (old new : List (PrefixValue × Terms)) (p : PrefixValue) → terms_at old p ≡ terms_at new p
+    → terms_at (of_family family old) p ≡ terms_at (of_family family new) p
 equal-for family old new p equal = family-at family old p ∙ ap (λ t. cond (same_family p.family family) t None) equal ∙ sym (family-at family new p)
 
 pub named-differ : NamedPrefixesDiffer
@@ -234,5 +253,7 @@ named-differ peering old new table p there equal =
     let are = distinct new table.1 in
     let some = named-counted p (updates_between peering old new) there in
     by_bool ⊥ (same_family p.family V4)
-    (λ v4. differ-for (of_family V4 old) (of_family V4 new) p (family-distinct V4 new are) (omega (arith, some, counted peering old new p, none-for V6 old new p (either p.family v4))) (equal-for V4 old new p equal))
-    (λ v6. differ-for (of_family V6 old) (of_family V6 new) p (family-distinct V6 new are) (omega (arith, some, counted peering old new p, none-for V4 old new p v6)) (equal-for V6 old new p equal))
+    (λ v4. differ-for (of_family V4 old) (of_family V4 new) p (family-distinct V4 new are)
+    (omega (arith, some, counted peering old new p, none-for V6 old new p (either p.family v4))) (equal-for V4 old new p equal))
+    (λ v6. differ-for (of_family V6 old) (of_family V6 new) p (family-distinct V6 new are)
+    (omega (arith, some, counted peering old new p, none-for V4 old new p v6)) (equal-for V6 old new p equal))

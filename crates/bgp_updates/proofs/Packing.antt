@@ -1,5 +1,6 @@
 -- Prefixes packed into messages.
-use Rattle.std.proofs.Common.{◌≡◌, ℕ, suc, Bool, true, false, leb, ◌+◌, ◌-◌, ◌<◌, ◌≤◌, List, [], ◌∷◌, ◌++◌, length, map, take, drop, All, refl, sym, ◌∙◌, ap, arith, length-append, length-take, append_assoc}
+use Rattle.std.proofs.Common.{◌≡◌, ℕ, suc, Bool, true, false, leb, ◌+◌, ◌-◌, ◌<◌, ◌≤◌, List, [], ◌∷◌, ◌++◌, length, map}
+use Rattle.std.proofs.Common.{take, drop, All, refl, sym, ◌∙◌, ap, arith, length-append, length-take, append_assoc}
 use Rattle.std.proofs.lemmas.Bool.{leb-true, leb-false, le-leb, lt-leb}
 use Rattle.std.proofs.lemmas.List.{append-nil}
 use Rattle.std.proofs.lemmas.List.Elements.{All-tail, All-drop}
@@ -7,7 +8,8 @@ use Rattle.ip_ranges.specs.declared.family.Family.{Family}
 use Rattle.ip_ranges.specs.declared.family.Family.TheVariants.{V4, V6}
 use Rattle.ip_ranges.specs.Values.{PrefixValue, width_of}
 use Rattle.bgp_updates.specs.declared.part.Part.{Part}
-use Rattle.bgp_updates.specs.Message.{Fits, address_bytes, octets, prefix_bytes, prefixes_bytes, fitting, packed, in_messages, part_message, part_messages, part_size, room_of}
+use Rattle.bgp_updates.specs.Message.{Fits, address_bytes, octets, prefix_bytes, prefixes_bytes, fitting}
+use Rattle.bgp_updates.specs.Message.{packed, in_messages, part_message, part_messages, part_size, room_of}
 
 -- what is counted, and what fits of the rest
 pub record IsCounted (room left count index : ℕ) (prefixes : List PrefixValue) : Type 0 where
@@ -19,7 +21,8 @@ pub record IsPacked (part : Part) (start messages : List (List ℕ)) (rest prefi
   pub packed : messages ++ part_messages part rest ≡ start ++ part_messages part prefixes
   pub short : All Fits rest
 
-pub fitting-fits : (left : ℕ) (p : PrefixValue) (rest : List PrefixValue) → 1 + octets p ≤ left → fitting left (p ∷ rest) ≡ suc (fitting (left - (1 + octets p)) rest)
+pub fitting-fits : (left : ℕ) (p : PrefixValue) (rest : List PrefixValue) → 1 + octets p ≤ left
+    → fitting left (p ∷ rest) ≡ suc (fitting (left - (1 + octets p)) rest)
 fitting-fits left p rest fits = rw (le-leb (1 + octets p) left fits) refl
 
 pub fitting-full : (left : ℕ) (p : PrefixValue) (rest : List PrefixValue) → left < 1 + octets p → fitting left (p ∷ rest) ≡ 0
@@ -43,7 +46,12 @@ length-prefix_bytes p = omega (arith, length-take (octets p) (address_bytes p.fa
 pub fitting-octets : (left : ℕ) (prefixes : List PrefixValue) → length (prefixes_bytes (take (fitting left prefixes) prefixes)) ≤ left
 fitting-octets left [] = omega arith
 fitting-octets left (p ∷ rest) = by_test (length (prefixes_bytes (take (fitting left (p ∷ rest)) (p ∷ rest))) ≤ left) (1 + octets p) left
-    (λ fits. rw (fitting-fits left p rest fits) (omega (arith, fitting-octets (left - (1 + octets p)) rest, length-prefix_bytes p, length-append (prefix_bytes p) (prefixes_bytes (take (fitting (left - (1 + octets p)) rest) rest)))))
+    (λ fits. rw (fitting-fits left p rest fits) (omega (
+      arith,
+      fitting-octets (left - (1 + octets p)) rest,
+      length-prefix_bytes p,
+      length-append (prefix_bytes p) (prefixes_bytes (take (fitting (left - (1 + octets p)) rest) rest)),
+    )))
     (λ full. rw (fitting-full left p rest full) (omega arith))
 
 pub widest : (family : Family) → width_of family ≤ 128
@@ -67,7 +75,8 @@ packed-fitting room left [] wide small = refl
 packed-fitting room left (p ∷ rest) wide small =
     let first = small_octets p ((small 0 p (omega arith)).0) in
     let others = All-tail Fits p rest small in
-    by_test (packed room left (p ∷ rest) ≡ take (fitting left (p ∷ rest)) (p ∷ rest) ∷ in_messages room (drop (fitting left (p ∷ rest)) (p ∷ rest))) (1 + octets p) left
+    by_test (packed room left (p ∷ rest) ≡ take (fitting left (p ∷ rest)) (p ∷ rest) ∷ in_messages room (drop (fitting left (p ∷ rest)) (p ∷ rest)))
+    (1 + octets p) left
     (λ fits. rw (le-leb (1 + octets p) left fits, packed-fitting room (left - (1 + octets p)) rest wide others) refl)
     (λ full. rw (lt-leb (1 + octets p) left full, le-leb (1 + octets p) room (omega arith)) refl)
 
@@ -77,7 +86,8 @@ unfolding in_messages
 in_messages-next room [] wide some small = absurd (omega arith)
 in_messages-next room (p ∷ rest) wide some small = packed-fitting room room (p ∷ rest) wide small
 
-pub IsPacked-next : (part : Part) (start messages : List (List ℕ)) (rest prefixes : List PrefixValue) (m : List ℕ) (n : ℕ) → IsPacked part start messages rest prefixes
+pub IsPacked-next : (part : Part) (start messages : List (List ℕ)) (rest prefixes : List PrefixValue) (m : List ℕ) (n : ℕ)
+    → IsPacked part start messages rest prefixes
     → part_size part ≤ 4000 → 0 < length rest → n ≡ fitting (room_of part) rest → m ≡ part_message part (take n rest)
     → IsPacked part start (messages ++ m ∷ []) (drop n rest) prefixes
 IsPacked-next part start messages rest prefixes m n held room some count message = record {
@@ -87,7 +97,8 @@ IsPacked-next part start messages rest prefixes m n held room some count message
   short = All-drop Fits n rest held.short;
 }
 
-pub IsPacked-end : (part : Part) (start messages : List (List ℕ)) (rest prefixes : List PrefixValue) → IsPacked part start messages rest prefixes → length rest ≡ 0
+pub IsPacked-end : (part : Part) (start messages : List (List ℕ)) (rest prefixes : List PrefixValue) → IsPacked part start messages rest prefixes
+    → length rest ≡ 0
     → messages ≡ start ++ part_messages part prefixes
 unfolding in_messages
 IsPacked-end part start messages [] prefixes held none = sym (append-nil messages) ∙ held.packed

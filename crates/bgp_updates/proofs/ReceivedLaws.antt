@@ -1,5 +1,6 @@
 -- After the messages between two tables the table is the new one.
-use Rattle.std.proofs.Common.{length, ◌≡◌, ℕ, Bool, true, false, ◌&&◌, ◌||◌, ◌==◌, not, cond, ◌+◌, ◌-◌, nat_le, is_none, is_some, List, [], ◌∷◌, ◌++◌, filter, Option, Some, None, refl, sym, ◌∙◌, ap}
+use Rattle.std.proofs.Common.{length, ◌≡◌, ℕ, Bool, true, false, ◌&&◌, ◌||◌, ◌==◌, not, cond, ◌+◌, ◌-◌, nat_le}
+use Rattle.std.proofs.Common.{is_none, is_some, List, [], ◌∷◌, ◌++◌, filter, Option, Some, None, refl, sym, ◌∙◌, ap}
 use Rattle.std.specs.Option.{option_or}
 use Rattle.std.specs.List.{list_any, flat_map}
 use Rattle.std.specs.Map.{keys_of}
@@ -21,7 +22,8 @@ use Rattle.std.specs.List.{list_all}
 use Rattle.bgp_updates.specs.Tables.{Ascend, before, families_before, numbers_before, of_family}
 use Rattle.bgp_updates.specs.Laws.{MessagesGiveTheTable, updates_for}
 use Rattle.bgp_updates.specs.Message.{announced_part, octets, in_messages, packed, room_of, with_first, withdrawn_part}
-use Rattle.bgp_updates.specs.Received.{same_large, same_preference, same_terms, updates_of, same_prefix, Update, after, received, terms_at, with_route, groups_from, gone, changed, stands_as, withdrawals, announcements, AreDistinct, UpdatesGiveTheTable}
+use Rattle.bgp_updates.specs.Received.{same_large, same_preference, same_terms, updates_of, same_prefix, Update, after, received, terms_at, with_route}
+use Rattle.bgp_updates.specs.Received.{groups_from, gone, changed, stands_as, withdrawals, announcements, AreDistinct, UpdatesGiveTheTable}
 
 pub both_true : (a b : Bool) → (a && b) ≡ true → (a ≡ true) × (b ≡ true)
 both_true true b h = (refl, h)
@@ -73,12 +75,16 @@ any_part-with_first p q (first ∷ more) = or_assoc (same_prefix p q) (list_any 
 any_part-packed : (p : PrefixValue) (room left : ℕ) (prefixes : List PrefixValue) → any_part p (packed room left prefixes) ≡ list_any (same_prefix p) prefixes
 any_part-packed p room left [] = refl
 any_part-packed p room left (q ∷ rest) =
-    elim (nat_le (1 + octets q) left) as (λ v. any_part p (cond v (with_first q (packed room (left - (1 + octets q)) rest)) ([] ∷ with_first q (packed room (room - (1 + octets q)) rest))) ≡ same_prefix p q || list_any (same_prefix p) rest) [
-      | true ↦ any_part-with_first p q (packed room (left - (1 + octets q)) rest) ∙ ap (λ b. same_prefix p q || b) (any_part-packed p room (left - (1 + octets q)) rest)
-      | false ↦ any_part-with_first p q (packed room (room - (1 + octets q)) rest) ∙ ap (λ b. same_prefix p q || b) (any_part-packed p room (room - (1 + octets q)) rest)
+    elim (nat_le (1 + octets q) left) as (λ v. any_part p (cond v (with_first q (packed room (left - (1 + octets q)) rest))
+    ([] ∷ with_first q (packed room (room - (1 + octets q)) rest))) ≡ same_prefix p q || list_any (same_prefix p) rest) [
+      | true ↦ any_part-with_first p q (packed room (left - (1 + octets q)) rest)
+          ∙ ap (λ b. same_prefix p q || b) (any_part-packed p room (left - (1 + octets q)) rest)
+      | false ↦ any_part-with_first p q (packed room (room - (1 + octets q)) rest)
+          ∙ ap (λ b. same_prefix p q || b) (any_part-packed p room (room - (1 + octets q)) rest)
     ]
 
-pub any_part-in_messages : (p : PrefixValue) (room : ℕ) (prefixes : List PrefixValue) → any_part p (in_messages room prefixes) ≡ list_any (same_prefix p) prefixes
+pub any_part-in_messages : (p : PrefixValue) (room : ℕ) (prefixes : List PrefixValue)
+    → any_part p (in_messages room prefixes) ≡ list_any (same_prefix p) prefixes
 unfolding in_messages
 any_part-in_messages p room [] = refl
 any_part-in_messages p room (q ∷ rest) = any_part-packed p room room (q ∷ rest)
@@ -126,17 +132,21 @@ any_group p groups = list_any (λ group. list_any (same_prefix p) group.prefixes
 abbrev pub in_parts : (Terms → ℕ) → List Group → List Update
 in_parts room groups = flat_map (λ group. announcements group.terms (in_messages (room group.terms) group.prefixes)) groups
 
-received-groups : (room : Terms → ℕ) (table : PrefixValue → Option Terms) (groups : List Group) (p : PrefixValue) → received table (in_parts room groups) p ≡ found p groups (table p)
+received-groups : (room : Terms → ℕ) (table : PrefixValue → Option Terms) (groups : List Group) (p : PrefixValue)
+    → received table (in_parts room groups) p ≡ found p groups (table p)
 received-groups room table [] p = refl
 received-groups room table (group ∷ groups) p =
     let parts = in_messages (room group.terms) group.prefixes in
     ap (λ f. f p) (received-append table (announcements group.terms parts) (in_parts room groups))
     ∙ received-groups room (received table (announcements group.terms parts)) groups p
-    ∙ ap (found p groups) (received-announcements table group.terms parts p ∙ ap (λ b. cond b (Some group.terms) (table p)) (any_part-in_messages p (room group.terms) group.prefixes))
+    ∙ ap (found p groups) (received-announcements table group.terms parts p
+    ∙ ap (λ b. cond b (Some group.terms) (table p)) (any_part-in_messages p (room group.terms) group.prefixes))
 
-pub list_any-push : (p q : PrefixValue) (prefixes : List PrefixValue) → list_any (same_prefix p) (prefixes ++ q ∷ []) ≡ list_any (same_prefix p) prefixes || same_prefix p q
+pub list_any-push : (p q : PrefixValue) (prefixes : List PrefixValue)
+    → list_any (same_prefix p) (prefixes ++ q ∷ []) ≡ list_any (same_prefix p) prefixes || same_prefix p q
 list_any-push p q [] = or_false (same_prefix p q)
-list_any-push p q (first ∷ rest) = ap (λ b. same_prefix p first || b) (list_any-push p q rest) ∙ sym (or_assoc (same_prefix p first) (list_any (same_prefix p) rest) (same_prefix p q))
+list_any-push p q (first ∷ rest) =
+    ap (λ b. same_prefix p first || b) (list_any-push p q rest) ∙ sym (or_assoc (same_prefix p first) (list_any (same_prefix p) rest) (same_prefix p q))
 
 pub or_parts : (a b : Bool) → a || b ≡ false → (a ≡ false) × (b ≡ false)
 or_parts true b h = cc
@@ -161,10 +171,13 @@ pub by_bool : (P : Type 0) (b : Bool) → (b ≡ true → P) → (b ≡ false �
 by_bool P true holds fails = holds refl
 by_bool P false holds fails = fails refl
 
-push-other : (p : PrefixValue) (route : PrefixValue × Terms) (prefixes : List PrefixValue) → same_prefix p route.0 ≡ false → list_any (same_prefix p) (prefixes ++ route.0 ∷ []) ≡ list_any (same_prefix p) prefixes
-push-other p route prefixes other = list_any-push p route.0 prefixes ∙ ap (λ v. list_any (same_prefix p) prefixes || v) other ∙ or_false (list_any (same_prefix p) prefixes)
+push-other : (p : PrefixValue) (route : PrefixValue × Terms) (prefixes : List PrefixValue) → same_prefix p route.0 ≡ false
+    → list_any (same_prefix p) (prefixes ++ route.0 ∷ []) ≡ list_any (same_prefix p) prefixes
+push-other p route prefixes other =
+    list_any-push p route.0 prefixes ∙ ap (λ v. list_any (same_prefix p) prefixes || v) other ∙ or_false (list_any (same_prefix p) prefixes)
 
-found-other : (same : Terms → Terms → Bool) (groups : List Group) (route : PrefixValue × Terms) (p : PrefixValue) (t : Option Terms) → same_prefix p route.0 ≡ false
+found-other : (same : Terms → Terms → Bool) (groups : List Group) (route : PrefixValue × Terms) (p : PrefixValue) (t : Option Terms)
+    → same_prefix p route.0 ≡ false
     → found p (with_route same groups route) t ≡ found p groups t
 found-other same [] route p t other = rw other refl
 found-other same (group ∷ groups) route p t other =
@@ -180,7 +193,8 @@ any_group-other same (group ∷ groups) route p other =
     (λ e. rw e (ap (λ b. b || any_group p groups) (push-other p route group.prefixes other)))
     (λ e. rw e (ap (λ b. list_any (same_prefix p) group.prefixes || b) (any_group-other same groups route p other)))
 
-found-own : (same : Terms → Terms → Bool) → ((s t : Terms) → same s t ≡ true → s ≡ t) → (groups : List Group) (route : PrefixValue × Terms) (p : PrefixValue) (t : Option Terms)
+found-own : (same : Terms → Terms → Bool) → ((s t : Terms) → same s t ≡ true → s ≡ t)
+    → (groups : List Group) (route : PrefixValue × Terms) (p : PrefixValue) (t : Option Terms)
     → same_prefix p route.0 ≡ true → any_group p groups ≡ false → found p (with_route same groups route) t ≡ Some route.1
 found-own same sound [] route p t own absent = rw own refl
 found-own same sound (group ∷ groups) route p t own absent =
@@ -188,7 +202,8 @@ found-own same sound (group ∷ groups) route p t own absent =
     let there : list_any (same_prefix p) (group.prefixes ++ route.0 ∷ []) ≡ true =
     list_any-push p route.0 group.prefixes ∙ ap (λ v. list_any (same_prefix p) group.prefixes || v) own ∙ or_true (list_any (same_prefix p) group.prefixes) in
     by_bool (found p (with_route same (group ∷ groups) route) t ≡ Some route.1) (same group.terms route.1)
-    (λ e. rw e (ap (λ b. found p groups (cond b (Some group.terms) t)) there ∙ found-absent p groups (Some group.terms) parts.1 ∙ ap Some (sound group.terms route.1 e)))
+    (λ e. rw e (ap (λ b. found p groups (cond b (Some group.terms) t)) there ∙ found-absent p groups (Some group.terms) parts.1
+    ∙ ap Some (sound group.terms route.1 e)))
     (λ e. rw e (found-own same sound groups route p (cond (list_any (same_prefix p) group.prefixes) (Some group.terms) t) own parts.1))
 
 found-no_route : (same : Terms → Terms → Bool) (groups : List Group) (routes : List (PrefixValue × Terms)) (p : PrefixValue) (t : Option Terms)
@@ -198,7 +213,8 @@ found-no_route same groups (route ∷ routes) p t absent =
     let parts = or_parts (same_prefix p route.0) (list_any (same_prefix p) (keys_of routes)) absent in
     found-no_route same (with_route same groups route) routes p t parts.1 ∙ found-other same groups route p t parts.0
 
-found-groups : (same : Terms → Terms → Bool) → ((s t : Terms) → same s t ≡ true → s ≡ t) → (groups : List Group) (routes : List (PrefixValue × Terms)) (p : PrefixValue) (t : Option Terms)
+found-groups : (same : Terms → Terms → Bool) → ((s t : Terms) → same s t ≡ true → s ≡ t)
+    → (groups : List Group) (routes : List (PrefixValue × Terms)) (p : PrefixValue) (t : Option Terms)
     → AreDistinct routes → (any_group p groups ≡ true → list_any (same_prefix p) (keys_of routes) ≡ false)
     → found p (groups_from same groups routes) t ≡ option_or (terms_at routes p) (found p groups t)
 found-groups same sound groups [] p t distinct apart = refl
@@ -207,16 +223,19 @@ found-groups same sound groups (route ∷ routes) p t distinct apart =
     (λ own.
     let here = same_prefix-is p route.0 own in
     let absent : list_any (same_prefix p) (keys_of routes) ≡ false = rw here distinct.0 in
-    let fresh : any_group p groups ≡ false = not_true (any_group p groups) (λ there. let no = (or_parts (same_prefix p route.0) (list_any (same_prefix p) (keys_of routes)) (apart there)).0 in cc) in
+    let fresh : any_group p groups ≡ false = not_true (any_group p groups)
+    (λ there. let no = (or_parts (same_prefix p route.0) (list_any (same_prefix p) (keys_of routes)) (apart there)).0 in cc) in
     found-no_route same (with_route same groups route) routes p t absent ∙ found-own same sound groups route p t own fresh ∙ rw own refl)
     (λ other.
     found-groups same sound (with_route same groups route) routes p t distinct.1
-    (λ there. (or_parts (same_prefix p route.0) (list_any (same_prefix p) (keys_of routes)) (apart (sym (any_group-other same groups route p other) ∙ there))).1)
+    (λ there.
+    (or_parts (same_prefix p route.0) (list_any (same_prefix p) (keys_of routes)) (apart (sym (any_group-other same groups route p other) ∙ there))).1)
     ∙ ap (option_or (terms_at routes p)) (found-other same groups route p t other) ∙ rw other refl)
 
 -- ---- the routes that changed, and those that are gone
 
-pub filter-absent : (p : PrefixValue) (keep : PrefixValue × Terms → Bool) (routes : List (PrefixValue × Terms)) → list_any (same_prefix p) (keys_of routes) ≡ false
+pub filter-absent : (p : PrefixValue) (keep : PrefixValue × Terms → Bool) (routes : List (PrefixValue × Terms))
+    → list_any (same_prefix p) (keys_of routes) ≡ false
     → list_any (same_prefix p) (keys_of (filter keep routes)) ≡ false
 filter-absent p keep [] absent = refl
 filter-absent p keep (route ∷ routes) absent =
@@ -254,19 +273,23 @@ changed-at same old (route ∷ routes) p distinct =
     let here = same_prefix-is p route.0 own in
     let absent : list_any (same_prefix p) (keys_of routes) ≡ false = rw here distinct.0 in
     let rest = lookup-absent p (changed same old routes) (filter-absent p (λ route. not (stands_as same (terms_at old route.0) route.1)) routes absent) in
-    by_bool (terms_at (changed same old (route ∷ routes)) p ≡ unless_same same (terms_at old p) (terms_at (route ∷ routes) p)) (not (stands_as same (terms_at old route.0) route.1))
+    by_bool (terms_at (changed same old (route ∷ routes)) p ≡ unless_same same (terms_at old p) (terms_at (route ∷ routes) p))
+    (not (stands_as same (terms_at old route.0) route.1))
     (λ kept. let there : not (stands_as same (terms_at old p) route.1) ≡ true = rw here kept in rw (kept, own, there) refl)
     (λ passed. let there : not (stands_as same (terms_at old p) route.1) ≡ false = rw here passed in rw (passed, own, there) rest))
     (λ other.
-    elim (not (stands_as same (terms_at old route.0) route.1)) as (λ v. terms_at (cond v (route ∷ changed same old routes) (changed same old routes)) p ≡ unless_same same (terms_at old p) (terms_at (route ∷ routes) p)) [
+    elim (not (stands_as same (terms_at old route.0) route.1)) as (λ v. terms_at (cond v (route ∷ changed same old routes) (changed same old routes)) p
+    ≡ unless_same same (terms_at old p) (terms_at (route ∷ routes) p)) [
       | true ↦ rw other (changed-at same old routes p distinct.1)
       | false ↦ rw other (changed-at same old routes p distinct.1)
     ])
 
-pub gone-at : (old new : List (PrefixValue × Terms)) (p : PrefixValue) → list_any (same_prefix p) (keys_of (gone old new)) ≡ is_some (cond (is_none (terms_at new p)) (terms_at old p) None)
+pub gone-at : (old new : List (PrefixValue × Terms)) (p : PrefixValue)
+    → list_any (same_prefix p) (keys_of (gone old new)) ≡ is_some (cond (is_none (terms_at new p)) (terms_at old p) None)
 gone-at old new p =
     sym (is_some-lookup (same_prefix p) (gone old new))
-    ∙ ap is_some (lookup-filter-keys (same_prefix p) (λ q. is_none (terms_at new q)) (is_none (terms_at new p)) (λ q is. ap (λ r. is_none (terms_at new r)) (sym (same_prefix-is p q is))) old)
+    ∙ ap is_some (lookup-filter-keys (same_prefix p) (λ q. is_none (terms_at new q)) (is_none (terms_at new p))
+    (λ q is. ap (λ r. is_none (terms_at new r)) (sym (same_prefix-is p q is))) old)
 
 finish : (same : Terms → Terms → Bool) → ((s t : Terms) → same s t ≡ true → s ≡ t) → (there wanted : Option Terms)
     → option_or (unless_same same there wanted) (cond (is_some (cond (is_none wanted) there None)) None there) ≡ wanted
@@ -282,7 +305,8 @@ finish same sound (Some s) (Some t) =
 abbrev pub made_of : (Terms → Terms → Bool) → Option Terms → Option Terms → Option Terms → Option Terms
 made_of same there wanted at = option_or (unless_same same there wanted) (cond (is_some (cond (is_none wanted) there None)) None at)
 
-pub updates-make : (same : Terms → Terms → Bool) → ((s t : Terms) → same s t ≡ true → s ≡ t) → (most : ℕ) (room : Terms → ℕ) (table : PrefixValue → Option Terms) (old new : List (PrefixValue × Terms)) → AreDistinct new
+pub updates-make : (same : Terms → Terms → Bool) → ((s t : Terms) → same s t ≡ true → s ≡ t)
+    → (most : ℕ) (room : Terms → ℕ) (table : PrefixValue → Option Terms) (old new : List (PrefixValue × Terms)) → AreDistinct new
     → (p : PrefixValue) → received table (updates_of same most room old new) p ≡ made_of same (terms_at old p) (terms_at new p) (table p)
 updates-make same sound most room table old new distinct p =
     let parts = in_messages most (keys_of (gone old new)) in
@@ -290,7 +314,8 @@ updates-make same sound most room table old new distinct p =
     let withdrawn = received table (withdrawals parts) in
     ap (λ f. f p) (received-append table (withdrawals parts) (in_parts room groups))
     ∙ received-groups room withdrawn groups p
-    ∙ found-groups same sound [] (changed same old new) p (withdrawn p) (filter-distinct (λ route. not (stands_as same (terms_at old route.0) route.1)) new distinct) (λ there. cc)
+    ∙ found-groups same sound [] (changed same old new) p (withdrawn p)
+    (filter-distinct (λ route. not (stands_as same (terms_at old route.0) route.1)) new distinct) (λ there. cc)
     ∙ ap (λ t. option_or t (withdrawn p)) (changed-at same old new p distinct)
     ∙ ap (option_or (unless_same same (terms_at old p) (terms_at new p))) (received-withdrawals table parts p
     ∙ ap (λ b. cond b None (table p)) (any_part-in_messages p most (keys_of (gone old new)) ∙ gone-at old new p))
@@ -318,7 +343,8 @@ same_large-itself : (c : LargeCommunity) → same_large c c ≡ true
 same_large-itself c = rw (eq-eqb c.global c.global refl, eq-eqb c.first c.first refl, eq-eqb c.second c.second refl) refl
 
 pub same_larges-Decides : (xs ys : List LargeCommunity) → Decides (pointwise same_large xs ys) (xs ≡ ys)
-same_larges-Decides xs ys = slice_eq-Decides {E = same_large} (λ c d. (same_large-is c d, λ e. ap (same_large c) (sym e) ∙ same_large-itself c)) xs ys (pointwise same_large xs ys) refl
+same_larges-Decides xs ys =
+    slice_eq-Decides {E = same_large} (λ c d. (same_large-is c d, λ e. ap (same_large c) (sym e) ∙ same_large-itself c)) xs ys (pointwise same_large xs ys) refl
 
 -- Terms that are found the same are the same.
 pub same_terms-is : (s t : Terms) → same_terms s t ≡ true → s ≡ t
@@ -360,16 +386,19 @@ distinct (route ∷ routes) ascend = (none-same route.0 (keys_of routes) ascend.
 
 -- ---- the routes of a family
 -- what a table has of them at a prefix
-pub family-at : (family : Family) (routes : List (PrefixValue × Terms)) (p : PrefixValue) → terms_at (of_family family routes) p ≡ cond (same_family p.family family) (terms_at routes p) None
+pub family-at : (family : Family) (routes : List (PrefixValue × Terms)) (p : PrefixValue)
+    → terms_at (of_family family routes) p ≡ cond (same_family p.family family) (terms_at routes p) None
 family-at family routes p =
-    lookup-filter-keys (same_prefix p) (λ q. same_family q.family family) (same_family p.family family) (λ q is. ap (λ r. same_family r.family family) (sym (same_prefix-is p q is))) routes
+    lookup-filter-keys (same_prefix p) (λ q. same_family q.family family) (same_family p.family family)
+    (λ q is. ap (λ r. same_family r.family family) (sym (same_prefix-is p q is))) routes
 
 pub family-distinct : (family : Family) (routes : List (PrefixValue × Terms)) → AreDistinct routes → AreDistinct (of_family family routes)
 family-distinct family routes are = filter-distinct (λ route. same_family route.0.family family) routes are
 
 -- the messages of one family leave the other's routes
 both-made : (same : Terms → Terms → Bool) → ((s t : Terms) → same s t ≡ true → s ≡ t) → (f : Family) (there wanted : Option Terms)
-    → made_of same (cond (same_family f V6) there None) (cond (same_family f V6) wanted None) (made_of same (cond (same_family f V4) there None) (cond (same_family f V4) wanted None) there) ≡ wanted
+    → made_of same (cond (same_family f V6) there None) (cond (same_family f V6) wanted None)
+    (made_of same (cond (same_family f V4) there None) (cond (same_family f V4) wanted None) there) ≡ wanted
 both-made same sound V4 there wanted = finish same sound there wanted
 both-made same sound V6 there wanted = finish same sound there wanted
 
@@ -380,7 +409,10 @@ messages-give peering old new table p =
     let second = updates_for V6 peering (of_family V6 old) (of_family V6 new) in
     let room : Family → Terms → ℕ = λ family terms. room_of (announced_part family peering terms) in
     ap (λ f. f p) (received-append (terms_at old) first second)
-    ∙ updates-make same_terms same_terms-is (room_of (withdrawn_part V6)) (room V6) (received (terms_at old) first) (of_family V6 old) (of_family V6 new) (family-distinct V6 new are) p
+    ∙ updates-make same_terms same_terms-is (room_of (withdrawn_part V6)) (room V6) (received (terms_at old) first) (of_family V6 old) (of_family V6 new)
+    (family-distinct V6 new are) p
     ∙ ap (made_of same_terms (terms_at (of_family V6 old) p) (terms_at (of_family V6 new) p))
-    (updates-make same_terms same_terms-is (room_of (withdrawn_part V4)) (room V4) (terms_at old) (of_family V4 old) (of_family V4 new) (family-distinct V4 new are) p)
-    ∙ rw (family-at V6 old p, family-at V6 new p, family-at V4 old p, family-at V4 new p) (both-made same_terms same_terms-is p.family (terms_at old p) (terms_at new p))
+    (updates-make same_terms same_terms-is (room_of (withdrawn_part V4)) (room V4) (terms_at old) (of_family V4 old) (of_family V4 new)
+    (family-distinct V4 new are) p)
+    ∙ rw (family-at V6 old p, family-at V6 new p, family-at V4 old p, family-at V4 new p)
+    (both-made same_terms same_terms-is p.family (terms_at old p) (terms_at new p))

@@ -1,5 +1,6 @@
 -- No message has more than 4,096 octets.
-use Rattle.std.proofs.Common.{◌≡◌, ℕ, true, false, cond, nat_le, ◌+◌, ◌-◌, ◌≤◌, List, [], ◌∷◌, ◌++◌, length, map, All, Result, Ok, Err, IfOk, sym, subst, arith, length-append}
+use Rattle.std.proofs.Common.{◌≡◌, ℕ, true, false, cond, nat_le, ◌+◌, ◌-◌, ◌≤◌, List, [], ◌∷◌, ◌++◌, length}
+use Rattle.std.proofs.Common.{map, All, Result, Ok, Err, IfOk, sym, subst, arith, length-append}
 use Rattle.std.proofs.lemmas.Bool.{le-leb, lt-leb}
 use Rattle.std.proofs.lemmas.List.Elements.{All-from_recursion, recursion_from_All}
 use Rattle.std.specs.List.{AllByRecursion, flat_map}
@@ -14,7 +15,8 @@ use Rattle.bgp_updates.specs.declared.route.Terms.{Terms}
 use Rattle.bgp_updates.specs.Tables.{HasFew, IsTable, of_family}
 use Rattle.bgp_updates.specs.declared.route.Group.{Group}
 use Rattle.bgp_updates.specs.declared.route.Peering.{Peering}
-use Rattle.bgp_updates.specs.Message.{Fits, announced_part, attribute, in_messages, message_of, octets, packed, part_bytes, part_message, part_messages, part_size, prefix_bytes, prefixes_bytes, reach_attribute, room_of, unreach_attribute, with_first, withdrawn_part}
+use Rattle.bgp_updates.specs.Message.{Fits, announced_part, attribute, in_messages, message_of, octets, packed, part_bytes, part_message, part_messages}
+use Rattle.bgp_updates.specs.Message.{part_size, prefix_bytes, prefixes_bytes, reach_attribute, room_of, unreach_attribute, with_first, withdrawn_part}
 use Rattle.bgp_updates.specs.Between.{IsGroup, group_messages, messages_between, messages_for}
 use Rattle.bgp_updates.specs.Received.{changed, gone, groups_from, same_terms}
 use Rattle.bgp_updates.specs.Laws.{MessagesFit}
@@ -30,7 +32,8 @@ abbrev pub Sized : ℕ → ℕ → List (List PrefixValue) → Type 0
 Sized room left [] = Unit {0}
 Sized room left (first ∷ more) = Within left first × AllByRecursion (Within room) more
 
-sized-with_first : (room left : ℕ) (p : PrefixValue) (parts : List (List PrefixValue)) → 1 + octets p ≤ left → Sized room (left - (1 + octets p)) parts → Sized room left (with_first p parts)
+sized-with_first : (room left : ℕ) (p : PrefixValue) (parts : List (List PrefixValue)) → 1 + octets p ≤ left → Sized room (left - (1 + octets p)) parts
+    → Sized room left (with_first p parts)
 sized-with_first room left p [] fits sized = (omega (arith, length-prefix_bytes p, length-append (prefix_bytes p) []), tt)
 sized-with_first room left p (first ∷ more) fits sized =
     (omega (arith, length-prefix_bytes p, length-append (prefix_bytes p) (prefixes_bytes first), sized.0), sized.1)
@@ -44,11 +47,16 @@ sized-packed room left [] wide fit = (omega arith, tt)
 sized-packed room left (p ∷ rest) wide fit =
     let short = small_octets p fit.0.0 in
     by_test (Sized room left (packed room left (p ∷ rest))) (1 + octets p) left
-    (λ fits. rw (le-leb (1 + octets p) left fits) (sized-with_first room left p (packed room (left - (1 + octets p)) rest) fits (sized-packed room (left - (1 + octets p)) rest wide fit.1)))
-    (λ full. rw (lt-leb (1 + octets p) left full)
-    (omega arith, all-sized room (with_first p (packed room (room - (1 + octets p)) rest)) (sized-with_first room room p (packed room (room - (1 + octets p)) rest) (omega (arith, short)) (sized-packed room (room - (1 + octets p)) rest wide fit.1))))
+    (λ fits. rw (le-leb (1 + octets p) left fits)
+    (sized-with_first room left p (packed room (left - (1 + octets p)) rest) fits (sized-packed room (left - (1 + octets p)) rest wide fit.1)))
+    (λ full. rw (lt-leb (1 + octets p) left full) (
+      omega arith,
+      all-sized room (with_first p (packed room (room - (1 + octets p)) rest)) (sized-with_first room room p
+          (packed room (room - (1 + octets p)) rest) (omega (arith, short)) (sized-packed room (room - (1 + octets p)) rest wide fit.1)),
+    ))
 
-pub sized-in_messages : (room : ℕ) (prefixes : List PrefixValue) → 17 ≤ room → AllByRecursion Fits prefixes → AllByRecursion (Within room) (in_messages room prefixes)
+pub sized-in_messages : (room : ℕ) (prefixes : List PrefixValue) → 17 ≤ room → AllByRecursion Fits prefixes
+    → AllByRecursion (Within room) (in_messages room prefixes)
 unfolding in_messages
 sized-in_messages room [] wide fit = tt
 sized-in_messages room (p ∷ rest) wide fit = all-sized room (packed room room (p ∷ rest)) (sized-packed room room (p ∷ rest) wide fit)
@@ -63,7 +71,8 @@ length-message w a n =
 
 pub length-attribute : (flags kind : ℕ) (value : List ℕ) → length (attribute flags kind value) ≤ 4 + length value
 length-attribute flags kind value =
-    elim (nat_le (length value) 255) as (λ v. length (cond v ((flags ∷ kind ∷ length value ∷ []) ++ value) (((flags + 0x10) ∷ kind ∷ []) ++ to_be_bytes w16 (length value) ++ value)) ≤ 4 + length value) [
+    elim (nat_le (length value) 255) as (λ v. length
+    (cond v ((flags ∷ kind ∷ length value ∷ []) ++ value) (((flags + 0x10) ∷ kind ∷ []) ++ to_be_bytes w16 (length value) ++ value)) ≤ 4 + length value) [
       | true ↦ omega arith
       | false ↦ omega arith
     ]
@@ -79,9 +88,15 @@ short-part Unreached prefixes few within =
 short-part (Announced attributes) prefixes few within = omega (arith, length-message [] attributes (prefixes_bytes prefixes))
 short-part (Reached front hop back) prefixes few within =
     let bytes = prefixes_bytes prefixes in
-    omega (arith, length-message [] (front ++ reach_attribute hop bytes ++ back) [], length-three front (reach_attribute hop bytes) back, length-attribute 0x80 14 ((0 ∷ 2 ∷ 1 ∷ 16 ∷ []) ++ to_be_bytes w128 hop ++ (0 ∷ []) ++ bytes))
+    omega (
+      arith,
+      length-message [] (front ++ reach_attribute hop bytes ++ back) [],
+      length-three front (reach_attribute hop bytes) back,
+      length-attribute 0x80 14 ((0 ∷ 2 ∷ 1 ∷ 16 ∷ []) ++ to_be_bytes w128 hop ++ (0 ∷ []) ++ bytes),
+    )
 
-short-parts : (part : Part) (parts : List (List PrefixValue)) → part_size part ≤ 4000 → AllByRecursion (Within (room_of part)) parts → AllByRecursion IsShort (map (part_message part) parts)
+short-parts : (part : Part) (parts : List (List PrefixValue)) → part_size part ≤ 4000 → AllByRecursion (Within (room_of part)) parts
+    → AllByRecursion IsShort (map (part_message part) parts)
 short-parts part [] few sized = tt
 short-parts part (prefixes ∷ parts) few sized = (short-part part prefixes few sized.0, short-parts part parts few sized.1)
 
@@ -93,14 +108,16 @@ short-append : (a b : List (List ℕ)) → AllByRecursion IsShort a → AllByRec
 short-append [] b first second = second
 short-append (m ∷ a) b first second = (first.0, short-append a b first.1 second)
 
-short-groups : (family : Family) (peering : Peering) (groups : List Group) → AllByRecursion IsGroup groups → AllByRecursion IsShort (flat_map (group_messages family peering) groups)
+short-groups : (family : Family) (peering : Peering) (groups : List Group) → AllByRecursion IsGroup groups
+    → AllByRecursion IsShort (flat_map (group_messages family peering) groups)
 short-groups family peering [] are = tt
 short-groups family peering (group ∷ groups) are =
     short-append (group_messages family peering group) (flat_map (group_messages family peering) groups)
     (short-messages (announced_part family peering group.terms) group.prefixes (size-announced family peering group.terms are.0.few) are.0.short)
     (short-groups family peering groups are.1)
 
-short-for : (family : Family) (peering : Peering) (old new : List (PrefixValue × Terms)) → IsTable old → IsTable new → All HasFew new → AllByRecursion IsShort (messages_for family peering old new)
+short-for : (family : Family) (peering : Peering) (old new : List (PrefixValue × Terms)) → IsTable old → IsTable new → All HasFew new
+    → AllByRecursion IsShort (messages_for family peering old new)
 short-for family peering old new old_table new_table few =
     let groups = groups_from same_terms [] (changed same_terms old new) in
     short-append (part_messages (withdrawn_part family) (keys_of (gone old new))) (flat_map (group_messages family peering) groups)
@@ -116,6 +133,7 @@ messages-fit peering old new old_table new_table few =
     )
 
 -- The same of what is answered.
-pub all-short : {E : Type 0} (answer : Result (List (List ℕ)) E) (messages : List (List ℕ)) → IfOk answer (λ m. m ≡ messages) → All IsShort messages → IfOk answer (λ m. All IsShort m)
+pub all-short : {E : Type 0} (answer : Result (List (List ℕ)) E) (messages : List (List ℕ)) → IfOk answer (λ m. m ≡ messages) → All IsShort messages
+    → IfOk answer (λ m. All IsShort m)
 all-short (Ok m) messages is short = subst (All IsShort) (sym is) short
 all-short (Err e) messages is short = tt

@@ -1,5 +1,6 @@
 -- Groups of small routes are small.
-use Rattle.std.proofs.Common.{◌≡◌, ℕ, Bool, true, false, cond, nat_le, ◌==◌, ◌+◌, ◌*◌, ◌≤◌, List, [], ◌∷◌, ◌++◌, length, filter, All, Option, Some, None, is_none, not, arith, length-append}
+use Rattle.std.proofs.Common.{◌≡◌, ℕ, Bool, true, false, cond, nat_le, ◌==◌, ◌+◌, ◌*◌, ◌≤◌, List, [], ◌∷◌, ◌++◌}
+use Rattle.std.proofs.Common.{length, filter, All, Option, Some, None, is_none, not, arith, length-append}
 use Rattle.std.proofs.lemmas.List.Elements.{All-push, All-cons, All-nil, All-from_recursion, recursion_from_All}
 use Rattle.std.specs.List.{AllByRecursion}
 use Rattle.std.specs.Map.{keys_of}
@@ -11,25 +12,31 @@ use Rattle.large_numbers.specs.declared.numbers.LargeCommunity.{LargeCommunity}
 use Rattle.bgp_updates.specs.declared.route.Terms.{Terms}
 use Rattle.bgp_updates.specs.declared.route.Peering.{Peering}
 use Rattle.bgp_updates.specs.declared.route.Group.{Group}
-use Rattle.bgp_updates.specs.Message.{Fits, announced_part, attribute, communities_attribute, communities_bytes, front_of, hop_attribute, large_attribute, larges_bytes, optional_attribute, part_size, path_attribute, preference_attribute, withdrawn_part}
+use Rattle.bgp_updates.specs.Message.{Fits, announced_part, attribute, communities_attribute, communities_bytes, front_of, hop_attribute}
+use Rattle.bgp_updates.specs.Message.{large_attribute, larges_bytes, optional_attribute, part_size, path_attribute, preference_attribute, withdrawn_part}
 use Rattle.bgp_updates.specs.Received.{changed, gone, groups_from, same_terms, stands_as, terms_at, with_route}
 use Rattle.bgp_updates.specs.Between.{AreFew, IsGroup, IsRoute}
 use Rattle.bgp_updates.specs.Tables.{IsTable, HasFew}
 
-small-with_route : (groups : List Group) (route : PrefixValue × Terms) → AllByRecursion IsGroup groups → IsRoute route → AllByRecursion IsGroup (with_route same_terms groups route)
+small-with_route : (groups : List Group) (route : PrefixValue × Terms) → AllByRecursion IsGroup groups → IsRoute route
+    → AllByRecursion IsGroup (with_route same_terms groups route)
 small-with_route [] route all is =
     (record { short = All-cons Fits route.0 [] is.short (All-nil Fits); few = is.few }, tt)
 small-with_route (group ∷ groups) route all is =
-    elim (same_terms group.terms route.1) as (λ v. AllByRecursion IsGroup (cond v (record { terms = group.terms; prefixes = group.prefixes ++ route.0 ∷ [] } ∷ groups) (group ∷ with_route same_terms groups route))) [
+    elim (same_terms group.terms route.1) as (λ v. AllByRecursion IsGroup
+    (cond v (record { terms = group.terms; prefixes = group.prefixes ++ route.0 ∷ [] } ∷ groups) (group ∷ with_route same_terms groups route))) [
       | true ↦ (record { short = All-push Fits group.prefixes route.0 all.0.short is.short; few = all.0.few }, all.1)
       | false ↦ (all.0, small-with_route groups route all.1 is)
     ]
 
-small-groups_from : (groups : List Group) (routes : List (PrefixValue × Terms)) → AllByRecursion IsGroup groups → AllByRecursion IsRoute routes → AllByRecursion IsGroup (groups_from same_terms groups routes)
+small-groups_from : (groups : List Group) (routes : List (PrefixValue × Terms)) → AllByRecursion IsGroup groups → AllByRecursion IsRoute routes
+    → AllByRecursion IsGroup (groups_from same_terms groups routes)
 small-groups_from groups [] all are = all
-small-groups_from groups (route ∷ routes) all are = small-groups_from (with_route same_terms groups route) routes (small-with_route groups route all are.0) are.1
+small-groups_from groups (route ∷ routes) all are =
+    small-groups_from (with_route same_terms groups route) routes (small-with_route groups route all are.0) are.1
 
-small-filter : (keep : PrefixValue × Terms → Bool) (routes : List (PrefixValue × Terms)) → AllByRecursion IsRoute routes → AllByRecursion IsRoute (filter keep routes)
+small-filter : (keep : PrefixValue × Terms → Bool) (routes : List (PrefixValue × Terms)) → AllByRecursion IsRoute routes
+    → AllByRecursion IsRoute (filter keep routes)
 small-filter keep [] are = tt
 small-filter keep (route ∷ routes) are =
     elim (keep route) as (λ v. AllByRecursion IsRoute (cond v (route ∷ filter keep routes) (filter keep routes))) [
@@ -40,7 +47,8 @@ small-filter keep (route ∷ routes) are =
 fits-prefix : (p : PrefixValue) → IsPrefix p → Fits p
 fits-prefix p is = (is.0, is.1)
 
-short-filter : (keep : PrefixValue × Terms → Bool) (routes : List (PrefixValue × Terms)) → AllByRecursion IsPrefix (keys_of routes) → AllByRecursion Fits (keys_of (filter keep routes))
+short-filter : (keep : PrefixValue × Terms → Bool) (routes : List (PrefixValue × Terms)) → AllByRecursion IsPrefix (keys_of routes)
+    → AllByRecursion Fits (keys_of (filter keep routes))
 short-filter keep [] are = tt
 short-filter keep (route ∷ routes) are =
     elim (keep route) as (λ v. AllByRecursion Fits (keys_of (cond v (route ∷ filter keep routes) (filter keep routes)))) [
@@ -59,7 +67,8 @@ short-gone old new table =
 pub small-changed : (old new : List (PrefixValue × Terms)) → IsTable new → All HasFew new → All IsGroup (groups_from same_terms [] (changed same_terms old new))
 small-changed old new table few =
     let are = are-routes new table.0 (recursion_from_All HasFew new few) in
-    All-from_recursion IsGroup (groups_from same_terms [] (changed same_terms old new)) (small-groups_from [] (changed same_terms old new) tt (small-filter (λ route. not (stands_as same_terms (terms_at old route.0) route.1)) new are))
+    All-from_recursion IsGroup (groups_from same_terms [] (changed same_terms old new))
+    (small-groups_from [] (changed same_terms old new) tt (small-filter (λ route. not (stands_as same_terms (terms_at old route.0) route.1)) new are))
 
 -- ---- how large attributes are
 pub length-communities : (numbers : List ℕ) → length (communities_bytes numbers) ≡ 4 * length numbers
@@ -74,10 +83,11 @@ length-optional : (flags kind : ℕ) (value : List ℕ) → length (optional_att
 length-optional flags kind value =
     elim (length value == 0) as (λ u. length (cond u [] (attribute flags kind value)) ≤ 4 + length value) [
       | true ↦ omega arith
-      | false ↦ elim (nat_le (length value) 255) as (λ v. length (cond v ((flags ∷ kind ∷ length value ∷ []) ++ value) (((flags + 0x10) ∷ kind ∷ []) ++ to_be_bytes w16 (length value) ++ value)) ≤ 4 + length value) [
-        | true ↦ omega arith
-        | false ↦ omega arith
-      ]
+      | false ↦ elim (nat_le (length value) 255) as (λ v. length
+          (cond v ((flags ∷ kind ∷ length value ∷ []) ++ value) (((flags + 0x10) ∷ kind ∷ []) ++ to_be_bytes w16 (length value) ++ value)) ≤ 4 + length value) [
+            | true ↦ omega arith
+            | false ↦ omega arith
+          ]
     ]
 
 length-path : (own : Option ℕ) → length (path_attribute own) ≤ 9
@@ -116,7 +126,8 @@ length-large : (numbers : List LargeCommunity) → length (large_attribute numbe
 length-large numbers = omega (arith, length-optional 0xc0 32 (larges_bytes numbers), length-larges numbers)
 
 -- beside the prefixes an announcement has few octets and its communities
-pub size-within : (family : Family) (peering : Peering) (terms : Terms) → part_size (announced_part family peering terms) ≤ 83 + 4 * length terms.communities + 12 * length terms.large
+pub size-within : (family : Family) (peering : Peering) (terms : Terms)
+    → part_size (announced_part family peering terms) ≤ 83 + 4 * length terms.communities + 12 * length terms.large
 size-within V4 peering terms =
     omega (arith, length-append (front_of V4 peering terms) (large_attribute terms.large), length-front V4 peering terms, length-large terms.large)
 size-within V6 peering terms = omega (arith, length-front V6 peering terms, length-large terms.large)

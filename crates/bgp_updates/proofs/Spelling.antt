@@ -13,22 +13,26 @@ use Rattle.bgp_updates.specs.Received.{Update, announcements, changed, gone, gro
 use Rattle.bgp_updates.specs.Between.{group_messages, update_octets}
 use Rattle.bgp_updates.specs.Laws.{MessagesSpell}
 
-spell-withdrawals : (family : Family) (peering : Peering) (parts : List (List PrefixValue)) → map (part_message (withdrawn_part family)) parts ≡ map (update_octets family peering) (withdrawals parts)
+spell-withdrawals : (family : Family) (peering : Peering) (parts : List (List PrefixValue))
+    → map (part_message (withdrawn_part family)) parts ≡ map (update_octets family peering) (withdrawals parts)
 spell-withdrawals family peering [] = refl
 spell-withdrawals family peering (part ∷ parts) = ap (λ rest. part_message (withdrawn_part family) part ∷ rest) (spell-withdrawals family peering parts)
 
 spell-announcements : (family : Family) (peering : Peering) (terms : Terms) (parts : List (List PrefixValue))
     → map (part_message (announced_part family peering terms)) parts ≡ map (update_octets family peering) (announcements terms parts)
 spell-announcements family peering terms [] = refl
-spell-announcements family peering terms (part ∷ parts) = ap (λ rest. part_message (announced_part family peering terms) part ∷ rest) (spell-announcements family peering terms parts)
+spell-announcements family peering terms (part ∷ parts) =
+    ap (λ rest. part_message (announced_part family peering terms) part ∷ rest) (spell-announcements family peering terms parts)
 
 abbrev pub group_updates : Family → Peering → Group → List Update
 group_updates family peering group = announcements group.terms (in_messages (room_of (announced_part family peering group.terms)) group.prefixes)
 
-spell-groups : (family : Family) (peering : Peering) (groups : List Group) → flat_map (group_messages family peering) groups ≡ map (update_octets family peering) (flat_map (group_updates family peering) groups)
+spell-groups : (family : Family) (peering : Peering) (groups : List Group)
+    → flat_map (group_messages family peering) groups ≡ map (update_octets family peering) (flat_map (group_updates family peering) groups)
 spell-groups family peering [] = refl
 spell-groups family peering (group ∷ groups) =
-    ap (λ front. front ++ flat_map (group_messages family peering) groups) (spell-announcements family peering group.terms (in_messages (room_of (announced_part family peering group.terms)) group.prefixes))
+    ap (λ front. front ++ flat_map (group_messages family peering) groups)
+    (spell-announcements family peering group.terms (in_messages (room_of (announced_part family peering group.terms)) group.prefixes))
     ∙ ap (λ rest. map (update_octets family peering) (group_updates family peering group) ++ rest) (spell-groups family peering groups)
     ∙ sym (map-append (update_octets family peering) (group_updates family peering group) (flat_map (group_updates family peering) groups))
 

@@ -38,7 +38,8 @@ group_messages family peering group = part_messages (announced_part family peeri
 -- of routes of a family: what is withdrawn, and then what is announced, group after group
 abbrev pub messages_for : Family → Peering → List (PrefixValue × Terms) → List (PrefixValue × Terms) → List (List ℕ)
 messages_for family peering old new =
-    part_messages (withdrawn_part family) (keys_of (gone old new)) ++ flat_map (group_messages family peering) (groups_from same_terms [] (changed same_terms old new))
+    part_messages (withdrawn_part family) (keys_of (gone old new))
+    ++ flat_map (group_messages family peering) (groups_from same_terms [] (changed same_terms old new))
 
 -- those of IPv4, and then those of IPv6
 abbrev pub messages_between : Peering → List (PrefixValue × Terms) → List (PrefixValue × Terms) → List (List ℕ)

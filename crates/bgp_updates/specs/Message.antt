@@ -1,5 +1,6 @@
 -- UPDATE messages (RFC 4271, 4.3) for IPv4, with four-octet AS numbers, and for IPv6 (RFC 4760).
-use Rattle.std.specs.Prelude.{map, ℕ, suc, ◌≤◌, ◌<◌, ◌^◌, ◌+◌, ◌-◌, ◌/◌, if◌then◌else◌, ◌==◌, nat_le, List, [], ◌∷◌, ◌++◌, length, take, replicate, Option, Some, None, unwrap_or}
+use Rattle.std.specs.Prelude.{map, ℕ, suc, ◌≤◌, ◌<◌, ◌^◌, ◌+◌, ◌-◌, ◌/◌, if◌then◌else◌, ◌==◌, nat_le, List}
+use Rattle.std.specs.Prelude.{[], ◌∷◌, ◌++◌, length, take, replicate, Option, Some, None, unwrap_or}
 use Rattle.std.specs.List.{flat_map}
 use Rattle.std.specs.Int.{w16, w32, w128, to_be_bytes}
 use Rattle.ip_ranges.specs.declared.family.Family.{Family}

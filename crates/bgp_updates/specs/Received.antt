@@ -99,5 +99,6 @@ AreDistinct (route ∷ routes) = (list_any (same_prefix route.0) (keys_of routes
 
 -- After the messages the table is the new one, whatever test of equal terms and whatever rooms.
 abbrev pub UpdatesGiveTheTable : Type 0
-UpdatesGiveTheTable = (same : Terms → Terms → Bool) → ((s t : Terms) → same s t ≡ true → s ≡ t) → (most : ℕ) (room : Terms → ℕ) (old new : List (PrefixValue × Terms)) → AreDistinct new
+UpdatesGiveTheTable = (same : Terms → Terms → Bool) → ((s t : Terms) → same s t ≡ true → s ≡ t)
+    → (most : ℕ) (room : Terms → ℕ) (old new : List (PrefixValue × Terms)) → AreDistinct new
     → (p : PrefixValue) → received (terms_at old) (updates_of same most room old new) p ≡ terms_at new p

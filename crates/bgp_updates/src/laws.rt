@@ -1,5 +1,6 @@
 //! What holds of the messages between any two tables.
-ghost use Rattle.bgp_updates.specs.Laws.{HopsAreOfRoutes, MessagesFit, MessagesGiveTheTable, MessagesSpell, NamedPrefixesDiffer, PartsTellAll, PrefixesStandOnce};
+ghost use Rattle.bgp_updates.specs.Laws.{HopsAreOfRoutes, MessagesFit, MessagesGiveTheTable, MessagesSpell};
+ghost use Rattle.bgp_updates.specs.Laws.{NamedPrefixesDiffer, PartsTellAll, PrefixesStandOnce};
 ghost use Rattle.bgp_updates.specs.OneFamily.{OneFamilyAlone};
 
 /// The messages are the octets of what they say, and after what they say the table is the new one.

@@ -38,7 +38,8 @@ pub fn updates(
     requires hop { next_hop.now.family ≡ V4 }
     requires hop_v6 { HasHops (option_copied next_hop_v6) new.now }
     requires few { All HasFew new.now }
-    ensures messages { IfOk result (λ messages. messages ≡ messages_between (peering_of peer.now next_hop.now (option_copied next_hop_v6.entry)) old.now new.now) }
+    ensures messages { IfOk result
+        (λ messages. messages ≡ messages_between (peering_of peer.now next_hop.now (option_copied next_hop_v6.entry)) old.now new.now) }
     ensures fit { IfOk result (λ messages. All (λ message. length message ≤ 4096) messages) }
     ensures old { IsTable old.now }
     ensures new { IsTable new.now }
@@ -162,7 +163,8 @@ fn put_announcements(
     requires old { IsTable old.now }
     requires new { IsTable new.now }
     requires few { All HasFew new.now }
-    ensures { OnOk result (messages.new ≡ messages.old ++ flat_map (group_messages family peering.now) (groups_from same_terms [] (changed same_terms old.now new.now))) }
+    ensures { OnOk result
+        (messages.new ≡ messages.old ++ flat_map (group_messages family peering.now) (groups_from same_terms [] (changed same_terms old.now new.now))) }
 {
     let groups = changed_groups(alloc, old, new)?;
     put_groups(alloc, messages, family, peering, groups.as_slice())

@@ -1,7 +1,9 @@
 //! The parts of UPDATE messages, written.
 ghost use Rattle.std.specs.Int.{w128, to_be_bytes};
 ghost use Rattle.std.specs.Prelude.{◌≡◌, ◌+◌, ◌*◌, ◌++◌, ◌∷◌, ◌≤◌, All, IfOk, OnOk, [], length};
-ghost use Rattle.bgp_updates.specs.Message.{Fits, announced_part, attribute, communities_attribute, communities_bytes, front_of, hop_attribute, large_attribute, large_octets, larges_bytes, message_of, optional_attribute, path_attribute, preference_attribute, prefixes_bytes, reach_attribute, unreach_attribute, withdrawn_part};
+ghost use Rattle.bgp_updates.specs.Message.{Fits, announced_part, attribute, communities_attribute, communities_bytes, front_of, hop_attribute};
+ghost use Rattle.bgp_updates.specs.Message.{large_attribute, large_octets, larges_bytes, message_of, optional_attribute, path_attribute};
+ghost use Rattle.bgp_updates.specs.Message.{preference_attribute, prefixes_bytes, reach_attribute, unreach_attribute, withdrawn_part};
 
 use crate::octets::{put_u16, put_u32};
 use crate::part::Part;

@@ -16,7 +16,8 @@ use Rattle.claim_index.proofs.TermLaws.{made}
 abbrev pub IsClaimOf : List ClaimValue → Key → ClaimValue → Type 0
 IsClaimOf claims key c = Contains claims c × (c.key ≡ key)
 
-found_by : (b : Bool) (d : ClaimValue) (claims : List ClaimValue) (key : Key) (c : ClaimValue) → b ≡ same_key d.key key → (Contains (claims_of key claims) c → IsClaimOf claims key c)
+found_by : (b : Bool) (d : ClaimValue) (claims : List ClaimValue) (key : Key) (c : ClaimValue) → b ≡ same_key d.key key
+    → (Contains (claims_of key claims) c → IsClaimOf claims key c)
     → Contains (cond b (d ∷ claims_of key claims) (claims_of key claims)) c → IsClaimOf (d ∷ claims) key c
 found_by true d claims key c s ih there =
     ⊎_elim
@@ -33,7 +34,8 @@ claim-of (d ∷ claims) key c found = found_by (same_key d.key key) d claims key
 pub record-of : (claims : List ClaimValue) (c : ClaimValue) → Contains claims c → Contains (claims_of c.key claims) c
 record-of [] c found = absurd (contains-none c found)
 record-of (d ∷ claims) c found =
-    ⊎_elim (λ same. by_same (same_key d.key c.key) refl same) (λ more. by_more (same_key d.key c.key) (record-of claims c more)) (contains-cons d claims c found)
+    ⊎_elim (λ same. by_same (same_key d.key c.key) refl same) (λ more. by_more (same_key d.key c.key) (record-of claims c more))
+    (contains-cons d claims c found)
   where
     by_same : (b : Bool) → b ≡ same_key d.key c.key → d ≡ c → Contains (cond b (d ∷ claims_of c.key claims) (claims_of c.key claims)) c
     by_same true s same = subst (λ r. Contains (d ∷ claims_of c.key claims) r) same (contains-first d (claims_of c.key claims))
@@ -56,7 +58,8 @@ either_same true rs = refl
 either_same false rs = refl
 
 -- x: the claim's key is the one left out; y: it is the one looked up; z: these two are the same
-others_by : (x : Bool) (y z : Bool) (c : ClaimValue) (q : Key) (cs rest : List ClaimValue) → y ≡ same_key c.key q → (x ≡ true → y ≡ z) → (x ≡ false → y ≡ true → z ≡ false)
+others_by : (x : Bool) (y z : Bool) (c : ClaimValue) (q : Key) (cs rest : List ClaimValue) → y ≡ same_key c.key q → (x ≡ true → y ≡ z)
+    → (x ≡ false → y ≡ true → z ≡ false)
     → claims_of q rest ≡ cond z [] (claims_of q cs)
     → claims_of q (cond (not x) (c ∷ rest) rest) ≡ cond z [] (cond y (c ∷ claims_of q cs) (claims_of q cs))
 others_by true true z c q cs rest s same apart ih = rw ih (rw (← same refl) refl)
@@ -80,7 +83,8 @@ claims_of-others (c ∷ cs) key q =
         let same : same_key c.key key ≡ true = same_key-by c.key key (same_key-is c.key q here ∙ sym (same_key-is key q (sym s))) in
         absurd (cc)
 
-claim_by : (b : Bool) (key q : Key) (r : Record) (t : Terms) → claims_of q (cond b (made key r t ∷ []) []) ≡ cond (same_key key q) (cond b (made key r t ∷ []) []) []
+claim_by : (b : Bool) (key q : Key) (r : Record) (t : Terms)
+    → claims_of q (cond b (made key r t ∷ []) []) ≡ cond (same_key key q) (cond b (made key r t ∷ []) []) []
 claim_by true key q r t = refl
 claim_by false key q r t = either_same (same_key key q) []
 
@@ -92,12 +96,14 @@ settled_by true rs more = refl
 settled_by false rs more = append-nil rs
 
 -- the key has this claim alone
-pub claims_of-settled : (cs : List ClaimValue) (key q : Key) (r : Record) (t : Terms) → claims_of q (settled key r t cs) ≡ cond (same_key key q) (claim_of key r t) (claims_of q cs)
+pub claims_of-settled : (cs : List ClaimValue) (key q : Key) (r : Record) (t : Terms)
+    → claims_of q (settled key r t cs) ≡ cond (same_key key q) (claim_of key r t) (claims_of q cs)
 claims_of-settled cs key q r t =
     claims_of-append (others key cs) (claim_of key r t) q
     ∙ rw (claims_of-others cs key q, claims_of-claim key q r t) (settled_by (same_key key q) (claims_of q cs) (claim_of key r t))
 
-claims_it_by : (b : Bool) (r : Record) (t : Terms) (c : ClaimValue) (rest : Bool) (rs : List ClaimValue) → rest ≡ list_any (is_under r t) rs → ((b && is_under r t c) || rest) ≡ list_any (is_under r t) (cond b (c ∷ rs) rs)
+claims_it_by : (b : Bool) (r : Record) (t : Terms) (c : ClaimValue) (rest : Bool) (rs : List ClaimValue) → rest ≡ list_any (is_under r t) rs
+    → ((b && is_under r t c) || rest) ≡ list_any (is_under r t) (cond b (c ∷ rs) rs)
 claims_it_by true r t c rest rs e = ap (λ x. is_under r t c || x) e
 claims_it_by false r t c rest rs e = e
 
@@ -105,25 +111,29 @@ claims_it-of : (cs : List ClaimValue) (key : Key) (r : Record) (t : Terms) → c
 claims_it-of [] key r t = refl
 claims_it-of (c ∷ cs) key r t = claims_it_by (same_key c.key key) r t c _ _ (claims_it-of cs key r t)
 
-doubted_there : (b : Bool) (cs : List ClaimValue) (key : Key) (r : Record) (t : Terms) → claims_of key (cond b cs (cs ++ claim_of key r t)) ≡ cond b (claims_of key cs) (claims_of key cs ++ claim_of key r t)
+doubted_there : (b : Bool) (cs : List ClaimValue) (key : Key) (r : Record) (t : Terms)
+    → claims_of key (cond b cs (cs ++ claim_of key r t)) ≡ cond b (claims_of key cs) (claims_of key cs ++ claim_of key r t)
 doubted_there true cs key r t = refl
 doubted_there false cs key r t =
     claims_of-append cs (claim_of key r t) key
     ∙ ap (λ (rs : List ClaimValue). claims_of key cs ++ rs) (claims_of-claim key key r t ∙ ap (λ b. cond b (claim_of key r t) []) (same_key-by key key refl))
 
-doubted_elsewhere : (b : Bool) (cs : List ClaimValue) (key q : Key) (r : Record) (t : Terms) → same_key key q ≡ false → claims_of q (cond b cs (cs ++ claim_of key r t)) ≡ claims_of q cs
+doubted_elsewhere : (b : Bool) (cs : List ClaimValue) (key q : Key) (r : Record) (t : Terms) → same_key key q ≡ false
+    → claims_of q (cond b cs (cs ++ claim_of key r t)) ≡ claims_of q cs
 doubted_elsewhere true cs key q r t apart = refl
 doubted_elsewhere false cs key q r t apart =
     claims_of-append cs (claim_of key r t) q
     ∙ ap (λ (rs : List ClaimValue). claims_of q cs ++ rs) (claims_of-claim key q r t ∙ ap (λ b. cond b (claim_of key r t) []) apart)
     ∙ append-nil (claims_of q cs)
 
-doubted_by : (z : Bool) (cs : List ClaimValue) (key q : Key) (r : Record) (t : Terms) → same_key key q ≡ z → claims_of q (doubted key r t cs) ≡ cond z (added key r t (claims_of q cs)) (claims_of q cs)
+doubted_by : (z : Bool) (cs : List ClaimValue) (key q : Key) (r : Record) (t : Terms) → same_key key q ≡ z
+    → claims_of q (doubted key r t cs) ≡ cond z (added key r t (claims_of q cs)) (claims_of q cs)
 doubted_by true cs key q r t s =
     subst (λ k. claims_of k (doubted key r t cs) ≡ added key r t (claims_of k cs)) (same_key-is key q s)
     (rw (claims_it-of cs key r t) (doubted_there (list_any (is_under r t) (claims_of key cs)) cs key r t))
 doubted_by false cs key q r t s = doubted_elsewhere (claims_it key r t cs) cs key q r t s
 
 -- the key may have this claim too
-pub claims_of-doubted : (cs : List ClaimValue) (key q : Key) (r : Record) (t : Terms) → claims_of q (doubted key r t cs) ≡ cond (same_key key q) (added key r t (claims_of q cs)) (claims_of q cs)
+pub claims_of-doubted : (cs : List ClaimValue) (key q : Key) (r : Record) (t : Terms)
+    → claims_of q (doubted key r t cs) ≡ cond (same_key key q) (added key r t (claims_of q cs)) (claims_of q cs)
 claims_of-doubted cs key q r t = doubted_by (same_key key q) cs key q r t refl

@@ -1,5 +1,6 @@
 -- The runs of held numbers say where the lists of claims aren't empty, after each change of them.
-use Rattle.std.proofs.Common.{◌≡◌, ℕ, Bool, true, false, cond, not, ◌&&◌, ◌||◌, ◌==◌, List, [], ◌∷◌, ◌++◌, filter, length, Option, refl, sym, ap, ◌∙◌, subst, IfSome, IfNone, arith}
+use Rattle.std.proofs.Common.{◌≡◌, ℕ, Bool, true, false, cond, not, ◌&&◌, ◌||◌, ◌==◌, List, [], ◌∷◌, ◌++◌}
+use Rattle.std.proofs.Common.{filter, length, Option, refl, sym, ap, ◌∙◌, subst, IfSome, IfNone, arith}
 use Rattle.std.proofs.lemmas.Bool.{eqb-true, true≢false}
 use Rattle.std.proofs.lemmas.List.{nil_from_length}
 use Rattle.std.proofs.lemmas.Bool.Decides.{nat_tests}
@@ -35,7 +36,8 @@ number-flip number n = grind (arith, nat_tests)
 pub claim-added : (number claim : ℕ) (old new : ℕ → List ℕ) → new ≡ with_claim number claim old → new ≡ (λ n. cond (number == n) (old n ++ claim ∷ []) (old n))
 claim-added number claim old new is = is ∙ (λ i n. cond (at-number number n i) (old n ++ claim ∷ []) (old n))
 
-pub claim-dropped : (number claim : ℕ) (old new : ℕ → List ℕ) → new ≡ without_claim number claim old → new ≡ (λ n. cond (number == n) (filter (λ c. not (c == claim)) (old n)) (old n))
+pub claim-dropped : (number claim : ℕ) (old new : ℕ → List ℕ) → new ≡ without_claim number claim old
+    → new ≡ (λ n. cond (number == n) (filter (λ c. not (c == claim)) (old n)) (old n))
 claim-dropped number claim old new is = is ∙ (λ i n. cond (at-number number n i) (filter (λ c. not (c == claim)) (old n)) (old n))
 
 -- ---- the runs beside the lists
@@ -43,7 +45,8 @@ claim-dropped number claim old new is = is ∙ (λ i n. cond (at-number number n
 pub none-listed : (runs : RunsValue) (claims : IndexValue ℕ) → has runs ≡ (λ n. false) → numbers_under nat_cmp claims ≡ (λ n. []) → AreListed runs claims
 none-listed runs claims held listed = held ∙ (λ i n. not (is_nil (sym listed i n)))
 
-pub same-listed : (before after : RunsValue) (old new : IndexValue ℕ) → has after ≡ has before → numbers_under nat_cmp new ≡ numbers_under nat_cmp old → AreListed before old → AreListed after new
+pub same-listed : (before after : RunsValue) (old new : IndexValue ℕ) → has after ≡ has before → numbers_under nat_cmp new ≡ numbers_under nat_cmp old
+    → AreListed before old → AreListed after new
 same-listed before after old new held listed are = held ∙ are ∙ (λ i n. not (is_nil (sym listed i n)))
 
 added_by : (here : Bool) (ns : List ℕ) (claim : ℕ) → (here || not (is_nil ns)) ≡ not (is_nil (cond here (ns ++ claim ∷ []) ns))
@@ -78,7 +81,8 @@ emptied_by : (here : Bool) (ns left : List ℕ) → (here ≡ true → left ≡ 
 emptied_by true ns left empty = sym (ap (λ (ms : List ℕ). not (is_nil ms)) (empty refl))
 emptied_by false ns left empty = refl
 
-left_by : (here : Bool) (ns : List ℕ) (test : ℕ → Bool) → (here ≡ true → is_nil (filter test ns) ≡ false) → not (is_nil ns) ≡ not (is_nil (cond here (filter test ns) ns))
+left_by : (here : Bool) (ns : List ℕ) (test : ℕ → Bool) → (here ≡ true → is_nil (filter test ns) ≡ false)
+    → not (is_nil ns) ≡ not (is_nil (cond here (filter test ns) ns))
 left_by true [] test some = absurd (true≢false (some refl))
 left_by true (n ∷ ns) test some = sym (ap not (some refl))
 left_by false ns test some = refl
@@ -131,12 +135,16 @@ unheld : (inside : Bool) (runs : RunsValue) (claims : IndexValue ℕ) → AreLis
 unheld inside runs claims are = λ i n. not (inside && is_edge n) && (ap (λ f. not (f n)) are ∙ twice (is_nil (numbers_under nat_cmp claims n))) i
 
 pub least-unheld : (inside : Bool) (runs : RunsValue) (claims : IndexValue ℕ) (found : Option ℕ) (low high : ℕ) → AreListed runs claims
-    → IfSome found (λ n. IsLeastIn (is_open inside runs) low high n) → IfSome found (λ n. IsLeastIn (λ m. not (inside && is_edge m) && is_nil (numbers_under nat_cmp claims m)) low high n)
-least-unheld inside runs claims found low high are least = subst (λ (test : ℕ → Bool). IfSome found (λ n. IsLeastIn test low high n)) (unheld inside runs claims are) least
+    → IfSome found (λ n. IsLeastIn (is_open inside runs) low high n)
+    → IfSome found (λ n. IsLeastIn (λ m. not (inside && is_edge m) && is_nil (numbers_under nat_cmp claims m)) low high n)
+least-unheld inside runs claims found low high are least =
+    subst (λ (test : ℕ → Bool). IfSome found (λ n. IsLeastIn test low high n)) (unheld inside runs claims are) least
 
 pub none-unheld : (inside : Bool) (runs : RunsValue) (claims : IndexValue ℕ) (found : Option ℕ) (low high : ℕ) → AreListed runs claims
-    → IfNone found (NonePasses (is_open inside runs) low high) → IfNone found (NonePasses (λ m. not (inside && is_edge m) && is_nil (numbers_under nat_cmp claims m)) low high)
-none-unheld inside runs claims found low high are none = subst (λ (test : ℕ → Bool). IfNone found (NonePasses test low high)) (unheld inside runs claims are) none
+    → IfNone found (NonePasses (is_open inside runs) low high)
+    → IfNone found (NonePasses (λ m. not (inside && is_edge m) && is_nil (numbers_under nat_cmp claims m)) low high)
+none-unheld inside runs claims found low high are none =
+    subst (λ (test : ℕ → Bool). IfNone found (NonePasses test low high)) (unheld inside runs claims are) none
 
 -- ---- the least number that a claim has
 held : (runs : RunsValue) (claims : IndexValue ℕ) → AreListed runs claims → ◌≡◌ {A = ℕ → Bool} (has runs) (λ n. not (is_nil (numbers_under nat_cmp claims n)))

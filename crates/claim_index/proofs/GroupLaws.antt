@@ -1,5 +1,6 @@
 -- Claims on one address that are alike in sharing key and backend: they are told by their group, and counted.
-use Rattle.std.proofs.Common.{◌≡◌, ℕ, ◌+◌, ◌-◌, ◌==◌, Bool, true, false, cond, not, ◌&&◌, ◌||◌, List, [], ◌∷◌, ◌++◌, length, filter, Some, refl, sym, ap, ◌∙◌, subst, arith}
+use Rattle.std.proofs.Common.{◌≡◌, ℕ, ◌+◌, ◌-◌, ◌==◌, Bool, true, false, cond, not, ◌&&◌, ◌||◌, List, []}
+use Rattle.std.proofs.Common.{◌∷◌, ◌++◌, length, filter, Some, refl, sym, ap, ◌∙◌, subst, arith}
 use Rattle.std.proofs.lemmas.Bool.{and_parts, and_from, not-true, false_from_ne_true, true≢false}
 use Rattle.std.proofs.lemmas.Bool.Decides.{nat_tests, same_from_decides}
 use Rattle.std.proofs.lemmas.Map.Made.{Contains-values_of}
@@ -57,7 +58,8 @@ alike-flip a b e =
 pub group-same : (a b : Terms) → a.key ≡ b.key → a.backend ≡ b.backend → group_of a ≡ group_of b
 unfolding group_of
 group-same a b key backend =
-    ap (λ (k : List ℕ). mark_of (record { key = k; ports = []; backend = a.backend })) key ∙ ap (λ (x : Backend). mark_of (record { key = b.key; ports = []; backend = x })) backend
+    ap (λ (k : List ℕ). mark_of (record { key = k; ports = []; backend = a.backend })) key
+    ∙ ap (λ (x : Backend). mark_of (record { key = b.key; ports = []; backend = x })) backend
 
 some-is : {X : Type 0} (x y : X) → Some x ≡ Some y → x ≡ y
 some-is x y e = cc
@@ -130,7 +132,8 @@ module _ (key : Key) (terms : Terms) (a : AddressValue) where
 
   -- where as many aren't of the group as there are of the key that aren't alike, all others are alike
   pub belong-is : (items : List (ℕ × ClaimValue)) → HaveGroups (values_of items) → HasGroup terms → is_nil terms.key ≡ false
-      → (length (numbers_at Any a items) - length (numbers_at (OfGroup (group_of terms)) a items) == length (own_odd items)) ≡ list_all (belongs key terms a) (values_of items)
+      → (length (numbers_at Any a items) - length (numbers_at (OfGroup (group_of terms)) a items) == length (own_odd items))
+      ≡ list_all (belongs key terms a) (values_of items)
   belong-is items have has given =
       subtracted (length (numbers_at Any a items)) (length (numbers_at (OfGroup (group_of terms)) a items)) (length (own_odd items)) (length (others_odd items))
       (counted items (λ p there. grouped-alike p.1.terms terms (have p.1 (Contains-values_of items p.0 p.1 there)) has given))
@@ -141,7 +144,8 @@ not-neither : (b : Bool) → not (b && false) ≡ true
 not-neither true = refl
 not-neither false = refl
 
-shares-alike : (terms t : Terms) → are_alike t terms ≡ true → ((port : Port) → Contains terms.ports port → (not (has_port t.ports port && true) || false) ≡ true) → may_share terms t ≡ true
+shares-alike : (terms t : Terms) → are_alike t terms ≡ true
+    → ((port : Port) → Contains terms.ports port → (not (has_port t.ports port && true) || false) ≡ true) → may_share terms t ≡ true
 shares-alike terms t alike each =
     let parts = and_parts (bytes_eq terms.key t.key && not (is_nil terms.key)) (is_alike terms.backend t.backend) (alike-flip t terms alike) in
     let none : list_any (has_port t.ports) terms.ports ≡ false =
@@ -165,7 +169,8 @@ alike-left true true terms held left = refl
 alike-left true false terms held left = refl
 alike-left false false terms held left = refl
 alike-left false true terms held left =
-    let most = and_parts (bytes_eq terms.key held.key && not (is_nil terms.key) && not (list_any (has_port held.ports) terms.ports)) (is_alike terms.backend held.backend) left in
+    let most = and_parts (bytes_eq terms.key held.key && not (is_nil terms.key) && not (list_any (has_port held.ports) terms.ports))
+    (is_alike terms.backend held.backend) left in
     let keys = and_parts (bytes_eq terms.key held.key && not (is_nil terms.key)) (not (list_any (has_port held.ports) terms.ports)) most.0 in
     alike-flip terms held (and_from (bytes_eq terms.key held.key && not (is_nil terms.key)) (is_alike terms.backend held.backend) keys.0 most.1)
 
@@ -175,27 +180,34 @@ pub yields-left : (own has : Bool) (terms held : Terms) (port : Port) → Contai
 yields-left true has terms held port there left = or-true (not (has_port held.ports port && has))
 yields-left false false terms held port there left = rw not-neither refl
 yields-left false true terms held port there left =
-    let most = and_parts (bytes_eq terms.key held.key && not (is_nil terms.key) && not (list_any (has_port held.ports) terms.ports)) (is_alike terms.backend held.backend) left in
+    let most = and_parts (bytes_eq terms.key held.key && not (is_nil terms.key) && not (list_any (has_port held.ports) terms.ports))
+    (is_alike terms.backend held.backend) left in
     let keys = and_parts (bytes_eq terms.key held.key && not (is_nil terms.key)) (not (list_any (has_port held.ports) terms.ports)) most.0 in
     let apart : has_port held.ports port ≡ false =
     false_from_ne_true (has_port held.ports port)
-    (λ some. true≢false (sym (any-contains (has_port held.ports) terms.ports port there some) ∙ not-true (list_any (has_port held.ports) terms.ports) keys.1)) in
+    (λ some. true≢false
+    (sym (any-contains (has_port held.ports) terms.ports port there some) ∙ not-true (list_any (has_port held.ports) terms.ports) keys.1)) in
     rw apart refl
 
 pub leave-is : (claims : List ClaimValue) (key : Key) (terms : Terms) (a : AddressValue)
-    → (list_all (belongs key terms a) claims && list_all (λ port. list_all (yields key (OfPort port) a) claims) terms.ports) ≡ list_all (leaves key terms a) claims
+    → (list_all (belongs key terms a) claims && list_all (λ port. list_all (yields key (OfPort port) a) claims) terms.ports)
+    ≡ list_all (leaves key terms a) claims
 leave-is claims key terms a =
-    same_from_decides (list_all (belongs key terms a) claims && list_all (λ port. list_all (yields key (OfPort port) a) claims) terms.ports) (list_all (leaves key terms a) claims) (to, back) (λ e. e, λ e. e)
+    same_from_decides (list_all (belongs key terms a) claims && list_all (λ port. list_all (yields key (OfPort port) a) claims) terms.ports)
+    (list_all (leaves key terms a) claims) (to, back) (λ e. e, λ e. e)
   where
-    to : (list_all (belongs key terms a) claims && list_all (λ port. list_all (yields key (OfPort port) a) claims) terms.ports) ≡ true → list_all (leaves key terms a) claims ≡ true
+    to : (list_all (belongs key terms a) claims && list_all (λ port. list_all (yields key (OfPort port) a) claims) terms.ports) ≡ true
+        → list_all (leaves key terms a) claims ≡ true
     to both =
         let parts = and_parts (list_all (belongs key terms a) claims) (list_all (λ port. list_all (yields key (OfPort port) a) claims) terms.ports) both in
         all-from (leaves key terms a) claims (λ c there.
         leaves-each (same_key c.key key) (has_address c.holding.addresses a) terms c.terms
         (all-contains (belongs key terms a) claims c parts.0 there)
-        (λ port at. all-contains (yields key (OfPort port) a) claims c (all-contains (λ (q : Port). list_all (yields key (OfPort q) a) claims) terms.ports port parts.1 at) there))
+        (λ port at. all-contains (yields key (OfPort port) a) claims c
+        (all-contains (λ (q : Port). list_all (yields key (OfPort q) a) claims) terms.ports port parts.1 at) there))
 
-    back : list_all (leaves key terms a) claims ≡ true → (list_all (belongs key terms a) claims && list_all (λ port. list_all (yields key (OfPort port) a) claims) terms.ports) ≡ true
+    back : list_all (leaves key terms a) claims ≡ true
+        → (list_all (belongs key terms a) claims && list_all (λ port. list_all (yields key (OfPort port) a) claims) terms.ports) ≡ true
     back left =
         and_from (list_all (belongs key terms a) claims) (list_all (λ port. list_all (yields key (OfPort port) a) claims) terms.ports)
         (all-from (belongs key terms a) claims (λ c there.

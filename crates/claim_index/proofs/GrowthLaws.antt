@@ -1,5 +1,6 @@
 -- A claim gets room in its slots, and is listed there, one port after the other.
-use Rattle.std.proofs.Common.{◌≡◌, ℕ, ◌+◌, ◌<◌, ◌≤◌, Bool, true, false, ◌||◌, if◌then◌else◌, List, [], ◌∷◌, ◌++◌, length, take, drop, get_or, Ordering, Less, Greater, refl, sym, ap, subst, ◌∙◌, arith, add-one, append-nil, ⊎_elim}
+use Rattle.std.proofs.Common.{◌≡◌, ℕ, ◌+◌, ◌<◌, ◌≤◌, Bool, true, false, ◌||◌, if◌then◌else◌, List, [], ◌∷◌, ◌++◌, length, take}
+use Rattle.std.proofs.Common.{drop, get_or, Ordering, Less, Greater, refl, sym, ap, subst, ◌∙◌, arith, add-one, append-nil, ⊎_elim}
 use Rattle.std.proofs.lemmas.Bool.{or_cases, or_right, cases_Bool, false_from_ne_true, true≢false}
 use Rattle.std.proofs.lemmas.Bool.Decides.{same_from_decides}
 use Rattle.std.proofs.lemmas.List.{take-append-drop, take_all}
@@ -121,7 +122,8 @@ module _ (group : List ℕ) (ports : List Port) (i : ℕ) (d : Port) (within : i
   pub not-before : AreAscending ports → has_port (take i ports) next ≡ false
   not-before up = false_from_ne_true (has_port (take i ports) next) (λ e.
       let found = any-found (same_port next) (take i ports) e in
-      let less : port_cmp found.0 next ≡ Less = less-before port_cmp (take i ports) next (drop (i + 1) ports) found.0 (subst AreAscending (sym all-ports) up) found.1 in
+      let less : port_cmp found.0 next ≡ Less =
+      less-before port_cmp (take i ports) next (drop (i + 1) ports) found.0 (subst AreAscending (sym all-ports) up) found.1 in
       never-less port_cmp port_cmp-total next (subst (λ p. port_cmp p next ≡ Less) (sym (same_port-is next found.0 found.2)) less))
 
   -- and none of those behind it
@@ -134,7 +136,8 @@ module _ (group : List ℕ) (ports : List Port) (i : ℕ) (d : Port) (within : i
 
 -- as much room or more
 room-kept : (before after : AddressHoldersValue) (more : ℕ) (slot : Slot) (addresses : List AddressValue)
-    → ((a : AddressValue) → claim_room before slot a ≤ claim_room after slot a) → ((family : Family) → address_room before slot family ≤ address_room after slot family)
+    → ((a : AddressValue) → claim_room before slot a ≤ claim_room after slot a)
+    → ((family : Family) → address_room before slot family ≤ address_room after slot family)
     → HasRoomAt before more slot addresses → HasRoomAt after more slot addresses
 room-kept before after more slot addresses claims families room = record {
   by_claims = λ a there. omega (arith, room.by_claims a there, claims a);
@@ -166,7 +169,8 @@ room-none h more addresses s e = absurd (true≢false (sym e))
 -- ---- the lists of claims
 
 -- a slot that stays has the same claims
-claims-same : (before after : AddressHoldersValue) (slot : Slot) → in_slot after slot ≡ in_slot before slot → claims_having after slot ≡ claims_having before slot
+claims-same : (before after : AddressHoldersValue) (slot : Slot) → in_slot after slot ≡ in_slot before slot
+    → claims_having after slot ≡ claims_having before slot
 claims-same before after slot same = λ i a. claims_at (same i a.family) a.number
 
 -- room for the group, once the claim is listed in the slot of all claims
@@ -185,8 +189,10 @@ pub room-ports : (before between after : AddressHoldersValue) (more : ℕ) (addr
     → ((s : Slot) → same_slot x s ≡ false → in_slot after s ≡ in_slot between s)
     → (port : Port) → Contains ports port → HasRoomAt after more (OfPort port) addresses
 room-ports before between after more addresses c x ports x_is is room first second port there =
-    let listed : has_port (ports_of c) port ≡ true = ap (λ (ps : List Port). has_port ps port) (sym is) ∙ any-contains (same_port port) ports port there (same_port-itself port) in
-    room-same before after more (OfPort port) addresses (second (OfPort port) (ap (λ (y : Slot). same_slot y (OfPort port)) x_is) ∙ first (OfPort port) refl) (room (OfPort port) listed)
+    let listed : has_port (ports_of c) port ≡ true =
+    ap (λ (ps : List Port). has_port ps port) (sym is) ∙ any-contains (same_port port) ports port there (same_port-itself port) in
+    room-same before after more (OfPort port) addresses (second (OfPort port) (ap (λ (y : Slot). same_slot y (OfPort port)) x_is) ∙ first (OfPort port) refl)
+    (room (OfPort port) listed)
 
 -- there is room for the port that comes next
 pub room-here : (h : AddressHoldersValue) (more : ℕ) (addresses : List AddressValue) (ports : List Port) (i : ℕ) (d : Port) → i < length ports
@@ -196,7 +202,8 @@ room-here h more addresses ports i d within room =
     room next (subst (λ (ps : List Port). Contains ps next) (sym (ports-rest [] ports i d within)) (contains-first next (drop (i + 1) ports)))
 
 -- and then for those behind it
-pub room-behind : (before after : AddressHoldersValue) (more : ℕ) (addresses : List AddressValue) (ports : List Port) (i : ℕ) (d : Port) → i < length ports → AreAscending ports
+pub room-behind : (before after : AddressHoldersValue) (more : ℕ) (addresses : List AddressValue) (ports : List Port) (i : ℕ) (d : Port) → i < length ports
+    → AreAscending ports
     → ((port : Port) → Contains (drop i ports) port → HasRoomAt before more (OfPort port) addresses)
     → ((s : Slot) → same_slot (OfPort (get_or ports i d)) s ≡ false → in_slot after s ≡ in_slot before s)
     → (port : Port) → Contains (drop (i + 1) ports) port → HasRoomAt after more (OfPort port) addresses
@@ -215,7 +222,8 @@ module _ (more : AddressValue → List ℕ) where
   listed-none h s = λ j a. sym (append-nil (claims_having h s a)) j
 
   -- the claim is listed in one slot more
-  module _ (old before : AddressHoldersValue) (slots : Slot → Bool) (x : Slot) (listed : (s : Slot) → claims_having before s ≡ with_more old slots s) (apart : slots x ≡ false) where
+  module _ (old before : AddressHoldersValue) (slots : Slot → Bool) (x : Slot) (listed : (s : Slot) → claims_having before s ≡ with_more old slots s)
+      (apart : slots x ≡ false) where
     abbrev kept : Slot → Bool → AddressValue → List ℕ
     kept t b a = claims_having old t a ++ (if b then more a else [])
 
@@ -223,7 +231,8 @@ module _ (more : AddressValue → List ℕ) where
     same-yet = listed x ∙ ap (kept x) apart ∙ (λ j a. append-nil (claims_having old x a) j)
 
     -- it isn't listed there yet
-    pub fresh-next : (n : ℕ) → ((s : Slot) (a : AddressValue) → Contains (claims_having old s a) n → ⊥) → (a : AddressValue) → Contains (claims_having before x a) n → ⊥
+    pub fresh-next : (n : ℕ) → ((s : Slot) (a : AddressValue) → Contains (claims_having old s a) n → ⊥) → (a : AddressValue)
+        → Contains (claims_having before x a) n → ⊥
     fresh-next n fresh a there = fresh x a (subst (λ (f : AddressValue → List ℕ). Contains (f a) n) same-yet there)
 
     pub listed-next : (after : AddressHoldersValue) (grown : Slot → Bool) → ((s : Slot) → grown s ≡ (slots s || same_slot x s))
@@ -244,6 +253,7 @@ module _ (more : AddressValue → List ℕ) where
 
   -- once no port is left
   pub listed-each : (old h : AddressHoldersValue) (group : List ℕ) (ports shown : List Port) (i : ℕ) → length ports ≤ i → ports ≡ shown
-      → ((s : Slot) → claims_having h s ≡ with_more old (is_slot_of group (take i ports)) s) → (s : Slot) → claims_having h s ≡ with_more old (is_slot_of group shown) s
+      → ((s : Slot) → claims_having h s ≡ with_more old (is_slot_of group (take i ports)) s) → (s : Slot)
+      → claims_having h s ≡ with_more old (is_slot_of group shown) s
   listed-each old h group ports shown i passed is listed s =
       listed s ∙ ap (λ (ps : List Port). with_more old (is_slot_of group ps) s) (take_all i ports passed ∙ is)

@@ -1,5 +1,6 @@
 -- An index of claims that gets room, or one claim more.
-use Rattle.std.proofs.Common.{◌≡◌, ℕ, ◌+◌, ◌-◌, ◌<◌, ◌≤◌, Bool, true, false, cond, if◌then◌else◌, ◌==◌, ◌||◌, List, [], ◌∷◌, ◌++◌, length, filter, take, drop, get_or, suc, Option, Some, None, refl, sym, ap, subst, ◌∙◌, arith, append_assoc, add-one, ⊎_elim, eqb-true, take_all}
+use Rattle.std.proofs.Common.{◌≡◌, ℕ, ◌+◌, ◌-◌, ◌<◌, ◌≤◌, Bool, true, false, cond, if◌then◌else◌, ◌==◌, ◌||◌, List, [], ◌∷◌, ◌++◌, length, filter, take}
+use Rattle.std.proofs.Common.{drop, get_or, suc, Option, Some, None, refl, sym, ap, subst, ◌∙◌, arith, append_assoc, add-one, ⊎_elim, eqb-true, take_all}
 use Rattle.std.proofs.lemmas.Bool.{eq-eqb, true≢false}
 use Rattle.std.proofs.lemmas.Bool.Decides.{nat_tests, same_from_decides}
 use Rattle.std.proofs.lemmas.List.{map-append, append-nil, length-append}
@@ -34,7 +35,8 @@ same_address-flip a b =
     (λ e. sym (same_address-is b a e), λ e. subst (λ c. same_address c a ≡ true) e (same_address-itself a))
 
 -- ---- the number at the end of a list
-ends-by : (n : ℕ) (numbers : List ℕ) (last : Option ℕ) → last ≡ slice_get numbers (length numbers - 1) → option_map_or (λ m. m == n) last false ≡ true → Contains numbers n
+ends-by : (n : ℕ) (numbers : List ℕ) (last : Option ℕ) → last ≡ slice_get numbers (length numbers - 1) → option_map_or (λ m. m == n) last false ≡ true
+    → Contains numbers n
 ends-by n numbers None e ends = absurd (true≢false (sym ends))
 ends-by n numbers (Some m) e ends =
     let same : m ≡ n = eqb-true m n ends in
@@ -59,16 +61,20 @@ ends-put n before =
 pub room-none : (h : AddressHoldersValue) (more : ℕ) (slot : Slot) → HasRoomAt h more slot []
 room-none h more slot = record { by_claims = λ a none. absurd (contains-none a none); by_family = λ a none. absurd (contains-none a none) }
 
-pub taken-more : (addresses : List AddressValue) (i : ℕ) (x : AddressValue) → i < length addresses → x ≡ get_or addresses i x → take (i + 1) addresses ≡ take i addresses ++ x ∷ []
+pub taken-more : (addresses : List AddressValue) (i : ℕ) (x : AddressValue) → i < length addresses → x ≡ get_or addresses i x
+    → take (i + 1) addresses ≡ take i addresses ++ x ∷ []
 taken-more addresses i x within is = ap (λ n. take n addresses) (add-one i) ∙ take-suc addresses i x within ∙ ap (λ y. take i addresses ++ y ∷ []) (sym is)
 
-pub rest-of : (addresses : List AddressValue) (i : ℕ) (x : AddressValue) → i < length addresses → x ≡ get_or addresses i x → drop i addresses ≡ x ∷ drop (i + 1) addresses
-rest-of addresses i x within is = drop-cons addresses i x within ∙ ap (λ y. y ∷ drop (suc i) addresses) (sym is) ∙ ap (λ n. x ∷ drop n addresses) (sym (add-one i))
+pub rest-of : (addresses : List AddressValue) (i : ℕ) (x : AddressValue) → i < length addresses → x ≡ get_or addresses i x
+    → drop i addresses ≡ x ∷ drop (i + 1) addresses
+rest-of addresses i x within is =
+    drop-cons addresses i x within ∙ ap (λ y. y ∷ drop (suc i) addresses) (sym is) ∙ ap (λ n. x ∷ drop n addresses) (sym (add-one i))
 
 -- one address more has room, and those before keep theirs
 pub room-more : (before after : AddressHoldersValue) (more : ℕ) (slot : Slot) (addresses : List AddressValue) (i : ℕ) (x : AddressValue)
     → i < length addresses → x ≡ get_or addresses i x → HasRoomAt before more slot (take i addresses)
-    → ((a : AddressValue) → claim_room before slot a ≤ claim_room after slot a) → ((family : Family) → address_room before slot family ≤ address_room after slot family)
+    → ((a : AddressValue) → claim_room before slot a ≤ claim_room after slot a)
+    → ((family : Family) → address_room before slot family ≤ address_room after slot family)
     → 0 < claim_room after slot x → more ≤ address_room after slot x.family → HasRoomAt after more slot (take (i + 1) addresses)
 room-more before after more slot addresses i x within is room claims families claim family =
     subst (HasRoomAt after more slot) (sym (taken-more addresses i x within is)) (record {
@@ -83,7 +89,8 @@ room-more before after more slot addresses i x within is room claims families cl
     })
 
 -- the same room
-pub room-same : (before after : AddressHoldersValue) (more : ℕ) (slot : Slot) (addresses : List AddressValue) → in_slot after slot ≡ in_slot before slot → HasRoomAt before more slot addresses → HasRoomAt after more slot addresses
+pub room-same : (before after : AddressHoldersValue) (more : ℕ) (slot : Slot) (addresses : List AddressValue) → in_slot after slot ≡ in_slot before slot
+    → HasRoomAt before more slot addresses → HasRoomAt after more slot addresses
 room-same before after more slot addresses same room = record {
   by_claims = λ a there. subst (λ (f : Family → ClaimantsValue). 0 < claim_room_at (f a.family) a.number) (sym same) (room.by_claims a there);
   by_family = λ a there. subst (λ (f : Family → ClaimantsValue). more ≤ (f a.family).room) (sym same) (room.by_family a there);
@@ -111,7 +118,8 @@ module _ (addresses : List AddressValue) (i : ℕ) (x : AddressValue) (within : 
   here-first = subst (λ (rest : List AddressValue). Contains rest x) (sym (rest-of addresses i x within is)) (contains-first x (drop (i + 1) addresses))
 
   later-too : (a : AddressValue) → Contains (drop (i + 1) addresses) a → Contains (drop i addresses) a
-  later-too a there = subst (λ (rest : List AddressValue). Contains rest a) (sym (rest-of addresses i x within is)) (contains-later x (drop (i + 1) addresses) a there)
+  later-too a there =
+      subst (λ (rest : List AddressValue). Contains rest a) (sym (rest-of addresses i x within is)) (contains-later x (drop (i + 1) addresses) a there)
 
   shorter : length (drop i addresses) ≡ length (drop (i + 1) addresses) + 1
   shorter = ap (λ (rest : List AddressValue). length rest) (rest-of addresses i x within is) ∙ omega (arith)
@@ -141,7 +149,8 @@ module _ (addresses : List AddressValue) (i : ℕ) (x : AddressValue) (within : 
     room-next after claims families = record {
       by_claims = λ a there apart.
           let two = neither a apart in
-          let kept : claim_room before slot a ≤ claim_room after slot a + 0 = subst (λ (b : Bool). claim_room before slot a ≤ claim_room after slot a + cond b 1 0) two.1 (claims a) in
+          let kept : claim_room before slot a ≤ claim_room after slot a + 0 =
+          subst (λ (b : Bool). claim_room before slot a ≤ claim_room after slot a + cond b 1 0) two.1 (claims a) in
           omega (arith, room.by_claims a (later-too a there) two.0, kept);
       by_family = λ a there. omega (arith, shorter, room.by_family a (later-too a there), families a.family);
     }
@@ -155,7 +164,8 @@ module _ (addresses : List AddressValue) (i : ℕ) (x : AddressValue) (within : 
 
   module _ (number : ℕ) (start before : AddressValue → List ℕ) (listed : (a : AddressValue) → before a ≡ start a ++ numbered number (take i addresses) a) where
     added-by : (had here : Bool) (old : List ℕ) → (here ≡ true → had ≡ false)
-        → cond here ((old ++ cond had (number ∷ []) []) ++ number ∷ []) (old ++ cond had (number ∷ []) []) ≡ old ++ cond (had || (here || false)) (number ∷ []) []
+        → cond here ((old ++ cond had (number ∷ []) []) ++ number ∷ []) (old ++ cond had (number ∷ []) [])
+        ≡ old ++ cond (had || (here || false)) (number ∷ []) []
     added-by true true old apart = absurd (true≢false (apart refl))
     added-by true false old apart = refl
     added-by false true old apart = ap (λ (ns : List ℕ). ns ++ number ∷ []) (append-nil old)
@@ -172,7 +182,8 @@ module _ (addresses : List AddressValue) (i : ℕ) (x : AddressValue) (within : 
         (λ same. ap (has_address (take i addresses)) (sym (same_address-is x a same)) ∙ apart)
         ∙ ap (λ b. start a ++ cond b (number ∷ []) []) (sym (grown a))
 
-    still-by : (had here : Bool) (old : List ℕ) → (here ≡ true → had ≡ true) → old ++ cond had (number ∷ []) [] ≡ old ++ cond (had || (here || false)) (number ∷ []) []
+    still-by : (had here : Bool) (old : List ℕ) → (here ≡ true → had ≡ true)
+        → old ++ cond had (number ∷ []) [] ≡ old ++ cond (had || (here || false)) (number ∷ []) []
     still-by true here old there = refl
     still-by false true old there = absurd (true≢false (sym (there refl)))
     still-by false false old there = refl
@@ -181,7 +192,8 @@ module _ (addresses : List AddressValue) (i : ℕ) (x : AddressValue) (within : 
     pub listed-still : has_address (take i addresses) x ≡ true → (a : AddressValue) → before a ≡ start a ++ numbered number (take (i + 1) addresses) a
     listed-still there a =
         listed a
-        ∙ still-by (has_address (take i addresses) a) (same_address x a) (start a) (λ same. ap (has_address (take i addresses)) (sym (same_address-is x a same)) ∙ there)
+        ∙ still-by (has_address (take i addresses) a) (same_address x a) (start a)
+        (λ same. ap (has_address (take i addresses)) (sym (same_address-is x a same)) ∙ there)
         ∙ ap (λ b. start a ++ cond b (number ∷ []) []) (sym (grown a))
 
     -- the number stands at the end exactly where the address stands ahead of the index
@@ -236,7 +248,8 @@ indexed-kept items more keys keys_after h h_after indexed same same_keys same_ho
     } in
     subst (λ (list : List (ℕ × ClaimValue)). IsIndexed list keys_after h_after) (sym same) kept
 
-pub found-added : (items : List (ℕ × ClaimValue)) (number : ℕ) (c : ClaimValue) → All (λ p. p.0 < number) items → lookup (λ n. n == number) (items ++ (number, c) ∷ []) ≡ Some c
+pub found-added : (items : List (ℕ × ClaimValue)) (number : ℕ) (c : ClaimValue) → All (λ p. p.0 < number) items
+    → lookup (λ n. n == number) (items ++ (number, c) ∷ []) ≡ Some c
 found-added [] number c fresh = ap (λ b. cond b (Some c) None) (eq-eqb number number refl)
 found-added (p ∷ items) number c fresh =
     let below : p.0 < number = All-head (λ (p : ℕ × ClaimValue). p.0 < number) p items fresh in
@@ -244,7 +257,8 @@ found-added (p ∷ items) number c fresh =
     ap (λ b. cond b (Some p.1) (lookup (λ n. n == number) (items ++ (number, c) ∷ []))) other
     ∙ found-added items number c (All-tail (λ (p : ℕ × ClaimValue). p.0 < number) p items fresh)
 
-key-by : (b : Bool) (numbers : List ℕ) (number : ℕ) (c : ClaimValue) → numbers ++ keys_of (cond b ((number, c) ∷ []) []) ≡ cond b (numbers ++ number ∷ []) numbers
+key-by : (b : Bool) (numbers : List ℕ) (number : ℕ) (c : ClaimValue)
+    → numbers ++ keys_of (cond b ((number, c) ∷ []) []) ≡ cond b (numbers ++ number ∷ []) numbers
 key-by true numbers number c = refl
 key-by false numbers number c = append-nil numbers
 
@@ -260,11 +274,13 @@ numbers_at-added : (slot : Slot) (items : List (ℕ × ClaimValue)) (number : �
     → numbers_at slot a (items ++ (number, c) ∷ []) ≡ numbers_at slot a items ++ numbered_at slot a (number, c)
 numbers_at-added slot [] number c a = append-nil (numbered_at slot a (number, c))
 numbers_at-added slot (p ∷ items) number c a =
-    ap (λ ns. numbered_at slot a p ++ ns) (numbers_at-added slot items number c a) ∙ sym (append_assoc (numbered_at slot a p) (numbers_at slot a items) (numbered_at slot a (number, c)))
+    ap (λ ns. numbered_at slot a p ++ ns) (numbers_at-added slot items number c a)
+    ∙ sym (append_assoc (numbered_at slot a p) (numbers_at slot a items) (numbered_at slot a (number, c)))
 
 pub indexed-added : (items more : List (ℕ × ClaimValue)) (number : ℕ) (c : ClaimValue) (keys keys_after : IndexValue Key) (h h_after : AddressHoldersValue)
     → IsIndexed items keys h → more ≡ items ++ (number, c) ∷ [] → is_assigned c.holding ≡ true
-    → numbers_under key_cmp keys_after ≡ (λ key. cond (is_at (key_cmp c.key) key) (numbers_under key_cmp keys key ++ number ∷ []) (numbers_under key_cmp keys key))
+    → numbers_under key_cmp keys_after
+    ≡ (λ key. cond (is_at (key_cmp c.key) key) (numbers_under key_cmp keys key ++ number ∷ []) (numbers_under key_cmp keys key))
     → ((slot : Slot) → claims_having h_after slot ≡ (λ a. claims_having h slot a ++ numbered_at slot a (number, c)))
     → HasGroup c.terms
     → IsIndexed more keys_after h_after
@@ -284,7 +300,8 @@ indexed-added items more number c keys keys_after h h_after indexed is assigned 
         ⊎_elim (λ old. indexed.assigned x old) (λ new. subst (λ (y : ClaimValue). is_assigned y.holding ≡ true) new assigned)
         (Contains-push_cases (values_of items) c x (subst (λ (claims : List ClaimValue). Contains claims x) values there))
 
-    key-at : (key : Key) → cond (is_at (key_cmp c.key) key) (numbers_under key_cmp keys key ++ number ∷ []) (numbers_under key_cmp keys key) ≡ numbers_of key (items ++ (number, c) ∷ [])
+    key-at : (key : Key) → cond (is_at (key_cmp c.key) key) (numbers_under key_cmp keys key ++ number ∷ []) (numbers_under key_cmp keys key)
+        ≡ numbers_of key (items ++ (number, c) ∷ [])
     key-at key =
         ap (λ b. cond b (numbers_under key_cmp keys key ++ number ∷ []) (numbers_under key_cmp keys key)) (is_eq-key_cmp c.key key)
         ∙ ap (λ (f : Key → List ℕ). cond (same_key c.key key) (f key ++ number ∷ []) (f key)) indexed.keys
@@ -301,7 +318,8 @@ indexed-added items more number c keys keys_after h h_after indexed is assigned 
         (Contains-push_cases (values_of items) c x (subst (λ (claims : List ClaimValue). Contains claims x) values there))
 
 -- a number that is greater than all isn't listed yet
-pub not-listed : (slot : Slot) (a : AddressValue) (items : List (ℕ × ClaimValue)) (number : ℕ) → All (λ p. p.0 < number) items → Contains (numbers_at slot a items) number → ⊥
+pub not-listed : (slot : Slot) (a : AddressValue) (items : List (ℕ × ClaimValue)) (number : ℕ) → All (λ p. p.0 < number) items
+    → Contains (numbers_at slot a items) number → ⊥
 not-listed slot a [] number fresh there = contains-none number there
 not-listed slot a (p ∷ items) number fresh there =
     ⊎_elim
@@ -314,7 +332,8 @@ not-listed slot a (p ∷ items) number fresh there =
 
     below : (ns : List ℕ) (occupied has : Bool) → ns ≡ cond occupied (cond has (p.0 ∷ []) []) [] → Contains ns number → ⊥
     below ns true true is there =
-        ⊎_elim (λ (same : p.0 ≡ number). omega (arith, less, same)) (λ none. contains-none number none) (contains-cons p.0 [] number (subst (λ (l : List ℕ). Contains l number) is there))
+        ⊎_elim (λ (same : p.0 ≡ number). omega (arith, less, same)) (λ none. contains-none number none)
+        (contains-cons p.0 [] number (subst (λ (l : List ℕ). Contains l number) is there))
     below ns true false is there = contains-none number (subst (λ (l : List ℕ). Contains l number) is there)
     below ns false has is there = contains-none number (subst (λ (l : List ℕ). Contains l number) is there)
 
@@ -330,7 +349,8 @@ not-lost items more number c is fresh none =
     let e : None ≡ Some c = none ∙ ap (λ (list : List (ℕ × ClaimValue)). lookup (λ n. n == number) list) is ∙ found-added items number c fresh in cc
 
 -- the same, of a key and a claim that are found
-pub indexed-pushed : (items more : List (ℕ × ClaimValue)) (number : ℕ) (c found : ClaimValue) (key : Key) (keys keys_after : IndexValue Key) (h h_after : AddressHoldersValue)
+pub indexed-pushed : (items more : List (ℕ × ClaimValue)) (number : ℕ) (c found : ClaimValue) (key : Key) (keys keys_after : IndexValue Key)
+    (h h_after : AddressHoldersValue)
     → IsIndexed items keys h → more ≡ items ++ (number, c) ∷ [] → key ≡ c.key → found ≡ c → is_assigned c.holding ≡ true
     → numbers_under key_cmp keys_after ≡ (λ k. cond (is_at (key_cmp key) k) (numbers_under key_cmp keys k ++ number ∷ []) (numbers_under key_cmp keys k))
     → ((slot : Slot) → claims_having h_after slot ≡ (λ a. claims_having h slot a ++ numbered_at slot a (number, found)))

@@ -1,5 +1,6 @@
 -- What the claims under the numbers of a key or of an address say of all claims.
-use Rattle.std.proofs.Common.{◌≡◌, ℕ, ◌+◌, ◌<◌, ◌≤◌, ◌==◌, Bool, true, false, cond, not, ◌&&◌, ◌||◌, List, [], ◌∷◌, ◌++◌, filter, length, suc, Option, Some, None, Less, IfSome, IfNone, refl, sym, ap, ◌∙◌, subst, arith, ⊎_elim}
+use Rattle.std.proofs.Common.{◌≡◌, ℕ, ◌+◌, ◌<◌, ◌≤◌, ◌==◌, Bool, true, false, cond, not, ◌&&◌, ◌||◌, List, [], ◌∷◌, ◌++◌, filter}
+use Rattle.std.proofs.Common.{length, suc, Option, Some, None, Less, IfSome, IfNone, refl, sym, ap, ◌∙◌, subst, arith, ⊎_elim}
 use Rattle.std.specs.Bool.{MatchBool}
 use Rattle.std.specs.List.{Contains, AllByRecursion, AllWithin, HoldsAt, list_any, list_all}
 use Rattle.std.specs.List.Sorted.{IsStrictlySortedBy}
@@ -52,11 +53,13 @@ module _ (P : Type 0) where
   first-asked [] all some = absurd (cc)
   first-asked (x ∷ xs) all some = all 0 0 (omega arith) (omega arith)
 
-  pub asked-any : (r : Bool) (xs : List ℕ) → MatchBool r ((k : ℕ) × (k < length xs) × HoldsAt (λ _. P) xs k) (AllWithin (λ _. P) xs 0 (length xs)) → is_nil xs ≡ false → P
+  pub asked-any : (r : Bool) (xs : List ℕ) → MatchBool r ((k : ℕ) × (k < length xs) × HoldsAt (λ _. P) xs k) (AllWithin (λ _. P) xs 0 (length xs))
+      → is_nil xs ≡ false → P
   asked-any true xs found some = found.2 0
   asked-any false xs found some = first-asked xs found some
 
-  pub asked-all : (r : Bool) (xs : List ℕ) → MatchBool r (AllWithin (λ _. P) xs 0 (length xs)) ((k : ℕ) × (k < length xs) × HoldsAt (λ _. P) xs k) → is_nil xs ≡ false → P
+  pub asked-all : (r : Bool) (xs : List ℕ) → MatchBool r (AllWithin (λ _. P) xs 0 (length xs)) ((k : ℕ) × (k < length xs) × HoldsAt (λ _. P) xs k)
+      → is_nil xs ≡ false → P
   asked-all true xs found some = first-asked xs found some
   asked-all false xs found some = found.2 0
 
@@ -66,7 +69,8 @@ some-passed [] i passed some = absurd (true≢false some)
 some-passed (x ∷ xs) i passed some = omega (arith, passed)
 
 -- ---- numbers stand where claims do
-nil-of-by : (b : Bool) (p : ℕ × ClaimValue) (kept : List (ℕ × ClaimValue)) (h : Bool) → is_nil (keys_of kept) ≡ not h → is_nil (keys_of (cond b (p ∷ kept) kept)) ≡ not (b || h)
+nil-of-by : (b : Bool) (p : ℕ × ClaimValue) (kept : List (ℕ × ClaimValue)) (h : Bool) → is_nil (keys_of kept) ≡ not h
+    → is_nil (keys_of (cond b (p ∷ kept) kept)) ≡ not (b || h)
 nil-of-by true p kept h ih = refl
 nil-of-by false p kept h ih = ih
 
@@ -86,7 +90,8 @@ module _ (a : AddressValue) where
 
   pub nil-at : (slot : Slot) (items : List (ℕ × ClaimValue)) → is_nil (numbers_at slot a items) ≡ not (is_taken slot (values_of items) a)
   nil-at slot [] = refl
-  nil-at slot (p ∷ items) = nil-listed (occupies slot p.1) p.0 p.1.holding.addresses (numbers_at slot a items) (is_taken slot (values_of items) a) (nil-at slot items)
+  nil-at slot (p ∷ items) =
+      nil-listed (occupies slot p.1) p.0 p.1.holding.addresses (numbers_at slot a items) (is_taken slot (values_of items) a) (nil-at slot items)
 
 -- ---- what is found under the numbers
 abbrev pub under : List (ℕ × ClaimValue) → ℕ → Option ClaimValue
@@ -97,7 +102,8 @@ abbrev pub AreFound : (ClaimValue → Bool) → (ℕ → Option ClaimValue) → 
 AreFound passes find items = AllByRecursion (λ p. passes p.1 ≡ true → find p.0 ≡ Some p.1) items
 
 module _ (passes : ClaimValue → Bool) where
-  found-behind : (n : ℕ) (c : ClaimValue) (items rest : List (ℕ × ClaimValue)) → AllByRecursion (λ m. nat_cmp n m ≡ Less) (keys_of rest) → AreFound passes (under items) rest → AreFound passes (under ((n, c) ∷ items)) rest
+  found-behind : (n : ℕ) (c : ClaimValue) (items rest : List (ℕ × ClaimValue)) → AllByRecursion (λ m. nat_cmp n m ≡ Less) (keys_of rest)
+      → AreFound passes (under items) rest → AreFound passes (under ((n, c) ∷ items)) rest
   found-behind n c items [] above found = tt
   found-behind n c items (p ∷ rest) above found = (λ e. rw (below-apart n p.0 above.0) (found.0 e), found-behind n c items rest above.1 found.1)
 
@@ -116,26 +122,31 @@ module _ (passes : ClaimValue → Bool) where
       let parts = found-none-by (passes p.1) (list_any passes (values_of items)) none in
       (λ e. absurd (true≢false (sym e ∙ parts.0)), found-none find items parts.1)
 
-  found-by : (b : Bool) (items : List (ℕ × ClaimValue)) → list_any passes (values_of items) ≡ b → (not b ≡ false → IsStrictlySortedBy nat_cmp (keys_of items)) → AreFound passes (under items) items
+  found-by : (b : Bool) (items : List (ℕ × ClaimValue)) → list_any passes (values_of items) ≡ b → (not b ≡ false → IsStrictlySortedBy nat_cmp (keys_of items))
+      → AreFound passes (under items) items
   found-by true items is sorted = found-sorted items (sorted refl)
   found-by false items is sorted = found-none (under items) items is
 
   -- the numbers ascend where some is asked of
-  found : (numbers : List ℕ) (items : List (ℕ × ClaimValue)) → is_nil numbers ≡ not (list_any passes (values_of items)) → (is_nil numbers ≡ false → IsStrictlySortedBy nat_cmp (keys_of items)) → AreFound passes (under items) items
+  found : (numbers : List ℕ) (items : List (ℕ × ClaimValue)) → is_nil numbers ≡ not (list_any passes (values_of items))
+      → (is_nil numbers ≡ false → IsStrictlySortedBy nat_cmp (keys_of items)) → AreFound passes (under items) items
   found numbers items nil sorted = found-by (list_any passes (values_of items)) items refl (λ e. sorted (nil ∙ e))
 
 -- a claim is found by its number
-found-at : (find : ℕ → Option ClaimValue) (items : List (ℕ × ClaimValue)) (p : ℕ × ClaimValue) → AreFound (λ _. true) find items → Contains items p → find p.0 ≡ Some p.1
+found-at : (find : ℕ → Option ClaimValue) (items : List (ℕ × ClaimValue)) (p : ℕ × ClaimValue) → AreFound (λ _. true) find items → Contains items p
+    → find p.0 ≡ Some p.1
 found-at find [] p found there = absurd (contains-none p there)
 found-at find (q ∷ items) p found there =
-    ⊎_elim (λ (same : q ≡ p). subst (λ (r : ℕ × ClaimValue). find r.0 ≡ Some r.1) same (found.0 refl)) (λ later. found-at find items p found.1 later) (contains-cons q items p there)
+    ⊎_elim (λ (same : q ≡ p). subst (λ (r : ℕ × ClaimValue). find r.0 ≡ Some r.1) same (found.0 refl)) (λ later. found-at find items p found.1 later)
+    (contains-cons q items p there)
 
 pub found-of : (items : List (ℕ × ClaimValue)) (p : ℕ × ClaimValue) → IsStrictlySortedBy nat_cmp (keys_of items) → Contains items p → under items p.0 ≡ Some p.1
 found-of items p sorted there = found-at (under items) items p (found-sorted (λ _. true) items sorted) there
 
 -- ---- a test over the numbers
 module _ (find : ℕ → Option ClaimValue) (test : Option ClaimValue → Bool) where
-  any-of-by : (b : Bool) (p : ℕ × ClaimValue) (kept : List (ℕ × ClaimValue)) (rest : Bool) → (b ≡ true → find p.0 ≡ Some p.1) → list_any (λ n. test (find n)) (keys_of kept) ≡ rest
+  any-of-by : (b : Bool) (p : ℕ × ClaimValue) (kept : List (ℕ × ClaimValue)) (rest : Bool) → (b ≡ true → find p.0 ≡ Some p.1)
+      → list_any (λ n. test (find n)) (keys_of kept) ≡ rest
       → list_any (λ n. test (find n)) (keys_of (cond b (p ∷ kept) kept)) ≡ ((b && test (Some p.1)) || rest)
   any-of-by true p kept rest is ih = rw (is refl, ih) refl
   any-of-by false p kept rest is ih = ih
@@ -145,10 +156,12 @@ module _ (find : ℕ → Option ClaimValue) (test : Option ClaimValue → Bool) 
   count-one true n p numbers kept ih = ap (λ (k : ℕ). suc k) ih
   count-one false n p numbers kept ih = ih
 
-  count-of-by : (b : Bool) (p : ℕ × ClaimValue) (of_key rest : List (ℕ × ClaimValue)) → (b ≡ true → find p.0 ≡ Some p.1) → length (filter (λ n. test (find n)) (keys_of of_key)) ≡ length rest
+  count-of-by : (b : Bool) (p : ℕ × ClaimValue) (of_key rest : List (ℕ × ClaimValue)) → (b ≡ true → find p.0 ≡ Some p.1)
+      → length (filter (λ n. test (find n)) (keys_of of_key)) ≡ length rest
       → length (filter (λ n. test (find n)) (keys_of (cond b (p ∷ of_key) of_key))) ≡ length (cond (b && test (Some p.1)) (p ∷ rest) rest)
   count-of-by true p of_key rest is ih =
-      ap (λ (o : Option ClaimValue). length (cond (test o) (p.0 ∷ filter (λ n. test (find n)) (keys_of of_key)) (filter (λ n. test (find n)) (keys_of of_key)))) (is refl)
+      ap (λ (o : Option ClaimValue). length (cond (test o) (p.0 ∷ filter (λ n. test (find n)) (keys_of of_key)) (filter (λ n. test (find n)) (keys_of of_key))))
+      (is refl)
       ∙ count-one (test (Some p.1)) p.0 p (filter (λ n. test (find n)) (keys_of of_key)) rest ih
   count-of-by false p of_key rest is ih = ih
 
@@ -156,13 +169,15 @@ module _ (find : ℕ → Option ClaimValue) (test : Option ClaimValue → Bool) 
       → length (filter (λ n. test (find n)) (numbers_of key items)) ≡ length (filter (λ p. same_key p.1.key key && test (Some p.1)) items)
   count-of key [] found = refl
   count-of key (p ∷ items) found =
-      count-of-by (same_key p.1.key key) p (filter (λ p. same_key p.1.key key) items) (filter (λ p. same_key p.1.key key && test (Some p.1)) items) found.0 (count-of key items found.1)
+      count-of-by (same_key p.1.key key) p (filter (λ p. same_key p.1.key key) items) (filter (λ p. same_key p.1.key key && test (Some p.1)) items) found.0
+      (count-of key items found.1)
 
   any-of : (key : Key) (items : List (ℕ × ClaimValue)) → AreFound (λ c. same_key c.key key) find items
       → list_any (λ n. test (find n)) (numbers_of key items) ≡ list_any (λ c. same_key c.key key && test (Some c)) (values_of items)
   any-of key [] found = refl
   any-of key (p ∷ items) found =
-      any-of-by (same_key p.1.key key) p (filter (λ p. same_key p.1.key key) items) (list_any (λ c. same_key c.key key && test (Some c)) (values_of items)) found.0 (any-of key items found.1)
+      any-of-by (same_key p.1.key key) p (filter (λ p. same_key p.1.key key) items) (list_any (λ c. same_key c.key key && test (Some c)) (values_of items))
+      found.0 (any-of key items found.1)
 
   module _ (a : AddressValue) where
     all-once : (has : Bool) (n : ℕ) (c : ClaimValue) (rest : List ℕ) → (has ≡ true → find n ≡ Some c)
@@ -170,13 +185,16 @@ module _ (find : ℕ → Option ClaimValue) (test : Option ClaimValue → Bool) 
     all-once true n c rest is = rw (is refl) refl
     all-once false n c rest is = refl
 
-    all-listed : (occupied : Bool) (n : ℕ) (c : ClaimValue) (addresses : List AddressValue) (rest : List ℕ) → (occupied && has_address addresses a ≡ true → find n ≡ Some c)
-        → list_all (λ n. test (find n)) (cond occupied (numbered n addresses a) [] ++ rest) ≡ ((not (occupied && has_address addresses a) || test (Some c)) && list_all (λ n. test (find n)) rest)
+    all-listed : (occupied : Bool) (n : ℕ) (c : ClaimValue) (addresses : List AddressValue) (rest : List ℕ)
+        → (occupied && has_address addresses a ≡ true → find n ≡ Some c)
+        → list_all (λ n. test (find n)) (cond occupied (numbered n addresses a) [] ++ rest)
+        ≡ ((not (occupied && has_address addresses a) || test (Some c)) && list_all (λ n. test (find n)) rest)
     all-listed true n c addresses rest is = all-once (has_address addresses a) n c rest is
     all-listed false n c addresses rest is = refl
 
     all-at : (slot : Slot) (items : List (ℕ × ClaimValue)) → AreFound (λ c. occupies slot c && has_address c.holding.addresses a) find items
-        → list_all (λ n. test (find n)) (numbers_at slot a items) ≡ list_all (λ c. not (occupies slot c && has_address c.holding.addresses a) || test (Some c)) (values_of items)
+        → list_all (λ n. test (find n)) (numbers_at slot a items)
+        ≡ list_all (λ c. not (occupies slot c && has_address c.holding.addresses a) || test (Some c)) (values_of items)
     all-at slot [] found = refl
     all-at slot (p ∷ items) found =
         all-listed (occupies slot p.1) p.0 p.1 p.1.holding.addresses (numbers_at slot a items) found.0
@@ -185,39 +203,48 @@ module _ (find : ℕ → Option ClaimValue) (test : Option ClaimValue → Bool) 
 -- ---- what is asked of the claims of a key, and of those that have an address
 module _ (items : List (ℕ × ClaimValue)) (numbers : List ℕ) (sorted : is_nil numbers ≡ false → IsStrictlySortedBy nat_cmp (keys_of items)) where
   module _ (key : Key) (are : numbers ≡ numbers_of key items) where
-    pub any-is : (test : Option ClaimValue → Bool) → list_any (λ n. test (under items n)) numbers ≡ list_any (λ c. same_key c.key key && test (Some c)) (values_of items)
+    pub any-is : (test : Option ClaimValue → Bool)
+        → list_any (λ n. test (under items n)) numbers ≡ list_any (λ c. same_key c.key key && test (Some c)) (values_of items)
     any-is test =
         ap (list_any (λ n. test (under items n))) are
         ∙ any-of (under items) test key items (found (λ c. same_key c.key key) numbers items (ap is_nil are ∙ nil-of key items) sorted)
 
-    pub count-is : (test : Option ClaimValue → Bool) → length (filter (λ n. test (under items n)) numbers) ≡ length (filter (λ p. same_key p.1.key key && test (Some p.1)) items)
+    pub count-is : (test : Option ClaimValue → Bool)
+        → length (filter (λ n. test (under items n)) numbers) ≡ length (filter (λ p. same_key p.1.key key && test (Some p.1)) items)
     count-is test =
         ap (λ (ns : List ℕ). length (filter (λ n. test (under items n)) ns)) are
         ∙ count-of (under items) test key items (found (λ c. same_key c.key key) numbers items (ap is_nil are ∙ nil-of key items) sorted)
 
-    pub loses-is : (holding : Record) (terms : Terms) → list_any (λ n. not (is_claim_under holding terms (under items n))) numbers ≡ loses key holding terms (values_of items)
+    pub loses-is : (holding : Record) (terms : Terms)
+        → list_any (λ n. not (is_claim_under holding terms (under items n))) numbers ≡ loses key holding terms (values_of items)
     loses-is holding terms = any-is (λ o. not (is_claim_under holding terms o))
 
-    pub claims_it-is : (holding : Record) (terms : Terms) → list_any (λ n. is_claim_under holding terms (under items n)) numbers ≡ claims_it key holding terms (values_of items)
+    pub claims_it-is : (holding : Record) (terms : Terms)
+        → list_any (λ n. is_claim_under holding terms (under items n)) numbers ≡ claims_it key holding terms (values_of items)
     claims_it-is holding terms = any-is (is_claim_under holding terms)
 
   module _ (slot : Slot) (a : AddressValue) (are : numbers ≡ numbers_at slot a items) where
-    all-is : (test : Option ClaimValue → Bool) → list_all (λ n. test (under items n)) numbers ≡ list_all (λ c. not (occupies slot c && has_address c.holding.addresses a) || test (Some c)) (values_of items)
+    all-is : (test : Option ClaimValue → Bool) → list_all (λ n. test (under items n)) numbers
+        ≡ list_all (λ c. not (occupies slot c && has_address c.holding.addresses a) || test (Some c)) (values_of items)
     all-is test =
         ap (list_all (λ n. test (under items n))) are
-        ∙ all-at (under items) test a slot items (found (λ c. occupies slot c && has_address c.holding.addresses a) numbers items (ap is_nil are ∙ nil-at a slot items) sorted)
+        ∙ all-at (under items) test a slot items
+        (found (λ c. occupies slot c && has_address c.holding.addresses a) numbers items (ap is_nil are ∙ nil-at a slot items) sorted)
 
     -- each claim in the slot is of the key
     pub yields-is : (key : Key) → list_all (λ n. is_of key (under items n)) numbers ≡ list_all (yields key slot a) (values_of items)
     yields-is key = all-is (is_of key)
 
-  pub all_leave-is : (a : AddressValue) (key : Key) (terms : Terms) → numbers ≡ numbers_at Any a items → list_all (λ n. gives_way key terms (under items n)) numbers ≡ list_all (leaves key terms a) (values_of items)
+  pub all_leave-is : (a : AddressValue) (key : Key) (terms : Terms) → numbers ≡ numbers_at Any a items
+      → list_all (λ n. gives_way key terms (under items n)) numbers ≡ list_all (leaves key terms a) (values_of items)
   all_leave-is a key terms are = all-is Any a are (gives_way key terms) ∙ leaves-each (values_of items)
     where
-      leaves-each : (claims : List ClaimValue) → list_all (λ c. not (has_address c.holding.addresses a) || gives_way key terms (Some c)) claims ≡ list_all (leaves key terms a) claims
+      leaves-each : (claims : List ClaimValue)
+          → list_all (λ c. not (has_address c.holding.addresses a) || gives_way key terms (Some c)) claims ≡ list_all (leaves key terms a) claims
       leaves-each [] = refl
       leaves-each (c ∷ claims) =
-          ap (λ x. x && list_all (λ c. not (has_address c.holding.addresses a) || gives_way key terms (Some c)) claims) (or-swap (not (has_address c.holding.addresses a)) (same_key c.key key) (may_share terms c.terms))
+          ap (λ x. x && list_all (λ c. not (has_address c.holding.addresses a) || gives_way key terms (Some c)) claims)
+          (or-swap (not (has_address c.holding.addresses a)) (same_key c.key key) (may_share terms c.terms))
           ∙ ap (λ x. leaves key terms a c && x) (leaves-each claims)
 
 not-not : (b : Bool) → not (not b) ≡ b
@@ -225,7 +252,8 @@ not-not true = refl
 not-not false = refl
 
 -- ---- addresses ahead of the first with a claim of a group have none
-module _ (items : List (ℕ × ClaimValue)) (h : AddressHoldersValue) (slot : Slot) (group : List ℕ) (is : slot ≡ OfGroup group) (are : claims_having h slot ≡ (λ a. numbers_at slot a items)) (family : Family) where
+module _ (items : List (ℕ × ClaimValue)) (h : AddressHoldersValue) (slot : Slot) (group : List ℕ) (is : slot ≡ OfGroup group)
+    (are : claims_having h slot ≡ (λ a. numbers_at slot a items)) (family : Family) where
   shared-at : (n : ℕ) → not (is_nil (claims_having h slot (address_of family n))) ≡ is_shared group (values_of items) (address_of family n)
   shared-at n =
       ap (λ (f : AddressValue → List ℕ). not (is_nil (f (address_of family n)))) are
@@ -233,12 +261,14 @@ module _ (items : List (ℕ × ClaimValue)) (h : AddressHoldersValue) (slot : Sl
       ∙ not-not (is_taken slot (values_of items) (address_of family n))
       ∙ ap (λ (s : Slot). is_taken s (values_of items) (address_of family n)) is
 
-  pub first_shared-some : (found : Option ℕ) (low high : ℕ) → IfSome found (λ n. IsLeastIn (λ m. not (is_nil (claims_having h slot (address_of family m)))) low high n)
+  pub first_shared-some : (found : Option ℕ) (low high : ℕ)
+      → IfSome found (λ n. IsLeastIn (λ m. not (is_nil (claims_having h slot (address_of family m)))) low high n)
       → IfSome found (λ n. (low ≤ n) × (n ≤ high) × NoneShared family group (values_of items) low n)
   first_shared-some None low high least = tt
   first_shared-some (Some n) low high least = (least.0, least.1, λ m from below. sym (shared-at m) ∙ least.3 m from below)
 
-  pub first_shared-none : (found : Option ℕ) (low high : ℕ) → IfNone found (NonePasses (λ m. not (is_nil (claims_having h slot (address_of family m)))) low high)
+  pub first_shared-none : (found : Option ℕ) (low high : ℕ)
+      → IfNone found (NonePasses (λ m. not (is_nil (claims_having h slot (address_of family m)))) low high)
       → IfNone found (NoneShared family group (values_of items) low (high + 1))
   first_shared-none None low high none = λ m from below. sym (shared-at m) ∙ none m from (omega (arith, below))
   first_shared-none (Some n) low high none = tt
@@ -248,11 +278,14 @@ empty-is : (xs : List ℕ) → (length xs == 0) ≡ is_nil xs
 empty-is [] = refl
 empty-is (x ∷ xs) = grind (arith, nat_tests)
 
-pub has_claims-is : (key : Key) (items : List (ℕ × ClaimValue)) (numbers : List ℕ) → numbers ≡ numbers_of key items → not (length numbers == 0) ≡ has_claims key (values_of items)
+pub has_claims-is : (key : Key) (items : List (ℕ × ClaimValue)) (numbers : List ℕ) → numbers ≡ numbers_of key items
+    → not (length numbers == 0) ≡ has_claims key (values_of items)
 has_claims-is key items numbers are = ap not (empty-is numbers ∙ ap is_nil are ∙ nil-of key items) ∙ not-not (has_claims key (values_of items))
 
 -- ---- an address has no claim where it has no number
-pub unheld-is : (avoiding : Bool) (items : List (ℕ × ClaimValue)) (h : AddressHoldersValue) (slot : Slot) → claims_having h slot ≡ (λ a. numbers_at slot a items) → (family : Family)
+pub unheld-is : (avoiding : Bool) (items : List (ℕ × ClaimValue)) (h : AddressHoldersValue) (slot : Slot)
+    → claims_having h slot ≡ (λ a. numbers_at slot a items) → (family : Family)
     → ◌≡◌ {A = ℕ → Bool} (λ m. is_open_in avoiding h slot (address_of family m)) (λ m. is_open avoiding slot (values_of items) (address_of family m))
 unheld-is avoiding items h slot are family =
-    λ i m. not (avoiding && is_buggy (address_of family m)) && (ap (λ (f : AddressValue → List ℕ). is_nil (f (address_of family m))) are ∙ nil-at (address_of family m) slot items) i
+    λ i m. not (avoiding && is_buggy (address_of family m))
+    && (ap (λ (f : AddressValue → List ℕ). is_nil (f (address_of family m))) are ∙ nil-at (address_of family m) slot items) i

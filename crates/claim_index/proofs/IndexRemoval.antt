@@ -1,5 +1,6 @@
 -- What is left of a claim in the index once it was removed.
-use Rattle.std.proofs.Common.{◌≡◌, ℕ, ◌+◌, ◌<◌, ◌==◌, Bool, true, false, cond, not, ◌||◌, List, [], ◌∷◌, ◌++◌, filter, take, length, get_or, Option, Some, None, Less, refl, sym, ap, ◌∙◌, subst, arith, ⊎_elim, ◌⊎◌, inr}
+use Rattle.std.proofs.Common.{◌≡◌, ℕ, ◌+◌, ◌<◌, ◌==◌, Bool, true, false, cond, not, ◌||◌, List, [], ◌∷◌, ◌++◌, filter, take}
+use Rattle.std.proofs.Common.{length, get_or, Option, Some, None, Less, refl, sym, ap, ◌∙◌, subst, arith, ⊎_elim, ◌⊎◌, inr}
 use Rattle.std.proofs.lemmas.Bool.{true≢false, cases_Bool}
 use Rattle.std.proofs.lemmas.Bool.Decides.{nat_tests, same_from_decides}
 use Rattle.std.proofs.lemmas.List.{take_more}
@@ -43,7 +44,8 @@ same_address-flip a b =
     same_from_decides (same_address a b) (same_address b a) (same_address-is a b, λ (e : a ≡ b). subst (λ x. same_address a x ≡ true) e (same_address-itself a))
     (λ e. sym (same_address-is b a e), λ (e : a ≡ b). subst (λ x. same_address x a ≡ true) e (same_address-itself a))
 
-left-by : (had here : Bool) (n : ℕ) (numbers : List ℕ) → cond here (all_but n (cond had (all_but n numbers) numbers)) (cond had (all_but n numbers) numbers) ≡ cond (had || (here || false)) (all_but n numbers) numbers
+left-by : (had here : Bool) (n : ℕ) (numbers : List ℕ) → cond here (all_but n (cond had (all_but n numbers) numbers)) (cond had (all_but n numbers) numbers)
+    ≡ cond (had || (here || false)) (all_but n numbers) numbers
 left-by true true n numbers = filter-once (λ m. not (m == n)) numbers
 left-by true false n numbers = refl
 left-by false true n numbers = refl
@@ -59,7 +61,8 @@ left-more n xs x numbers = λ i a. at a i
         rw (list_any-append (same_address a) xs (x ∷ []), same_address-flip x a)
         (left-by (has_address xs a) (same_address a x) n (numbers a))
 
-pub left-next : (n : ℕ) (xs : List AddressValue) (i : ℕ) (x : AddressValue) (numbers so_far : AddressValue → List ℕ) → i < length xs → x ≡ get_or xs i x → so_far ≡ left_at n (take i xs) numbers
+pub left-next : (n : ℕ) (xs : List AddressValue) (i : ℕ) (x : AddressValue) (numbers so_far : AddressValue → List ℕ) → i < length xs → x ≡ get_or xs i x
+    → so_far ≡ left_at n (take i xs) numbers
     → (λ (a : AddressValue). cond (same_address x a) (all_but n (so_far a)) (so_far a)) ≡ left_at n (take (i + 1) xs) numbers
 left-next n xs i x numbers so_far within is e =
     ap taken e
@@ -70,10 +73,12 @@ left-next n xs i x numbers so_far within is e =
     taken f a = cond (same_address x a) (all_but n (f a)) (f a)
 
 -- ---- numbers that ascend
-above : (n : ℕ) (items : List (ℕ × ClaimValue)) → AllByRecursion (λ m. nat_cmp n m ≡ Less) (keys_of items) → (p : ℕ × ClaimValue) → Contains items p → nat_cmp n p.0 ≡ Less
+above : (n : ℕ) (items : List (ℕ × ClaimValue)) → AllByRecursion (λ m. nat_cmp n m ≡ Less) (keys_of items) → (p : ℕ × ClaimValue) → Contains items p
+    → nat_cmp n p.0 ≡ Less
 above n [] all p there = absurd (contains-none p there)
 above n (q ∷ items) all p there =
-    ⊎_elim (λ (same : q ≡ p). subst (λ (r : ℕ × ClaimValue). nat_cmp n r.0 ≡ Less) same all.0) (λ later. above n items all.1 p later) (contains-cons q items p there)
+    ⊎_elim (λ (same : q ≡ p). subst (λ (r : ℕ × ClaimValue). nat_cmp n r.0 ≡ Less) same all.0) (λ later. above n items all.1 p later)
+    (contains-cons q items p there)
 
 apart-by : (n m : ℕ) → nat_cmp n m ≡ Less → (n == m) ≡ false
 apart-by n m less = grind (arith, nat_tests)
@@ -116,7 +121,8 @@ only-tail n c q items only p there same = only p (contains-later q items p there
 abbrev pub without : ℕ → List (ℕ × ClaimValue) → List (ℕ × ClaimValue)
 without n items = filter (λ p. not (p.0 == n)) items
 
-keys-by : (b : Bool) (p : ℕ × ClaimValue) (rest : List (ℕ × ClaimValue)) (others : List ℕ) → keys_of rest ≡ others → keys_of (cond b (p ∷ rest) rest) ≡ cond b (p.0 ∷ others) others
+keys-by : (b : Bool) (p : ℕ × ClaimValue) (rest : List (ℕ × ClaimValue)) (others : List ℕ) → keys_of rest ≡ others
+    → keys_of (cond b (p ∷ rest) rest) ≡ cond b (p.0 ∷ others) others
 keys-by true p rest others ih = ap (λ (l : List ℕ). p.0 ∷ l) ih
 keys-by false p rest others ih = ih
 
@@ -124,11 +130,13 @@ keys-without : (n : ℕ) (items : List (ℕ × ClaimValue)) → keys_of (without
 keys-without n [] = refl
 keys-without n (p ∷ items) = keys-by (not (p.0 == n)) p (without n items) (all_but n (keys_of items)) (keys-without n items)
 
-ascending-without : (n : ℕ) (items : List (ℕ × ClaimValue)) → IsStrictlySortedBy nat_cmp (keys_of items) → IsStrictlySortedBy nat_cmp (keys_of (without n items))
+ascending-without : (n : ℕ) (items : List (ℕ × ClaimValue)) → IsStrictlySortedBy nat_cmp (keys_of items)
+    → IsStrictlySortedBy nat_cmp (keys_of (without n items))
 ascending-without n items sorted =
     subst (IsStrictlySortedBy nat_cmp) (sym (keys-without n items)) (IsStrictlySortedBy-filter nat_cmp (λ m. not (m == n)) (keys_of items) sorted)
 
-among-by : (b : Bool) (p : ℕ × ClaimValue) (rest : List (ℕ × ClaimValue)) (c : ClaimValue) → Contains (values_of (cond b (p ∷ rest) rest)) c → (p.1 ≡ c) ⊎ Contains (values_of rest) c
+among-by : (b : Bool) (p : ℕ × ClaimValue) (rest : List (ℕ × ClaimValue)) (c : ClaimValue) → Contains (values_of (cond b (p ∷ rest) rest)) c
+    → (p.1 ≡ c) ⊎ Contains (values_of rest) c
 among-by true p rest c there = contains-cons p.1 (values_of rest) c there
 among-by false p rest c there = inr there
 
@@ -149,7 +157,8 @@ groups-without n items all c there = all c (among n items c there)
 -- ---- the numbers of each key
 of-by : (of_key here : Bool) (n : ℕ) (p : ℕ × ClaimValue) (rest : List (ℕ × ClaimValue)) (key : Key) → same_key p.1.key key ≡ of_key → (p.0 == n) ≡ here
     → numbers_of key (without n rest) ≡ all_but n (numbers_of key rest)
-    → numbers_of key (cond (not here) (p ∷ without n rest) (without n rest)) ≡ all_but n (keys_of (cond of_key (p ∷ filter (λ q. same_key q.1.key key) rest) (filter (λ q. same_key q.1.key key) rest)))
+    → numbers_of key (cond (not here) (p ∷ without n rest) (without n rest))
+    ≡ all_but n (keys_of (cond of_key (p ∷ filter (λ q. same_key q.1.key key) rest) (filter (λ q. same_key q.1.key key) rest)))
 of-by true true n p rest key s t ih = rw t ih
 of-by true false n p rest key s t ih = rw (s, t) (ap (λ (l : List ℕ). p.0 ∷ l) ih)
 of-by false true n p rest key s t ih = ih
@@ -162,13 +171,15 @@ of-without n (p ∷ items) key = of-by (same_key p.1.key key) (p.0 == n) n p ite
 never : (b : Bool) → (b ≡ true → ⊥) → b ≡ false
 never b refuted = ⊎_elim (λ (e : b ≡ true). absurd (refuted e)) (λ e. e) (cases_Bool b)
 
-other-by : (of_key : Bool) (n : ℕ) (p : ℕ × ClaimValue) (rest : List (ℕ × ClaimValue)) → (of_key ≡ true → (p.0 == n) ≡ false) → all_but n (keys_of rest) ≡ keys_of rest
+other-by : (of_key : Bool) (n : ℕ) (p : ℕ × ClaimValue) (rest : List (ℕ × ClaimValue)) → (of_key ≡ true → (p.0 == n) ≡ false)
+    → all_but n (keys_of rest) ≡ keys_of rest
     → all_but n (keys_of (cond of_key (p ∷ rest) rest)) ≡ keys_of (cond of_key (p ∷ rest) rest)
 other-by true n p rest apart ih = rw (apart refl) (ap (λ (l : List ℕ). p.0 ∷ l) ih)
 other-by false n p rest apart ih = ih
 
 -- no claim of another key has the number
-of-others : (n : ℕ) (c : ClaimValue) (items : List (ℕ × ClaimValue)) (key : Key) → IsOnly n c items → same_key c.key key ≡ false → all_but n (numbers_of key items) ≡ numbers_of key items
+of-others : (n : ℕ) (c : ClaimValue) (items : List (ℕ × ClaimValue)) (key : Key) → IsOnly n c items → same_key c.key key ≡ false
+    → all_but n (numbers_of key items) ≡ numbers_of key items
 of-others n c [] key only other = refl
 of-others n c (p ∷ items) key only other =
     other-by (same_key p.1.key key) n p (filter (λ q. same_key q.1.key key) items)
@@ -187,7 +198,8 @@ keys-left : (n : ℕ) (c : ClaimValue) (items : List (ℕ × ClaimValue)) (befor
     → numbers_under key_cmp after ≡ (λ key. numbers_of key (without n items))
 keys-left n c items before after only e change = change ∙ (λ i key. at key i)
   where
-    at : (key : Key) → cond (is_at (key_cmp c.key) key) (all_but n (numbers_under key_cmp before key)) (numbers_under key_cmp before key) ≡ numbers_of key (without n items)
+    at : (key : Key)
+        → cond (is_at (key_cmp c.key) key) (all_but n (numbers_under key_cmp before key)) (numbers_under key_cmp before key) ≡ numbers_of key (without n items)
     at key =
         ap (λ (f : Key → List ℕ). cond (is_at (key_cmp c.key) key) (all_but n (f key)) (f key)) e
         ∙ of-left (is_at (key_cmp c.key) key) n c items key only (sym (is_eq-key_cmp c.key key))
@@ -199,13 +211,15 @@ here-by false true n m e = rw e refl
 here-by true false n m e = refl
 here-by false false n m e = refl
 
-at-by : (b : Bool) (n : ℕ) (slot : Slot) (a : AddressValue) (p : ℕ × ClaimValue) (rest : List (ℕ × ClaimValue)) (numbers : List ℕ) → numbers_at slot a rest ≡ numbers
+at-by : (b : Bool) (n : ℕ) (slot : Slot) (a : AddressValue) (p : ℕ × ClaimValue) (rest : List (ℕ × ClaimValue)) (numbers : List ℕ)
+    → numbers_at slot a rest ≡ numbers
     → numbers_at slot a (cond (not b) (p ∷ rest) rest) ≡ cond (not b) (numbered_at slot a p) [] ++ numbers
 at-by true n slot a p rest numbers ih = ih
 at-by false n slot a p rest numbers ih = ap (λ (l : List ℕ). numbered_at slot a p ++ l) ih
 
 -- the number of a claim is taken out of its list
-here-at : (occupied : Bool) (n m : ℕ) (xs : List AddressValue) (a : AddressValue) → all_but n (cond occupied (numbered m xs a) []) ≡ cond (not (m == n)) (cond occupied (numbered m xs a) []) []
+here-at : (occupied : Bool) (n m : ℕ) (xs : List AddressValue) (a : AddressValue)
+    → all_but n (cond occupied (numbered m xs a) []) ≡ cond (not (m == n)) (cond occupied (numbered m xs a) []) []
 here-at true n m xs a = here-by (m == n) (has_address xs a) n m refl
 here-at false n m xs a = nothing-left (not (m == n))
   where
@@ -213,7 +227,8 @@ here-at false n m xs a = nothing-left (not (m == n))
     nothing-left true = refl
     nothing-left false = refl
 
-at-without : (n : ℕ) (slot : Slot) (items : List (ℕ × ClaimValue)) (a : AddressValue) → numbers_at slot a (without n items) ≡ all_but n (numbers_at slot a items)
+at-without : (n : ℕ) (slot : Slot) (items : List (ℕ × ClaimValue)) (a : AddressValue)
+    → numbers_at slot a (without n items) ≡ all_but n (numbers_at slot a items)
 at-without n slot [] a = refl
 at-without n slot (p ∷ items) a =
     at-by (p.0 == n) n slot a p (without n items) (all_but n (numbers_at slot a items)) (at-without n slot items a)
@@ -228,13 +243,15 @@ elsewhere-by : (b has : Bool) (n m : ℕ) → (m == n) ≡ b → (b ≡ true →
 elsewhere-by true has n m e none = rw (none refl) refl
 elsewhere-by false has n m e none = here-by false has n m e
 
-elsewhere-at : (occupied b : Bool) (n m : ℕ) (xs : List AddressValue) (a : AddressValue) → (m == n) ≡ b → (b ≡ true → occupied ≡ true → has_address xs a ≡ false)
+elsewhere-at : (occupied b : Bool) (n m : ℕ) (xs : List AddressValue) (a : AddressValue) → (m == n) ≡ b
+    → (b ≡ true → occupied ≡ true → has_address xs a ≡ false)
     → all_but n (cond occupied (numbered m xs a) []) ≡ cond occupied (numbered m xs a) []
 elsewhere-at true b n m xs a e none = elsewhere-by b (has_address xs a) n m e (λ same. none same refl)
 elsewhere-at false b n m xs a e none = refl
 
 -- no claim has the number in a slot at an address where the claim of the number isn't listed
-at-others : (n : ℕ) (slot : Slot) (c : ClaimValue) (items : List (ℕ × ClaimValue)) (a : AddressValue) → IsOnly n c items → (occupies slot c ≡ true → has_address c.holding.addresses a ≡ false)
+at-others : (n : ℕ) (slot : Slot) (c : ClaimValue) (items : List (ℕ × ClaimValue)) (a : AddressValue) → IsOnly n c items
+    → (occupies slot c ≡ true → has_address c.holding.addresses a ≡ false)
     → all_but n (numbers_at slot a items) ≡ numbers_at slot a items
 at-others n slot c [] a only other = refl
 at-others n slot c (p ∷ items) a only other =
@@ -246,7 +263,8 @@ at-others n slot c (p ∷ items) a only other =
     ∙ ap (λ (l : List ℕ). l ++ all_but n (numbers_at slot a items)) here
     ∙ ap (λ (l : List ℕ). numbered_at slot a p ++ l) (at-others n slot c items a (only-tail n c p items only) other)
 
-at-left : (b : Bool) (n : ℕ) (slot : Slot) (c : ClaimValue) (items : List (ℕ × ClaimValue)) (a : AddressValue) → IsOnly n c items → has_address c.holding.addresses a ≡ b
+at-left : (b : Bool) (n : ℕ) (slot : Slot) (c : ClaimValue) (items : List (ℕ × ClaimValue)) (a : AddressValue) → IsOnly n c items
+    → has_address c.holding.addresses a ≡ b
     → cond b (all_but n (numbers_at slot a items)) (numbers_at slot a items) ≡ numbers_at slot a (without n items)
 at-left true n slot c items a only e = sym (at-without n slot items a)
 at-left false n slot c items a only e = sym (at-without n slot items a ∙ at-others n slot c items a only (λ occupied. e))
@@ -255,11 +273,13 @@ at-left false n slot c items a only e = sym (at-without n slot items a ∙ at-ot
 slot-left : (b : Bool) (n : ℕ) (slot : Slot) (c : ClaimValue) (items : List (ℕ × ClaimValue)) → IsOnly n c items → occupies slot c ≡ b
     → cond b (left_at n c.holding.addresses (λ a. numbers_at slot a items)) (λ a. numbers_at slot a items) ≡ (λ a. numbers_at slot a (without n items))
 slot-left true n slot c items only e = λ i a. at-left (has_address c.holding.addresses a) n slot c items a only refl i
-slot-left false n slot c items only e = λ i a. sym (at-without n slot items a ∙ at-others n slot c items a only (λ occupied. absurd (true≢false (sym occupied ∙ e)))) i
+slot-left false n slot c items only e =
+    λ i a. sym (at-without n slot items a ∙ at-others n slot c items a only (λ occupied. absurd (true≢false (sym occupied ∙ e)))) i
 
 holders-left : (n : ℕ) (c : ClaimValue) (items : List (ℕ × ClaimValue)) (before after : AddressHoldersValue) → IsOnly n c items
     → ((slot : Slot) → claims_having before slot ≡ (λ a. numbers_at slot a items))
-    → ((slot : Slot) → claims_having after slot ≡ cond (occupies slot c) (left_at n c.holding.addresses (claims_having before slot)) (claims_having before slot))
+    → ((slot : Slot)
+    → claims_having after slot ≡ cond (occupies slot c) (left_at n c.holding.addresses (claims_having before slot)) (claims_having before slot))
     → (slot : Slot) → claims_having after slot ≡ (λ a. numbers_at slot a (without n items))
 holders-left n c items before after only e change slot =
     change slot
@@ -275,7 +295,8 @@ without-none : (n : ℕ) (items : List (ℕ × ClaimValue)) → lookup (λ m. m 
 without-none n [] e = refl
 without-none n (p ∷ items) e =
     let apart = none-by (p.0 == n) p.1 (lookup (λ m. m == n) items) e in
-    rw apart (ap (λ (l : List (ℕ × ClaimValue)). p ∷ l) (without-none n items (ap (λ (b : Bool). cond b (Some p.1) (lookup (λ m. m == n) items)) (sym apart) ∙ e)))
+    rw apart (ap (λ (l : List (ℕ × ClaimValue)). p ∷ l)
+    (without-none n items (ap (λ (b : Bool). cond b (Some p.1) (lookup (λ m. m == n) items)) (sym apart) ∙ e)))
 
 -- the claim of the number went, from the claims and from what they are found by
 module _ (n : ℕ) (items less : List (ℕ × ClaimValue)) (is : less ≡ without n items) (sorted : IsStrictlySortedBy nat_cmp (keys_of items)) where
@@ -299,16 +320,20 @@ module _ (n : ℕ) (items less : List (ℕ × ClaimValue)) (is : less ≡ withou
     removed-keys key before after same e change =
         subst (λ (l : List (ℕ × ClaimValue)). numbers_under key_cmp after ≡ (λ k. numbers_of k l)) (sym is)
         (keys-left n c items before after only e
-        (subst (λ (q : Key). numbers_under key_cmp after ≡ (λ k. cond (is_at (key_cmp q) k) (all_but n (numbers_under key_cmp before k)) (numbers_under key_cmp before k))) same change))
+        (subst (λ (q : Key). numbers_under key_cmp after
+        ≡ (λ k. cond (is_at (key_cmp q) k) (all_but n (numbers_under key_cmp before k)) (numbers_under key_cmp before k))) same change))
 
     pub removed-holders : (before after : AddressHoldersValue)
         → ((slot : Slot) → claims_having before slot ≡ (λ a. numbers_at slot a items))
-        → ((slot : Slot) → claims_having after slot ≡ cond (occupies slot c) (left_at n c.holding.addresses (claims_having before slot)) (claims_having before slot))
+        → ((slot : Slot)
+        → claims_having after slot ≡ cond (occupies slot c) (left_at n c.holding.addresses (claims_having before slot)) (claims_having before slot))
         → (slot : Slot) → claims_having after slot ≡ (λ a. numbers_at slot a less)
     removed-holders before after e change =
         subst (λ (l : List (ℕ × ClaimValue)). (slot : Slot) → claims_having after slot ≡ (λ a. numbers_at slot a l)) (sym is)
         (holders-left n c items before after only e change)
 
 -- where no claim has the number all stays
-pub indexed-still : (n : ℕ) (items less : List (ℕ × ClaimValue)) (by_key : IndexValue Key) (h : AddressHoldersValue) → less ≡ without n items → None ≡ lookup (λ m. m == n) items → IsIndexed items by_key h → IsIndexed less by_key h
-indexed-still n items less by_key h is none indexed = subst (λ (l : List (ℕ × ClaimValue)). IsIndexed l by_key h) (sym (is ∙ without-none n items (sym none))) indexed
+pub indexed-still : (n : ℕ) (items less : List (ℕ × ClaimValue)) (by_key : IndexValue Key) (h : AddressHoldersValue) → less ≡ without n items
+    → None ≡ lookup (λ m. m == n) items → IsIndexed items by_key h → IsIndexed less by_key h
+indexed-still n items less by_key h is none indexed =
+    subst (λ (l : List (ℕ × ClaimValue)). IsIndexed l by_key h) (sym (is ∙ without-none n items (sym none))) indexed

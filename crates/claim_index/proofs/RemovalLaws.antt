@@ -44,7 +44,8 @@ module _ (n : ℕ) (xs : List AddressValue) where
   left-slot start before after slots grown x shown grows is here others so_far s =
       ⊎_elim
       (λ same. subst (λ (t : Slot). claims_having after t ≡ left_in grown start t) (same_slot-is x s same) at-slot)
-      (λ apart. (λ j a. claims_at (others s apart j a.family) a.number) ∙ so_far s ∙ ap (kept s) (sym (grows s ∙ ap (λ b. slots s || b) apart ∙ or-none (slots s))))
+      (λ apart. (λ j a. claims_at (others s apart j a.family) a.number) ∙ so_far s
+      ∙ ap (kept s) (sym (grows s ∙ ap (λ b. slots s || b) apart ∙ or-none (slots s))))
       (cases_Bool (same_slot x s))
     where
       kept : Slot → Bool → AddressValue → List ℕ
@@ -63,14 +64,17 @@ module _ (n : ℕ) (xs : List AddressValue) where
           ∙ ap (kept x) (sym (grows x ∙ or_right (slots x) (same_slot x x) (same_slot-itself x)))
 
 -- and in those of all ports of the claim
-pub left-all : (start : Slot → AddressValue → List ℕ) (after : AddressHoldersValue) (n : ℕ) (xs : List AddressValue) (group : List ℕ) (ports shown : List Port) (i : ℕ)
+pub left-all : (start : Slot → AddressValue → List ℕ) (after : AddressHoldersValue) (n : ℕ) (xs : List AddressValue) (group : List ℕ) (ports shown : List Port)
+    (i : ℕ)
     → length shown ≤ i → shown ≡ ports
     → ((slot : Slot) → claims_having after slot ≡ left_in n xs (is_slot_of group (take i shown)) start slot)
     → (slot : Slot) → claims_having after slot ≡ left_in n xs (is_slot_of group ports) start slot
-left-all start after n xs group ports shown i passed is each slot = each slot ∙ ap (λ (ps : List Port). left_in n xs (is_slot_of group ps) start slot) (take_all i shown passed ∙ is)
+left-all start after n xs group ports shown i passed is each slot =
+    each slot ∙ ap (λ (ps : List Port). left_in n xs (is_slot_of group ps) start slot) (take_all i shown passed ∙ is)
 
 -- ---- the index without a claim
-pub indexed-left : (n : ℕ) (items less : List (ℕ × ClaimValue)) (c : ClaimValue) (key : Key) (by_key by_key_after : IndexValue Key) (h removed : AddressHoldersValue)
+pub indexed-left : (n : ℕ) (items less : List (ℕ × ClaimValue)) (c : ClaimValue) (key : Key) (by_key by_key_after : IndexValue Key)
+    (h removed : AddressHoldersValue)
     → less ≡ without n items → IsStrictlySortedBy nat_cmp (keys_of items) → Some c ≡ lookup (λ m. m == n) items → key ≡ c.key
     → IsIndexed items by_key h
     → numbers_under key_cmp by_key_after ≡ (λ k. cond (is_at (key_cmp key) k) (all_but n (numbers_under key_cmp by_key k)) (numbers_under key_cmp by_key k))

@@ -75,11 +75,13 @@ looked-up slot entries = ap (λ (test : Slot → Bool). lookup test entries) (λ
 abbrev Puts : Slot → ClaimantsValue → List (Slot × ClaimantsValue) → List (Slot × ClaimantsValue) → Type 0
 Puts slot new before after = (s : Slot) → slot_of after s ≡ cond (same_slot slot s) new (slot_of before s)
 
-some-or : (b : Bool) (new : ClaimantsValue) (other : Option ClaimantsValue) → unwrap_or (cond b (Some new) other) no_claimants ≡ cond b new (unwrap_or other no_claimants)
+some-or : (b : Bool) (new : ClaimantsValue) (other : Option ClaimantsValue)
+    → unwrap_or (cond b (Some new) other) no_claimants ≡ cond b new (unwrap_or other no_claimants)
 some-or true new other = refl
 some-or false new other = refl
 
-puts-updated : (slot : Slot) (m n : BTreeMap Slot ClaimantsValue) (new : ClaimantsValue) → Updates derived.cmp-value.it m n slot (Some new) → Puts slot new m.entries n.entries
+puts-updated : (slot : Slot) (m n : BTreeMap Slot ClaimantsValue) (new : ClaimantsValue) → Updates derived.cmp-value.it m n slot (Some new)
+    → Puts slot new m.entries n.entries
 puts-updated slot m n new updates s =
     let other = lookup (is_at (derived.cmp-value.it s)) m.entries in
     ap (λ o. unwrap_or o no_claimants) (sym (looked-up s n.entries) ∙ updates.0 s)
@@ -104,7 +106,8 @@ module _ (slot : Slot) (new : ClaimantsValue) (before after : List (Slot × Clai
     put-each s = subst (λ c. P (slot_of before s) c) (sym (puts s)) (put-by s (same_slot slot s) refl)
 
 -- the claims that a map has in the slot
-module _ (slot : Slot) (entries : List (Slot × ClaimantsValue)) (old : ClaimantsValue) (found : Some old ≡ lookup (is_at (derived.cmp-value.it slot)) entries) where
+module _ (slot : Slot) (entries : List (Slot × ClaimantsValue)) (old : ClaimantsValue)
+    (found : Some old ≡ lookup (is_at (derived.cmp-value.it slot)) entries) where
   slot-found : old ≡ slot_of entries slot
   slot-found = ap (λ o. unwrap_or o no_claimants) (found ∙ looked-up slot entries)
 
@@ -115,7 +118,8 @@ module _ (slot : Slot) (entries : List (Slot × ClaimantsValue)) (old : Claimant
   to-found P h = subst P (sym slot-found) h
 
 -- a slot in which the map has nothing
-pub slot-absent : (slot : Slot) (entries : List (Slot × ClaimantsValue)) → None ≡ lookup (is_at (derived.cmp-value.it slot)) entries → slot_of entries slot ≡ no_claimants
+pub slot-absent : (slot : Slot) (entries : List (Slot × ClaimantsValue)) → None ≡ lookup (is_at (derived.cmp-value.it slot)) entries
+    → slot_of entries slot ≡ no_claimants
 slot-absent slot entries none = ap (λ o. unwrap_or o no_claimants) (sym (none ∙ looked-up slot entries))
 
 nil-by : (b : Bool) (test : ℕ → Bool) → ◌≡◌ {A = List ℕ} [] (cond b (filter test []) [])
@@ -123,7 +127,8 @@ nil-by true test = refl
 nil-by false test = refl
 
 -- nothing is taken out of it
-pub absent-filtered : (slot : Slot) (entries : List (Slot × ClaimantsValue)) (test : ℕ → Bool) (number : ℕ) → None ≡ lookup (is_at (derived.cmp-value.it slot)) entries
+pub absent-filtered : (slot : Slot) (entries : List (Slot × ClaimantsValue)) (test : ℕ → Bool) (number : ℕ)
+    → None ≡ lookup (is_at (derived.cmp-value.it slot)) entries
     → claims_at (slot_of entries slot) ≡ (λ n. cond (number == n) (filter test (claims_at (slot_of entries slot) n)) (claims_at (slot_of entries slot) n))
 absent-filtered slot entries test number none =
     subst (λ (c : ClaimantsValue). claims_at c ≡ (λ n. cond (number == n) (filter test (claims_at c n)) (claims_at c n))) (sym (slot-absent slot entries none))
@@ -144,7 +149,8 @@ module _ (slot : Slot) (m n : BTreeMap Slot ClaimantsValue) (old new : Claimants
   pub written-apart : (s : Slot) → same_slot slot s ≡ false → slot_of n.entries s ≡ slot_of m.entries s
   written-apart = put-apart slot new m.entries n.entries puts-written
 
-  pub written-each : (P : ClaimantsValue → ClaimantsValue → Type 0) → ((c : ClaimantsValue) → P c c) → P old new → (s : Slot) → P (slot_of m.entries s) (slot_of n.entries s)
+  pub written-each : (P : ClaimantsValue → ClaimantsValue → Type 0) → ((c : ClaimantsValue) → P c c) → P old new → (s : Slot)
+      → P (slot_of m.entries s) (slot_of n.entries s)
   written-each P itself changed = put-each slot new m.entries n.entries puts-written P itself (of-found slot m.entries old found (λ c. P c new) changed)
 
   -- the list of one address was changed
@@ -155,7 +161,8 @@ module _ (slot : Slot) (m n : BTreeMap Slot ClaimantsValue) (old new : Claimants
       ap claims_at (put-now slot new m.entries n.entries puts-written) ∙ changed ∙ ap listed (slot-found slot m.entries old found)
 
 -- claims were put into a slot that had none
-module _ (slot made : Slot) (is : made ≡ slot) (m before n : BTreeMap Slot ClaimantsValue) (new : ClaimantsValue) (same : before ≡ m) (none : None ≡ lookup (is_at (derived.cmp-value.it slot)) m.entries)
+module _ (slot made : Slot) (is : made ≡ slot) (m before n : BTreeMap Slot ClaimantsValue) (new : ClaimantsValue) (same : before ≡ m)
+    (none : None ≡ lookup (is_at (derived.cmp-value.it slot)) m.entries)
     (updates : Updates derived.cmp-value.it before n made (Some new)) where
   puts-made : Puts slot new m.entries n.entries
   puts-made =
@@ -165,16 +172,19 @@ module _ (slot made : Slot) (is : made ≡ slot) (m before n : BTreeMap Slot Cla
   pub made-now : slot_of n.entries slot ≡ new
   made-now = put-now slot new m.entries n.entries puts-made
 
-  pub made-each : (P : ClaimantsValue → ClaimantsValue → Type 0) → ((c : ClaimantsValue) → P c c) → P no_claimants new → (s : Slot) → P (slot_of m.entries s) (slot_of n.entries s)
+  pub made-each : (P : ClaimantsValue → ClaimantsValue → Type 0) → ((c : ClaimantsValue) → P c c) → P no_claimants new → (s : Slot)
+      → P (slot_of m.entries s) (slot_of n.entries s)
   made-each P itself changed =
-      put-each slot new m.entries n.entries puts-made P itself (subst (λ c. P c new) (ap (λ o. unwrap_or o no_claimants) (none ∙ looked-up slot m.entries)) changed)
+      put-each slot new m.entries n.entries puts-made P itself
+      (subst (λ c. P c new) (ap (λ o. unwrap_or o no_claimants) (none ∙ looked-up slot m.entries)) changed)
 
 -- the slot was taken out
 none-or : (b : Bool) (other : Option ClaimantsValue) → unwrap_or (cond b None other) no_claimants ≡ cond b no_claimants (unwrap_or other no_claimants)
 none-or true other = refl
 none-or false other = refl
 
-pub puts-dropped : (slot : Slot) (m n : BTreeMap Slot ClaimantsValue) → Updates derived.cmp-value.it m n slot None → (s : Slot) → slot_of n.entries s ≡ cond (same_slot slot s) no_claimants (slot_of m.entries s)
+pub puts-dropped : (slot : Slot) (m n : BTreeMap Slot ClaimantsValue) → Updates derived.cmp-value.it m n slot None → (s : Slot)
+    → slot_of n.entries s ≡ cond (same_slot slot s) no_claimants (slot_of m.entries s)
 puts-dropped slot m n updates s =
     let other = lookup (is_at (derived.cmp-value.it s)) m.entries in
     ap (λ o. unwrap_or o no_claimants) (sym (looked-up s n.entries) ∙ updates.0 s)

@@ -80,7 +80,8 @@ impl AddressHolders {
     /// The claim isn't listed in the slot at the address. It takes no memory.
     pub(crate) fn remove(&mut self, slot: &Slot, address: &Address, claim: u64)
         ensures numbers { claims_having self.new slot.now
-            ≡ (λ a. if same_address address.now a then filter (λ c. not (c == claim)) (claims_having self.old slot.now a) else claims_having self.old slot.now a) }
+            ≡ (λ a. if same_address address.now a then filter (λ c. not (c == claim)) (claims_having self.old slot.now a)
+            else claims_having self.old slot.now a) }
         ensures others { (s : Slot) → same_slot slot.now s ≡ false → in_slot self.new s ≡ in_slot self.old s }
     {
         match address.family {

@@ -64,7 +64,8 @@ impl Holders {
         requires addresses { 0 < (in_slot_at self.old slot.now).room }
         ensures numbers { claims_at (in_slot_at self.new slot.now)
             ≡ (λ n. if number == n then claims_at (in_slot_at self.old slot.now) n ++ claim ∷ [] else claims_at (in_slot_at self.old slot.now) n) }
-        ensures claims { (n : ℕ) → claim_room_at (in_slot_at self.old slot.now) n ≤ claim_room_at (in_slot_at self.new slot.now) n + (if number == n then 1 else 0) }
+        ensures claims { (n : ℕ)
+            → claim_room_at (in_slot_at self.old slot.now) n ≤ claim_room_at (in_slot_at self.new slot.now) n + (if number == n then 1 else 0) }
         ensures addresses { (in_slot_at self.old slot.now).room ≤ (in_slot_at self.new slot.now).room + 1 }
         ensures others { (s : Slot) → same_slot slot.now s ≡ false → in_slot_at self.new s ≡ in_slot_at self.old s }
     {
@@ -77,7 +78,8 @@ impl Holders {
     /// The claim isn't listed in the slot at the address. It takes no memory.
     pub(crate) fn remove(&mut self, slot: &Slot, number: u128, claim: u64)
         ensures numbers { claims_at (in_slot_at self.new slot.now)
-            ≡ (λ n. if number == n then filter (λ c. not (c == claim)) (claims_at (in_slot_at self.old slot.now) n) else claims_at (in_slot_at self.old slot.now) n) }
+            ≡ (λ n. if number == n then filter (λ c. not (c == claim)) (claims_at (in_slot_at self.old slot.now) n)
+            else claims_at (in_slot_at self.old slot.now) n) }
         ensures others { (s : Slot) → same_slot slot.now s ≡ false → in_slot_at self.new s ≡ in_slot_at self.old s }
     {
         let Some(claimants) = self.by_slot.get_mut(slot) else {

@@ -1,10 +1,12 @@
 -- Words are read as the options that they are.
-use Rattle.std.proofs.Common.{◌≡◌, ◌≢◌, ℕ, suc, ◌+◌, Bool, true, false, cond, ltb, eqb-true, List, [], ◌∷◌, ◌++◌, length, take, drop, Option, Some, None, refl, sym, ap, ◌∙◌, subst, arith, inl, inr}
+use Rattle.std.proofs.Common.{◌≡◌, ◌≢◌, ℕ, suc, ◌+◌, Bool, true, false, cond, ltb, eqb-true, List, [], ◌∷◌, ◌++◌}
+use Rattle.std.proofs.Common.{length, take, drop, Option, Some, None, refl, sym, ap, ◌∙◌, subst, arith, inl, inr}
 use Rattle.std.proofs.lemmas.Bool.{false≢true, true≢false, eqb-false, ne_eqb, lt-ltb}
 use Rattle.std.proofs.lemmas.Bool.Decides.{nat_tests}
 use Rattle.std.specs.Option.{option_map}
 use Rattle.std.specs.List.{AllByRecursion, position_or_len, before_first, after_first}
-use Rattle.command_options.specs.Options.{CommandOption, First, is_given, is_value, AreOptions, is_equals, has_equals, first_of, with_option, options_in, OptionsAreRead}
+use Rattle.command_options.specs.Options.{CommandOption, First, is_given, is_value, AreOptions, is_equals}
+use Rattle.command_options.specs.Options.{has_equals, first_of, with_option, options_in, OptionsAreRead}
 
 -- ---- a text round its first `=`
 -- The text is the part before it, `=`, and the part behind it.
@@ -80,7 +82,8 @@ lacking : (name : List ℕ) → AllByRecursion (λ c. c ≢ 61) name → has_equ
 lacking [] lacks = refl
 lacking (c ∷ name) lacks = cons-has c name false (ne_eqb c 61 lacks.0) (lacking name lacks.1)
 
-lacks_by : (b : Bool) (c : ℕ) (text : List ℕ) → is_equals c ≡ b → has_equals (c ∷ text) ≡ false → (has_equals text ≡ false → AllByRecursion (λ x. x ≢ 61) text) → AllByRecursion (λ x. x ≢ 61) (c ∷ text)
+lacks_by : (b : Bool) (c : ℕ) (text : List ℕ) → is_equals c ≡ b → has_equals (c ∷ text) ≡ false → (has_equals text ≡ false → AllByRecursion (λ x. x ≢ 61) text)
+    → AllByRecursion (λ x. x ≢ 61) (c ∷ text)
 lacks_by true c text t e rest = absurd (true≢false (sym (has-first c text t) ∙ e))
 lacks_by false c text t e rest = (eqb-false c 61 t, rest (has-cons c text false t e))
 
@@ -95,11 +98,13 @@ value_in word = after_first is_equals word
 abbrev name_in : List ℕ → List ℕ
 name_in word = before_first is_equals word
 
-joined-read : (word : List ℕ) (rest : List (List ℕ)) → has_equals word ≡ true → options_in (word ∷ rest) ≡ with_option (is_given (value_in word)) (name_in word) (value_in word) (options_in rest)
+joined-read : (word : List ℕ) (rest : List (List ℕ)) → has_equals word ≡ true
+    → options_in (word ∷ rest) ≡ with_option (is_given (value_in word)) (name_in word) (value_in word) (options_in rest)
 joined-read word [] e = rw e refl
 joined-read word (value ∷ rest) e = rw e refl
 
-apart-read : (word value : List ℕ) (rest : List (List ℕ)) → has_equals word ≡ false → options_in (word ∷ value ∷ rest) ≡ with_option (is_value value) word value (options_in rest)
+apart-read : (word value : List ℕ) (rest : List (List ℕ)) → has_equals word ≡ false
+    → options_in (word ∷ value ∷ rest) ≡ with_option (is_value value) word value (options_in rest)
 apart-read word value rest e = rw e refl
 
 -- The first option passed, and the others were read.
@@ -109,22 +114,26 @@ record Passed (passes : Bool) (name value : List ℕ) (others : Option (List Com
   read : others ≡ Some more
   are : options ≡ record { name = name; value = value } ∷ more
 
-passed : (passes : Bool) (name value : List ℕ) (others : Option (List CommandOption)) (options : List CommandOption) → with_option passes name value others ≡ Some options → Passed passes name value others options
+passed : (passes : Bool) (name value : List ℕ) (others : Option (List CommandOption)) (options : List CommandOption)
+    → with_option passes name value others ≡ Some options → Passed passes name value others options
 passed false name value others options e = absurd (cc)
 passed true name value None options e = absurd (cc)
-passed true name value (Some more) options e = record { passed = refl; more = more; read = refl; are = (let it : record { name = name; value = value } ∷ more ≡ options = cc in sym it) }
+passed true name value (Some more) options e =
+    record { passed = refl; more = more; read = refl; are = (let it : record { name = name; value = value } ∷ more ≡ options = cc in sym it) }
 
 abbrev joined_name : List ℕ → List ℕ → List ℕ
 joined_name name value = name ++ 61 ∷ value
 
-of-joined : (word : List ℕ) (rest : List (List ℕ)) (options : List CommandOption) → has_equals word ≡ true → Passed (is_given (value_in word)) (name_in word) (value_in word) (options_in rest) options
+of-joined : (word : List ℕ) (rest : List (List ℕ)) (options : List CommandOption) → has_equals word ≡ true
+    → Passed (is_given (value_in word)) (name_in word) (value_in word) (options_in rest) options
     → ((more : List CommandOption) → options_in rest ≡ Some more → AreOptions more rest) → AreOptions options (word ∷ rest)
 of-joined word rest options e p read =
     let s = splits word e in
     subst (λ (os : List CommandOption). AreOptions os (word ∷ rest)) (sym p.are)
     (rest, s.lacks, inl (ap (λ (w : List ℕ). w ∷ rest) s.joined, p.passed), read p.more p.read)
 
-of-apart : (word value : List ℕ) (rest : List (List ℕ)) (options : List CommandOption) → has_equals word ≡ false → Passed (is_value value) word value (options_in rest) options
+of-apart : (word value : List ℕ) (rest : List (List ℕ)) (options : List CommandOption) → has_equals word ≡ false
+    → Passed (is_value value) word value (options_in rest) options
     → ((more : List CommandOption) → options_in rest ≡ Some more → AreOptions more rest) → AreOptions options (word ∷ value ∷ rest)
 of-apart word value rest options e p read =
     subst (λ (os : List CommandOption). AreOptions os (word ∷ value ∷ rest)) (sym p.are)
@@ -135,10 +144,12 @@ last_by : (b : Bool) (word : List ℕ) (options : List CommandOption) → has_eq
 last_by true word options t e read = of-joined word [] options t (passed _ _ _ _ options (sym (joined-read word [] t) ∙ e)) read
 last_by false word options t e read = let none : None ≡ Some options = rw t at e in absurd (cc)
 
-first_by : (b : Bool) (word value : List ℕ) (rest : List (List ℕ)) (options : List CommandOption) → has_equals word ≡ b → options_in (word ∷ value ∷ rest) ≡ Some options
+first_by : (b : Bool) (word value : List ℕ) (rest : List (List ℕ)) (options : List CommandOption) → has_equals word ≡ b
+    → options_in (word ∷ value ∷ rest) ≡ Some options
     → ((more : List CommandOption) → options_in (value ∷ rest) ≡ Some more → AreOptions more (value ∷ rest))
     → ((more : List CommandOption) → options_in rest ≡ Some more → AreOptions more rest) → AreOptions options (word ∷ value ∷ rest)
-first_by true word value rest options t e near far = of-joined word (value ∷ rest) options t (passed _ _ _ _ options (sym (joined-read word (value ∷ rest) t) ∙ e)) near
+first_by true word value rest options t e near far =
+    of-joined word (value ∷ rest) options t (passed _ _ _ _ options (sym (joined-read word (value ∷ rest) t) ∙ e)) near
 first_by false word value rest options t e near far = of-apart word value rest options t (passed _ _ _ _ options (sym (apart-read word value rest t) ∙ e)) far
 
 read-are : (words : List (List ℕ)) (options : List CommandOption) → options_in words ≡ Some options → AreOptions options words
@@ -165,7 +176,8 @@ abbrev pub behind : Option First → Option (List CommandOption)
 behind None = None
 behind (Some first) = option_map (λ more. first.option ∷ more) (options_in first.rest)
 
-with-first : (passes : Bool) (name value : List ℕ) (rest : List (List ℕ)) → with_option passes name value (options_in rest) ≡ behind (cond passes (Some (record { option = record { name = name; value = value }; rest = rest })) None)
+with-first : (passes : Bool) (name value : List ℕ) (rest : List (List ℕ)) → with_option passes name value (options_in rest)
+    ≡ behind (cond passes (Some (record { option = record { name = name; value = value }; rest = rest })) None)
 with-first true name value rest = refl
 with-first false name value rest = refl
 
@@ -173,7 +185,8 @@ one_first : (b : Bool) (word : List ℕ) → has_equals word ≡ b → options_i
 one_first true word t = rw t (with-first (is_given (value_in word)) (name_in word) (value_in word) [])
 one_first false word t = rw t refl
 
-two_first : (b : Bool) (word value : List ℕ) (rest : List (List ℕ)) → has_equals word ≡ b → options_in (word ∷ value ∷ rest) ≡ behind (first_of (word ∷ value ∷ rest))
+two_first : (b : Bool) (word value : List ℕ) (rest : List (List ℕ)) → has_equals word ≡ b
+    → options_in (word ∷ value ∷ rest) ≡ behind (first_of (word ∷ value ∷ rest))
 two_first true word value rest t = rw t (with-first (is_given (value_in word)) (name_in word) (value_in word) (value ∷ rest))
 two_first false word value rest t = rw t (with-first (is_value value) word value rest)
 

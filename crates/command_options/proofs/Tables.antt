@@ -19,12 +19,14 @@ ahead name value options = record { name = name; value = value } ∷ options
 pub values-own : (name value : List ℕ) (options : List CommandOption) → values_of name (ahead name value options) ≡ value ∷ values_of name options
 values-own name value options = let same : bytes_eq name name ≡ true = (bytes_eq-Decides name name).1 refl in rw same refl
 
-pub values-other : (other name value : List ℕ) (options : List CommandOption) → bytes_eq other name ≡ false → values_of name (ahead other value options) ≡ values_of name options
+pub values-other : (other name value : List ℕ) (options : List CommandOption) → bytes_eq other name ≡ false
+    → values_of name (ahead other value options) ≡ values_of name options
 values-other other name value options differ = rw differ refl
 
 -- ---- options of known names
 -- the option has this name, or is taken behind
-pub named-or : {G P : Type 0} (name known : List ℕ) (taken behind : Option G) (h : G) → (behind ≡ Some h → P) → cond (bytes_eq name known) taken behind ≡ Some h → (name ≡ known) ⊎ P
+pub named-or : {G P : Type 0} (name known : List ℕ) (taken behind : Option G) (h : G) → (behind ≡ Some h → P) → cond (bytes_eq name known) taken behind ≡ Some h
+    → (name ≡ known) ⊎ P
 named-or {G} {P} name known taken behind h later e = by (bytes_eq name known) refl e where
   by : (b : Bool) → bytes_eq name known ≡ b → cond b taken behind ≡ Some h → (name ≡ known) ⊎ P
   by true t f = inl ((bytes_eq-Decides name known).0 t)
@@ -70,31 +72,38 @@ module _ {G I : Type 0} {A : I → Type 0} (Is : CommandOption → Type 0) (step
 
   module _ (at : (i : I) (P : I → Type 0) → AllByRecursion P all → P i) (t : Table) where
     -- ---- what was given is what the options give
-    part-own : (i : I) (a : A i) (value : List ℕ) (options : List CommandOption) (g h : G) → take i value (part i g) ≡ Some a → Part options (with_part i a g) h i → Part (ahead (name i) value options) g h i
+    part-own : (i : I) (a : A i) (value : List ℕ) (options : List CommandOption) (g h : G) → take i value (part i g) ≡ Some a
+        → Part options (with_part i a g) h i → Part (ahead (name i) value options) g h i
     part-own i a value options g h took more =
-        let rest : folded (take i) (values_of (name i) options) a ≡ Some (part i h) = subst (λ (x : A i). folded (take i) (values_of (name i) options) x ≡ Some (part i h)) (t.own i a g) more in
+        let rest : folded (take i) (values_of (name i) options) a ≡ Some (part i h) =
+        subst (λ (x : A i). folded (take i) (values_of (name i) options) x ≡ Some (part i h)) (t.own i a g) more in
         ap (λ (vs : List (List ℕ)). folded (take i) vs (part i g)) (values-own (name i) value options)
         ∙ goes (take i) value (values_of (name i) options) (part i g) a (Some (part i h)) took rest
 
-    part-ahead : (i : I) (a : A i) (value : List ℕ) (options : List CommandOption) (g h : G) → take i value (part i g) ≡ Some a → (j : I) → Keeps i a g j → Part options (with_part i a g) h j → Part (ahead (name i) value options) g h j
+    part-ahead : (i : I) (a : A i) (value : List ℕ) (options : List CommandOption) (g h : G) → take i value (part i g) ≡ Some a → (j : I) → Keeps i a g j
+        → Part options (with_part i a g) h j → Part (ahead (name i) value options) g h j
     part-ahead i a value options g h took j (inl is) =
         subst (λ (k : I). Part options (with_part i a g) h k → Part (ahead (name i) value options) g h k) is (part-own i a value options g h took)
     part-ahead i a value options g h took j (inr (differ, kept)) =
         λ more. ap (λ (vs : List (List ℕ)). folded (take j) vs (part j g)) (values-other (name i) (name j) value options differ)
         ∙ subst (λ (x : A j). folded (take j) (values_of (name j) options) x ≡ Some (part j h)) kept more
 
-    first-gives : (i : I) (value : List ℕ) (options : List CommandOption) (g h : G) → Is (record { name = name i; value = value }) → option_and_then (taken_by step options) (step (name i) value g) ≡ Some h
+    first-gives : (i : I) (value : List ℕ) (options : List CommandOption) (g h : G) → Is (record { name = name i; value = value })
+        → option_and_then (taken_by step options) (step (name i) value g) ≡ Some h
         → ((next : G) → taken_by step options next ≡ Some h → Gives options next h) → Gives (ahead (name i) value options) g h
     first-gives i value options g h is e rest =
-        let (a, took, end) = through (λ (x : A i). taken_by step options (with_part i x g)) (take i value (part i g)) h (mapped-through i value options g ∙ e) in
+        let (a, took, end) =
+        through (λ (x : A i). taken_by step options (with_part i x g)) (take i value (part i g)) h (mapped-through i value options g ∙ e) in
         let more = rest (with_part i a g) end in
         record { known = (is, more.known); parts = λ j. part-ahead i a value options g h took j (at j (Keeps i a g) (t.others i a g)) (more.parts j) }
       where
-        behind : (i : I) (options : List CommandOption) (g : G) (x : Option (A i)) → option_and_then (λ a. taken_by step options (with_part i a g)) x ≡ option_and_then (taken_by step options) (option_map (λ a. with_part i a g) x)
+        behind : (i : I) (options : List CommandOption) (g : G) (x : Option (A i))
+            → option_and_then (λ a. taken_by step options (with_part i a g)) x ≡ option_and_then (taken_by step options) (option_map (λ a. with_part i a g) x)
         behind i options g None = refl
         behind i options g (Some a) = refl
 
-        mapped-through : (i : I) (value : List ℕ) (options : List CommandOption) (g : G) → option_and_then (λ a. taken_by step options (with_part i a g)) (take i value (part i g)) ≡ option_and_then (taken_by step options) (step (name i) value g)
+        mapped-through : (i : I) (value : List ℕ) (options : List CommandOption) (g : G) → option_and_then (λ a. taken_by step options (with_part i a g))
+            (take i value (part i g)) ≡ option_and_then (taken_by step options) (step (name i) value g)
         mapped-through i value options g = behind i options g (take i value (part i g)) ∙ ap (option_and_then (taken_by step options)) (sym (t.taken i value g))
 
     given-gives : (options : List CommandOption) (g h : G) → taken_by step options g ≡ Some h → Gives options g h
@@ -106,16 +115,19 @@ module _ {G I : Type 0} {A : I → Type 0} (Is : CommandOption → Type 0) (step
         let is = t.is o g next took in
         let (i, named) = t.which o is in
         let first : Gives (ahead (name i) o.value options) g h =
-        first-gives i o.value options g h (subst (λ (n : List ℕ). Is (record { name = n; value = o.value })) named is) (subst (λ (n : List ℕ). option_and_then (taken_by step options) (step n o.value g) ≡ Some h) named e) (λ next. given-gives options next h) in
+        first-gives i o.value options g h (subst (λ (n : List ℕ). Is (record { name = n; value = o.value })) named is)
+        (subst (λ (n : List ℕ). option_and_then (taken_by step options) (step n o.value g) ≡ Some h) named e) (λ next. given-gives options next h) in
         subst (λ (n : List ℕ). Gives (ahead n o.value options) g h) (sym named) first
 
     -- ---- and the other way round
-    own-part : (i : I) (value : List ℕ) (options : List CommandOption) (g h : G) → Part (ahead (name i) value options) g h i → (a : A i) × (take i value (part i g) ≡ Some a) × (folded (take i) (values_of (name i) options) a ≡ Some (part i h))
+    own-part : (i : I) (value : List ℕ) (options : List CommandOption) (g h : G) → Part (ahead (name i) value options) g h i
+        → (a : A i) × (take i value (part i g) ≡ Some a) × (folded (take i) (values_of (name i) options) a ≡ Some (part i h))
     own-part i value options g h gives =
         through (folded (take i) (values_of (name i) options)) (take i value (part i g)) (part i h)
         (ap (λ (vs : List (List ℕ)). folded (take i) vs (part i g)) (sym (values-own (name i) value options)) ∙ gives)
 
-    part-behind : (i : I) (a : A i) (value : List ℕ) (options : List CommandOption) (g h : G) → folded (take i) (values_of (name i) options) a ≡ Some (part i h) → (j : I) → Keeps i a g j → Part (ahead (name i) value options) g h j → Part options (with_part i a g) h j
+    part-behind : (i : I) (a : A i) (value : List ℕ) (options : List CommandOption) (g h : G) → folded (take i) (values_of (name i) options) a ≡ Some (part i h)
+        → (j : I) → Keeps i a g j → Part (ahead (name i) value options) g h j → Part options (with_part i a g) h j
     part-behind i a value options g h end j (inl is) =
         subst (λ (k : I). Part (ahead (name i) value options) g h k → Part options (with_part i a g) h k) is
         (λ gives. subst (λ (x : A i). folded (take i) (values_of (name i) options) x ≡ Some (part i h)) (sym (t.own i a g)) end)
@@ -123,12 +135,14 @@ module _ {G I : Type 0} {A : I → Type 0} (Is : CommandOption → Type 0) (step
         λ gives. subst (λ (x : A j). folded (take j) (values_of (name j) options) x ≡ Some (part j h)) (sym kept)
         (ap (λ (vs : List (List ℕ)). folded (take j) vs (part j g)) (sym (values-other (name i) (name j) value options differ)) ∙ gives)
 
-    gives-first : (i : I) (value : List ℕ) (options : List CommandOption) (g h : G) → Gives (ahead (name i) value options) g h → ((next : G) → Gives options next h → taken_by step options next ≡ Some h) → taken_by step (ahead (name i) value options) g ≡ Some h
+    gives-first : (i : I) (value : List ℕ) (options : List CommandOption) (g h : G) → Gives (ahead (name i) value options) g h
+        → ((next : G) → Gives options next h → taken_by step options next ≡ Some h) → taken_by step (ahead (name i) value options) g ≡ Some h
     gives-first i value options g h gives rest =
         let (a, took, end) = own-part i value options g h (gives.parts i) in
         ap (option_and_then (taken_by step options)) (t.taken i value g)
         ∙ sets step (λ (x : A i). with_part i x g) (take i value (part i g)) a options h took
-        (rest (with_part i a g) (record { known = gives.known.1; parts = λ j. part-behind i a value options g h end j (at j (Keeps i a g) (t.others i a g)) (gives.parts j) }))
+        (rest (with_part i a g)
+        (record { known = gives.known.1; parts = λ j. part-behind i a value options g h end j (at j (Keeps i a g) (t.others i a g)) (gives.parts j) }))
 
     gives-given : (options : List CommandOption) (g h : G) → Gives options g h → taken_by step options g ≡ Some h
     gives-given [] g h gives = ap (λ (x : G). Some x) (t.same g h (λ i. same_Some (part i g) (part i h) (gives.parts i)))
@@ -138,12 +152,14 @@ module _ {G I : Type 0} {A : I → Type 0} (Is : CommandOption → Type 0) (step
         ∙ gives-first i o.value options g h (subst (λ (n : List ℕ). Gives (ahead n o.value options) g h) named gives) (λ next. gives-given options next h)
 
     -- ---- the words
-    pub words-give : (words : List (List ℕ)) (g h : G) → taken_in step words g ≡ Some h → (options : List CommandOption) × AreOptions options words × Gives options g h
+    pub words-give : (words : List (List ℕ)) (g h : G) → taken_in step words g ≡ Some h
+        → (options : List CommandOption) × AreOptions options words × Gives options g h
     words-give words g h e =
         let (options, read, gave) = through (λ (os : List CommandOption). taken_by step os g) (options_in words) h e in
         (options, (options_are_read words options).0 read, given-gives options g h gave)
 
-    pub give-words : (words : List (List ℕ)) (options : List CommandOption) (g h : G) → AreOptions options words → Gives options g h → taken_in step words g ≡ Some h
+    pub give-words : (words : List (List ℕ)) (options : List CommandOption) (g h : G) → AreOptions options words → Gives options g h
+        → taken_in step words g ≡ Some h
     give-words words options g h spelled gives =
         ap (λ (found : Option (List CommandOption)). option_and_then (λ os. taken_by step os g) found) ((options_are_read words options).1 spelled)
         ∙ gives-given options g h gives

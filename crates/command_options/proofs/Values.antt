@@ -21,7 +21,8 @@ pub through : {A B : Type 0} (f : A → Option B) (x : Option A) (y : B) → opt
 through f None y e = absurd (cc)
 through f (Some a) y e = (a, refl, e)
 
-mapped : {A B C : Type 0} (f : B → Option C) (set : A → B) (x : Option A) (y : C) → option_and_then f (option_map set x) ≡ Some y → (a : A) × (x ≡ Some a) × (f (set a) ≡ Some y)
+mapped : {A B C : Type 0} (f : B → Option C) (set : A → B) (x : Option A) (y : C) → option_and_then f (option_map set x) ≡ Some y
+    → (a : A) × (x ≡ Some a) × (f (set a) ≡ Some y)
 mapped f set None y e = absurd (cc)
 mapped f set (Some a) y e = (a, refl, e)
 
@@ -89,7 +90,8 @@ absent name [] none = tt
 absent name (o ∷ options) none = absent_by (bytes_eq o.name name) name o options refl none (absent name options)
 
 -- options that all have the name are those of its values
-pub of-values : (name : List ℕ) (options : List CommandOption) → AllByRecursion (λ o. o.name ≡ name) options → options ≡ map (λ value. record { name = name; value = value }) (values_of name options)
+pub of-values : (name : List ℕ) (options : List CommandOption) → AllByRecursion (λ o. o.name ≡ name) options
+    → options ≡ map (λ value. record { name = name; value = value }) (values_of name options)
 of-values name [] are = refl
 of-values name (o ∷ options) are =
     let same : bytes_eq o.name name ≡ true = (bytes_eq-Decides o.name name).1 are.0 in
@@ -102,7 +104,8 @@ of-values name (o ∷ options) are =
 -- ---- options that are taken by a step
 module _ {G : Type 0} (step : List ℕ → List ℕ → G → Option G) where
   -- what is taken first is set, and the others come after it
-  pub sets : {A : Type 0} (set : A → G) (taken : Option A) (a : A) (options : List CommandOption) (h : G) → taken ≡ Some a → taken_by step options (set a) ≡ Some h → option_and_then (taken_by step options) (option_map set taken) ≡ Some h
+  pub sets : {A : Type 0} (set : A → G) (taken : Option A) (a : A) (options : List CommandOption) (h : G) → taken ≡ Some a
+      → taken_by step options (set a) ≡ Some h → option_and_then (taken_by step options) (option_map set taken) ≡ Some h
   sets set taken a options h is rest = ap (λ x. option_and_then (taken_by step options) (option_map set x)) is ∙ rest
 
   none-behind : (x : Option G) → option_and_then {T = G} {U = G} (λ g. None) x ≡ None
@@ -111,7 +114,8 @@ module _ {G : Type 0} (step : List ℕ → List ℕ → G → Option G) where
 
   -- the first option is taken, and the others behind it
   next-taken : (found : Option (List CommandOption)) (o : CommandOption) (g : G)
-      → option_and_then (λ options. taken_by step options g) (option_map (λ more. o ∷ more) found) ≡ option_and_then (λ h. option_and_then (λ options. taken_by step options h) found) (step o.name o.value g)
+      → option_and_then (λ options. taken_by step options g) (option_map (λ more. o ∷ more) found)
+      ≡ option_and_then (λ h. option_and_then (λ options. taken_by step options h) found) (step o.name o.value g)
   next-taken None o g = sym (none-behind (step o.name o.value g))
   next-taken (Some options) o g = refl
 
@@ -123,18 +127,22 @@ module _ {G : Type 0} (step : List ℕ → List ℕ → G → Option G) where
       ap (λ (x : Option (List CommandOption)). option_and_then (λ options. taken_by step options g) x) (read-first word rest ∙ ap behind is)
       ∙ next-taken (options_in first.rest) first.option g
 
-  pub goes-on : (words : List (List ℕ)) (first : First) (g next : G) → first_of words ≡ Some first → step first.option.name first.option.value g ≡ Some next → taken_in step words g ≡ taken_in step first.rest next
+  pub goes-on : (words : List (List ℕ)) (first : First) (g next : G) → first_of words ≡ Some first → step first.option.name first.option.value g ≡ Some next
+      → taken_in step words g ≡ taken_in step first.rest next
   goes-on words first g next is e = goes-by words first g is ∙ ap (option_and_then (taken_in step first.rest)) e
 
-  pub goes-nowhere : (words : List (List ℕ)) (first : First) (g : G) → first_of words ≡ Some first → step first.option.name first.option.value g ≡ None → taken_in step words g ≡ None
+  pub goes-nowhere : (words : List (List ℕ)) (first : First) (g : G) → first_of words ≡ Some first → step first.option.name first.option.value g ≡ None
+      → taken_in step words g ≡ None
   goes-nowhere words first g is e = goes-by words first g is ∙ ap (option_and_then (taken_in step first.rest)) e
 
 -- ---- what a call answers of words that are read as what they say
 module _ {X S : Type 0} (seen : X → S) (Say : List (List ℕ) → S → Type 0) (read : List (List ℕ) → Option S) (words : List (List ℕ)) where
-  pub answer-said : ((s : S) → read words ≡ Some s → Say words s) → (answer : Option X) → option_map seen answer ≡ read words → IfSome answer (λ x. Say words (seen x))
+  pub answer-said : ((s : S) → read words ≡ Some s → Say words s) → (answer : Option X) → option_map seen answer ≡ read words
+      → IfSome answer (λ x. Say words (seen x))
   answer-said says None is = tt
   answer-said says (Some x) is = says (seen x) (sym is)
 
-  pub answer-unknown : ((s : S) → Say words s → read words ≡ Some s) → (answer : Option X) → option_map seen answer ≡ read words → IfNone answer (¬ ((s : S) × Say words s))
+  pub answer-unknown : ((s : S) → Say words s → read words ≡ Some s) → (answer : Option X) → option_map seen answer ≡ read words
+      → IfNone answer (¬ ((s : S) × Say words s))
   answer-unknown reads None is = λ known. let none : None ≡ Some known.0 = is ∙ reads known.0 known.1 in absurd (cc)
   answer-unknown reads (Some x) is = tt

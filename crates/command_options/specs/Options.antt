@@ -1,5 +1,6 @@
 -- Words of a command line as options: `NAME=VALUE` in one word, or `NAME` and `VALUE` in two.
-use Rattle.std.specs.Prelude.{◌≡◌, ◌≢◌, ◌⊎◌, ◌↔◌, ℕ, Bool, true, false, ◌==◌, not, nat_lt, if◌then◌else◌, List, [], ◌∷◌, ◌++◌, length, map, string_bytes, String, Option, Some, None}
+use Rattle.std.specs.Prelude.{◌≡◌, ◌≢◌, ◌⊎◌, ◌↔◌, ℕ, Bool, true, false, ◌==◌, not, nat_lt, if◌then◌else◌}
+use Rattle.std.specs.Prelude.{List, [], ◌∷◌, ◌++◌, length, map, string_bytes, String, Option, Some, None}
 use Rattle.std.specs.Option.{option_map}
 use Rattle.std.specs.List.{AllByRecursion, position_or_len, before_first, after_first}
 
@@ -69,7 +70,8 @@ options_in (word ∷ []) =
     if has_equals word then with_option (is_given (after_first is_equals word)) (before_first is_equals word) (after_first is_equals word) (Some [])
     else None
 options_in (word ∷ value ∷ rest) =
-    if has_equals word then with_option (is_given (after_first is_equals word)) (before_first is_equals word) (after_first is_equals word) (options_in (value ∷ rest))
+    if has_equals word
+    then with_option (is_given (after_first is_equals word)) (before_first is_equals word) (after_first is_equals word) (options_in (value ∷ rest))
     else with_option (is_value value) word value (options_in rest)
 
 -- words are read as options exactly where they are these options

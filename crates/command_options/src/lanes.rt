@@ -56,7 +56,8 @@ pub fn lane_files<'a>(
     first: Option<&'a str>,
     second: Option<&'a str>,
 ) -> Option<Option<LaneFiles<'a>>>
-    ensures files { option_map (λ lanes. option_map lane_seen lanes) result ≡ lanes_by (option_map (λ t. t.now) first.entry) (option_map (λ t. t.now) second.entry) }
+    ensures files { option_map (λ lanes. option_map lane_seen lanes) result
+        ≡ lanes_by (option_map (λ t. t.now) first.entry) (option_map (λ t. t.now) second.entry) }
 {
     match (first, second) {
         (None, None) => Some(None),

@@ -9,7 +9,8 @@ use Rattle.command_options.specs.Lanes.{LaneNames, LanesGiven, MayNameLanes, lan
 use Rattle.command_options.proofs.Values.{folded, through, Reads, once-read, read-once, once-text, text-once}
 use Rattle.command_options.proofs.NamedLanes.{given_lanes, given-lanes, named-give, give-named, named-lanes}
 use Rattle.command_options.proofs.Tables.{Keeps, Table, Part, Gives, words-give, give-words, named-or, named-last, part-of-part}
-use Rattle.controller_words.specs.Words.{AskedValue, Run, Trial, Lanes, Say, Ask, IsKnown, class_option, trial_option, steps_option, config_option, service_option, most_steps}
+use Rattle.controller_words.specs.Words.{AskedValue, Run, Trial, Lanes, Say, Ask, IsKnown, class_option}
+use Rattle.controller_words.specs.Words.{trial_option, steps_option, config_option, service_option, most_steps}
 use Rattle.controller_words.specs.Reading.{Given, nothing_given, seed_of, steps_of, with_lanes, with_option, asked_by, finished, asked_in, number_below}
 use Rattle.controller_words.proofs.NumberTexts.{number-is, number-read}
 
@@ -126,7 +127,8 @@ given (Lanes class files) = record { class = class; seed = None; steps = None; l
 given-finished : (options : List CommandOption) (asked : AskedValue) → Ask options asked → finished (given asked) ≡ Some asked
 given-finished options (Run class) ask = refl
 given-finished options (Trial seed steps) ask = refl
-given-finished options (Lanes class files) (classes, seeds, counts, lanes) = ap (option_and_then (asked_by class None None)) (named-lanes config_option service_option options (Some files) lanes)
+given-finished options (Lanes class files) (classes, seeds, counts, lanes) =
+    ap (option_and_then (asked_by class None None)) (named-lanes config_option service_option options (Some files) lanes)
 
 asked-by : (class : Option (List ℕ)) (seed steps : Option ℕ) (lanes : Option LaneNames) (asked : AskedValue) → asked_by class seed steps lanes ≡ Some asked
     → record { class = class; seed = seed; steps = steps; lanes = given_lanes lanes } ≡ given asked
@@ -144,14 +146,16 @@ asked-of g asked e =
     ap (λ (x : LanesGiven). with_lanes x g) (given-lanes g.lanes lanes are) ∙ asked-by g.class g.seed g.steps lanes asked by
 
 -- a value that stands once and reads as this number
-number-once : (bound : ℕ) (values : List (List ℕ)) (n : ℕ) → folded (once (number_below bound)) values None ≡ Some (Some n) → (n < bound) × (values ≡ decimal n ∷ [])
+number-once : (bound : ℕ) (values : List (List ℕ)) (n : ℕ) → folded (once (number_below bound)) values None ≡ Some (Some n)
+    → (n < bound) × (values ≡ decimal n ∷ [])
 number-once bound values n e = by values (once-read (number_below bound) values (Some n) e) where
   by : (values : List (List ℕ)) → AllZip (Reads (number_below bound)) values (n ∷ []) → (n < bound) × (values ≡ decimal n ∷ [])
   by [] zip = absurd zip
   by (value ∷ []) zip = let (below, writes) = number-is bound value n zip.0 in (below, ap (λ (v : List ℕ). v ∷ []) writes)
   by (value ∷ more ∷ values) zip = absurd zip.1
 
-once-number : (bound : ℕ) (values : List (List ℕ)) (n : ℕ) → bound ≤ 2 ^ 64 → n < bound → values ≡ decimal n ∷ [] → folded (once (number_below bound)) values None ≡ Some (Some n)
+once-number : (bound : ℕ) (values : List (List ℕ)) (n : ℕ) → bound ≤ 2 ^ 64 → n < bound → values ≡ decimal n ∷ []
+    → folded (once (number_below bound)) values None ≡ Some (Some n)
 once-number bound values n wide below are =
     let read : number_below bound (decimal n) ≡ Some n = number-read bound (decimal n) n wide below refl in
     read-once (number_below bound) values (Some n) (rw are (read, tt))
@@ -167,8 +171,10 @@ stand-none : {A : Type 0} (read : List ℕ → Option A) (values : List (List �
 stand-none read values are = read-once read values None (rw are tt)
 
 -- a run, over these lanes or with none over one stream
-run-gives : (options : List CommandOption) (class : Option (List ℕ)) (lanes : Option LaneNames) → AllByRecursion IsKnown options → values_of class_option options ≡ option_to_list class → values_of trial_option options ≡ [] → values_of steps_option options ≡ []
-    → MayNameLanes config_option service_option options lanes → Give options nothing_given (record { class = class; seed = None; steps = None; lanes = given_lanes lanes })
+run-gives : (options : List CommandOption) (class : Option (List ℕ)) (lanes : Option LaneNames) → AllByRecursion IsKnown options
+    → values_of class_option options ≡ option_to_list class → values_of trial_option options ≡ [] → values_of steps_option options ≡ []
+    → MayNameLanes config_option service_option options lanes
+    → Give options nothing_given (record { class = class; seed = None; steps = None; lanes = given_lanes lanes })
 run-gives options class lanes known classes seeds counts files =
     let (config, service) = named-give config_option service_option options lanes files in
     record {
@@ -182,8 +188,10 @@ run-gives options class lanes known classes seeds counts files =
       ];
     }
 
-gives-run : (options : List CommandOption) (class : Option (List ℕ)) (lanes found : Option LaneNames) → Give options nothing_given (record { class = class; seed = None; steps = None; lanes = given_lanes lanes }) → lanes_of (given_lanes lanes) ≡ Some found
-    → (values_of class_option options ≡ option_to_list class) × (values_of trial_option options ≡ []) × (values_of steps_option options ≡ []) × MayNameLanes config_option service_option options lanes
+gives-run : (options : List CommandOption) (class : Option (List ℕ)) (lanes found : Option LaneNames)
+    → Give options nothing_given (record { class = class; seed = None; steps = None; lanes = given_lanes lanes }) → lanes_of (given_lanes lanes) ≡ Some found
+    → (values_of class_option options ≡ option_to_list class) × (values_of trial_option options ≡ []) × (values_of steps_option options ≡ [])
+    × MayNameLanes config_option service_option options lanes
 gives-run options class lanes found gives are = (
   once-text (values_of class_option options) class (gives.parts Class),
   none-stand seed_of (values_of trial_option options) (gives.parts Seed),
@@ -207,26 +215,35 @@ ask-gives options (Trial seed steps) known (classes, seeds, counts, wide, few, l
       ];
     }
 
-gives-ask : (options : List CommandOption) (asked : AskedValue) → Give options nothing_given (given asked) → finished (given asked) ≡ Some asked → Ask options asked
+gives-ask : (options : List CommandOption) (asked : AskedValue) → Give options nothing_given (given asked) → finished (given asked) ≡ Some asked
+    → Ask options asked
 gives-ask options (Run class) gives e = gives-run options class None None gives refl
 gives-ask options (Lanes class files) gives e =
     let (found, are, by) = through (asked_by class None None) (lanes_of (given_lanes (Some files))) (Lanes class files) e in
     gives-run options class (Some files) found gives are
 gives-ask options (Trial seed steps) gives e =
     let (wide, written) = number-once (2 ^ 64) (values_of trial_option options) seed (gives.parts Seed) in
-    let (few, counted) = number-once (most_steps + 1) (values_of steps_option options) steps (gives.parts Steps) in
-    (once-text (values_of class_option options) None (gives.parts Class), written, counted, wide, omega arith, give-named config_option service_option options None None (gives.parts Config, gives.parts Service) refl)
+    let (few, counted) = number-once (most_steps + 1) (values_of steps_option options) steps (gives.parts Steps) in (
+      once-text (values_of class_option options) None (gives.parts Class),
+      written,
+      counted,
+      wide,
+      omega arith,
+      give-named config_option service_option options None None (gives.parts Config, gives.parts Service) refl,
+    )
 
 -- ---- words
 pub say-read : (words : List (List ℕ)) (asked : AskedValue) → Say words asked → asked_in words ≡ Some asked
 say-read words asked say =
     ap (option_and_then finished)
-    (give-words IsKnown with_option named name part with_part take at table words say.options nothing_given (given asked) say.spelled (ask-gives say.options asked say.known say.ask))
+    (give-words IsKnown with_option named name part with_part take at table words say.options nothing_given (given asked) say.spelled
+    (ask-gives say.options asked say.known say.ask))
     ∙ given-finished say.options asked say.ask
 
 pub read-say : (words : List (List ℕ)) (asked : AskedValue) → asked_in words ≡ Some asked → Say words asked
 read-say words asked e =
     let (h, found, end) = through finished (taken_in with_option words nothing_given) asked e in
     let is : h ≡ given asked = asked-of h asked end in
-    let (options, spelled, gives) = words-give IsKnown with_option named name part with_part take at table words nothing_given (given asked) (found ∙ ap (λ (x : Given). Some x) is) in
+    let (options, spelled, gives) =
+    words-give IsKnown with_option named name part with_part take at table words nothing_given (given asked) (found ∙ ap (λ (x : Given). Some x) is) in
     record { options = options; spelled = spelled; known = gives.known; ask = gives-ask options asked gives (ap finished (sym is) ∙ end) }

@@ -1,5 +1,6 @@
 -- A number is read of the text that writes it.
-use Rattle.std.proofs.Common.{◌≡◌, ◌≢◌, ℕ, ◌^◌, ◌<◌, ◌≤◌, Bool, true, false, cond, ◌&&◌, List, Option, Some, None, Result, Ok, Err, length, get_or, nat_lt, decimal, refl, sym, ap, ◌∙◌, subst, arith, inl, inr}
+use Rattle.std.proofs.Common.{◌≡◌, ◌≢◌, ℕ, ◌^◌, ◌<◌, ◌≤◌, Bool, true, false, cond, ◌&&◌, List, Option, Some, None, Result}
+use Rattle.std.proofs.Common.{Ok, Err, length, get_or, nat_lt, decimal, refl, sym, ap, ◌∙◌, subst, arith, inl, inr}
 use Rattle.std.specs.Str.{bytes_eq}
 use Rattle.std.specs.Str.Parse.{digits_value, AllDigits, ParsesUnsigned}
 use Rattle.std.specs.Result.{result_ok}
@@ -14,7 +15,8 @@ own = numerals_by_value (AllDigits 10) tells_digits
 
 pub number-is : (bound : ℕ) (text : List ℕ) (n : ℕ) → number_below bound text ≡ Some n → (n < bound) × (text ≡ decimal n)
 number-is bound text n e = by (nat_lt (digits_value 10 text) bound && bytes_eq text (decimal (digits_value 10 text))) refl e where
-  by : (b : Bool) → (nat_lt (digits_value 10 text) bound && bytes_eq text (decimal (digits_value 10 text))) ≡ b → cond b (Some (digits_value 10 text)) None ≡ Some n → (n < bound) × (text ≡ decimal n)
+  by : (b : Bool) → (nat_lt (digits_value 10 text) bound && bytes_eq text (decimal (digits_value 10 text))) ≡ b
+      → cond b (Some (digits_value 10 text)) None ≡ Some n → (n < bound) × (text ≡ decimal n)
   by false t f = absurd (cc)
   by true t f =
       let value : digits_value 10 text ≡ n = cc in
@@ -54,7 +56,8 @@ padded-none text zero long = number-none (2 ^ 64) text (λ n small writes.
     let short : length text ≡ 1 = ap (λ (t : List ℕ). length t) writes ∙ one in
     omega arith)
 
-pub parsed-number : {E : Type 0} (text : List ℕ) (r : Result ℕ E) → get_or text 0 0 ≢ 43 → (get_or text 0 0 ≡ 48 → length text ≤ 1) → ParsesUnsigned 64 10 text r → result_ok r ≡ number_below (2 ^ 64) text
+pub parsed-number : {E : Type 0} (text : List ℕ) (r : Result ℕ E) → get_or text 0 0 ≢ 43 → (get_or text 0 0 ≡ 48 → length text ≤ 1)
+    → ParsesUnsigned 64 10 text r → result_ok r ≡ number_below (2 ^ 64) text
 parsed-number {E} text (Ok n) plain alone parses =
     let ((digits, some, fits), value) = parse_plain own {E = E} 64 text (Ok n) parses plain in
     let writes : decimal (digits_value 10 text) ≡ text = decimal-digits_value own text digits some (λ e. let short = alone e in omega arith) fits in

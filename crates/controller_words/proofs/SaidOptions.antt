@@ -8,7 +8,8 @@ use Rattle.command_options.specs.Values.{values_of}
 use Rattle.command_options.specs.Lanes.{LaneNames}
 use Rattle.command_options.proofs.Tables.{values-own, values-other}
 use Rattle.command_options.proofs.Values.{absent, of-values}
-use Rattle.controller_words.specs.Words.{Run, Trial, Lanes, Say, IsKnown, AreTrial, AreLanes, RunsAreSaid, TrialsAreSaid, LanesAreSaid, option_of, run_options, class_option, trial_option, steps_option, config_option, service_option, most_steps}
+use Rattle.controller_words.specs.Words.{Run, Trial, Lanes, Say, IsKnown, AreTrial, AreLanes, RunsAreSaid, TrialsAreSaid, LanesAreSaid, option_of}
+use Rattle.controller_words.specs.Words.{run_options, class_option, trial_option, steps_option, config_option, service_option, most_steps}
 
 all-of : {A : Type 0} {P Q R : A → Type 0} → ((a : A) → P a → Q a → R a) → (xs : List A) → AllByRecursion P xs → AllByRecursion Q xs → AllByRecursion R xs
 all-of each [] ps qs = tt
@@ -43,37 +44,44 @@ is-other one other o (inl is) not = absurd (not is)
 is-other one other o (inr is) not = is
 
 -- the first option is the one, and the only other behind it is the other
-two-first : (one other x y : List ℕ) (o : CommandOption) (options : List CommandOption) → bytes_eq one other ≡ false → o.name ≡ one → AllByRecursion (HasEither one other) options
+two-first : (one other x y : List ℕ) (o : CommandOption) (options : List CommandOption) → bytes_eq one other ≡ false → o.name ≡ one
+    → AllByRecursion (HasEither one other) options
     → values_of one (o ∷ options) ≡ x ∷ [] → values_of other (o ∷ options) ≡ y ∷ [] → o ∷ options ≡ option_of one x ∷ option_of other y ∷ []
 two-first one other x y o options differ is are ones others =
-    subst (λ (n : List ℕ). values_of one (option_of n o.value ∷ options) ≡ x ∷ [] → values_of other (option_of n o.value ∷ options) ≡ y ∷ [] → option_of n o.value ∷ options ≡ option_of one x ∷ option_of other y ∷ [])
+    subst (λ (n : List ℕ). values_of one (option_of n o.value ∷ options) ≡ x ∷ [] → values_of other (option_of n o.value ∷ options) ≡ y ∷ []
+    → option_of n o.value ∷ options ≡ option_of one x ∷ option_of other y ∷ [])
     (sym is)
     (λ first second.
     let both : o.value ∷ values_of one options ≡ x ∷ [] = sym (values-own one o.value options) ∙ first in
     let value : o.value ≡ x = cc in
     let none : values_of one options ≡ [] = cc in
     let rest : values_of other options ≡ y ∷ [] = sym (values-other one other o.value options differ) ∙ second in
-    let last : options ≡ option_of other y ∷ [] = of-values other options (all-of (is-other one other) options are (absent one options none)) ∙ ap (map (option_of other)) rest in
+    let last : options ≡ option_of other y ∷ [] =
+    of-values other options (all-of (is-other one other) options are (absent one options none)) ∙ ap (map (option_of other)) rest in
     ap (λ (v : List ℕ). option_of one v ∷ options) value ∙ ap (λ (os : List CommandOption). option_of one x ∷ os) last)
     ones others
 
 abbrev AreTwo : List ℕ → List ℕ → List ℕ → List ℕ → List CommandOption → Type 0
 AreTwo one other x y options = (options ≡ option_of one x ∷ option_of other y ∷ []) ⊎ (options ≡ option_of other y ∷ option_of one x ∷ [])
 
-two-by : (one other x y : List ℕ) (o : CommandOption) (options : List CommandOption) → bytes_eq one other ≡ false → bytes_eq other one ≡ false → HasEither one other o → AllByRecursion (HasEither one other) options
+two-by : (one other x y : List ℕ) (o : CommandOption) (options : List CommandOption) → bytes_eq one other ≡ false → bytes_eq other one ≡ false
+    → HasEither one other o → AllByRecursion (HasEither one other) options
     → values_of one (o ∷ options) ≡ x ∷ [] → values_of other (o ∷ options) ≡ y ∷ [] → AreTwo one other x y (o ∷ options)
 two-by one other x y o options differ apart (inl is) are ones others = inl (two-first one other x y o options differ is are ones others)
-two-by one other x y o options differ apart (inr is) are ones others = inr (two-first other one y x o options apart is (swapped one other options are) others ones)
+two-by one other x y o options differ apart (inr is) are ones others =
+    inr (two-first other one y x o options apart is (swapped one other options are) others ones)
 
 -- options of two names, of which one of each stands, are these two in either order
-two-options : (one other x y : List ℕ) (options : List CommandOption) → bytes_eq one other ≡ false → bytes_eq other one ≡ false → AllByRecursion (HasEither one other) options → values_of one options ≡ x ∷ [] → values_of other options ≡ y ∷ [] → AreTwo one other x y options
+two-options : (one other x y : List ℕ) (options : List CommandOption) → bytes_eq one other ≡ false → bytes_eq other one ≡ false
+    → AllByRecursion (HasEither one other) options → values_of one options ≡ x ∷ [] → values_of other options ≡ y ∷ [] → AreTwo one other x y options
 two-options one other x y [] differ apart are ones others = absurd (let wrong : [] ≡ x ∷ [] = ones in cc)
 two-options one other x y (o ∷ options) differ apart are ones others = two-by one other x y o options differ apart are.0 are.1 ones others
 
 abbrev AreSpelled : List ℕ → List ℕ → List ℕ → List ℕ → List (List ℕ) → Type 0
 AreSpelled one other x y words = AreOptions (option_of one x ∷ option_of other y ∷ []) words ⊎ AreOptions (option_of other y ∷ option_of one x ∷ []) words
 
-two-spelled : (one other x y : List ℕ) (options : List CommandOption) (words : List (List ℕ)) → AreOptions options words → AreTwo one other x y options → AreSpelled one other x y words
+two-spelled : (one other x y : List ℕ) (options : List CommandOption) (words : List (List ℕ)) → AreOptions options words → AreTwo one other x y options
+    → AreSpelled one other x y words
 two-spelled one other x y options words spelled (inl are) = inl (subst (λ (os : List CommandOption). AreOptions os words) are spelled)
 two-spelled one other x y options words spelled (inr are) = inr (subst (λ (os : List CommandOption). AreOptions os words) are spelled)
 
@@ -100,19 +108,22 @@ is-lane o (inr (inr (inr (inl is)))) (class, (trial, (steps, end))) = inl is
 is-lane o (inr (inr (inr (inr is)))) (class, (trial, (steps, end))) = inr is
 
 -- known options, of which none of these names stands, are each what is left
-left : {P : CommandOption → Type 0} (names : List (List ℕ)) → ((o : CommandOption) → IsKnown o → HasNone names o → P o) → (options : List CommandOption) → AllByRecursion IsKnown options → StandNone names options → AllByRecursion P options
+left : {P : CommandOption → Type 0} (names : List (List ℕ)) → ((o : CommandOption) → IsKnown o → HasNone names o → P o) → (options : List CommandOption)
+    → AllByRecursion IsKnown options → StandNone names options → AllByRecursion P options
 left names is options known none = all-of is options known (have-none names options none)
 
 -- ---- a run
 says-run : (words : List (List ℕ)) (class : Option (List ℕ)) → Say words (Run class) → AreOptions (run_options class) words
 says-run words class say =
     let (classes, seeds, counts, (config, service)) = say.ask in
-    let each = left (trial_option ∷ steps_option ∷ config_option ∷ service_option ∷ []) is-class say.options say.known (seeds, (counts, (config, (service, tt)))) in
+    let each =
+    left (trial_option ∷ steps_option ∷ config_option ∷ service_option ∷ []) is-class say.options say.known (seeds, (counts, (config, (service, tt)))) in
     subst (λ (os : List CommandOption). AreOptions os words) (of-values class_option say.options each ∙ ap (map (option_of class_option)) classes) say.spelled
 
 run-says : (words : List (List ℕ)) (class : Option (List ℕ)) → AreOptions (run_options class) words → Say words (Run class)
 run-says words None are = record { options = []; spelled = are; known = tt; ask = (refl, refl, refl, (refl, refl)) }
-run-says words (Some class) are = record { options = option_of class_option class ∷ []; spelled = are; known = (inl refl, tt); ask = (refl, refl, refl, (refl, refl)) }
+run-says words (Some class) are =
+    record { options = option_of class_option class ∷ []; spelled = are; known = (inl refl, tt); ask = (refl, refl, refl, (refl, refl)) }
 
 pub runs_are_said : RunsAreSaid
 runs_are_said words class = (says-run words class, run-says words class)

@@ -3,7 +3,8 @@ ghost use Rattle.std.specs.Prelude.{◌≡◌, IfSome, IfNone};
 ghost use Rattle.std.specs.Option.{option_map};
 ghost use Rattle.command_options.specs.Options.{texts_of};
 ghost use Rattle.controller_words.specs.Words.{Say, AreKnown};
-ghost use Rattle.controller_words.specs.Reading.{asked_in, Given as GivenValue, with_option, with_class, with_seed, with_steps, with_config, with_service, finished};
+ghost use Rattle.controller_words.specs.Reading.{asked_in, Given as GivenValue, with_option, with_class, with_seed};
+ghost use Rattle.controller_words.specs.Reading.{with_steps, with_config, with_service, finished};
 ghost use Rattle.controller_words.specs.Seen.{asked_seen, given_seen};
 
 use crate::numbers::{number_of, steps_of};

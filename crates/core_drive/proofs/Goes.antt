@@ -10,7 +10,8 @@ use Rattle.core_rules.specs.Core.{State}
 use Rattle.core_rules.specs.Take.{core_take, core_expired}
 use Rattle.core_rules.specs.Turn.{core_turn, after_turn, put_in, rest_of, turn_of}
 use Rattle.core_rules.specs.Replied.{core_reply}
-use Rattle.core_rules.specs.Run.{Entry as CoreEntry, Took as TookByCore, Expired as ExpiredByCore, Turned as TurnedByCore, Heard as HeardByCore, IsRun, core_after}
+use Rattle.core_rules.specs.Run.{Entry as CoreEntry, Took as TookByCore, Expired as ExpiredByCore}
+use Rattle.core_rules.specs.Run.{Turned as TurnedByCore, Heard as HeardByCore, IsRun, core_after}
 use Rattle.core_rules.proofs.Runs.{core_holds_what_was_observed, took-out, heard-out}
 use Rattle.core_laws.specs.Shared.{AllShowTerms}
 use Rattle.core_laws.specs.Shown.{HoldsOfShown}
@@ -27,7 +28,8 @@ behind-append : (xs ys : List Entry) (earlier : List CoreEntry) → behind (xs +
 behind-append [] ys earlier = refl
 behind-append (x ∷ xs) ys earlier = behind-append xs ys (core_entry x ∷ earlier)
 
-notes-append : (xs ys : List Entry) (earlier : List CoreEntry) → AreNotesRight xs earlier → AreNotesRight ys (behind xs earlier) → AreNotesRight (xs ++ ys) earlier
+notes-append : (xs ys : List Entry) (earlier : List CoreEntry) → AreNotesRight xs earlier → AreNotesRight ys (behind xs earlier)
+    → AreNotesRight (xs ++ ys) earlier
 notes-append [] ys earlier first then = then
 notes-append (x ∷ xs) ys earlier first then = (first.0, notes-append xs ys (core_entry x ∷ earlier) first.1 then)
 
@@ -46,24 +48,37 @@ not-idle : (queue : List Key) (s : State) (key : Key) (keys : List Key) → key 
 not-idle queue s key keys e idle = let none : queue ≡ [] = idle-queue s queue idle in absurd (cc)
 
 module _ (class : Option (List ℕ)) where
-  turn-entered : (run : List CoreEntry) (turn : Turn) → IsRun class run → (core_after class run).out ≡ None → turn ≡ core_turn (core_after class run) → IsRun class (TurnedByCore turn ∷ run)
+  turn-entered : (run : List CoreEntry) (turn : Turn) → IsRun class run → (core_after class run).out ≡ None → turn ≡ core_turn (core_after class run)
+      → IsRun class (TurnedByCore turn ∷ run)
   turn-entered run turn is none e = ((none, e), is)
 
-  turns-go : (queue : List Key) (run : List CoreEntry) → IsRun class run → (core_after class run).out ≡ None → queue ≡ (core_after class run).queue → GoesOn class run (turns queue (core_after class run))
+  turns-go : (queue : List Key) (run : List CoreEntry) → IsRun class run → (core_after class run).out ≡ None → queue ≡ (core_after class run).queue
+      → GoesOn class run (turns queue (core_after class run))
   turns-go [] run is none e = record { is = is; core = refl; typed = λ t. t; families = λ f. f; notes = tt; idle = λ _. sym e }
   turns-go (key ∷ keys) run is none e =
       by-turn (core_turn (core_after class run)) refl
-      (λ out. turns-go keys (TurnedByCore (core_turn (core_after class run)) ∷ run) (turn-entered run (core_turn (core_after class run)) is none refl) out (ap rest_of e))
+      (λ out. turns-go keys (TurnedByCore (core_turn (core_after class run)) ∷ run) (turn-entered run (core_turn (core_after class run)) is none refl) out
+      (ap rest_of e))
     where
       by-turn : (turn : Turn) → turn ≡ core_turn (core_after class run)
-          → ((after_turn (core_after class run)).out ≡ None → GoesOn class (TurnedByCore (core_turn (core_after class run)) ∷ run) (turns keys (after_turn (core_after class run))))
+          → ((after_turn (core_after class run)).out ≡ None
+          → GoesOn class (TurnedByCore (core_turn (core_after class run)) ∷ run) (turns keys (after_turn (core_after class run))))
           → GoesOn class run (turned turn (after_turn (core_after class run)) (turns keys (after_turn (core_after class run))))
       by-turn Idle t more = absurd (not-idle (core_after class run).queue (core_after class run) key keys e (sym t))
       by-turn (NoPut k pending) t more =
           let rest = more (ap put_in (sym t)) in
-          let same : TurnedByCore (core_turn (core_after class run)) ∷ run ≡ TurnedByCore (NoPut k pending) ∷ run = ap (λ (x : Turn). TurnedByCore x ∷ run) (sym t) in
-          let moved : GoesOn class (TurnedByCore (NoPut k pending) ∷ run) (turns keys (after_turn (core_after class run))) = subst (λ (r : List CoreEntry). GoesOn class r (turns keys (after_turn (core_after class run)))) same rest in
-          record { is = moved.is; core = moved.core; typed = λ all. moved.typed (tt, all); families = λ all. moved.families (tt, all); notes = (tt, moved.notes); idle = moved.idle }
+          let same : TurnedByCore (core_turn (core_after class run)) ∷ run ≡ TurnedByCore (NoPut k pending) ∷ run =
+          ap (λ (x : Turn). TurnedByCore x ∷ run) (sym t) in
+          let moved : GoesOn class (TurnedByCore (NoPut k pending) ∷ run) (turns keys (after_turn (core_after class run))) =
+          subst (λ (r : List CoreEntry). GoesOn class r (turns keys (after_turn (core_after class run)))) same rest in
+          record {
+            is = moved.is;
+            core = moved.core;
+            typed = λ all. moved.typed (tt, all);
+            families = λ all. moved.families (tt, all);
+            notes = (tt, moved.notes);
+            idle = moved.idle;
+          }
       by-turn (Wants put pending) t more =
           record {
             is = turn-entered run (Wants put pending) is none t;
@@ -74,26 +89,52 @@ module _ (class : Option (List ℕ)) where
             idle = λ out. let some : Some put ≡ None = ap put_in t ∙ out in absurd (cc);
           }
 
-  taking-goes : (event : Event) (run : List CoreEntry) → IsRun class run → (core_after class run).out ≡ None → ShowsTerms event → ShowsFamilies event → GoesOn class run (taking (core_after class run) event)
+  taking-goes : (event : Event) (run : List CoreEntry) → IsRun class run → (core_after class run).out ≡ None → ShowsTerms event → ShowsFamilies event
+      → GoesOn class run (taking (core_after class run) event)
   taking-goes event run is none typed families =
       let entered : IsRun class (TookByCore event ∷ run) = (none, is) in
       let rest = turns-go (core_take (core_after class run) event).queue (TookByCore event ∷ run) entered (took-out (core_after class run) event ∙ none) refl in
-      record { is = rest.is; core = rest.core; typed = λ all. rest.typed (typed, all); families = λ all. rest.families (families, all); notes = (notes_are_right class event run is, rest.notes); idle = rest.idle }
+      record {
+        is = rest.is;
+        core = rest.core;
+        typed = λ all. rest.typed (typed, all);
+        families = λ all. rest.families (families, all);
+        notes = (notes_are_right class event run is, rest.notes);
+        idle = rest.idle;
+      }
 
-  expiring-goes : (group : Group) (run : List CoreEntry) → IsRun class run → (core_after class run).out ≡ None → GoesOn class run (expiring (core_after class run) group)
+  expiring-goes : (group : Group) (run : List CoreEntry) → IsRun class run → (core_after class run).out ≡ None
+      → GoesOn class run (expiring (core_after class run) group)
   expiring-goes group run is none =
       let entered : IsRun class (ExpiredByCore group ∷ run) = (none, is) in
       let rest = turns-go (core_expired (core_after class run) group).queue (ExpiredByCore group ∷ run) entered none refl in
-      record { is = rest.is; core = rest.core; typed = λ all. rest.typed (tt, all); families = λ all. rest.families (tt, all); notes = (tt, rest.notes); idle = rest.idle }
+      record {
+        is = rest.is;
+        core = rest.core;
+        typed = λ all. rest.typed (tt, all);
+        families = λ all. rest.families (tt, all);
+        notes = (tt, rest.notes);
+        idle = rest.idle;
+      }
 
-  hearing-goes : (reply : PutReply) (run : List CoreEntry) → IsRun class run → is_some (core_after class run).out ≡ true → GoesOn class run (hearing (core_after class run) reply)
+  hearing-goes : (reply : PutReply) (run : List CoreEntry) → IsRun class run → is_some (core_after class run).out ≡ true
+      → GoesOn class run (hearing (core_after class run) reply)
   hearing-goes reply run is some =
       let entered : IsRun class (HeardByCore reply ∷ run) = (some, is) in
-      let rest = turns-go (core_reply (core_after class run) reply).queue (HeardByCore reply ∷ run) entered (heard-out (core_after class run).out reply (core_after class run) some) refl in
-      record { is = rest.is; core = rest.core; typed = λ all. rest.typed (tt, all); families = λ all. rest.families (tt, all); notes = (tt, rest.notes); idle = rest.idle }
+      let rest = turns-go (core_reply (core_after class run) reply).queue (HeardByCore reply ∷ run) entered
+      (heard-out (core_after class run).out reply (core_after class run) some) refl in
+      record {
+        is = rest.is;
+        core = rest.core;
+        typed = λ all. rest.typed (tt, all);
+        families = λ all. rest.families (tt, all);
+        notes = (tt, rest.notes);
+        idle = rest.idle;
+      }
 
 -- ---- from what was told
-goes-by : (class : Option (List ℕ)) (d : Driven) (s : State) (told : List Entry) → LeadsTo class told s → GoesOn class (behind told []) d → LeadsTo class (told ++ d.entries) d.core
+goes-by : (class : Option (List ℕ)) (d : Driven) (s : State) (told : List Entry) → LeadsTo class told s → GoesOn class (behind told []) d
+    → LeadsTo class (told ++ d.entries) d.core
 goes-by class d s told leads g =
     let join = sym (behind-append told d.entries []) in
     record {

@@ -30,8 +30,10 @@ settled class run families quiet ready key held shown free =
     (shown-holds HasFamilies (λ k service holding are. are) (observed run) key held (observed-all HasFamilies (λ k service holding are. are) run families)
     (is-last_shown service_resource key (observed run) held shown)) in
     record {
-      served = λ handled recorded. held_are_served class (offer_shown ready.config (observed run)) (λ k. claims_shown k run) held.object for_service row handled recorded;
-      waits = λ handled none. waits_in_vain class (offer_shown ready.config (observed run)) (λ k. claims_shown k run) held.object for_service.same row handled some none;
+      served = λ handled recorded.
+          held_are_served class (offer_shown ready.config (observed run)) (λ k. claims_shown k run) held.object for_service row handled recorded;
+      waits = λ handled none.
+          waits_in_vain class (offer_shown ready.config (observed run)) (λ k. claims_shown k run) held.object for_service.same row handled some none;
       bare = λ other. others_are_bare class (offer_shown ready.config (observed run)) (λ k. claims_shown k run) held.object row other;
     }
 

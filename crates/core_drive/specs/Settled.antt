@@ -30,5 +30,6 @@ pub record HasItsOwn (class : Option (List ℕ)) (o : Offer) (has : Holders) (se
 -- configuration, its namespace's labels as they were last shown, and the claims that the look back shows.
 abbrev pub AllHaveTheirOwn : Option (List ℕ) → List Entry → Type 0
 AllHaveTheirOwn class run =
-    (ready : IsReadyBy (observed run)) (key : Key) (held : Versioned Service) → IsLastShown service_resource key held (observed run) → awaits_shown key run ≡ false
+    (ready : IsReadyBy (observed run)) (key : Key) (held : Versioned Service) → IsLastShown service_resource key held (observed run)
+    → awaits_shown key run ≡ false
     → HasItsOwn class (offer_shown ready.config (observed run) held.object) (λ k. claims_shown k run) held.object

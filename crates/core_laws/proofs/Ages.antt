@@ -37,7 +37,8 @@ pub age-none : (key : Key) (c : ClaimValue) (run : List Entry) → has_claim key
 age-none key c [] e = refl
 age-none key c (x ∷ earlier) e = ap (λ b. cond b (suc (age_of key c earlier)) 0) e
 
-pub age-some : (key : Key) (c : ClaimValue) (x : Entry) (earlier : List Entry) → has_claim key c (x ∷ earlier) ≡ true → age_of key c (x ∷ earlier) ≡ suc (age_of key c earlier)
+pub age-some : (key : Key) (c : ClaimValue) (x : Entry) (earlier : List Entry) → has_claim key c (x ∷ earlier) ≡ true
+    → age_of key c (x ∷ earlier) ≡ suc (age_of key c earlier)
 age-some key c x earlier e = ap (λ b. cond b (suc (age_of key c earlier)) 0) e
 
 suc-positive : (n : ℕ) → 0 < suc n
@@ -47,7 +48,8 @@ pub age-positive : (key : Key) (c : ClaimValue) (run : List Entry) → has_claim
 age-positive key c [] e = absurd (true≢false (sym e))
 age-positive key c (x ∷ earlier) e = subst (λ (n : ℕ). 0 < n) (sym (age-some key c x earlier e)) (suc-positive (age_of key c earlier))
 
-pub was-older : (key : Key) (c : ClaimValue) (x : Entry) (earlier : List Entry) → has_claim key c earlier ≡ true → was_shown key c (x ∷ earlier) ≡ was_shown key c earlier
+pub was-older : (key : Key) (c : ClaimValue) (x : Entry) (earlier : List Entry) → has_claim key c earlier ≡ true
+    → was_shown key c (x ∷ earlier) ≡ was_shown key c earlier
 was-older key c x earlier e = ap (λ b. cond b (was_shown key c earlier) (is_event x)) e
 
 pub was-new : (key : Key) (c : ClaimValue) (x : Entry) (earlier : List Entry) → has_claim key c earlier ≡ false → was_shown key c (x ∷ earlier) ≡ is_event x

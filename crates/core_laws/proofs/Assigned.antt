@@ -30,7 +30,8 @@ assigned-if false after claims x y = y
 
 took-assigned : (s : State) → AreAssigned s.claims → (event : Event) → AreAssigned (core_take s event).claims
 took-assigned s a = by_effect (λ event c. AreAssigned (core_by c s event).claims)
-    (λ version service. assigned-if (is_newer key_cmp s.held.services service.key version) (settled service.key service.holding (shown_terms service) s.claims) s.claims (settled-assigned s.claims service.key service.holding (shown_terms service) a) a)
+    (λ version service. assigned-if (is_newer key_cmp s.held.services service.key version) (settled service.key service.holding (shown_terms service) s.claims)
+    s.claims (settled-assigned s.claims service.key service.holding (shown_terms service) a) a)
     (λ key. assigned-others s.claims key a)
     (λ c there. a c (filter-contains (λ (x : ClaimValue). not (is_unlisted (core_take s (ListEnd groups.Service)).held.services x.key)) s.claims c there).0)
     (λ event c. a)
@@ -42,7 +43,8 @@ heard-assigned None reply s a = a
 heard-assigned (Some put) (StoredReply version) s a = settled-assigned s.claims put.key put.holding (put_terms s.held put) a
 heard-assigned (Some put) Stale s a = a
 heard-assigned (Some put) Missing s a = a
-heard-assigned (Some put) Unknown s a = assigned-if (claims_it put.key put.holding (put_terms s.held put) s.claims) s.claims (s.claims ++ claim_of put.key put.holding (put_terms s.held put)) a (assigned-added s.claims put.key put.holding (put_terms s.held put) a)
+heard-assigned (Some put) Unknown s a = assigned-if (claims_it put.key put.holding (put_terms s.held put) s.claims) s.claims
+    (s.claims ++ claim_of put.key put.holding (put_terms s.held put)) a (assigned-added s.claims put.key put.holding (put_terms s.held put) a)
 
 pub runs-assigned : (class : Option (List ℕ)) (run : List Entry) → AreAssigned (core_after class run).claims
 runs-assigned class [] = λ c there. absurd (contains-none c there)

@@ -37,7 +37,8 @@ kept-by false false z k key keys less s same ih = ap (λ b. b || has_key less ke
 
 pub has_key-kept : (test : Key → Bool) (keys : List Key) (key : Key) → has_key (filter (λ k. not (test k)) keys) key ≡ cond (test key) false (has_key keys key)
 has_key-kept test [] key = either-same (test key)
-has_key-kept test (k ∷ keys) key = kept-by (test k) (same_key k key) (test key) k key keys (filter (λ k. not (test k)) keys) refl (λ s. ap test (same_key-is k key s)) (has_key-kept test keys key)
+has_key-kept test (k ∷ keys) key = kept-by (test k) (same_key k key) (test key) k key keys (filter (λ k. not (test k)) keys) refl
+    (λ s. ap test (same_key-is k key s)) (has_key-kept test keys key)
 
 flip-by : (a b : Bool) (x y : Key) → a ≡ same_key x y → b ≡ same_key y x → a ≡ b
 flip-by true true x y a b = refl
@@ -51,9 +52,11 @@ flip x y = flip-by (same_key x y) (same_key y x) x y refl refl
 pub has_key-without : (own : Key) (keys : List Key) (key : Key) → has_key (without own keys) key ≡ cond (same_key own key) false (has_key keys key)
 has_key-without own keys key = has_key-kept (λ k. same_key k own) keys key ∙ ap (λ b. cond b false (has_key keys key)) (flip key own)
 
-shown-by : (same newer late : Bool) (own key : Key) (keys : List Key) (before : Bool) → same ≡ same_key own key → has_key keys key ≡ before → (same ≡ true → newer ≡ late)
+shown-by : (same newer late : Bool) (own key : Key) (keys : List Key) (before : Bool) → same ≡ same_key own key → has_key keys key ≡ before
+    → (same ≡ true → newer ≡ late)
     → has_key (cond newer (without own keys) keys) key ≡ cond (same && late) false before
-shown-by true true late own key keys before s a e = has_key-without own keys key ∙ ap (λ b. cond b false (has_key keys key)) (sym s) ∙ ap (λ b. cond b false before) (e refl)
+shown-by true true late own key keys before s a e =
+    has_key-without own keys key ∙ ap (λ b. cond b false (has_key keys key)) (sym s) ∙ ap (λ b. cond b false before) (e refl)
 shown-by true false late own key keys before s a e = a ∙ ap (λ b. cond b false before) (e refl)
 shown-by false true late own key keys before s a e = has_key-without own keys key ∙ ap (λ b. cond b false (has_key keys key)) (sym s) ∙ a
 shown-by false false late own key keys before s a e = a
@@ -62,10 +65,12 @@ took-awaits : (s : State) (key : Key) (v : ℕ) (before : Bool) → version_at k
     → is_unlisted (core_take s (ListEnd groups.Service)).held.services key ≡ eqb v 0
     → (event : Event) → has_key (core_take s event).awaiting key ≡ awaits_told key (effect_of event) v before
 took-awaits s key v before version a ends = by_effect (λ event c. has_key (core_by c s event).awaiting key ≡ awaits_told key c v before)
-    (λ at service. shown-by (same_key service.key key) (not (leb at (version_at key_cmp s.held.services service.key))) (not (leb at v)) service.key key s.awaiting before refl a
+    (λ at service. shown-by (same_key service.key key) (not (leb at (version_at key_cmp s.held.services service.key))) (not (leb at v)) service.key key
+    s.awaiting before refl a
     (λ same. ap (λ n. not (leb at n)) (ap (version_at key_cmp s.held.services) (same_key-is service.key key same) ∙ version)))
     (λ gone. has_key-without gone s.awaiting key ∙ ap (cond (same_key gone key) false) a)
-    (has_key-kept (is_unlisted (core_take s (ListEnd groups.Service)).held.services) s.awaiting key ∙ ap (λ b. cond b false (has_key s.awaiting key)) ends ∙ ap (cond (eqb v 0) false) a)
+    (has_key-kept (is_unlisted (core_take s (ListEnd groups.Service)).held.services) s.awaiting key ∙ ap (λ b. cond b false (has_key s.awaiting key)) ends
+    ∙ ap (cond (eqb v 0) false) a)
     (λ event c. a)
     a
     (λ event. a)
@@ -75,22 +80,29 @@ or-end true b = refl
 or-end false true = refl
 or-end false false = refl
 
-heard-awaits : (out : Option Put) (reply : PutReply) (s : State) (key : Key) (before : Bool) → has_key s.awaiting key ≡ before → has_key (replied_to out s reply).awaiting key ≡ awaits_heard key out reply before
+heard-awaits : (out : Option Put) (reply : PutReply) (s : State) (key : Key) (before : Bool) → has_key s.awaiting key ≡ before
+    → has_key (replied_to out s reply).awaiting key ≡ awaits_heard key out reply before
 heard-awaits None reply s key before a = a
 heard-awaits (Some put) (StoredReply version) s key before a = a
-heard-awaits (Some put) Stale s key before a = has_key-append s.awaiting (put.key ∷ []) key ∙ or-end (has_key s.awaiting key) (same_key put.key key) ∙ ap (λ b. b || same_key put.key key) a
-heard-awaits (Some put) Missing s key before a = has_key-append s.awaiting (put.key ∷ []) key ∙ or-end (has_key s.awaiting key) (same_key put.key key) ∙ ap (λ b. b || same_key put.key key) a
+heard-awaits (Some put) Stale s key before a =
+    has_key-append s.awaiting (put.key ∷ []) key ∙ or-end (has_key s.awaiting key) (same_key put.key key) ∙ ap (λ b. b || same_key put.key key) a
+heard-awaits (Some put) Missing s key before a =
+    has_key-append s.awaiting (put.key ∷ []) key ∙ or-end (has_key s.awaiting key) (same_key put.key key) ∙ ap (λ b. b || same_key put.key key) a
 heard-awaits (Some put) Unknown s key before a = a
 
-pub awaiting-is : (class : Option (List ℕ)) (run : List Entry) → IsRun class run → (key : Key) → has_key (core_after class run).awaiting key ≡ awaits_shown key run
+pub awaiting-is : (class : Option (List ℕ)) (run : List Entry) → IsRun class run → (key : Key)
+    → has_key (core_after class run).awaiting key ≡ awaits_shown key run
 awaiting-is class [] is key = refl
 awaiting-is class (Took event ∷ earlier) is key =
-    took-awaits (core_after class earlier) key (version_shown key earlier) (awaits_shown key earlier) (version-held class earlier is.1 key) (awaiting-is class earlier is.1 key)
-    (ap (λ n. eqb n 0) (version-held class (Took (ListEnd groups.Service) ∷ earlier) (is.0, is.1) key) ∙ ended-version key (last_shown service_resource key (observed earlier)))
+    took-awaits (core_after class earlier) key (version_shown key earlier) (awaits_shown key earlier) (version-held class earlier is.1 key)
+    (awaiting-is class earlier is.1 key)
+    (ap (λ n. eqb n 0) (version-held class (Took (ListEnd groups.Service) ∷ earlier) (is.0, is.1) key)
+    ∙ ended-version key (last_shown service_resource key (observed earlier)))
     event
 awaiting-is class (Expired group ∷ earlier) is key = awaiting-is class earlier is.1 key
 awaiting-is class (Turned turn ∷ earlier) is key = awaiting-is class earlier is.1 key
 awaiting-is class (Heard reply ∷ earlier) is key =
-    subst (λ out. has_key (replied_to (core_after class earlier).out (core_after class earlier) reply).awaiting key ≡ awaits_heard key out reply (awaits_shown key earlier))
+    subst (λ out. has_key (replied_to (core_after class earlier).out (core_after class earlier) reply).awaiting key
+    ≡ awaits_heard key out reply (awaits_shown key earlier))
     (core_holds_what_was_observed class earlier is.1).1
     (heard-awaits (core_after class earlier).out reply (core_after class earlier) key (awaits_shown key earlier) (awaiting-is class earlier is.1 key))

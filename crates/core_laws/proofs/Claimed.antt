@@ -58,7 +58,8 @@ held-as held also claims more e d all = subst (λ (o : Option (Versioned Service
 
 -- old: the event isn't newer than what is held; b: it is about this service
 shown_by : (old b : Bool) (held : Option (Versioned Service)) (version : ℕ) (key : Key) (service : Service) (claims : List ClaimValue) → AreClaims held claims
-    → AreClaims (cond old held (cond b (Some (record { version = version; object = service })) held)) (cond old claims (cond b (claim_of key service.holding (shown_terms service)) claims))
+    → AreClaims (cond old held (cond b (Some (record { version = version; object = service })) held))
+    (cond old claims (cond b (claim_of key service.holding (shown_terms service)) claims))
 shown_by true b held version key service claims all = all
 shown_by false false held version key service claims all = all
 shown_by false true held version key service claims all = λ h e has.
@@ -79,23 +80,27 @@ ended_at true g claims e all = none-held []
 ended_at false g claims e all = subst (λ (b : Bool). AreClaims (Some g) (cond b [] claims)) (sym e) all
 
 ended_by : (held : Option (Versioned Service)) (claims : List ClaimValue) → AreClaims held claims
-    → (let left = option_filter (λ (v : Versioned Service). not (eqb v.version 0)) held in AreClaims left (cond (eqb (option_map_or (λ (x : Versioned Service). x.version) left 0) 0) [] claims))
+    → (let left = option_filter (λ (v : Versioned Service). not (eqb v.version 0)) held in
+    AreClaims left (cond (eqb (option_map_or (λ (x : Versioned Service). x.version) left 0) 0) [] claims))
 ended_by None claims all = none-held []
 ended_by (Some g) claims all = ended_at (eqb g.version 0) g claims refl all
 
-at-version : (held : Option (Versioned Service)) (version : ℕ) (claims : List ClaimValue) → AreClaims held claims → AreClaims (option_map (at_version version) held) claims
+at-version : (held : Option (Versioned Service)) (version : ℕ) (claims : List ClaimValue) → AreClaims held claims
+    → AreClaims (option_map (at_version version) held) claims
 at-version None version claims all = none-held claims
 at-version (Some g) version claims all = λ h e has.
     let is : g.object ≡ h.object = let same : at_version version g ≡ h = cc in ap (λ (x : Versioned Service). x.object) same in
     subst (λ (x : Service). IsAmong claims x) is (all g refl (subst (λ (x : Service). is_assigned x.holding ≡ true) (sym is) has))
 
 new-claims : (old : Bool) (key k : Key) (holding : Record) (terms : Terms) (claims : List ClaimValue)
-    → claims_of key (cond (not old) (settled k holding terms claims) claims) ≡ cond old (claims_of key claims) (cond (same_key k key) (claim_of k holding terms) (claims_of key claims))
+    → claims_of key (cond (not old) (settled k holding terms claims) claims)
+    ≡ cond old (claims_of key claims) (cond (same_key k key) (claim_of k holding terms) (claims_of key claims))
 new-claims true key k holding terms claims = refl
 new-claims false key k holding terms claims = claims_of-settled claims k key holding terms
 
 -- ---- an event
-module _ (s : State) (sorted : IsStrictlySortedBy key_cmp (keys_of s.held.services)) (key : Key) (all : AreClaims (held_at key_cmp s.held.services key) (claims_of key s.claims)) where
+module _ (s : State) (sorted : IsStrictlySortedBy key_cmp (keys_of s.held.services)) (key : Key)
+    (all : AreClaims (held_at key_cmp s.held.services key) (claims_of key s.claims)) where
   abbrev here : Option (Versioned Service)
   here = held_at key_cmp s.held.services key
 
@@ -137,7 +142,8 @@ module _ (s : State) (sorted : IsStrictlySortedBy key_cmp (keys_of s.held.servic
       ∙ ap (λ (o : Option (Versioned Service)). option_map_or terms_of (option_map (λ (h : Versioned Service). h.object) o) no_terms) is
 
   written_some : (found : Option (Versioned Service)) (put : Put) (version : ℕ) → here ≡ found → put.key ≡ key
-      → AreClaims (option_map (written_over service_resource key (Some (version, with_holding put.holding))) found) (claim_of put.key put.holding (put_terms s.held put))
+      → AreClaims (option_map (written_over service_resource key (Some (version, with_holding put.holding))) found)
+      (claim_of put.key put.holding (put_terms s.held put))
   written_some None put version is of = none-held _
   written_some (Some g) put version is of = λ h e has.
       let new : Versioned Service = record { version = version; object = with_holding put.holding g.object } in
@@ -149,12 +155,14 @@ module _ (s : State) (sorted : IsStrictlySortedBy key_cmp (keys_of s.held.servic
       subst (λ (x : Service). IsAmong (claim_of put.key put.holding (put_terms s.held put)) x) same
       (claim, claim_of-stands put.key put.holding (put_terms s.held put) assigned, refl, terms)
 
-  written_none : (found : Option (Versioned Service)) (claims : List ClaimValue) → AreClaims found claims → AreClaims (option_map (written_over service_resource key None) found) claims
+  written_none : (found : Option (Versioned Service)) (claims : List ClaimValue) → AreClaims found claims
+      → AreClaims (option_map (written_over service_resource key None) found) claims
   written_none None claims each = each
   written_none (Some g) claims each = each
 
   written_by : (b : Bool) (put : Put) (version : ℕ) → same_key put.key key ≡ b
-      → AreClaims (option_map (written_over service_resource key (cond b (Some (version, with_holding put.holding)) None)) here) (cond b (claim_of put.key put.holding (put_terms s.held put)) (claims_of key s.claims))
+      → AreClaims (option_map (written_over service_resource key (cond b (Some (version, with_holding put.holding)) None)) here)
+      (cond b (claim_of put.key put.holding (put_terms s.held put)) (claims_of key s.claims))
   written_by true put version e = written_some here put version refl (same_key-is put.key key e)
   written_by false put version e = written_none here (claims_of key s.claims) all
 
@@ -166,30 +174,39 @@ module _ (s : State) (sorted : IsStrictlySortedBy key_cmp (keys_of s.held.servic
   doubted_by true k r terms = more_by (list_any (is_under r terms) (claims_of key s.claims)) (claims_of key s.claims) (claim_of k r terms) all
   doubted_by false k r terms = all
 
-  heard : (out : Option Put) (reply : PutReply) → AreClaims (held_at key_cmp (replied_to out s reply).held.services key) (claims_of key (replied_to out s reply).claims)
+  heard : (out : Option Put) (reply : PutReply)
+      → AreClaims (held_at key_cmp (replied_to out s reply).held.services key) (claims_of key (replied_to out s reply).claims)
   heard None reply = all
   heard (Some put) (StoredReply version) =
       held-as _ _ _ _
-      (amended_seen service_resource key_cmp-total key_cmp-exact key (held_at key_cmp s.held.services put.key) s.held.services put.key version (with_holding put.holding) refl
-      ∙ ap (λ (b : Bool). option_map (written_over service_resource key (cond b (Some (version, with_holding put.holding)) None)) here) (is_eq-key_cmp put.key key))
+      (amended_seen service_resource key_cmp-total key_cmp-exact key (held_at key_cmp s.held.services put.key) s.held.services put.key version
+      (with_holding put.holding) refl
+      ∙ ap (λ (b : Bool). option_map (written_over service_resource key (cond b (Some (version, with_holding put.holding)) None)) here)
+      (is_eq-key_cmp put.key key))
       (claims_of-settled s.claims put.key key put.holding (put_terms s.held put))
       (written_by (same_key put.key key) put version refl)
   heard (Some put) Stale = all
   heard (Some put) Missing = all
   heard (Some put) Unknown =
-      held-as _ _ _ _ refl (claims_of-doubted s.claims put.key key put.holding (put_terms s.held put)) (doubted_by (same_key put.key key) put.key put.holding (put_terms s.held put))
+      held-as _ _ _ _ refl (claims_of-doubted s.claims put.key key put.holding (put_terms s.held put))
+      (doubted_by (same_key put.key key) put.key put.holding (put_terms s.held put))
 
-held-claims : (class : Option (List ℕ)) (run : List Entry) → IsRun class run → (key : Key) → AreClaims (held_at key_cmp (core_after class run).held.services key) (claims_of key (core_after class run).claims)
+held-claims : (class : Option (List ℕ)) (run : List Entry) → IsRun class run → (key : Key)
+    → AreClaims (held_at key_cmp (core_after class run).held.services key) (claims_of key (core_after class run).claims)
 held-claims class [] is key = none-held []
 held-claims class (Took event ∷ earlier) is key =
-    took (core_after class earlier) (sorted-services (core_after class earlier) (observed earlier) (core_holds_what_was_observed class earlier is.1).0) key (held-claims class earlier is.1 key) event
+    took (core_after class earlier) (sorted-services (core_after class earlier) (observed earlier) (core_holds_what_was_observed class earlier is.1).0) key
+    (held-claims class earlier is.1 key) event
 held-claims class (Expired group ∷ earlier) is key =
-    one_expired (core_after class earlier) (sorted-services (core_after class earlier) (observed earlier) (core_holds_what_was_observed class earlier is.1).0) key (held-claims class earlier is.1 key) group
+    one_expired (core_after class earlier) (sorted-services (core_after class earlier) (observed earlier) (core_holds_what_was_observed class earlier is.1).0)
+    key (held-claims class earlier is.1 key) group
 held-claims class (Turned turn ∷ earlier) is key = held-claims class earlier is.1 key
 held-claims class (Heard reply ∷ earlier) is key =
-    heard (core_after class earlier) (sorted-services (core_after class earlier) (observed earlier) (core_holds_what_was_observed class earlier is.1).0) key (held-claims class earlier is.1 key) (core_after class earlier).out reply
+    heard (core_after class earlier) (sorted-services (core_after class earlier) (observed earlier) (core_holds_what_was_observed class earlier is.1).0) key
+    (held-claims class earlier is.1 key) (core_after class earlier).out reply
 
-held-of : (found : Option (Versioned Service)) (service : Service) → option_map (λ (h : Versioned Service). h.object) found ≡ Some service → (h : Versioned Service) × (found ≡ Some h) × (h.object ≡ service)
+held-of : (found : Option (Versioned Service)) (service : Service) → option_map (λ (h : Versioned Service). h.object) found ≡ Some service
+    → (h : Versioned Service) × (found ≡ Some h) × (h.object ≡ service)
 held-of None service e = absurd (cc)
 held-of (Some h) service e = (h, refl, cc)
 

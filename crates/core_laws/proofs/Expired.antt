@@ -50,7 +50,8 @@ runs-no_endpoints class (Expired group ∷ earlier) = expired-none group (core_a
 runs-no_endpoints class (Turned turn ∷ earlier) = runs-no_endpoints class earlier
 runs-no_endpoints class (Heard reply ∷ earlier) = heard-none (core_after class earlier).out reply (core_after class earlier) (runs-no_endpoints class earlier)
 
-held-both : (held : Cached) → HasNoEndpoints held → cached_after (Watched WatchesExpired) held ≡ cached_after (WatchExpired groups.Service) (cached_after (WatchExpired groups.Config) held)
+held-both : (held : Cached) → HasNoEndpoints held
+    → cached_after (Watched WatchesExpired) held ≡ cached_after (WatchExpired groups.Service) (cached_after (WatchExpired groups.Config) held)
 held-both held none = rw (none.slices, none.unended) refl
 
 pub expired_is_both : ExpiredIsBoth

@@ -54,7 +54,8 @@ rest-order (k ∷ keys) awaiting o = record { once = o.once.1; free = λ key the
 
 turned-orderly : (s : State) → IsInOrder s.queue s.awaiting → IsOrderly (rest_of s.queue) s.awaiting (put_in (turn_of s s.queue))
 turned-orderly s o =
-    let wanted = λ (put : Put) (e : put_in (turn_of s s.queue) ≡ Some put). (let wants = wants-some (turn_of s s.queue) put e in wanted-of s s.queue put wants.0 (sym wants.1)) in
+    let wanted = λ (put : Put) (e : put_in (turn_of s s.queue) ≡ Some put).
+    (let wants = wants-some (turn_of s s.queue) put e in wanted-of s s.queue put wants.0 (sym wants.1)) in
     record {
       order = rest-order s.queue s.awaiting o;
       out_queue = λ put e.
@@ -93,32 +94,40 @@ refused-order queue awaiting k o q =
           (no-true (same_key k key) (λ same. true≢false (sym there ∙ subst (λ x. has_key queue x ≡ false) (same_key-is k key same) q)));
     }
 
-heard-orderly : (out : Option Put) (reply : PutReply) (s : State) (observations : List Observation) → s.held ≡ cached observations → s.out ≡ out → is_some out ≡ true → IsOrderly s.queue s.awaiting s.out
+heard-orderly : (out : Option Put) (reply : PutReply) (s : State) (observations : List Observation) → s.held ≡ cached observations → s.out ≡ out
+    → is_some out ≡ true → IsOrderly s.queue s.awaiting s.out
     → IsOrderly (replied_to out s reply).queue (replied_to out s reply).awaiting (replied_to out s reply).out
 heard-orderly None reply s observations e o there i = absurd (cc)
 heard-orderly (Some put) (StoredReply version) s observations e o there i =
     not-out _ _ None refl
-    (added s.queue (waiting (loses put.key put.holding (put_terms s.held put) s.claims) s.class (same_key put.key) s.queue s.awaiting s.held.services) s.awaiting i.order
-    (new-added _ s.queue s.awaiting (same_key put.key) (waiting-new (loses put.key put.holding (put_terms s.held put) s.claims) s.class (same_key put.key) s.queue s.awaiting s.held.services (sorted-services s observations e))))
+    (added s.queue (waiting (loses put.key put.holding (put_terms s.held put) s.claims) s.class (same_key put.key) s.queue s.awaiting s.held.services)
+    s.awaiting i.order
+    (new-added _ s.queue s.awaiting (same_key put.key) (waiting-new (loses put.key put.holding (put_terms s.held put) s.claims) s.class (same_key put.key)
+    s.queue s.awaiting s.held.services (sorted-services s observations e))))
 heard-orderly (Some put) Stale s observations e o there i = not-out _ _ None refl (refused-order s.queue s.awaiting put.key i.order (i.out_queue put o))
 heard-orderly (Some put) Missing s observations e o there i = not-out _ _ None refl (refused-order s.queue s.awaiting put.key i.order (i.out_queue put o))
 heard-orderly (Some put) Unknown s observations e o there i =
     not-out _ _ None refl (added s.queue (put.key ∷ []) s.awaiting i.order (one-added put.key s.queue s.awaiting (i.out_queue put o) (i.out_free put o)))
 
-pub runs-orderly : (class : Option (List ℕ)) (run : List Entry) → IsRun class run → IsOrderly (core_after class run).queue (core_after class run).awaiting (core_after class run).out
+pub runs-orderly : (class : Option (List ℕ)) (run : List Entry) → IsRun class run
+    → IsOrderly (core_after class run).queue (core_after class run).awaiting (core_after class run).out
 runs-orderly class [] is = not-out [] [] None refl (empty-order [])
 runs-orderly class (Took event ∷ earlier) is =
-    not-out _ _ (core_after class (Took event ∷ earlier)).out ((core_holds_what_was_observed class (Took event ∷ earlier) is).1 ∙ sym (core_holds_what_was_observed class earlier is.1).1 ∙ is.0)
+    not-out _ _ (core_after class (Took event ∷ earlier)).out
+    ((core_holds_what_was_observed class (Took event ∷ earlier) is).1 ∙ sym (core_holds_what_was_observed class earlier is.1).1 ∙ is.0)
     (took-order (core_after class earlier) (observed earlier) (core_holds_what_was_observed class earlier is.1).0 (runs-orderly class earlier is.1).order event)
 runs-orderly class (Expired group ∷ earlier) is =
     not-out _ _ (core_after class earlier).out is.0
-    (expired-order (is_ready (cached_after (WatchExpired group) (core_after class earlier).held)) (core_after class earlier).queue (core_after class earlier).awaiting (runs-orderly class earlier is.1).order)
+    (expired-order (is_ready (cached_after (WatchExpired group) (core_after class earlier).held)) (core_after class earlier).queue
+    (core_after class earlier).awaiting (runs-orderly class earlier is.1).order)
 runs-orderly class (Turned turn ∷ earlier) is = turned-orderly (core_after class earlier) (runs-orderly class earlier is.1).order
 runs-orderly class (Heard reply ∷ earlier) is =
-    heard-orderly (core_after class earlier).out reply (core_after class earlier) (observed earlier) (core_holds_what_was_observed class earlier is.1).0 refl is.0 (runs-orderly class earlier is.1)
+    heard-orderly (core_after class earlier).out reply (core_after class earlier) (observed earlier) (core_holds_what_was_observed class earlier is.1).0 refl
+    is.0 (runs-orderly class earlier is.1)
 
 -- ---- the law
-turn-by : (b : Bool) (k key : Key) (pending : Option Reason) (version : ℕ) (holding : Record) → is_turn_of (cond b (NoPut k pending) (Wants (record { key = k; version = version; holding = holding }) pending)) key ≡ same_key k key
+turn-by : (b : Bool) (k key : Key) (pending : Option Reason) (version : ℕ) (holding : Record)
+    → is_turn_of (cond b (NoPut k pending) (Wants (record { key = k; version = version; holding = holding }) pending)) key ≡ same_key k key
 turn-by true k key pending version holding = refl
 turn-by false k key pending version holding = refl
 

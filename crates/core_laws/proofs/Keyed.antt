@@ -40,7 +40,8 @@ module _ (P : Key → Service → Type 0) where
   OfAll (o ∷ earlier) = OfObservation o × OfAll earlier
 
   module _ (kept : (key : Key) (service : Service) (holding : Record) → P key service → P key (with_holding holding service)) where
-    told-here : (here : Bool) (key : Key) (service : Service) (version : ℕ) (h : Versioned Service) → here ≡ is_eq (key_cmp key service.key) → P service.key service
+    told-here : (here : Bool) (key : Key) (service : Service) (version : ℕ) (h : Versioned Service) → here ≡ is_eq (key_cmp key service.key)
+        → P service.key service
         → cond here (Some (record { version = version; object = service })) None ≡ Some h → P key h.object
     told-here true key service version h e holds found =
         let same : service.key ≡ key = sym (key_cmp-exact key service.key ((Equal-is (key_cmp key service.key)).0 (sym e))) in
@@ -73,7 +74,8 @@ module _ (P : Key → Service → Type 0) where
     over-by true key version holding g p = kept key g.object holding p
     over-by false key version holding g p = p
 
-    over-holds : (o : Observation) (key : Key) (g : Versioned Service) → P key g.object → P key (written_over service_resource key (record_in service_resource key o) g).object
+    over-holds : (o : Observation) (key : Key) (g : Versioned Service) → P key g.object
+        → P key (written_over service_resource key (record_in service_resource key o) g).object
     over-holds (Watched event) key g p = p
     over-holds (WatchExpired group) key g p = p
     over-holds (Written k version holding) key g p = over-by (is_eq (key_cmp k key)) key version holding g p
@@ -83,7 +85,8 @@ module _ (P : Key → Service → Type 0) where
     on-by false key g x p q = q
 
     on-holds : (o : Observation) (key : Key) (g : Versioned Service) → P key g.object → P key (held_on service_resource key o g).object
-    on-holds o key g p = on-by (expires service_resource.group o) key g (written_over service_resource key (record_in service_resource key o) g) p (over-holds o key g p)
+    on-holds o key g p =
+        on-by (expires service_resource.group o) key g (written_over service_resource key (record_in service_resource key o) g) p (over-holds o key g p)
 
     shown-by : (newer gone : Bool) (o : Observation) (key : Key) (before : Option (Versioned Service)) (h : Versioned Service) → OfObservation o
         → ((g : Versioned Service) → before ≡ Some g → P key g.object)
@@ -95,10 +98,12 @@ module _ (P : Key → Service → Type 0) where
         let is : held_on service_resource key o g ≡ h = cc in
         subst (λ (x : Versioned Service). P key x.object) is (on-holds o key g (ih g refl))
 
-    pub shown-holds : (observations : List Observation) (key : Key) (h : Versioned Service) → OfAll observations → last_shown service_resource key observations ≡ Some h → P key h.object
+    pub shown-holds : (observations : List Observation) (key : Key) (h : Versioned Service) → OfAll observations
+        → last_shown service_resource key observations ≡ Some h → P key h.object
     shown-holds [] key h all e = absurd (cc)
     shown-holds (o ∷ earlier) key h all e =
-        shown-by (newer_than service_resource key (version_of service_resource key (last_shown service_resource key earlier)) (object_in service_resource key o)) _ o key (last_shown service_resource key earlier) h
+        shown-by (newer_than service_resource key (version_of service_resource key (last_shown service_resource key earlier))
+        (object_in service_resource key o)) _ o key (last_shown service_resource key earlier) h
         all.0 (λ g. shown-holds earlier key g all.1) e
 
     object-holds : (found : Option (Versioned Service)) (key : Key) (service : Service) → ((h : Versioned Service) → found ≡ Some h → P key h.object)
@@ -108,7 +113,8 @@ module _ (P : Key → Service → Type 0) where
         let is : h.object ≡ service = cc in
         subst (P key) is (each h refl)
 
-    told-all : (c : Effect) (event : Event) (earlier : List Observation) → (OfEffect P c → OfObservation (Watched event)) → OfEffect P c → OfAll earlier → OfAll (told_by c event earlier)
+    told-all : (c : Effect) (event : Event) (earlier : List Observation) → (OfEffect P c → OfObservation (Watched event)) → OfEffect P c → OfAll earlier
+        → OfAll (told_by c event earlier)
     told-all (Shows version service) event earlier turn p all = (turn p, all)
     told-all (Drops key) event earlier turn p all = (turn p, all)
     told-all EndsServices event earlier turn p all = (turn p, all)
@@ -150,5 +156,6 @@ own-keys (Expired group ∷ earlier) = (tt, own-keys earlier)
 own-keys (Turned turn ∷ earlier) = (tt, own-keys earlier)
 own-keys (Heard reply ∷ earlier) = (tt, own-keys earlier)
 
-pub service-key : (class : Option (List ℕ)) (run : List Entry) → IsRun class run → (key : Key) (service : Service) → service_of (core_after class run).held key ≡ Some service → service.key ≡ key
+pub service-key : (class : Option (List ℕ)) (run : List Entry) → IsRun class run → (key : Key) (service : Service)
+    → service_of (core_after class run).held key ≡ Some service → service.key ≡ key
 service-key class run is key service found = held-holds (λ k s. s.key ≡ k) (λ k s holding p. p) class run is (own-keys run) key service found

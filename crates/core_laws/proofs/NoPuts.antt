@@ -26,19 +26,23 @@ record IsSpared (s : State) (key : Key) (pending : Option Reason) : Type 0 where
 
 spared-by : (b : Bool) (s : State) (k key : Key) (service : Service) (version : ℕ) (pending : Option Reason) → service_of s.held k ≡ Some service
     → b ≡ same_record (wanted_record service.holding (chosen_at s service)) service.holding
-    → NoPut key pending ≡ cond b (NoPut k (reason_in (chosen_at s service))) (Wants (record { key = k; version = version; holding = wanted_record service.holding (chosen_at s service) }) (reason_in (chosen_at s service)))
+    → NoPut key pending ≡ cond b (NoPut k (reason_in (chosen_at s service)))
+    (Wants (record { key = k; version = version; holding = wanted_record service.holding (chosen_at s service) }) (reason_in (chosen_at s service)))
     → IsSpared s key pending
 spared-by true s k key service version pending found b e =
     let is : k ≡ key = cc in
     record { service = service; found = subst (λ x. service_of s.held x ≡ Some service) is found; same = sym b; reason_is = cc }
 spared-by false s k key service version pending found b e = absurd (cc)
 
-spared-at : (found : Option Service) (s : State) (k key : Key) (pending : Option Reason) → service_of s.held k ≡ found → is_some found ≡ true → NoPut key pending ≡ turn_at s k found → IsSpared s key pending
+spared-at : (found : Option Service) (s : State) (k key : Key) (pending : Option Reason) → service_of s.held k ≡ found → is_some found ≡ true
+    → NoPut key pending ≡ turn_at s k found → IsSpared s key pending
 spared-at None s k key pending f there e = absurd (cc)
 spared-at (Some service) s k key pending f there e =
-    spared-by (same_record (wanted_record service.holding (chosen_at s service)) service.holding) s k key service (version_at key_cmp s.held.services k) pending f refl e
+    spared-by (same_record (wanted_record service.holding (chosen_at s service)) service.holding) s k key service (version_at key_cmp s.held.services k) pending
+    f refl e
 
-spared-of : (s : State) (queue : List Key) (key : Key) (pending : Option Reason) → ((k : Key) → has_key queue k ≡ true → IsHeld s k) → NoPut key pending ≡ turn_of s queue → IsSpared s key pending
+spared-of : (s : State) (queue : List Key) (key : Key) (pending : Option Reason) → ((k : Key) → has_key queue k ≡ true → IsHeld s k)
+    → NoPut key pending ≡ turn_of s queue → IsSpared s key pending
 spared-of s [] key pending held e = absurd (cc)
 spared-of s (k ∷ rest) key pending held e =
     spared-at (service_of s.held k) s k key pending refl (held k (ap (λ b. b || has_key rest k) (same_key-itself k))) e

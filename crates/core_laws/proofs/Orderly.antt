@@ -27,7 +27,8 @@ use Rattle.core_rules.specs.Take.{core_by, core_take, no_key, is_unlisted, liste
 use Rattle.core_rules.proofs.Effects.{by_effect}
 use Rattle.core_laws.specs.Queue.{AreApart, NoneAmong}
 use Rattle.core_laws.proofs.Awaiting.{has_key-without}
-use Rattle.core_laws.proofs.QueueOnce.{AreNew, apart-append, among-append, apart-kept, kept-among, among-kept, no-true, none-new, waiting-new, passing-apart, passing-found, and-left, free-parts, not-true}
+use Rattle.core_laws.proofs.QueueOnce.{AreNew, apart-append, among-append, apart-kept, kept-among, among-kept, no-true}
+use Rattle.core_laws.proofs.QueueOnce.{none-new, waiting-new, passing-apart, passing-found, and-left, free-parts, not-true}
 
 -- The additions are in order: each key once, none queued, none awaiting.
 pub record AreAdded (more queue awaiting : List Key) : Type 0 where
@@ -54,11 +55,14 @@ fewer-awaiting : (test : Key → Bool) (queue awaiting : List Key) → IsInOrder
 fewer-awaiting test queue awaiting o = record { once = o.once; free = among-kept test queue awaiting o.free }
 
 -- added beside fewer
-added-fewer : (test : Key → Bool) (queue more awaiting : List Key) → AreAdded more queue awaiting → AreAdded more (filter (λ k. not (test k)) queue) (filter (λ k. not (test k)) awaiting)
-added-fewer test queue more awaiting a = record { once = a.once; unqueued = among-kept test more queue a.unqueued; unawaited = among-kept test more awaiting a.unawaited }
+added-fewer : (test : Key → Bool) (queue more awaiting : List Key) → AreAdded more queue awaiting
+    → AreAdded more (filter (λ k. not (test k)) queue) (filter (λ k. not (test k)) awaiting)
+added-fewer test queue more awaiting a =
+    record { once = a.once; unqueued = among-kept test more queue a.unqueued; unawaited = among-kept test more awaiting a.unawaited }
 
 -- ---- every free key
-free-is : (b : Bool) (queue awaiting : List Key) (key : Key) (service : Service) → is_free_with queue awaiting b key service ≡ true → (has_key queue key ≡ false) × (has_key awaiting key ≡ false) × (is_assigned service.holding ≡ b)
+free-is : (b : Bool) (queue awaiting : List Key) (key : Key) (service : Service) → is_free_with queue awaiting b key service ≡ true
+    → (has_key queue key ≡ false) × (has_key awaiting key ≡ false) × (is_assigned service.holding ≡ b)
 free-is true queue awaiting key service e =
     let parts = and-left (not (has_key queue key) && not (has_key awaiting key)) (is_assigned service.holding) e in
     let two = free-parts (has_key queue key) (has_key awaiting key) parts.0 in
@@ -68,7 +72,8 @@ free-is false queue awaiting key service e =
     let two = free-parts (has_key queue key) (has_key awaiting key) parts.0 in
     (two.0, two.1, not-true (is_assigned service.holding) parts.1)
 
-free-with : (b : Bool) (queue awaiting : List Key) (es : List (Key × Versioned Service)) → IsStrictlySortedBy key_cmp (keys_of es) → AreAdded (passing (is_free_with queue awaiting b) es) queue awaiting
+free-with : (b : Bool) (queue awaiting : List Key) (es : List (Key × Versioned Service)) → IsStrictlySortedBy key_cmp (keys_of es)
+    → AreAdded (passing (is_free_with queue awaiting b) es) queue awaiting
 free-with b queue awaiting es s =
     record {
       once = passing-apart (is_free_with queue awaiting b) es s;
@@ -79,7 +84,8 @@ free-with b queue awaiting es s =
 same-service : (x y : Service) → Some x ≡ Some y → x ≡ y
 same-service x y e = cc
 
-free-added : (queue awaiting : List Key) (es : List (Key × Versioned Service)) → IsStrictlySortedBy key_cmp (keys_of es) → AreAdded (all_free queue awaiting es) queue awaiting
+free-added : (queue awaiting : List Key) (es : List (Key × Versioned Service)) → IsStrictlySortedBy key_cmp (keys_of es)
+    → AreAdded (all_free queue awaiting es) queue awaiting
 free-added queue awaiting es s =
     let one = free-with true queue awaiting es s in
     let two = free-with false queue awaiting es s in
@@ -89,7 +95,8 @@ free-added queue awaiting es s =
     (let a = passing-found (is_free_with queue awaiting true) es s key here in
     let b = passing-found (is_free_with queue awaiting false) es s key there in
     let is : a.0 ≡ b.0 = same-service a.0 b.0 (sym a.1 ∙ b.1) in
-    true≢false (sym (free-is true queue awaiting key a.0 a.2).2 ∙ ap (λ (x : Service). is_assigned x.holding) is ∙ (free-is false queue awaiting key b.0 b.2).2))) in
+    true≢false
+    (sym (free-is true queue awaiting key a.0 a.2).2 ∙ ap (λ (x : Service). is_assigned x.holding) is ∙ (free-is false queue awaiting key b.0 b.2).2))) in
     record {
       once = apart-append mine others one.once two.once disjoint;
       unqueued = among-append mine others queue one.unqueued two.unqueued;
@@ -118,9 +125,11 @@ own-added own queue awaiting =
     }
 
 not-own : (own : Key) (queue : List Key) (key : Key) → same_key own key ≡ false → has_key (own_key own queue) key ≡ false
-not-own own queue key apart_key = no-true (has_key (own_key own queue) key) (λ there. true≢false (sym (own-same (has_key queue own) own key there).1 ∙ apart_key))
+not-own own queue key apart_key =
+    no-true (has_key (own_key own queue) key) (λ there. true≢false (sym (own-same (has_key queue own) own key there).1 ∙ apart_key))
 
-both-added : (own : Key) (queue awaiting more : List Key) → AreNew more queue awaiting (same_key own) → AreAdded (own_key own queue ++ more) queue (without own awaiting)
+both-added : (own : Key) (queue awaiting more : List Key) → AreNew more queue awaiting (same_key own)
+    → AreAdded (own_key own queue ++ more) queue (without own awaiting)
 both-added own queue awaiting more n =
     let first = own-added own queue awaiting in
     record {
@@ -141,29 +150,40 @@ shown-order true s own lost sorted o =
     (if-added (is_ready s.held) (own_key own s.queue ++ waiting lost s.class (same_key own) s.queue s.awaiting s.held.services) s.queue (without own s.awaiting)
     (both-added own s.queue s.awaiting _ (waiting-new lost s.class (same_key own) s.queue s.awaiting s.held.services sorted)))
 
-listed-added : (was now lost : Bool) (s : State) → IsStrictlySortedBy key_cmp (keys_of (listed s.held.services)) → AreAdded (listed_and_free was now lost s) s.queue s.awaiting
+listed-added : (was now lost : Bool) (s : State) → IsStrictlySortedBy key_cmp (keys_of (listed s.held.services))
+    → AreAdded (listed_and_free was now lost s) s.queue s.awaiting
 listed-added was false lost s sorted = new-added [] s.queue s.awaiting no_key (none-new s.queue s.awaiting no_key)
-listed-added true true lost s sorted = new-added _ s.queue s.awaiting no_key (waiting-new lost s.class no_key s.queue s.awaiting (listed s.held.services) sorted)
+listed-added true true lost s sorted =
+    new-added _ s.queue s.awaiting no_key (waiting-new lost s.class no_key s.queue s.awaiting (listed s.held.services) sorted)
 listed-added false true lost s sorted = free-added s.queue s.awaiting (listed s.held.services) sorted
 
-configured-order : (b : Bool) (s : State) → IsStrictlySortedBy key_cmp (keys_of s.held.services) → IsInOrder s.queue s.awaiting → IsInOrder (cond b (s.queue ++ all_free s.queue s.awaiting s.held.services) s.queue) s.awaiting
-configured-order true s sorted o = added s.queue (all_free s.queue s.awaiting s.held.services) s.awaiting o (free-added s.queue s.awaiting s.held.services sorted)
+configured-order : (b : Bool) (s : State) → IsStrictlySortedBy key_cmp (keys_of s.held.services) → IsInOrder s.queue s.awaiting
+    → IsInOrder (cond b (s.queue ++ all_free s.queue s.awaiting s.held.services) s.queue) s.awaiting
+configured-order true s sorted o =
+    added s.queue (all_free s.queue s.awaiting s.held.services) s.awaiting o (free-added s.queue s.awaiting s.held.services sorted)
 configured-order false s sorted o = o
 
 pub empty-order : (awaiting : List Key) → IsInOrder [] awaiting
 empty-order awaiting = record { once = tt; free = λ key there. absurd (cc) }
 
 pub sorted-services : (s : State) (observations : List Observation) → s.held ≡ cached observations → IsStrictlySortedBy key_cmp (keys_of s.held.services)
-sorted-services s observations e = subst (λ (held : Cached). IsStrictlySortedBy key_cmp (keys_of held.services)) (sym e) (all_is_as_shown observations).services.ascend
+sorted-services s observations e =
+    subst (λ (held : Cached). IsStrictlySortedBy key_cmp (keys_of held.services)) (sym e) (all_is_as_shown observations).services.ascend
 
-pub took-order : (s : State) (observations : List Observation) → s.held ≡ cached observations → IsInOrder s.queue s.awaiting → (event : Event) → IsInOrder (core_take s event).queue (core_take s event).awaiting
+pub took-order : (s : State) (observations : List Observation) → s.held ≡ cached observations → IsInOrder s.queue s.awaiting → (event : Event)
+    → IsInOrder (core_take s event).queue (core_take s event).awaiting
 took-order s observations e o = by_effect (λ event c. IsInOrder (core_by c s event).queue (core_by c s event).awaiting)
-    (λ version service. shown-order (is_newer key_cmp s.held.services service.key version) s service.key (loses service.key service.holding (shown_terms service) s.claims) (sorted-services s observations e) o)
-    (λ key. added (without key s.queue) (waiting (is_ready s.held && has_claims key s.claims) s.class (same_key key) s.queue s.awaiting s.held.services) (without key s.awaiting)
+    (λ version service. shown-order (is_newer key_cmp s.held.services service.key version) s service.key
+    (loses service.key service.holding (shown_terms service) s.claims) (sorted-services s observations e) o)
+    (λ key. added (without key s.queue) (waiting (is_ready s.held && has_claims key s.claims) s.class (same_key key) s.queue s.awaiting s.held.services)
+    (without key s.awaiting)
     (fewer-awaiting (λ k. same_key k key) (without key s.queue) s.awaiting (fewer-order (λ k. same_key k key) s.queue s.awaiting o))
-    (added-fewer (λ k. same_key k key) s.queue _ s.awaiting (new-added _ s.queue s.awaiting (same_key key) (waiting-new (is_ready s.held && has_claims key s.claims) s.class (same_key key) s.queue s.awaiting s.held.services (sorted-services s observations e)))))
-    (added (listed_keys (listed s.held.services) s.queue) (listed_and_free (is_ready s.held) (s.held.config_ended && is_some s.held.config) (have_claims s.held.services s.claims) s) (listed_keys (listed s.held.services) s.awaiting)
-    (fewer-awaiting (is_unlisted (listed s.held.services)) (listed_keys (listed s.held.services) s.queue) s.awaiting (fewer-order (is_unlisted (listed s.held.services)) s.queue s.awaiting o))
+    (added-fewer (λ k. same_key k key) s.queue _ s.awaiting (new-added _ s.queue s.awaiting (same_key key) (waiting-new
+    (is_ready s.held && has_claims key s.claims) s.class (same_key key) s.queue s.awaiting s.held.services (sorted-services s observations e)))))
+    (added (listed_keys (listed s.held.services) s.queue) (listed_and_free (is_ready s.held) (s.held.config_ended && is_some s.held.config)
+    (have_claims s.held.services s.claims) s) (listed_keys (listed s.held.services) s.awaiting)
+    (fewer-awaiting (is_unlisted (listed s.held.services)) (listed_keys (listed s.held.services) s.queue) s.awaiting
+    (fewer-order (is_unlisted (listed s.held.services)) s.queue s.awaiting o))
     (added-fewer (is_unlisted (listed s.held.services)) s.queue _ s.awaiting
     (listed-added (is_ready s.held) (s.held.config_ended && is_some s.held.config) (have_claims s.held.services s.claims) s
     (ascending-held_after service_resource key_cmp-total (Watched (ListEnd groups.Service)) s.held.services (sorted-services s observations e)))))

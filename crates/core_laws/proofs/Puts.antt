@@ -76,9 +76,14 @@ pub record IsWanted (s : State) (put : Put) (pending : Option Reason) (queue : L
   pub differs : same_record put.holding service.holding ≡ false
   pub reason_is : pending ≡ reason_in (chosen_at s service)
 
-wanted-by : (b : Bool) (s : State) (key : Key) (rest : List Key) (service : Service) (put : Put) (pending : Option Reason) → service_of s.held key ≡ Some service
+wanted-by : (b : Bool) (s : State) (key : Key) (rest : List Key) (service : Service) (put : Put) (pending : Option Reason)
+    → service_of s.held key ≡ Some service
     → b ≡ same_record (wanted_record service.holding (chosen_at s service)) service.holding
-    → Wants put pending ≡ cond b (NoPut key (reason_in (chosen_at s service))) (Wants (record { key = key; version = version_at key_cmp s.held.services key; holding = wanted_record service.holding (chosen_at s service) }) (reason_in (chosen_at s service)))
+    → Wants put pending ≡ cond b (NoPut key (reason_in (chosen_at s service))) (Wants (record {
+      key = key;
+      version = version_at key_cmp s.held.services key;
+      holding = wanted_record service.holding (chosen_at s service);
+    }) (reason_in (chosen_at s service)))
     → IsWanted s put pending (key ∷ rest)
 wanted-by true s key rest service put pending found b e = absurd (cc)
 wanted-by false s key rest service put pending found b e =
@@ -97,7 +102,8 @@ wanted-by false s key rest service put pending found b e =
       reason_is = r;
     }
 
-wanted-at : (found : Option Service) (s : State) (key : Key) (rest : List Key) (put : Put) (pending : Option Reason) → service_of s.held key ≡ found → Wants put pending ≡ turn_at s key found → IsWanted s put pending (key ∷ rest)
+wanted-at : (found : Option Service) (s : State) (key : Key) (rest : List Key) (put : Put) (pending : Option Reason) → service_of s.held key ≡ found
+    → Wants put pending ≡ turn_at s key found → IsWanted s put pending (key ∷ rest)
 wanted-at None s key rest put pending f e = absurd (cc)
 wanted-at (Some service) s key rest put pending f e =
     wanted-by (same_record (wanted_record service.holding (chosen_at s service)) service.holding) s key rest service put pending f refl e
@@ -107,15 +113,18 @@ wanted-of s [] put pending e = absurd (cc)
 wanted-of s (key ∷ rest) put pending e = wanted-at (service_of s.held key) s key rest put pending refl e
 
 -- ---- what is shown
-pub held-of : (held : Option (Versioned Service)) (service : Service) → option_map (λ (h : Versioned Service). h.object) held ≡ Some service → (h : Versioned Service) × (held ≡ Some h) × (h.object ≡ service)
+pub held-of : (held : Option (Versioned Service)) (service : Service) → option_map (λ (h : Versioned Service). h.object) held ≡ Some service
+    → (h : Versioned Service) × (held ≡ Some h) × (h.object ≡ service)
 held-of None service e = absurd (cc)
 held-of (Some h) service e = (h, refl, cc)
 
-labels-within : (found : Option (Versioned Namespace)) → option_map_or (λ (n : Namespace). n.labels) (option_map (λ (h : Versioned Namespace). h.object) found) [] ≡ option_map_or (λ (h : Versioned Namespace). h.object.labels) found []
+labels-within : (found : Option (Versioned Namespace)) → option_map_or (λ (n : Namespace). n.labels) (option_map (λ (h : Versioned Namespace). h.object) found)
+    [] ≡ option_map_or (λ (h : Versioned Namespace). h.object.labels) found []
 labels-within None = refl
 labels-within (Some h) = refl
 
-pub labels-shown : (class : Option (List ℕ)) (run : List Entry) → IsRun class run → (name : List ℕ) → labels_of (core_after class run).held name ≡ labels_shown name (observed run)
+pub labels-shown : (class : Option (List ℕ)) (run : List Entry) → IsRun class run → (name : List ℕ)
+    → labels_of (core_after class run).held name ≡ labels_shown name (observed run)
 labels-shown class run is name =
     ap (λ (h : Cached). labels_of h name) (core_holds_what_was_observed class run is).0
     ∙ labels-within (held_at name_cmp (cached (observed run)).namespaces name)
@@ -166,7 +175,8 @@ idle-queue s (key ∷ keys) e = absurd (busy-at (service_of s.held key) s key e)
 turn-queue : (s : State) (queue : List Key) (turn : Turn) → turn ≡ turn_of s queue → turn ≢ Idle → queue ≢ []
 turn-queue s queue turn e busy none = busy (e ∙ ap (turn_of s) none)
 
-pub ready-run : (class : Option (List ℕ)) (turn : Turn) (earlier : List Entry) → IsRun class (Turned turn ∷ earlier) → turn ≢ Idle → IsReadyAt (core_after class earlier).held
+pub ready-run : (class : Option (List ℕ)) (turn : Turn) (earlier : List Entry) → IsRun class (Turned turn ∷ earlier) → turn ≢ Idle
+    → IsReadyAt (core_after class earlier).held
 ready-run class turn earlier is busy =
     let s = core_after class earlier in
     ready-at s.held (queue-ready (is_ready s.held) s.queue (λ n. (runs-idle class earlier is.1 n).0) (turn-queue s s.queue turn is.0.1 busy))
@@ -210,13 +220,17 @@ decided class turn earlier is busy key pending service there reason =
     let service_is : service ≡ held.object = sym found.2 in
     let name = service.key.namespace in
     let choice = chosen_at s service in
-    let chosen : IsChosen (holders s.claims) (offer_in s.held service) s.class service choice = choose-is s.claims (offer_in s.held service) s.class service choice refl in
-    let by_claims = chosen-by (holders s.claims) (λ k. claims_shown k earlier) (offer_in s.held service) s.class service choice (λ k. claims_are_shown class earlier is.1 k) chosen in
+    let chosen : IsChosen (holders s.claims) (offer_in s.held service) s.class service choice =
+    choose-is s.claims (offer_in s.held service) s.class service choice refl in
+    let by_claims = chosen-by (holders s.claims) (λ k. claims_shown k earlier) (offer_in s.held service) s.class service choice
+    (λ k. claims_are_shown class earlier is.1 k) chosen in
     let offer_is : offer_in s.held service ≡ offer_at ready.config.pools (labels_shown name hs) service =
     ap (λ (c : Option ConfigValue). offer_at (pools_in c) (labels_of s.held name) service) ready.in_force
     ∙ ap (λ (labels : List (List ℕ × List ℕ)). offer_at ready.config.pools labels service) (labels-shown class earlier is.1 name) in
     let by_offer = subst (λ (o : Offer). IsChosen (λ k. claims_shown k earlier) o s.class service choice) offer_is by_claims in
-    let by_class = subst (λ (c : Option (List ℕ)). IsChosen (λ k. claims_shown k earlier) (offer_at ready.config.pools (labels_shown name hs) service) c service choice) (class-is class earlier) by_offer in
+    let by_class =
+    subst (λ (c : Option (List ℕ)). IsChosen (λ k. claims_shown k earlier) (offer_at ready.config.pools (labels_shown name hs) service) c service choice)
+    (class-is class earlier) by_offer in
     record {
       right = record {
         held = held;
@@ -224,7 +238,8 @@ decided class turn earlier is busy key pending service there reason =
         config = ready.config;
         in_force = ((all_is_as_shown hs).config ready.config).0 (ap (λ (h : Cached). h.config) (sym holds) ∙ ready.in_force);
         choice = choice;
-        chosen = subst (λ (x : Service). IsChosen (λ k. claims_shown k earlier) (offer_at ready.config.pools (labels_shown x.key.namespace hs) x) class x choice) service_is by_class;
+        chosen = subst (λ (x : Service).
+            IsChosen (λ k. claims_shown k earlier) (offer_at ready.config.pools (labels_shown x.key.namespace hs) x) class x choice) service_is by_class;
         reason_is = reason;
       };
       object_is = service_is;
@@ -233,13 +248,16 @@ decided class turn earlier is busy key pending service there reason =
     }
 
 -- so the record that is wanted is the one that the look back wants
-pub wanted-as : (class : Option (List ℕ)) (key : Key) (pending : Option Reason) (earlier : List Entry) (service : Service) (d : IsDecidedAs class key pending earlier service)
+pub wanted-as : (class : Option (List ℕ)) (key : Key) (pending : Option Reason) (earlier : List Entry) (service : Service)
+    (d : IsDecidedAs class key pending earlier service)
     → wanted_record service.holding (chosen_at (core_after class earlier) service) ≡ wanted_record d.right.held.object.holding d.right.choice
 wanted-as class key pending earlier service d =
-    ap (λ (x : Service). wanted_record x.holding (chosen_at (core_after class earlier) service)) d.object_is ∙ ap (wanted_record d.right.held.object.holding) d.choice_is
+    ap (λ (x : Service). wanted_record x.holding (chosen_at (core_after class earlier) service)) d.object_is
+    ∙ ap (wanted_record d.right.held.object.holding) d.choice_is
 
 -- a service of another class keeps its record, so a put is for one of its own
-own-of : (has : Holders) (o : Offer) (class : Option (List ℕ)) (service : Service) (c : Choice) → IsChosen has o class service c → wanted_record service.holding c ≢ service.holding
+own-of : (has : Holders) (o : Offer) (class : Option (List ℕ)) (service : Service) (c : Choice) → IsChosen has o class service c
+    → wanted_record service.holding c ≢ service.holding
     → service.balancer ≡ true → service.class ≡ class
 own-of has o class service c chosen differs balancer =
     case-has _ _ _ _
@@ -253,8 +271,10 @@ puts_are_right class put pending earlier is =
     let wanted : IsWanted s put pending s.queue = wanted-of s s.queue put pending is.0.1 in
     let d : IsDecidedAs class put.key pending earlier wanted.service =
     decided class (Wants put pending) earlier is (wants-busy put pending) put.key pending wanted.service wanted.found wanted.reason_is in
-    let holding_is : put.holding ≡ wanted_record d.right.held.object.holding d.right.choice = wanted.holding_is ∙ wanted-as class put.key pending earlier wanted.service d in
-    let differs : put.holding ≢ d.right.held.object.holding = subst (λ (x : Service). put.holding ≢ x.holding) d.object_is (differs-from put.holding wanted.service.holding wanted.differs) in
+    let holding_is : put.holding ≡ wanted_record d.right.held.object.holding d.right.choice =
+    wanted.holding_is ∙ wanted-as class put.key pending earlier wanted.service d in
+    let differs : put.holding ≢ d.right.held.object.holding =
+    subst (λ (x : Service). put.holding ≢ x.holding) d.object_is (differs-from put.holding wanted.service.holding wanted.differs) in
     record {
       decision = d.right;
       version_is = wanted.version_is ∙ d.version_is;

@@ -1,5 +1,6 @@
 -- The queue has each key once, and none that awaits a newer event or is being written.
-use Rattle.std.proofs.Common.{◌≡◌, ℕ, Bool, true, false, cond, not, ◌&&◌, ◌||◌, List, [], ◌∷◌, ◌++◌, filter, Option, Some, Less, Equal, is_eq, option_map, ◌⊎◌, inl, inr, ⊎_elim, refl, sym, ap, subst, ◌∙◌}
+use Rattle.std.proofs.Common.{◌≡◌, ℕ, Bool, true, false, cond, not, ◌&&◌, ◌||◌, List, [], ◌∷◌, ◌++◌, filter, Option}
+use Rattle.std.proofs.Common.{Some, Less, Equal, is_eq, option_map, ◌⊎◌, inl, inr, ⊎_elim, refl, sym, ap, subst, ◌∙◌}
 use Rattle.std.proofs.lemmas.Bool.{true≢false}
 use Rattle.std.specs.Cmp.{Equal-is, tied_itself}
 use Rattle.std.specs.List.{AllByRecursion}
@@ -71,7 +72,8 @@ cond-true false x e = e
 pub apart-kept : (test : Key → Bool) (keys : List Key) → AreApart keys → AreApart (filter (λ k. not (test k)) keys)
 apart-kept test [] a = a
 apart-kept test (k ∷ keys) a =
-    fewer-by (not (test k)) test k keys (filter (λ x. not (test x)) keys) (has_key-kept test keys k ∙ cond-false (test k) (has_key keys k) a.0) (apart-kept test keys a.1)
+    fewer-by (not (test k)) test k keys (filter (λ x. not (test x)) keys) (has_key-kept test keys k ∙ cond-false (test k) (has_key keys k) a.0)
+    (apart-kept test keys a.1)
 
 pub kept-among : (test : Key → Bool) (keys others : List Key) → NoneAmong keys others → NoneAmong (filter (λ k. not (test k)) keys) others
 kept-among test keys others none key there = none key (cond-true (test key) (has_key keys key) (sym (has_key-kept test keys key) ∙ there))
@@ -88,18 +90,21 @@ less-by true k y b l =
     absurd (cc)
 less-by false k y b l = refl
 
-below-by : (b : Bool) (e : Key × Versioned Service) (rest : List Key) (k : Key) → same_key e.0 k ≡ false → has_key rest k ≡ false → has_key (cond b (e.0 ∷ rest) rest) k ≡ false
+below-by : (b : Bool) (e : Key × Versioned Service) (rest : List Key) (k : Key) → same_key e.0 k ≡ false → has_key rest k ≡ false
+    → has_key (cond b (e.0 ∷ rest) rest) k ≡ false
 below-by true e rest k x y = or-false (same_key e.0 k) (has_key rest k) x y
 below-by false e rest k x y = y
 
 module _ (test : Key → Service → Bool) where
-  passing-of : (e : Key × Versioned Service) (es : List (Key × Versioned Service)) → passing test (e ∷ es) ≡ cond (test e.0 e.1.object) (e.0 ∷ passing test es) (passing test es)
+  passing-of : (e : Key × Versioned Service) (es : List (Key × Versioned Service))
+      → passing test (e ∷ es) ≡ cond (test e.0 e.1.object) (e.0 ∷ passing test es) (passing test es)
   passing-of e es = passing-cons (test e.0 e.1.object) e (filter (λ (x : Key × Versioned Service). test x.0 x.1.object) es)
 
   below : (es : List (Key × Versioned Service)) (k : Key) → AllByRecursion (λ y. key_cmp k y ≡ Less) (keys_of es) → has_key (passing test es) k ≡ false
   below [] k all = refl
   below (e ∷ es) k all =
-      ap (λ (ks : List Key). has_key ks k) (passing-of e es) ∙ below-by (test e.0 e.1.object) e (passing test es) k (less-by (same_key e.0 k) k e.0 refl all.0) (below es k all.1)
+      ap (λ (ks : List Key). has_key ks k) (passing-of e es)
+      ∙ below-by (test e.0 e.1.object) e (passing test es) k (less-by (same_key e.0 k) k e.0 refl all.0) (below es k all.1)
 
   apart-cons : (b : Bool) (k : Key) (rest : List Key) → has_key rest k ≡ false → AreApart rest → AreApart (cond b (k ∷ rest) rest)
   apart-cons true k rest x y = (x, y)
@@ -108,10 +113,12 @@ module _ (test : Key → Service → Bool) where
   pub passing-apart : (es : List (Key × Versioned Service)) → IsStrictlySortedBy key_cmp (keys_of es) → AreApart (passing test es)
   unfolding IsStrictlySortedBy
   passing-apart [] s = tt
-  passing-apart (e ∷ es) s = subst AreApart (sym (passing-of e es)) (apart-cons (test e.0 e.1.object) e.0 (passing test es) (below es e.0 s.0) (passing-apart es s.1))
+  passing-apart (e ∷ es) s =
+      subst AreApart (sym (passing-of e es)) (apart-cons (test e.0 e.1.object) e.0 (passing test es) (below es e.0 s.0) (passing-apart es s.1))
 
   -- a key that passes
-  found-here : (b here : Bool) (e : Key × Versioned Service) (rest : List Key) (key : Key) (found : Option Service) → b ≡ test e.0 e.1.object → here ≡ same_key e.0 key
+  found-here : (b here : Bool) (e : Key × Versioned Service) (rest : List Key) (key : Key) (found : Option Service) → b ≡ test e.0 e.1.object
+      → here ≡ same_key e.0 key
       → (here ≡ true → has_key rest key ≡ false)
       → (has_key rest key ≡ true → (service : Service) × (found ≡ Some service) × (test key service ≡ true))
       → has_key (cond b (e.0 ∷ rest) rest) key ≡ true
@@ -129,17 +136,20 @@ eq-by true k key b =
     sym (subst (λ x. same_key k x ≡ true) (sym is) (same_key-itself k))
 eq-by false k key b = sym (apart key k (sym b)) ∙ flip key k
 
-map-cond : (b : Bool) (v : Versioned Service) (found : Option (Versioned Service)) → option_map (λ (h : Versioned Service). h.object) (cond b (Some v) found) ≡ cond b (Some v.object) (option_map (λ (h : Versioned Service). h.object) found)
+map-cond : (b : Bool) (v : Versioned Service) (found : Option (Versioned Service))
+    → option_map (λ (h : Versioned Service). h.object) (cond b (Some v) found) ≡ cond b (Some v.object) (option_map (λ (h : Versioned Service). h.object) found)
 map-cond true v found = refl
 map-cond false v found = refl
 
 -- a key that passes is held, and its service passes
-pub passing-found : (test : Key → Service → Bool) (es : List (Key × Versioned Service)) → IsStrictlySortedBy key_cmp (keys_of es) → (key : Key) → has_key (passing test es) key ≡ true
+pub passing-found : (test : Key → Service → Bool) (es : List (Key × Versioned Service)) → IsStrictlySortedBy key_cmp (keys_of es) → (key : Key)
+    → has_key (passing test es) key ≡ true
     → (service : Service) × (object_at key_cmp es key ≡ Some service) × (test key service ≡ true)
 unfolding IsStrictlySortedBy
 passing-found test [] s key there = absurd (cc)
 passing-found test (e ∷ es) s key there =
-    let found = found-here test (test e.0 e.1.object) (is_eq (key_cmp key e.0)) e (passing test es) key (object_at key_cmp es key) refl (eq-by (is_eq (key_cmp key e.0)) e.0 key refl)
+    let found = found-here test (test e.0 e.1.object) (is_eq (key_cmp key e.0)) e (passing test es) key (object_at key_cmp es key) refl
+    (eq-by (is_eq (key_cmp key e.0)) e.0 key refl)
     (λ here. subst (λ k. has_key (passing test es) k ≡ false) (sym (key_cmp-exact key e.0 ((Equal-is (key_cmp key e.0)).0 here))) (below test es e.0 s.0))
     (passing-found test es s.1 key)
     (ap (λ (ks : List Key). has_key ks key) (sym (passing-of test e es)) ∙ there) in
@@ -167,7 +177,8 @@ pub record AreNew (keys queue awaiting : List Key) (told : Key → Bool) : Type 
   pub untold : (key : Key) → has_key keys key ≡ true → told key ≡ false
 
 pub none-new : (queue awaiting : List Key) (told : Key → Bool) → AreNew [] queue awaiting told
-none-new queue awaiting told = record { once = tt; unqueued = λ key there. absurd (cc); unawaited = λ key there. absurd (cc); untold = λ key there. absurd (cc) }
+none-new queue awaiting told =
+    record { once = tt; unqueued = λ key there. absurd (cc); unawaited = λ key there. absurd (cc); untold = λ key there. absurd (cc) }
 
 waits-parts : (told q a h s : Bool) → (not told && ((not q && not a) && (h && s))) ≡ true → (told ≡ false) × (q ≡ false) × (a ≡ false)
 waits-parts false false false h s e = (refl, refl, refl)
@@ -175,7 +186,8 @@ waits-parts true q a h s e = absurd (cc)
 waits-parts false true a h s e = absurd (cc)
 waits-parts false false true h s e = absurd (cc)
 
-passing-new : (class : Option (List ℕ)) (told : Key → Bool) (queue awaiting : List Key) (es : List (Key × Versioned Service)) → IsStrictlySortedBy key_cmp (keys_of es) → AreNew (passing (waits class told queue awaiting) es) queue awaiting told
+passing-new : (class : Option (List ℕ)) (told : Key → Bool) (queue awaiting : List Key) (es : List (Key × Versioned Service))
+    → IsStrictlySortedBy key_cmp (keys_of es) → AreNew (passing (waits class told queue awaiting) es) queue awaiting told
 passing-new class told queue awaiting es s =
     let of = λ (key : Key) (there : has_key (passing (waits class told queue awaiting) es) key ≡ true).
     (let found = passing-found (waits class told queue awaiting) es s key there in
@@ -187,6 +199,7 @@ passing-new class told queue awaiting es s =
       untold = λ key there. (of key there).0;
     }
 
-pub waiting-new : (lost : Bool) (class : Option (List ℕ)) (told : Key → Bool) (queue awaiting : List Key) (es : List (Key × Versioned Service)) → IsStrictlySortedBy key_cmp (keys_of es) → AreNew (waiting lost class told queue awaiting es) queue awaiting told
+pub waiting-new : (lost : Bool) (class : Option (List ℕ)) (told : Key → Bool) (queue awaiting : List Key) (es : List (Key × Versioned Service))
+    → IsStrictlySortedBy key_cmp (keys_of es) → AreNew (waiting lost class told queue awaiting es) queue awaiting told
 waiting-new true class told queue awaiting es s = passing-new class told queue awaiting es s
 waiting-new false class told queue awaiting es s = none-new queue awaiting told

@@ -1,5 +1,6 @@
 -- Each queued key is held, and so is that of the put that is out.
-use Rattle.std.proofs.Common.{◌≡◌, ℕ, Bool, true, false, cond, leb, eqb, ltb, not, ◌&&◌, ◌||◌, List, [], ◌∷◌, ◌++◌, Option, Some, None, is_eq, is_some, option_map, ⊎_elim, refl, sym, ap, subst, ◌∙◌}
+use Rattle.std.proofs.Common.{◌≡◌, ℕ, Bool, true, false, cond, leb, eqb, ltb, not, ◌&&◌, ◌||◌, List, [], ◌∷◌, ◌++◌}
+use Rattle.std.proofs.Common.{Option, Some, None, is_eq, is_some, option_map, ⊎_elim, refl, sym, ap, subst, ◌∙◌}
 use Rattle.std.specs.Cmp.{tied_itself}
 use Rattle.std.specs.Option.{option_map_or}
 use Rattle.std.specs.List.Sorted.{IsStrictlySortedBy}
@@ -63,34 +64,42 @@ some-either false x y = refl
 
 stays-by : (key : Key) (v : ℕ) (gone : Bool) (object before : Option (Versioned Service)) (change : Versioned Service → Versioned Service)
     → is_some (option_map (λ (h : Versioned Service). h.object) before) ≡ true → gone ≡ false
-    → is_some (option_map (λ (h : Versioned Service). h.object) (cond (newer_than service_resource key v object) object (cond gone None (option_map change before)))) ≡ true
+    → is_some (option_map (λ (h : Versioned Service). h.object)
+    (cond (newer_than service_resource key v object) object (cond gone None (option_map change before)))) ≡ true
 stays-by key v true object before change there e = absurd (cc)
 stays-by key v false object None change there e = absurd (cc)
 stays-by key v false None (Some h) change there e = refl
 stays-by key v false (Some x) (Some h) change there e = some-either (ltb v x.version) x (change h)
 
-stays : (o : Observation) (services : List (Key × Versioned Service)) → IsStrictlySortedBy key_cmp (keys_of services) → (key : Key) → drops key o (held_at key_cmp services key) ≡ false
+stays : (o : Observation) (services : List (Key × Versioned Service)) → IsStrictlySortedBy key_cmp (keys_of services) → (key : Key)
+    → drops key o (held_at key_cmp services key) ≡ false
     → IsIn services key → IsIn (held_after service_resource o services) key
 stays o services sorted key kept there =
-    ap (λ (found : Option (Versioned Service)). is_some (option_map (λ (h : Versioned Service). h.object) found)) (held_at-held_after service_resource key_cmp-total key_cmp-exact key o services sorted)
-    ∙ stays-by key (version_of service_resource key (held_at key_cmp services key)) (drops key o (held_at key_cmp services key)) (object_in service_resource key o) (held_at key_cmp services key) (held_on service_resource key o) there kept
+    ap (λ (found : Option (Versioned Service)). is_some (option_map (λ (h : Versioned Service). h.object) found))
+    (held_at-held_after service_resource key_cmp-total key_cmp-exact key o services sorted)
+    ∙ stays-by key (version_of service_resource key (held_at key_cmp services key)) (drops key o (held_at key_cmp services key))
+    (object_in service_resource key o) (held_at key_cmp services key) (held_on service_resource key o) there kept
 
 -- ---- lists of held keys
 none-in : (services : List (Key × Versioned Service)) → AllIn services []
 none-in services key there = absurd (cc)
 
 append-in : (services : List (Key × Versioned Service)) (xs ys : List Key) → AllIn services xs → AllIn services ys → AllIn services (xs ++ ys)
-append-in services xs ys x y key there = ⊎_elim (λ here. x key here) (λ here. y key here) (or-either (has_key xs key) (has_key ys key) (sym (has_key-append xs ys key) ∙ there))
+append-in services xs ys x y key there =
+    ⊎_elim (λ here. x key here) (λ here. y key here) (or-either (has_key xs key) (has_key ys key) (sym (has_key-append xs ys key) ∙ there))
 
-passing-in : (test : Key → Service → Bool) (services : List (Key × Versioned Service)) → IsStrictlySortedBy key_cmp (keys_of services) → AllIn services (passing test services)
+passing-in : (test : Key → Service → Bool) (services : List (Key × Versioned Service)) → IsStrictlySortedBy key_cmp (keys_of services)
+    → AllIn services (passing test services)
 passing-in test services sorted key there = ap is_some (passing-found test services sorted key there).1
 
-waiting-in : (lost : Bool) (class : Option (List ℕ)) (told : Key → Bool) (queue awaiting : List Key) (services : List (Key × Versioned Service)) → IsStrictlySortedBy key_cmp (keys_of services)
+waiting-in : (lost : Bool) (class : Option (List ℕ)) (told : Key → Bool) (queue awaiting : List Key) (services : List (Key × Versioned Service))
+    → IsStrictlySortedBy key_cmp (keys_of services)
     → AllIn services (waiting lost class told queue awaiting services)
 waiting-in true class told queue awaiting services sorted = passing-in (waits class told queue awaiting) services sorted
 waiting-in false class told queue awaiting services sorted = none-in services
 
-free-in : (queue awaiting : List Key) (services : List (Key × Versioned Service)) → IsStrictlySortedBy key_cmp (keys_of services) → AllIn services (all_free queue awaiting services)
+free-in : (queue awaiting : List Key) (services : List (Key × Versioned Service)) → IsStrictlySortedBy key_cmp (keys_of services)
+    → AllIn services (all_free queue awaiting services)
 free-in queue awaiting services sorted =
     append-in services (passing (is_free_with queue awaiting true) services) (passing (is_free_with queue awaiting false) services)
     (passing-in (is_free_with queue awaiting true) services sorted) (passing-in (is_free_with queue awaiting false) services sorted)
@@ -106,29 +115,36 @@ newly-by true key version service before e = refl
 newly-by false key version service before e = absurd (cc)
 
 -- a newer service is held from now on
-newly-in : (older : Bool) (services : List (Key × Versioned Service)) (version : ℕ) (service : Service) → older ≡ leb version (version_at key_cmp services service.key) → true ≡ not older
+newly-in : (older : Bool) (services : List (Key × Versioned Service)) (version : ℕ) (service : Service)
+    → older ≡ leb version (version_at key_cmp services service.key) → true ≡ not older
     → IsIn (shown key_cmp services service.key version service) service.key
 newly-in true services version service e newer = absurd (cc)
 newly-in false services version service e newer =
     ap (λ (found : Option (Versioned Service)). is_some (option_map (λ (h : Versioned Service). h.object) found))
     (held_at-shown key_cmp-total services service.key service.key version service
-    ∙ ap (λ b. cond b (held_at key_cmp services service.key) (cond (is_eq (key_cmp service.key service.key)) (Some (record { version = version; object = service })) (held_at key_cmp services service.key))) (sym e))
-    ∙ newly-by (is_eq (key_cmp service.key service.key)) service.key version service (held_at key_cmp services service.key) (ap is_eq (tied_itself key_cmp-total service.key))
+    ∙ ap (λ b. cond b (held_at key_cmp services service.key) (cond (is_eq (key_cmp service.key service.key))
+    (Some (record { version = version; object = service })) (held_at key_cmp services service.key))) (sym e))
+    ∙ newly-by (is_eq (key_cmp service.key service.key)) service.key version service (held_at key_cmp services service.key)
+    (ap is_eq (tied_itself key_cmp-total service.key))
 
-shown-in : (newer lost : Bool) (s : State) (version : ℕ) (service : Service) → IsStrictlySortedBy key_cmp (keys_of s.held.services) → newer ≡ is_newer key_cmp s.held.services service.key version
+shown-in : (newer lost : Bool) (s : State) (version : ℕ) (service : Service) → IsStrictlySortedBy key_cmp (keys_of s.held.services)
+    → newer ≡ is_newer key_cmp s.held.services service.key version
     → AllIn s.held.services s.queue
-    → AllIn (held_after service_resource (Watched (shows version service)) s.held.services) (cond newer (s.queue ++ own_and_waiting (is_ready s.held) lost s service.key) s.queue)
+    → AllIn (held_after service_resource (Watched (shows version service)) s.held.services)
+    (cond newer (s.queue ++ own_and_waiting (is_ready s.held) lost s service.key) s.queue)
 shown-in false lost s version service sorted e all = λ key there. stays (Watched (shows version service)) s.held.services sorted key refl (all key there)
 shown-in true lost s version service sorted e all =
     let after = held_after service_resource (Watched (shows version service)) s.held.services in
     let others = waiting lost s.class (same_key service.key) s.queue s.awaiting s.held.services in
-    append-in after s.queue (own_and_waiting (is_ready s.held) lost s service.key) (λ key there. stays (Watched (shows version service)) s.held.services sorted key refl (all key there))
+    append-in after s.queue (own_and_waiting (is_ready s.held) lost s service.key)
+    (λ key there. stays (Watched (shows version service)) s.held.services sorted key refl (all key there))
     (if-in (is_ready s.held) after (own_key service.key s.queue ++ others)
     (append-in after (own_key service.key s.queue) others
     (λ key there.
     subst (IsIn after) (same_key-is service.key key (own-same (has_key s.queue service.key) service.key key there).1)
     (newly-in (leb version (version_at key_cmp s.held.services service.key)) s.held.services version service refl e))
-    (λ key there. stays (Watched (shows version service)) s.held.services sorted key refl (waiting-in lost s.class (same_key service.key) s.queue s.awaiting s.held.services sorted key there))))
+    (λ key there. stays (Watched (shows version service)) s.held.services sorted key refl
+    (waiting-in lost s.class (same_key service.key) s.queue s.awaiting s.held.services sorted key there))))
 
 -- a key that isn't among the others stays held when another is dropped
 other-stays : (gone key : Key) (services : List (Key × Versioned Service)) → IsStrictlySortedBy key_cmp (keys_of services) → same_key gone key ≡ false
@@ -150,38 +166,47 @@ dropped-in s gone lost sorted all =
     append-in (held_after service_resource (Watched (Deleted kinds.Service gone)) s.held.services) (without gone s.queue) others
     (λ key there.
     (let kept : cond (same_key gone key) false (has_key s.queue key) ≡ true = sym (has_key-without gone s.queue key) ∙ there in
-    other-stays gone key s.held.services sorted (cond-left (same_key gone key) (has_key s.queue key) kept) (all key (cond-true (same_key gone key) (has_key s.queue key) kept))))
-    (λ key there. other-stays gone key s.held.services sorted (new.untold key there) (waiting-in lost s.class (same_key gone) s.queue s.awaiting s.held.services sorted key there))
+    other-stays gone key s.held.services sorted (cond-left (same_key gone key) (has_key s.queue key) kept)
+    (all key (cond-true (same_key gone key) (has_key s.queue key) kept))))
+    (λ key there. other-stays gone key s.held.services sorted (new.untold key there)
+    (waiting-in lost s.class (same_key gone) s.queue s.awaiting s.held.services sorted key there))
 
 -- what has a version is held
-listed-found : (found : Option (Versioned Service)) → eqb (option_map_or (λ (h : Versioned Service). h.version) found 0) 0 ≡ false → is_some (option_map (λ (h : Versioned Service). h.object) found) ≡ true
+listed-found : (found : Option (Versioned Service)) → eqb (option_map_or (λ (h : Versioned Service). h.version) found 0) 0 ≡ false
+    → is_some (option_map (λ (h : Versioned Service). h.object) found) ≡ true
 listed-found None e = absurd (cc)
 listed-found (Some h) e = refl
 
 listed-in : (services : List (Key × Versioned Service)) (keys : List Key) → AllIn services (listed_keys services keys)
 listed-in services keys key there =
-    listed-found (held_at key_cmp services key) (cond-left (is_unlisted services key) (has_key keys key) (sym (has_key-kept (is_unlisted services) keys key) ∙ there))
+    listed-found (held_at key_cmp services key)
+    (cond-left (is_unlisted services key) (has_key keys key) (sym (has_key-kept (is_unlisted services) keys key) ∙ there))
 
-more-in : (was now lost : Bool) (s : State) → IsStrictlySortedBy key_cmp (keys_of (listed s.held.services)) → AllIn (listed s.held.services) (listed_and_free was now lost s)
+more-in : (was now lost : Bool) (s : State) → IsStrictlySortedBy key_cmp (keys_of (listed s.held.services))
+    → AllIn (listed s.held.services) (listed_and_free was now lost s)
 more-in was false lost s sorted = none-in (listed s.held.services)
 more-in true true lost s sorted = waiting-in lost s.class no_key s.queue s.awaiting (listed s.held.services) sorted
 more-in false true lost s sorted = free-in s.queue s.awaiting (listed s.held.services) sorted
 
 configured-in : (b : Bool) (s : State) → IsStrictlySortedBy key_cmp (keys_of s.held.services) → AllIn s.held.services s.queue
     → AllIn s.held.services (cond b (s.queue ++ all_free s.queue s.awaiting s.held.services) s.queue)
-configured-in true s sorted all = append-in s.held.services s.queue (all_free s.queue s.awaiting s.held.services) all (free-in s.queue s.awaiting s.held.services sorted)
+configured-in true s sorted all =
+    append-in s.held.services s.queue (all_free s.queue s.awaiting s.held.services) all (free-in s.queue s.awaiting s.held.services sorted)
 configured-in false s sorted all = all
 
-took-in : (s : State) → IsStrictlySortedBy key_cmp (keys_of s.held.services) → AllIn s.held.services s.queue → (event : Event) → AllIn (core_take s event).held.services (core_take s event).queue
+took-in : (s : State) → IsStrictlySortedBy key_cmp (keys_of s.held.services) → AllIn s.held.services s.queue → (event : Event)
+    → AllIn (core_take s event).held.services (core_take s event).queue
 took-in s sorted all = by_effect (λ event c. AllIn (core_by c s event).held.services (core_by c s event).queue)
-    (λ version service. shown-in (is_newer key_cmp s.held.services service.key version) (loses service.key service.holding (shown_terms service) s.claims) s version service sorted refl all)
+    (λ version service. shown-in (is_newer key_cmp s.held.services service.key version) (loses service.key service.holding (shown_terms service) s.claims) s
+    version service sorted refl all)
     (λ key. dropped-in s key (is_ready s.held && has_claims key s.claims) sorted all)
     (append-in (listed s.held.services) (listed_keys (listed s.held.services) s.queue)
     (listed_and_free (is_ready s.held) (s.held.config_ended && is_some s.held.config) (have_claims s.held.services s.claims) s)
     (listed-in (listed s.held.services) s.queue)
     (more-in (is_ready s.held) (s.held.config_ended && is_some s.held.config) (have_claims s.held.services s.claims) s
     (ascending-held_after service_resource key_cmp-total (Watched (ListEnd groups.Service)) s.held.services sorted)))
-    (λ event c. subst (λ (services : List (Key × Versioned Service)). AllIn services (cond (wakes s.held (applied s.held event) (cached_after (Watched event) s.held)) (s.queue ++ all_free s.queue s.awaiting s.held.services) s.queue))
+    (λ event c. subst (λ (services : List (Key × Versioned Service)). AllIn services
+    (cond (wakes s.held (applied s.held event) (cached_after (Watched event) s.held)) (s.queue ++ all_free s.queue s.awaiting s.held.services) s.queue))
     (sym (config-services event s.held c)) (configured-in (wakes s.held (applied s.held event) (cached_after (Watched event) s.held)) s sorted all))
     (λ key there. absurd (cc))
     (λ event. all)
@@ -216,11 +241,13 @@ heard-in (Some put) (StoredReply version) s sorted held o =
     let others = waiting (loses put.key put.holding (put_terms s.held put) s.claims) s.class (same_key put.key) s.queue s.awaiting s.held.services in
     let stay = λ (key : Key) (there : IsIn s.held.services key). stays (Written put.key version put.holding) s.held.services sorted key refl there in
     append-in (held_after service_resource (Written put.key version put.holding) s.held.services) s.queue others (λ key there. stay key (held.queued key there))
-    (λ key there. stay key (waiting-in (loses put.key put.holding (put_terms s.held put) s.claims) s.class (same_key put.key) s.queue s.awaiting s.held.services sorted key there))
+    (λ key there. stay key
+    (waiting-in (loses put.key put.holding (put_terms s.held put) s.claims) s.class (same_key put.key) s.queue s.awaiting s.held.services sorted key there))
 heard-in (Some put) Stale s sorted held o = held.queued
 heard-in (Some put) Missing s sorted held o = held.queued
 heard-in (Some put) Unknown s sorted held o =
-    append-in s.held.services s.queue (put.key ∷ []) held.queued (λ key there. subst (IsIn s.held.services) (same_key-is put.key key (only-one (same_key put.key key) there)) (held.out put o))
+    append-in s.held.services s.queue (put.key ∷ []) held.queued
+    (λ key there. subst (IsIn s.held.services) (same_key-is put.key key (only-one (same_key put.key key) there)) (held.out put o))
 
 no-out : (s : State) → s.out ≡ None → AllIn s.held.services s.queue → AreHeld s
 no-out s n all = record { queued = all; out = λ put e. absurd (none-some s.out put n e) }

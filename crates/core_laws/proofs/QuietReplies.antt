@@ -63,31 +63,38 @@ doubt-quiet s put o quiet key service settled out found =
     let apart = behind s.queue put.key key parts.1 in
     let row = quiet key service (settled-from s key service parts.0 found apart.0 parts.2) (not-out s put key o apart.1) found in
     row-on s.class s.held s.held (holders s.claims) (holders (doubted put.key put.holding (put_terms s.held put) s.claims)) service row (λ x. refl)
-    (λ reason is. more-tighter row.before.key (asker_of row.before).terms (holders s.claims) (holders (doubted put.key put.holding (put_terms s.held put) s.claims)) (doubted-more s.claims put.key row.before.key put.holding (put_terms s.held put)))
+    (λ reason is. more-tighter row.before.key (asker_of row.before).terms (holders s.claims) (holders
+    (doubted put.key put.holding (put_terms s.held put) s.claims)) (doubted-more s.claims put.key row.before.key put.holding (put_terms s.held put)))
 
 -- ---- a claim that isn't lost
 pub not-lost : (lost : Bool) (class : Option (List ℕ)) (told : Key → Bool) (queue awaiting : List Key) (services : List (Key × Versioned Service)) (key : Key)
-    → has_key (waiting lost class told queue awaiting services) key ≡ false → has_key (passing (waits class told queue awaiting) services) key ≡ true → lost ≡ false
+    → has_key (waiting lost class told queue awaiting services) key ≡ false → has_key (passing (waits class told queue awaiting) services) key ≡ true
+    → lost ≡ false
 not-lost true class told queue awaiting services key out here = absurd (true≢false (sym here ∙ out))
 not-lost false class told queue awaiting services key out here = refl
 
-kept-claims : (claims : List ClaimValue) (key : Key) (r : Record) (t : Terms) → AreAssigned claims → loses key r t claims ≡ false → ¬ (HasLost claims (settled key r t claims))
+kept-claims : (claims : List ClaimValue) (key : Key) (r : Record) (t : Terms) → AreAssigned claims → loses key r t claims ≡ false
+    → ¬ (HasLost claims (settled key r t claims))
 kept-claims claims key r t a e lost = true≢false (sym ((settled-lost claims key r t a).1 lost) ∙ e)
 
 -- a record that settles a key's claims takes nothing from the others, where no claim is lost
-pub settled-tighter : (claims : List ClaimValue) (key : Key) (r : Record) (t : Terms) → AreAssigned claims → loses key r t claims ≡ false → (any : Key) (terms : Terms)
+pub settled-tighter : (claims : List ClaimValue) (key : Key) (r : Record) (t : Terms) → AreAssigned claims → loses key r t claims ≡ false
+    → (any : Key) (terms : Terms)
     → IsTighter any terms (holders claims) (holders (settled key r t claims))
 settled-tighter claims key r t a e any terms =
     more-tighter any terms (holders claims) (holders (settled key r t claims)) (settled-more claims key any r t a (kept-claims claims key r t a e))
 
 -- its own claims don't matter to a service
-own-by : (b : Bool) (claims : List ClaimValue) (key other : Key) (r : Record) (t : Terms) → b ≡ same_key key other → other ≢ key → claims_of other (settled key r t claims) ≡ claims_of other claims
+own-by : (b : Bool) (claims : List ClaimValue) (key other : Key) (r : Record) (t : Terms) → b ≡ same_key key other → other ≢ key
+    → claims_of other (settled key r t claims) ≡ claims_of other claims
 own-by true claims key other r t b apart = absurd (apart (sym (same_key-is key other (sym b))))
 own-by false claims key other r t b apart = claims_of-settled claims key other r t ∙ ap (λ x. cond x (claim_of key r t) (claims_of other claims)) (sym b)
 
-own-tighter : (claims : List ClaimValue) (key own : Key) (r : Record) (t terms : Terms) → own ≡ key → IsTighter own terms (holders claims) (holders (settled key r t claims))
+own-tighter : (claims : List ClaimValue) (key own : Key) (r : Record) (t terms : Terms) → own ≡ key
+    → IsTighter own terms (holders claims) (holders (settled key r t claims))
 own-tighter claims key own r t terms is a left other apart x there has =
-    left other apart x (subst (λ (cs : List ClaimValue). Contains cs x) (sym (own-by (same_key key other) claims key other r t refl (λ e. apart (e ∙ sym is)))) there) has
+    left other apart x
+    (subst (λ (cs : List ClaimValue). Contains cs x) (sym (own-by (same_key key other) claims key other r t refl (λ e. apart (e ∙ sym is)))) there) has
 
 -- ---- a record that was stored
 apart-by : (b : Bool) (k key : Key) → b ≡ same_key k key → is_eq (key_cmp k key) ≡ false → b ≡ false
@@ -100,12 +107,15 @@ apart-by false k key b e = refl
 pub apart : (k key : Key) → is_eq (key_cmp k key) ≡ false → same_key k key ≡ false
 apart k key e = apart-by (same_key k key) k key refl e
 
-over-other : (found : Option (Versioned Service)) (key : Key) → option_map (λ (h : Versioned Service). h.object) (option_map (written_over service_resource key None) found) ≡ option_map (λ (h : Versioned Service). h.object) found
+over-other : (found : Option (Versioned Service)) (key : Key) → option_map (λ (h : Versioned Service). h.object)
+    (option_map (written_over service_resource key None) found) ≡ option_map (λ (h : Versioned Service). h.object) found
 over-other None key = refl
 over-other (Some h) key = refl
 
-over-own : (found : Option (Versioned Service)) (key : Key) (version : ℕ) (holding : Record) (service : Service) → option_map (λ (h : Versioned Service). h.object) found ≡ Some service
-    → option_map (λ (h : Versioned Service). h.object) (option_map (written_over service_resource key (Some (version, with_holding holding))) found) ≡ Some (with_holding holding service)
+over-own : (found : Option (Versioned Service)) (key : Key) (version : ℕ) (holding : Record) (service : Service)
+    → option_map (λ (h : Versioned Service). h.object) found ≡ Some service
+    → option_map (λ (h : Versioned Service). h.object) (option_map (written_over service_resource key (Some (version, with_holding holding))) found)
+    ≡ Some (with_holding holding service)
 over-own None key version holding service e = absurd (cc)
 over-own (Some h) key version holding service e =
     let is : h.object ≡ service = cc in
@@ -113,12 +123,16 @@ over-own (Some h) key version holding service e =
 
 seen-stored : (es : List (Key × Versioned Service)) (k key : Key) (version : ℕ) (holding : Record) (b : Bool) → b ≡ is_eq (key_cmp k key)
     → object_at key_cmp (amended key_cmp es k version (with_holding holding)) key
-    ≡ option_map (λ (h : Versioned Service). h.object) (option_map (written_over service_resource key (cond b (Some (version, with_holding holding)) None)) (held_at key_cmp es key))
+    ≡ option_map (λ (h : Versioned Service). h.object)
+    (option_map (written_over service_resource key (cond b (Some (version, with_holding holding)) None)) (held_at key_cmp es key))
 seen-stored es k key version holding b e =
-    ap (option_map (λ (h : Versioned Service). h.object)) (amended_seen service_resource key_cmp-total key_cmp-exact key (held_at key_cmp es k) es k version (with_holding holding) refl)
-    ∙ ap (λ x. option_map (λ (h : Versioned Service). h.object) (option_map (written_over service_resource key (cond x (Some (version, with_holding holding)) None)) (held_at key_cmp es key))) (sym e)
+    ap (option_map (λ (h : Versioned Service). h.object))
+    (amended_seen service_resource key_cmp-total key_cmp-exact key (held_at key_cmp es k) es k version (with_holding holding) refl)
+    ∙ ap (λ x. option_map (λ (h : Versioned Service). h.object)
+    (option_map (written_over service_resource key (cond x (Some (version, with_holding holding)) None)) (held_at key_cmp es key))) (sym e)
 
-own-row : (s : State) (put : Put) (version : ℕ) (chosen : PutIsChosen s put) → MeetsRow s.class (offer_in (stored s put version).held) (holders (stored s put version).claims) (with_holding put.holding chosen.service)
+own-row : (s : State) (put : Put) (version : ℕ) (chosen : PutIsChosen s put)
+    → MeetsRow s.class (offer_in (stored s put version).held) (holders (stored s put version).claims) (with_holding put.holding chosen.service)
 own-row s put version chosen =
     let is_chosen : IsChosen (holders s.claims) (offer_in s.held chosen.service) s.class chosen.service (chosen_at s chosen.service) =
     choose-is s.claims (offer_in s.held chosen.service) s.class chosen.service (chosen_at s chosen.service) refl in
@@ -130,15 +144,18 @@ own-row s put version chosen =
       chosen = is_chosen;
       holding_is = chosen.holding_is;
       pending_now = λ reason is.
-          pending_for-stays (holders s.claims) (holders (settled put.key put.holding (put_terms s.held put) s.claims)) (offer_in s.held chosen.service) (asker_of chosen.service)
-          (own-tighter s.claims put.key chosen.service.key put.holding (put_terms s.held put) (asker_of chosen.service).terms chosen.keyed) s.class chosen.service reason
+          pending_for-stays (holders s.claims) (holders (settled put.key put.holding (put_terms s.held put) s.claims)) (offer_in s.held chosen.service)
+          (asker_of chosen.service)
+          (own-tighter s.claims put.key chosen.service.key put.holding (put_terms s.held put) (asker_of chosen.service).terms chosen.keyed) s.class
+          chosen.service reason
           (subst (IsChosen (holders s.claims) (offer_in s.held chosen.service) s.class chosen.service) is is_chosen);
     }
 
 same-some : (x y : Service) → Some x ≡ Some y → x ≡ y
 same-some x y e = cc
 
-stored-by : (b : Bool) (s : State) (put : Put) (version : ℕ) (key : Key) (service : Service) → b ≡ is_eq (key_cmp put.key key) → s.out ≡ Some put → IsQuiet s → PutIsChosen s put → AreAssigned s.claims
+stored-by : (b : Bool) (s : State) (put : Put) (version : ℕ) (key : Key) (service : Service) → b ≡ is_eq (key_cmp put.key key) → s.out ≡ Some put → IsQuiet s
+    → PutIsChosen s put → AreAssigned s.claims
     → is_settled (stored s put version) key ≡ true → service_of (stored s put version).held key ≡ Some service
     → MeetsRow s.class (offer_in (stored s put version).held) (holders (stored s put version).claims) service
 stored-by true s put version key service b o quiet chosen a is_set found =
@@ -146,15 +163,19 @@ stored-by true s put version key service b o quiet chosen a is_set found =
     let found_here : service_of s.held key ≡ Some chosen.service = subst (λ x. service_of s.held x ≡ Some chosen.service) same chosen.found in
     let is : with_holding put.holding chosen.service ≡ service =
     same-some (with_holding put.holding chosen.service) service
-    (sym (over-own (held_at key_cmp s.held.services key) key version put.holding chosen.service found_here) ∙ sym (seen-stored s.held.services put.key key version put.holding true b) ∙ found) in
+    (sym (over-own (held_at key_cmp s.held.services key) key version put.holding chosen.service found_here)
+    ∙ sym (seen-stored s.held.services put.key key version put.holding true b) ∙ found) in
     subst (λ (x : Service). MeetsRow s.class (offer_in (stored s put version).held) (holders (stored s put version).claims) x) is (own-row s put version chosen)
 stored-by false s put version key service b o quiet chosen a is_set found =
     let apart_key : same_key put.key key ≡ false = apart put.key key (sym b) in
-    let before : service_of s.held key ≡ Some service = sym (over-other (held_at key_cmp s.held.services key) key) ∙ sym (seen-stored s.held.services put.key key version put.holding false b) ∙ found in
+    let before : service_of s.held key ≡ Some service =
+    sym (over-other (held_at key_cmp s.held.services key) key) ∙ sym (seen-stored s.held.services put.key key version put.holding false b) ∙ found in
     let parts = settled-parts (stored s put version) key is_set in
-    let queues = neither (has_key s.queue key) _ (sym (has_key-append s.queue (waiting (loses put.key put.holding (put_terms s.held put) s.claims) s.class (same_key put.key) s.queue s.awaiting s.held.services) key) ∙ parts.1) in
+    let queues = neither (has_key s.queue key) _ (sym (has_key-append s.queue
+    (waiting (loses put.key put.holding (put_terms s.held put) s.claims) s.class (same_key put.key) s.queue s.awaiting s.held.services) key) ∙ parts.1) in
     let row = quiet key service (settled-from s key service parts.0 before queues.0 parts.2) (not-out s put key o apart_key) before in
-    row-on s.class s.held (stored s put version).held (holders s.claims) (holders (settled put.key put.holding (put_terms s.held put) s.claims)) service row (λ x. refl)
+    row-on s.class s.held (stored s put version).held (holders s.claims) (holders (settled put.key put.holding (put_terms s.held put) s.claims)) service row
+    (λ x. refl)
     (λ reason is. settled-tighter s.claims put.key put.holding (put_terms s.held put) a
     (not-lost (loses put.key put.holding (put_terms s.held put) s.claims) s.class (same_key put.key) s.queue s.awaiting s.held.services key queues.1
     (waits-queued s.class (same_key put.key) s.queue s.awaiting s.held.services key service before apart_key queues.0 parts.2
@@ -166,7 +187,8 @@ stored-quiet s put version o quiet chosen a key service settled out found =
     stored-by (is_eq (key_cmp put.key key)) s put version key service refl o quiet chosen a settled found
 
 -- after a reply each settled service meets its row
-pub heard-quiet : (out : Option Put) (reply : PutReply) (s : State) → s.out ≡ out → IsQuiet s → ((put : Put) → out ≡ Some put → PutIsChosen s put) → AreAssigned s.claims → IsQuiet (replied_to out s reply)
+pub heard-quiet : (out : Option Put) (reply : PutReply) (s : State) → s.out ≡ out → IsQuiet s → ((put : Put) → out ≡ Some put → PutIsChosen s put)
+    → AreAssigned s.claims → IsQuiet (replied_to out s reply)
 heard-quiet None reply s o quiet chosen a = quiet
 heard-quiet (Some put) (StoredReply version) s o quiet chosen a = stored-quiet s put version o quiet (chosen put refl) a
 heard-quiet (Some put) Stale s o quiet chosen a = refused-quiet s put o quiet

@@ -1,5 +1,6 @@
 -- In every run each settled service meets its row, but the one that is being written.
-use Rattle.std.proofs.Common.{◌≡◌, ℕ, Bool, true, false, cond, ◌&&◌, ◌||◌, List, [], ◌∷◌, Option, Some, None, is_some, is_eq, option_map, refl, sym, ap, subst, ◌∙◌}
+use Rattle.std.proofs.Common.{◌≡◌, ℕ, Bool, true, false, cond, ◌&&◌, ◌||◌, List, [], ◌∷◌, Option, Some}
+use Rattle.std.proofs.Common.{None, is_some, is_eq, option_map, refl, sym, ap, subst, ◌∙◌}
 use Rattle.std.specs.List.Sorted.{IsStrictlySortedBy}
 use Rattle.std.specs.Map.{keys_of}
 use Rattle.kube_model.specs.declared.event.Event.{Event}
@@ -51,18 +52,21 @@ gone-by : (b : Bool) (rest : Option (Versioned Service)) → b ≡ true → opti
 gone-by true rest e = refl
 gone-by false rest e = absurd (cc)
 
-gone-service : (s : State) (observations : List Observation) → s.held ≡ cached observations → (gone key : Key) → is_eq (key_cmp gone key) ≡ true → service_of (without_service s gone).held key ≡ None
+gone-service : (s : State) (observations : List Observation) → s.held ≡ cached observations → (gone key : Key) → is_eq (key_cmp gone key) ≡ true
+    → service_of (without_service s gone).held key ≡ None
 gone-service s observations e gone key same =
     ap (option_map (λ (h : Versioned Service). h.object)) (seen-services s observations e (Watched (Deleted kinds.Service gone)) key)
     ∙ gone-by (is_eq (key_cmp gone key)) _ same
 
 -- ---- events
-took-quiet : (s : State) (observations : List Observation) → s.held ≡ cached observations → s.out ≡ None → IsQuiet s → AreAssigned s.claims → (event : Event) → IsQuiet (core_take s event)
+took-quiet : (s : State) (observations : List Observation) → s.held ≡ cached observations → s.out ≡ None → IsQuiet s → AreAssigned s.claims → (event : Event)
+    → IsQuiet (core_take s event)
 took-quiet s observations e o quiet a = by_effect (λ event c. IsQuiet (core_by c s event))
     (λ version service. shown-quiet s observations version service e o quiet a)
     (λ key. dropped-quiet s observations key e (gone-service s observations e key) o quiet)
     (listed-quiet s (seen-services s observations e (Watched (ListEnd groups.Service))) o quiet)
-    (λ event c. configured-quiet s event c (subst (λ (held : Cached). held.config_ended ≡ true → listed held.namespaces ≡ held.namespaces) (sym e) (fresh observations)) o quiet)
+    (λ event c. configured-quiet s event c
+    (subst (λ (held : Cached). held.config_ended ≡ true → listed held.namespaces ≡ held.namespaces) (sym e) (fresh observations)) o quiet)
     (λ key service is_set out found. let parts = settled-parts (core_by Expires s ExpiredEvent) key is_set in absurd (cc))
     (λ event. quiet)
 
@@ -82,7 +86,8 @@ expired-quiet s groups.Endpoint quiet key service is_set out found =
     let parts = settled-parts (core_expired s groups.Endpoint) key is_set in
     let queue : (cond (is_ready s.held) s.queue []) ≡ s.queue = ap (λ b. cond b s.queue []) parts.0 in
     row-on s.class s.held (core_expired s groups.Endpoint).held (holders s.claims) (holders s.claims) service
-    (quiet key service (subst (λ (q : List Key). is_settled (record s { queue = q }) key ≡ true) queue is_set) out found) (λ x. refl) (λ reason is at left. left)
+    (quiet key service (subst (λ (q : List Key). is_settled (record s { queue = q }) key ≡ true) queue is_set) out found) (λ x. refl)
+    (λ reason is at left. left)
 
 -- ---- the put that is out is what is chosen
 pub wants-some : (turn : Turn) (put : Put) → put_in turn ≡ Some put → (pending : Option Reason) × (turn ≡ Wants put pending)
@@ -92,7 +97,8 @@ wants-some (Wants other pending) put e =
     let is : other ≡ put = cc in
     (pending, ap (λ (p : Put). Wants p pending) is)
 
-turned-chosen : (class : Option (List ℕ)) (earlier : List Entry) → IsRun class earlier → (put : Put) → put_in (core_turn (core_after class earlier)) ≡ Some put → PutIsChosen (after_turn (core_after class earlier)) put
+turned-chosen : (class : Option (List ℕ)) (earlier : List Entry) → IsRun class earlier → (put : Put) → put_in (core_turn (core_after class earlier)) ≡ Some put
+    → PutIsChosen (after_turn (core_after class earlier)) put
 turned-chosen class earlier is put e =
     let s = core_after class earlier in
     let wants = wants-some (core_turn s) put e in
@@ -109,10 +115,12 @@ none-some None put n e = absurd (cc)
 none-some (Some other) put n e = absurd (cc)
 
 -- a put is out after a turn alone
-out-chosen : (class : Option (List ℕ)) (run : List Entry) → IsRun class run → (put : Put) → (core_after class run).out ≡ Some put → PutIsChosen (core_after class run) put
+out-chosen : (class : Option (List ℕ)) (run : List Entry) → IsRun class run → (put : Put) → (core_after class run).out ≡ Some put
+    → PutIsChosen (core_after class run) put
 out-chosen class [] is put e = absurd (cc)
 out-chosen class (Took event ∷ earlier) is put e =
-    absurd (none-some (core_after class (Took event ∷ earlier)).out put ((core_holds_what_was_observed class (Took event ∷ earlier) is).1 ∙ sym (core_holds_what_was_observed class earlier is.1).1 ∙ is.0) e)
+    absurd (none-some (core_after class (Took event ∷ earlier)).out put
+    ((core_holds_what_was_observed class (Took event ∷ earlier) is).1 ∙ sym (core_holds_what_was_observed class earlier is.1).1 ∙ is.0) e)
 out-chosen class (Expired group ∷ earlier) is put e = absurd (none-some (core_after class earlier).out put is.0 e)
 out-chosen class (Turned turn ∷ earlier) is put e = turned-chosen class earlier is.1 put e
 out-chosen class (Heard reply ∷ earlier) is put e =
@@ -121,8 +129,10 @@ out-chosen class (Heard reply ∷ earlier) is put e =
 pub runs_are_quiet : RunsAreQuiet
 runs_are_quiet class [] is = λ key service is_set out found. absurd (cc)
 runs_are_quiet class (Took event ∷ earlier) is =
-    took-quiet (core_after class earlier) (observed earlier) (core_holds_what_was_observed class earlier is.1).0 is.0 (runs_are_quiet class earlier is.1) (runs-assigned class earlier) event
+    took-quiet (core_after class earlier) (observed earlier) (core_holds_what_was_observed class earlier is.1).0 is.0 (runs_are_quiet class earlier is.1)
+    (runs-assigned class earlier) event
 runs_are_quiet class (Expired group ∷ earlier) is = expired-quiet (core_after class earlier) group (runs_are_quiet class earlier is.1)
 runs_are_quiet class (Turned turn ∷ earlier) is = turned-quiet (core_after class earlier) is.0.0 (runs_are_quiet class earlier is.1)
 runs_are_quiet class (Heard reply ∷ earlier) is =
-    heard-quiet (core_after class earlier).out reply (core_after class earlier) refl (runs_are_quiet class earlier is.1) (out-chosen class earlier is.1) (runs-assigned class earlier)
+    heard-quiet (core_after class earlier).out reply (core_after class earlier) refl (runs_are_quiet class earlier is.1) (out-chosen class earlier is.1)
+    (runs-assigned class earlier)

@@ -39,7 +39,8 @@ free-all queue awaiting key none unasked = rw (none, unasked) refl
 no-put : (out : Option Put) (key : Key) → out ≡ None → is_put_of out key ≡ false
 no-put out key e = rw e refl
 
-module _ (class : Option (List ℕ)) (run : List Entry) (is : IsRun class run) (idle : (core_after class run).queue ≡ []) (none : put_out run ≡ None) (ready : IsReadyBy (observed run)) where
+module _ (class : Option (List ℕ)) (run : List Entry) (is : IsRun class run) (idle : (core_after class run).queue ≡ []) (none : put_out run ≡ None)
+    (ready : IsReadyBy (observed run)) where
   holds : (core_after class run).held ≡ cached (observed run)
   holds = (core_holds_what_was_observed class run is).0
 
@@ -53,12 +54,16 @@ module _ (class : Option (List ℕ)) (run : List Entry) (is : IsRun class run) (
       (ap (λ (h : Cached). h.services_ended) holds ∙ (all_is_as_shown (observed run)).services_ended.1 ready.listed)
       in-force
 
-  found : (key : Key) (held : Versioned Service) → IsLastShown service_resource key held (observed run) → service_of (core_after class run).held key ≡ Some held.object
-  found key held shown = ap (option_map (λ (h : Versioned Service). h.object)) (shown-held class run is key ∙ is-last_shown service_resource key (observed run) held shown)
+  found : (key : Key) (held : Versioned Service) → IsLastShown service_resource key held (observed run)
+      → service_of (core_after class run).held key ≡ Some held.object
+  found key held shown =
+      ap (option_map (λ (h : Versioned Service). h.object)) (shown-held class run is key ∙ is-last_shown service_resource key (observed run) held shown)
 
-  settled : (key : Key) (held : Versioned Service) → IsLastShown service_resource key held (observed run) → awaits_shown key run ≡ false → is_settled (core_after class run) key ≡ true
+  settled : (key : Key) (held : Versioned Service) → IsLastShown service_resource key held (observed run) → awaits_shown key run ≡ false
+      → is_settled (core_after class run) key ≡ true
   settled key held shown waits =
-      settled-all (is_ready (core_after class run).held) (is_some (service_of (core_after class run).held key)) (is_free (core_after class run).queue (core_after class run).awaiting key)
+      settled-all (is_ready (core_after class run).held) (is_some (service_of (core_after class run).held key))
+      (is_free (core_after class run).queue (core_after class run).awaiting key)
       is-ready (ap is_some (found key held shown))
       (free-all (core_after class run).queue (core_after class run).awaiting key idle (awaiting-is class run is key ∙ waits))
 
@@ -78,7 +83,8 @@ module _ (class : Option (List ℕ)) (run : List Entry) (is : IsRun class run) (
   quiet key held shown waits =
       let row = runs_are_quiet class run is key held.object (settled key held shown waits)
       (no-put (core_after class run).out key ((core_holds_what_was_observed class run is).1 ∙ none)) (found key held shown) in
-      let by_class = subst (λ (c : Option (List ℕ)). MeetsRow c (offer_in (core_after class run).held) (holders (core_after class run).claims) held.object) (class-is class run) row in
+      let by_class = subst (λ (c : Option (List ℕ)). MeetsRow c (offer_in (core_after class run).held) (holders (core_after class run).claims) held.object)
+      (class-is class run) row in
       let by_offer = subst (λ (o : Service → Offer). MeetsRow class o (holders (core_after class run).claims) held.object) offers-same by_class in
       subst (λ (h : Holders). MeetsRow class (offer_shown ready.config (observed run)) h held.object) has-same by_offer
 

@@ -79,7 +79,8 @@ shown-idle : (newer ready : Bool) (queue more : List Key) → ready ≡ false �
 shown-idle true ready queue more r q m = rw (q, m) refl
 shown-idle false ready queue more r q m = q
 
-listed-idle : (a : Bool) (c : Option ConfigValue) (before : Bool) (lost : Bool) (s : State) (services : List (Key × Versioned Service)) (queue : List Key) → queue ≡ [] → (a && is_some c) ≡ false
+listed-idle : (a : Bool) (c : Option ConfigValue) (before : Bool) (lost : Bool) (s : State) (services : List (Key × Versioned Service)) (queue : List Key)
+    → queue ≡ [] → (a && is_some c) ≡ false
     → (listed_keys services queue ++ listed_and_free before (a && is_some c) lost s) ≡ []
 listed-idle a c before lost s services queue q r = rw (q, r) refl
 
@@ -96,9 +97,14 @@ before-ready : (b after : Bool) → (b ≡ true → after ≡ true) → after �
 before-ready true after stays n = absurd (true≢false (sym (stays refl) ∙ n))
 before-ready false after stays n = refl
 
-took-idle : (s : State) → IsIdle (is_ready s.held) s.queue s.out → s.out ≡ None → (event : Event) → IsIdle (is_ready (core_take s event).held) (core_take s event).queue (core_take s event).out
+took-idle : (s : State) → IsIdle (is_ready s.held) s.queue s.out → s.out ≡ None → (event : Event)
+    → IsIdle (is_ready (core_take s event).held) (core_take s event).queue (core_take s event).out
 took-idle s idle o = by_effect (λ event c. IsIdle (is_ready (core_by c s event).held) (core_by c s event).queue (core_by c s event).out)
-    (λ version service n. (shown-idle (is_newer key_cmp s.held.services service.key version) (is_ready s.held) s.queue (own_and_waiting (is_ready s.held) (loses service.key service.holding (shown_terms service) s.claims) s service.key) n (idle n).0 (rw n refl), o))
+    (λ version service n. (
+      shown-idle (is_newer key_cmp s.held.services service.key version) (is_ready s.held) s.queue
+          (own_and_waiting (is_ready s.held) (loses service.key service.holding (shown_terms service) s.claims) s service.key) n (idle n).0 (rw n refl),
+      o,
+    ))
     (λ key n. (rw ((idle n).0, n) refl, o))
     (λ n. (
       listed-idle s.held.config_ended s.held.config (is_ready s.held) (have_claims s.held.services s.claims) s (listed s.held.services) s.queue
@@ -128,11 +134,13 @@ some-none : (out : Option Put) → is_some out ≡ true → out ≡ None → ⊥
 some-none None s n = absurd (cc)
 some-none (Some put) s n = absurd (cc)
 
-pub runs-idle : (class : Option (List ℕ)) (run : List Entry) → IsRun class run → IsIdle (is_ready (core_after class run).held) (core_after class run).queue (core_after class run).out
+pub runs-idle : (class : Option (List ℕ)) (run : List Entry) → IsRun class run
+    → IsIdle (is_ready (core_after class run).held) (core_after class run).queue (core_after class run).out
 runs-idle class [] is n = (refl, refl)
 runs-idle class (Took event ∷ earlier) is n = took-idle (core_after class earlier) (runs-idle class earlier is.1) is.0 event n
 runs-idle class (Expired group ∷ earlier) is n =
     (expired-idle (is_ready (cached_after (WatchExpired group) (core_after class earlier).held)) (core_after class earlier).queue n, is.0)
 runs-idle class (Turned turn ∷ earlier) is n = turned-idle (core_after class earlier) (core_after class earlier).queue (runs-idle class earlier is.1 n).0
 runs-idle class (Heard reply ∷ earlier) is n =
-    absurd (some-none (core_after class earlier).out is.0 (runs-idle class earlier is.1 (sym (replied-ready (core_after class earlier).out reply (core_after class earlier)) ∙ n)).1)
+    absurd (some-none (core_after class earlier).out is.0
+    (runs-idle class earlier is.1 (sym (replied-ready (core_after class earlier).out reply (core_after class earlier)) ∙ n)).1)

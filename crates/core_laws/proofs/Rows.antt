@@ -1,5 +1,6 @@
 -- Rows: what carries them on, and who waits.
-use Rattle.std.proofs.Common.{◌≡◌, ℕ, Bool, true, false, cond, ◌&&◌, ◌||◌, List, [], ◌∷◌, ◌++◌, Option, Some, is_eq, option_map, filter, map, refl, sym, ap, subst, ◌∙◌}
+use Rattle.std.proofs.Common.{◌≡◌, ℕ, Bool, true, false, cond, ◌&&◌, ◌||◌, List, [], ◌∷◌, ◌++◌, Option}
+use Rattle.std.proofs.Common.{Some, is_eq, option_map, filter, map, refl, sym, ap, subst, ◌∙◌}
 use Rattle.std.proofs.lemmas.Bool.{true≢false}
 use Rattle.std.specs.Cmp.{Equal-is}
 use Rattle.kube_model.specs.declared.key.Key.{Key}
@@ -37,7 +38,8 @@ or-true : (a : Bool) → (a || true) ≡ true
 or-true true = refl
 or-true false = refl
 
-found-by : (here passes : Bool) (e : Key × Versioned Service) (key : Key) (service : Service) (test : Key → Service → Bool) (rest : List Key) (found : Option (Versioned Service))
+found-by : (here passes : Bool) (e : Key × Versioned Service) (key : Key) (service : Service) (test : Key → Service → Bool) (rest : List Key)
+    (found : Option (Versioned Service))
     → here ≡ is_eq (key_cmp key e.0) → passes ≡ test e.0 e.1.object → test key service ≡ true
     → option_map (λ (h : Versioned Service). h.object) (cond here (Some e.1) found) ≡ Some service
     → (option_map (λ (h : Versioned Service). h.object) found ≡ Some service → has_key rest key ≡ true)
@@ -53,16 +55,19 @@ found-by true false e key service test rest found h p t f ih =
 found-by false true e key service test rest found h p t f ih = ap (λ b. same_key e.0 key || b) (ih f) ∙ or-true (same_key e.0 key)
 found-by false false e key service test rest found h p t f ih = ih f
 
-pub passing-cons : (b : Bool) (e : Key × Versioned Service) (es : List (Key × Versioned Service)) → map (λ (x : Key × Versioned Service). x.0) (cond b (e ∷ es) es) ≡ cond b (e.0 ∷ map (λ (x : Key × Versioned Service). x.0) es) (map (λ (x : Key × Versioned Service). x.0) es)
+pub passing-cons : (b : Bool) (e : Key × Versioned Service) (es : List (Key × Versioned Service)) → map (λ (x : Key × Versioned Service). x.0)
+    (cond b (e ∷ es) es) ≡ cond b (e.0 ∷ map (λ (x : Key × Versioned Service). x.0) es) (map (λ (x : Key × Versioned Service). x.0) es)
 passing-cons true e es = refl
 passing-cons false e es = refl
 
 -- a held service that passes is among those that do
-pub passing-has : (test : Key → Service → Bool) (es : List (Key × Versioned Service)) (key : Key) (service : Service) → object_at key_cmp es key ≡ Some service → test key service ≡ true → has_key (passing test es) key ≡ true
+pub passing-has : (test : Key → Service → Bool) (es : List (Key × Versioned Service)) (key : Key) (service : Service) → object_at key_cmp es key ≡ Some service
+    → test key service ≡ true → has_key (passing test es) key ≡ true
 passing-has test [] key service found t = absurd (cc)
 passing-has test (e ∷ es) key service found t =
     ap (λ (ks : List Key). has_key ks key) (passing-cons (test e.0 e.1.object) e (filter (λ (x : Key × Versioned Service). test x.0 x.1.object) es))
-    ∙ found-by (is_eq (key_cmp key e.0)) (test e.0 e.1.object) e key service test (passing test es) (held_at key_cmp es key) refl refl t found (λ f. passing-has test es key service f t)
+    ∙ found-by (is_eq (key_cmp key e.0)) (test e.0 e.1.object) e key service test (passing test es) (held_at key_cmp es key) refl refl t found
+    (λ f. passing-has test es key service f t)
 
 -- ---- what is pending is handled
 handled-by : (balancer same : Bool) → (balancer ≡ true → same ≡ false → ⊥) → (balancer ≡ false → ⊥) → (balancer && same) ≡ true

@@ -1,5 +1,6 @@
 -- Two services with one address share it, or the cluster showed it so: by what is new with each entry.
-use Rattle.std.proofs.Common.{◌≡◌, ◌≢◌, ℕ, ◌<◌, suc, Bool, true, false, List, [], ◌∷◌, ◌++◌, Option, Some, None, ◌⊎◌, inl, inr, ⊎_elim, refl, sym, ap, subst, ◌∙◌}
+use Rattle.std.proofs.Common.{◌≡◌, ◌≢◌, ℕ, ◌<◌, suc, Bool, true, false, List, [], ◌∷◌, ◌++◌, Option, Some}
+use Rattle.std.proofs.Common.{None, ◌⊎◌, inl, inr, ⊎_elim, refl, sym, ap, subst, ◌∙◌}
 use Rattle.std.proofs.lemmas.List.{append-nil}
 use Rattle.std.specs.List.{Contains}
 use Rattle.mlb_base.proofs.Among.{contains-none}
@@ -76,9 +77,11 @@ terms-kept service holding =
 typed-kept : (key : Key) (service : Service) (holding : Record) → Typed key service → Typed key (with_holding holding service)
 typed-kept key service holding t = subst AreTerms (sym (terms-kept service holding)) t
 
-pub put-shared : (class : Option (List ℕ)) (put : Put) (pending : Option Reason) (earlier : List Entry) → IsRun class (Turned (Wants put pending) ∷ earlier) → AllShowTerms earlier
+pub put-shared : (class : Option (List ℕ)) (put : Put) (pending : Option Reason) (earlier : List Entry) → IsRun class (Turned (Wants put pending) ∷ earlier)
+    → AllShowTerms earlier
     → (a : AddressValue) → Contains put.holding.addresses a
-    → (t : Terms) × IsMarkOf t put.holding.mark × ((other : Key) → other ≢ put.key → (d : ClaimValue) → Contains (may_have other earlier) d → Contains d.holding.addresses a → MayShare t d.terms)
+    → (t : Terms) × IsMarkOf t put.holding.mark
+    × ((other : Key) → other ≢ put.key → (d : ClaimValue) → Contains (may_have other earlier) d → Contains d.holding.addresses a → MayShare t d.terms)
 put-shared class put pending earlier is all a in_put =
     let right : IsRightPut class put pending earlier = puts_are_right class put pending earlier is in
     let decision : IsRightDecision class put.key pending earlier = right.decision in
@@ -86,15 +89,19 @@ put-shared class put pending earlier is all a in_put =
     let offer = offer_at decision.config.pools (labels_shown service.key.namespace (observed earlier)) service in
     let has : Holders = λ key. claims_shown key earlier in
     let for : IsFor put.holding decision.choice = for-by decision.choice service.holding put.holding a in_put right.differs right.holding_is in
-    let granted : IsGranted has offer (asker_of service) put.holding = chosen_for-granted has offer (asker_of service) class service put.holding decision.choice for decision.chosen in
+    let granted : IsGranted has offer (asker_of service) put.holding =
+    chosen_for-granted has offer (asker_of service) class service put.holding decision.choice for decision.chosen in
     let last = is-last_shown service_resource put.key (observed earlier) decision.held decision.shown in
-    let typed : AreTerms (terms_of service) = shown-holds Typed typed-kept (observed earlier) put.key decision.held (observed-all Typed typed-kept earlier all) last in
-    let own : service.key ≡ put.key = shown-holds (λ k s. s.key ≡ k) (λ k s holding p. p) (observed earlier) put.key decision.held (observed-all (λ k s. s.key ≡ k) (λ k s holding p. p) earlier (own-keys earlier)) last in
+    let typed : AreTerms (terms_of service) =
+    shown-holds Typed typed-kept (observed earlier) put.key decision.held (observed-all Typed typed-kept earlier all) last in
+    let own : service.key ≡ put.key = shown-holds (λ k s. s.key ≡ k) (λ k s holding p. p) (observed earlier) put.key decision.held
+    (observed-all (λ k s. s.key ≡ k) (λ k s holding p. p) earlier (own-keys earlier)) last in
     let mark : IsMarkOf (terms_of service) put.holding.mark = record { terms = typed; mark = sym (ap (λ (x : Record). x.mark) granted.is) } in (
       terms_of service,
       mark,
       λ other apart d there in_d.
-          (granted.usable a in_put).left other (λ same. apart (same ∙ own)) d (subst (λ (cs : List ClaimValue). Contains cs d) (alone other earlier (none-out class earlier is.1 is.0.0)) there) in_d,
+          (granted.usable a in_put).left other (λ same. apart (same ∙ own)) d
+          (subst (λ (cs : List ClaimValue). Contains cs d) (alone other earlier (none-out class earlier is.1 is.0.0)) there) in_d,
     )
 
 -- ---- one entry more
@@ -106,13 +113,17 @@ same-some key other e = cc
 
 module _ (class : Option (List ℕ)) (x : Entry) (earlier : List Entry) (is : IsRun class (x ∷ earlier)) (all : AllShowTerms earlier) where
   -- what came first stays so
-  older : (key other : Key) (r q : ClaimValue) → has_claim key r earlier ≡ true → has_claim key r (x ∷ earlier) ≡ true → has_claim other q earlier ≡ true → has_claim other q (x ∷ earlier) ≡ true
+  older : (key other : Key) (r q : ClaimValue) → has_claim key r earlier ≡ true → has_claim key r (x ∷ earlier) ≡ true → has_claim other q earlier ≡ true
+      → has_claim other q (x ∷ earlier) ≡ true
       → CameShown key r other q earlier → CameShown key r other q (x ∷ earlier)
-  older key other r q before now before' now' c =
-      (suc-less (age_of key r earlier) (age_of other q earlier) _ _ (age-some key r x earlier now) (age-some other q x earlier now') c.0, was-older key r x earlier before ∙ c.1)
+  older key other r q before now before' now' c = (
+    suc-less (age_of key r earlier) (age_of other q earlier) _ _ (age-some key r x earlier now) (age-some other q x earlier now') c.0,
+    was-older key r x earlier before ∙ c.1,
+  )
 
   -- the key came to its record with this entry, and the other had its own before
-  newer : (key other : Key) → key ≢ other → (r q : ClaimValue) → Contains (may_have key (x ∷ earlier)) r → has_claim key r earlier ≡ false → has_claim other q earlier ≡ true → has_claim other q (x ∷ earlier) ≡ true
+  newer : (key other : Key) → key ≢ other → (r q : ClaimValue) → Contains (may_have key (x ∷ earlier)) r → has_claim key r earlier ≡ false
+      → has_claim other q earlier ≡ true → has_claim other q (x ∷ earlier) ≡ true
       → (a : AddressValue) → Contains r.holding.addresses a → Contains q.holding.addresses a → ClaimsMayShare r q ⊎ CameShown key r other q (x ∷ earlier)
   newer key other apart r q there new before now a in_r in_q =
       let came_to : Came x (terms_shown key earlier) key r = came class x earlier (none-out class earlier is.1) is key r there (has-not key r earlier new) in
@@ -120,13 +131,15 @@ module _ (class : Option (List ℕ)) (x : Entry) (earlier : List Entry) (is : Is
       let theirs : age_of other q (x ∷ earlier) ≡ suc (age_of other q earlier) = age-some other q x earlier now in
       let since : 0 < age_of other q earlier = age-positive other q earlier before in
       ⊎_elim
-      (λ event. let younger : age_of key r (x ∷ earlier) < age_of other q (x ∷ earlier) = suc-less 0 (age_of other q earlier) _ _ mine theirs since in inr (younger, was-new key r x earlier new ∙ event))
+      (λ event. let younger : age_of key r (x ∷ earlier) < age_of other q (x ∷ earlier) = suc-less 0 (age_of other q earlier) _ _ mine theirs since in
+      inr (younger, was-new key r x earlier new ∙ event))
       (λ p.
       let run : IsRun class (Turned (Wants p.0 p.1) ∷ earlier) = subst (λ (y : Entry). IsRun class (y ∷ earlier)) p.2 is in
       let in_put : Contains p.0.holding.addresses a = subst (λ (y : Record). Contains y.addresses a) (sym p.3.holding_is) in_r in
       let shares = put-shared class p.0 p.1 earlier run all a in_put in
       let terms : r.terms ≡ shares.0 = sym p.3.terms_is ∙ terms_under-marked p.0.holding (terms_shown key earlier) shares.0 shares.1 in
-      inl (subst (λ (t : Terms). MayShare t q.terms) (sym terms) (shares.2 other (λ same. apart (sym (same ∙ p.3.of_key))) q (has-is other q earlier before) in_q)))
+      inl (subst (λ (t : Terms). MayShare t q.terms) (sym terms)
+      (shares.2 other (λ same. apart (sym (same ∙ p.3.of_key))) q (has-is other q earlier before) in_q)))
       came_to.by
 
   step : AreSharedOrShown earlier → AreSharedOrShown (x ∷ earlier)
@@ -138,7 +151,8 @@ module _ (class : Option (List ℕ)) (x : Entry) (earlier : List Entry) (is : Is
       now' : has_claim other q (x ∷ earlier) ≡ true
       now' = has-from other q (x ∷ earlier) there'
 
-      by_tests : (b c : Bool) → has_claim key r earlier ≡ b → has_claim other q earlier ≡ c → ClaimsMayShare r q ⊎ CameShown key r other q (x ∷ earlier) ⊎ CameShown other q key r (x ∷ earlier)
+      by_tests : (b c : Bool) → has_claim key r earlier ≡ b → has_claim other q earlier ≡ c → ClaimsMayShare r q ⊎ CameShown key r other q (x ∷ earlier)
+          ⊎ CameShown other q key r (x ∷ earlier)
       by_tests true true e f =
           ⊎_elim (λ s. inl s)
           (λ shown. inr (⊎_elim (λ c. inl (older key other r q e now f now' c)) (λ c. inr (older other key q r f now' e now c)) shown))
@@ -147,7 +161,8 @@ module _ (class : Option (List ℕ)) (x : Entry) (earlier : List Entry) (is : Is
       by_tests true false e f = ⊎_elim (λ s. inl (turned q r s)) (λ c. inr (inr c)) (newer other key (λ same. apart (sym same)) q r there' f e now a in_q in_r)
       by_tests false false e f =
           let mine : Came x (terms_shown key earlier) key r = came class x earlier (none-out class earlier is.1) is key r there (has-not key r earlier e) in
-          let theirs : Came x (terms_shown other earlier) other q = came class x earlier (none-out class earlier is.1) is other q there' (has-not other q earlier f) in
+          let theirs : Came x (terms_shown other earlier) other q =
+          came class x earlier (none-out class earlier is.1) is other q there' (has-not other q earlier f) in
           absurd (apart (same-some key other (sym mine.source ∙ theirs.source)))
 
 pub runs_are_shared : RunsAreShared

@@ -49,7 +49,8 @@ record IsPendingAt (s : State) (key : Key) (reason : Reason) : Type 0 where
   pub chosen : chosen_at s service ≡ Pending reason
 
 told-by : (b : Bool) (s : State) (key : Key) (service : Service) (turn : Turn) (k : Key) (version : ℕ) (reason : Reason) → service_of s.held k ≡ Some service
-    → turn ≡ cond b (NoPut k (reason_in (chosen_at s service))) (Wants (record { key = k; version = version; holding = wanted_record service.holding (chosen_at s service) }) (reason_in (chosen_at s service)))
+    → turn ≡ cond b (NoPut k (reason_in (chosen_at s service)))
+    (Wants (record { key = k; version = version; holding = wanted_record service.holding (chosen_at s service) }) (reason_in (chosen_at s service)))
     → Tells turn key reason → IsPendingAt s key reason
 told-by true s key service turn k version reason found e tells =
     let t : (k ≡ key) × (reason_in (chosen_at s service) ≡ Some reason) = subst (λ (x : Turn). Tells x key reason) e tells in
@@ -58,13 +59,15 @@ told-by false s key service turn k version reason found e tells =
     let t : (k ≡ key) × (reason_in (chosen_at s service) ≡ Some reason) = subst (λ (x : Turn). Tells x key reason) e tells in
     record { service = service; found = subst (λ x. service_of s.held x ≡ Some service) t.0 found; chosen = pending-is (chosen_at s service) reason t.1 }
 
-told-at : (found : Option Service) (s : State) (key k : Key) (turn : Turn) (reason : Reason) → service_of s.held k ≡ found → turn ≡ turn_at s k found → Tells turn key reason → IsPendingAt s key reason
+told-at : (found : Option Service) (s : State) (key k : Key) (turn : Turn) (reason : Reason) → service_of s.held k ≡ found → turn ≡ turn_at s k found
+    → Tells turn key reason → IsPendingAt s key reason
 told-at None s key k turn reason f e tells =
     let t : (k ≡ key) × (None ≡ Some reason) = subst (λ (x : Turn). Tells x key reason) e tells in
     let no : None ≡ Some reason = t.1 in
     absurd (cc)
 told-at (Some service) s key k turn reason f e tells =
-    told-by (same_record (wanted_record service.holding (chosen_at s service)) service.holding) s key service turn k (version_at key_cmp s.held.services k) reason f e tells
+    told-by (same_record (wanted_record service.holding (chosen_at s service)) service.holding) s key service turn k (version_at key_cmp s.held.services k)
+    reason f e tells
 
 told-of : (s : State) (queue : List Key) (key : Key) (turn : Turn) (reason : Reason) → turn ≡ turn_of s queue → Tells turn key reason → IsPendingAt s key reason
 told-of s [] key turn reason e tells = absurd (subst (λ (x : Turn). Tells x key reason) e tells)
@@ -85,11 +88,13 @@ reasons_are_right class turn key reason earlier is tells =
       shown = d.right.shown;
       config = d.right.config;
       in_force = d.right.in_force;
-      chosen = subst (IsChosen (λ k. claims_shown k earlier) (offer_shown d.right.config (observed earlier) held.object) class held.object) (sym d.choice_is ∙ p.chosen) d.right.chosen;
+      chosen = subst (IsChosen (λ k. claims_shown k earlier) (offer_shown d.right.config (observed earlier) held.object) class held.object)
+          (sym d.choice_is ∙ p.chosen) d.right.chosen;
     }
 
 -- ---- notes
-note-compiled : (made : Result ConfigValue ConfigFault) (event : Event) (earlier : List Observation) → Compiles earlier (Watched event) → compiled (objects_after (Watched event) (cached earlier).objects) ≡ made
+note-compiled : (made : Result ConfigValue ConfigFault) (event : Event) (earlier : List Observation) → Compiles earlier (Watched event)
+    → compiled (objects_after (Watched event) (cached earlier).objects) ≡ made
     → IsRightNote (note_in made) event earlier
 note-compiled (Ok config) event earlier turn e =
     (config, record { compiles = turn; held = (cached (Watched event ∷ earlier)).objects; shown = objects-as_shown (Watched event ∷ earlier); accepted = e })
@@ -98,8 +103,10 @@ note-compiled (Err fault) event earlier turn e =
 
 note-by : (b : Bool) (event : Event) (earlier : List Observation) → event_compiles (cached earlier).objects (cached earlier).config_ended event ≡ b
     → IsRightNote (note_of b (objects_after (Watched event) (cached earlier).objects)) event earlier
-note-by true event earlier e = note-compiled (compiled (objects_after (Watched event) (cached earlier).objects)) event earlier ((compiles-is earlier (Watched event)).0 e) refl
-note-by false event earlier e = λ turn. let yes : event_compiles (cached earlier).objects (cached earlier).config_ended event ≡ true = (compiles-is earlier (Watched event)).1 turn in absurd (cc)
+note-by true event earlier e =
+    note-compiled (compiled (objects_after (Watched event) (cached earlier).objects)) event earlier ((compiles-is earlier (Watched event)).0 e) refl
+note-by false event earlier e = λ turn. let yes : event_compiles (cached earlier).objects (cached earlier).config_ended event ≡ true =
+    (compiles-is earlier (Watched event)).1 turn in absurd (cc)
 
 note-applied : (event : Event) (earlier : List Observation) → IsRightNote (applied (cached earlier) event).note event earlier
 note-applied event earlier = note-by (event_compiles (cached earlier).objects (cached earlier).config_ended event) event earlier refl
@@ -132,7 +139,8 @@ never-compiles (Members names) c e other earlier turn = turn
 never-compiles (Frame interface bytes) c e other earlier turn = turn
 never-compiles Ignored c e other earlier turn = turn
 
-note-of : (c : Effect) (s : State) (event : Event) (earlier : List Observation) → effect_of event ≡ c → s.held ≡ cached earlier → IsRightNote (note_by c s event) event earlier
+note-of : (c : Effect) (s : State) (event : Event) (earlier : List Observation) → effect_of event ≡ c → s.held ≡ cached earlier
+    → IsRightNote (note_by c s event) event earlier
 note-of Configures s event earlier e h = subst (λ (x : Cached). IsRightNote (applied x event).note event earlier) (sym h) (note-applied event earlier)
 note-of (Shows version service) s event earlier e h = never-compiles event (Shows version service) e (λ x. absurd (cc)) earlier
 note-of (Drops key) s event earlier e h = never-compiles event (Drops key) e (λ x. absurd (cc)) earlier
@@ -141,4 +149,5 @@ note-of Expires s event earlier e h = never-compiles event Expires e (λ x. absu
 note-of Nothing s event earlier e h = never-compiles event Nothing e (λ x. absurd (cc)) earlier
 
 pub notes_are_right : NotesAreRight
-notes_are_right class event earlier is = note-of (effect_of event) (core_after class earlier) event (observed earlier) refl (core_holds_what_was_observed class earlier is).0
+notes_are_right class event earlier is =
+    note-of (effect_of event) (core_after class earlier) event (observed earlier) refl (core_holds_what_was_observed class earlier is).0

@@ -32,7 +32,8 @@ use Rattle.core_laws.proofs.Shared.{terms-kept}
 some-wanted : (families : List Family) → families ≢ [] → ¬ (IsOneOfEach families [])
 some-wanted [] some each = absurd (some refl)
 some-wanted (f ∷ families) some each =
-    let counted : 0 ≡ length (cond (same_family f f) (f ∷ filter (λ (g : Family). same_family g f) families) (filter (λ (g : Family). same_family g f) families)) = each f in
+    let counted : 0 ≡ length
+    (cond (same_family f f) (f ∷ filter (λ (g : Family). same_family g f) families) (filter (λ (g : Family). same_family g f) families)) = each f in
     let more : 0 ≡ suc (length (filter (λ (g : Family). same_family g f) families)) = rw (same_family-itself f) at counted in
     absurd (cc)
 
@@ -83,10 +84,12 @@ module _ (has : Holders) (o : Offer) (q : Asker) (addresses : List AddressValue)
   behind : (c : Choice) (A B C : Type 0)
       → Case (AsksAddresses q × NoneIs (IsHome o q) o.pools) A
       (Case (AsksAddresses q × ((pool : CompiledPool) × IsFirst (IsHome o q) o.pools pool × ¬ (AllUsable has q pool (asked_in q.wanted)))) B
-      (Case (AsksAddresses q) ((pool : CompiledPool) × IsFirst (IsHome o q) o.pools pool × AllUsable has q pool (asked_in q.wanted) × (c ≡ New (record_in pool q (asked_in q.wanted)))) C))
+      (Case (AsksAddresses q) ((pool : CompiledPool) × IsFirst (IsHome o q) o.pools pool × AllUsable has q pool (asked_in q.wanted)
+      × (c ≡ New (record_in pool q (asked_in q.wanted)))) C))
       → Case (AsksAddresses with × NoneIs (IsHome o with) o.pools) A
       (Case (AsksAddresses with × ((pool : CompiledPool) × IsFirst (IsHome o with) o.pools pool × ¬ (AllUsable has with pool (asked_in with.wanted)))) B
-      (Case (AsksAddresses with) ((pool : CompiledPool) × IsFirst (IsHome o with) o.pools pool × AllUsable has with pool (asked_in with.wanted) × (c ≡ New (record_in pool with (asked_in with.wanted)))) C))
+      (Case (AsksAddresses with) ((pool : CompiledPool) × IsFirst (IsHome o with) o.pools pool × AllUsable has with pool (asked_in with.wanted)
+      × (c ≡ New (record_in pool with (asked_in with.wanted)))) C))
   behind c A B C rest =
       case-turned _ _ _ _ _ _
       (λ w. (w.0, none-fewer (IsHome o q) (IsHome o with) o.pools home-back w.1))
@@ -116,7 +119,8 @@ handled-parts class service e =
     let parts = and_parts service.balancer (same_class class service.class) e in
     (parts.0, (same_class-is class service.class).0 parts.1)
 
-pub not-foreign : (has : Holders) (o : Offer) (class : Option (List ℕ)) (service : Service) (q : Asker) → is_handled class service ≡ true → IsChosenFor has o class service q Foreign → ⊥
+pub not-foreign : (has : Holders) (o : Offer) (class : Option (List ℕ)) (service : Service) (q : Asker) → is_handled class service ≡ true
+    → IsChosenFor has o class service q Foreign → ⊥
 not-foreign has o class service q handled =
     case-has _ _ _ _ (λ one _. one.1 (handled-parts class service handled).1) (λ _.
     case-has _ _ _ _ (λ _ is. absurd (cc)) (λ _.
@@ -134,7 +138,8 @@ not-foreign has o class service q handled =
     given : (pools : List CompiledPool) (reason : Reason) → Gives has q pools reason Foreign → ⊥
     given pools reason gives = ⊎_elim (λ new. let is = new.2 in absurd (cc)) (λ full. let is = full.1 in absurd (cc)) gives
 
-pub not-cleared : (has : Holders) (o : Offer) (class : Option (List ℕ)) (service : Service) (q : Asker) → is_handled class service ≡ true → IsChosenFor has o class service q Clear → ⊥
+pub not-cleared : (has : Holders) (o : Offer) (class : Option (List ℕ)) (service : Service) (q : Asker) → is_handled class service ≡ true
+    → IsChosenFor has o class service q Clear → ⊥
 not-cleared has o class service q handled =
     case-has _ _ _ _ (λ _ is. absurd (cc)) (λ _.
     case-has _ _ _ _ (λ two _. true≢false (sym (handled-parts class service handled).0 ∙ two)) (λ _.
@@ -177,7 +182,8 @@ kept-none has o q some none found =
     all-not [] = tt
     all-not (pool ∷ pools) = (not-kept pool, all-not pools)
 
-module _ (class : Option (List ℕ)) (offer_for : Service → Offer) (has : Holders) (service : Service) (same : IgnoresRecords offer_for) (row : MeetsRow class offer_for has service)
+module _ (class : Option (List ℕ)) (offer_for : Service → Offer) (has : Holders) (service : Service) (same : IgnoresRecords offer_for)
+    (row : MeetsRow class offer_for has service)
     (handled : is_handled class service ≡ true) (some : service.families ≢ []) (empty : service.holding ≡ empty_record) where
   before-handled : is_handled class row.before ≡ true
   before-handled = sym (ap (is_handled class) row.only_record) ∙ handled
@@ -197,14 +203,18 @@ module _ (class : Option (List ℕ)) (offer_for : Service → Offer) (has : Hold
       let addresses = service.holding.addresses in
       let none : addresses ≡ [] = ap (λ (r : Record). r.addresses) empty in
       let by = asker-with row.before service.holding in
-      let turned = pending-turned has (offer_for row.before) (asker_of row.before) addresses (kept-none has (offer_for row.before) (record (asker_of row.before) { recorded = addresses }) before-some none) class row.before reason now in
+      let turned = pending-turned has (offer_for row.before) (asker_of row.before) addresses
+      (kept-none has (offer_for row.before) (record (asker_of row.before) { recorded = addresses }) before-some none) class row.before reason now in
       let asked = subst (λ q. IsChosenFor has (offer_for row.before) class row.before q (Pending reason)) (sym by) turned in
-      let offered = subst (λ o. IsChosenFor has o class row.before (asker_of (with_holding service.holding row.before)) (Pending reason)) (sym (same row.before service.holding)) asked in
+      let offered = subst (λ o. IsChosenFor has o class row.before (asker_of (with_holding service.holding row.before)) (Pending reason))
+      (sym (same row.before service.holding)) asked in
       subst (λ (s : Service). IsChosen has (offer_for s) class s (Pending reason)) (sym row.only_record) offered
 
   waits-by : (c : Choice) → row.choice ≡ c → (reason : Reason) × IsChosen has (offer_for service) class service (Pending reason)
-  waits-by Foreign e = absurd (not-foreign row.chosen_by (offer_for row.before) class row.before (asker_of row.before) before-handled (subst (IsChosen row.chosen_by (offer_for row.before) class row.before) e row.chosen))
-  waits-by Clear e = absurd (not-cleared row.chosen_by (offer_for row.before) class row.before (asker_of row.before) before-handled (subst (IsChosen row.chosen_by (offer_for row.before) class row.before) e row.chosen))
+  waits-by Foreign e = absurd (not-foreign row.chosen_by (offer_for row.before) class row.before (asker_of row.before) before-handled
+      (subst (IsChosen row.chosen_by (offer_for row.before) class row.before) e row.chosen))
+  waits-by Clear e = absurd (not-cleared row.chosen_by (offer_for row.before) class row.before (asker_of row.before) before-handled
+      (subst (IsChosen row.chosen_by (offer_for row.before) class row.before) e row.chosen))
   waits-by (Pending reason) e = (reason, pending-of reason e)
   waits-by (Keep holding) e = absurd (not-served holding (inl e) (row.holding_is ∙ ap (wanted_record row.before.holding) e))
   waits-by (New holding) e = absurd (not-served holding (inr e) (row.holding_is ∙ ap (wanted_record row.before.holding) e))

@@ -32,7 +32,8 @@ pub record IsRightDecision (class : Option (List ℕ)) (key : Key) (pending : Op
   pub config : ConfigValue
   pub in_force : IsInForce config (observed earlier)
   pub choice : Choice
-  pub chosen : IsChosen (λ k. claims_shown k earlier) (offer_at config.pools (labels_shown held.object.key.namespace (observed earlier)) held.object) class held.object choice
+  pub chosen : IsChosen (λ k. claims_shown k earlier) (offer_at config.pools (labels_shown held.object.key.namespace (observed earlier)) held.object) class
+      held.object choice
   pub reason_is : pending ≡ reason_in choice
 
 -- The put has the version last shown and the record that is wanted, which is another than the one that is held. A service of type LoadBalancer
@@ -68,4 +69,5 @@ pub record IsReadyBy (observations : List Observation) : Type 0 where
 
 -- no key is chosen for before both lists have ended
 abbrev pub TurnsAreReady : Type 0
-TurnsAreReady = (class : Option (List ℕ)) (turn : Turn) (earlier : List Entry) → IsRun class (Turned turn ∷ earlier) → turn ≢ Idle → IsReadyBy (observed earlier)
+TurnsAreReady = (class : Option (List ℕ)) (turn : Turn) (earlier : List Entry) → IsRun class (Turned turn ∷ earlier) → turn ≢ Idle
+    → IsReadyBy (observed earlier)

@@ -21,7 +21,8 @@ offer_shown config observations service = offer_at config.pools (labels_shown se
 -- Once both lists have ended and a configuration is in force, each held service that doesn't await a newer event meets its row.
 abbrev pub IsQuietAsShown : Option (List ℕ) → List Entry → Type 0
 IsQuietAsShown class run =
-    (ready : IsReadyBy (observed run)) (key : Key) (held : Versioned Service) → IsLastShown service_resource key held (observed run) → awaits_shown key run ≡ false
+    (ready : IsReadyBy (observed run)) (key : Key) (held : Versioned Service) → IsLastShown service_resource key held (observed run)
+    → awaits_shown key run ≡ false
     → MeetsRow class (offer_shown ready.config (observed run)) (λ k. claims_shown k run) held.object
 
 -- so it is whenever nothing is queued and no put is out

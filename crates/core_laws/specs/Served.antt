@@ -32,9 +32,11 @@ AreOffered o = (pool : CompiledPool) → Contains o.eligible pool → Contains o
 
 -- whatever record is chosen, to be kept or anew, serves
 abbrev pub ChosenIsServed : Type 0
-ChosenIsServed = (has : Holders) (o : Offer) (class : Option (List ℕ)) (service : Service) (r : Record) (c : Choice) → AreOffered o → IsFor r c → IsChosen has o class service c → IsServed has o (asker_of service) r
+ChosenIsServed = (has : Holders) (o : Offer) (class : Option (List ℕ)) (service : Service) (r : Record) (c : Choice) → AreOffered o → IsFor r c
+    → IsChosen has o class service c → IsServed has o (asker_of service) r
 
 -- so a row whose choice is a record has such a record
 abbrev pub RowsAreServed : Type 0
-RowsAreServed = (class : Option (List ℕ)) (held : Cached) (has : Holders) (service : Service) (row : MeetsRow class (offer_in held) has service) (r : Record) → IsFor r row.choice
+RowsAreServed = (class : Option (List ℕ)) (held : Cached) (has : Holders) (service : Service) (row : MeetsRow class (offer_in held) has service) (r : Record)
+    → IsFor r row.choice
     → IsServed row.chosen_by (offer_in held row.before) (asker_of row.before) service.holding

@@ -35,7 +35,8 @@ awaits_shown key (Heard reply ∷ earlier) = awaits_heard key (put_out earlier) 
 
 -- the keys that the core keeps as awaiting are those
 abbrev pub AwaitingIsShown : Type 0
-AwaitingIsShown = (class : Option (List ℕ)) (run : List Entry) → IsRun class run → (key : Key) → has_key (core_after class run).awaiting key ≡ awaits_shown key run
+AwaitingIsShown =
+    (class : Option (List ℕ)) (run : List Entry) → IsRun class run → (key : Key) → has_key (core_after class run).awaiting key ≡ awaits_shown key run
 
 abbrev pub is_turn_of : Turn → Key → Bool
 is_turn_of Idle key = false
@@ -44,4 +45,5 @@ is_turn_of (Wants put pending) key = same_key put.key key
 
 -- no key is chosen for while it awaits a newer event
 abbrev pub TurnsAreOfFreeKeys : Type 0
-TurnsAreOfFreeKeys = (class : Option (List ℕ)) (turn : Turn) (earlier : List Entry) → IsRun class (Turned turn ∷ earlier) → (key : Key) → is_turn_of turn key ≡ true → awaits_shown key earlier ≡ false
+TurnsAreOfFreeKeys = (class : Option (List ℕ)) (turn : Turn) (earlier : List Entry) → IsRun class (Turned turn ∷ earlier) → (key : Key)
+    → is_turn_of turn key ≡ true → awaits_shown key earlier ≡ false

@@ -52,7 +52,8 @@ more claims key r adopted all c there =
 settles : (claims : List ClaimValue) (key : Key) (r : Record) (adopted : Terms) → AllByMark claims → AllByMark (settled key r (terms_under r adopted) claims)
 settles claims key r adopted all = more (others key claims) key r adopted (filtered (λ x. not (same_key x.key key)) claims all)
 
-doubts_by : (b : Bool) (claims : List ClaimValue) (key : Key) (r : Record) (adopted : Terms) → AllByMark claims → AllByMark (cond b claims (claims ++ claim_of key r (terms_under r adopted)))
+doubts_by : (b : Bool) (claims : List ClaimValue) (key : Key) (r : Record) (adopted : Terms) → AllByMark claims
+    → AllByMark (cond b claims (claims ++ claim_of key r (terms_under r adopted)))
 doubts_by true claims key r adopted all = all
 doubts_by false claims key r adopted all = more claims key r adopted all
 
@@ -62,7 +63,8 @@ either false xs ys all rest = rest
 
 took : (s : State) → AllByMark s.claims → (event : Event) → AllByMark (core_take s event).claims
 took s all = by_effect (λ event c. AllByMark (core_by c s event).claims)
-    (λ version service. either (is_newer key_cmp s.held.services service.key version) (settled service.key service.holding (shown_terms service) s.claims) s.claims
+    (λ version service.
+    either (is_newer key_cmp s.held.services service.key version) (settled service.key service.holding (shown_terms service) s.claims) s.claims
     (settles s.claims service.key service.holding (terms_of service) all) all)
     (λ key. filtered (λ x. not (same_key x.key key)) s.claims all)
     (filtered (λ x. not (is_unlisted (core_take s (ListEnd groups.Service)).held.services x.key)) s.claims all)
@@ -75,7 +77,8 @@ heard None reply s all = all
 heard (Some put) (StoredReply version) s all = settles s.claims put.key put.holding (terms_in s.held put.key) all
 heard (Some put) Stale s all = all
 heard (Some put) Missing s all = all
-heard (Some put) Unknown s all = doubts_by (claims_it put.key put.holding (put_terms s.held put) s.claims) s.claims put.key put.holding (terms_in s.held put.key) all
+heard (Some put) Unknown s all =
+    doubts_by (claims_it put.key put.holding (put_terms s.held put) s.claims) s.claims put.key put.holding (terms_in s.held put.key) all
 
 pub claims_are_by_mark : ClaimsAreByMark
 claims_are_by_mark class [] = λ c there. absurd (contains-none c there)

@@ -1,5 +1,6 @@
 -- The claims of each key are those that the look back shows.
-use Rattle.std.proofs.Common.{◌≡◌, ℕ, Bool, true, false, cond, eqb, leb, ◌&&◌, not, List, [], ◌∷◌, Option, Some, None, option_map, filter, refl, sym, ap, subst, ◌∙◌}
+use Rattle.std.proofs.Common.{◌≡◌, ℕ, Bool, true, false, cond, eqb, leb, ◌&&◌, not, List, [], ◌∷◌, Option}
+use Rattle.std.proofs.Common.{Some, None, option_map, filter, refl, sym, ap, subst, ◌∙◌}
 use Rattle.std.specs.Option.{option_map_or}
 use Rattle.kube_model.specs.declared.event.Event.{Event}
 use Rattle.kube_model.specs.declared.event.Event.TheVariants.{ListEnd}
@@ -26,25 +27,29 @@ use Rattle.claim_index.proofs.ClaimLaws.{claims_of-settled, claims_of-doubted, c
 use Rattle.core_rules.specs.Core.{State, no_terms, terms_in, shown_terms}
 use Rattle.core_rules.specs.Take.{effect_of, core_by, core_take, is_unlisted}
 use Rattle.core_rules.specs.Replied.{put_terms, replied_to}
-use Rattle.core_rules.specs.Run.{Entry, Took, Expired, Turned, Heard, core_after, IsRun, observed, version_shown, terms_shown, claims_told, claims_heard, claims_shown, ClaimsAreShown}
+use Rattle.core_rules.specs.Run.{Entry, Took, Expired, Turned, Heard, core_after, IsRun, observed, version_shown}
+use Rattle.core_rules.specs.Run.{terms_shown, claims_told, claims_heard, claims_shown, ClaimsAreShown}
 use Rattle.core_rules.proofs.Effects.{by_effect}
 use Rattle.core_rules.proofs.Runs.{core_holds_what_was_observed}
 
 -- what is held of a key, and at which version
-pub shown-held : (class : Option (List ℕ)) (run : List Entry) → IsRun class run → (key : Key) → held_at key_cmp (core_after class run).held.services key ≡ last_shown service_resource key (observed run)
+pub shown-held : (class : Option (List ℕ)) (run : List Entry) → IsRun class run → (key : Key)
+    → held_at key_cmp (core_after class run).held.services key ≡ last_shown service_resource key (observed run)
 shown-held class run is key =
     ap (λ (h : Cached). held_at key_cmp h.services key) (core_holds_what_was_observed class run is).0
     ∙ ap (λ (es : List (Key × Versioned Service)). held_at key_cmp es key) (services-held (observed run))
     ∙ held_at-held_of service_resource key_cmp-total key_cmp-exact (observed run) key
 
-pub version-held : (class : Option (List ℕ)) (run : List Entry) → IsRun class run → (key : Key) → version_at key_cmp (core_after class run).held.services key ≡ version_shown key run
+pub version-held : (class : Option (List ℕ)) (run : List Entry) → IsRun class run → (key : Key)
+    → version_at key_cmp (core_after class run).held.services key ≡ version_shown key run
 version-held class run is key = ap (λ (h : Option (Versioned Service)). option_map_or (λ (v : Versioned Service). v.version) h 0) (shown-held class run is key)
 
 either_same : (b : Bool) (rs : List ClaimValue) → rs ≡ cond b rs rs
 either_same true rs = refl
 either_same false rs = refl
 
-kept_by : (x y z : Bool) (c : ClaimValue) (key : Key) (cs rest : List ClaimValue) → y ≡ same_key c.key key → (y ≡ true → x ≡ z) → claims_of key rest ≡ cond z [] (claims_of key cs)
+kept_by : (x y z : Bool) (c : ClaimValue) (key : Key) (cs rest : List ClaimValue) → y ≡ same_key c.key key → (y ≡ true → x ≡ z)
+    → claims_of key rest ≡ cond z [] (claims_of key cs)
     → claims_of key (cond (not x) (c ∷ rest) rest) ≡ cond z [] (cond y (c ∷ claims_of key cs) (claims_of key cs))
 kept_by true true z c key cs rest s same ih = rw ih (rw (← same refl) refl)
 kept_by true false z c key cs rest s same ih = ih
@@ -54,22 +59,27 @@ kept_by false true z c key cs rest s same ih =
 kept_by false false z c key cs rest s same ih = rw (← s) ih
 
 -- the claims of some keys go
-pub claims_of-kept : (test : Key → Bool) (cs : List ClaimValue) (key : Key) → claims_of key (filter (λ (c : ClaimValue). not (test c.key)) cs) ≡ cond (test key) [] (claims_of key cs)
+pub claims_of-kept : (test : Key → Bool) (cs : List ClaimValue) (key : Key)
+    → claims_of key (filter (λ (c : ClaimValue). not (test c.key)) cs) ≡ cond (test key) [] (claims_of key cs)
 claims_of-kept test [] key = either_same (test key) []
 claims_of-kept test (c ∷ cs) key =
-    kept_by (test c.key) (same_key c.key key) (test key) c key cs (filter (λ (c : ClaimValue). not (test c.key)) cs) refl (λ s. ap test (same_key-is c.key key s)) (claims_of-kept test cs key)
+    kept_by (test c.key) (same_key c.key key) (test key) c key cs (filter (λ (c : ClaimValue). not (test c.key)) cs) refl
+    (λ s. ap test (same_key-is c.key key s)) (claims_of-kept test cs key)
 
 ended_by : (b : Bool) (h : Versioned Service) → b ≡ eqb h.version 0 → eqb (version_of service_resource h.object.key (cond b None (Some h))) 0 ≡ b
 ended_by true h e = refl
 ended_by false h e = sym e
 
 -- at the end of the list, what is held at version 0 is dropped
-pub ended-version : (key : Key) (found : Option (Versioned Service)) → eqb (version_of service_resource key (seen_after service_resource key (Watched (ListEnd groups.Service)) found)) 0 ≡ eqb (version_of service_resource key found) 0
+pub ended-version : (key : Key) (found : Option (Versioned Service))
+    → eqb (version_of service_resource key (seen_after service_resource key (Watched (ListEnd groups.Service)) found)) 0
+    ≡ eqb (version_of service_resource key found) 0
 ended-version key None = refl
 ended-version key (Some h) = ended_by (eqb h.version 0) h refl
 
 shown_by : (same newer late : Bool) (key k : Key) (holding : Record) (terms : Terms) (claims before : List ClaimValue)
-    → claims_of key (settled k holding terms claims) ≡ cond same (claim_of k holding terms) (claims_of key claims) → claims_of key claims ≡ before → (same ≡ true → newer ≡ late)
+    → claims_of key (settled k holding terms claims) ≡ cond same (claim_of k holding terms) (claims_of key claims) → claims_of key claims ≡ before
+    → (same ≡ true → newer ≡ late)
     → claims_of key (cond newer (settled k holding terms claims) claims) ≡ cond (same && late) (claim_of k holding terms) before
 shown_by true true late key k holding terms claims before e a s = rw (← s refl) e
 shown_by true false late key k holding terms claims before e a s = rw (← s refl) a
@@ -80,7 +90,8 @@ took-claims : (s : State) (key : Key) (v : ℕ) (before : List ClaimValue) → v
     → is_unlisted (core_take s (ListEnd groups.Service)).held.services key ≡ eqb v 0
     → (event : Event) → claims_of key (core_take s event).claims ≡ claims_told key (effect_of event) v before
 took-claims s key v before version a ends = by_effect (λ event c. claims_of key (core_by c s event).claims ≡ claims_told key c v before)
-    (λ at service. shown_by (same_key service.key key) (not (leb at (version_at key_cmp s.held.services service.key))) (not (leb at v)) key service.key service.holding (shown_terms service) s.claims before
+    (λ at service. shown_by (same_key service.key key) (not (leb at (version_at key_cmp s.held.services service.key))) (not (leb at v)) key service.key
+    service.holding (shown_terms service) s.claims before
     (claims_of-settled s.claims service.key key service.holding (shown_terms service)) a
     (λ same. ap (λ n. not (leb at n)) (ap (version_at key_cmp s.held.services) (same_key-is service.key key same) ∙ version)))
     (λ gone. claims_of-others s.claims gone key ∙ ap (λ (rs : List ClaimValue). cond (same_key gone key) [] rs) a)
@@ -90,7 +101,8 @@ took-claims s key v before version a ends = by_effect (λ event c. claims_of key
     a
     (λ event. a)
 
-terms-within : (found : Option (Versioned Service)) → option_map_or terms_of (option_map (λ (h : Versioned Service). h.object) found) no_terms ≡ option_map_or (λ (h : Versioned Service). terms_of h.object) found no_terms
+terms-within : (found : Option (Versioned Service)) → option_map_or terms_of (option_map (λ (h : Versioned Service). h.object) found) no_terms
+    ≡ option_map_or (λ (h : Versioned Service). terms_of h.object) found no_terms
 terms-within None = refl
 terms-within (Some h) = refl
 
@@ -101,12 +113,14 @@ terms-held class run is key =
     ∙ ap (λ (h : Option (Versioned Service)). option_map_or (λ (v : Versioned Service). terms_of v.object) h no_terms) (shown-held class run is key)
 
 -- the same for the key of a put, where it is the key
-put_by : (b : Bool) (put : Put) (key : Key) (s : State) (adopted : Terms) (more : Terms → List ClaimValue) (rest : List ClaimValue) → same_key put.key key ≡ b → terms_in s.held key ≡ adopted
+put_by : (b : Bool) (put : Put) (key : Key) (s : State) (adopted : Terms) (more : Terms → List ClaimValue) (rest : List ClaimValue) → same_key put.key key ≡ b
+    → terms_in s.held key ≡ adopted
     → cond b (more (put_terms s.held put)) rest ≡ cond b (more (terms_under put.holding adopted)) rest
 put_by true put key s adopted more rest same e = ap (λ (t : Terms). more (terms_under put.holding t)) (ap (terms_in s.held) (same_key-is put.key key same) ∙ e)
 put_by false put key s adopted more rest same e = refl
 
-heard-claims : (out : Option Put) (reply : PutReply) (s : State) (key : Key) (adopted : Terms) (before : List ClaimValue) → terms_in s.held key ≡ adopted → claims_of key s.claims ≡ before
+heard-claims : (out : Option Put) (reply : PutReply) (s : State) (key : Key) (adopted : Terms) (before : List ClaimValue) → terms_in s.held key ≡ adopted
+    → claims_of key s.claims ≡ before
     → claims_of key (replied_to out s reply).claims ≡ claims_heard key out reply adopted before
 heard-claims None reply s key adopted before e a = a
 heard-claims (Some put) (StoredReply version) s key adopted before e a =
@@ -123,12 +137,16 @@ heard-claims (Some put) Unknown s key adopted before e a =
 pub claims_are_shown : ClaimsAreShown
 claims_are_shown class [] is key = refl
 claims_are_shown class (Took event ∷ earlier) is key =
-    took-claims (core_after class earlier) key (version_shown key earlier) (claims_shown key earlier) (version-held class earlier is.1 key) (claims_are_shown class earlier is.1 key)
-    (ap (λ n. eqb n 0) (version-held class (Took (ListEnd groups.Service) ∷ earlier) (is.0, is.1) key) ∙ ended-version key (last_shown service_resource key (observed earlier)))
+    took-claims (core_after class earlier) key (version_shown key earlier) (claims_shown key earlier) (version-held class earlier is.1 key)
+    (claims_are_shown class earlier is.1 key)
+    (ap (λ n. eqb n 0) (version-held class (Took (ListEnd groups.Service) ∷ earlier) (is.0, is.1) key)
+    ∙ ended-version key (last_shown service_resource key (observed earlier)))
     event
 claims_are_shown class (Expired group ∷ earlier) is key = claims_are_shown class earlier is.1 key
 claims_are_shown class (Turned turn ∷ earlier) is key = claims_are_shown class earlier is.1 key
 claims_are_shown class (Heard reply ∷ earlier) is key =
-    subst (λ out. claims_of key (replied_to (core_after class earlier).out (core_after class earlier) reply).claims ≡ claims_heard key out reply (terms_shown key earlier) (claims_shown key earlier))
+    subst (λ out. claims_of key (replied_to (core_after class earlier).out (core_after class earlier) reply).claims
+    ≡ claims_heard key out reply (terms_shown key earlier) (claims_shown key earlier))
     (core_holds_what_was_observed class earlier is.1).1
-    (heard-claims (core_after class earlier).out reply (core_after class earlier) key (terms_shown key earlier) (claims_shown key earlier) (terms-held class earlier is.1 key) (claims_are_shown class earlier is.1 key))
+    (heard-claims (core_after class earlier).out reply (core_after class earlier) key (terms_shown key earlier) (claims_shown key earlier)
+    (terms-held class earlier is.1 key) (claims_are_shown class earlier is.1 key))

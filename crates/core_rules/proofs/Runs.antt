@@ -16,7 +16,8 @@ use Rattle.core_rules.specs.Replied.{replied_to}
 use Rattle.core_rules.specs.Run.{Took, Expired, Turned, Heard, core_after, told_by, heard_by, observed, HoldsWhatWasObserved}
 use Rattle.core_rules.proofs.Effects.{by_effect}
 
-took-held : (s : State) (earlier : List Observation) → s.held ≡ cached earlier → (event : Event) → (core_take s event).held ≡ cached (told_by (effect_of event) event earlier)
+took-held : (s : State) (earlier : List Observation) → s.held ≡ cached earlier → (event : Event)
+    → (core_take s event).held ≡ cached (told_by (effect_of event) event earlier)
 took-held s earlier e = by_effect (λ event c. (core_by c s event).held ≡ cached (told_by c event earlier))
     (λ version service. ap (cached_after (Watched (shows version service))) e)
     (λ key. ap (cached_after (Watched (Deleted kinds.Service key))) e)
@@ -28,7 +29,8 @@ took-held s earlier e = by_effect (λ event c. (core_by c s event).held ≡ cach
 pub took-out : (s : State) (event : Event) → (core_take s event).out ≡ s.out
 took-out s = by_effect (λ event c. (core_by c s event).out ≡ s.out) (λ version service. refl) (λ key. refl) refl (λ event c. refl) refl (λ event. refl)
 
-heard-held : (out : Option Put) (reply : PutReply) (s : State) (earlier : List Observation) → s.held ≡ cached earlier → (replied_to out s reply).held ≡ cached (heard_by out reply earlier)
+heard-held : (out : Option Put) (reply : PutReply) (s : State) (earlier : List Observation) → s.held ≡ cached earlier
+    → (replied_to out s reply).held ≡ cached (heard_by out reply earlier)
 heard-held None reply s earlier e = e
 heard-held (Some put) (StoredReply version) s earlier e = ap (cached_after (Written put.key version put.holding)) e
 heard-held (Some put) Stale s earlier e = e

@@ -105,7 +105,8 @@ claims_told key Expires shown before = before
 claims_told key Nothing shown before = before
 
 abbrev pub claims_replied : Key → Put → PutReply → Terms → List ClaimValue → List ClaimValue
-claims_replied key put (StoredReply version) adopted before = if same_key put.key key then claim_of put.key put.holding (terms_under put.holding adopted) else before
+claims_replied key put (StoredReply version) adopted before =
+    if same_key put.key key then claim_of put.key put.holding (terms_under put.holding adopted) else before
 claims_replied key put Stale adopted before = before
 claims_replied key put Missing adopted before = before
 claims_replied key put Unknown adopted before = if same_key put.key key then added put.key put.holding (terms_under put.holding adopted) before else before

@@ -89,7 +89,8 @@ with_service s version service =
       held = cached_after (Watched (shows version service)) s.held;
       claims = if newer then settled service.key service.holding (shown_terms service) s.claims else s.claims;
       awaiting = if newer then without service.key s.awaiting else s.awaiting;
-      queue = if newer then s.queue ++ own_and_waiting (is_ready s.held) (loses service.key service.holding (shown_terms service) s.claims) s service.key else s.queue;
+      queue = if newer then s.queue ++ own_and_waiting (is_ready s.held) (loses service.key service.holding (shown_terms service) s.claims) s service.key
+          else s.queue;
     }
 
 -- the service is dropped with its claims, its place in the queue and its awaiting

@@ -29,16 +29,19 @@ module _ (keep : Key → Bool) (test : Key → Service → Bool) where
   KeepsPassing [] = ⊤
   KeepsPassing (e ∷ es) = (test e.0 e.1.object ≡ true → keep e.0 ≡ true) × KeepsPassing es
 
-  kept-by : (b : Bool) (e : Key × Versioned Service) (es : List (Key × Versioned Service)) → b ≡ test e.0 e.1.object → (test e.0 e.1.object ≡ true → keep e.0 ≡ true)
+  kept-by : (b : Bool) (e : Key × Versioned Service) (es : List (Key × Versioned Service)) → b ≡ test e.0 e.1.object
+      → (test e.0 e.1.object ≡ true → keep e.0 ≡ true)
       → filter keep (passing test es) ≡ passing test es
       → passing test (e ∷ es) ≡ cond b (e.0 ∷ passing test es) (passing test es)
       → filter keep (passing test (e ∷ es)) ≡ passing test (e ∷ es)
   kept-by true e es b keeps ih is =
       let here : keep e.0 ≡ true = keeps (sym b) in
-      ap (filter keep) is ∙ ap (λ c. cond c (e.0 ∷ filter keep (passing test es)) (filter keep (passing test es))) here ∙ ap (λ (ks : List Key). e.0 ∷ ks) ih ∙ sym is
+      ap (filter keep) is ∙ ap (λ c. cond c (e.0 ∷ filter keep (passing test es)) (filter keep (passing test es))) here ∙ ap (λ (ks : List Key). e.0 ∷ ks) ih
+      ∙ sym is
   kept-by false e es b keeps ih is = ap (filter keep) is ∙ ih ∙ sym is
 
-  passing-by : (b : Bool) (e : Key × Versioned Service) (es : List (Key × Versioned Service)) → b ≡ test e.0 e.1.object → passing test (e ∷ es) ≡ cond b (e.0 ∷ passing test es) (passing test es)
+  passing-by : (b : Bool) (e : Key × Versioned Service) (es : List (Key × Versioned Service)) → b ≡ test e.0 e.1.object
+      → passing test (e ∷ es) ≡ cond b (e.0 ∷ passing test es) (passing test es)
   passing-by true e es b = rw (← b) refl
   passing-by false e es b = rw (← b) refl
 
@@ -58,7 +61,8 @@ others-kept : (class : Option (List ℕ)) (gone : Key) (queue awaiting : List Ke
     → without gone (passing (waits class (same_key gone) queue awaiting) es) ≡ passing (waits class (same_key gone) queue awaiting) es
 others-kept class gone queue awaiting es =
     all-kept (λ k. not (same_key k gone)) (waits class (same_key gone) queue awaiting) es
-    (keeps-each (λ k. not (same_key k gone)) (waits class (same_key gone) queue awaiting) (λ key service e. ap not (same_key-flip key gone) ∙ untold (same_key gone key) _ e) es)
+    (keeps-each (λ k. not (same_key k gone)) (waits class (same_key gone) queue awaiting)
+    (λ key service e. ap not (same_key-flip key gone) ∙ untold (same_key gone key) _ e) es)
 
 waiting-kept : (lost : Bool) (class : Option (List ℕ)) (gone : Key) (queue awaiting : List Key) (es : List (Key × Versioned Service))
     → without gone (waiting lost class (same_key gone) queue awaiting es) ≡ waiting lost class (same_key gone) queue awaiting es
@@ -77,7 +81,8 @@ abbrev AreAllListed : List (Key × Versioned Service) → Type 0
 AreAllListed [] = ⊤
 AreAllListed (e ∷ es) = (is_listed e ≡ true) × AreAllListed es
 
-listed-by : (b : Bool) (e : Key × Versioned Service) (es : List (Key × Versioned Service)) → b ≡ is_listed e → AreAllListed es → AreAllListed (cond b (e ∷ es) es)
+listed-by : (b : Bool) (e : Key × Versioned Service) (es : List (Key × Versioned Service)) → b ≡ is_listed e → AreAllListed es
+    → AreAllListed (cond b (e ∷ es) es)
 listed-by true e es b all = (sym b, all)
 listed-by false e es b all = all
 
@@ -100,14 +105,16 @@ some-first true v found there = refl
 some-first false v found there = there
 
 module _ (services : List (Key × Versioned Service)) (test : Key → Service → Bool) where
-  keeps-held : (es : List (Key × Versioned Service)) → ((key : Key) → is_some (held_at key_cmp es key) ≡ true → not (is_unlisted services key) ≡ true) → KeepsPassing (λ k. not (is_unlisted services k)) test es
+  keeps-held : (es : List (Key × Versioned Service)) → ((key : Key) → is_some (held_at key_cmp es key) ≡ true → not (is_unlisted services key) ≡ true)
+      → KeepsPassing (λ k. not (is_unlisted services k)) test es
   keeps-held [] all = tt
   keeps-held (e ∷ es) all = (
     λ _. all e.0 (ap (λ r. is_some (cond (is_eq r) (Some e.1) (held_at key_cmp es e.0))) (tied_itself key_cmp-total e.0)),
     keeps-held es (λ key there. all key (some-first (is_at (key_cmp key) e.0) e.1 (held_at key_cmp es key) there)),
   )
 
-passing-listed : (test : Key → Service → Bool) (es : List (Key × Versioned Service)) → listed_keys (listed es) (passing test (listed es)) ≡ passing test (listed es)
+passing-listed : (test : Key → Service → Bool) (es : List (Key × Versioned Service))
+    → listed_keys (listed es) (passing test (listed es)) ≡ passing test (listed es)
 passing-listed test es =
     all-kept (λ k. not (is_unlisted (listed es) k)) test (listed es) (keeps-held (listed es) test (listed es) (held-listed (listed es) (all-listed es)))
 
@@ -116,10 +123,13 @@ waiting-listed : (lost : Bool) (class : Option (List ℕ)) (queue awaiting : Lis
 waiting-listed true class queue awaiting es = passing-listed (waits class no_key queue awaiting) es
 waiting-listed false class queue awaiting es = refl
 
-free-listed : (queue awaiting : List Key) (es : List (Key × Versioned Service)) → listed_keys (listed es) (all_free queue awaiting (listed es)) ≡ all_free queue awaiting (listed es)
+free-listed : (queue awaiting : List Key) (es : List (Key × Versioned Service))
+    → listed_keys (listed es) (all_free queue awaiting (listed es)) ≡ all_free queue awaiting (listed es)
 free-listed queue awaiting es =
-    filter-append (λ k. not (is_unlisted (listed es) k)) (passing (is_free_with queue awaiting true) (listed es)) (passing (is_free_with queue awaiting false) (listed es))
-    ∙ ap (λ (ks : List Key). ks ++ listed_keys (listed es) (passing (is_free_with queue awaiting false) (listed es))) (passing-listed (is_free_with queue awaiting true) es)
+    filter-append (λ k. not (is_unlisted (listed es) k)) (passing (is_free_with queue awaiting true) (listed es))
+    (passing (is_free_with queue awaiting false) (listed es))
+    ∙ ap (λ (ks : List Key). ks ++ listed_keys (listed es) (passing (is_free_with queue awaiting false) (listed es)))
+    (passing-listed (is_free_with queue awaiting true) es)
     ∙ ap (λ (ks : List Key). passing (is_free_with queue awaiting true) (listed es) ++ ks) (passing-listed (is_free_with queue awaiting false) es)
 
 more-listed : (was now lost : Bool) (s : State) → listed_keys (listed s.held.services) (listed_and_free was now lost s) ≡ listed_and_free was now lost s
@@ -129,7 +139,8 @@ more-listed false true lost s = free-listed s.queue s.awaiting s.held.services
 
 -- those that are queued then were listed
 pub listed-queued : (was now lost : Bool) (s : State)
-    → listed_keys (listed s.held.services) (s.queue ++ listed_and_free was now lost s) ≡ listed_keys (listed s.held.services) s.queue ++ listed_and_free was now lost s
+    → listed_keys (listed s.held.services) (s.queue ++ listed_and_free was now lost s)
+    ≡ listed_keys (listed s.held.services) s.queue ++ listed_and_free was now lost s
 listed-queued was now lost s =
     filter-append (λ k. not (is_unlisted (listed s.held.services) k)) s.queue (listed_and_free was now lost s)
     ∙ ap (λ (ks : List Key). listed_keys (listed s.held.services) s.queue ++ ks) (more-listed was now lost s)
@@ -142,7 +153,12 @@ pub service-dropped : (s : State) (key : Key) (held : Cached) (more queued queue
     → record s { held = held; claims = claims; awaiting = awaiting; queue = queue } ≡ without_service s key
 service-dropped s key held more queued queue awaiting claims more_is held_is queued_is claims_is awaiting_is queue_is =
     rw (claims_is, awaiting_is, queue_is, queued_is, held_is, more_is)
-    (ap (λ (ks : List Key). record s { held = cached_after (Watched (Deleted kinds.Service key)) s.held; claims = others key s.claims; awaiting = without key s.awaiting; queue = ks })
+    (ap (λ (ks : List Key). record s {
+      held = cached_after (Watched (Deleted kinds.Service key)) s.held;
+      claims = others key s.claims;
+      awaiting = without key s.awaiting;
+      queue = ks;
+    })
     (without-queued (is_ready s.held && has_claims key s.claims) s.class key s.queue s.awaiting s.held.services))
 
 pub services-listed : (s : State) (held : Cached) (more queued queue awaiting : List Key) (claims : List ClaimValue)
@@ -152,5 +168,10 @@ pub services-listed : (s : State) (held : Cached) (more queued queue awaiting : 
     → record s { held = held; claims = claims; awaiting = awaiting; queue = queue } ≡ with_services_listed s
 services-listed s held more queued queue awaiting claims more_is held_is queued_is claims_is awaiting_is queue_is =
     rw (claims_is, awaiting_is, queue_is, queued_is, held_is, more_is)
-    (ap (λ (ks : List Key). record s { held = cached_after (Watched (ListEnd groups.Service)) s.held; claims = listed_claims (listed s.held.services) s.claims; awaiting = listed_keys (listed s.held.services) s.awaiting; queue = ks })
+    (ap (λ (ks : List Key). record s {
+      held = cached_after (Watched (ListEnd groups.Service)) s.held;
+      claims = listed_claims (listed s.held.services) s.claims;
+      awaiting = listed_keys (listed s.held.services) s.awaiting;
+      queue = ks;
+    })
     (listed-queued (is_ready s.held) (s.held.config_ended && is_some s.held.config) (have_claims s.held.services s.claims) s))

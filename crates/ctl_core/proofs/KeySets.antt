@@ -7,7 +7,8 @@ use Rattle.kube_model.proofs.KeyLaws.{is_eq-key_cmp, same_key-is, same_key-flip}
 use Rattle.ctl_core.proofs.KeyLists.{has-at}
 
 -- ---- the keys of a list that pass
-filter-by : (passes same : Bool) (test : Key → Bool) (k key : Key) (keys less : List Key) → passes ≡ test k → same ≡ same_key k key → has_key less key ≡ (test key && has_key keys key)
+filter-by : (passes same : Bool) (test : Key → Bool) (k key : Key) (keys less : List Key) → passes ≡ test k → same ≡ same_key k key
+    → has_key less key ≡ (test key && has_key keys key)
     → has_key (cond passes (k ∷ less) less) key ≡ (test key && (same || has_key keys key))
 filter-by true true test k key keys less p s rest =
     let here : test key ≡ true = sym (p ∙ ap test (same_key-is k key (sym s))) in
@@ -38,14 +39,17 @@ removed-by false there = refl
 module _ (old new : BTreeSet Key) (key k : Key) where
   -- a key was inserted
   pub contains-added : UpdatesBy key_cmp (key_cmp key) old new true → contains key_cmp new k ≡ (same_key key k || contains key_cmp old k)
-  contains-added updates = updates.0 k ∙ ap (λ b. cond b true (contains key_cmp old k)) (is_eq-key_cmp key k) ∙ added-by (same_key key k) (contains key_cmp old k)
+  contains-added updates =
+      updates.0 k ∙ ap (λ b. cond b true (contains key_cmp old k)) (is_eq-key_cmp key k) ∙ added-by (same_key key k) (contains key_cmp old k)
 
   -- a key was removed
   pub contains-removed : UpdatesBy key_cmp (key_cmp key) old new false → contains key_cmp new k ≡ (not (same_key key k) && contains key_cmp old k)
-  contains-removed updates = updates.0 k ∙ ap (λ b. cond b false (contains key_cmp old k)) (is_eq-key_cmp key k) ∙ removed-by (same_key key k) (contains key_cmp old k)
+  contains-removed updates =
+      updates.0 k ∙ ap (λ b. cond b false (contains key_cmp old k)) (is_eq-key_cmp key k) ∙ removed-by (same_key key k) (contains key_cmp old k)
 
 -- those that pass were kept
-pub contains-kept : (test : Key → Bool) (old new : BTreeSet Key) → new.keys ≡ filter test old.keys → (k : Key) → contains key_cmp new k ≡ (test k && contains key_cmp old k)
+pub contains-kept : (test : Key → Bool) (old new : BTreeSet Key) → new.keys ≡ filter test old.keys → (k : Key)
+    → contains key_cmp new k ≡ (test k && contains key_cmp old k)
 contains-kept test old new is k =
     has-at new.keys k ∙ ap (λ (keys : List Key). has_key keys k) is ∙ has_key-filter test old.keys k ∙ ap (λ b. test k && b) (sym (has-at old.keys k))
 

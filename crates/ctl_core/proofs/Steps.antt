@@ -13,14 +13,17 @@ use Rattle.ctl_core.specs.declared.take.Prepared.{Prepared}
 use Rattle.ctl_core.specs.Holding.{IsPrepared, held_service}
 
 -- one that isn't is passed over
-pub passed-over : (s : State) (version : ℕ) (service : Service) → leb version (version_at key_cmp s.held.services service.key) ≡ true → s ≡ with_service s version service
+pub passed-over : (s : State) (version : ℕ) (service : Service) → leb version (version_at key_cmp s.held.services service.key) ≡ true
+    → s ≡ with_service s version service
 passed-over s version service old = rw old refl
 
-pub held-newer : (s : State) (version : ℕ) (service : Service) → leb version (version_at key_cmp s.held.services service.key) ≡ false → held_service s version service ≡ with_service s version service
+pub held-newer : (s : State) (version : ℕ) (service : Service) → leb version (version_at key_cmp s.held.services service.key) ≡ false
+    → held_service s version service ≡ with_service s version service
 held-newer s version service old = rw old refl
 
 -- what was prepared was done
-pub prepared-held : (s : State) (version : ℕ) (service : Service) (p : Prepared) (held : Cached) (queue awaiting : List Key) (claims : List ClaimValue) → IsPrepared s service p
+pub prepared-held : (s : State) (version : ℕ) (service : Service) (p : Prepared) (held : Cached) (queue awaiting : List Key) (claims : List ClaimValue)
+    → IsPrepared s service p
     → held ≡ cached_after (Watched (shows version service)) s.held → queue ≡ s.queue ++ p.more.items
     → claims ≡ settled p.claim.key p.claim.holding p.claim.terms s.claims → awaiting ≡ without service.key s.awaiting
     → record s { held = held; claims = claims; queue = queue; awaiting = awaiting } ≡ held_service s version service

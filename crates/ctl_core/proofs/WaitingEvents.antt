@@ -1,5 +1,6 @@
 -- Which services wait after an event.
-use Rattle.std.proofs.Common.{◌≡◌, ℕ, Bool, true, false, cond, eqb, leb, not, ◌&&◌, ◌||◌, List, [], ◌∷◌, ◌++◌, Option, Some, None, is_eq, is_some, option_map, refl, sym, ap, subst, ◌∙◌}
+use Rattle.std.proofs.Common.{◌≡◌, ℕ, Bool, true, false, cond, eqb, leb, not, ◌&&◌, ◌||◌, List, [], ◌∷◌, ◌++◌}
+use Rattle.std.proofs.Common.{Option, Some, None, is_eq, is_some, option_map, refl, sym, ap, subst, ◌∙◌}
 use Rattle.std.proofs.lemmas.Bool.{true≢false}
 use Rattle.std.proofs.lemmas.Map.Entries.{option_filter}
 use Rattle.std.specs.BTreeSet.{BTreeSet, contains}
@@ -28,7 +29,8 @@ use Rattle.object_cache.specs.Told.{passing}
 use Rattle.claim_index.specs.Claims.{loses, has_claims}
 use Rattle.core_rules.specs.Core.{State, is_ready, service_of, is_free_with, all_free, waits, waiting, shown_terms}
 use Rattle.core_rules.specs.Keys.{own_key}
-use Rattle.core_rules.specs.Take.{Configures, effect_of, no_key, is_unlisted, listed_keys, have_claims, listed_and_free, without_service, with_services_listed, is_accepted, is_namespace, wakes, configured, core_expired}
+use Rattle.core_rules.specs.Take.{Configures, effect_of, no_key, is_unlisted, listed_keys, have_claims, listed_and_free}
+use Rattle.core_rules.specs.Take.{without_service, with_services_listed, is_accepted, is_namespace, wakes, configured, core_expired}
 use Rattle.core_rules.proofs.Effects.{config-services}
 use Rattle.core_laws.proofs.Awaiting.{has_key-kept, has_key-without}
 use Rattle.core_laws.proofs.Orderly.{own-same}
@@ -68,7 +70,8 @@ other-waits true true false false true = refl
 other-waits true true false false false = refl
 
 -- nobody waits who is queued with all that are free
-none-waits : (q a : Bool) (found : Option Service) (class : Option (List ℕ)) → free_lacks (q || (is_some found && (not q && not a))) a (lacks_record class found) ≡ false
+none-waits : (q a : Bool) (found : Option Service) (class : Option (List ℕ))
+    → free_lacks (q || (is_some found && (not q && not a))) a (lacks_record class found) ≡ false
 none-waits true a found class = refl
 none-waits false true found class = ap (λ b. (not b && false) && lacks_record class found) (and-false (is_some found))
 none-waits false false None class = refl
@@ -85,12 +88,14 @@ waits_at-lacks class queue awaiting key (Some service) = refl
 
 -- ---- the keys that pass
 passes-waits : (class : Option (List ℕ)) (told : Key → Bool) (queue awaiting : List Key) (key : Key) (found : Option Service)
-    → passes_at (waits class told queue awaiting) key found ≡ (not (told key) && free_lacks (has_key queue key) (has_key awaiting key) (lacks_record class found))
+    → passes_at (waits class told queue awaiting) key found
+    ≡ (not (told key) && free_lacks (has_key queue key) (has_key awaiting key) (lacks_record class found))
 passes-waits class told queue awaiting key None =
     sym (ap (λ b. not (told key) && b) (and-false (not (has_key queue key) && not (has_key awaiting key))) ∙ and-false (not (told key)))
 passes-waits class told queue awaiting key (Some service) = refl
 
-has-waiting : (lost : Bool) (class : Option (List ℕ)) (told : Key → Bool) (queue awaiting : List Key) (es : List (Key × Versioned Service)) (key : Key) → IsStrictlySortedBy key_cmp (keys_of es)
+has-waiting : (lost : Bool) (class : Option (List ℕ)) (told : Key → Bool) (queue awaiting : List Key) (es : List (Key × Versioned Service)) (key : Key)
+    → IsStrictlySortedBy key_cmp (keys_of es)
     → has_key (waiting lost class told queue awaiting es) key
     ≡ (lost && (not (told key) && free_lacks (has_key queue key) (has_key awaiting key) (lacks_record class (object_at key_cmp es key))))
 has-waiting true class told queue awaiting es key s =
@@ -127,7 +132,8 @@ free-queued class queue awaiting es key s =
 
 -- ---- a key that isn't told of
 -- What is so at one key before and after: it is queued too where it waited and a claim was lost.
-record Stays (class : Option (List ℕ)) (key : Key) (ready lost : Bool) (queue queue' awaiting awaiting' : List Key) (found found' : Option Service) : Type 0 where
+record Stays (class : Option (List ℕ)) (key : Key) (ready lost : Bool) (queue queue' awaiting awaiting' : List Key) (found found' : Option Service) : Type
+    0 where
   queued : has_key queue' key ≡ (has_key queue key || (ready && (lost && free_lacks (has_key queue key) (has_key awaiting key) (lacks_record class found))))
   awaits : has_key awaiting' key ≡ has_key awaiting key
   finds : found' ≡ found
@@ -155,12 +161,15 @@ own-in true queue more own b = ap (λ x. x || has_key more own) (sym b)
 own-in false queue more own b = ap (λ x. x || (same_key own own || has_key more own)) (sym b) ∙ ap (λ x. x || has_key more own) (same_key-itself own)
 
 -- the key itself is queued
-own-out : (ready : Bool) (queue more : List Key) (own : Key) (a l : Bool) → (ready && free_lacks (has_key (queue ++ cond ready (own_key own queue ++ more) []) own) a l) ≡ false
-own-out true queue more own a l = ap (λ q. free_lacks q a l) (has_key-append queue (own_key own queue ++ more) own ∙ own-in (has_key queue own) queue more own refl)
+own-out : (ready : Bool) (queue more : List Key) (own : Key) (a l : Bool)
+    → (ready && free_lacks (has_key (queue ++ cond ready (own_key own queue ++ more) []) own) a l) ≡ false
+own-out true queue more own a l =
+    ap (λ q. free_lacks q a l) (has_key-append queue (own_key own queue ++ more) own ∙ own-in (has_key queue own) queue more own refl)
 own-out false queue more own a l = refl
 
 not-own : (queue : List Key) (own key : Key) → same_key own key ≡ false → has_key (own_key own queue) key ≡ false
-not-own queue own key apart_key = no-true (has_key (own_key own queue) key) (λ there. true≢false (sym (own-same (has_key queue own) own key there).1 ∙ apart_key))
+not-own queue own key apart_key =
+    no-true (has_key (own_key own queue) key) (λ there. true≢false (sym (own-same (has_key queue own) own key there).1 ∙ apart_key))
 
 others-behind : (ready : Bool) (queue more : List Key) (own key : Key) → same_key own key ≡ false
     → has_key (queue ++ cond ready (own_key own queue ++ more) []) key ≡ (has_key queue key || (ready && has_key more key))
@@ -174,7 +183,8 @@ awaits-other : (own : Key) (awaiting : List Key) (key : Key) → same_key own ke
 awaits-other own awaiting key apart_key = has_key-without own awaiting key ∙ ap (λ b. cond b false (has_key awaiting key)) apart_key
 
 -- those that wait are told apart from the key
-untold-waiting : (ready lost : Bool) (class : Option (List ℕ)) (own : Key) (queue awaiting : List Key) (es : List (Key × Versioned Service)) (key : Key) → IsStrictlySortedBy key_cmp (keys_of es)
+untold-waiting : (ready lost : Bool) (class : Option (List ℕ)) (own : Key) (queue awaiting : List Key) (es : List (Key × Versioned Service)) (key : Key)
+    → IsStrictlySortedBy key_cmp (keys_of es)
     → same_key own key ≡ false
     → (ready && has_key (waiting lost class (same_key own) queue awaiting es) key)
     ≡ (ready && (lost && free_lacks (has_key queue key) (has_key awaiting key) (lacks_record class (object_at key_cmp es key))))
@@ -192,14 +202,17 @@ shown-other : (es : List (Key × Versioned Service)) (version : ℕ) (service : 
 shown-other es version service key apart_key =
     ap (λ (found : Option (Versioned Service)). option_map (λ (h : Versioned Service). h.object) found)
     (held_at-shown key_cmp-total es service.key key version service
-    ∙ either-found (leb version (version_at key_cmp es service.key)) (is_eq (key_cmp key service.key)) (held_at key_cmp es key) (Some (record { version = version; object = service }))
+    ∙ either-found (leb version (version_at key_cmp es service.key)) (is_eq (key_cmp key service.key)) (held_at key_cmp es key)
+    (Some (record { version = version; object = service }))
     (is_eq-key_cmp key service.key ∙ same_key-flip key service.key ∙ apart_key))
 
-held-at : (b : Bool) (s : State) (version : ℕ) (service : Service) (old new : BTreeSet Key) (key : Key) → IsStrictlySortedBy key_cmp (keys_of s.held.services) → b ≡ same_key service.key key
+held-at : (b : Bool) (s : State) (version : ℕ) (service : Service) (old new : BTreeSet Key) (key : Key) → IsStrictlySortedBy key_cmp (keys_of s.held.services)
+    → b ≡ same_key service.key key
     → WaitIn s old
     → contains key_cmp new key ≡ (not (loses service.key service.holding (shown_terms service) s.claims) && (not b && contains key_cmp old key))
     → contains key_cmp new key
-    ≡ (is_ready s.held && waits_at s.class (held_service s version service).queue (held_service s version service).awaiting key (service_of (held_service s version service).held key))
+    ≡ (is_ready s.held && waits_at s.class (held_service s version service).queue (held_service s version service).awaiting key
+    (service_of (held_service s version service).held key))
 held-at true s version service old new key sorted b waits_old new_is =
     let after = held_service s version service in
     let lost = loses service.key service.holding (shown_terms service) s.claims in
@@ -208,27 +221,32 @@ held-at true s version service old new key sorted b waits_old new_is =
     let l = lacks_record s.class (service_of after.held key) in
     new_is ∙ and-false (not lost)
     ∙ sym (ap (λ b. is_ready s.held && b) (waits_at-lacks s.class after.queue after.awaiting key (service_of after.held key))
-    ∙ subst (λ k. (is_ready s.held && free_lacks (has_key after.queue k) a l) ≡ false) (same_key-is service.key key (sym b)) (own-out (is_ready s.held) s.queue more service.key a l))
+    ∙ subst (λ k. (is_ready s.held && free_lacks (has_key after.queue k) a l) ≡ false) (same_key-is service.key key (sym b))
+    (own-out (is_ready s.held) s.queue more service.key a l))
 held-at false s version service old new key sorted b waits_old new_is =
     let after = held_service s version service in
     let lost = loses service.key service.holding (shown_terms service) s.claims in
     let more = waiting lost s.class (same_key service.key) s.queue s.awaiting s.held.services in
-    let stays : Stays s.class key (is_ready s.held) lost s.queue after.queue s.awaiting after.awaiting (service_of s.held key) (service_of after.held key) = record {
+    let stays : Stays s.class key (is_ready s.held) lost s.queue after.queue s.awaiting after.awaiting (service_of s.held key) (service_of after.held key) =
+    record {
       queued = others-behind (is_ready s.held) s.queue more service.key key (sym b)
-          ∙ ap (λ b. has_key s.queue key || b) (untold-waiting (is_ready s.held) lost s.class service.key s.queue s.awaiting s.held.services key sorted (sym b));
+          ∙ ap (λ b. has_key s.queue key || b)
+          (untold-waiting (is_ready s.held) lost s.class service.key s.queue s.awaiting s.held.services key sorted (sym b));
       awaits = awaits-other service.key s.awaiting key (sym b);
       finds = shown-other s.held.services version service key (sym b);
     } in
     new_is ∙ ap (λ b. not lost && b) (waits_old key)
     ∙ other-at s.class key (is_ready s.held) lost s.queue after.queue s.awaiting after.awaiting (service_of s.held key) (service_of after.held key) stays
 
-pub held-wait : (s : State) (version : ℕ) (service : Service) (own : Key) (lost : Bool) (old new : BTreeSet Key) → IsReached s → WaitIn s old → own ≡ service.key
+pub held-wait : (s : State) (version : ℕ) (service : Service) (own : Key) (lost : Bool) (old new : BTreeSet Key) → IsReached s → WaitIn s old
+    → own ≡ service.key
     → lost ≡ loses service.key service.holding (shown_terms service) s.claims
     → ((key : Key) → contains key_cmp new key ≡ (not lost && (not (same_key own key) && contains key_cmp old key)))
     → WaitIn (held_service s version service) new
 held-wait s version service own lost old new r waits_old own_is lost_is new_is key =
     held-at (same_key service.key key) s version service old new key (reached-sorted s r) refl waits_old
-    (new_is key ∙ ap (λ k. not lost && (not (same_key k key) && contains key_cmp old key)) own_is ∙ ap (λ l. not l && (not (same_key service.key key) && contains key_cmp old key)) lost_is)
+    (new_is key ∙ ap (λ k. not lost && (not (same_key k key) && contains key_cmp old key)) own_is
+    ∙ ap (λ l. not l && (not (same_key service.key key) && contains key_cmp old key)) lost_is)
 
 -- ---- a service is dropped
 removed-by : (b : Bool) (es : List (Key × Versioned Service)) (gone key : Key) → IsStrictlySortedBy key_cmp (keys_of es) → same_key gone key ≡ b
@@ -238,37 +256,43 @@ removed-by b es gone key s e =
     ap (λ (found : Option (Versioned Service)). option_map (λ (h : Versioned Service). h.object) found)
     (held_at-removed key_cmp-total es gone key s ∙ ap (λ b. cond b None (held_at key_cmp es key)) (is_eq-key_cmp gone key ∙ e))
 
-nothing-waits : (ready : Bool) (class : Option (List ℕ)) (queue awaiting : List Key) (key : Key) (found : Option Service) → found ≡ None → (ready && waits_at class queue awaiting key found) ≡ false
+nothing-waits : (ready : Bool) (class : Option (List ℕ)) (queue awaiting : List Key) (key : Key) (found : Option Service) → found ≡ None
+    → (ready && waits_at class queue awaiting key found) ≡ false
 nothing-waits ready class queue awaiting key found e = ap (λ (f : Option Service). ready && waits_at class queue awaiting key f) e ∙ and-false ready
 
 some-ready : (ready any rest : Bool) → ((ready && any) && rest) ≡ (ready && ((ready && any) && rest))
 some-ready true any rest = refl
 some-ready false any rest = refl
 
-dropped-at : (b : Bool) (s : State) (gone : Key) (old new : BTreeSet Key) (key : Key) → IsStrictlySortedBy key_cmp (keys_of s.held.services) → b ≡ same_key gone key → WaitIn s old
+dropped-at : (b : Bool) (s : State) (gone : Key) (old new : BTreeSet Key) (key : Key) → IsStrictlySortedBy key_cmp (keys_of s.held.services)
+    → b ≡ same_key gone key → WaitIn s old
     → contains key_cmp new key ≡ (not (is_ready s.held && has_claims gone s.claims) && (not b && contains key_cmp old key))
     → contains key_cmp new key
     ≡ (is_ready s.held && waits_at s.class (without_service s gone).queue (without_service s gone).awaiting key (service_of (without_service s gone).held key))
 dropped-at true s gone old new key sorted b waits_old new_is =
     let after = without_service s gone in
     new_is ∙ and-false (not (is_ready s.held && has_claims gone s.claims))
-    ∙ sym (nothing-waits (is_ready s.held) s.class after.queue after.awaiting key (service_of after.held key) (removed-by true s.held.services gone key sorted (sym b)))
+    ∙ sym (nothing-waits (is_ready s.held) s.class after.queue after.awaiting key (service_of after.held key)
+    (removed-by true s.held.services gone key sorted (sym b)))
 dropped-at false s gone old new key sorted b waits_old new_is =
     let after = without_service s gone in
     let lost = is_ready s.held && has_claims gone s.claims in
     let more = waiting lost s.class (same_key gone) s.queue s.awaiting s.held.services in
     let waited = free_lacks (has_key s.queue key) (has_key s.awaiting key) (lacks_record s.class (service_of s.held key)) in
-    let stays : Stays s.class key (is_ready s.held) lost s.queue after.queue s.awaiting after.awaiting (service_of s.held key) (service_of after.held key) = record {
+    let stays : Stays s.class key (is_ready s.held) lost s.queue after.queue s.awaiting after.awaiting (service_of s.held key) (service_of after.held key) =
+    record {
       queued = has_key-append (without gone s.queue) more key
           ∙ ap (λ b. b || has_key more key) (awaits-other gone s.queue key (sym b))
-          ∙ ap (λ b. has_key s.queue key || b) (untold-waiting true lost s.class gone s.queue s.awaiting s.held.services key sorted (sym b) ∙ some-ready (is_ready s.held) (has_claims gone s.claims) waited);
+          ∙ ap (λ b. has_key s.queue key || b) (untold-waiting true lost s.class gone s.queue s.awaiting s.held.services key sorted (sym b)
+          ∙ some-ready (is_ready s.held) (has_claims gone s.claims) waited);
       awaits = awaits-other gone s.awaiting key (sym b);
       finds = removed-by false s.held.services gone key sorted (sym b);
     } in
     new_is ∙ ap (λ b. not lost && b) (waits_old key)
     ∙ other-at s.class key (is_ready s.held) lost s.queue after.queue s.awaiting after.awaiting (service_of s.held key) (service_of after.held key) stays
 
-pub dropped-wait : (s : State) (gone : Key) (lost : Bool) (old new : BTreeSet Key) → IsReached s → WaitIn s old → lost ≡ (is_ready s.held && has_claims gone s.claims)
+pub dropped-wait : (s : State) (gone : Key) (lost : Bool) (old new : BTreeSet Key) → IsReached s → WaitIn s old
+    → lost ≡ (is_ready s.held && has_claims gone s.claims)
     → ((k : Key) → contains key_cmp new k ≡ (not lost && (not (same_key gone k) && contains key_cmp old k)))
     → WaitIn (without_service s gone) new
 dropped-wait s gone lost old new r waits_old lost_is new_is k =
@@ -283,11 +307,13 @@ kept_found found = option_filter (λ (h : Versioned Service). not (eqb h.version
 abbrev is_unkept : Option (Versioned Service) → Bool
 is_unkept found = eqb (option_map_or (λ (h : Versioned Service). h.version) (kept_found found) 0) 0
 
-unkept-by : (b : Bool) (h : Versioned Service) → b ≡ eqb h.version 0 → eqb (option_map_or (λ (x : Versioned Service). x.version) (cond (not b) (Some h) None) 0) 0 ≡ true → cond (not b) (Some h) None ≡ None
+unkept-by : (b : Bool) (h : Versioned Service) → b ≡ eqb h.version 0
+    → eqb (option_map_or (λ (x : Versioned Service). x.version) (cond (not b) (Some h) None) 0) 0 ≡ true → cond (not b) (Some h) None ≡ None
 unkept-by true h b e = refl
 unkept-by false h b e = absurd (true≢false (sym e ∙ sym b))
 
-kept-by : (b : Bool) (h : Versioned Service) → b ≡ eqb h.version 0 → eqb (option_map_or (λ (x : Versioned Service). x.version) (cond (not b) (Some h) None) 0) 0 ≡ false → cond (not b) (Some h) None ≡ Some h
+kept-by : (b : Bool) (h : Versioned Service) → b ≡ eqb h.version 0
+    → eqb (option_map_or (λ (x : Versioned Service). x.version) (cond (not b) (Some h) None) 0) 0 ≡ false → cond (not b) (Some h) None ≡ Some h
 kept-by true h b e = absurd (true≢false e)
 kept-by false h b e = refl
 
@@ -301,7 +327,8 @@ kept-same (Some h) e = kept-by (eqb h.version 0) h refl e
 
 module _ (es : List (Key × Versioned Service)) (sorted : IsStrictlySortedBy key_cmp (keys_of es)) (key : Key) where
   unlisted-is : is_unlisted (listed es) key ≡ is_unkept (held_at key_cmp es key)
-  unlisted-is = ap (λ (found : Option (Versioned Service)). eqb (option_map_or (λ (h : Versioned Service). h.version) found 0) 0) (held_at-listed key_cmp-total es key sorted)
+  unlisted-is = ap (λ (found : Option (Versioned Service)). eqb (option_map_or (λ (h : Versioned Service). h.version) found 0) 0)
+      (held_at-listed key_cmp-total es key sorted)
 
   -- what isn't listed isn't held from now on
   unlisted-gone : is_unlisted (listed es) key ≡ true → object_at key_cmp (listed es) key ≡ None
@@ -315,7 +342,8 @@ module _ (es : List (Key × Versioned Service)) (sorted : IsStrictlySortedBy key
       ap (λ (found : Option (Versioned Service)). option_map (λ (h : Versioned Service). h.object) found)
       (held_at-listed key_cmp-total es key sorted ∙ kept-same (held_at key_cmp es key) (sym unlisted-is ∙ e))
 
-has-listed : (es : List (Key × Versioned Service)) (keys : List Key) (key : Key) → is_unlisted es key ≡ false → has_key (listed_keys es keys) key ≡ has_key keys key
+has-listed : (es : List (Key × Versioned Service)) (keys : List Key) (key : Key) → is_unlisted es key ≡ false
+    → has_key (listed_keys es keys) key ≡ has_key keys key
 has-listed es keys key e = has_key-kept (is_unlisted es) keys key ∙ ap (λ b. cond b false (has_key keys key)) e
 
 -- the core is ready afterwards where its configuration is in force
@@ -329,7 +357,8 @@ ready-stays true false some e = absurd (cc)
 ready-stays false services some e = absurd (cc)
 
 -- a listed key waits afterwards where it did, unless it was queued
-listed-by : (was now lost : Bool) (s : State) (es : List (Key × Versioned Service)) (key : Key) → IsStrictlySortedBy key_cmp (keys_of es) → es ≡ listed s.held.services → (was ≡ true → now ≡ true)
+listed-by : (was now lost : Bool) (s : State) (es : List (Key × Versioned Service)) (key : Key) → IsStrictlySortedBy key_cmp (keys_of es)
+    → es ≡ listed s.held.services → (was ≡ true → now ≡ true)
     → (not lost && (was && waits_at s.class s.queue s.awaiting key (object_at key_cmp es key)))
     ≡ (now && waits_at s.class (s.queue ++ listed_and_free was now lost s) s.awaiting key (object_at key_cmp es key))
 listed-by true true lost s es key sorted e n =
@@ -338,18 +367,21 @@ listed-by true true lost s es key sorted e n =
     other-at s.class key true lost s.queue (s.queue ++ more) s.awaiting s.awaiting found found
     (record {
       queued = has_key-append s.queue more key
-          ∙ ap (λ b. has_key s.queue key || b) (subst (λ (xs : List (Key × Versioned Service)). has_key (waiting lost s.class no_key s.queue s.awaiting xs) key ≡ (lost && free_lacks (has_key s.queue key) (has_key s.awaiting key) (lacks_record s.class found))) e
+          ∙ ap (λ b. has_key s.queue key || b) (subst (λ (xs : List (Key × Versioned Service)). has_key (waiting lost s.class no_key s.queue s.awaiting xs) key
+          ≡ (lost && free_lacks (has_key s.queue key) (has_key s.awaiting key) (lacks_record s.class found))) e
           (has-waiting lost s.class no_key s.queue s.awaiting es key sorted));
       awaits = refl;
       finds = refl;
     })
 listed-by false true lost s es key sorted e n =
     and-false (not lost)
-    ∙ sym (subst (λ (xs : List (Key × Versioned Service)). waits_at s.class (s.queue ++ all_free s.queue s.awaiting xs) s.awaiting key (object_at key_cmp es key) ≡ false) e (free-queued s.class s.queue s.awaiting es key sorted))
+    ∙ sym (subst (λ (xs : List (Key × Versioned Service)). waits_at s.class (s.queue ++ all_free s.queue s.awaiting xs) s.awaiting key
+    (object_at key_cmp es key) ≡ false) e (free-queued s.class s.queue s.awaiting es key sorted))
 listed-by true false lost s es key sorted e n = absurd (true≢false (sym (n refl)))
 listed-by false false lost s es key sorted e n = and-false (not lost)
 
-listed-at : (u : Bool) (s : State) (old new : BTreeSet Key) (key : Key) → IsStrictlySortedBy key_cmp (keys_of s.held.services) → IsStrictlySortedBy key_cmp (keys_of (listed s.held.services))
+listed-at : (u : Bool) (s : State) (old new : BTreeSet Key) (key : Key) → IsStrictlySortedBy key_cmp (keys_of s.held.services)
+    → IsStrictlySortedBy key_cmp (keys_of (listed s.held.services))
     → u ≡ is_unlisted (listed s.held.services) key → WaitIn s old
     → contains key_cmp new key ≡ (not (have_claims s.held.services s.claims) && (not u && contains key_cmp old key))
     → contains key_cmp new key
@@ -358,7 +390,8 @@ listed-at : (u : Bool) (s : State) (old new : BTreeSet Key) (key : Key) → IsSt
 listed-at true s old new key sorted sorted' u waits_old new_is =
     let after = with_services_listed s in
     new_is ∙ and-false (not (have_claims s.held.services s.claims))
-    ∙ sym (nothing-waits (s.held.config_ended && is_some s.held.config) s.class after.queue after.awaiting key (service_of after.held key) (unlisted-gone s.held.services sorted key (sym u)))
+    ∙ sym (nothing-waits (s.held.config_ended && is_some s.held.config) s.class after.queue after.awaiting key (service_of after.held key)
+    (unlisted-gone s.held.services sorted key (sym u)))
 listed-at false s old new key sorted sorted' u waits_old new_is =
     let after = with_services_listed s in
     let es = listed s.held.services in
@@ -371,7 +404,8 @@ listed-at false s old new key sorted sorted' u waits_old new_is =
     ∙ listed-by was now lost s es key sorted' refl (ready-stays s.held.config_ended s.held.services_ended (is_some s.held.config))
     ∙ ap (λ b. now && b)
     (waits_at-same s.class (s.queue ++ more) after.queue s.awaiting after.awaiting key (object_at key_cmp es key)
-    (sym (has_key-append (listed_keys es s.queue) more key ∙ ap (λ b. b || has_key more key) (has-listed es s.queue key (sym u)) ∙ sym (has_key-append s.queue more key)))
+    (sym (has_key-append (listed_keys es s.queue) more key ∙ ap (λ b. b || has_key more key) (has-listed es s.queue key (sym u))
+    ∙ sym (has_key-append s.queue more key)))
     (sym (has-listed es s.awaiting key (sym u))))
 
 pub listed-wait : (s : State) (services : List (Key × Versioned Service)) (lost : Bool) (old new : BTreeSet Key) → IsReached s → WaitIn s old
@@ -381,7 +415,8 @@ pub listed-wait : (s : State) (services : List (Key × Versioned Service)) (lost
 listed-wait s services lost old new r waits_old services_are lost_is new_is key =
     let sorted = reached-sorted s r in
     let after = with_services_listed s in
-    listed-at (is_unlisted (listed s.held.services) key) s old new key sorted (ascending-held_after service_resource key_cmp-total (Watched (ListEnd groups.Service)) s.held.services sorted) refl waits_old
+    listed-at (is_unlisted (listed s.held.services) key) s old new key sorted
+    (ascending-held_after service_resource key_cmp-total (Watched (ListEnd groups.Service)) s.held.services sorted) refl waits_old
     (new_is key ∙ ap (λ es. not lost && (not (is_unlisted es key) && contains key_cmp old key)) services_are
     ∙ ap (λ l. not l && (not (is_unlisted (listed s.held.services) key) && contains key_cmp old key)) lost_is)
     ∙ ap (λ b. b && waits_at s.class after.queue after.awaiting key (service_of after.held key)) (ready-listed s.held.config_ended (is_some s.held.config))
@@ -398,7 +433,8 @@ configured-at : (b : Bool) (s : State) (event : Event) (old new : BTreeSet Key) 
     → b ≡ wakes s.held (applied s.held event) (cached_after (Watched event) s.held) → effect_of event ≡ Configures → WaitIn s old
     → contains key_cmp new key ≡ (not b && contains key_cmp old key)
     → contains key_cmp new key
-    ≡ (is_ready (cached_after (Watched event) s.held) && waits_at s.class (cond b (s.queue ++ all_free s.queue s.awaiting s.held.services) s.queue) s.awaiting key (service_of s.held key))
+    ≡ (is_ready (cached_after (Watched event) s.held)
+    && waits_at s.class (cond b (s.queue ++ all_free s.queue s.awaiting s.held.services) s.queue) s.awaiting key (service_of s.held key))
 configured-at true s event old new key sorted b c waits_old new_is =
     new_is
     ∙ sym (ap (λ b. is_ready (cached_after (Watched event) s.held) && b) (free-queued s.class s.queue s.awaiting s.held.services key sorted)
@@ -406,7 +442,8 @@ configured-at true s event old new key sorted b c waits_old new_is =
 configured-at false s event old new key sorted b c waits_old new_is =
     new_is ∙ waits_old key
     ∙ ap (λ b. b && waits_at s.class s.queue s.awaiting key (service_of s.held key))
-    (as-ready (is_ready s.held) (is_ready (cached_after (Watched event) s.held)) (is_accepted (applied s.held event).note) (is_namespace (applied s.held event).change)
+    (as-ready (is_ready s.held) (is_ready (cached_after (Watched event) s.held)) (is_accepted (applied s.held event).note)
+    (is_namespace (applied s.held event).change)
     (config-ready event s.held c) (sym b))
 
 pub configured-wait : (s : State) (event : Event) (woken : Bool) (old new : BTreeSet Key) → IsReached s → effect_of event ≡ Configures → WaitIn s old
@@ -417,7 +454,8 @@ configured-wait s event woken old new r c waits_old woken_is new_is key =
     let after = configured s event in
     configured-at (wakes s.held (applied s.held event) (cached_after (Watched event) s.held)) s event old new key (reached-sorted s r) refl c waits_old
     (new_is key ∙ ap (λ b. not b && contains key_cmp old key) woken_is)
-    ∙ ap (λ (es : List (Key × Versioned Service)). is_ready after.held && waits_at s.class after.queue s.awaiting key (object_at key_cmp es key)) (sym (config-services event s.held c))
+    ∙ ap (λ (es : List (Key × Versioned Service)). is_ready after.held && waits_at s.class after.queue s.awaiting key (object_at key_cmp es key))
+    (sym (config-services event s.held c))
 
 -- ---- a watch has expired
 not-ended : (a b c : Bool) → b ≡ false → (a && b && c) ≡ true → ⊥
@@ -426,10 +464,12 @@ not-ended true false c b e = absurd (cc)
 not-ended false b c e e' = absurd (cc)
 
 -- where the core is ready afterwards, what waits is as before
-pub expired-wait : (group : Group) (s : State) (keys : BTreeSet Key) → is_ready (cached_after (WatchExpired group) s.held) ≡ true → WaitIn s keys → WaitIn (core_expired s group) keys
+pub expired-wait : (group : Group) (s : State) (keys : BTreeSet Key) → is_ready (cached_after (WatchExpired group) s.held) ≡ true → WaitIn s keys
+    → WaitIn (core_expired s group) keys
 expired-wait groups.Config s keys ready waits_old = absurd (true≢false (sym ready))
 expired-wait groups.Service s keys ready waits_old = absurd (not-ended s.held.config_ended false (is_some s.held.config) refl ready)
-expired-wait groups.Endpoint s keys ready waits_old = λ key. waits_old key ∙ ap (λ q. is_ready s.held && waits_at s.class q s.awaiting key (service_of s.held key)) (sym (kept-ready (is_ready s.held) s.queue ready))
+expired-wait groups.Endpoint s keys ready waits_old = λ key. waits_old key
+    ∙ ap (λ q. is_ready s.held && waits_at s.class q s.awaiting key (service_of s.held key)) (sym (kept-ready (is_ready s.held) s.queue ready))
   where
     kept-ready : (b : Bool) (queue : List Key) → b ≡ true → cond b queue [] ≡ queue
     kept-ready true queue e = refl

@@ -34,9 +34,11 @@ use Rattle.ctl_core.specs.Waiting.{AreWaiting, others_where, waits_at}
 use Rattle.ctl_core.proofs.KeyLists.{has-at, any-has}
 
 -- ---- keys in order are told apart by their members
-pub ascending-same : (xs ys : List Key) → IsStrictlySortedBy key_cmp xs → IsStrictlySortedBy key_cmp ys → ((key : Key) → has_key xs key ≡ has_key ys key) → xs ≡ ys
+pub ascending-same : (xs ys : List Key) → IsStrictlySortedBy key_cmp xs → IsStrictlySortedBy key_cmp ys → ((key : Key) → has_key xs key ≡ has_key ys key)
+    → xs ≡ ys
 ascending-same xs ys x y same =
-    btree_set_from_contains key_cmp-total (record { keys = xs }) (record { keys = ys }) x y (λ key. has-at xs key ∙ same key ∙ sym (has-at ys key)) key_cmp-exact
+    btree_set_from_contains key_cmp-total (record { keys = xs }) (record { keys = ys }) x y (λ key. has-at xs key ∙ same key ∙ sym (has-at ys key))
+    key_cmp-exact
 
 -- ---- the keys of the services that pass
 -- the service that was found passes
@@ -49,16 +51,19 @@ pub passing-finds : (test : Key → Service → Bool) (es : List (Key × Version
     → object_at key_cmp es key ≡ Some service → test key service ≡ true → has_key (passing test es) key ≡ true
 passing-finds test es key service found passes = passing-has test es key service found passes
 
-finds-at : (found : Option Service) (test : Key → Service → Bool) (es : List (Key × Versioned Service)) (key : Key) → object_at key_cmp es key ≡ found → passes_at test key found ≡ true
+finds-at : (found : Option Service) (test : Key → Service → Bool) (es : List (Key × Versioned Service)) (key : Key) → object_at key_cmp es key ≡ found
+    → passes_at test key found ≡ true
     → has_key (passing test es) key ≡ true
 finds-at None test es key is passes = absurd (cc)
 finds-at (Some service) test es key is passes = passing-finds test es key service is passes
 
-passing-by : (b : Bool) (test : Key → Service → Bool) (es : List (Key × Versioned Service)) → IsStrictlySortedBy key_cmp (keys_of es) → (key : Key) → has_key (passing test es) key ≡ b
+passing-by : (b : Bool) (test : Key → Service → Bool) (es : List (Key × Versioned Service)) → IsStrictlySortedBy key_cmp (keys_of es) → (key : Key)
+    → has_key (passing test es) key ≡ b
     → b ≡ passes_at test key (object_at key_cmp es key)
 passing-by true test es sorted key is = let found = passing-found test es sorted key is in sym (ap (passes_at test key) found.1 ∙ found.2)
 passing-by false test es sorted key is =
-    sym (no-true (passes_at test key (object_at key_cmp es key)) (λ passes. true≢false (sym (finds-at (object_at key_cmp es key) test es key refl passes) ∙ is)))
+    sym (no-true (passes_at test key (object_at key_cmp es key))
+    (λ passes. true≢false (sym (finds-at (object_at key_cmp es key) test es key refl passes) ∙ is)))
 
 -- a key is among them where its service is held and passes
 pub has-passing : (test : Key → Service → Bool) (es : List (Key × Versioned Service)) → IsStrictlySortedBy key_cmp (keys_of es) → (key : Key)
@@ -66,7 +71,8 @@ pub has-passing : (test : Key → Service → Bool) (es : List (Key × Versioned
 has-passing test es sorted key = passing-by (has_key (passing test es) key) test es sorted key refl
 
 -- they ascend
-pub ascending-passing : (test : Key → Service → Bool) (es : List (Key × Versioned Service)) → IsStrictlySortedBy key_cmp (keys_of es) → IsStrictlySortedBy key_cmp (passing test es)
+pub ascending-passing : (test : Key → Service → Bool) (es : List (Key × Versioned Service)) → IsStrictlySortedBy key_cmp (keys_of es)
+    → IsStrictlySortedBy key_cmp (passing test es)
 ascending-passing test es sorted = ascending-filter key_cmp (λ (e : Key × Versioned Service). test e.0 e.1.object) es sorted
 
 -- ---- a service that waits
@@ -102,7 +108,8 @@ others-at true class own queue awaiting key (Some service) t = rw (← t) refl
 others-at false class own queue awaiting key (Some service) t = rw (← t) refl
 
 listed-at : (test : Key → Service → Bool) (key : Key) (found : Option (Versioned Service))
-    → cond (eqb (option_map_or (λ (h : Versioned Service). h.version) found 0) 0) false (passes_at test key (option_map (λ (h : Versioned Service). h.object) found))
+    → cond (eqb (option_map_or (λ (h : Versioned Service). h.version) found 0) 0) false
+    (passes_at test key (option_map (λ (h : Versioned Service). h.object) found))
     ≡ passes_at test key (option_map (λ (h : Versioned Service). h.object) (option_filter (λ (h : Versioned Service). not (eqb h.version 0)) found))
 listed-at test key None = refl
 listed-at test key (Some h) = by (eqb h.version 0)
@@ -112,7 +119,8 @@ listed-at test key (Some h) = by (eqb h.version 0)
     by false = refl
 
 module _ (class : Option (List ℕ)) (held : Cached) (queue awaiting : List Key) (set : BTreeSet Key)
-    (are : AreWaiting class held queue awaiting set) (ordered : IsOrdered key_cmp set) (sorted : IsStrictlySortedBy key_cmp (keys_of held.services)) (ready : is_ready held ≡ true) where
+    (are : AreWaiting class held queue awaiting set) (ordered : IsOrdered key_cmp set) (sorted : IsStrictlySortedBy key_cmp (keys_of held.services))
+    (ready : is_ready held ≡ true) where
   others-passing : (own : Key) → without own set.keys ≡ passing (waits class (same_key own) queue awaiting) held.services
   others-passing own =
       ascending-same (without own set.keys) (passing (waits class (same_key own) queue awaiting) held.services)
@@ -136,9 +144,11 @@ module _ (class : Option (List ℕ)) (held : Cached) (queue awaiting : List Key)
       (IsStrictlySortedBy-filter key_cmp (λ k. not (is_unlisted held.services k)) set.keys ordered)
       (ascending-passing test (listed held.services) (ascending-listed key_cmp held.services sorted))
       (λ key.
-      has_key-kept (is_unlisted held.services) set.keys key ∙ ap (cond (is_unlisted held.services key) false) (waits-has class held queue awaiting set are ready key)
+      has_key-kept (is_unlisted held.services) set.keys key
+      ∙ ap (cond (is_unlisted held.services key) false) (waits-has class held queue awaiting set are ready key)
       ∙ listed-at test key (held_at key_cmp held.services key)
-      ∙ ap (λ (found : Option (Versioned Service)). passes_at test key (option_map (λ (h : Versioned Service). h.object) found)) (sym (held_at-listed key_cmp-total held.services key sorted))
+      ∙ ap (λ (found : Option (Versioned Service)). passes_at test key (option_map (λ (h : Versioned Service). h.object) found))
+      (sym (held_at-listed key_cmp-total held.services key sorted))
       ∙ sym (has-passing test (listed held.services) (ascending-listed key_cmp held.services sorted) key))
 
 -- ---- keys that may be queued as they are

@@ -49,7 +49,8 @@ behind-apart [] more apart = (apart, λ key there. refl)
 behind-apart (k ∷ queue) more apart =
     let rest = behind-apart queue more apart.1 in
     let front = λ (key : Key) (there : has_key more key ≡ true) (same : same_key k key ≡ true).
-    true≢false (sym (has_key-append queue more k ∙ in-either (has_key queue k) (has_key more k) (subst (λ x. has_key more x ≡ true) (sym (same_key-is k key same)) there)) ∙ apart.0) in
+    true≢false (sym (has_key-append queue more k
+    ∙ in-either (has_key queue k) (has_key more k) (subst (λ x. has_key more x ≡ true) (sym (same_key-is k key same)) there)) ∙ apart.0) in
     (rest.0, λ key there. in-neither (same_key k key) (has_key queue key) (no-true (same_key k key) (front key there)) (rest.1 key there))
 
 -- ---- where a newer service is held
@@ -62,9 +63,11 @@ held-behind s version service r newer =
     (subst (λ b. AreApart (cond b (s.queue ++ more) s.queue)) newer (took-order s shown.0 shown.1 (reached-orderly s r).order (shows version service)).once)
 
 -- ---- those that wait
-pub waiting-behind : (lost : Bool) (told : Key → Bool) (s : State) → IsReached s → GoBehind (waiting lost s.class told s.queue s.awaiting s.held.services) s.queue
+pub waiting-behind : (lost : Bool) (told : Key → Bool) (s : State) → IsReached s
+    → GoBehind (waiting lost s.class told s.queue s.awaiting s.held.services) s.queue
 waiting-behind lost told s r =
-    let new : AreNew (waiting lost s.class told s.queue s.awaiting s.held.services) s.queue s.awaiting told = waiting-new lost s.class told s.queue s.awaiting s.held.services (reached-sorted s r) in
+    let new : AreNew (waiting lost s.class told s.queue s.awaiting s.held.services) s.queue s.awaiting told =
+    waiting-new lost s.class told s.queue s.awaiting s.held.services (reached-sorted s r) in
     (new.once, new.unqueued)
 
 -- ---- every free key
@@ -73,7 +76,8 @@ assigned-either true true e = absurd (cc)
 assigned-either true false e = refl
 assigned-either false assigned e = refl
 
-assigned-or-not : (queue awaiting : List Key) (key : Key) (found : Option Service) → passes_at (is_free_with queue awaiting false) key found ≡ true → passes_at (is_free_with queue awaiting true) key found ≡ false
+assigned-or-not : (queue awaiting : List Key) (key : Key) (found : Option Service) → passes_at (is_free_with queue awaiting false) key found ≡ true
+    → passes_at (is_free_with queue awaiting true) key found ≡ false
 assigned-or-not queue awaiting key None e = refl
 assigned-or-not queue awaiting key (Some service) e = assigned-either (not (has_key queue key) && not (has_key awaiting key)) (is_assigned service.holding) e
 
@@ -82,7 +86,8 @@ free-unqueued true a true e = absurd (cc)
 free-unqueued true a false e = absurd (cc)
 free-unqueued false a some e = refl
 
-pub free-behind : (queue awaiting : List Key) (es : List (Key × Versioned Service)) → IsStrictlySortedBy key_cmp (keys_of es) → GoBehind (all_free queue awaiting es) queue
+pub free-behind : (queue awaiting : List Key) (es : List (Key × Versioned Service)) → IsStrictlySortedBy key_cmp (keys_of es)
+    → GoBehind (all_free queue awaiting es) queue
 free-behind queue awaiting es s =
     let first = passing (is_free_with queue awaiting true) es in
     let second = passing (is_free_with queue awaiting false) es in (
@@ -98,10 +103,12 @@ listed-behind was false lost s r = nothing-behind s.queue
 listed-behind true true lost s r =
     let es = listed s.held.services in
     let sorted = ascending-held_after service_resource key_cmp-total (Watched (ListEnd groups.Service)) s.held.services (reached-sorted s r) in
-    let new : AreNew (waiting lost s.class no_key s.queue s.awaiting es) s.queue s.awaiting no_key = waiting-new lost s.class no_key s.queue s.awaiting es sorted in
+    let new : AreNew (waiting lost s.class no_key s.queue s.awaiting es) s.queue s.awaiting no_key =
+    waiting-new lost s.class no_key s.queue s.awaiting es sorted in
     (new.once, new.unqueued)
 listed-behind false true lost s r =
-    free-behind s.queue s.awaiting (listed s.held.services) (ascending-held_after service_resource key_cmp-total (Watched (ListEnd groups.Service)) s.held.services (reached-sorted s r))
+    free-behind s.queue s.awaiting (listed s.held.services)
+    (ascending-held_after service_resource key_cmp-total (Watched (ListEnd groups.Service)) s.held.services (reached-sorted s r))
 
 pub woken-behind : (may : Bool) (s : State) → IsReached s → GoBehind (cond may (all_free s.queue s.awaiting s.held.services) []) s.queue
 woken-behind true s r = free-behind s.queue s.awaiting s.held.services (reached-sorted s r)
@@ -113,7 +120,8 @@ and-first true b e = refl
 and-first false b e = absurd (cc)
 
 module _ (s : State) (set : BTreeSet Key) (reached : IsReached s) (wait : WaitIn s set) (ordered : IsOrdered key_cmp set) where
-  others-by : (lost : Bool) (own : Key) → (lost ≡ true → is_ready s.held ≡ true) → others_where lost own set.keys ≡ waiting lost s.class (same_key own) s.queue s.awaiting s.held.services
+  others-by : (lost : Bool) (own : Key) → (lost ≡ true → is_ready s.held ≡ true)
+      → others_where lost own set.keys ≡ waiting lost s.class (same_key own) s.queue s.awaiting s.held.services
   others-by true own ready = others-waiting s.class s.held s.queue s.awaiting set wait ordered (reached-sorted s reached) (ready refl) true own
   others-by false own ready = refl
 
@@ -121,18 +129,22 @@ module _ (s : State) (set : BTreeSet Key) (reached : IsReached s) (wait : WaitIn
   pub dropped-others : (lost : Bool) (gone : Key) → lost ≡ (is_ready s.held && has_claims gone s.claims)
       → others_where lost gone set.keys ≡ waiting (is_ready s.held && has_claims gone s.claims) s.class (same_key gone) s.queue s.awaiting s.held.services
   dropped-others lost gone is =
-      ap (λ l. others_where l gone set.keys) is ∙ others-by (is_ready s.held && has_claims gone s.claims) gone (and-first (is_ready s.held) (has_claims gone s.claims))
+      ap (λ l. others_where l gone set.keys) is
+      ∙ others-by (is_ready s.held && has_claims gone s.claims) gone (and-first (is_ready s.held) (has_claims gone s.claims))
 
-  own-by : (ready lost : Bool) (own : Key) → is_ready s.held ≡ ready → cond ready (own_key own s.queue ++ others_where lost own set.keys) [] ≡ own_and_waiting ready lost s own
+  own-by : (ready lost : Bool) (own : Key) → is_ready s.held ≡ ready
+      → cond ready (own_key own s.queue ++ others_where lost own set.keys) [] ≡ own_and_waiting ready lost s own
   own-by true lost own is = ap (λ (ks : List Key). own_key own s.queue ++ ks) (others-by lost own (λ _. is))
   own-by false lost own is = refl
 
   -- where a service is shown
-  pub own-and-others : (lost : Bool) (own : Key) → cond (is_ready s.held) (own_key own s.queue ++ others_where lost own set.keys) [] ≡ own_and_waiting (is_ready s.held) lost s own
+  pub own-and-others : (lost : Bool) (own : Key)
+      → cond (is_ready s.held) (own_key own s.queue ++ others_where lost own set.keys) [] ≡ own_and_waiting (is_ready s.held) lost s own
   own-and-others lost own = own-by (is_ready s.held) lost own refl
 
   listed-by : (was now lost : Bool) → is_ready s.held ≡ was
-      → cond (not now) [] (cond was (cond lost (listed_keys s.held.services set.keys) []) (all_free s.queue s.awaiting (listed s.held.services))) ≡ listed_and_free was now lost s
+      → cond (not now) [] (cond was (cond lost (listed_keys s.held.services set.keys) []) (all_free s.queue s.awaiting (listed s.held.services)))
+      ≡ listed_and_free was now lost s
   listed-by was false lost is = refl
   listed-by true true true is = listed-waiting s.class s.held s.queue s.awaiting set wait ordered (reached-sorted s reached) is
   listed-by true true false is = refl
@@ -140,5 +152,6 @@ module _ (s : State) (set : BTreeSet Key) (reached : IsReached s) (wait : WaitIn
 
   -- where their list ends
   pub listed-and-others : (now lost : Bool)
-      → cond (not now) [] (cond (is_ready s.held) (cond lost (listed_keys s.held.services set.keys) []) (all_free s.queue s.awaiting (listed s.held.services))) ≡ listed_and_free (is_ready s.held) now lost s
+      → cond (not now) [] (cond (is_ready s.held) (cond lost (listed_keys s.held.services set.keys) []) (all_free s.queue s.awaiting (listed s.held.services)))
+      ≡ listed_and_free (is_ready s.held) now lost s
   listed-and-others now lost = listed-by (is_ready s.held) now lost refl

@@ -1,5 +1,6 @@
 -- Which services wait after a turn, and after the reply to a put.
-use Rattle.std.proofs.Common.{◌≡◌, ℕ, Bool, true, false, cond, not, ◌&&◌, ◌||◌, List, [], ◌∷◌, ◌++◌, drop, Option, Some, None, is_eq, option_map, refl, sym, ap, subst, ◌∙◌}
+use Rattle.std.proofs.Common.{◌≡◌, ℕ, Bool, true, false, cond, not, ◌&&◌, ◌||◌, List, [], ◌∷◌, ◌++◌, drop}
+use Rattle.std.proofs.Common.{Option, Some, None, is_eq, option_map, refl, sym, ap, subst, ◌∙◌}
 use Rattle.std.proofs.lemmas.Bool.{true≢false, and_from, or_from}
 use Rattle.std.specs.BTreeSet.{BTreeSet, IsOrdered, contains}
 use Rattle.std.specs.List.Sorted.{IsStrictlySortedBy}
@@ -72,15 +73,18 @@ front-is class held front k rest awaiting order same =
       ap (has_key awaiting) (sym is) ∙ order.free front (ap (λ b. b || has_key rest front) (same_key-itself front)),
     )
 
-pub waiting-turned : (class : Option (List ℕ)) (held : Cached) (queue awaiting : List Key) (before after : BTreeSet Key) → IsInOrder queue awaiting → (is_ready held ≡ false → queue ≡ [])
+pub waiting-turned : (class : Option (List ℕ)) (held : Cached) (queue awaiting : List Key) (before after : BTreeSet Key) → IsInOrder queue awaiting
+    → (is_ready held ≡ false → queue ≡ [])
     → AreWaiting class held queue awaiting before
     → ((k : Key) → contains key_cmp after k ≡ (is_front_lacking class held.services queue k || contains key_cmp before k))
     → AreWaiting class held (rest_of queue) awaiting after
 waiting-turned class held [] awaiting before after order empty w now k = now k ∙ w k
 waiting-turned class held (front ∷ rest) awaiting before after order empty w now k =
     now k
-    ∙ ap (λ b. (same_key front k && lacks_record class (service_of held front)) || b) (w k ∙ ap (λ b. is_ready held && b) (waits-lacks class (front ∷ rest) awaiting k (service_of held k)))
-    ∙ turned-by (same_key front k) (is_ready held) (lacks_record class (service_of held front)) (has_key rest k) (has_key awaiting k) (lacks_record class (service_of held k))
+    ∙ ap (λ b. (same_key front k && lacks_record class (service_of held front)) || b)
+    (w k ∙ ap (λ b. is_ready held && b) (waits-lacks class (front ∷ rest) awaiting k (service_of held k)))
+    ∙ turned-by (same_key front k) (is_ready held) (lacks_record class (service_of held front)) (has_key rest k) (has_key awaiting k)
+    (lacks_record class (service_of held k))
     (ready-by (is_ready held) front rest empty) (front-is class held front k rest awaiting order)
     ∙ ap (λ b. is_ready held && b) (sym (waits-lacks class rest awaiting k (service_of held k)))
 
@@ -101,9 +105,11 @@ queued-by true true false a l = refl
 queued-by false ready true a l = refl
 queued-by false ready false a l = refl
 
-module _ (class : Option (List ℕ)) (held : Cached) (queue awaiting : List Key) (own : Key) (before after : BTreeSet Key) (w : AreWaiting class held queue awaiting before)
+module _ (class : Option (List ℕ)) (held : Cached) (queue awaiting : List Key) (own : Key) (before after : BTreeSet Key)
+    (w : AreWaiting class held queue awaiting before)
     (now : (k : Key) → contains key_cmp after k ≡ (not (same_key own k) && contains key_cmp before k)) where
-  were : (k : Key) → contains key_cmp after k ≡ (not (same_key own k) && (is_ready held && (is_free queue awaiting k && lacks_record class (service_of held k))))
+  were : (k : Key)
+      → contains key_cmp after k ≡ (not (same_key own k) && (is_ready held && (is_free queue awaiting k && lacks_record class (service_of held k))))
   were k = now k ∙ ap (λ b. not (same_key own k) && b) (w k ∙ ap (λ b. is_ready held && b) (waits-lacks class queue awaiting k (service_of held k)))
 
   -- the key awaits a newer event
@@ -124,8 +130,10 @@ module _ (class : Option (List ℕ)) (held : Cached) (queue awaiting : List Key)
 
 -- ---- a record that was stored
 over-by : (b : Bool) (found : Option (Versioned Service)) (version : ℕ) (holding : Record) (key : Key)
-    → option_map (λ (h : Versioned Service). h.object) (option_map (written_over service_resource key (cond b (Some (version, with_holding holding)) None)) found)
-    ≡ cond b (option_map (with_holding holding) (option_map (λ (h : Versioned Service). h.object) found)) (option_map (λ (h : Versioned Service). h.object) found)
+    → option_map (λ (h : Versioned Service). h.object)
+    (option_map (written_over service_resource key (cond b (Some (version, with_holding holding)) None)) found)
+    ≡ cond b (option_map (with_holding holding) (option_map (λ (h : Versioned Service). h.object) found))
+    (option_map (λ (h : Versioned Service). h.object) found)
 over-by true None version holding key = refl
 over-by true (Some h) version holding key = refl
 over-by false None version holding key = refl
@@ -133,23 +141,29 @@ over-by false (Some h) version holding key = refl
 
 -- the service of the key has the record, and the others are as before
 stored-at : (es : List (Key × Versioned Service)) (own key : Key) (version : ℕ) (holding : Record)
-    → object_at key_cmp (amended key_cmp es own version (with_holding holding)) key ≡ cond (same_key own key) (option_map (with_holding holding) (object_at key_cmp es key)) (object_at key_cmp es key)
+    → object_at key_cmp (amended key_cmp es own version (with_holding holding)) key
+    ≡ cond (same_key own key) (option_map (with_holding holding) (object_at key_cmp es key)) (object_at key_cmp es key)
 stored-at es own key version holding =
-    ap (option_map (λ (h : Versioned Service). h.object)) (amended_seen service_resource key_cmp-total key_cmp-exact key (held_at key_cmp es own) es own version (with_holding holding) refl)
+    ap (option_map (λ (h : Versioned Service). h.object))
+    (amended_seen service_resource key_cmp-total key_cmp-exact key (held_at key_cmp es own) es own version (with_holding holding) refl)
     ∙ over-by (is_eq (key_cmp own key)) (held_at key_cmp es key) version holding key
     ∙ ap (λ b. cond b (option_map (with_holding holding) (object_at key_cmp es key)) (object_at key_cmp es key)) (is_eq-key_cmp own key)
 
-lacks-stored : (class : Option (List ℕ)) (holding : Record) (found : Option Service) → lacks_record class (option_map (with_holding holding) found) ≡ lacks_with class holding found
+lacks-stored : (class : Option (List ℕ)) (holding : Record) (found : Option Service)
+    → lacks_record class (option_map (with_holding holding) found) ≡ lacks_with class holding found
 lacks-stored class holding None = refl
 lacks-stored class holding (Some service) = refl
 
 -- where a claim is lost, each other key that waited is queued
-released : (class : Option (List ℕ)) (own : Key) (queue awaiting : List Key) (es : List (Key × Versioned Service)) (key : Key) (found : Option Service) → object_at key_cmp es key ≡ found
-    → same_key own key ≡ false → is_free queue awaiting key ≡ true → lacks_record class found ≡ true → has_key (passing (waits class (same_key own) queue awaiting) es) key ≡ true
+released : (class : Option (List ℕ)) (own : Key) (queue awaiting : List Key) (es : List (Key × Versioned Service)) (key : Key) (found : Option Service)
+    → object_at key_cmp es key ≡ found
+    → same_key own key ≡ false → is_free queue awaiting key ≡ true → lacks_record class found ≡ true
+    → has_key (passing (waits class (same_key own) queue awaiting) es) key ≡ true
 released class own queue awaiting es key None is other free lacks = absurd (cc)
 released class own queue awaiting es key (Some service) is other free lacks =
     passing-has (waits class (same_key own) queue awaiting) es key service is
-    (and_from (not (same_key own key)) (is_free queue awaiting key && lacks_record class (Some service)) (ap not other) (and_from (is_free queue awaiting key) (lacks_record class (Some service)) free lacks))
+    (and_from (not (same_key own key)) (is_free queue awaiting key && lacks_record class (Some service)) (ap not other)
+    (and_from (is_free queue awaiting key) (lacks_record class (Some service)) free lacks))
 
 own-by : (same lost ready q a l with_it was : Bool) → same ≡ true → ready ≡ true → q ≡ false → a ≡ false → l ≡ with_it
     → ((same || not lost) && cond same with_it was) ≡ (ready && ((not q && not a) && l))
@@ -168,17 +182,21 @@ others-by true ready q more a l all none = and-nothing ready ∙ ap (λ b. ready
 others-by false ready true more a l all none = refl
 others-by false ready false more a l all none = ap (λ b. ready && ((not b && not a) && l)) (sym (none refl))
 
-not-lost : (lost : Bool) (class : Option (List ℕ)) (told : Key → Bool) (queue awaiting : List Key) (es : List (Key × Versioned Service)) (key : Key) → lost ≡ false
+not-lost : (lost : Bool) (class : Option (List ℕ)) (told : Key → Bool) (queue awaiting : List Key) (es : List (Key × Versioned Service)) (key : Key)
+    → lost ≡ false
     → has_key (waiting lost class told queue awaiting es) key ≡ false
 not-lost true class told queue awaiting es key e = absurd (cc)
 not-lost false class told queue awaiting es key e = refl
 
-all-released : (lost : Bool) (class : Option (List ℕ)) (own : Key) (queue awaiting : List Key) (es : List (Key × Versioned Service)) (key : Key) → same_key own key ≡ false → lost ≡ true
-    → is_free queue awaiting key ≡ true → lacks_record class (object_at key_cmp es key) ≡ true → has_key (waiting lost class (same_key own) queue awaiting es) key ≡ true
+all-released : (lost : Bool) (class : Option (List ℕ)) (own : Key) (queue awaiting : List Key) (es : List (Key × Versioned Service)) (key : Key)
+    → same_key own key ≡ false → lost ≡ true
+    → is_free queue awaiting key ≡ true → lacks_record class (object_at key_cmp es key) ≡ true
+    → has_key (waiting lost class (same_key own) queue awaiting es) key ≡ true
 all-released true class own queue awaiting es key other e free lacks = released class own queue awaiting es key (object_at key_cmp es key) refl other free lacks
 all-released false class own queue awaiting es key other e free lacks = absurd (cc)
 
-module _ (class : Option (List ℕ)) (held : Cached) (queue awaiting : List Key) (put : Put) (version : ℕ) (lost : Bool) (before middle after : BTreeSet Key) where
+module _ (class : Option (List ℕ)) (held : Cached) (queue awaiting : List Key) (put : Put) (version : ℕ) (lost : Bool)
+    (before middle after : BTreeSet Key) where
   -- the others that wait, where a claim is lost
   abbrev pub others : List Key
   others = waiting lost class (same_key put.key) queue awaiting held.services
@@ -187,13 +205,16 @@ module _ (class : Option (List ℕ)) (held : Cached) (queue awaiting : List Key)
   abbrev pub stored_cache : Cached
   stored_cache = cached_after (Written put.key version put.holding) held
 
-  module _ (sorted : IsStrictlySortedBy key_cmp (keys_of held.services)) (ready : is_ready held ≡ true) (unqueued : has_key queue put.key ≡ false) (unawaited : has_key awaiting put.key ≡ false)
+  module _ (sorted : IsStrictlySortedBy key_cmp (keys_of held.services)) (ready : is_ready held ≡ true) (unqueued : has_key queue put.key ≡ false)
+      (unawaited : has_key awaiting put.key ≡ false)
       (w : AreWaiting class held queue awaiting before)
-      (own : (k : Key) → contains key_cmp middle k ≡ cond (same_key put.key k) (lacks_with class put.holding (object_at key_cmp held.services put.key)) (contains key_cmp before k))
+      (own : (k : Key) → contains key_cmp middle k
+      ≡ cond (same_key put.key k) (lacks_with class put.holding (object_at key_cmp held.services put.key)) (contains key_cmp before k))
       (now : (k : Key) → contains key_cmp after k ≡ ((same_key put.key k || not lost) && contains key_cmp middle k)) where
     untold : has_key others put.key ≡ false
     untold =
-        no-true (has_key others put.key) (λ there. true≢false (sym (same_key-itself put.key) ∙ (waiting-new lost class (same_key put.key) queue awaiting held.services sorted).untold put.key there))
+        no-true (has_key others put.key) (λ there.
+        true≢false (sym (same_key-itself put.key) ∙ (waiting-new lost class (same_key put.key) queue awaiting held.services sorted).untold put.key there))
 
     own-lacks : lacks_record class (service_of stored_cache put.key) ≡ lacks_with class put.holding (service_of held put.key)
     own-lacks =
@@ -205,13 +226,17 @@ module _ (class : Option (List ℕ)) (held : Cached) (queue awaiting : List Key)
     own-waits =
         now put.key
         ∙ ap (λ b. (same_key put.key put.key || not lost) && b) (own put.key)
-        ∙ own-by (same_key put.key put.key) lost (is_ready held) (has_key (queue ++ others) put.key) (has_key awaiting put.key) (lacks_record class (service_of stored_cache put.key))
+        ∙ own-by (same_key put.key put.key) lost (is_ready held) (has_key (queue ++ others) put.key) (has_key awaiting put.key)
+        (lacks_record class (service_of stored_cache put.key))
         (lacks_with class put.holding (service_of held put.key)) (contains key_cmp before put.key)
-        (same_key-itself put.key) ready (has_key-append queue others put.key ∙ or_from (has_key queue put.key) (has_key others put.key) unqueued untold) unawaited own-lacks
+        (same_key-itself put.key) ready (has_key-append queue others put.key ∙ or_from (has_key queue put.key) (has_key others put.key) unqueued untold)
+        unawaited own-lacks
         ∙ ap (λ b. is_ready held && b) (sym (waits-lacks class (queue ++ others) awaiting put.key (service_of stored_cache put.key)))
 
-    waits-by : (b : Bool) (k : Key) → b ≡ same_key put.key k → contains key_cmp after k ≡ (is_ready held && waits_at class (queue ++ others) awaiting k (service_of stored_cache k))
-    waits-by true k b = subst (λ x. contains key_cmp after x ≡ (is_ready held && waits_at class (queue ++ others) awaiting x (service_of stored_cache x))) (same_key-is put.key k (sym b)) own-waits
+    waits-by : (b : Bool) (k : Key) → b ≡ same_key put.key k
+        → contains key_cmp after k ≡ (is_ready held && waits_at class (queue ++ others) awaiting k (service_of stored_cache k))
+    waits-by true k b = subst (λ x. contains key_cmp after x ≡ (is_ready held && waits_at class (queue ++ others) awaiting x (service_of stored_cache x)))
+        (same_key-is put.key k (sym b)) own-waits
     waits-by false k b =
         now k
         ∙ ap (λ c. (same_key put.key k || not lost) && c) (own k)
@@ -221,7 +246,8 @@ module _ (class : Option (List ℕ)) (held : Cached) (queue awaiting : List Key)
         (all-released lost class put.key queue awaiting held.services k (sym b)) (not-lost lost class (same_key put.key) queue awaiting held.services k)
         ∙ ap (λ c. is_ready held && ((not c && not (has_key awaiting k)) && lacks_record class (service_of held k))) (sym (has_key-append queue others k))
         ∙ ap (λ (found : Option Service). is_ready held && (is_free (queue ++ others) awaiting k && lacks_record class found))
-        (sym (stored-at held.services put.key k version put.holding ∙ ap (λ s. cond s (option_map (with_holding put.holding) (service_of held k)) (service_of held k)) (sym b)))
+        (sym (stored-at held.services put.key k version put.holding
+        ∙ ap (λ s. cond s (option_map (with_holding put.holding) (service_of held k)) (service_of held k)) (sym b)))
         ∙ ap (λ c. is_ready held && c) (sym (waits-lacks class (queue ++ others) awaiting k (service_of stored_cache k)))
 
     -- the key waits where its record was taken away; the others wait as before, and where a claim is lost they are queued
@@ -254,11 +280,14 @@ module _ (s : State) (reached : IsReached s) where
     -- while a put is out the set has the keys of those that wait, in their order
     pub others-out : (lost : Bool) (set : BTreeSet Key) → AreWaiting s.class s.held s.queue s.awaiting set → IsOrdered key_cmp set
         → others_where lost put.key set.keys ≡ waiting lost s.class (same_key put.key) s.queue s.awaiting s.held.services
-    others-out lost set w ordered = others-waiting s.class s.held s.queue s.awaiting set w ordered (reached-sorted s reached) (ready-out put is_out) lost put.key
+    others-out lost set w ordered =
+        others-waiting s.class s.held s.queue s.awaiting set w ordered (reached-sorted s reached) (ready-out put is_out) lost put.key
 
     -- after the record was stored
-    pub stored-waits : (version : ℕ) (lost : Bool) (before middle after : BTreeSet Key) (cache : Cached) (queue more : List Key) → AreWaiting s.class s.held s.queue s.awaiting before
-        → ((k : Key) → contains key_cmp middle k ≡ cond (same_key put.key k) (lacks_with s.class put.holding (object_at key_cmp s.held.services put.key)) (contains key_cmp before k))
+    pub stored-waits : (version : ℕ) (lost : Bool) (before middle after : BTreeSet Key) (cache : Cached) (queue more : List Key)
+        → AreWaiting s.class s.held s.queue s.awaiting before
+        → ((k : Key) → contains key_cmp middle k
+        ≡ cond (same_key put.key k) (lacks_with s.class put.holding (object_at key_cmp s.held.services put.key)) (contains key_cmp before k))
         → ((k : Key) → contains key_cmp after k ≡ ((same_key put.key k || not lost) && contains key_cmp middle k))
         → cache ≡ cached_after (Written put.key version put.holding) s.held → queue ≡ s.queue ++ more
         → more ≡ waiting lost s.class (same_key put.key) s.queue s.awaiting s.held.services
@@ -272,7 +301,8 @@ module _ (s : State) (reached : IsReached s) where
 
 -- what the state is then
 pub stored-is : (s : State) (put : Put) (version : ℕ) (cache : Cached) (claims : List ClaimValue) (queue more : List Key)
-    → cache ≡ cached_after (Written put.key version put.holding) s.held → claims ≡ settled put.key put.holding (put_terms s.held put) s.claims → queue ≡ s.queue ++ more
+    → cache ≡ cached_after (Written put.key version put.holding) s.held → claims ≡ settled put.key put.holding (put_terms s.held put) s.claims
+    → queue ≡ s.queue ++ more
     → more ≡ waiting (loses put.key put.holding (put_terms s.held put) s.claims) s.class (same_key put.key) s.queue s.awaiting s.held.services
     → record s { held = cache; claims = claims; queue = queue; out = None } ≡ stored s put version
 stored-is s put version cache claims queue more cache_is claims_is queue_is more_is = rw (cache_is, claims_is, queue_is, more_is) refl
@@ -283,7 +313,8 @@ pub in_doubt-is : (s : State) (put : Put) (claims : List ClaimValue) (queue : Li
 in_doubt-is s put claims queue claims_are queue_is = rw (claims_are, queue_is) refl
 
 -- the reply leaves no put out, whatever was
-pub reply-is : (s : State) (put : Put) (out : Option Put) (reply : PutReply) → s.out ≡ Some put → replied (record s { out = out }) put reply ≡ core_reply s reply
+pub reply-is : (s : State) (put : Put) (out : Option Put) (reply : PutReply) → s.out ≡ Some put
+    → replied (record s { out = out }) put reply ≡ core_reply s reply
 reply-is s put out (StoredReply version) is = rw is refl
 reply-is s put out Stale is = rw is refl
 reply-is s put out Missing is = rw is refl

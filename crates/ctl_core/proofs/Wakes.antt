@@ -55,4 +55,5 @@ pub woken-configured : (s : State) (event : Event) (held : Cached) (wake : Bool)
 woken-configured s event held wake len more queued queue c wake_is len_is more_is held_is queued_is queue_is =
     rw (queue_is, queued_is, held_is, more_is, len_is, wake_is)
     (ap (λ (ks : List Key). record s { held = cached_after (Watched event) s.held; queue = ks })
-    (woken event s.held (not (is_ready s.held) || is_accepted (applied s.held event).note || is_namespace (applied s.held event).change) s.queue (all_free s.queue s.awaiting s.held.services) c))
+    (woken event s.held (not (is_ready s.held) || is_accepted (applied s.held event).note || is_namespace (applied s.held event).change) s.queue
+    (all_free s.queue s.awaiting s.held.services) c))

@@ -214,7 +214,8 @@ pub(crate) fn listed_and_free(
     services: &Services,
     waiting: &WaitingKeys,
 ) -> Result<Vec<Key>, NoMemory>
-    ensures keys { IfOk result (λ keys. keys.items ≡ (if not is_ready then [] else (if was_ready then (if is_lost then listed_keys services.now waiting.now.keys else []) else all_free queue.now awaiting.now (listed services.now)))) }
+    ensures keys { IfOk result (λ keys. keys.items ≡ (if not is_ready then [] else (if was_ready
+        then (if is_lost then listed_keys services.now waiting.now.keys else []) else all_free queue.now awaiting.now (listed services.now)))) }
     ensures ordered { IsOrdered key_cmp waiting.now }
 {
     let listed = waiting.listed_where(alloc, is_lost, services)?;

@@ -9,7 +9,8 @@ ghost use Rattle.object_cache.specs.declared.change.TakeNote.TheVariants.{Quiet 
 ghost use Rattle.versioned_map.specs.Entries.{is_newer};
 ghost use Rattle.claim_index.specs.Claims.{has_claims};
 ghost use Rattle.core_rules.specs.Core.{all_free, is_ready};
-ghost use Rattle.core_rules.specs.Take.{Configures, effect_of, core_take, core_note, core_expired, limits, with_service, without_service, with_services_listed, all_expired, listed_and_free, have_claims, shows, is_accepted, is_namespace, configured};
+ghost use Rattle.core_rules.specs.Take.{Configures, effect_of, core_take, core_note, core_expired, limits, with_service, without_service};
+ghost use Rattle.core_rules.specs.Take.{with_services_listed, all_expired, listed_and_free, have_claims, shows, is_accepted, is_namespace, configured};
 ghost use Rattle.ctl_core.specs.Holding.{IsPrepared, held_service};
 ghost use Rattle.ctl_core.specs.Queued.{GoBehind};
 ghost use Rattle.ctl_core.specs.Reached.{IsReached};
@@ -244,7 +245,8 @@ impl CoreState {
     fn listed_and_free(&self, is_lost: bool) -> Result<Vec<Key>, NoMemory>
         requires lost { is_lost ≡ have_claims self.now.held.services self.now.claims }
         requires reached { IsReached self.now }
-        ensures { IfOk result (λ more. more.items ≡ listed_and_free (is_ready self.now.held) (self.now.held.config_ended && is_some self.now.held.config) (have_claims self.now.held.services self.now.claims) self.now) }
+        ensures { IfOk result (λ more. more.items ≡ listed_and_free (is_ready self.now.held) (self.now.held.config_ended && is_some self.now.held.config)
+            (have_claims self.now.held.services self.now.claims) self.now) }
     {
         listed_and_free(
             self.alloc,
@@ -281,7 +283,8 @@ impl CoreState {
 
     /// The keys that are queued where the event wakes them: every free key, and none while it can't.
     fn may_be_woken(&self, event: &Event) -> Result<Vec<Key>, NoMemory>
-        ensures { IfOk result (λ keys. keys.items ≡ (if may_wake self.now.held event.now then all_free self.now.queue self.now.awaiting self.now.held.services else [])) }
+        ensures { IfOk result
+            (λ keys. keys.items ≡ (if may_wake self.now.held event.now then all_free self.now.queue self.now.awaiting self.now.held.services else [])) }
     {
         if !may_wake(&self.cache, event) {
             return Ok(Vec::new(self.alloc));

@@ -68,7 +68,8 @@ not-idle_by false key version held choice = λ e. absurd (cc)
 
 not-idle_at : (s : State) (key : Key) (found : Option Service) → turn_at s key found ≢ Idle
 not-idle_at s key None = λ e. absurd (cc)
-not-idle_at s key (Some service) = not-idle_by (same_record (wanted_record service.holding (chosen_at s service)) service.holding) key (version_at key_cmp s.held.services key) service.holding (chosen_at s service)
+not-idle_at s key (Some service) = not-idle_by (same_record (wanted_record service.holding (chosen_at s service)) service.holding) key
+    (version_at key_cmp s.held.services key) service.holding (chosen_at s service)
 
 not-idle : (s : State) (queue : List Key) → is_nil queue ≡ false → turn_of s queue ≢ Idle
 not-idle s [] e = absurd (true≢false e)

@@ -1,5 +1,6 @@
 -- What a new store has.
-use Rattle.std.proofs.Common.{◌≡◌, ◌≢◌, ℕ, ◌+◌, Bool, true, false, List, [], ◌∷◌, Option, None, length, Contains, ◌⊎◌, inl, inr, ⊎_elim, refl, sym, ap, subst, ◌∙◌, arith}
+use Rattle.std.proofs.Common.{◌≡◌, ◌≢◌, ℕ, ◌+◌, Bool, true, false, List, [], ◌∷◌, Option, None, length}
+use Rattle.std.proofs.Common.{Contains, ◌⊎◌, inl, inr, ⊎_elim, refl, sym, ap, subst, ◌∙◌, arith}
 use Rattle.std.specs.List.{AllByRecursion}
 use Rattle.std.specs.List.Sorted.{IsStrictlySortedBy}
 use Rattle.std.proofs.lemmas.Bool.{true≢false}
@@ -56,7 +57,8 @@ module _ (edit : Object → Edit) (form : ℕ → Object → Stored) (fills : Fi
 
   others-absent : (s : StoreValue) (object : Object) (place : Place) → IsWellFormed s → place_of object ≢ place → IsAbsent s.objects place
       → IsAbsent (edited (edit object) s).objects place
-  others-absent s object place kept other absent = λ held stored. absent held ((edit-others (edit object) s kept place (elsewhere object place other) held).0 stored)
+  others-absent s object place kept other absent =
+      λ held stored. absent held ((edit-others (edit object) s kept place (elsewhere object place other) held).0 stored)
 
   -- what is stored stays while others are stored
   stays : (objects : List Object) (s : StoreValue) (place : Place) (held : Stored) → IsWellFormed s → AllByRecursion (λ other. place_of other ≢ place) objects
@@ -66,13 +68,15 @@ module _ (edit : Object → Edit) (form : ℕ → Object → Stored) (fills : Fi
   stays (object ∷ more) s place held kept others stored =
       stays more (edited (edit object) s) place held (fills.kept s object kept) others.1 (others-same s object place held kept others.0 stored)
 
-  still-new : (objects : List Object) (s : StoreValue) (object : Object) → IsWellFormed s → AllByRecursion (λ other. place_of other ≢ place_of object) objects → AreNew objects s
+  still-new : (objects : List Object) (s : StoreValue) (object : Object) → IsWellFormed s → AllByRecursion (λ other. place_of other ≢ place_of object) objects
+      → AreNew objects s
       → AreNew objects (edited (edit object) s)
   still-new [] s object kept others new = tt
   still-new (next ∷ more) s object kept others new =
       (others-absent s object (place_of next) kept (λ same. others.0 (sym same)) new.0, still-new more s object kept others.1 new.1)
 
-  first-stored : (objects : List Object) (s : StoreValue) → IsWellFormed s → AreApart objects → AreNew objects s → AreStoredAs form s.counter objects (filled_by objects s)
+  first-stored : (objects : List Object) (s : StoreValue) → IsWellFormed s → AreApart objects → AreNew objects s
+      → AreStoredAs form s.counter objects (filled_by objects s)
   unfolding filled_by
   first-stored [] s kept apart new = tt
   first-stored (object ∷ more) s kept apart new = (
@@ -82,19 +86,22 @@ module _ (edit : Object → Edit) (form : ℕ → Object → Stored) (fills : Fi
   )
 
   -- what is stored after an object was stored was stored before, or it is the object
-  was-or-is : (b : Bool) (s : StoreValue) (object : Object) (held : Stored) → IsWellFormed s → b ≡ is_of (place_of object) held → Contains (edited (edit object) s).objects held
+  was-or-is : (b : Bool) (s : StoreValue) (object : Object) (held : Stored) → IsWellFormed s → b ≡ is_of (place_of object) held
+      → Contains (edited (edit object) s).objects held
       → Contains s.objects held ⊎ (place_of held.object ≡ place_of object)
   was-or-is true s object held kept is there = inr (is_of-is (place_of object) held (sym is))
   was-or-is false s object held kept is there =
       let other : place_of object ≢ place_of held.object = λ same. true≢false (sym (is_of-by (place_of object) held (sym same)) ∙ sym is) in
       inl ((edit-others (edit object) s kept (place_of held.object) (elsewhere object (place_of held.object) other) held).0 (there, refl)).0
 
-  only-these : (objects : List Object) (s : StoreValue) (held : Stored) → IsWellFormed s → Contains (filled_by objects s).objects held → Contains s.objects held ⊎ IsOneOf objects held
+  only-these : (objects : List Object) (s : StoreValue) (held : Stored) → IsWellFormed s → Contains (filled_by objects s).objects held
+      → Contains s.objects held ⊎ IsOneOf objects held
   unfolding filled_by
   only-these [] s held kept there = inl there
   only-these (object ∷ more) s held kept there =
       ⊎_elim
-      (λ now. ⊎_elim (λ before. inl before) (λ same. inr (object, contains-first object more, same)) (was-or-is (is_of (place_of object) held) s object held kept refl now))
+      (λ now. ⊎_elim (λ before. inl before) (λ same. inr (object, contains-first object more, same))
+      (was-or-is (is_of (place_of object) held) s object held kept refl now))
       (λ later. inr (later.0, contains-later object more later.0 later.1, later.2))
       (only-these more (edited (edit object) s) held (fills.kept s object kept) there)
 

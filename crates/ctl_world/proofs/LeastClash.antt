@@ -1,5 +1,6 @@
 -- Where no pair is found no two services clash, and the pair that is found is the least that do.
-use Rattle.std.proofs.Common.{◌≡◌, ◌≢◌, ⊎_elim, Bool, true, false, ◌&&◌, not, cond, List, [], ◌∷◌, ◌++◌, Option, Some, None, Ordering, Less, Equal, Greater, refl, sym, ap, subst, ◌∙◌}
+use Rattle.std.proofs.Common.{◌≡◌, ◌≢◌, ⊎_elim, Bool, true, false, ◌&&◌, not, cond, List, [], ◌∷◌, ◌++◌}
+use Rattle.std.proofs.Common.{Option, Some, None, Ordering, Less, Equal, Greater, refl, sym, ap, subst, ◌∙◌}
 use Rattle.std.proofs.lemmas.Bool.{and_parts, and_from, not-true, true≢false}
 use Rattle.std.proofs.lemmas.List.Elements.{Contains-append_cases, Contains-append_left, Contains-append_right}
 use Rattle.std.specs.Cmp.{tied_itself}
@@ -80,7 +81,8 @@ record IsMarkedBy (object : Object) (a : Marked) : Type 0 where
   addresses : service.holding.addresses ≡ a.addresses
   terms : recorded_terms service.holding.mark ≡ Some a.terms
 
-under-is : (service : Service) (found : Option Terms) (a : Marked) → recorded_terms service.holding.mark ≡ found → Contains (under service found) a → IsMarkedBy (objects.Service service) a
+under-is : (service : Service) (found : Option Terms) (a : Marked) → recorded_terms service.holding.mark ≡ found → Contains (under service found) a
+    → IsMarkedBy (objects.Service service) a
 under-is service None a e there = absurd (contains-none a there)
 under-is service (Some terms) a e there =
     ⊎_elim
@@ -149,7 +151,8 @@ is-service (objects.Namespace namespace) key r place holds = let e : kinds.Names
 is-service (objects.Node node) key r place holds = let e : kinds.Node ≡ kinds.Service = ap (λ (p : Place). p.0) place in absurd (cc)
 is-service (objects.Slice slice) key r place holds = let e : kinds.Slice ≡ kinds.Service = ap (λ (p : Place). p.0) place in absurd (cc)
 
-marked-there : (service : Service) (terms : Terms) → recorded_terms service.holding.mark ≡ Some terms → Contains (marked_of (objects.Service service)) (as_marked service terms)
+marked-there : (service : Service) (terms : Terms) → recorded_terms service.holding.mark ≡ Some terms
+    → Contains (marked_of (objects.Service service)) (as_marked service terms)
 marked-there service terms e = under-there service (recorded_terms service.holding.mark) terms e
 
 -- Among the marked services there is one of this key, with the addresses of the record and these terms.
@@ -201,16 +204,19 @@ found store first second c =
         address = c.address;
         there = subst (λ (xs : List AddressValue). Contains xs c.address) (sym x.addresses) c.there;
         there_too = subst (λ (xs : List AddressValue). Contains xs c.address) (sym y.addresses) c.there_too;
-        unshared = λ shares. c.unshared (subst (λ (t : Terms). MayShare t c.others) x.terms_are (subst (λ (u : Terms). MayShare x.marked.terms u) y.terms_are shares));
+        unshared =
+            λ shares. c.unshared (subst (λ (t : Terms). MayShare t c.others) x.terms_are (subst (λ (u : Terms). MayShare x.marked.terms u) y.terms_are shares));
       });
       first_is = x.key_is;
       second_is = y.key_is;
     }
 
-recorded : (store : StoreValue) (a : Marked) (held : Stored) → Contains store.objects held → (of : IsMarkedBy held.object a) → IsRecorded store a.key of.service.holding
+recorded : (store : StoreValue) (a : Marked) (held : Stored) → Contains store.objects held → (of : IsMarkedBy held.object a)
+    → IsRecorded store a.key of.service.holding
 recorded store a held there of = (held, (there, ap place_of of.is ∙ ap service_at of.key), ap record_of of.is)
 
-clash-from : (store : StoreValue) (a b : Marked) → Contains (marked_in store.objects) a → Contains (marked_in store.objects) b → clash a b ≡ true → Clash store a.key b.key
+clash-from : (store : StoreValue) (a b : Marked) → Contains (marked_in store.objects) a → Contains (marked_in store.objects) b → clash a b ≡ true
+    → Clash store a.key b.key
 clash-from store a b there there_too e =
     let c = clashing a b e in
     let x = from-marked store.objects a there in
@@ -241,11 +247,13 @@ abbrev AreByKey : List Marked → Type 0
 AreByKey [] = Unit {0}
 AreByKey (a ∷ more) = IsBelow a.key more × AreByKey more
 
-below_under : (key : Key) (service : Service) (found : Option Terms) (rest : List Marked) → place_cmp (service_at key) (place_of (objects.Service service)) ≡ Less → IsBelow key rest → IsBelow key (under service found ++ rest)
+below_under : (key : Key) (service : Service) (found : Option Terms) (rest : List Marked)
+    → place_cmp (service_at key) (place_of (objects.Service service)) ≡ Less → IsBelow key rest → IsBelow key (under service found ++ rest)
 below_under key service None rest first others = others
 below_under key service (Some terms) rest first others = (first, others)
 
-below_by : (key : Key) (object : Object) (rest : List Marked) → place_cmp (service_at key) (place_of object) ≡ Less → IsBelow key rest → IsBelow key (marked_of object ++ rest)
+below_by : (key : Key) (object : Object) (rest : List Marked) → place_cmp (service_at key) (place_of object) ≡ Less → IsBelow key rest
+    → IsBelow key (marked_of object ++ rest)
 below_by key (objects.Service service) rest first others = below_under key service (recorded_terms service.holding.mark) rest first others
 below_by key (objects.Pool pool) rest first others = others
 below_by key (objects.L2 adv) rest first others = others
@@ -256,16 +264,20 @@ below_by key (objects.Namespace namespace) rest first others = others
 below_by key (objects.Node node) rest first others = others
 below_by key (objects.Slice slice) rest first others = others
 
-below : (key : Key) (stored : List Stored) → AllByRecursion (λ place. place_cmp (service_at key) place ≡ Less) (places_of stored) → IsBelow key (marked_in stored)
+below : (key : Key) (stored : List Stored) → AllByRecursion (λ place. place_cmp (service_at key) place ≡ Less) (places_of stored)
+    → IsBelow key (marked_in stored)
 below key [] all = tt
 below key (held ∷ more) all = below_by key held.object (marked_in more) all.0 (below key more all.1)
 
-by_key_under : (service : Service) (found : Option Terms) (rest : List Marked) → IsBelow service.key rest → AreByKey rest → AreByKey (under service found ++ rest)
+by_key_under : (service : Service) (found : Option Terms) (rest : List Marked) → IsBelow service.key rest → AreByKey rest
+    → AreByKey (under service found ++ rest)
 by_key_under service None rest first others = others
 by_key_under service (Some terms) rest first others = (first, others)
 
-by_key_by : (object : Object) (more : List Stored) → AllByRecursion (λ place. place_cmp (place_of object) place ≡ Less) (places_of more) → AreByKey (marked_in more) → AreByKey (marked_of object ++ marked_in more)
-by_key_by (objects.Service service) more all others = by_key_under service (recorded_terms service.holding.mark) (marked_in more) (below service.key more all) others
+by_key_by : (object : Object) (more : List Stored) → AllByRecursion (λ place. place_cmp (place_of object) place ≡ Less) (places_of more)
+    → AreByKey (marked_in more) → AreByKey (marked_of object ++ marked_in more)
+by_key_by (objects.Service service) more all others =
+    by_key_under service (recorded_terms service.holding.mark) (marked_in more) (below service.key more all) others
 by_key_by (objects.Pool pool) more all others = others
 by_key_by (objects.L2 adv) more all others = others
 by_key_by (objects.Bgp adv) more all others = others
@@ -315,7 +327,8 @@ none_by : (r : Bool) (a first : Marked) (more : List Marked) → clash a first �
     → cond r (Some first.key) (partner a more) ≡ None → HasNone a (first ∷ more)
 none_by true a first more is ih e b there clashes = absurd (cc)
 none_by false a first more is ih e b there clashes =
-    ⊎_elim (λ same. true≢false (sym clashes ∙ ap (λ (x : Marked). clash a x) (sym same) ∙ is)) (λ later. ih e b later clashes) (contains-cons first more b there)
+    ⊎_elim (λ same. true≢false (sym clashes ∙ ap (λ (x : Marked). clash a x) (sym same) ∙ is)) (λ later. ih e b later clashes)
+    (contains-cons first more b there)
 
 no-partner : (a : Marked) (services : List Marked) → partner a services ≡ None → HasNone a services
 no-partner a [] e b there clashes = contains-none b there
@@ -331,7 +344,8 @@ not-itself key e = let tied : key_cmp key key ≡ Equal = tied_itself key_cmp-to
 not-above : (a b : Key) → key_cmp a b ≡ Less → key_cmp b a ≡ Less → ⊥
 not-above a b e less = let more : key_cmp b a ≡ Greater = flipped a b e in absurd (cc)
 
-least_by : (r : Bool) (a first : Marked) (more : List Marked) (key : Key) → clash a first ≡ r → IsBelow first.key more → (partner a more ≡ Some key → IsLeast a more key)
+least_by : (r : Bool) (a first : Marked) (more : List Marked) (key : Key) → clash a first ≡ r → IsBelow first.key more
+    → (partner a more ≡ Some key → IsLeast a more key)
     → cond r (Some first.key) (partner a more) ≡ Some key → IsLeast a (first ∷ more) key
 least_by true a first more key is low ih e b there clashes less =
     let same : first.key ≡ key = cc in
@@ -341,7 +355,8 @@ least_by true a first more key is low ih e b there clashes less =
     (λ later. not-above first.key b.key (at_member (λ x. key_cmp first.key x.key ≡ Less) more b low later) less')
     (contains-cons first more b there)
 least_by false a first more key is low ih e b there clashes less =
-    ⊎_elim (λ same. true≢false (sym clashes ∙ ap (λ (x : Marked). clash a x) (sym same) ∙ is)) (λ later. ih e b later clashes less) (contains-cons first more b there)
+    ⊎_elim (λ same. true≢false (sym clashes ∙ ap (λ (x : Marked). clash a x) (sym same) ∙ is)) (λ later. ih e b later clashes less)
+    (contains-cons first more b there)
 
 least-partner : (a : Marked) (services : List Marked) (key : Key) → AreByKey services → partner a services ≡ Some key → IsLeast a services key
 least-partner a [] key sorted e b there clashes less = contains-none b there
@@ -354,12 +369,17 @@ least-partner a (first ∷ more) key sorted e b there clashes less =
 abbrev IsPair : List Marked → List Marked → Key × Key → Type 0
 IsPair services all pair = (a : Marked) × Contains services a × (a.key ≡ pair.0) × IsPartner a all pair.1
 
-pair_by : (other : Option Key) (a : Marked) (more all : List Marked) (pair : Key × Key) → partner a all ≡ other → (first_pair more all ≡ Some pair → IsPair more all pair)
+pair_by : (other : Option Key) (a : Marked) (more all : List Marked) (pair : Key × Key) → partner a all ≡ other
+    → (first_pair more all ≡ Some pair → IsPair more all pair)
     → paired a.key other (first_pair more all) ≡ Some pair → IsPair (a ∷ more) all pair
 pair_by None a more all pair is ih e = let rest = ih e in (rest.0, contains-later a more rest.0 rest.1, rest.2, rest.3)
 pair_by (Some key) a more all pair is ih e =
-    let same : (a.key, key) ≡ pair = cc in
-    (a, contains-first a more, ap (λ (p : Key × Key). p.0) same, subst (λ (k : Key). IsPartner a all k) (ap (λ (p : Key × Key). p.1) same) (is-partner a all key is))
+    let same : (a.key, key) ≡ pair = cc in (
+      a,
+      contains-first a more,
+      ap (λ (p : Key × Key). p.0) same,
+      subst (λ (k : Key). IsPartner a all k) (ap (λ (p : Key × Key). p.1) same) (is-partner a all key is),
+    )
 
 is-pair : (services all : List Marked) (pair : Key × Key) → first_pair services all ≡ Some pair → IsPair services all pair
 is-pair [] all pair e = absurd (cc)
@@ -404,7 +424,8 @@ above-first key other r low e = then-above (key_cmp key other) r (flipped other 
 first_by : (other : Option Key) (a : Marked) (more all : List Marked) (pair : Key × Key) → partner a all ≡ other → IsBelow a.key more → AreByKey all
     → (first_pair more all ≡ Some pair → IsFirst more all pair) → paired a.key other (first_pair more all) ≡ Some pair → IsFirst (a ∷ more) all pair
 first_by None a more all pair is low sorted ih e x b there there' clashes less =
-    ⊎_elim (λ same. subst (λ (y : Marked). HasNone y all) same (no-partner a all is) b there' clashes) (λ later. ih e x b later there' clashes less) (contains-cons a more x there)
+    ⊎_elim (λ same. subst (λ (y : Marked). HasNone y all) same (no-partner a all is) b there' clashes) (λ later. ih e x b later there' clashes less)
+    (contains-cons a more x there)
 first_by (Some key) a more all pair is low sorted ih e x b there there' clashes less =
     let same : (a.key, key) ≡ pair = cc in
     let first : a.key ≡ pair.0 = ap (λ (p : Key × Key). p.0) same in
@@ -426,9 +447,11 @@ is-first (c ∷ more) all pair sorted sorted' e a b there there' clashes less =
 pub safe-found : (store : StoreValue) → clash_in store.objects ≡ None → IsSafe store
 safe-found store e =
     (safe_without_clash store).1
-    (λ first second c. let f = found store first second c in no-pair (marked_in store.objects) (marked_in store.objects) e f.a f.there f.b f.there_too f.clashes)
+    (λ first second c. let f = found store first second c in
+    no-pair (marked_in store.objects) (marked_in store.objects) e f.a f.there f.b f.there_too f.clashes)
 
-pub least-found : (store : StoreValue) (first second : Key) → IsAscending store.objects → clash_in store.objects ≡ Some (first, second) → IsLeastClash store first second
+pub least-found : (store : StoreValue) (first second : Key) → IsAscending store.objects → clash_in store.objects ≡ Some (first, second)
+    → IsLeastClash store first second
 least-found store first second ascending e =
     let services = marked_in store.objects in
     let pair = is-pair services services (first, second) e in
@@ -439,5 +462,6 @@ least-found store first second ascending e =
       least = λ a b c less.
           let f = found store a b c in
           is-first services services (first, second) sorted sorted e f.a f.b f.there f.there_too f.clashes
-          (ap (λ (k : Key). ordering_then (key_cmp k first) (key_cmp f.b.key second)) f.first_is ∙ ap (λ (k : Key). ordering_then (key_cmp a first) (key_cmp k second)) f.second_is ∙ less);
+          (ap (λ (k : Key). ordering_then (key_cmp k first) (key_cmp f.b.key second)) f.first_is
+          ∙ ap (λ (k : Key). ordering_then (key_cmp a first) (key_cmp k second)) f.second_is ∙ less);
     }

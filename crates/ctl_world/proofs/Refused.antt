@@ -59,7 +59,8 @@ module _ (old new : WorldValue) where
   left-step step faults.Limit left = inl left.2
   left-step step faults.NoMemory left = want-step step left.0 left.2
 
-  pub stepped : {T : Type 0} (r : Result T StepFault) (step : Step) → StepsTerms step → OnOk r (IsEnabled step old × ¬ (IsLimited step old)) → OnOk r (new ≡ world_step step old)
+  pub stepped : {T : Type 0} (r : Result T StepFault) (step : Step) → StepsTerms step → OnOk r (IsEnabled step old × ¬ (IsLimited step old))
+      → OnOk r (new ≡ world_step step old)
       → IfErr r (λ fault. Leaves fault step old new) → IsStepped old new
   stepped (Ok done) step typed there ok err = inr (step, typed, there.0, ok)
   stepped (Err fault) step typed there ok err = left-step step fault err
@@ -74,7 +75,8 @@ module _ (old new : WorldValue) (good : IsGood old) (own : IsOwn old) where
   stepped-kept either =
       ⊎_elim (λ same. (subst IsGood (sym same) good, subst IsOwn (sym same) own)) (λ made. made-kept made.0 made.1 made.2 made.3) either
 
-  pub stepped-unmarked : IsStepped old new → (key : Key) (r : Record) → IsRecorded new.store key r → IsUnmarked r → is_assigned r ≡ true → IsRecorded old.store key r
+  pub stepped-unmarked : IsStepped old new → (key : Key) (r : Record) → IsRecorded new.store key r → IsUnmarked r → is_assigned r ≡ true
+      → IsRecorded old.store key r
   stepped-unmarked either key r is unmarked has =
       ⊎_elim
       (λ same. subst (λ (w : WorldValue). IsRecorded w.store key r) same is)
@@ -124,7 +126,8 @@ module _ {T : Type 0} (step : Step) (old new : WorldValue) where
       → IsEnabled step old × IsLimited step old → IsErrOf r faults.Limit ⊎ (IsErrOf r faults.NoMemory × IsTake step)
   limited-is (Ok done) ok err is = absurd (ok.1 is.1)
   limited-is (Err fault) ok err is =
-      ⊎_elim (λ limit. inl (ap (λ (f : StepFault). Err f) limit)) (λ want. inr (ap (λ (f : StepFault). Err f) want.0, want.1)) (limited-left step old new fault err is)
+      ⊎_elim (λ limit. inl (ap (λ (f : StepFault). Err f) limit)) (λ want. inr (ap (λ (f : StepFault). Err f) want.0, want.1))
+      (limited-left step old new fault err is)
 
   pub refused-is : (r : Result T StepFault) → IfErr r (λ fault. Leaves fault step old new) → IsErrOf r faults.NotEnabled ⊎ IsErrOf r faults.Limit → new ≡ old
   refused-is r err either =

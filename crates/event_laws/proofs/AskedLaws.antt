@@ -122,8 +122,10 @@ asks None e = absurd cc
 
 not_asked : (annotation field : List ℕ) → wanted_of annotation field ≡ NotAsked → (annotation ≡ []) × (field ≡ [])
 not_asked [] [] e = (refl, refl)
-not_asked [] (c ∷ field) e = absurd (asks (option_map (λ a. a ∷ []) (result_ok (address_of (c ∷ field)))) (sym (wanted_of-field (c ∷ field) (λ none. absurd cc)) ∙ e))
-not_asked (c ∷ annotation) field e = absurd (asks (spelled_all (parts_of (c ∷ annotation))) (sym (wanted_of-annotation (c ∷ annotation) field (λ none. absurd cc)) ∙ e))
+not_asked [] (c ∷ field) e =
+    absurd (asks (option_map (λ a. a ∷ []) (result_ok (address_of (c ∷ field)))) (sym (wanted_of-field (c ∷ field) (λ none. absurd cc)) ∙ e))
+not_asked (c ∷ annotation) field e =
+    absurd (asks (spelled_all (parts_of (c ∷ annotation))) (sym (wanted_of-annotation (c ∷ annotation) field (λ none. absurd cc)) ∙ e))
 
 pub nothing_is_asked : NothingIsAsked
 nothing_is_asked annotation field = (not_asked annotation field, λ empty. rw (empty.0, empty.1) refl)

@@ -9,7 +9,8 @@ use Rattle.event_laws.proofs.Spelled.{head_read}
 pub namespaces_are_read : NamespacesAreRead
 unfolding body_of
 namespaces_are_read line head left_out spec n spells is_head =
-    head_read kinds.Namespace line head left_out spec n (λ key labels. objects.Namespace (record { name = key.name; labels = labels })) spells (λ d. refl) is_head refl
+    head_read kinds.Namespace line head left_out spec n (λ key labels. objects.Namespace (record { name = key.name; labels = labels })) spells (λ d. refl)
+    is_head refl
 
 pub nodes_are_read : NodesAreRead
 unfolding body_of

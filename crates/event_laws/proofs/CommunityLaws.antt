@@ -14,8 +14,10 @@ pair_read : (pair : List ℕ × List ℕ) → named_value_of (named_value_data p
 unfolding named_value_of object_of
 pair_read pair =
     let fields : List Field = (codes "name", Some (string pair.0)) ∷ (codes "value", Some (string pair.1)) ∷ [] in
-    let name : required_at text_of (codes "name") (spelled fields) ≡ Ok pair.0 = required_read text_of (codes "name") (spelled fields) (string pair.0) pair.0 (own_value (codes "name") fields refl) (text_read pair.0) in
-    let value : required_at text_of (codes "value") (spelled fields) ≡ Ok pair.1 = required_read text_of (codes "value") (spelled fields) (string pair.1) pair.1 (own_value (codes "value") fields refl) (text_read pair.1) in
+    let name : required_at text_of (codes "name") (spelled fields) ≡ Ok pair.0 =
+    required_read text_of (codes "name") (spelled fields) (string pair.0) pair.0 (own_value (codes "name") fields refl) (text_read pair.0) in
+    let value : required_at text_of (codes "value") (spelled fields) ≡ Ok pair.1 =
+    required_read text_of (codes "value") (spelled fields) (string pair.1) pair.1 (own_value (codes "value") fields refl) (text_read pair.1) in
     rw (name, value) refl
 
 pub communities_are_read : CommunitiesAreRead
@@ -23,5 +25,7 @@ unfolding body_of
 communities_are_read line head left_out values n spells is_head =
     let own : List Field = (codes "communities", option_map (list_data named_value_data) values) ∷ [] in
     let d : Data = spelled (object_fields (codes "Community") head left_out own) in
-    let list : named_values_field d ≡ Ok (unwrap_or values []) = same_list_read named_value_of named_value_data (codes "spec.communities") d values (spec_value (codes "spec.communities") (codes "communities") (codes "Community") head left_out own refl) pair_read in
-    head_read kinds.Community line head left_out own n (λ key labels. objects.Community (record { name = key.name; values = unwrap_or values [] })) spells (λ d. refl) is_head (rw list refl)
+    let list : named_values_field d ≡ Ok (unwrap_or values []) = same_list_read named_value_of named_value_data (codes "spec.communities") d values
+    (spec_value (codes "spec.communities") (codes "communities") (codes "Community") head left_out own refl) pair_read in
+    head_read kinds.Community line head left_out own n (λ key labels. objects.Community (record { name = key.name; values = unwrap_or values [] })) spells
+    (λ d. refl) is_head (rw list refl)

@@ -27,8 +27,11 @@ use Rattle.kube_events.specs.SliceFields.{slice_of}
 use Rattle.kube_events.specs.ObjectFields.{body_of, stated_object, changed_of, deleted_of}
 use Rattle.kube_events.specs.Members.{members_of}
 use Rattle.kube_events.specs.Frame.{bytes_of, frame_of}
-use Rattle.kube_events.specs.Event.{in_field, text_in, list_end, listed_in, ends_list, Says, set_event, deleted_event, bookmark_event, of_kind, of_object, watched, of_type, of_type_if, event_of}
-use Rattle.event_laws.specs.Naming.{SameObjectness, PortsAlike, PlacesAlike, ExpressionsAlike, SelectorsAlike, AllocationsAlike, NamedValuesAlike, EndpointsAlike, ServicesAlike, PoolsAlike, L2AdvsAlike, BgpAdvsAlike, PeersAlike, SlicesAlike, BodiesAlike, ObjectsAlike, ObjectsGoByName, OfKindAlike, WatchedAlike, AreWatchedAlike, LinesAlike, LinesGoByName}
+use Rattle.kube_events.specs.Event.{in_field, text_in, list_end, listed_in, ends_list, Says, set_event, deleted_event}
+use Rattle.kube_events.specs.Event.{bookmark_event, of_kind, of_object, watched, of_type, of_type_if, event_of}
+use Rattle.event_laws.specs.Naming.{SameObjectness, PortsAlike, PlacesAlike, ExpressionsAlike, SelectorsAlike, AllocationsAlike, NamedValuesAlike}
+use Rattle.event_laws.specs.Naming.{EndpointsAlike, ServicesAlike, PoolsAlike, L2AdvsAlike, BgpAdvsAlike, PeersAlike, SlicesAlike, BodiesAlike}
+use Rattle.event_laws.specs.Naming.{ObjectsAlike, ObjectsGoByName, OfKindAlike, WatchedAlike, AreWatchedAlike, LinesAlike, LinesGoByName}
 
 -- ---- parts of objects
 
@@ -196,7 +199,8 @@ labels_read d e kind alike = labels_alike (codes "metadata.labels") d e alike.la
 
 changed_same : (kind : Kind) (d e : Data) → ObjectsAlike kind d e → changed_of kind d ≡ changed_of kind e
 unfolding changed_of
-changed_same kind d e alike = rw (key_read kind d e alike, version_read d e alike.version, labels_read d e kind alike, body_read kind d e (labels_read d e kind alike) alike.body) refl
+changed_same kind d e alike =
+    rw (key_read kind d e alike, version_read d e alike.version, labels_read d e kind alike, body_read kind d e (labels_read d e kind alike) alike.body) refl
 
 stated_same : (kind : Kind) (d e : Data) → ObjectsAlike kind d e → stated_object kind d ≡ stated_object kind e
 unfolding stated_object
@@ -224,7 +228,8 @@ bookmark_same : SaysSame bookmark_event
 unfolding ends_list
 bookmark_same kind d e alike both = ap (λ (found : Option (List ℕ)). Ok (list_end (listed_in kind) (is_text found (codes "true")))) alike.end
 
-kind_same : (says : Says) → SaysSame says → (kind : Option Kind) (d e : Data) → WatchedAlike d e → OfKindAlike kind d e → of_kind says kind d ≡ of_kind says kind e
+kind_same : (says : Says) → SaysSame says → (kind : Option Kind) (d e : Data) → WatchedAlike d e → OfKindAlike kind d e
+    → of_kind says kind d ≡ of_kind says kind e
 kind_same says same (Some kind) d e alike both = same kind d e alike both
 kind_same says same None d e alike both = refl
 
@@ -235,7 +240,8 @@ object_same says same None d e alike both = refl
 
 watched_same : (says : Says) → SaysSame says → (found other : Option Data) → AreWatchedAlike found other → watched says found ≡ watched says other
 watched_same says same (Some d) (Some e) alike =
-    ap (λ (name : Option (List ℕ)). of_object says name d) alike.kind ∙ object_same says same (text_in (codes "kind") e) d e alike (rw alike.kind at alike.of_kind)
+    ap (λ (name : Option (List ℕ)). of_object says name d) alike.kind
+    ∙ object_same says same (text_in (codes "kind") e) d e alike (rw alike.kind at alike.of_kind)
 watched_same says same (Some d) None alike = absurd alike
 watched_same says same None (Some e) alike = absurd alike
 watched_same says same None None alike = refl

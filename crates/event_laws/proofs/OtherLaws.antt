@@ -1,5 +1,6 @@
 -- Lines of bookmarks, members and frames.
-use Rattle.std.proofs.Common.{◌≡◌, ◌≢◌, ◌⊎◌, ℕ, Bool, true, false, List, [], ◌∷◌, Option, Some, None, Ok, Ordering, Less, Equal, Greater, refl, sym, ap, ◌∙◌, inl, inr, ⊎_elim, codes, bytes_eq}
+use Rattle.std.proofs.Common.{◌≡◌, ◌≢◌, ◌⊎◌, ℕ, Bool, true, false, List, [], ◌∷◌, Option, Some, None, Ok, Ordering}
+use Rattle.std.proofs.Common.{Less, Equal, Greater, refl, sym, ap, ◌∙◌, inl, inr, ⊎_elim, codes, bytes_eq}
 use Rattle.std.specs.Ordering.{match_ordering, ordering_reverse}
 use Rattle.std.specs.List.{AllByRecursion}
 use Rattle.std.specs.List.Sorted.{IsStrictlySortedBy}
@@ -59,7 +60,8 @@ bookmarks_are_read line kind d tells =
 abbrev Names : Type 0
 Names = List (List ℕ)
 
-all_inserted_by : (r : Ordering) (P : List ℕ → Type 0) (x k : List ℕ) (xs : Names) → AllByRecursion P (insert_key name_cmp xs k) → P x → AllByRecursion P xs → P k
+all_inserted_by : (r : Ordering) (P : List ℕ → Type 0) (x k : List ℕ) (xs : Names) → AllByRecursion P (insert_key name_cmp xs k) → P x → AllByRecursion P xs
+    → P k
     → AllByRecursion P (match_ordering r (k ∷ x ∷ xs) (x ∷ xs) (x ∷ insert_key name_cmp xs k))
 all_inserted_by Less P x k xs later first rest new = (new, (first, rest))
 all_inserted_by Equal P x k xs later first rest new = (first, rest)
@@ -73,7 +75,8 @@ all_above : (k x : List ℕ) → name_cmp k x ≡ Less → (xs : Names) → AllB
 all_above k x below [] all = tt
 all_above k x below (y ∷ xs) all = (name_cmp-total.trans k x y below all.0, all_above k x below xs all.1)
 
-ascend_by : (r : Ordering) (x k : List ℕ) (xs : Names) → name_cmp k x ≡ r → IsStrictlySortedBy name_cmp (insert_key name_cmp xs k) → IsStrictlySortedBy name_cmp (x ∷ xs)
+ascend_by : (r : Ordering) (x k : List ℕ) (xs : Names) → name_cmp k x ≡ r → IsStrictlySortedBy name_cmp (insert_key name_cmp xs k)
+    → IsStrictlySortedBy name_cmp (x ∷ xs)
     → IsStrictlySortedBy name_cmp (match_ordering r (k ∷ x ∷ xs) (x ∷ xs) (x ∷ insert_key name_cmp xs k))
 unfolding IsStrictlySortedBy
 ascend_by Less x k xs p later s = ((p, all_above k x p xs s.0), s)
@@ -160,13 +163,18 @@ frame_event d interface bytes is_interface are_bytes = rw (is_interface, are_byt
 frame_read : (interface digits bytes : List ℕ) → decode_of digits ≡ Ok bytes → event_of (frame_line interface digits) ≡ Ok (Frame interface bytes)
 unfolding event_of
 frame_read interface digits bytes is =
-    let fields : List Field = (codes "bytes", Some (string digits)) ∷ (codes "interface", Some (string interface)) ∷ (codes "type", Some (string (codes "FRAME"))) ∷ [] in
-    let at_interface : interface_field (spelled fields) ≡ Ok interface = required_read text_of (codes "interface") (spelled fields) (string interface) interface (own_value (codes "interface") fields refl) (text_read interface) in
-    let at_bytes : bytes_field (spelled fields) ≡ Ok bytes = required_read bytes_of (codes "bytes") (spelled fields) (string digits) bytes (own_value (codes "bytes") fields refl) (digits_read digits bytes is) in
+    let fields : List Field =
+    (codes "bytes", Some (string digits)) ∷ (codes "interface", Some (string interface)) ∷ (codes "type", Some (string (codes "FRAME"))) ∷ [] in
+    let at_interface : interface_field (spelled fields) ≡ Ok interface = required_read text_of (codes "interface") (spelled fields) (string interface) interface
+    (own_value (codes "interface") fields refl) (text_read interface) in
+    let at_bytes : bytes_field (spelled fields) ≡ Ok bytes =
+    required_read bytes_of (codes "bytes") (spelled fields) (string digits) bytes (own_value (codes "bytes") fields refl) (digits_read digits bytes is) in
     rw (frame_event (spelled fields) interface bytes at_interface at_bytes) refl
 
 pub frames_are_read : FramesAreRead
-frames_are_read line interface digits bytes spells is = from_bytes line (frame_line interface digits) (Frame interface bytes) spells (frame_read interface digits bytes is)
+frames_are_read line interface digits bytes spells is =
+    from_bytes line (frame_line interface digits) (Frame interface bytes) spells (frame_read interface digits bytes is)
 
 pub frames_read_back : FramesReadBack
-frames_read_back line interface bytes are_bytes spells = frames_are_read line interface (encode_lower bytes) bytes spells (decode_of-encode_lower bytes are_bytes)
+frames_read_back line interface bytes are_bytes spells =
+    frames_are_read line interface (encode_lower bytes) bytes spells (decode_of-encode_lower bytes are_bytes)

@@ -2,7 +2,8 @@
 use Rattle.std.proofs.Common.{◌≡◌, ℕ, ◌+◌, List, [], ◌∷◌, Result, Ok, Err, codes, refl}
 use Rattle.serde_json.specs.Data.{Data, Items, no_items, item}
 use Rattle.json_fields.specs.Path.{Path, item_place}
-use Rattle.json_fields.specs.Reading.{◌>>=◌, within, items_from, optional_at, default_at, required_at, list_at, labels_at, object_of, text_of, bool_of, number_in}
+use Rattle.json_fields.specs.Reading.{◌>>=◌, within, items_from, optional_at, default_at, required_at, list_at}
+use Rattle.json_fields.specs.Reading.{labels_at, object_of, text_of, bool_of, number_in}
 use Rattle.json_fields.specs.Expressions.{expression_of}
 use Rattle.kube_model.specs.declared.port.Protocol.TheVariants.{Tcp}
 use Rattle.kube_model.specs.Named.{protocol_of}
@@ -14,7 +15,8 @@ use Rattle.kube_events.specs.Named.{family_of, address_in}
 use Rattle.kube_events.specs.CommunityFields.{named_value_of}
 use Rattle.kube_events.specs.ServiceFields.{ingress_of}
 use Rattle.event_laws.specs.FieldOrder.{fault, Rows, first_of}
-use Rattle.event_laws.specs.PartOrder.{PartFaultIsFirst, port_rows, place_rows, allocation_rows, selector_rows, expression_rows, named_value_rows, endpoint_rows, item_rows, ItemFaultsAreFirst}
+use Rattle.event_laws.specs.PartOrder.{PartFaultIsFirst, port_rows, place_rows, allocation_rows, selector_rows}
+use Rattle.event_laws.specs.PartOrder.{expression_rows, named_value_rows, endpoint_rows, item_rows, ItemFaultsAreFirst}
 use Rattle.event_laws.proofs.Rows.{then_row, only}
 
 pub port_fault_is_first : PartFaultIsFirst port_of port_rows
@@ -79,7 +81,8 @@ item_then (Err path) others rows same = refl
 items_first : {A : Type 0} (read : Data → Result A Path) (index : ℕ) (ds : Items) → fault (items_from read index ds) ≡ first_of (item_rows read index ds)
 unfolding items_from
 items_first read index no_items = refl
-items_first read index (item d ds) = item_then (within (item_place index) (read d)) (items_from read (index + 1) ds) (item_rows read (index + 1) ds) (items_first read (index + 1) ds)
+items_first read index (item d ds) =
+    item_then (within (item_place index) (read d)) (items_from read (index + 1) ds) (item_rows read (index + 1) ds) (items_first read (index + 1) ds)
 
 pub item_faults_are_first : ItemFaultsAreFirst
 item_faults_are_first = (

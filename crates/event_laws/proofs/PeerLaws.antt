@@ -15,9 +15,13 @@ pub peers_are_read : PeersAreRead
 unfolding body_of peer_of
 peers_are_read line s n spells is_head is_own is_other =
     let d : Data = spelled (object_fields (codes "BGPPeer") s.head false (peer_fields s)) in
-    let my_asn : my_asn_field d ≡ Ok s.my_asn = required_read (number_in 1 4294967295) (codes "spec.myASN") d (number_data s.my_asn) s.my_asn (spec_value (codes "spec.myASN") (codes "myASN") (codes "BGPPeer") s.head false (peer_fields s) refl) (number_read 1 4294967295 s.my_asn is_own) in
-    let peer_asn : peer_asn_field d ≡ Ok s.peer_asn = required_read (number_in 1 4294967295) (codes "spec.peerASN") d (number_data s.peer_asn) s.peer_asn (spec_value (codes "spec.peerASN") (codes "peerASN") (codes "BGPPeer") s.head false (peer_fields s) refl) (number_read 1 4294967295 s.peer_asn is_other) in
-    let node_selectors : node_selectors_field d ≡ Ok (selectors_spelled s.node_selectors) = selectors_read (codes "spec.nodeSelectors") d s.node_selectors (spec_value (codes "spec.nodeSelectors") (codes "nodeSelectors") (codes "BGPPeer") s.head false (peer_fields s) refl) in
+    let my_asn : my_asn_field d ≡ Ok s.my_asn = required_read (number_in 1 4294967295) (codes "spec.myASN") d (number_data s.my_asn) s.my_asn
+    (spec_value (codes "spec.myASN") (codes "myASN") (codes "BGPPeer") s.head false (peer_fields s) refl) (number_read 1 4294967295 s.my_asn is_own) in
+    let peer_asn : peer_asn_field d ≡ Ok s.peer_asn =
+    required_read (number_in 1 4294967295) (codes "spec.peerASN") d (number_data s.peer_asn) s.peer_asn (spec_value (codes "spec.peerASN") (codes "peerASN")
+    (codes "BGPPeer") s.head false (peer_fields s) refl) (number_read 1 4294967295 s.peer_asn is_other) in
+    let node_selectors : node_selectors_field d ≡ Ok (selectors_spelled s.node_selectors) = selectors_read (codes "spec.nodeSelectors") d s.node_selectors
+    (spec_value (codes "spec.nodeSelectors") (codes "nodeSelectors") (codes "BGPPeer") s.head false (peer_fields s) refl) in
     head_read kinds.Peer line s.head false (peer_fields s) n
     (λ key labels. objects.Peer (record { name = key.name; my_asn = s.my_asn; peer_asn = s.peer_asn; node_selectors = selectors_spelled s.node_selectors }))
     spells (λ d. refl) is_head (rw (my_asn, peer_asn, node_selectors) refl)

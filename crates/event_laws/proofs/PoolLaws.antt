@@ -22,20 +22,38 @@ allocation_read a in_range =
     (codes "priority", option_map number_data a.priority) ∷
     (codes "serviceSelectors", selectors_data a.service_selectors) ∷ [] in
     let d : Data = spelled fields in
-    let priority : default_at (number_in 0 2147483647) (codes "priority") 0 d ≡ Ok (unwrap_or a.priority 0) = number_or_read 0 2147483647 (codes "priority") 0 d a.priority (own_value (codes "priority") fields refl) (IfSome_then a.priority in_range (λ n h. (omega arith, h))) in
-    let namespaces : list_at text_of (codes "namespaces") d ≡ Ok (unwrap_or a.namespaces []) = texts_read (codes "namespaces") d a.namespaces (own_value (codes "namespaces") fields refl) in
-    let namespace_selectors : list_at selector_of (codes "namespaceSelectors") d ≡ Ok (selectors_spelled a.namespace_selectors) = selectors_read (codes "namespaceSelectors") d a.namespace_selectors (own_value (codes "namespaceSelectors") fields refl) in
-    let service_selectors : list_at selector_of (codes "serviceSelectors") d ≡ Ok (selectors_spelled a.service_selectors) = selectors_read (codes "serviceSelectors") d a.service_selectors (own_value (codes "serviceSelectors") fields refl) in
+    let priority : default_at (number_in 0 2147483647) (codes "priority") 0 d ≡ Ok (unwrap_or a.priority 0) = number_or_read 0 2147483647 (codes "priority") 0 d
+    a.priority (own_value (codes "priority") fields refl) (IfSome_then a.priority in_range (λ n h. (omega arith, h))) in
+    let namespaces : list_at text_of (codes "namespaces") d ≡ Ok (unwrap_or a.namespaces []) =
+    texts_read (codes "namespaces") d a.namespaces (own_value (codes "namespaces") fields refl) in
+    let namespace_selectors : list_at selector_of (codes "namespaceSelectors") d ≡ Ok (selectors_spelled a.namespace_selectors) =
+    selectors_read (codes "namespaceSelectors") d a.namespace_selectors (own_value (codes "namespaceSelectors") fields refl) in
+    let service_selectors : list_at selector_of (codes "serviceSelectors") d ≡ Ok (selectors_spelled a.service_selectors) =
+    selectors_read (codes "serviceSelectors") d a.service_selectors (own_value (codes "serviceSelectors") fields refl) in
     rw (priority, namespaces, namespace_selectors, service_selectors) refl
 
 pub pools_are_read : PoolsAreRead
 unfolding body_of pool_of
 pools_are_read line s n spells is_head in_range =
     let d : Data = spelled (object_fields (codes "IPAddressPool") s.head s.without_spec (pool_fields s)) in
-    let entries : entries_field d ≡ Ok (unwrap_or s.entries []) = texts_read (codes "spec.addresses") d s.entries (spec_value (codes "spec.addresses") (codes "addresses") (codes "IPAddressPool") s.head s.without_spec (pool_fields s) refl) in
-    let auto_assign : auto_assign_field d ≡ Ok (unwrap_or s.auto_assign true) = default_read bool_of boolean (codes "spec.autoAssign") true d s.auto_assign (spec_value (codes "spec.autoAssign") (codes "autoAssign") (codes "IPAddressPool") s.head s.without_spec (pool_fields s) refl) (λ flag. refl) flag_read in
-    let avoid_buggy : avoid_buggy_field d ≡ Ok (unwrap_or s.avoid_buggy false) = default_read bool_of boolean (codes "spec.avoidBuggyIPs") false d s.avoid_buggy (spec_value (codes "spec.avoidBuggyIPs") (codes "avoidBuggyIPs") (codes "IPAddressPool") s.head s.without_spec (pool_fields s) refl) (λ flag. refl) flag_read in
-    let allocation : allocation_field d ≡ Ok (option_map allocation_spelled s.allocation) = optional_read allocation_of allocation_data allocation_spelled IsAllocation (codes "spec.serviceAllocation") d s.allocation (spec_value (codes "spec.serviceAllocation") (codes "serviceAllocation") (codes "IPAddressPool") s.head s.without_spec (pool_fields s) refl) (λ a. refl) allocation_read in_range in
+    let entries : entries_field d ≡ Ok (unwrap_or s.entries []) = texts_read (codes "spec.addresses") d s.entries
+    (spec_value (codes "spec.addresses") (codes "addresses") (codes "IPAddressPool") s.head s.without_spec (pool_fields s) refl) in
+    let auto_assign : auto_assign_field d ≡ Ok (unwrap_or s.auto_assign true) =
+    default_read bool_of boolean (codes "spec.autoAssign") true d s.auto_assign (spec_value (codes "spec.autoAssign") (codes "autoAssign")
+    (codes "IPAddressPool") s.head s.without_spec (pool_fields s) refl) (λ flag. refl) flag_read in
+    let avoid_buggy : avoid_buggy_field d ≡ Ok (unwrap_or s.avoid_buggy false) =
+    default_read bool_of boolean (codes "spec.avoidBuggyIPs") false d s.avoid_buggy (spec_value (codes "spec.avoidBuggyIPs") (codes "avoidBuggyIPs")
+    (codes "IPAddressPool") s.head s.without_spec (pool_fields s) refl) (λ flag. refl) flag_read in
+    let allocation : allocation_field d ≡ Ok (option_map allocation_spelled s.allocation) = optional_read allocation_of allocation_data
+    allocation_spelled IsAllocation (codes "spec.serviceAllocation") d s.allocation (spec_value (codes "spec.serviceAllocation") (codes "serviceAllocation")
+    (codes "IPAddressPool") s.head s.without_spec (pool_fields s) refl) (λ a. refl) allocation_read in_range in
     head_read kinds.Pool line s.head s.without_spec (pool_fields s) n
-    (λ key labels. objects.Pool (record { name = key.name; labels = labels; entries = unwrap_or s.entries []; auto_assign = unwrap_or s.auto_assign true; avoid_buggy = unwrap_or s.avoid_buggy false; allocation = option_map allocation_spelled s.allocation }))
+    (λ key labels. objects.Pool (record {
+      name = key.name;
+      labels = labels;
+      entries = unwrap_or s.entries [];
+      auto_assign = unwrap_or s.auto_assign true;
+      avoid_buggy = unwrap_or s.avoid_buggy false;
+      allocation = option_map allocation_spelled s.allocation;
+    }))
     spells (λ d. refl) is_head (rw (entries, auto_assign, avoid_buggy, allocation) refl)

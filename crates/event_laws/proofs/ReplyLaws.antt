@@ -1,5 +1,6 @@
 -- The replies to puts.
-use Rattle.std.proofs.Common.{◌≡◌, ℕ, ◌<◌, Bool, true, false, cond, ltb, ltb-true, List, Option, Some, None, option_and_then, refl, sym, ap, ◌∙◌, codes, bytes_eq}
+use Rattle.std.proofs.Common.{◌≡◌, ℕ, ◌<◌, Bool, true, false, cond, ltb, ltb-true, List, Option, Some, None}
+use Rattle.std.proofs.Common.{option_and_then, refl, sym, ap, ◌∙◌, codes, bytes_eq}
 use Rattle.std.proofs.lemmas.Bool.{lt-ltb}
 use Rattle.std.proofs.lemmas.Slice.Eq.{bytes_eq-Decides}
 use Rattle.serde_json.specs.Data.{Data}
@@ -49,18 +50,23 @@ by_word true stale missing unknown read reply is_ok e =
       if_missing = λ is. absurd (cc);
       if_unknown = λ is. absurd (cc);
     }
-by_word false true missing unknown read reply is_ok e = record { if_ok = λ n is. absurd (cc); if_stale = λ is. refl; if_missing = λ is. absurd (cc); if_unknown = λ is. absurd (cc) }
-by_word false false true unknown read reply is_ok e = record { if_ok = λ n is. absurd (cc); if_stale = λ is. absurd (cc); if_missing = λ is. refl; if_unknown = λ is. absurd (cc) }
-by_word false false false true read reply is_ok e = record { if_ok = λ n is. absurd (cc); if_stale = λ is. absurd (cc); if_missing = λ is. absurd (cc); if_unknown = λ is. refl }
+by_word false true missing unknown read reply is_ok e =
+    record { if_ok = λ n is. absurd (cc); if_stale = λ is. refl; if_missing = λ is. absurd (cc); if_unknown = λ is. absurd (cc) }
+by_word false false true unknown read reply is_ok e =
+    record { if_ok = λ n is. absurd (cc); if_stale = λ is. absurd (cc); if_missing = λ is. refl; if_unknown = λ is. absurd (cc) }
+by_word false false false true read reply is_ok e =
+    record { if_ok = λ n is. absurd (cc); if_stale = λ is. absurd (cc); if_missing = λ is. absurd (cc); if_unknown = λ is. refl }
 by_word false false false false read reply is_ok e = absurd (cc)
 
 word : (name wanted : List ℕ) → bytes_eq name wanted ≡ true → Some name ≡ Some wanted
 word name wanted e = ap (λ (t : List ℕ). Some t) ((bytes_eq-Decides name wanted).0 e)
 
 named_by : (put : Put) (d : Data) (name : List ℕ) (reply : PutReply) → reply_named put d name ≡ Some reply
-    → ByWord (bytes_eq name (codes "ok")) (bytes_eq name (codes "stale")) (bytes_eq name (codes "missing")) (bytes_eq name (codes "unknown")) (option_and_then (newer put) (version_in d)) reply
+    → ByWord (bytes_eq name (codes "ok")) (bytes_eq name (codes "stale")) (bytes_eq name (codes "missing")) (bytes_eq name (codes "unknown"))
+    (option_and_then (newer put) (version_in d)) reply
 named_by put d name reply e =
-    by_word (bytes_eq name (codes "ok")) (bytes_eq name (codes "stale")) (bytes_eq name (codes "missing")) (bytes_eq name (codes "unknown")) (option_and_then (newer put) (version_in d)) reply (newer_is_ok put (version_in d)) e
+    by_word (bytes_eq name (codes "ok")) (bytes_eq name (codes "stale")) (bytes_eq name (codes "missing")) (bytes_eq name (codes "unknown"))
+    (option_and_then (newer put) (version_in d)) reply (newer_is_ok put (version_in d)) e
 
 ok_there : (put : Put) (d : Data) (found : Option (List ℕ)) (n : ℕ) → option_and_then (reply_named put d) found ≡ Some (replies.Ok n)
     → (found ≡ Some (codes "ok")) × (version_in d ≡ Some n) × (put.version < n)
@@ -74,11 +80,13 @@ stale_there : (put : Put) (d : Data) (found : Option (List ℕ)) → option_and_
 stale_there put d (Some name) e = word name (codes "stale") ((named_by put d name replies.Stale e).if_stale refl)
 stale_there put d None e = absurd cc
 
-missing_there : (put : Put) (d : Data) (found : Option (List ℕ)) → option_and_then (reply_named put d) found ≡ Some replies.Missing → found ≡ Some (codes "missing")
+missing_there : (put : Put) (d : Data) (found : Option (List ℕ)) → option_and_then (reply_named put d) found ≡ Some replies.Missing
+    → found ≡ Some (codes "missing")
 missing_there put d (Some name) e = word name (codes "missing") ((named_by put d name replies.Missing e).if_missing refl)
 missing_there put d None e = absurd cc
 
-unknown_there : (put : Put) (d : Data) (found : Option (List ℕ)) → option_and_then (reply_named put d) found ≡ Some replies.Unknown → found ≡ Some (codes "unknown")
+unknown_there : (put : Put) (d : Data) (found : Option (List ℕ)) → option_and_then (reply_named put d) found ≡ Some replies.Unknown
+    → found ≡ Some (codes "unknown")
 unknown_there put d (Some name) e = word name (codes "unknown") ((named_by put d name replies.Unknown e).if_unknown refl)
 unknown_there put d None e = absurd cc
 

@@ -6,7 +6,8 @@ use Rattle.json_fields.specs.Reading.{◌>>=◌}
 use Rattle.kube_model.specs.declared.object.Kind.{Kind}
 use Rattle.kube_model.specs.declared.object.Kind.TheVariants as kinds
 use Rattle.kube_events.specs.Fields.{key_of, name_field, namespace_field, version_field, labels_field, pools_field, pool_selectors_field, node_selectors_field}
-use Rattle.kube_events.specs.ServiceFields.{annotations_field, balancer_field, class_field, address_field, families_field, prefer_dual_field, policy_field, selector_field, ports_field, places_field, service_of}
+use Rattle.kube_events.specs.ServiceFields.{annotations_field, balancer_field, class_field, address_field, families_field}
+use Rattle.kube_events.specs.ServiceFields.{prefer_dual_field, policy_field, selector_field, ports_field, places_field, service_of}
 use Rattle.kube_events.specs.PoolFields.{entries_field, auto_assign_field, avoid_buggy_field, allocation_field, pool_of}
 use Rattle.kube_events.specs.L2Fields.{interfaces_field, l2_of}
 use Rattle.kube_events.specs.BgpFields.{length_field, length_v6_field, local_pref_field, communities_field, peers_field, bgp_of}
@@ -14,7 +15,8 @@ use Rattle.kube_events.specs.PeerFields.{my_asn_field, peer_asn_field, peer_of}
 use Rattle.kube_events.specs.CommunityFields.{named_values_field}
 use Rattle.kube_events.specs.SliceFields.{endpoints_field, slice_of}
 use Rattle.kube_events.specs.ObjectFields.{body_of, stated_object, changed_of, deleted_of}
-use Rattle.event_laws.specs.FieldOrder.{fault, Rows, first_of, service_rows, pool_rows, l2_rows, bgp_rows, peer_rows, own_rows, FaultIsFirst, StatedFaultIsFirst, DeletedFaultIsFirst}
+use Rattle.event_laws.specs.FieldOrder.{fault, Rows, first_of, service_rows, pool_rows, l2_rows, bgp_rows}
+use Rattle.event_laws.specs.FieldOrder.{peer_rows, own_rows, FaultIsFirst, StatedFaultIsFirst, DeletedFaultIsFirst}
 
 passed : (xs ys : Rows) → first_of xs ≡ None → first_of (xs ++ ys) ≡ first_of ys
 passed [] ys none = refl
@@ -119,15 +121,18 @@ slice_first d =
 -- The labels of an endpoint slice are read once more for its service.
 body_first : (kind : Kind) (d : Data) → first_of (fault (labels_field d) ∷ fault (body_of kind d) ∷ []) ≡ first_of (fault (labels_field d) ∷ own_rows kind d)
 unfolding body_of
-body_first kinds.Service d = under (fault (labels_field d)) _ _ (sym (only (fault (body_of kinds.Service d))) ∙ ended (service_of d) _ _ (service_first d) (λ make. refl))
+body_first kinds.Service d =
+    under (fault (labels_field d)) _ _ (sym (only (fault (body_of kinds.Service d))) ∙ ended (service_of d) _ _ (service_first d) (λ make. refl))
 body_first kinds.Pool d = under (fault (labels_field d)) _ _ (sym (only (fault (body_of kinds.Pool d))) ∙ ended (pool_of d) _ _ (pool_first d) (λ make. refl))
 body_first kinds.L2 d = under (fault (labels_field d)) _ _ (sym (only (fault (body_of kinds.L2 d))) ∙ ended (l2_of d) _ _ (l2_first d) (λ make. refl))
 body_first kinds.Bgp d = under (fault (labels_field d)) _ _ (sym (only (fault (body_of kinds.Bgp d))) ∙ ended (bgp_of d) _ _ (bgp_first d) (λ make. refl))
 body_first kinds.Peer d = under (fault (labels_field d)) _ _ (sym (only (fault (body_of kinds.Peer d))) ∙ ended (peer_of d) _ _ (peer_first d) (λ make. refl))
-body_first kinds.Community d = under (fault (labels_field d)) _ _ (sym (only (fault (body_of kinds.Community d))) ∙ ended (named_values_field d) _ _ (only (fault (named_values_field d))) (λ values. refl))
+body_first kinds.Community d = under (fault (labels_field d))
+    _ _ (sym (only (fault (body_of kinds.Community d))) ∙ ended (named_values_field d) _ _ (only (fault (named_values_field d))) (λ values. refl))
 body_first kinds.Namespace d = under (fault (labels_field d)) (None ∷ []) [] refl
 body_first kinds.Node d = under (fault (labels_field d)) (None ∷ []) [] refl
-body_first kinds.Slice d = under (fault (labels_field d)) _ _ (sym (only (fault (body_of kinds.Slice d))) ∙ ended (slice_of d) _ _ (slice_first d) (λ make. refl)) ∙ twice (fault (labels_field d)) _
+body_first kinds.Slice d = under (fault (labels_field d))
+    _ _ (sym (only (fault (body_of kinds.Slice d))) ∙ ended (slice_of d) _ _ (slice_first d) (λ make. refl)) ∙ twice (fault (labels_field d)) _
 
 -- ---- objects
 
@@ -150,7 +155,8 @@ fault_is_first kind d =
 pub stated_fault_is_first : StatedFaultIsFirst
 unfolding stated_object
 stated_fault_is_first kind d =
-    then_rows (key_of kind d) _ (fault (name_field d) ∷ fault (namespace_field kind d) ∷ []) (fault (labels_field d) ∷ fault (body_of kind d) ∷ []) (key_first kind d) (λ key.
+    then_rows (key_of kind d) _ (fault (name_field d) ∷ fault (namespace_field kind d) ∷ []) (fault (labels_field d) ∷ fault (body_of kind d) ∷ [])
+    (key_first kind d) (λ key.
     then_row (labels_field d) _ (fault (body_of kind d) ∷ []) (λ labels.
     then_row (body_of kind d) _ [] (λ make. refl)))
     ∙ under (fault (name_field d)) _ _ (under (fault (namespace_field kind d)) _ _ (body_first kind d))

@@ -1,5 +1,6 @@
 -- What is read of values that are spelled member by member.
-use Rattle.std.proofs.Common.{◌≡◌, ℕ, ◌+◌, ◌<◌, ◌≤◌, List, [], ◌∷◌, Bool, true, false, cond, ◌&&◌, map, Option, Some, None, option_map, Result, Ok, is_some, codes, refl, sym, ap, ◌∙◌, length, unwrap_or, arith, IfSome}
+use Rattle.std.proofs.Common.{◌≡◌, ℕ, ◌+◌, ◌<◌, ◌≤◌, List, [], ◌∷◌, Bool, true, false, cond, ◌&&◌, map, Option, Some, None}
+use Rattle.std.proofs.Common.{option_map, Result, Ok, is_some, codes, refl, sym, ap, ◌∙◌, length, unwrap_or, arith, IfSome}
 use Rattle.std.specs.Bool.{⊤}
 use Rattle.std.specs.List.{All}
 use Rattle.std.specs.Ordering.{nat_cmp, match_ordering}
@@ -15,7 +16,8 @@ use Rattle.serde_json.specs.Data.{Data, string, boolean}
 use Rattle.serde_json.specs.Find.{get_member, as_null}
 use Rattle.serde_json.specs.View.{items_of}
 use Rattle.json_fields.specs.Path.{Path, names_of}
-use Rattle.json_fields.specs.Reading.{items_from, list_at, list_of, default_at, optional_at, required_at, tells_at, is_text, name_at, labels_at, labels_of, pairs_after, value_at, behind, member_at, unless_null, where_there, object_of, text_of, bool_of, number_in}
+use Rattle.json_fields.specs.Reading.{items_from, list_at, list_of, default_at, optional_at, required_at, tells_at, is_text, name_at, labels_at, labels_of}
+use Rattle.json_fields.specs.Reading.{pairs_after, value_at, behind, member_at, unless_null, where_there, object_of, text_of, bool_of, number_in}
 use Rattle.json_fields.specs.Expressions.{expression_of}
 use Rattle.kube_labels.specs.Pairs.{with_pair}
 use Rattle.kube_model.specs.declared.key.Key.{Key}
@@ -31,14 +33,18 @@ use Rattle.kube_events.specs.Named.{version_named, version_of}
 use Rattle.kube_events.specs.Fields.{key_of, name_field, namespace_field, version_field, labels_field}
 use Rattle.kube_events.specs.ObjectFields.{body_of, changed_of}
 use Rattle.kube_events.specs.Event.{event_of, event_of_line, text_in}
-use Rattle.event_laws.specs.ObjectLines.{Field, with_member, members_there, spelled, are_absent, parent, Spells, list_data, texts_data, number_data, Pairs, string_members, pairs_data, pairs_put, pairs_spelled, Head, IsHead, added_line, object_fields, object_line, ExpressionLine, expression_data, expression_spelled, SelectorLine, selector_data, selector_spelled, SelectorLines, selectors_data, selectors_spelled}
+use Rattle.event_laws.specs.ObjectLines.{Field, with_member, members_there, spelled, are_absent, parent, Spells, list_data, texts_data}
+use Rattle.event_laws.specs.ObjectLines.{number_data, Pairs, string_members, pairs_data, pairs_put, pairs_spelled, Head, IsHead}
+use Rattle.event_laws.specs.ObjectLines.{added_line, object_fields, object_line, ExpressionLine, expression_data, expression_spelled}
+use Rattle.event_laws.specs.ObjectLines.{SelectorLine, selector_data, selector_spelled, SelectorLines, selectors_data, selectors_spelled}
 
 -- ---- members
 
 -- what stands at this name, of fields that come in the order of their names
 abbrev pub field_there : List ℕ → List Field → Option Data
 field_there name [] = None
-field_there name (field ∷ fields) = match_ordering (slice_cmp nat_cmp name field.0) (field_there name fields) (option_or field.1 (field_there name fields)) (field_there name fields)
+field_there name (field ∷ fields) =
+    match_ordering (slice_cmp nat_cmp name field.0) (field_there name fields) (option_or field.1 (field_there name fields)) (field_there name fields)
 
 same_each : {A : Type 0} (o : Ordering) (x : A) → match_ordering o x x x ≡ x
 same_each Less x = refl
@@ -65,7 +71,8 @@ unfolding member_at
 member_there path name fields = rw (is_there name fields) refl
 
 -- the first name of a path leads to the field of that name
-in_spelled : (path name : Path) (names : List Path) (fields : List Field) → behind path (name ∷ names) (spelled fields) ≡ where_there (behind path names) (unless_null (field_there name fields))
+in_spelled : (path name : Path) (names : List Path) (fields : List Field)
+    → behind path (name ∷ names) (spelled fields) ≡ where_there (behind path names) (unless_null (field_there name fields))
 unfolding behind
 in_spelled path name names fields = rw (member_there path name fields) refl
 
@@ -97,19 +104,25 @@ or_none None = refl
 or_none (Some d) = refl
 
 -- what stands at a path of two names
-pub inner_value : (path first name : Path) (fields : List Field) (left_out : Bool) (inner : List Field) → names_of path ≡ first ∷ name ∷ [] → field_there first fields ≡ option_or (parent left_out inner) None
+pub inner_value : (path first name : Path) (fields : List Field) (left_out : Bool) (inner : List Field) → names_of path ≡ first ∷ name ∷ []
+    → field_there first fields ≡ option_or (parent left_out inner) None
     → value_at path (spelled fields) ≡ Ok (unless_null (field_there name inner))
 inner_value path first name fields left_out inner two at =
-    let through : where_there (behind path (name ∷ [])) (unless_null (parent left_out inner)) ≡ Ok (unless_null (field_there name inner)) = through_parent path name [] left_out inner _ (in_spelled path name [] inner ∙ last path (unless_null (field_there name inner))) in
+    let through : where_there (behind path (name ∷ [])) (unless_null (parent left_out inner)) ≡ Ok (unless_null (field_there name inner)) =
+    through_parent path name [] left_out inner _ (in_spelled path name [] inner ∙ last path (unless_null (field_there name inner))) in
     rw two (in_spelled path first (name ∷ []) fields ∙ rw (at, or_none (parent left_out inner)) through)
 
 -- what stands at a path of three names
-pub innermost_value : (path first second name : Path) (fields : List Field) (left_out : Bool) (inner : List Field) (second_out : Bool) (innermost : List Field) → names_of path ≡ first ∷ second ∷ name ∷ []
+pub innermost_value : (path first second name : Path) (fields : List Field) (left_out : Bool) (inner : List Field) (second_out : Bool) (innermost : List Field)
+    → names_of path ≡ first ∷ second ∷ name ∷ []
     → field_there first fields ≡ option_or (parent left_out inner) None → field_there second inner ≡ option_or (parent second_out innermost) None
     → value_at path (spelled fields) ≡ Ok (unless_null (field_there name innermost))
 innermost_value path first second name fields left_out inner second_out innermost three at within =
-    let last_through : where_there (behind path (name ∷ [])) (unless_null (parent second_out innermost)) ≡ Ok (unless_null (field_there name innermost)) = through_parent path name [] second_out innermost _ (in_spelled path name [] innermost ∙ last path (unless_null (field_there name innermost))) in
-    let through : where_there (behind path (second ∷ name ∷ [])) (unless_null (parent left_out inner)) ≡ Ok (unless_null (field_there name innermost)) = through_parent path second (name ∷ []) left_out inner _ (in_spelled path second (name ∷ []) inner ∙ rw (within, or_none (parent second_out innermost)) last_through) in
+    let last_through : where_there (behind path (name ∷ [])) (unless_null (parent second_out innermost)) ≡ Ok (unless_null (field_there name innermost)) =
+    through_parent path name [] second_out innermost _ (in_spelled path name [] innermost ∙ last path (unless_null (field_there name innermost))) in
+    let through : where_there (behind path (second ∷ name ∷ [])) (unless_null (parent left_out inner)) ≡ Ok (unless_null (field_there name innermost)) =
+    through_parent path second (name ∷ []) left_out inner
+    _ (in_spelled path second (name ∷ []) inner ∙ rw (within, or_none (parent second_out innermost)) last_through) in
     rw three (in_spelled path first (second ∷ name ∷ []) fields ∙ rw (at, or_none (parent left_out inner)) through)
 
 -- ---- what may be there
@@ -175,14 +188,16 @@ made_list made None = refl
 made_list made (Some xs) = refl
 
 -- a list that is there or not, of values that are read each by itself
-pub list_read_if : {A B : Type 0} (read : Data → Result B Path) (spell : A → Data) (made : A → B) (P : A → Type 0) (path : Path) (d : Data) (found : Option (List A))
+pub list_read_if : {A B : Type 0} (read : Data → Result B Path) (spell : A → Data) (made : A → B) (P : A → Type 0) (path : Path) (d : Data)
+    (found : Option (List A))
     → value_at path d ≡ Ok (unless_null (option_or (option_map (list_data spell) found) None))
     → ((x : A) → P x → read (spell x) ≡ Ok (made x)) → IfSome found (All P)
     → list_at read path d ≡ Ok (map made (unwrap_or found []))
 unfolding list_at list_of
 list_read_if {A} {B} read spell made P path d found at each hold =
     let items : (xs : List A) → All P xs → items_from read 0 (items_of (map spell xs)) ≡ Ok (map made xs) = items_read read spell made P each 0 in
-    let field : optional_at (list_of read) path d ≡ Ok (option_map (map made) found) = optional_read (list_of read) (list_data spell) (map made) (All P) path d found at (λ xs. refl) items hold in
+    let field : optional_at (list_of read) path d ≡ Ok (option_map (map made) found) =
+    optional_read (list_of read) (list_data spell) (map made) (All P) path d found at (λ xs. refl) items hold in
     rw field (ap (λ (xs : List B). Ok xs) (made_list made found))
 
 pub list_read : {A B : Type 0} (read : Data → Result B Path) (spell : A → Data) (made : A → B) (path : Path) (d : Data) (found : Option (List A))
@@ -196,7 +211,8 @@ pub same_list_read : {A : Type 0} (read : Data → Result A Path) (spell : A →
     → value_at path d ≡ Ok (unless_null (option_or (option_map (list_data spell) found) None))
     → ((x : A) → read (spell x) ≡ Ok x)
     → list_at read path d ≡ Ok (unwrap_or found [])
-same_list_read {A} read spell path d found at each = list_read read spell (λ x. x) path d found at each ∙ ap (λ (xs : List A). Ok xs) (map-id (unwrap_or found []))
+same_list_read {A} read spell path d found at each =
+    list_read read spell (λ x. x) path d found at each ∙ ap (λ (xs : List A). Ok xs) (map-id (unwrap_or found []))
 
 pub text_read : (text : List ℕ) → text_of (string text) ≡ Ok text
 unfolding text_of
@@ -230,7 +246,8 @@ pub labels_read : (path : Path) (d : Data) (found : Option Pairs)
     → value_at path d ≡ Ok (unless_null (option_or (option_map pairs_data found) None)) → labels_at path d ≡ Ok (pairs_spelled found)
 unfolding labels_at
 labels_read path d found at =
-    let field : optional_at labels_of path d ≡ Ok (option_map (pairs_put []) found) = optional_read labels_of pairs_data (pairs_put []) (λ pairs. ⊤) path d found at (λ pairs. refl) (λ pairs _. map_read pairs) (all_of found) in
+    let field : optional_at labels_of path d ≡ Ok (option_map (pairs_put []) found) =
+    optional_read labels_of pairs_data (pairs_put []) (λ pairs. ⊤) path d found at (λ pairs. refl) (λ pairs _. map_read pairs) (all_of found) in
     rw field (ap (λ (pairs : Pairs). Ok pairs) (made_pairs found))
 
 -- ---- numbers
@@ -263,18 +280,26 @@ flag_read flag = refl
 expression_read : (e : ExpressionLine) → expression_of (expression_data e) ≡ Ok (expression_spelled e)
 unfolding expression_of object_of
 expression_read e =
-    let fields : List Field = (codes "key", Some (string e.key)) ∷ (codes "operator", Some (string e.operator)) ∷ (codes "values", option_map texts_data e.values) ∷ [] in
-    let key : required_at text_of (codes "key") (spelled fields) ≡ Ok e.key = required_read text_of (codes "key") (spelled fields) (string e.key) e.key (own_value (codes "key") fields refl) (text_read e.key) in
-    let operator : required_at text_of (codes "operator") (spelled fields) ≡ Ok e.operator = required_read text_of (codes "operator") (spelled fields) (string e.operator) e.operator (own_value (codes "operator") fields refl) (text_read e.operator) in
-    let values : list_at text_of (codes "values") (spelled fields) ≡ Ok (unwrap_or e.values []) = texts_read (codes "values") (spelled fields) e.values (own_value (codes "values") fields refl) in
+    let fields : List Field =
+    (codes "key", Some (string e.key)) ∷ (codes "operator", Some (string e.operator)) ∷ (codes "values", option_map texts_data e.values) ∷ [] in
+    let key : required_at text_of (codes "key") (spelled fields) ≡ Ok e.key =
+    required_read text_of (codes "key") (spelled fields) (string e.key) e.key (own_value (codes "key") fields refl) (text_read e.key) in
+    let operator : required_at text_of (codes "operator") (spelled fields) ≡ Ok e.operator = required_read text_of (codes "operator") (spelled fields)
+    (string e.operator) e.operator (own_value (codes "operator") fields refl) (text_read e.operator) in
+    let values : list_at text_of (codes "values") (spelled fields) ≡ Ok (unwrap_or e.values []) =
+    texts_read (codes "values") (spelled fields) e.values (own_value (codes "values") fields refl) in
     rw (key, operator, values) refl
 
 pub selector_read : (s : SelectorLine) → selector_of (selector_data s) ≡ Ok (selector_spelled s)
 unfolding selector_of object_of
 selector_read s =
-    let fields : List Field = (codes "matchExpressions", option_map (list_data expression_data) s.expressions) ∷ (codes "matchLabels", option_map pairs_data s.labels) ∷ [] in
-    let labels : labels_at (codes "matchLabels") (spelled fields) ≡ Ok (pairs_spelled s.labels) = labels_read (codes "matchLabels") (spelled fields) s.labels (own_value (codes "matchLabels") fields refl) in
-    let expressions : list_at expression_of (codes "matchExpressions") (spelled fields) ≡ Ok (map expression_spelled (unwrap_or s.expressions [])) = list_read expression_of expression_data expression_spelled (codes "matchExpressions") (spelled fields) s.expressions (own_value (codes "matchExpressions") fields refl) expression_read in
+    let fields : List Field =
+    (codes "matchExpressions", option_map (list_data expression_data) s.expressions) ∷ (codes "matchLabels", option_map pairs_data s.labels) ∷ [] in
+    let labels : labels_at (codes "matchLabels") (spelled fields) ≡ Ok (pairs_spelled s.labels) =
+    labels_read (codes "matchLabels") (spelled fields) s.labels (own_value (codes "matchLabels") fields refl) in
+    let expressions : list_at expression_of (codes "matchExpressions") (spelled fields) ≡ Ok (map expression_spelled (unwrap_or s.expressions [])) =
+    list_read expression_of expression_data expression_spelled (codes "matchExpressions") (spelled fields) s.expressions
+    (own_value (codes "matchExpressions") fields refl) expression_read in
     rw (labels, expressions) refl
 
 pub selectors_read : (path : Path) (d : Data) (found : SelectorLines)
@@ -313,7 +338,8 @@ name_read path d name at long =
     let field : required_at text_of path d ≡ Ok name = required_read text_of path d (string name) name at (text_read name) in
     rw (field, ne_eqb (length name) 0 (λ none. omega (arith, none))) refl
 
-pub version_read : (d : Data) (version : List ℕ) (n : ℕ) → value_at (codes "metadata.resourceVersion") d ≡ Ok (Some (string version)) → version_named version ≡ Some n → version_field d ≡ Ok n
+pub version_read : (d : Data) (version : List ℕ) (n : ℕ) → value_at (codes "metadata.resourceVersion") d ≡ Ok (Some (string version))
+    → version_named version ≡ Some n → version_field d ≡ Ok n
 unfolding version_of
 version_read d version n at is = required_read version_of (codes "metadata.resourceVersion") d (string version) n at (rw is refl)
 
@@ -325,15 +351,19 @@ pub head_read : (kind : Kind) (line : List ℕ) (head : Head) (left_out : Bool) 
 unfolding key_of
 head_read kind line head left_out own n make spells global is_head is_body =
     let fields : List Field = object_fields (kind_text kind) head left_out own in
-    let inner : List Field = (codes "labels", option_map pairs_data head.labels) ∷ (codes "name", Some (string head.name)) ∷ (codes "resourceVersion", Some (string head.version)) ∷ [] in
-    let name : name_field (spelled fields) ≡ Ok head.name = name_read (codes "metadata.name") (spelled fields) head.name (inner_value (codes "metadata.name") (codes "metadata") (codes "name") fields false inner refl refl) is_head.0 in
+    let inner : List Field = (codes "labels", option_map pairs_data head.labels) ∷ (codes "name", Some (string head.name))
+    ∷ (codes "resourceVersion", Some (string head.version)) ∷ [] in
+    let name : name_field (spelled fields) ≡ Ok head.name = name_read (codes "metadata.name") (spelled fields) head.name
+    (inner_value (codes "metadata.name") (codes "metadata") (codes "name") fields false inner refl refl) is_head.0 in
     let key : key_of kind (spelled fields) ≡ Ok (record { namespace = []; name = head.name }) = rw (name, global (spelled fields)) refl in
     from_bytes line (object_line (kind_text kind) head left_out own) _ spells
     (object_read kind (spelled fields) (record { namespace = []; name = head.name }) n (pairs_spelled head.labels) make
     refl
     key
-    (version_read (spelled fields) head.version n (inner_value (codes "metadata.resourceVersion") (codes "metadata") (codes "resourceVersion") fields false inner refl refl) is_head.1)
-    (labels_read (codes "metadata.labels") (spelled fields) head.labels (inner_value (codes "metadata.labels") (codes "metadata") (codes "labels") fields false inner refl refl))
+    (version_read (spelled fields) head.version n
+    (inner_value (codes "metadata.resourceVersion") (codes "metadata") (codes "resourceVersion") fields false inner refl refl) is_head.1)
+    (labels_read (codes "metadata.labels") (spelled fields) head.labels
+    (inner_value (codes "metadata.labels") (codes "metadata") (codes "labels") fields false inner refl refl))
     is_body)
 
 -- what stands in the spec of such an object

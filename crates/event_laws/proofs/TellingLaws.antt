@@ -19,7 +19,8 @@ pub deleted_lines_are_read : DeletedLinesAreRead
 unfolding event_of event_of_line
 deleted_lines_are_read line d kind tells = rw (tells.spells, tells.of_type, tells.has_object, tells.of_kind, kinds_named kind) refl
 
-object_in : {K L : Type 0} (key : Result K Path) (version : Result ℕ Path) (labels : Result L Path) (body : Result (K → L → Object) Path) (n : ℕ) (object : Object)
+object_in : {K L : Type 0} (key : Result K Path) (version : Result ℕ Path) (labels : Result L Path) (body : Result (K → L → Object) Path) (n : ℕ)
+    (object : Object)
     → (key >>= λ k. version >>= λ v. labels >>= λ l. body >>= λ make. Ok (Changed v (make k l))) ≡ Ok (Changed n object)
     → (key >>= λ k. labels >>= λ l. body >>= λ make. Ok (make k l)) ≡ Ok object
 object_in (Ok k) (Ok v) (Ok l) (Ok make) n object is = cc

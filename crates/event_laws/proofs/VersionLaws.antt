@@ -1,5 +1,6 @@
 -- Versions are decimal numbers without leading zeros, from 1 below 2 ^ 64.
-use Rattle.std.proofs.Common.{◌≡◌, ℕ, zero, suc, ◌^◌, ◌<◌, ◌≤◌, Bool, true, false, List, [], ◌∷◌, length, get_or, Option, Some, None, Result, Ok, Err, refl, sym, ap, subst, ◌∙◌, eqb, ltb, ltb-true, cond, ◌&&◌, not, arith, option_and_then, codes, bytes_eq, eq-eqb}
+use Rattle.std.proofs.Common.{◌≡◌, ℕ, zero, suc, ◌^◌, ◌<◌, ◌≤◌, Bool, true, false, List, [], ◌∷◌, length, get_or, Option, Some, None, Result, Ok}
+use Rattle.std.proofs.Common.{Err, refl, sym, ap, subst, ◌∙◌, eqb, ltb, ltb-true, cond, ◌&&◌, not, arith, option_and_then, codes, bytes_eq, eq-eqb}
 use Rattle.std.specs.Prelude.{decimal}
 use Rattle.std.specs.List.{list_all}
 use Rattle.std.specs.Char.{is_ascii_digit}
@@ -25,11 +26,13 @@ use Rattle.kube_events.specs.Fields.{key_of, version_field, labels_field}
 use Rattle.kube_events.specs.ObjectFields.{body_of, changed_of, deleted_of}
 use Rattle.kube_events.specs.Members.{members_field, members_of, distinct_names}
 use Rattle.kube_events.specs.Frame.{interface_field, bytes_field, frame_of}
-use Rattle.kube_events.specs.Event.{in_field, text_in, list_end, listed_in, ends_list, Says, set_event, deleted_event, bookmark_event, of_kind, of_object, watched, of_type, of_type_if, event_of, event_if, event_of_line}
+use Rattle.kube_events.specs.Event.{in_field, text_in, list_end, listed_in, ends_list, Says, set_event, deleted_event, bookmark_event}
+use Rattle.kube_events.specs.Event.{of_kind, of_object, watched, of_type, of_type_if, event_of, event_if, event_of_line}
 use Rattle.kube_events.proofs.Versions.{own, same_test, chosen}
 use Rattle.event_laws.specs.Versions.{IsVersion, VersionsAreDecimal, SetVersionsAreVersions}
 
-named_by : (a b c d : Bool) (value n : ℕ) → cond (a && not b && c && d) (Some value) None ≡ Some n → (a ≡ true) × (b ≡ false) × (c ≡ true) × (d ≡ true) × (value ≡ n)
+named_by : (a b c d : Bool) (value n : ℕ) → cond (a && not b && c && d) (Some value) None ≡ Some n
+    → (a ≡ true) × (b ≡ false) × (c ≡ true) × (d ≡ true) × (value ≡ n)
 named_by true false true true value n e = (refl, refl, refl, refl, cc)
 named_by true false true false value n e = absurd cc
 named_by true false false d value n e = absurd cc
@@ -45,10 +48,12 @@ from_one (suc n) text is first = omega arith
 
 to_decimal : (text : List ℕ) (n : ℕ) → version_named text ≡ Some n → (text ≡ decimal n) × IsVersion n
 to_decimal text n named =
-    let p = named_by (ltb 0 (length text)) (eqb (get_or text 0 0) 48) (list_all is_ascii_digit text) (ltb (digits_value 10 text) (2 ^ 64)) (digits_value 10 text) n named in
+    let p = named_by (ltb 0 (length text)) (eqb (get_or text 0 0) 48) (list_all is_ascii_digit text) (ltb (digits_value 10 text) (2 ^ 64))
+    (digits_value 10 text) n named in
     let first : get_or text 0 0 ≡ 48 → ⊥ = not_equal (get_or text 0 0) 48 p.1 in
     let small : digits_value 10 text < 2 ^ 64 = ltb-true (digits_value 10 text) (2 ^ 64) p.3 in
-    let back : decimal (digits_value 10 text) ≡ text = decimal-digits_value own text (sym (same_test text) ∙ p.2) (ltb-true 0 (length text) p.0) (λ zero. absurd (first zero)) small in
+    let back : decimal (digits_value 10 text) ≡ text =
+    decimal-digits_value own text (sym (same_test text) ∙ p.2) (ltb-true 0 (length text) p.0) (λ zero. absurd (first zero)) small in
     let is : text ≡ decimal n = sym back ∙ ap decimal p.4 in
     (is, (from_one n text is first, subst (λ m. m < 2 ^ 64) p.4 small))
 

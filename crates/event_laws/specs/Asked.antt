@@ -24,7 +24,8 @@ pub record AnnotationIsRead (annotation field : List ℕ) : Type 0 where
 
 -- Without one the field asks for the one address that it spells, with no blanks dropped.
 pub record FieldIsRead (field : List ℕ) : Type 0 where
-  pub asked : (addresses : List AddressValue) → (wanted_of [] field ≡ Asked addresses) ↔ ((address : AddressValue) × (address_of field ≡ Ok address) × (addresses ≡ address ∷ []))
+  pub asked : (addresses : List AddressValue)
+      → (wanted_of [] field ≡ Asked addresses) ↔ ((address : AddressValue) × (address_of field ≡ Ok address) × (addresses ≡ address ∷ []))
   pub unreadable : (wanted_of [] field ≡ Unreadable) ↔ IsErr (address_of field)
 
 abbrev pub AnnotationsAreRead : Type 0

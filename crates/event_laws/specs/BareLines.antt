@@ -7,12 +7,14 @@ use Rattle.event_laws.specs.ObjectLines.{Field, Head, IsHead, object_line, pairs
 
 -- The line that spells a namespace is read as it, whatever its spec has.
 abbrev pub NamespacesAreRead : Type 0
-NamespacesAreRead = (line : List ℕ) (head : Head) (left_out : Bool) (spec : List Field) (n : ℕ) → Spells line (object_line (codes "Namespace") head left_out spec) → IsHead head n
+NamespacesAreRead = (line : List ℕ) (head : Head) (left_out : Bool) (spec : List Field) (n : ℕ)
+    → Spells line (object_line (codes "Namespace") head left_out spec) → IsHead head n
     → event_of_line line
     ≡ Ok (Changed n (objects.Namespace (record { name = head.name; labels = pairs_spelled head.labels })))
 
 -- The line that spells a node is read as it, whatever its spec has.
 abbrev pub NodesAreRead : Type 0
-NodesAreRead = (line : List ℕ) (head : Head) (left_out : Bool) (spec : List Field) (n : ℕ) → Spells line (object_line (codes "Node") head left_out spec) → IsHead head n
+NodesAreRead = (line : List ℕ) (head : Head) (left_out : Bool) (spec : List Field) (n : ℕ) → Spells line (object_line (codes "Node") head left_out spec)
+    → IsHead head n
     → event_of_line line
     ≡ Ok (Changed n (objects.Node (record { name = head.name; labels = pairs_spelled head.labels })))

@@ -15,5 +15,6 @@ community_line head left_out values = object_line (codes "Community") head left_
 
 -- The line that spells names with values is read as they are, in their order.
 abbrev pub CommunitiesAreRead : Type 0
-CommunitiesAreRead = (line : List ℕ) (head : Head) (left_out : Bool) (values : Option Pairs) (n : ℕ) → Spells line (community_line head left_out values) → IsHead head n
+CommunitiesAreRead = (line : List ℕ) (head : Head) (left_out : Bool) (values : Option Pairs) (n : ℕ) → Spells line (community_line head left_out values)
+    → IsHead head n
     → event_of_line line ≡ Ok (Changed n (objects.Community (record { name = head.name; values = unwrap_or values [] })))

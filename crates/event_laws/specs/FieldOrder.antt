@@ -5,7 +5,8 @@ use Rattle.json_fields.specs.Path.{Path}
 use Rattle.kube_model.specs.declared.object.Kind.{Kind}
 use Rattle.kube_model.specs.declared.object.Kind.TheVariants as kinds
 use Rattle.kube_events.specs.Fields.{name_field, namespace_field, version_field, labels_field, pools_field, pool_selectors_field, node_selectors_field}
-use Rattle.kube_events.specs.ServiceFields.{annotations_field, balancer_field, class_field, address_field, families_field, prefer_dual_field, policy_field, selector_field, ports_field, places_field}
+use Rattle.kube_events.specs.ServiceFields.{annotations_field, balancer_field, class_field, address_field, families_field}
+use Rattle.kube_events.specs.ServiceFields.{prefer_dual_field, policy_field, selector_field, ports_field, places_field}
 use Rattle.kube_events.specs.PoolFields.{entries_field, auto_assign_field, avoid_buggy_field, allocation_field}
 use Rattle.kube_events.specs.L2Fields.{interfaces_field}
 use Rattle.kube_events.specs.BgpFields.{length_field, length_v6_field, local_pref_field, communities_field, peers_field}

@@ -1,5 +1,6 @@
 -- What the lines that spell objects have in common, member by member.
-use Rattle.std.specs.Prelude.{◌≡◌, ◌<◌, ◌&&◌, ℕ, List, [], ◌∷◌, Bool, true, map, Option, Some, None, is_none, option_map, unwrap_or, codes, length, if◌then◌else◌}
+use Rattle.std.specs.Prelude.{◌≡◌, ◌<◌, ◌&&◌, ℕ, List, [], ◌∷◌, Bool, true, map, Option, Some, None}
+use Rattle.std.specs.Prelude.{is_none, option_map, unwrap_or, codes, length, if◌then◌else◌}
 use Rattle.serde_json.specs.Data.{Data, string, number, unsigned, array, object, Members, member, no_members}
 use Rattle.serde_json.specs.View.{items_of}
 use Rattle.json_fields.specs.Line.{value_of_line}

@@ -6,7 +6,8 @@ use Rattle.kube_model.specs.declared.object.Object.TheVariants as objects
 use Rattle.kube_model.specs.declared.pool.Pool.{Pool}
 use Rattle.kube_model.specs.declared.pool.Allocation.{Allocation}
 use Rattle.kube_events.specs.Event.{event_of_line}
-use Rattle.event_laws.specs.ObjectLines.{Field, Head, IsHead, spelled, pairs_spelled, object_line, texts_data, number_data, SelectorLines, selectors_data, selectors_spelled, Spells}
+use Rattle.event_laws.specs.ObjectLines.{Field, Head, IsHead, spelled, pairs_spelled, object_line, texts_data}
+use Rattle.event_laws.specs.ObjectLines.{number_data, SelectorLines, selectors_data, selectors_spelled, Spells}
 
 -- what is chosen freely of `serviceAllocation`
 pub record AllocationLine : Type 0 where

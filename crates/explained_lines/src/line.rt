@@ -2,7 +2,8 @@
 ghost use Rattle.std.specs.Prelude.{◌≡◌, IfOk};
 ghost use Rattle.std.specs.Option.{option_map};
 ghost use Rattle.serde_json.specs.View.{view};
-ghost use Rattle.explained_lines.specs.Lines.{object_data, list_data, plain_data, ignored_data, name_of, namespace_of, namespace_in, ending_kind, event_data, path_data, reason_data, refused_data, asked_data, unread_data, review_data, explained_data, explained_text};
+ghost use Rattle.explained_lines.specs.Lines.{object_data, list_data, plain_data, ignored_data, name_of, namespace_of, namespace_in, ending_kind, event_data};
+ghost use Rattle.explained_lines.specs.Lines.{path_data, reason_data, refused_data, asked_data, unread_data, review_data, explained_data, explained_text};
 
 use crate::explained::Explained;
 use admission_reviews::{Change, Review, written};

@@ -1,5 +1,6 @@
 -- The families that are read of a service are those that its row tells.
-use Rattle.std.proofs.Common.{◌≡◌, ◌⊎◌, ℕ, ◌+◌, List, [], ◌∷◌, Bool, true, false, cond, ◌||◌, map, Option, Some, None, option_map, option_and_then, Result, Ok, Err, refl, sym, ap, subst, ◌∙◌, inl, inr, bytes_eq, codes}
+use Rattle.std.proofs.Common.{◌≡◌, ◌⊎◌, ℕ, ◌+◌, List, [], ◌∷◌, Bool, true, false, cond, ◌||◌, map, Option, Some, None}
+use Rattle.std.proofs.Common.{option_map, option_and_then, Result, Ok, Err, refl, sym, ap, subst, ◌∙◌, inl, inr, bytes_eq, codes}
 use Rattle.std.specs.Bool.{⊤}
 use Rattle.std.proofs.lemmas.Slice.Eq.{bytes_eq-Decides}
 use Rattle.serde_json.specs.Data.{Data, null, boolean, number, string, array, object, Items, no_items, item}
@@ -11,7 +12,8 @@ use Rattle.kube_events.specs.Named.{family_named, family_of}
 use Rattle.kube_events.specs.ServiceFields.{families_from, families_at}
 use Rattle.field_laws.specs.Standing.{Standing, nothing, astray, here, look}
 use Rattle.field_laws.specs.FieldTypes.{one_text, two_texts, a_list, defaulted}
-use Rattle.field_laws.specs.Told.{text_in, is_among, if_among, two_distinct, or_fault, as_put, at_place, both, joined_list, each_told, list_told, and_then, standing_tells, told, row_told}
+use Rattle.field_laws.specs.Told.{text_in, is_among, if_among, two_distinct, or_fault, as_put, at_place, both}
+use Rattle.field_laws.specs.Told.{joined_list, each_told, list_told, and_then, standing_tells, told, row_told}
 use Rattle.field_laws.specs.Tables.{families}
 use Rattle.field_laws.specs.Events.{family_with, families_with}
 use Rattle.field_laws.proofs.Places.{Tells}
@@ -31,7 +33,8 @@ always true text = refl
 always false text = refl
 
 family_names : (text : List ℕ) → family_named text ≡ option_map family_with (if_among families text)
-family_names text = family_by (bytes_eq text (codes "IPv4")) (bytes_eq text (codes "IPv6")) text (family_with text) refl ∙ sym (always (is_among families text) text)
+family_names text =
+    family_by (bytes_eq text (codes "IPv4")) (bytes_eq text (codes "IPv6")) text (family_with text) refl ∙ sym (always (is_among families text) text)
 
 family_tells : Tells family_of (told (one_text families)) family_with
 unfolding family_of
@@ -114,7 +117,8 @@ texts_by path (one ∷ other ∷ []) are = two_by path one other (either_word on
 texts_by path (one ∷ other ∷ third ∷ texts) are = three_by path (family_with one) (family_with other) (family_with third) (map family_with texts)
 
 list_by : (path : Path) (tell : Result (List (List ℕ)) Path) → ((texts : List (List ℕ)) → tell ≡ Ok texts → AreAmong texts)
-    → (as_put (map family_with) (as_put (λ x. x) (at_place path tell)) >>= families_from path) ≡ as_put families_with (as_put (λ x. x) (at_place path (and_then two_distinct tell)))
+    → (as_put (map family_with) (as_put (λ x. x) (at_place path tell)) >>= families_from path)
+    ≡ as_put families_with (as_put (λ x. x) (at_place path (and_then two_distinct tell)))
 list_by path (Ok texts) are = texts_by path texts (are texts refl)
 list_by path (Err rest) are = refl
 

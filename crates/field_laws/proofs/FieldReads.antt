@@ -22,7 +22,8 @@ stands read path (here d) = refl
 
 optional_stands : {A : Type 0} (read : Data → Result A Path) (path : Path) (d : Data) → optional_at read path d ≡ by_standing read path (look (names_of path) d)
 unfolding optional_at
-optional_stands read path d = ap (λ found. found >>= where_there (λ e. some_of (within path (read e)))) (found_as_it_stands path (names_of path) d) ∙ stands read path (look (names_of path) d)
+optional_stands read path d = ap (λ found. found >>= where_there (λ e. some_of (within path (read e)))) (found_as_it_stands path (names_of path) d)
+    ∙ stands read path (look (names_of path) d)
 
 -- ---- what is there
 
@@ -30,7 +31,8 @@ abbrev pub There : {A : Type 0} → (Data → Result A Path) → Standing → A 
 There read at x = (value : Data) × (at ≡ here value) × (read value ≡ Ok x)
 
 abbrev pub Faulty : {A : Type 0} → (Data → Result A Path) → Path → Standing → Path → Type 0
-Faulty read path at fault = (at ≡ astray) × (path ≡ fault) ⊎ ((value : Data) × (rest : Path) × (at ≡ here value) × (read value ≡ Err rest) × (joined path rest ≡ fault))
+Faulty read path at fault =
+    (at ≡ astray) × (path ≡ fault) ⊎ ((value : Data) × (rest : Path) × (at ≡ here value) × (read value ≡ Err rest) × (joined path rest ≡ fault))
 
 some_there : {A : Type 0} (path : Path) (r : Result A Path) (x : A) → some_of (within path r) ≡ Ok (Some x) → r ≡ Ok x
 some_there path (Ok y) x e = let same : y ≡ x = cc in ap (λ it. Ok it) same
@@ -118,7 +120,8 @@ default_read read path default d x (inr there) = inr (there_from read path (look
 is_default_read : {A : Type 0} (read : Data → Result A Path) (path : Path) (default : A) (d : Data) (x : A)
     → IsAbsent path d × (default ≡ x) ⊎ IsThere read path d x → default_at read path default d ≡ Ok x
 unfolding default_at
-is_default_read read path default d x (inl none) = rw (optional_stands read path d ∙ absent_to read path (look (names_of path) d) none.0) (ap (λ it. Ok it) none.1)
+is_default_read read path default d x (inl none) =
+    rw (optional_stands read path d ∙ absent_to read path (look (names_of path) d) none.0) (ap (λ it. Ok it) none.1)
 is_default_read read path default d x (inr there) = rw (optional_stands read path d ∙ there_to read path (look (names_of path) d) x there) refl
 
 pub fields_are_read : {A : Type 0} (read : Data → Result A Path) → FieldsAreRead read

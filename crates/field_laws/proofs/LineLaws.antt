@@ -1,5 +1,6 @@
 -- Which lines are refused, which are ignored, and how the others are read.
-use Rattle.std.proofs.Common.{◌≡◌, ◌⊎◌, ℕ, List, Bool, true, false, cond, Option, Some, None, option_and_then, Result, Ok, Err, refl, sym, ap, subst, ◌∙◌, inl, inr, ⊎_elim, bytes_eq, codes}
+use Rattle.std.proofs.Common.{◌≡◌, ◌⊎◌, ℕ, List, Bool, true, false, cond, Option, Some, None, option_and_then}
+use Rattle.std.proofs.Common.{Result, Ok, Err, refl, sym, ap, subst, ◌∙◌, inl, inr, ⊎_elim, bytes_eq, codes}
 use Rattle.std.proofs.lemmas.Slice.Eq.{bytes_eq-Decides}
 use Rattle.mlb_base.specs.Items.{IsIn}
 use Rattle.serde_json.specs.Data.{Data, null, boolean, number, string, array, object}
@@ -19,11 +20,13 @@ use Rattle.kube_model.specs.Named.{kind_named}
 use Rattle.kube_events.specs.ObjectFields.{changed_of, deleted_of}
 use Rattle.kube_events.specs.Members.{members_of}
 use Rattle.kube_events.specs.Frame.{frame_of}
-use Rattle.kube_events.specs.Event.{in_field, text_in, end_annotation, ends_list, list_end, listed_in, Says, set_event, deleted_event, bookmark_event, of_kind, of_object, watched, of_type, of_type_if, event_of, event_if, event_of_line}
+use Rattle.kube_events.specs.Event.{in_field, text_in, end_annotation, ends_list, list_end, listed_in, Says, set_event, deleted_event}
+use Rattle.kube_events.specs.Event.{bookmark_event, of_kind, of_object, watched, of_type, of_type_if, event_of, event_if, event_of_line}
 use Rattle.field_laws.specs.Told.{as_put, rows_told}
 use Rattle.field_laws.specs.Tables.{changed_rows, deleted_rows, members_rows, frame_rows}
 use Rattle.field_laws.specs.Events.{changed_with, deleted_with, members_with, frame_with}
-use Rattle.field_laws.specs.Lines.{set_words, watch_words, line_words, Names, ending_kinds, HasText, IsAbout, SaysEnd, EndsList, IsNoEvent, IsPassedBy, OthersArePassedBy, IsReadByValue, LinesAsTold}
+use Rattle.field_laws.specs.Lines.{set_words, watch_words, line_words, Names, ending_kinds, HasText, IsAbout, SaysEnd}
+use Rattle.field_laws.specs.Lines.{EndsList, IsNoEvent, IsPassedBy, OthersArePassedBy, IsReadByValue, LinesAsTold}
 use Rattle.field_laws.proofs.ObjectLaws.{changed_as_told, deleted_as_told, members_as_told, frames_as_told}
 
 -- ---- texts of members
@@ -181,16 +184,20 @@ unwatched : (line : Data) (word : List ℕ) → IsIn watch_words word → HasTex
 unfolding event_of
 unwatched line word (inl is) has none =
     let typed : HasText (codes "type") line (codes "ADDED") = has ∙ ap (λ (it : List ℕ). Some (string it)) (sym is) in
-    rw typed (watched_none set_event (get (codes "object") line) (λ d kind at of_kind. none d kind (record { of_type = has; has_object = at; of_kind = of_kind })))
+    rw typed (watched_none set_event (get (codes "object") line)
+    (λ d kind at of_kind. none d kind (record { of_type = has; has_object = at; of_kind = of_kind })))
 unwatched line word (inr (inl is)) has none =
     let typed : HasText (codes "type") line (codes "MODIFIED") = has ∙ ap (λ (it : List ℕ). Some (string it)) (sym is) in
-    rw typed (watched_none set_event (get (codes "object") line) (λ d kind at of_kind. none d kind (record { of_type = has; has_object = at; of_kind = of_kind })))
+    rw typed (watched_none set_event (get (codes "object") line)
+    (λ d kind at of_kind. none d kind (record { of_type = has; has_object = at; of_kind = of_kind })))
 unwatched line word (inr (inr (inl is))) has none =
     let typed : HasText (codes "type") line (codes "DELETED") = has ∙ ap (λ (it : List ℕ). Some (string it)) (sym is) in
-    rw typed (watched_none deleted_event (get (codes "object") line) (λ d kind at of_kind. none d kind (record { of_type = has; has_object = at; of_kind = of_kind })))
+    rw typed (watched_none deleted_event (get (codes "object") line)
+    (λ d kind at of_kind. none d kind (record { of_type = has; has_object = at; of_kind = of_kind })))
 unwatched line word (inr (inr (inr (inl is)))) has none =
     let typed : HasText (codes "type") line (codes "BOOKMARK") = has ∙ ap (λ (it : List ℕ). Some (string it)) (sym is) in
-    rw typed (watched_none bookmark_event (get (codes "object") line) (λ d kind at of_kind. none d kind (record { of_type = has; has_object = at; of_kind = of_kind })))
+    rw typed (watched_none bookmark_event (get (codes "object") line)
+    (λ d kind at of_kind. none d kind (record { of_type = has; has_object = at; of_kind = of_kind })))
 unwatched line word (inr (inr (inr (inr none)))) has about = absurd none
 
 not_word_by : (b : Bool) (text word : List ℕ) → bytes_eq text word ≡ b → (word ≡ text → ⊥) → b ≡ false
@@ -294,16 +301,20 @@ field_sorted line make (Err path) ignored expired = record {
 }
 
 set_sorted : (line : Data) (kind : Kind) (d : Data) → IsSorted line (set_event kind d)
-set_sorted line kind d = subst (λ it. IsSorted line (in_field it)) (sym (changed_as_told kind d)) (field_sorted line (changed_with kind) (rows_told (changed_rows kind) d) (λ told e. absurd cc) (λ told e. absurd cc))
+set_sorted line kind d = subst (λ it. IsSorted line (in_field it)) (sym (changed_as_told kind d))
+    (field_sorted line (changed_with kind) (rows_told (changed_rows kind) d) (λ told e. absurd cc) (λ told e. absurd cc))
 
 deleted_sorted : (line : Data) (kind : Kind) (d : Data) → IsSorted line (deleted_event kind d)
-deleted_sorted line kind d = subst (λ it. IsSorted line (in_field it)) (sym (deleted_as_told kind d)) (field_sorted line (deleted_with kind) (rows_told (deleted_rows kind) d) (λ told e. absurd cc) (λ told e. absurd cc))
+deleted_sorted line kind d = subst (λ it. IsSorted line (in_field it)) (sym (deleted_as_told kind d))
+    (field_sorted line (deleted_with kind) (rows_told (deleted_rows kind) d) (λ told e. absurd cc) (λ told e. absurd cc))
 
 members_sorted : (line : Data) → IsSorted line (in_field (members_of line))
-members_sorted line = subst (λ it. IsSorted line (in_field it)) (sym (members_as_told line)) (field_sorted line members_with (rows_told members_rows line) (λ told e. absurd cc) (λ told e. absurd cc))
+members_sorted line = subst (λ it. IsSorted line (in_field it)) (sym (members_as_told line))
+    (field_sorted line members_with (rows_told members_rows line) (λ told e. absurd cc) (λ told e. absurd cc))
 
 frame_sorted : (line : Data) → IsSorted line (in_field (frame_of line))
-frame_sorted line = subst (λ it. IsSorted line (in_field it)) (sym (frames_as_told line)) (field_sorted line frame_with (rows_told frame_rows line) (λ told e. absurd cc) (λ told e. absurd cc))
+frame_sorted line = subst (λ it. IsSorted line (in_field it)) (sym (frames_as_told line))
+    (field_sorted line frame_with (rows_told frame_rows line) (λ told e. absurd cc) (λ told e. absurd cc))
 
 -- a list ends, or nothing matters here
 end_sorted : (line : Data) (group : Option Group) (ends : Bool) → (list_end group ends ≡ Ignored → IsPassedBy line) → IsSorted line (Ok (list_end group ends))
@@ -381,10 +392,14 @@ error_sorted line has = record { no_event = λ e. absurd cc; ignored = λ e. abs
 
 typed_sorted : (line : Data) (text : List ℕ) → HasText (codes "type") line text → IsSorted line (of_type text line)
 typed_sorted line text has =
-    if_word line (bytes_eq text (codes "ADDED")) text (codes "ADDED") _ _ refl (λ e. watched_sorted line (codes "ADDED") (inl refl) (typed (codes "ADDED") e) set_event (λ d name kind is about. set_sorted line kind d)) (λ n1.
-    if_word line (bytes_eq text (codes "MODIFIED")) text (codes "MODIFIED") _ _ refl (λ e. watched_sorted line (codes "MODIFIED") (inr (inl refl)) (typed (codes "MODIFIED") e) set_event (λ d name kind is about. set_sorted line kind d)) (λ n2.
-    if_word line (bytes_eq text (codes "DELETED")) text (codes "DELETED") _ _ refl (λ e. watched_sorted line (codes "DELETED") (inr (inr (inl refl))) (typed (codes "DELETED") e) deleted_event (λ d name kind is about. deleted_sorted line kind d)) (λ n3.
-    if_word line (bytes_eq text (codes "BOOKMARK")) text (codes "BOOKMARK") _ _ refl (λ e. watched_sorted line (codes "BOOKMARK") (inr (inr (inr (inl refl)))) (typed (codes "BOOKMARK") e) bookmark_event (λ d name kind is about. bookmark_sorted line d name kind is about)) (λ n4.
+    if_word line (bytes_eq text (codes "ADDED")) text (codes "ADDED") _ _ refl
+    (λ e. watched_sorted line (codes "ADDED") (inl refl) (typed (codes "ADDED") e) set_event (λ d name kind is about. set_sorted line kind d)) (λ n1.
+    if_word line (bytes_eq text (codes "MODIFIED")) text (codes "MODIFIED") _ _ refl (λ e.
+    watched_sorted line (codes "MODIFIED") (inr (inl refl)) (typed (codes "MODIFIED") e) set_event (λ d name kind is about. set_sorted line kind d)) (λ n2.
+    if_word line (bytes_eq text (codes "DELETED")) text (codes "DELETED") _ _ refl (λ e. watched_sorted line (codes "DELETED") (inr (inr (inl refl)))
+    (typed (codes "DELETED") e) deleted_event (λ d name kind is about. deleted_sorted line kind d)) (λ n3.
+    if_word line (bytes_eq text (codes "BOOKMARK")) text (codes "BOOKMARK") _ _ refl (λ e. watched_sorted line (codes "BOOKMARK") (inr (inr (inr (inl refl))))
+    (typed (codes "BOOKMARK") e) bookmark_event (λ d name kind is about. bookmark_sorted line d name kind is about)) (λ n4.
     if_word line (bytes_eq text (codes "ERROR")) text (codes "ERROR") _ _ refl (λ e. error_sorted line (typed (codes "ERROR") e)) (λ n5.
     if_word line (bytes_eq text (codes "MEMBERS")) text (codes "MEMBERS") _ _ refl (λ e. members_sorted line) (λ n6.
     if_word line (bytes_eq text (codes "FRAME")) text (codes "FRAME") _ _ refl (λ e. frame_sorted line) (λ n7.
@@ -463,7 +478,8 @@ set_told line d word name kind (inr (inr none)) about names = absurd none
 deleted_told : (line d : Data) (name : List ℕ) (kind : Kind) → IsAbout line (codes "DELETED") d name → Names name kind
     → event_of line ≡ in_field (deleted_of kind d)
 unfolding event_of
-deleted_told line d name kind about names = rw about.of_type (about_is line (codes "DELETED") d name deleted_event about ∙ rw (kind_named_so name kind names) refl)
+deleted_told line d name kind about names =
+    rw about.of_type (about_is line (codes "DELETED") d name deleted_event about ∙ rw (kind_named_so name kind names) refl)
 
 members_told : (line : Data) → HasText (codes "type") line (codes "MEMBERS") → event_of line ≡ in_field (members_of line)
 unfolding event_of

@@ -25,7 +25,8 @@ use Rattle.kube_events.specs.Frame.{bytes_of, interface_field, bytes_field, fram
 use Rattle.kube_events.proofs.Groups.{group_of_two}
 use Rattle.field_laws.specs.FieldTypes.{any_text, version_text, hex_text, Rows, no_rows, ◌▸◌}
 use Rattle.field_laws.specs.Told.{Pairs, RowsTold, as_put, told, row_told, rows_told}
-use Rattle.field_laws.specs.Tables.{name_row, namespace_row, version_row, labels_row, own_rows, keyed, service_rows, pool_rows, l2_rows, bgp_rows, peer_rows, community_rows, slice_rows}
+use Rattle.field_laws.specs.Tables.{name_row, namespace_row, version_row, labels_row, own_rows, keyed, service_rows}
+use Rattle.field_laws.specs.Tables.{pool_rows, l2_rows, bgp_rows, peer_rows, community_rows, slice_rows}
 use Rattle.field_laws.specs.Objects.{named_value_with}
 use Rattle.field_laws.specs.Events.{service_with, pool_with, l2_with, bgp_with, peer_with, slice_with, object_with, bare_key, key_and, changed_by, stated_by}
 use Rattle.field_laws.specs.Laws.{ChangedAsTold, StatedAsTold, DeletedAsTold, MembersAsTold, FramesAsTold}
@@ -48,7 +49,8 @@ full_key : {B : Type 0} (rows : Rows) (next : Key → Result B Path) (whole : Ke
 full_key rows next whole d each =
     group_of_two (name_field d) (namespace_field kinds.Service d) (λ name namespace. record { namespace = namespace; name = name }) next
     ∙ then_row (name_field d) _ (row_told name_row d) (rows_told (namespace_row ▸ rows) d) (λ it. it) _ (texts.name_row (codes "metadata.name") d) (λ name _.
-    then_row (namespace_field kinds.Service d) _ (row_told namespace_row d) (rows_told rows d) (λ it. it) _ (texts.name_row (codes "metadata.namespace") d) (λ namespace _.
+    then_row (namespace_field kinds.Service d) _ (row_told namespace_row d) (rows_told rows d) (λ it. it) _ (texts.name_row (codes "metadata.namespace") d)
+    (λ namespace _.
     each (record { namespace = namespace; name = name })))
 
 bare : {B : Type 0} (rows : Rows) (next : Key → Result B Path) (whole : Key × RowsTold rows → B) (d : Data)
@@ -56,7 +58,8 @@ bare : {B : Type 0} (rows : Rows) (next : Key → Result B Path) (whole : Key ×
     → ((name_field d >>= λ name. Ok (bare_key name)) >>= next) ≡ as_put (λ told. whole (key_and kinds.Pool rows told)) (rows_told (name_row ▸ rows) d)
 bare rows next whole d each =
     one_first (name_field d) bare_key next
-    ∙ then_row (name_field d) _ (row_told name_row d) (rows_told rows d) (λ it. it) _ (texts.name_row (codes "metadata.name") d) (λ name _. each (bare_key name))
+    ∙ then_row (name_field d) _ (row_told name_row d) (rows_told rows d) (λ it. it) _ (texts.name_row (codes "metadata.name") d)
+    (λ name _. each (bare_key name))
 
 -- the key, and the rows behind it
 key_first : {B : Type 0} (kind : Kind) (rows : Rows) (next : Key → Result B Path) (whole : Key × RowsTold rows → B) (d : Data)
@@ -80,23 +83,29 @@ body_by : {B M X : Type 0} (tell : Result X Path) (make : X → M) (put : M → 
 body_by (Ok x) make put key labels next = refl
 body_by (Err path) make put key labels next = refl
 
-body_from : {B M X : Type 0} (read : Result M Path) (tell : Result X Path) (make : X → M) (put : M → Key → Pairs → Object) (key : Key) (labels : Pairs) (next : Object → B)
+body_from : {B M X : Type 0} (read : Result M Path) (tell : Result X Path) (make : X → M) (put : M → Key → Pairs → Object) (key : Key) (labels : Pairs)
+    (next : Object → B)
     → read ≡ as_put make tell
     → ((read >>= λ made. Ok (put made)) >>= λ made. Ok (next (made key labels))) ≡ as_put (λ told. next (put (make told) key labels)) tell
-body_from read tell make put key labels next same = ap (λ r. (r >>= λ made. Ok (put made)) >>= λ made. Ok (next (made key labels))) same ∙ body_by tell make put key labels next
+body_from read tell make put key labels next same =
+    ap (λ r. (r >>= λ made. Ok (put made)) >>= λ made. Ok (next (made key labels))) same ∙ body_by tell make put key labels next
 
 body_told : {B : Type 0} (kind : Kind) (d : Data) (key : Key) (labels : Pairs) (next : Object → B) → labels_field d ≡ Ok labels
     → (body_of kind d >>= λ make. Ok (next (make key labels))) ≡ as_put (λ told. next (object_with kind key labels told)) (rows_told (own_rows kind) d)
 unfolding body_of
-body_told kinds.Service d key labels next are = body_from (service_of d) (rows_told service_rows d) (λ told key labels. service_with key labels told) _ key labels next (service_tells d)
-body_told kinds.Pool d key labels next are = body_from (pool_of d) (rows_told pool_rows d) (λ told key labels. pool_with key labels told) _ key labels next (pool_tells d)
+body_told kinds.Service d key labels next are =
+    body_from (service_of d) (rows_told service_rows d) (λ told key labels. service_with key labels told) _ key labels next (service_tells d)
+body_told kinds.Pool d key labels next are =
+    body_from (pool_of d) (rows_told pool_rows d) (λ told key labels. pool_with key labels told) _ key labels next (pool_tells d)
 body_told kinds.L2 d key labels next are = body_from (l2_of d) (rows_told l2_rows d) (λ told key. l2_with key told) _ key labels next (l2_tells d)
 body_told kinds.Bgp d key labels next are = body_from (bgp_of d) (rows_told bgp_rows d) (λ told key. bgp_with key told) _ key labels next (bgp_tells d)
 body_told kinds.Peer d key labels next are = body_from (peer_of d) (rows_told peer_rows d) (λ told key. peer_with key told) _ key labels next (peer_tells d)
-body_told kinds.Community d key labels next are = body_from (named_values_field d) (rows_told community_rows d) (λ told. map named_value_with told.0) _ key labels next (community_tells d)
+body_told kinds.Community d key labels next are =
+    body_from (named_values_field d) (rows_told community_rows d) (λ told. map named_value_with told.0) _ key labels next (community_tells d)
 body_told kinds.Namespace d key labels next are = refl
 body_told kinds.Node d key labels next are = refl
-body_told kinds.Slice d key labels next are = body_from (slice_of d) (rows_told slice_rows d) (λ told key. slice_with key labels told) _ key labels next (slice_tells d labels are)
+body_told kinds.Slice d key labels next are =
+    body_from (slice_of d) (rows_told slice_rows d) (λ told key. slice_with key labels told) _ key labels next (slice_tells d labels are)
 
 version_tells : (d : Data) → version_field d ≡ as_put (λ version. version) (row_told version_row d)
 unfolding version_of
@@ -142,4 +151,5 @@ pub frames_as_told : FramesAsTold
 unfolding frame_of
 frames_as_told line =
     then_row (interface_field line) _ _ _ (λ it. it) _ (required_row text_of any_text (λ text. text) (codes "interface") text_tells line) (λ interface _.
-    then_row (bytes_field line) _ _ (rows_told no_rows line) (λ it. it) _ (required_row bytes_of hex_text (λ bytes. bytes) (codes "bytes") bytes_tell line) (λ bytes _. refl))
+    then_row (bytes_field line) _ _ (rows_told no_rows line) (λ it. it) _ (required_row bytes_of hex_text (λ bytes. bytes) (codes "bytes") bytes_tell line)
+    (λ bytes _. refl))

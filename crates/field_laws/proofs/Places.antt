@@ -69,7 +69,8 @@ missing_by path make (Ok x) = refl
 missing_by path make (Err rest) = refl
 
 required_by : {A X : Type 0} (tell : Data → Result X Path) (make : X → A) (path : Path) (at : Standing)
-    → (as_put (option_map make) (standing_tells path (λ x. Some x) (Ok None) tell at) >>= or_missing path) ≡ as_put make (standing_tells path (λ x. x) (Err path) tell at)
+    → (as_put (option_map make) (standing_tells path (λ x. Some x) (Ok None) tell at) >>= or_missing path)
+    ≡ as_put make (standing_tells path (λ x. x) (Err path) tell at)
 required_by tell make path nothing = refl
 required_by tell make path astray = refl
 required_by tell make path (here d) = missing_by path make (tell d)
@@ -82,13 +83,15 @@ required_row read type make path same d =
     ∙ required_by (told type) make path (look (names_of path) d)
 
 default_placed : {A X : Type 0} (path : Path) (make : X → A) (default : A) (tell : Result X Path)
-    → (as_put (option_map make) (as_put (λ x. Some x) (at_place path tell)) >>= λ found. Ok (unwrap_or found default)) ≡ as_put make (as_put (λ x. x) (at_place path tell))
+    → (as_put (option_map make) (as_put (λ x. Some x) (at_place path tell)) >>= λ found. Ok (unwrap_or found default))
+    ≡ as_put make (as_put (λ x. x) (at_place path tell))
 default_placed path make default (Ok x) = refl
 default_placed path make default (Err rest) = refl
 
 default_by : {A X : Type 0} (tell : Data → Result X Path) (make : X → A) (path : Path) (default : A) (value : Result X Path) → as_put make value ≡ Ok default
     → (at : Standing)
-    → (as_put (option_map make) (standing_tells path (λ x. Some x) (Ok None) tell at) >>= λ found. Ok (unwrap_or found default)) ≡ as_put make (standing_tells path (λ x. x) value tell at)
+    → (as_put (option_map make) (standing_tells path (λ x. Some x) (Ok None) tell at) >>= λ found. Ok (unwrap_or found default))
+    ≡ as_put make (standing_tells path (λ x. x) value tell at)
 default_by tell make path default value is nothing = sym is
 default_by tell make path default value is astray = refl
 default_by tell make path default value is (here d) = default_placed path make default (tell d)

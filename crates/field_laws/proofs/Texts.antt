@@ -1,5 +1,6 @@
 -- What is read of names, of wanted texts and of words is what they tell.
-use Rattle.std.proofs.Common.{◌≡◌, ℕ, List, [], ◌∷◌, Bool, true, false, cond, ◌||◌, length, eqb, Option, Some, None, option_map, option_and_then, Result, Ok, Err, refl, sym, ap, ◌∙◌, bytes_eq, codes}
+use Rattle.std.proofs.Common.{◌≡◌, ℕ, List, [], ◌∷◌, Bool, true, false, cond, ◌||◌, length, eqb, Option, Some, None}
+use Rattle.std.proofs.Common.{option_map, option_and_then, Result, Ok, Err, refl, sym, ap, ◌∙◌, bytes_eq, codes}
 use Rattle.mlb_base.proofs.Lists.{not_empty}
 use Rattle.serde_json.specs.Data.{Data, string}
 use Rattle.json_fields.specs.Path.{Path, names_of}
@@ -22,13 +23,15 @@ abbrev if_full : Path → List ℕ → Result (List ℕ) Path
 if_full path name = cond (eqb (length name) 0) (Err path) (Ok name)
 
 full_by : (path : Path) (found : Option (List ℕ))
-    → (as_put (λ x. x) (as_put (λ x. x) (at_place path (or_fault found))) >>= if_full path) ≡ as_put (λ x. x) (as_put (λ x. x) (at_place path (or_fault (option_and_then unless_empty found))))
+    → (as_put (λ x. x) (as_put (λ x. x) (at_place path (or_fault found))) >>= if_full path)
+    ≡ as_put (λ x. x) (as_put (λ x. x) (at_place path (or_fault (option_and_then unless_empty found))))
 full_by path None = refl
 full_by path (Some []) = refl
 full_by path (Some (c ∷ text)) = rw (not_empty c text) refl
 
 name_by : (path : Path) (at : Standing)
-    → (as_put (λ x. x) (standing_tells path (λ x. x) (Err path) (told any_text) at) >>= if_full path) ≡ as_put (λ x. x) (standing_tells path (λ x. x) (Err path) (told full_text) at)
+    → (as_put (λ x. x) (standing_tells path (λ x. x) (Err path) (told any_text) at) >>= if_full path)
+    ≡ as_put (λ x. x) (standing_tells path (λ x. x) (Err path) (told full_text) at)
 name_by path nothing = refl
 name_by path astray = refl
 name_by path (here d) = full_by path (text_in d)
@@ -40,7 +43,8 @@ name_row path d = ap (λ r. r >>= if_full path) (required_row text_of any_text (
 -- ---- whether a text is the one wanted
 
 wanted_placed : (path wanted : Path) (tell : Result (List ℕ) Path)
-    → (as_put (option_map (λ x. x)) (as_put (λ x. Some x) (at_place path tell)) >>= λ found. Ok (is_text found wanted)) ≡ as_put (λ text. bytes_eq text wanted) (as_put (λ x. x) (at_place path tell))
+    → (as_put (option_map (λ x. x)) (as_put (λ x. Some x) (at_place path tell)) >>= λ found. Ok (is_text found wanted))
+    ≡ as_put (λ text. bytes_eq text wanted) (as_put (λ x. x) (at_place path tell))
 wanted_placed path wanted (Ok text) = refl
 wanted_placed path wanted (Err rest) = refl
 

@@ -1,5 +1,6 @@
 -- When a value is read as one of its type.
-use Rattle.std.proofs.Common.{◌≡◌, ◌≤◌, ◌↔◌, ℕ, List, [], ◌∷◌, Bool, true, false, cond, ◌&&◌, leb, leb-true, Option, Some, None, option_map, option_and_then, Result, Ok, Err, refl, sym, ap, subst, ◌∙◌, inl, inr, bytes_eq, codes}
+use Rattle.std.proofs.Common.{◌≡◌, ◌≤◌, ◌↔◌, ℕ, List, [], ◌∷◌, Bool, true, false, cond, ◌&&◌, leb, leb-true, Option, Some, None}
+use Rattle.std.proofs.Common.{option_map, option_and_then, Result, Ok, Err, refl, sym, ap, subst, ◌∙◌, inl, inr, bytes_eq, codes}
 use Rattle.std.specs.Result.{result_ok}
 use Rattle.std.proofs.lemmas.Bool.{le-leb}
 use Rattle.std.proofs.lemmas.Slice.Eq.{bytes_eq-Decides}
@@ -19,7 +20,8 @@ use Rattle.kube_model.specs.Named.{protocol_named, protocol_of, policy_named, po
 use Rattle.kube_events.specs.Named.{family_named, family_of, version_named, version_of, address_in}
 use Rattle.kube_events.specs.Frame.{bytes_of}
 use Rattle.field_laws.specs.Told.{Pairs, pairs_among, in_order}
-use Rattle.field_laws.specs.FieldLaws.{IsReadWhere, IsText, IsTruth, IsNumber, IsTextOf, SaysFamily, SaysProtocol, SaysPolicy, SaysVersion, SaysAddress, SaysBytes, AreTexts, IsTextMap}
+use Rattle.field_laws.specs.FieldLaws.{IsReadWhere, IsText, IsTruth, IsNumber, IsTextOf, SaysFamily, SaysProtocol}
+use Rattle.field_laws.specs.FieldLaws.{SaysPolicy, SaysVersion, SaysAddress, SaysBytes, AreTexts, IsTextMap}
 use Rattle.field_laws.proofs.Types.{pairs_told}
 
 -- ---- what is found in a value, or the value is itself at fault
@@ -103,7 +105,8 @@ number_there low high (object ms) n e = absurd cc
 
 pub numbers_are_read : (low high : ℕ) → IsReadWhere (number_in low high) (IsNumber low high)
 unfolding number_in
-numbers_are_read low high = where_found (number_in low high) (IsNumber low high) (number_found low high) (λ d. refl) (λ d n. (number_there low high d n, λ is. rw (is.0, le-leb low n is.1, le-leb n high is.2) refl))
+numbers_are_read low high = where_found (number_in low high) (IsNumber low high) (number_found low high) (λ d. refl)
+    (λ d n. (number_there low high d n, λ is. rw (is.0, le-leb low n is.1, le-leb n high is.2) refl))
 
 -- ---- texts that say something
 
@@ -161,9 +164,12 @@ families_are_read = said_by family_named SaysFamily (λ text family. (
 protocol_said_by : (a b c : Bool) (text : List ℕ) (protocol : Protocol) → bytes_eq text (codes "TCP") ≡ a → bytes_eq text (codes "UDP") ≡ b
     → bytes_eq text (codes "SCTP") ≡ c
     → cond a (Some Tcp) (cond b (Some Udp) (cond c (Some Sctp) None)) ≡ Some protocol → SaysProtocol text protocol
-protocol_said_by true b c text protocol first second third e = let is : Tcp ≡ protocol = cc in subst (SaysProtocol text) is ((bytes_eq-Decides text (codes "TCP")).0 first)
-protocol_said_by false true c text protocol first second third e = let is : Udp ≡ protocol = cc in subst (SaysProtocol text) is ((bytes_eq-Decides text (codes "UDP")).0 second)
-protocol_said_by false false true text protocol first second third e = let is : Sctp ≡ protocol = cc in subst (SaysProtocol text) is ((bytes_eq-Decides text (codes "SCTP")).0 third)
+protocol_said_by true b c text protocol first second third e = let is : Tcp ≡ protocol = cc in
+    subst (SaysProtocol text) is ((bytes_eq-Decides text (codes "TCP")).0 first)
+protocol_said_by false true c text protocol first second third e = let is : Udp ≡ protocol = cc in
+    subst (SaysProtocol text) is ((bytes_eq-Decides text (codes "UDP")).0 second)
+protocol_said_by false false true text protocol first second third e = let is : Sctp ≡ protocol = cc in
+    subst (SaysProtocol text) is ((bytes_eq-Decides text (codes "SCTP")).0 third)
 protocol_said_by false false false text protocol first second third e = absurd cc
 
 protocol_named_by : (text : List ℕ) (protocol : Protocol) → SaysProtocol text protocol → protocol_named text ≡ Some protocol
@@ -181,9 +187,12 @@ protocols_are_read = said_by protocol_named SaysProtocol (λ text protocol. (
 policy_said_by : (a b c : Bool) (text : List ℕ) (policy : Policy) → bytes_eq text (codes "Cluster") ≡ a → bytes_eq text (codes "") ≡ b
     → bytes_eq text (codes "Local") ≡ c
     → cond a (Some Cluster) (cond b (Some Cluster) (cond c (Some Local) None)) ≡ Some policy → SaysPolicy text policy
-policy_said_by true b c text policy first second third e = let is : Cluster ≡ policy = cc in subst (SaysPolicy text) is (inl ((bytes_eq-Decides text (codes "Cluster")).0 first))
-policy_said_by false true c text policy first second third e = let is : Cluster ≡ policy = cc in subst (SaysPolicy text) is (inr ((bytes_eq-Decides text (codes "")).0 second))
-policy_said_by false false true text policy first second third e = let is : Local ≡ policy = cc in subst (SaysPolicy text) is ((bytes_eq-Decides text (codes "Local")).0 third)
+policy_said_by true b c text policy first second third e = let is : Cluster ≡ policy = cc in
+    subst (SaysPolicy text) is (inl ((bytes_eq-Decides text (codes "Cluster")).0 first))
+policy_said_by false true c text policy first second third e = let is : Cluster ≡ policy = cc in
+    subst (SaysPolicy text) is (inr ((bytes_eq-Decides text (codes "")).0 second))
+policy_said_by false false true text policy first second third e = let is : Local ≡ policy = cc in
+    subst (SaysPolicy text) is ((bytes_eq-Decides text (codes "Local")).0 third)
 policy_said_by false false false text policy first second third e = absurd cc
 
 policy_named_by : (text : List ℕ) (policy : Policy) → SaysPolicy text policy → policy_named text ≡ Some policy

@@ -1,13 +1,16 @@
 -- What is read of a value of each type is what it tells.
 use Rattle.std.proofs.Common.{◌≡◌, ℕ, ◌+◌, List, [], ◌∷◌, map, Option, Some, None, option_map, option_and_then, Result, Ok, Err, refl, ap, ◌∙◌}
 use Rattle.std.proofs.lemmas.List.{map-id}
-use Rattle.serde_json.specs.Data.{Data, null, boolean, number, string, array, object, unsigned, negative, float, Items, no_items, item, Members, no_members, member}
+use Rattle.serde_json.specs.Data.{Data, null, boolean, number, string, array, object, unsigned, negative}
+use Rattle.serde_json.specs.Data.{float, Items, no_items, item, Members, no_members, member}
 use Rattle.serde_json.specs.Find.{as_str}
 use Rattle.json_fields.specs.Path.{Path, item_place}
-use Rattle.json_fields.specs.Reading.{◌>>=◌, within, or_itself, one_of, items_from, list_of, list_at, text_of, bool_of, number_in, pairs_after, labels_of, labels_at, object_of, default_at}
+use Rattle.json_fields.specs.Reading.{◌>>=◌, within, or_itself, one_of, items_from, list_of, list_at, text_of}
+use Rattle.json_fields.specs.Reading.{bool_of, number_in, pairs_after, labels_of, labels_at, object_of, default_at}
 use Rattle.kube_labels.specs.Pairs.{with_pair}
 use Rattle.field_laws.specs.FieldTypes.{FieldType, any_text, true_or_false, whole_number, one_text, text_map, a_list, an_object, Rows}
-use Rattle.field_laws.specs.Told.{Pairs, Told, RowsTold, text_in, if_among, pairs_among, in_order, or_fault, as_put, at_place, both, joined_list, each_told, list_told, told, row_told, rows_told}
+use Rattle.field_laws.specs.Told.{Pairs, Told, RowsTold, text_in, if_among, pairs_among, in_order, or_fault, as_put}
+use Rattle.field_laws.specs.Told.{at_place, both, joined_list, each_told, list_told, told, row_told, rows_told}
 use Rattle.field_laws.specs.Tables.{listed, mapped}
 use Rattle.field_laws.proofs.Places.{Tells, default_row}
 
@@ -102,7 +105,8 @@ map_row path d = default_row labels_of text_map (λ pairs. pairs) path [] (objec
 -- ---- lists
 
 item_told : {A X : Type 0} (make : X → A) (place : Path) (first : Result X Path) (others : Result (List X) Path)
-    → (within place (as_put make first) >>= λ x. as_put (map make) others >>= λ xs. Ok (x ∷ xs)) ≡ as_put (map make) (joined_list (both (at_place place first) others))
+    → (within place (as_put make first) >>= λ x. as_put (map make) others >>= λ xs. Ok (x ∷ xs))
+    ≡ as_put (map make) (joined_list (both (at_place place first) others))
 item_told make place (Ok x) (Ok xs) = refl
 item_told make place (Ok x) (Err path) = refl
 item_told make place (Err path) others = refl
@@ -116,7 +120,8 @@ items_told : {A X : Type 0} (read : Data → Result A Path) (tell : Data → Res
 unfolding items_from
 items_told read tell make same index no_items = refl
 items_told read tell make same index (item d ds) =
-    then_items (item_place index) (read d) (as_put make (tell d)) (items_from read (index + 1) ds) (as_put (map make) (each_told tell (index + 1) ds)) (same d) (items_told read tell make same (index + 1) ds)
+    then_items (item_place index) (read d) (as_put make (tell d)) (items_from read (index + 1) ds) (as_put (map make) (each_told tell (index + 1) ds)) (same d)
+    (items_told read tell make same (index + 1) ds)
     ∙ item_told make (item_place index) (tell d) (each_told tell (index + 1) ds)
 
 pub list_tells : {A X : Type 0} (read : Data → Result A Path) (tell : Data → Result X Path) (make : X → A) → Tells read tell make
@@ -132,7 +137,8 @@ list_tells read tell make same (object ms) = refl
 pub list_row : {A : Type 0} (read : Data → Result A Path) (each : FieldType) (make : Told each → A) (path : Path) → Tells read (told each) make → (d : Data)
     → list_at read path d ≡ as_put (map make) (row_told (listed path each) d)
 unfolding list_at default_at
-list_row read each make path same d = default_row (list_of read) (a_list each) (map make) path [] (array no_items) (list_tells read (told each) make same) refl d
+list_row read each make path same d =
+    default_row (list_of read) (a_list each) (map make) path [] (array no_items) (list_tells read (told each) make same) refl d
 
 each_itself : {A : Type 0} (tell : Result (List A) Path) → as_put (map (λ x. x)) tell ≡ as_put (λ xs. xs) tell
 each_itself (Ok xs) = ap (λ it. Ok it) (map-id xs)
@@ -153,7 +159,8 @@ then_by next (Ok x) rest make whole others = others x refl ∙ put_both whole x 
 then_by next (Err path) rest make whole others = refl
 
 -- a field, and those behind it
-pub then_row : {A B X Y : Type 0} (read : Result A Path) (next : A → Result B Path) (tell : Result X Path) (rest : Result Y Path) (make : X → A) (whole : X × Y → B)
+pub then_row : {A B X Y : Type 0} (read : Result A Path) (next : A → Result B Path) (tell : Result X Path) (rest : Result Y Path) (make : X → A)
+    (whole : X × Y → B)
     → read ≡ as_put make tell → ((x : X) → tell ≡ Ok x → next (make x) ≡ as_put (λ y. whole (x, y)) rest) → (read >>= next) ≡ as_put whole (both tell rest)
 then_row read next tell rest make whole same others = ap (λ r. r >>= next) same ∙ then_by next tell rest make whole others
 

@@ -23,7 +23,8 @@ use Rattle.kube_events.specs.Wanted.{wanted_of}
 use Rattle.kube_events.specs.Members.{distinct_names}
 use Rattle.field_laws.specs.FieldTypes.{Rows, no_rows, ◌▸◌}
 use Rattle.field_laws.specs.Told.{Pairs, RowsTold}
-use Rattle.field_laws.specs.Tables.{service_rows, pool_rows, l2_rows, bgp_rows, peer_rows, slice_rows, own_rows, version_row, labels_row, keyed, changed_rows, stated_rows, deleted_rows, members_rows, frame_rows}
+use Rattle.field_laws.specs.Tables.{service_rows, pool_rows, l2_rows, bgp_rows, peer_rows, slice_rows, own_rows, version_row}
+use Rattle.field_laws.specs.Tables.{labels_row, keyed, changed_rows, stated_rows, deleted_rows, members_rows, frame_rows}
 use Rattle.field_laws.specs.Objects.{selector_with, port_with, addresses_with, allocation_with, named_value_with, endpoint_with}
 
 -- the text of an annotation or of a label, empty where it is absent

@@ -5,7 +5,8 @@ use Rattle.serde_json.specs.Data.{boolean, number, string, array, object, unsign
 use Rattle.json_fields.specs.Path.{Path}
 use Rattle.kube_model.specs.declared.object.Kind.{Kind}
 use Rattle.kube_model.specs.declared.object.Kind.TheVariants as kinds
-use Rattle.field_laws.specs.FieldTypes.{FieldType, any_text, full_text, true_or_false, whole_number, version_text, one_text, two_texts, address_text, hex_text, text_map, a_list, an_object, Row, required, optional, defaulted, Rows, no_rows, ◌▸◌}
+use Rattle.field_laws.specs.FieldTypes.{FieldType, any_text, full_text, true_or_false, whole_number, version_text, one_text, two_texts}
+use Rattle.field_laws.specs.FieldTypes.{address_text, hex_text, text_map, a_list, an_object, Row, required, optional, defaulted, Rows, no_rows, ◌▸◌}
 
 -- ---- rows of one form
 

@@ -1,5 +1,6 @@
 -- What a value of a type tells, and what fields tell in their order, or the path of the first that is not as stated.
-use Rattle.std.specs.Prelude.{ℕ, ◌+◌, ◌&&◌, ◌||◌, List, [], ◌∷◌, Bool, false, Option, Some, None, option_map, option_and_then, Result, Ok, Err, nat_le, if◌then◌else◌, ⊤}
+use Rattle.std.specs.Prelude.{ℕ, ◌+◌, ◌&&◌, ◌||◌, List, [], ◌∷◌, Bool, false, Option, Some, None}
+use Rattle.std.specs.Prelude.{option_map, option_and_then, Result, Ok, Err, nat_le, if◌then◌else◌, ⊤}
 use Rattle.std.specs.Result.{result_ok}
 use Rattle.std.specs.Str.{bytes_eq}
 use Rattle.hex.specs.Hex.{decode_of}
@@ -10,7 +11,8 @@ use Rattle.ip_ranges.specs.Values.{AddressValue}
 use Rattle.ip_ranges.specs.AddressText.{address_of}
 use Rattle.kube_events.specs.Named.{version_named}
 use Rattle.field_laws.specs.Standing.{Standing, nothing, astray, here, look}
-use Rattle.field_laws.specs.FieldTypes.{FieldType, any_text, full_text, true_or_false, whole_number, version_text, one_text, two_texts, address_text, hex_text, text_map, a_list, an_object, Row, required, optional, defaulted, Rows, no_rows, ◌▸◌}
+use Rattle.field_laws.specs.FieldTypes.{FieldType, any_text, full_text, true_or_false, whole_number, version_text, one_text, two_texts}
+use Rattle.field_laws.specs.FieldTypes.{address_text, hex_text, text_map, a_list, an_object, Row, required, optional, defaulted, Rows, no_rows, ◌▸◌}
 
 abbrev pub Pairs : Type 0
 Pairs = List (List ℕ × List ℕ)

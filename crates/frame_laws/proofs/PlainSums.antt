@@ -1,5 +1,6 @@
 -- Ones' complement sums against plain ones.
-use Rattle.std.proofs.Common.{◌≡◌, ◌≢◌, ◌↔◌, ℕ, zero, suc, ◌+◌, ◌-◌, ◌*◌, ◌/◌, ◌<◌, ◌≤◌, List, [], ◌∷◌, ◌++◌, length, get_or, take, drop, refl, sym, ◌∙◌, ap, subst, arith}
+use Rattle.std.proofs.Common.{◌≡◌, ◌≢◌, ◌↔◌, ℕ, zero, suc, ◌+◌, ◌-◌, ◌*◌, ◌/◌, ◌<◌, ◌≤◌, List, [], ◌∷◌}
+use Rattle.std.proofs.Common.{◌++◌, length, get_or, take, drop, refl, sym, ◌∙◌, ap, subst, arith}
 use Rattle.std.specs.Prelude.{nat_lt, slice_range, true}
 use Rattle.std.specs.Int.{w32, to_be_bytes}
 use Rattle.std.specs.List.{list_all}
@@ -28,7 +29,8 @@ reduced-sum : (reduced sum : ℕ) (octets : List ℕ) → AreOctets octets → I
 reduced-sum reduced sum [] all is = record { times = is.times; less = omega (arith, is.less); small = is.small; zero_of = λ z. omega (arith, is.zero_of z) }
 reduced-sum reduced sum (last ∷ []) all is = reduced-plus reduced sum (last * 256) (omega (arith, all.0)) is
 reduced-sum reduced sum (high ∷ low ∷ rest) all is =
-    let more = reduced-sum (plus reduced (high * 256 + low)) (sum + (high * 256 + low)) rest all.1.1 (reduced-plus reduced sum (high * 256 + low) (omega (arith, all.0, all.1.0)) is) in
+    let more = reduced-sum (plus reduced (high * 256 + low)) (sum + (high * 256 + low)) rest all.1.1
+    (reduced-plus reduced sum (high * 256 + low) (omega (arith, all.0, all.1.0)) is) in
     record { times = more.times; less = omega (arith, more.less); small = more.small; zero_of = λ z. omega (arith, more.zero_of z) }
 
 multiple : (reduced sum : ℕ) → IsReduced reduced sum → (reduced ≡ 0xffff) ↔ IsMultiple sum
@@ -40,7 +42,8 @@ multiple reduced sum is = (
 pub checksums-plain : ChecksumsArePlainSums
 checksums-plain octets all =
     let whole : 0 + plain_sum octets ≡ plain_sum octets = omega arith in
-    multiple (ones_sum octets) (plain_sum octets) (subst (IsReduced (ones_sum octets)) whole (reduced-sum 0 0 octets all (record { times = 0; less = refl; small = omega arith; zero_of = λ z. refl })))
+    multiple (ones_sum octets) (plain_sum octets)
+    (subst (IsReduced (ones_sum octets)) whole (reduced-sum 0 0 octets all (record { times = 0; less = refl; small = omega arith; zero_of = λ z. refl })))
 
 -- ---- parts of a frame
 plain-append : (pairs : ℕ) (front back : List ℕ) → length front ≡ pairs + pairs → plain_sum (front ++ back) ≡ plain_sum front + plain_sum back
@@ -108,7 +111,8 @@ module _ (frame : List ℕ) (all : AreOctets frame) (whole : 54 + message_length
       octets-append addresses (to_be_bytes w32 (length message) ++ ((0 ∷ 0 ∷ 0 ∷ 58 ∷ []) ++ message))
       (octets-take 32 (drop 22 frame) (octets-drop 22 frame all))
       (octets-append (to_be_bytes w32 (length message)) ((0 ∷ 0 ∷ 0 ∷ 58 ∷ []) ++ message) (four-octets (length message))
-      (octets-append (0 ∷ 0 ∷ 0 ∷ 58 ∷ []) message (octets-literal (0 ∷ 0 ∷ 0 ∷ 58 ∷ []) refl) (octets-take (54 + message_length frame - 54) (drop 54 frame) (octets-drop 54 frame all))))
+      (octets-append (0 ∷ 0 ∷ 0 ∷ 58 ∷ []) message (octets-literal (0 ∷ 0 ∷ 0 ∷ 58 ∷ []) refl)
+      (octets-take (54 + message_length frame - 54) (drop 54 frame) (octets-drop 54 frame all))))
 
   frame-summed : HasRightChecksum frame ↔ IsMultiple (summed frame)
   frame-summed = rw (sym sums) (checksums-plain (with_pseudo_header addresses message) octets)

@@ -1,5 +1,6 @@
 -- What is sent is what a receiver asks for.
-use Rattle.std.proofs.Common.{◌≡◌, ◌≢◌, ℕ, zero, suc, Bool, true, false, cond, ◌==◌, ◌&&◌, ◌+◌, ◌-◌, ◌*◌, ◌/◌, ◌%◌, ◌<◌, ◌≤◌, List, [], ◌∷◌, ◌++◌, length, get_or, take, drop, Option, Some, None, unwrap_or, refl, sym, ◌∙◌, ap, subst, arith, append_assoc, length-append}
+use Rattle.std.proofs.Common.{◌≡◌, ◌≢◌, ℕ, zero, suc, Bool, true, false, cond, ◌==◌, ◌&&◌, ◌+◌, ◌-◌, ◌*◌, ◌/◌, ◌%◌, ◌<◌, ◌≤◌, List, [], ◌∷◌, ◌++◌}
+use Rattle.std.proofs.Common.{length, get_or, take, drop, Option, Some, None, unwrap_or, refl, sym, ◌∙◌, ap, subst, arith, append_assoc, length-append}
 use Rattle.std.specs.Prelude.{slice_index, slice_range}
 use Rattle.std.specs.Int.{w128, to_be_bytes}
 use Rattle.std.specs.List.{AllByRecursion, find}
@@ -31,7 +32,8 @@ first-of (x ∷ front) back some = refl
 regrouped : (a b h t d m : List ℕ) → a ++ b ++ h ++ t ++ d ++ m ≡ (a ++ b) ++ (h ++ (t ++ (d ++ m)))
 regrouped a b h t d m = simp append_assoc refl
 
-module _ (mac hardware target destination : List ℕ) (flags : ℕ) (m : IsHardware mac) (h : IsHardware hardware) (t : IsIpv6 target) (d : IsIpv6 destination) (flag : flags < 0x100)
+module _ (mac hardware target destination : List ℕ) (flags : ℕ) (m : IsHardware mac) (h : IsHardware hardware) (t : IsIpv6 target) (d : IsIpv6 destination)
+    (flag : flags < 0x100)
     (unicast : slice_index target 0 ≢ 0xff) (unsolicited : slice_index destination 0 ≡ 0xff → flags / 0x40 % 2 ≡ 0) where
   abbrev checksum : ℕ
   checksum = checksum_of flags target destination mac
@@ -47,7 +49,8 @@ module _ (mac hardware target destination : List ℕ) (flags : ℕ) (m : IsHardw
 
   -- the octets behind the Ethernet addresses, behind the IPv6 header, and of the message
   in-header : (k : ℕ) → get_or frame (12 + k) 0 ≡ get_or (header ++ (target ++ (destination ++ message))) k 0
-  in-header k = ap (λ octets. get_or octets (12 + k) 0) framed ∙ behind (hardware ++ mac) (header ++ (target ++ (destination ++ message))) 12 k (omega (arith, length-append hardware mac, h.0, m.0))
+  in-header k = ap (λ octets. get_or octets (12 + k) 0) framed
+      ∙ behind (hardware ++ mac) (header ++ (target ++ (destination ++ message))) 12 k (omega (arith, length-append hardware mac, h.0, m.0))
 
   in-destination : get_or frame 38 0 ≡ get_or destination 0 0
   in-destination = in-header 26 ∙ behind target (destination ++ message) 16 0 t.0 ∙ first-of destination message (omega (arith, d.0))
@@ -55,12 +58,14 @@ module _ (mac hardware target destination : List ℕ) (flags : ℕ) (m : IsHardw
   in-message : (k : ℕ) → get_or frame (54 + k) 0 ≡ get_or message k 0
   in-message k =
       ap (λ n. get_or frame n 0) (omega arith) ∙ in-header (42 + k)
-      ∙ ap (λ n. get_or (header ++ (target ++ (destination ++ message))) n 0) (omega arith) ∙ behind header (target ++ (destination ++ message)) 10 (32 + k) refl
+      ∙ ap (λ n. get_or (header ++ (target ++ (destination ++ message))) n 0) (omega arith)
+      ∙ behind header (target ++ (destination ++ message)) 10 (32 + k) refl
       ∙ ap (λ n. get_or (target ++ (destination ++ message)) n 0) (omega arith) ∙ behind target (destination ++ message) 16 (16 + k) t.0
       ∙ behind destination message 16 k d.0
 
   in-target : get_or frame 62 0 ≡ get_or target 0 0
-  in-target = in-message 8 ∙ ap (λ octets. get_or octets 0 0) (append_assoc target (2 ∷ 1 ∷ []) mac) ∙ first-of target ((2 ∷ 1 ∷ []) ++ mac) (omega (arith, t.0))
+  in-target =
+      in-message 8 ∙ ap (λ octets. get_or octets 0 0) (append_assoc target (2 ∷ 1 ∷ []) mac) ∙ first-of target ((2 ∷ 1 ∷ []) ++ mac) (omega (arith, t.0))
 
   in-option : (k : ℕ) → get_or frame (78 + k) 0 ≡ get_or ((2 ∷ 1 ∷ []) ++ mac) k 0
   in-option k =
@@ -77,7 +82,18 @@ module _ (mac hardware target destination : List ℕ) (flags : ℕ) (m : IsHardw
   frame-long : length frame ≡ 86
   frame-long =
       ap length framed
-      ∙ omega (arith, length-append (hardware ++ mac) (header ++ (target ++ (destination ++ message))), length-append hardware mac, length-append target (destination ++ message), length-append destination message, message-long, h.0, m.0, t.0, d.0)
+      ∙ omega (
+        arith,
+        length-append (hardware ++ mac) (header ++ (target ++ (destination ++ message))),
+        length-append hardware mac,
+        length-append target (destination ++ message),
+        length-append destination message,
+        message-long,
+        h.0,
+        m.0,
+        t.0,
+        d.0,
+      )
 
   payload : message_length frame ≡ 32
   payload = omega (arith, in-header 6, in-header 7)
@@ -126,7 +142,8 @@ module _ (mac hardware target destination : List ℕ) (flags : ℕ) (m : IsHardw
     kind = in-message 0;
     code = in-message 1;
     checksum = (frames-summed frame frame-octets (omega (arith, payload, frame-long))).0
-        (ndp_reply-HasRightChecksum mac target destination flags m.0 t.0 d.0 (bytes-of mac m.1) (bytes-of target t.1) (bytes-of destination d.1) flag hardware h.0);
+        (ndp_reply-HasRightChecksum mac target destination flags m.0 t.0 d.0 (bytes-of mac m.1) (bytes-of target t.1) (bytes-of destination d.1) flag hardware
+        h.0);
     long = omega (arith, payload);
     unicast = λ all. unicast (sym in-target ∙ all);
     unsolicited = λ all. ap (λ octet. octet / 0x40 % 2) (in-message 4) ∙ unsolicited (sym in-destination ∙ all);
@@ -136,7 +153,8 @@ module _ (mac hardware target destination : List ℕ) (flags : ℕ) (m : IsHardw
   }
 
 -- ---- to all nodes
-to-all-valid : (mac target : List ℕ) (flags : ℕ) → IsHardware mac → IsIpv6 target → flags < 0x100 → slice_index target 0 ≢ 0xff → flags / 0x40 % 2 ≡ 0 → IsValidAdvertisement (to_all_nodes mac target flags)
+to-all-valid : (mac target : List ℕ) (flags : ℕ) → IsHardware mac → IsIpv6 target → flags < 0x100 → slice_index target 0 ≢ 0xff → flags / 0x40 % 2 ≡ 0
+    → IsValidAdvertisement (to_all_nodes mac target flags)
 to-all-valid mac target flags m t flag unicast clear =
     reply-valid mac (0x33 ∷ 0x33 ∷ 0 ∷ 0 ∷ 0 ∷ 1 ∷ []) target all_nodes flags m (refl, octets-literal (0x33 ∷ 0x33 ∷ 0 ∷ 0 ∷ 0 ∷ 1 ∷ []) refl) t
     (refl, octets-literal all_nodes refl) flag unicast (λ all. clear)
@@ -148,7 +166,28 @@ unsolicited-valid mac number m unicast =
   where
     number-octets : (n : ℕ) → AreOctets (to_be_bytes w128 n)
     number-octets n =
-        ((omega arith, (omega arith, (omega arith, (omega arith, (omega arith, (omega arith, (omega arith, (omega arith, (omega arith, (omega arith, (omega arith, (omega arith, (omega arith, (omega arith, (omega arith, (omega arith, tt)))))))))))))))))
+        ((
+          omega arith,
+          (
+            omega arith,
+            (
+              omega arith,
+              (
+                omega arith,
+                (
+                  omega arith,
+                  (
+                    omega arith,
+                    (
+                      omega arith,
+                      (omega arith, (omega arith, (omega arith, (omega arith, (omega arith, (omega arith, (omega arith, (omega arith, (omega arith, tt))))))))),
+                    ),
+                  ),
+                ),
+              ),
+            ),
+          ),
+        ))
 
 -- ---- answers
 -- the hardware address that options state, or that of the frame
@@ -156,7 +195,8 @@ abbrev IsStated : Option (List ℕ) → Type 0
 IsStated None = Unit {0}
 IsStated (Some hardware) = IsHardware hardware
 
-found-by : (option : NdpOption) (rest : Option NdpOption) (kind long : Bool) → (length option.body == 6) ≡ long → AreOctets option.body → IsStated (option_map (λ o. o.body) rest)
+found-by : (option : NdpOption) (rest : Option NdpOption) (kind long : Bool) → (length option.body == 6) ≡ long → AreOctets option.body
+    → IsStated (option_map (λ o. o.body) rest)
     → IsStated (option_map (λ (o : NdpOption). o.body) (cond (kind && long) (Some option) rest))
 found-by option rest true true six octets later = (grind arith, octets)
 found-by option rest true false six octets later = later
@@ -175,7 +215,8 @@ one-more option (Some more) options own later is =
     let all : option ∷ more ≡ options = cc in
     subst (AllByRecursion (λ (o : NdpOption). AreOctets o.body)) all (own, later more refl)
 
-bodies : (left : ℕ) (octets : List ℕ) → AreOctets octets → (options : List NdpOption) → options_behind left octets ≡ Some options → AllByRecursion (λ (o : NdpOption). AreOctets o.body) options
+bodies : (left : ℕ) (octets : List ℕ) → AreOctets octets → (options : List NdpOption) → options_behind left octets ≡ Some options
+    → AllByRecursion (λ (o : NdpOption). AreOctets o.body) options
 bodies (suc left) [] all options is = absurd (cc)
 bodies (suc left) (octet ∷ rest) all options is = bodies left rest all.1 options is
 bodies zero [] all options is =
@@ -197,7 +238,8 @@ at-hardware : (found : Option (List ℕ)) (otherwise : List ℕ) → IsStated fo
 at-hardware None otherwise is default = default
 at-hardware (Some hardware) otherwise is default = is
 
-module _ (mac frame : List ℕ) (options : List NdpOption) (m : IsHardware mac) (octets : AreOctets frame) (long : 78 ≤ length frame) (unicast : slice_index frame 62 ≢ 0xff)
+module _ (mac frame : List ℕ) (options : List NdpOption) (m : IsHardware mac) (octets : AreOctets frame) (long : 78 ≤ length frame)
+    (unicast : slice_index frame 62 ≢ 0xff)
     (source : slice_index frame 22 ≢ 0xff) (options_are : options_of (options_in frame) ≡ Some options) (in_octets : AreOctets (options_in frame)) where
   target : IsIpv6 (target_of frame)
   target = (omega (arith, length-take 16 (drop 62 frame), length-drop 62 frame), octets-take 16 (drop 62 frame) (octets-drop 62 frame octets))

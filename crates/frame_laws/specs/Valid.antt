@@ -36,4 +36,5 @@ AnswersAreValid = (v : ViewValue) (node interface mac frame answer : List ℕ) �
 
 -- so is what is sent unsolicited for an address that is no multicast address
 abbrev pub UnsolicitedAreValid : Type 0
-UnsolicitedAreValid = (mac : List ℕ) (number : ℕ) → IsHardware mac → slice_index (to_be_bytes w128 number) 0 ≢ 0xff → IsValidAdvertisement (unasked_ndp_of mac number)
+UnsolicitedAreValid = (mac : List ℕ) (number : ℕ) → IsHardware mac → slice_index (to_be_bytes w128 number) 0 ≢ 0xff
+    → IsValidAdvertisement (unasked_ndp_of mac number)

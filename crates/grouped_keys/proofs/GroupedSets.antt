@@ -40,7 +40,8 @@ module _ {G K : Type 0} {R : G → G → Ordering} (o : IsTotalOrder R) (S : K �
   alike : (g : G) (found : Option (BTreeSet K)) → lookup (is_at (R group)) old ≡ found → is_at (R group) g ≡ true → lookup (is_at (R g)) old ≡ found
   alike g found is same = sym (lookup_congr (eq_by_cmp R) (eq_by_cmp_equiv o).congr old group g same) ∙ is
 
-  module _ (after : BTreeSet K) (new : List (G × BTreeSet K)) (updates : (q : G) → lookup (is_at (R q)) new ≡ cond (is_at (R group) q) (Some after) (lookup (is_at (R q)) old)) where
+  module _ (after : BTreeSet K) (new : List (G × BTreeSet K))
+      (updates : (q : G) → lookup (is_at (R q)) new ≡ cond (is_at (R group) q) (Some after) (lookup (is_at (R q)) old)) where
     -- the key was put in the set that the group had
     pub key_put : (before : BTreeSet K) → lookup (is_at (R group)) old ≡ Some before
         → ((k : K) → contains S after k ≡ cond (is_at (S key) k) true (contains S before k))
@@ -65,7 +66,8 @@ module _ {G K : Type 0} {R : G → G → Ordering} (o : IsTotalOrder R) (S : K �
         ∙ taken_by S key k (is_at (R group) g) (lookup (is_at (R g)) old) before after (alike g (Some before) there) (is k)) i
 
     -- a set that is empty then was dropped
-    pub empty_dropped : length after.keys ≡ 0 → (left : List (G × BTreeSet K)) → ((q : G) → lookup (is_at (R q)) left ≡ cond (is_at (R group) q) None (lookup (is_at (R q)) new))
+    pub empty_dropped : length after.keys ≡ 0 → (left : List (G × BTreeSet K))
+        → ((q : G) → lookup (is_at (R q)) left ≡ cond (is_at (R group) q) None (lookup (is_at (R q)) new))
         → in_group R S left ≡ in_group R S new
     empty_dropped empty left drops =
         λ i g k. (ap (λ found. is_in S found k) (drops g)
@@ -74,7 +76,8 @@ module _ {G K : Type 0} {R : G → G → Ordering} (o : IsTotalOrder R) (S : K �
         ∙ ap (λ found. is_in S found k) (sym (updates g))) i
 
 -- a set that couldn't take the key in is written back as it was
-pub kept_back : {G K : Type 0} (test : G → Bool) (old new : List (G × BTreeSet K)) (before after : BTreeSet K) → lookup test old ≡ Some before → after.keys ≡ before.keys → new ≡ set_value test old after → new ≡ old
+pub kept_back : {G K : Type 0} (test : G → Bool) (old new : List (G × BTreeSet K)) (before after : BTreeSet K) → lookup test old ≡ Some before
+    → after.keys ≡ before.keys → new ≡ set_value test old after → new ≡ old
 kept_back test old new before after there keys is =
     let same : after ≡ before = λ i. record { keys = keys i } in
     is ∙ ap (set_value test old) same ∙ set_value_same test old before there

@@ -61,7 +61,8 @@ impl<G: Ord, K: Ord> GroupedKeys<G, K> {
 impl<G: Ord + Drop, K: Ord + Drop> GroupedKeys<G, K> {
     /// Puts the key in the group's set. This takes memory where the set doesn't have it. After want of memory all is unchanged.
     pub fn insert(&mut self, group: G, key: K) -> Result<(), NoMemory>
-        ensures ok { OnOk result (in_group G.cmp K.cmp self.new ≡ (λ g k. (is_at (G.cmp group) g && is_at (K.cmp key) k) || in_group G.cmp K.cmp self.old g k)) }
+        ensures ok { OnOk result
+            (in_group G.cmp K.cmp self.new ≡ (λ g k. (is_at (G.cmp group) g && is_at (K.cmp key) k) || in_group G.cmp K.cmp self.old g k)) }
         ensures err { OnErr result (self.new ≡ self.old) }
     {
         match self.groups.get_mut(&group) {

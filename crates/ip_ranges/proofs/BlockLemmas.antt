@@ -43,17 +43,20 @@ multiple_within w k n h fits even =
     let room = block_within w k n h fits in
     omega arith
 
-pub masked_by : (f : Family) (n l host : ℕ) → host ≡ 2 ^ (width_of f - l) - 1 → ◌≡◌ {A = PrefixValue} (record { family = f; number = n - bit_and n host; length = l }) (masked (record { family = f; number = n }) l)
+pub masked_by : (f : Family) (n l host : ℕ) → host ≡ 2 ^ (width_of f - l) - 1
+    → ◌≡◌ {A = PrefixValue} (record { family = f; number = n - bit_and n host; length = l }) (masked (record { family = f; number = n }) l)
 masked_by f n l host e =
     let number : n - bit_and n host ≡ n / size_at f l * size_at f l = rw e (cleared n (width_of f - l)) in
     ap (λ m. record { family = f; number = m; length = l }) number
 
-pub IsPrefix-masked : (f : Family) (n l host : ℕ) → host ≡ 2 ^ (width_of f - l) - 1 → n < 2 ^ width_of f → l ≤ width_of f → IsPrefix (record { family = f; number = n - bit_and n host; length = l })
+pub IsPrefix-masked : (f : Family) (n l host : ℕ) → host ≡ 2 ^ (width_of f - l) - 1 → n < 2 ^ width_of f → l ≤ width_of f
+    → IsPrefix (record { family = f; number = n - bit_and n host; length = l })
 IsPrefix-masked f n l host e fits within =
     let number : n - bit_and n host ≡ n / size_at f l * size_at f l = rw e (cleared n (width_of f - l)) in
     (within, omega arith, rw number (rounded_mod n (width_of f - l)))
 
-pub IsRange-span : (f : Family) (n l host : ℕ) → host ≡ 2 ^ (width_of f - l) - 1 → IsPrefix (record { family = f; number = n; length = l }) → IsRange (record { family = f; low = n; high = n + host })
+pub IsRange-span : (f : Family) (n l host : ℕ) → host ≡ 2 ^ (width_of f - l) - 1 → IsPrefix (record { family = f; number = n; length = l })
+    → IsRange (record { family = f; low = n; high = n + host })
 IsRange-span f n l host e (within, fits, even) =
     let room = multiple_within (width_of f) (width_of f - l) n (omega arith) fits even in
     let some = pow_pos (width_of f - l) in

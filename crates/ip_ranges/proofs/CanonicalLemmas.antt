@@ -1,5 +1,6 @@
 -- The printed text is canonical.
-use Rattle.std.proofs.Common.{◌≡◌, ℕ, suc, ◌+◌, ◌/◌, ◌%◌, ◌^◌, ◌<◌, ◌≤◌, ◌⊎◌, List, [], ◌∷◌, take, drop, flat_map, refl, sym, ap, ◌∙◌, arith, inl, inr, lt-ltb, le-ltb}
+use Rattle.std.proofs.Common.{◌≡◌, ℕ, suc, ◌+◌, ◌/◌, ◌%◌, ◌^◌, ◌<◌, ◌≤◌, ◌⊎◌, List, [], ◌∷◌, take, drop}
+use Rattle.std.proofs.Common.{flat_map, refl, sym, ap, ◌∙◌, arith, inl, inr, lt-ltb, le-ltb}
 use Rattle.std.proofs.lemmas.Bool.{cases_lt}
 use Rattle.std.proofs.lemmas.Bool.Decides.{nat_tests}
 use Rattle.std.proofs.lemmas.Nat.{from_be_bytes-to_be_bytes_4}
@@ -54,7 +55,8 @@ field_three n low high =
       no_leading_zero = λ _. some_digit (n / 0x100) (omega arith) (omega arith);
     }
 
-field_four : (n : ℕ) → 0x1000 ≤ n → n < 2 ^ 16 → IsField (digit_char (n / 0x1000) ∷ digit_char (n / 0x100 % 0x10) ∷ digit_char (n / 0x10 % 0x10) ∷ digit_char (n % 0x10) ∷ []) n
+field_four : (n : ℕ) → 0x1000 ≤ n → n < 2 ^ 16
+    → IsField (digit_char (n / 0x1000) ∷ digit_char (n / 0x100 % 0x10) ∷ digit_char (n / 0x10 % 0x10) ∷ digit_char (n % 0x10) ∷ []) n
 field_four n low high =
     let a = value_of_digit (n / 0x1000) (omega arith) in
     let b = value_of_digit (n / 0x100 % 0x10) (omega arith) in
@@ -62,7 +64,10 @@ field_four n low high =
     let d = value_of_digit (n % 0x10) (omega arith) in
     record {
       writes = omega arith;
-      lower = (lower_digit (n / 0x1000) (omega arith), (lower_digit (n / 0x100 % 0x10) (omega arith), (lower_digit (n / 0x10 % 0x10) (omega arith), (lower_digit (n % 0x10) (omega arith), tt))));
+      lower = (
+        lower_digit (n / 0x1000) (omega arith),
+        (lower_digit (n / 0x100 % 0x10) (omega arith), (lower_digit (n / 0x10 % 0x10) (omega arith), (lower_digit (n % 0x10) (omega arith), tt))),
+      );
       no_leading_zero = λ _. some_digit (n / 0x1000) (omega arith) (omega arith);
     }
 
@@ -141,7 +146,8 @@ below_hex c (inr letter) = omega arith
 
 ascii_in : (f : Family) (n : ℕ) → All (λ c. c < 128) (text_in f n)
 ascii_in V4 n = λ k d below. below_dot _ (All-ipv4_text (to_be_bytes w32 n) (AreBytes-high_first 4 n) k d below)
-ascii_in V6 n = λ k d below. below_hex _ (All-hex_groups_text (segments_of (to_be_bytes w128 n)) (segments_fit (to_be_bytes w128 n) (AreBytes-high_first 16 n)) k d below)
+ascii_in V6 n =
+    λ k d below. below_hex _ (All-hex_groups_text (segments_of (to_be_bytes w128 n)) (segments_fit (to_be_bytes w128 n) (AreBytes-high_first 16 n)) k d below)
 
 pub ascii-canonical_text : (a : AddressValue) → All (λ c. c < 128) (canonical_text a)
 unfolding canonical_text

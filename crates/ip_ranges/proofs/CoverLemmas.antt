@@ -1,5 +1,6 @@
 -- The cover of a block of 2^bits numbers, by cases.
-use Rattle.std.proofs.Common.{◌≡◌, ℕ, zero, suc, ◌+◌, ◌-◌, ◌*◌, ◌/◌, ◌%◌, ◌^◌, ◌<◌, ◌≤◌, ◌⊎◌, ⊎_elim, inl, inr, Bool, true, false, List, [], ◌∷◌, ◌++◌, refl, sym, ap, ◌∙◌, subst, arith, ltb-true, ltb-false, leb-true, leb-false, le-leb, leb, ltb, ◌&&◌, ◌||◌}
+use Rattle.std.proofs.Common.{◌≡◌, ℕ, zero, suc, ◌+◌, ◌-◌, ◌*◌, ◌/◌, ◌%◌, ◌^◌, ◌<◌, ◌≤◌, ◌⊎◌, ⊎_elim, inl, inr, Bool, true, false, List, [], ◌∷◌}
+use Rattle.std.proofs.Common.{◌++◌, refl, sym, ap, ◌∙◌, subst, arith, ltb-true, ltb-false, leb-true, leb-false, le-leb, leb, ltb, ◌&&◌, ◌||◌}
 use Rattle.std.proofs.lemmas.Bool.{or_cases, or_parts, and_cases, and_from as and_all, and_parts}
 use Rattle.std.proofs.Math.Nat.{pow-suc, add-mod_right}
 use Rattle.std.proofs.lemmas.Nat.{mod-pow-add}
@@ -14,7 +15,8 @@ unfolding cover_within
 within-apart s zero base e = rw (cover_within, e) refl
 within-apart s (suc bits) base e = rw (cover_within, e) refl
 
-pub within-inside : (s : SpanValue) (bits base : ℕ) → is_apart s bits base ≡ false → is_inside s bits base ≡ true → cover_within s bits base ≡ block s bits base ∷ []
+pub within-inside : (s : SpanValue) (bits base : ℕ) → is_apart s bits base ≡ false → is_inside s bits base ≡ true
+    → cover_within s bits base ≡ block s bits base ∷ []
 unfolding cover_within
 within-inside s zero base e f = rw (cover_within, e) refl
 within-inside s (suc bits) base e f = rw (cover_within, e, f) refl
@@ -27,7 +29,8 @@ within-suc s half base e f = rw (cover_within, e, f) refl
 pub within-halves : (s : SpanValue) (bits half base : ℕ) → bits ≡ suc half → is_apart s bits base ≡ false → is_inside s bits base ≡ false
     → cover_within s bits base ≡ cover_within s half base ++ cover_within s half (base + 2 ^ half)
 within-halves s bits half base is =
-    subst (λ k. is_apart s k base ≡ false → is_inside s k base ≡ false → cover_within s k base ≡ cover_within s half base ++ cover_within s half (base + 2 ^ half))
+    subst (λ k. is_apart s k base ≡ false → is_inside s k base ≡ false
+    → cover_within s k base ≡ cover_within s half base ++ cover_within s half (base + 2 ^ half))
     (sym is) (within-suc s half base)
 
 -- What the tests say.
@@ -55,10 +58,12 @@ inside_yes s bits base e =
     (leb-true _ _ low, leb-true _ _ high)
 
 -- what the code tests
-pub read_apart : (s : SpanValue) (bits base ones : ℕ) (found said : Bool) → ones ≡ 2 ^ bits - 1 → found ≡ (ltb (base + ones) s.low || ltb s.high base) → found ≡ said → is_apart s bits base ≡ said
+pub read_apart : (s : SpanValue) (bits base ones : ℕ) (found said : Bool) → ones ≡ 2 ^ bits - 1 → found ≡ (ltb (base + ones) s.low || ltb s.high base)
+    → found ≡ said → is_apart s bits base ≡ said
 read_apart s bits base ones found said e f g = ap (λ n. ltb (base + n) s.low || ltb s.high base) (sym e) ∙ sym f ∙ g
 
-pub read_inside : (s : SpanValue) (bits base ones : ℕ) (found said : Bool) → ones ≡ 2 ^ bits - 1 → found ≡ (leb s.low base && leb (base + ones) s.high) → found ≡ said → is_inside s bits base ≡ said
+pub read_inside : (s : SpanValue) (bits base ones : ℕ) (found said : Bool) → ones ≡ 2 ^ bits - 1 → found ≡ (leb s.low base && leb (base + ones) s.high)
+    → found ≡ said → is_inside s bits base ≡ said
 read_inside s bits base ones found said e f g = ap (λ n. leb s.low base && leb (base + n) s.high) (sym e) ∙ sym f ∙ g
 
 -- Halves.
@@ -112,7 +117,8 @@ module _ (s : SpanValue) (P : ℕ → ℕ → List PrefixValue → Type 0)
       go : (apart inside : Bool) → is_apart s (suc bits) base ≡ apart → is_inside s (suc bits) base ≡ inside
           → P bits base (cover_within s bits base) → P bits (base + 2 ^ bits) (cover_within s bits (base + 2 ^ bits))
           → P (suc bits) base (cover_within s (suc bits) base)
-      go true inside e f lower upper = subst (P (suc bits) base) (sym (within-apart s (suc bits) base e)) (none (suc bits) base placed (apart_yes s (suc bits) base e))
+      go true inside e f lower upper =
+          subst (P (suc bits) base) (sym (within-apart s (suc bits) base e)) (none (suc bits) base placed (apart_yes s (suc bits) base e))
       go false true e f lower upper =
           let (low, high) = inside_yes s (suc bits) base f in
           subst (P (suc bits) base) (sym (within-inside s (suc bits) base e f)) (whole (suc bits) base placed low high)
@@ -142,7 +148,11 @@ pub halved : (s : SpanValue) (bits base ones : ℕ) → is_apart s bits base ≡
 halved s bits base ones e f is =
     let some = some_bits s bits base e f in
     let middle = middle_is (bits - 1) base ones is in
-    record { halves = some; upper = middle; cover = within-halves s bits (bits - 1) base some e f ∙ ap (λ b. cover_within s (bits - 1) base ++ cover_within s (bits - 1) b) (sym middle) }
+    record {
+      halves = some;
+      upper = middle;
+      cover = within-halves s bits (bits - 1) base some e f ∙ ap (λ b. cover_within s (bits - 1) base ++ cover_within s (bits - 1) b) (sym middle);
+    }
 
 pub lower_placed : (s : SpanValue) (bits base half middle : ℕ) → IsPlaced s bits base → IsHalved s bits base half middle → IsPlaced s half base
 lower_placed s bits base half middle placed halved = IsPlaced-lower s half base (subst (λ k. IsPlaced s k base) halved.halves placed)

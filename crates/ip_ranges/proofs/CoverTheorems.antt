@@ -1,5 +1,7 @@
 -- The cover of a span is made of its numbers, ascends, and is the shortest such list.
-use Rattle.std.proofs.Common.{◌≡◌, ℕ, suc, ◌+◌, ◌-◌, ◌*◌, ◌/◌, ◌%◌, ◌^◌, ◌<◌, ◌≤◌, ◌⊎◌, ⊎_elim, ◌↔◌, inl, inr, Bool, true, false, ◌&&◌, cond, List, [], ◌∷◌, ◌++◌, length, refl, sym, ap, ◌∙◌, subst, arith, ltb, leb, ltb-true, leb-true, lt-ltb, le-leb, eqb, eq-eqb, length-append, min, max}
+use Rattle.std.proofs.Common.{◌≡◌, ℕ, suc, ◌+◌, ◌-◌, ◌*◌, ◌/◌, ◌%◌, ◌^◌, ◌<◌, ◌≤◌, ◌⊎◌, ⊎_elim, ◌↔◌, inl, inr, Bool}
+use Rattle.std.proofs.Common.{true, false, ◌&&◌, cond, List, [], ◌∷◌, ◌++◌, length, refl, sym, ap, ◌∙◌, subst, arith}
+use Rattle.std.proofs.Common.{ltb, leb, ltb-true, leb-true, lt-ltb, le-leb, eqb, eq-eqb, length-append, min, max}
 use Rattle.std.proofs.lemmas.Bool.{or_cases, or_left, or_right, and_from, and_left, lt-leb, cases_lt, false≢true}
 use Rattle.std.proofs.lemmas.List.Folds.{list_any-append}
 use Rattle.std.proofs.lemmas.List.Sums.{count_by-le-length}
@@ -165,7 +167,8 @@ in_half s bits base q placed part fits from to =
             let size : 2 ^ suc bits ≤ 2 ^ q_bits = pow_mono (omega arith) in
             absurd (⊎_elim (λ below. omega arith) (λ above. omega arith) part)
         | inr narrow ↦
-            let middle : (base + 2 ^ bits) % 2 ^ q_bits ≡ 0 = multiple_of_lower q_bits bits (base + 2 ^ bits) narrow (IsPlaced-upper s bits base placed).aligned in
+            let middle : (base + 2 ^ bits) % 2 ^ q_bits ≡ 0 =
+            multiple_of_lower q_bits bits (base + 2 ^ bits) narrow (IsPlaced-upper s bits base placed).aligned in
             inl (multiples_apart (2 ^ q_bits) q.number (base + 2 ^ bits) (pow_pos q_bits) even middle lower)
       ]
     ]
@@ -253,7 +256,8 @@ module _ (s : SpanValue) (qs : List PrefixValue) (fit : AllByRecursion (Fits s) 
   halves_counted bits base =
       let double = two_halves bits in
       count_both (begins bits base) (begins bits (base + 2 ^ bits)) (begins (suc bits) base)
-      (λ q e. let (from, to) = begins_yes bits base q e in (yes_begins (suc bits) base q from (omega arith), and_left _ _ (lt-leb (base + 2 ^ bits) q.number to)))
+      (λ q e. let (from, to) = begins_yes bits base q e in
+      (yes_begins (suc bits) base q from (omega arith), and_left _ _ (lt-leb (base + 2 ^ bits) q.number to)))
       (λ q e. let (from, to) = begins_yes bits (base + 2 ^ bits) q e in yes_begins (suc bits) base q (omega arith) (omega arith))
       qs
 
@@ -315,7 +319,8 @@ record IsShort (s : SpanValue) (bits base : ℕ) (ps : List PrefixValue) : Type 
   some : length ps ≤ max 1 (2 * bits)
 
 both_short : (s : SpanValue) (bits base : ℕ) → IsPlaced s (suc bits) base → s.low ≤ base + (2 ^ suc bits - 1) → base ≤ s.high
-    → (base < s.low) ⊎ (s.high < base + (2 ^ suc bits - 1)) → (lower upper : List PrefixValue) → IsShort s bits base lower → IsShort s bits (base + 2 ^ bits) upper
+    → (base < s.low) ⊎ (s.high < base + (2 ^ suc bits - 1)) → (lower upper : List PrefixValue) → IsShort s bits base lower
+    → IsShort s bits (base + 2 ^ bits) upper
     → IsShort s (suc bits) base (lower ++ upper)
 both_short s bits base placed low high part lower upper h k =
     let double = two_halves bits in
@@ -380,7 +385,8 @@ all_at_least least [] h = tt
 all_at_least least (p ∷ ps) h = (omega arith, all_at_least least ps (omega arith))
 
 -- in a list of which one is at most 128, the least length is that of a prefix
-least_found : (least : ℕ) (ps : List PrefixValue) → least ≡ least_of ps → 0 < length ps → AllByRecursion (λ p. p.length ≤ 128) ps → IsTrue (list_any (λ p. eqb p.length least) ps)
+least_found : (least : ℕ) (ps : List PrefixValue) → least ≡ least_of ps → 0 < length ps → AllByRecursion (λ p. p.length ≤ 128) ps
+    → IsTrue (list_any (λ p. eqb p.length least) ps)
 least_found least [] e some h = absurd (omega arith)
 least_found least (p ∷ []) e some h = or_left _ _ (eq-eqb p.length least (let small = h.0 in omega arith))
 least_found least (p ∷ q ∷ rest) e some h = elim (cases_lt (least_of (q ∷ rest)) p.length) [

@@ -1,5 +1,6 @@
 -- Decimal numbers of at most 255, without sign or leading zeros.
-use Rattle.std.proofs.Common.{◌≡◌, ◌≢◌, ℕ, ◌+◌, ◌<◌, ◌≤◌, List, [], ◌∷◌, true, false, Option, Some, None, Result, Ok, Err, length, get_or, decimal, refl, sym, ap, ◌∙◌, subst, append-nil, lit≤, arith, eqb-true, eq-eqb, ne_eqb, inl, inr}
+use Rattle.std.proofs.Common.{◌≡◌, ◌≢◌, ℕ, ◌+◌, ◌<◌, ◌≤◌, List, [], ◌∷◌, true, false, Option, Some, None, Result, Ok, Err, length}
+use Rattle.std.proofs.Common.{get_or, decimal, refl, sym, ap, ◌∙◌, subst, append-nil, lit≤, arith, eqb-true, eq-eqb, ne_eqb, inl, inr}
 use Rattle.std.proofs.lemmas.Bool.{cases_lt, cases_eq, false≢true, true≢false}
 use Rattle.std.proofs.lemmas.Fmt.{decimal_is_IsNumeral, decimal_digit, first_decimal, decimal-digits_value}
 use Rattle.std.proofs.lemmas.Str.Parse.{numerals_by_value, tells_digits, parse_plain}
@@ -58,7 +59,8 @@ padded_none text e = go _ refl
         ]
 
 -- what `parse` gives of a text that isn't padded
-pub parsed_octet : {E : Type 0} (text : List ℕ) (r : Result ℕ E) → is_padded text ≡ false → ParsesUnsigned 8 10 text r → result_ok r ≡ whole_value (read_octet text)
+pub parsed_octet : {E : Type 0} (text : List ℕ) (r : Result ℕ E) → is_padded text ≡ false → ParsesUnsigned 8 10 text r
+    → result_ok r ≡ whole_value (read_octet text)
 parsed_octet {E} text (Ok n) e parses =
     let own = numerals_by_value (AllDigits 10) tells_digits in
     let (no_plus, alone) = not_padded text e in

@@ -1,5 +1,7 @@
 -- An entry is read as what it is.
-use Rattle.std.proofs.Common.{◌≡◌, ◌≢◌, ℕ, zero, suc, ◌+◌, ◌<◌, ◌≤◌, ◌⊎◌, ◌↔◌, max, Bool, true, false, cond, eqb, leb, ltb, not, List, [], ◌∷◌, ◌++◌, length, take, drop, Option, Some, None, Result, Ok, Err, refl, sym, ap, ◌∙◌, subst, arith, inl, inr, lt-ltb, le-ltb, le-leb, leb-true, length-append}
+use Rattle.std.proofs.Common.{◌≡◌, ◌≢◌, ℕ, zero, suc, ◌+◌, ◌<◌, ◌≤◌, ◌⊎◌, ◌↔◌, max, Bool, true, false, cond, eqb, leb}
+use Rattle.std.proofs.Common.{ltb, not, List, [], ◌∷◌, ◌++◌, length, take, drop, Option, Some, None, Result, Ok, Err}
+use Rattle.std.proofs.Common.{refl, sym, ap, ◌∙◌, subst, arith, inl, inr, lt-ltb, le-ltb, le-leb, leb-true, length-append}
 use Rattle.std.proofs.lemmas.Bool.{cases_eq, false_from_ne_true, ne_eqb, and_parts, and_from, false≢true}
 use Rattle.std.proofs.lemmas.Bool.Decides.{nat_tests}
 use Rattle.std.proofs.lemmas.List.{take_at, take_all, drop_all}
@@ -40,9 +42,11 @@ reads_gives text (Err MixedFamilies) h = absurd h
 
 -- A range.
 abbrev between_by : Bool → Bool → AddressValue → AddressValue → Result SpanValue RangeFault
-between_by same below a b = cond (not same) (Err MixedFamilies) (cond below (Err Backwards) (Ok (record { family = a.family; low = a.number; high = b.number })))
+between_by same below a b =
+    cond (not same) (Err MixedFamilies) (cond below (Err Backwards) (Ok (record { family = a.family; low = a.number; high = b.number })))
 
-between_is : (low high : List ℕ) (same below : Bool) (a b : AddressValue) → same_family a.family b.family ≡ same → ltb b.number a.number ≡ below → Reads low (Ok a) → Reads high (Ok b)
+between_is : (low high : List ℕ) (same below : Bool) (a b : AddressValue) → same_family a.family b.family ≡ same → ltb b.number a.number ≡ below
+    → Reads low (Ok a) → Reads high (Ok b)
     → IsRangeOf low high (between_by same below a b)
 between_is low high false below a b s l ra rb = (a, b, ra, rb, λ e. false≢true (sym s ∙ ap (same_family a.family) (sym e) ∙ same_family-itself a.family))
 between_is low high true true a b s l ra rb = (a, b, ra, rb, same_family-is _ _ s, grind (arith, nat_tests))
@@ -69,7 +73,8 @@ range_is low high (Err MixedFamilies) y rx ry = absurd rx
 range_of-err : (low high : List ℕ) (fault : RangeFault) → address_of (trimmed low) ≡ Err fault → range_of low high ≡ Err fault
 range_of-err low high fault e = rw e refl
 
-range_of-by : (low high : List ℕ) (x y : Result AddressValue RangeFault) → address_of (trimmed low) ≡ x → address_of (trimmed high) ≡ y → range_of low high ≡ range_by x y
+range_of-by : (low high : List ℕ) (x y : Result AddressValue RangeFault) → address_of (trimmed low) ≡ x → address_of (trimmed high) ≡ y
+    → range_of low high ≡ range_by x y
 range_of-by low high (Ok a) (Ok b) ex ey = rw (ex, ey) refl
 range_of-by low high (Ok a) (Err fault) ex ey = rw (ex, ey) refl
 range_of-by low high (Err fault) y ex ey = rw ex refl
@@ -90,12 +95,14 @@ between_back a b same below =
     let one : same_family a.family b.family ≡ true = rw (← same) (same_family-itself a.family) in
     rw (one, lt-ltb b.number a.number below) refl
 
-between_ok : (a b : AddressValue) → a.family ≡ b.family → a.number ≤ b.number → span_between a b ≡ Ok (record { family = a.family; low = a.number; high = b.number })
+between_ok : (a b : AddressValue) → a.family ≡ b.family → a.number ≤ b.number
+    → span_between a b ≡ Ok (record { family = a.family; low = a.number; high = b.number })
 between_ok a b same le =
     let one : same_family a.family b.family ≡ true = rw (← same) (same_family-itself a.family) in
     rw (one, le-ltb b.number a.number le) refl
 
-range_fault : (low high : List ℕ) (fault : RangeFault) → Reads (trimmed low) (Err fault) ⊎ ((a : AddressValue) × Reads (trimmed low) (Ok a) × Reads (trimmed high) (Err fault)) → range_of low high ≡ Err fault
+range_fault : (low high : List ℕ) (fault : RangeFault) → Reads (trimmed low) (Err fault)
+    ⊎ ((a : AddressValue) × Reads (trimmed low) (Ok a) × Reads (trimmed high) (Err fault)) → range_of low high ≡ Err fault
 range_fault low high fault (inl h) = range_of-err low high fault (reads_gives (trimmed low) (Err fault) h)
 range_fault low high fault (inr (a, ra, rb)) = range_of-by low high (Ok a) (Err fault) (reads_gives _ (Ok a) ra) (reads_gives (trimmed high) (Err fault) rb)
 
@@ -126,7 +133,8 @@ number_of f text n h = let small = narrow f in rw h.0 (whole_octet n (omega (ari
 length_by : (f : Family) (text : List ℕ) (n : ℕ) (within : Bool) → whole_value (read_octet text) ≡ Some n → leb n (width_of f) ≡ within
     → LengthIs f text (cond within (Ok n) (Err BadLength))
 length_by f text n true e w = ((octet_whole text n e).1, leb-true n (width_of f) w)
-length_by f text n false e w = λ m h. let same : m ≡ n = cc (number_of f text m h, e) in false≢true (sym w ∙ le-leb n (width_of f) (subst (λ (k : ℕ). k ≤ width_of f) same h.1))
+length_by f text n false e w =
+    λ m h. let same : m ≡ n = cc (number_of f text m h, e) in false≢true (sym w ∙ le-leb n (width_of f) (subst (λ (k : ℕ). k ≤ width_of f) same h.1))
 
 length_is : (f : Family) (text : List ℕ) (o : Option ℕ) → whole_value (read_octet text) ≡ o → LengthIs f text (length_within (width_of f) o)
 length_is f text None e = λ n h. let none : Some n ≡ None = sym (number_of f text n h) ∙ e in absurd (cc)
@@ -136,7 +144,8 @@ abbrev prefix_by : AddressValue → Result ℕ RangeFault → Result SpanValue R
 prefix_by a (Ok n) = Ok (span_of (masked a n))
 prefix_by a (Err fault) = Err fault
 
-prefix_is : (address length : List ℕ) (a : AddressValue) (n : Result ℕ RangeFault) → Reads address (Ok a) → LengthIs a.family length n → IsPrefixOf address length (prefix_by a n)
+prefix_is : (address length : List ℕ) (a : AddressValue) (n : Result ℕ RangeFault) → Reads address (Ok a) → LengthIs a.family length n
+    → IsPrefixOf address length (prefix_by a n)
 prefix_is address length a (Ok n) ra rn = (a, n, ra, rn, refl)
 prefix_is address length a (Err BadLength) ra rn = (a, ra, rn)
 prefix_is address length a (Err NotAddress) ra rn = absurd rn
@@ -144,7 +153,8 @@ prefix_is address length a (Err Mapped) ra rn = absurd rn
 prefix_is address length a (Err Backwards) ra rn = absurd rn
 prefix_is address length a (Err MixedFamilies) ra rn = absurd rn
 
-prefix_of-by : (address length : List ℕ) (a : AddressValue) (n : Result ℕ RangeFault) → address_of address ≡ Ok a → length_within (width_of a.family) (whole_value (read_octet length)) ≡ n
+prefix_of-by : (address length : List ℕ) (a : AddressValue) (n : Result ℕ RangeFault) → address_of address ≡ Ok a
+    → length_within (width_of a.family) (whole_value (read_octet length)) ≡ n
     → prefix_of address length ≡ prefix_by a n
 prefix_of-by address length a (Ok n) ea en = rw (ea, en) refl
 prefix_of-by address length a (Err fault) ea en = rw (ea, en) refl
@@ -152,7 +162,8 @@ prefix_of-by address length a (Err fault) ea en = rw (ea, en) refl
 prefix_of-err : (address length : List ℕ) (fault : RangeFault) → address_of address ≡ Err fault → prefix_of address length ≡ Err fault
 prefix_of-err address length fault e = rw e refl
 
-prefix_from : (address length : List ℕ) (x : Result AddressValue RangeFault) → address_of address ≡ x → Reads address x → IsPrefixOf address length (prefix_of address length)
+prefix_from : (address length : List ℕ) (x : Result AddressValue RangeFault) → address_of address ≡ x → Reads address x
+    → IsPrefixOf address length (prefix_of address length)
 prefix_from address length (Ok a) e ra =
     let n = length_within (width_of a.family) (whole_value (read_octet length)) in
     rw (prefix_of-by address length a n e refl) (prefix_is address length a n ra (length_is a.family length (whole_value (read_octet length)) refl))
@@ -165,11 +176,13 @@ prefix_from address length (Err MixedFamilies) e ra = absurd ra
 prefix_sound : (address length : List ℕ) → IsPrefixOf address length (prefix_of address length)
 prefix_sound address length = prefix_from address length (address_of address) refl (reads_of address (address_of address) refl)
 
-length_bad : (f : Family) (text : List ℕ) (o : Option ℕ) → whole_value (read_octet text) ≡ o → ((n : ℕ) → ¬ IsLength f text n) → length_within (width_of f) o ≡ Err BadLength
+length_bad : (f : Family) (text : List ℕ) (o : Option ℕ) → whole_value (read_octet text) ≡ o → ((n : ℕ) → ¬ IsLength f text n)
+    → length_within (width_of f) o ≡ Err BadLength
 length_bad f text None e none = refl
 length_bad f text (Some n) e none = length_bad_by f text n (leb n (width_of f)) e none refl
   where
-    length_bad_by : (f : Family) (text : List ℕ) (n : ℕ) (within : Bool) → whole_value (read_octet text) ≡ Some n → ((n : ℕ) → ¬ IsLength f text n) → leb n (width_of f) ≡ within
+    length_bad_by : (f : Family) (text : List ℕ) (n : ℕ) (within : Bool) → whole_value (read_octet text) ≡ Some n → ((n : ℕ) → ¬ IsLength f text n)
+        → leb n (width_of f) ≡ within
         → cond within (Ok n) (Err BadLength) ≡ Err BadLength
     length_bad_by f text n true e none w = absurd (none n ((octet_whole text n e).1, leb-true n (width_of f) w))
     length_bad_by f text n false e none w = refl
@@ -220,7 +233,8 @@ split_or_none byte (x ∷ xs) =
     elim (cases_eq x byte) [
       | inl here ↦ inl ([], xs, record { joined = ap (λ (c : ℕ). c ∷ xs) here; first = λ k below same. omega arith })
       | inr other ↦ elim (split_or_none byte xs) [
-        | inl (before, behind, s) ↦ inl (x ∷ before, behind, record { joined = ap (λ (t : List ℕ). x ∷ t) s.joined; first = with_first byte x before other s.first })
+        | inl (before, behind, s) ↦
+            inl (x ∷ before, behind, record { joined = ap (λ (t : List ℕ). x ∷ t) s.joined; first = with_first byte x before other s.first })
         | inr none ↦ inr (with_first byte x xs other none)
       ]
     ]
@@ -239,12 +253,14 @@ no_dash text none =
     let place : position_or_len is_dash text ≡ length text = no_place 45 text none in
     rw (place, le-ltb (length text) (length text) (omega arith)) refl
 
-slash_joined : (before behind : List ℕ) → HasNo 47 before → (before_first is_slash (before ++ 47 ∷ behind) ≡ before) × (after_first is_slash (before ++ 47 ∷ behind) ≡ behind)
+slash_joined : (before behind : List ℕ) → HasNo 47 before
+    → (before_first is_slash (before ++ 47 ∷ behind) ≡ before) × (after_first is_slash (before ++ 47 ∷ behind) ≡ behind)
 slash_joined before behind first =
     let place : position_or_len is_slash (before ++ 47 ∷ behind) ≡ length before = place_of 47 before behind first in
     (rw place (before_it 47 before behind), rw place (behind_it 47 before behind))
 
-parts_are : (text address length' : List ℕ) → HasParts text address length' → prefix_of (before_first is_slash text) (after_first is_slash text) ≡ prefix_of address length'
+parts_are : (text address length' : List ℕ) → HasParts text address length'
+    → prefix_of (before_first is_slash text) (after_first is_slash text) ≡ prefix_of address length'
 parts_are text address length' (inl s) =
     let both = slash_joined address length' s.first in
     ap (λ (t : List ℕ). prefix_of (before_first is_slash t) (after_first is_slash t)) s.joined
@@ -290,7 +306,8 @@ some_meets : (s : SpanValue) (a : AddressValue) → Holds s a → IsMapped a →
 some_meets s a holds mapped =
     let same : same_family s.family V6 ≡ true = rw (holds.0, mapped.0) refl in
     and_from (same_family s.family V6) _ same
-    (and_from (leb s.low last_mapped) (leb first_mapped s.high) (le-leb s.low last_mapped (omega (arith, holds, mapped))) (le-leb first_mapped s.high (omega (arith, holds, mapped))))
+    (and_from (leb s.low last_mapped) (leb first_mapped s.high) (le-leb s.low last_mapped (omega (arith, holds, mapped)))
+    (le-leb first_mapped s.high (omega (arith, holds, mapped))))
 
 -- The entry.
 abbrev entry_by : Result SpanValue RangeFault → Result SpanValue RangeFault
@@ -317,7 +334,8 @@ entry_from text (Err Mapped) w = inl w
 entry_sound : (text : List ℕ) → IsEntry text (entry_of text)
 entry_sound text = subst (IsEntry text) (sym (entry_of-by text (written_span text) refl)) (entry_from text (written_span text) (written_sound text))
 
-free_not_met : (text : List ℕ) (s : SpanValue) (meets : Bool) → meets_mapped s ≡ meets → IsWritten text (Ok s) → ((a : AddressValue) → Holds s a → ¬ IsMapped a) → cond meets (Err Mapped) (Ok s) ≡ Ok s
+free_not_met : (text : List ℕ) (s : SpanValue) (meets : Bool) → meets_mapped s ≡ meets → IsWritten text (Ok s) → ((a : AddressValue) → Holds s a → ¬ IsMapped a)
+    → cond meets (Err Mapped) (Ok s) ≡ Ok s
 free_not_met text s true m w free = let some = meets_some s (ordered text s w) m in absurd (free some.0 some.1 some.2)
 free_not_met text s false m w free = refl
 

@@ -1,5 +1,6 @@
 -- What is read is what is spelled.
-use Rattle.std.proofs.Common.{◌≡◌, ℕ, List, [], ◌∷◌, Bool, true, false, Option, Some, None, Ok, Err, length, refl, sym, ap, ◌∙◌, subst, append-nil, lit≤, arith, inl, inr, ◌⊎◌, ◌↔◌, ne_eqb, leb, le-leb, leb-true, cond, IfErr}
+use Rattle.std.proofs.Common.{◌≡◌, ℕ, List, [], ◌∷◌, Bool, true, false, Option, Some, None, Ok, Err, length, refl, sym, ap, ◌∙◌}
+use Rattle.std.proofs.Common.{subst, append-nil, lit≤, arith, inl, inr, ◌⊎◌, ◌↔◌, ne_eqb, leb, le-leb, leb-true, cond, IfErr}
 use Rattle.std.proofs.lemmas.Bool.{and_from, false≢true, and_parts}
 use Rattle.std.proofs.lemmas.Option.{none-some, same_Some}
 use Rattle.std.specs.Int.{w32, w128, from_be_bytes}
@@ -168,8 +169,10 @@ pub address_of-faults : (text : List ℕ) → IfErr (address_of text) (λ fault.
 unfolding address_of
 address_of-faults text = faults (spelled text)
 
-pub number_v4 : (n : ℕ) (octets : List ℕ) (o : Option AddressValue) → n ≡ from_be_bytes w32 octets → o ≡ Some (v4_of octets) → Some (record { family = V4; number = n }) ≡ o
+pub number_v4 : (n : ℕ) (octets : List ℕ) (o : Option AddressValue) → n ≡ from_be_bytes w32 octets → o ≡ Some (v4_of octets)
+    → Some (record { family = V4; number = n }) ≡ o
 number_v4 n octets o value is = ap (λ m. Some (record { family = V4; number = m })) value ∙ sym is
 
-pub number_v6 : (n : ℕ) (groups : List ℕ) (o : Option AddressValue) → n ≡ from_be_bytes w128 (octets_of groups) → o ≡ Some (v6_of groups) → Some (record { family = V6; number = n }) ≡ o
+pub number_v6 : (n : ℕ) (groups : List ℕ) (o : Option AddressValue) → n ≡ from_be_bytes w128 (octets_of groups) → o ≡ Some (v6_of groups)
+    → Some (record { family = V6; number = n }) ≡ o
 number_v6 n groups o value is = ap (λ m. Some (record { family = V6; number = m })) value ∙ sym is

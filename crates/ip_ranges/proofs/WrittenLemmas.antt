@@ -1,5 +1,6 @@
 -- The digits of small numbers.
-use Rattle.std.proofs.Common.{◌≡◌, ℕ, ◌+◌, ◌/◌, ◌%◌, ◌<◌, ◌≤◌, List, [], ◌∷◌, ◌++◌, decimal, refl, ap, ◌∙◌, arith, append_assoc, le-leb, take, drop, subst, lt-ltb, le-ltb}
+use Rattle.std.proofs.Common.{◌≡◌, ℕ, ◌+◌, ◌/◌, ◌%◌, ◌<◌, ◌≤◌, List, [], ◌∷◌, ◌++◌, decimal, refl, ap, ◌∙◌}
+use Rattle.std.proofs.Common.{arith, append_assoc, le-leb, take, drop, subst, lt-ltb, le-ltb}
 use Rattle.std.proofs.lemmas.Bool.{lt-leb}
 use Rattle.std.proofs.lemmas.Fmt.{decimal_digit, decimal_step}
 use Rattle.std.proofs.Math.Nat.{div-div-eq-div-mul}
@@ -33,7 +34,8 @@ hex_three n low high =
     let first : n / 0x100 % 16 ≡ n / 0x100 = omega arith in
     rw (lt-leb 0x1000 n high, le-leb 0x100 n low) (ap (λ d. digit_char d ∷ digit_char (n / 0x10 % 0x10) ∷ digit_char (n % 0x10) ∷ []) first)
 
-pub hex_four : (n : ℕ) → 0x1000 ≤ n → hex n ≡ digit_char (n / 0x1000) ∷ digit_char (n / 0x100 % 0x10) ∷ digit_char (n / 0x10 % 0x10) ∷ digit_char (n % 0x10) ∷ []
+pub hex_four : (n : ℕ) → 0x1000 ≤ n
+    → hex n ≡ digit_char (n / 0x1000) ∷ digit_char (n / 0x100 % 0x10) ∷ digit_char (n / 0x10 % 0x10) ∷ digit_char (n % 0x10) ∷ []
 unfolding hex
 hex_four n low = rw (le-leb 0x1000 n low) refl
 
@@ -41,13 +43,17 @@ hex_four n low = rw (le-leb 0x1000 n low) refl
 pub then_two : (a b : ℕ) (start one two : List ℕ) → one ≡ start ++ a ∷ [] → two ≡ one ++ b ∷ [] → two ≡ start ++ a ∷ b ∷ []
 then_two a b start one two e f = f ∙ ap (λ t. t ++ b ∷ []) e ∙ append_assoc start (a ∷ []) (b ∷ [])
 
-pub then_three : (a b c : ℕ) (start one two three : List ℕ) → one ≡ start ++ a ∷ [] → two ≡ one ++ b ∷ [] → three ≡ two ++ c ∷ [] → three ≡ start ++ a ∷ b ∷ c ∷ []
+pub then_three : (a b c : ℕ) (start one two three : List ℕ) → one ≡ start ++ a ∷ [] → two ≡ one ++ b ∷ [] → three ≡ two ++ c ∷ []
+    → three ≡ start ++ a ∷ b ∷ c ∷ []
 then_three a b c start one two three e f g = g ∙ ap (λ t. t ++ c ∷ []) (then_two a b start one two e f) ∙ append_assoc start (a ∷ b ∷ []) (c ∷ [])
 
-pub then_four : (a b c d : ℕ) (start one two three four : List ℕ) → one ≡ start ++ a ∷ [] → two ≡ one ++ b ∷ [] → three ≡ two ++ c ∷ [] → four ≡ three ++ d ∷ [] → four ≡ start ++ a ∷ b ∷ c ∷ d ∷ []
-then_four a b c d start one two three four e f g h = h ∙ ap (λ t. t ++ d ∷ []) (then_three a b c start one two three e f g) ∙ append_assoc start (a ∷ b ∷ c ∷ []) (d ∷ [])
+pub then_four : (a b c d : ℕ) (start one two three four : List ℕ) → one ≡ start ++ a ∷ [] → two ≡ one ++ b ∷ [] → three ≡ two ++ c ∷ [] → four ≡ three ++ d ∷ []
+    → four ≡ start ++ a ∷ b ∷ c ∷ d ∷ []
+then_four a b c d start one two three four e f g h =
+    h ∙ ap (λ t. t ++ d ∷ []) (then_three a b c start one two three e f g) ∙ append_assoc start (a ∷ b ∷ c ∷ []) (d ∷ [])
 
-pub compressed_short : (groups segments : List ℕ) (run : ℕ × ℕ) → groups ≡ segments → run ≡ longest_zero_run groups → run.1 < 2 → groups_text groups ≡ hex_groups_text segments
+pub compressed_short : (groups segments : List ℕ) (run : ℕ × ℕ) → groups ≡ segments → run ≡ longest_zero_run groups → run.1 < 2
+    → groups_text groups ≡ hex_groups_text segments
 unfolding hex_groups_text
 compressed_short groups segments run same is short =
     let len : (longest_zero_run groups).1 ≤ 1 = let one = ap (λ (r : ℕ × ℕ). r.1) is in omega arith in
@@ -62,5 +68,6 @@ compressed_long groups segments run same is long =
     (rw (lt-ltb 1 (longest_zero_run groups).1 len, is) refl)
 
 -- two colons between what stands before and behind them
-pub then_colons : (start one two : List ℕ) (all : List ℕ) (rest : List ℕ) → one ≡ start ++ 58 ∷ [] → two ≡ one ++ 58 ∷ [] → all ≡ two ++ rest → all ≡ start ++ (58 ∷ 58 ∷ []) ++ rest
+pub then_colons : (start one two : List ℕ) (all : List ℕ) (rest : List ℕ) → one ≡ start ++ 58 ∷ [] → two ≡ one ++ 58 ∷ [] → all ≡ two ++ rest
+    → all ≡ start ++ (58 ∷ 58 ∷ []) ++ rest
 then_colons start one two all rest e f g = g ∙ ap (λ t. t ++ rest) (then_two 58 58 start one two e f)

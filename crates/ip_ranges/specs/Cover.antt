@@ -1,5 +1,6 @@
 -- The shortest list of prefixes that has exactly the addresses of a span.
-use Rattle.std.specs.Prelude.{◌≡◌, ℕ, zero, suc, ◌+◌, ◌-◌, ◌^◌, ◌%◌, ◌≤◌, ◌↔◌, ⊤, Bool, ◌&&◌, ◌||◌, nat_le, nat_lt, IsTrue, List, [], ◌∷◌, ◌++◌, length, min, if◌then◌else◌}
+use Rattle.std.specs.Prelude.{◌≡◌, ℕ, zero, suc, ◌+◌, ◌-◌, ◌^◌, ◌%◌, ◌≤◌, ◌↔◌, ⊤, Bool, ◌&&◌, ◌||◌, nat_le}
+use Rattle.std.specs.Prelude.{nat_lt, IsTrue, List, [], ◌∷◌, ◌++◌, length, min, if◌then◌else◌}
 use Rattle.std.specs.List.{AllByRecursion, list_any}
 use Rattle.ip_ranges.specs.Values.{SpanValue, PrefixValue, IsPrefix, width_of, size_at}
 use Rattle.ip_ranges.specs.declared.covers.Part.{Part}

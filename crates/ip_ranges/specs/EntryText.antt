@@ -1,5 +1,6 @@
 -- What the entry of a pool reads as: a range `low-high`, or a prefix `address/length`.
-use Rattle.std.specs.Prelude.{ℕ, List, [], ◌∷◌, ◌-◌, Bool, false, ◌||◌, length, take, drop, Option, Some, None, Result, Ok, Err, if◌then◌else◌, ◌==◌, nat_lt, nat_le, not}
+use Rattle.std.specs.Prelude.{ℕ, List, [], ◌∷◌, ◌-◌, Bool, false, ◌||◌, length, take, drop, Option, Some}
+use Rattle.std.specs.Prelude.{None, Result, Ok, Err, if◌then◌else◌, ◌==◌, nat_lt, nat_le, not}
 use Rattle.std.specs.List.{prefix_len, suffix_len, position_or_len, before_first, after_first}
 use Rattle.std.specs.Net.Reader.{read_octet, whole_value}
 use Rattle.ip_ranges.specs.declared.fault.RangeFault.{RangeFault}

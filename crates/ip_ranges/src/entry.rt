@@ -5,7 +5,8 @@ ghost use Rattle.ip_ranges.specs.Values.{AddressValue, SpanValue, IsOfFamily, Is
 ghost use Rattle.ip_ranges.specs.declared.fault.RangeFault.{RangeFault};
 ghost use Rattle.ip_ranges.specs.AddressText.{address_of};
 ghost use Rattle.ip_ranges.specs.Entry.{IsEntry};
-ghost use Rattle.ip_ranges.specs.EntryText.{entry_of, written_span, range_of, prefix_of, span_between, trimmed, trim_start, trim_end, is_blank, length_within, is_padded};
+ghost use Rattle.ip_ranges.specs.EntryText.{entry_of, written_span, range_of, prefix_of, span_between, trimmed};
+ghost use Rattle.ip_ranges.specs.EntryText.{trim_start, trim_end, is_blank, length_within, is_padded};
 
 use crate::prefix::mask;
 use crate::text::read_address;

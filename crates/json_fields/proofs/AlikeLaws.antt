@@ -1,10 +1,12 @@
 -- Fields of values that are alike are read the same.
-use Rattle.std.proofs.Common.{◌≡◌, ℕ, ◌+◌, List, [], Bool, true, false, Option, Some, None, Result, Ok, Err, is_some, cond, refl, sym, ap, ◌∙◌, option_map, option_and_then}
+use Rattle.std.proofs.Common.{◌≡◌, ℕ, ◌+◌, List, [], Bool, true, false, Option, Some, None, Result, Ok, Err}
+use Rattle.std.proofs.Common.{is_some, cond, refl, sym, ap, ◌∙◌, option_map, option_and_then}
 use Rattle.serde_json.specs.Data.{Data, Items, no_items, item, Members, no_members, member}
 use Rattle.serde_json.specs.Find.{as_null, as_str, as_array, as_object}
 use Rattle.kube_labels.specs.Pairs.{with_pair}
 use Rattle.json_fields.specs.Path.{Path}
-use Rattle.json_fields.specs.Reading.{◌>>=◌, within, where_there, some_of, value_at, optional_at, default_at, required_at, list_at, labels_at, tells_at, name_at, list_of, items_if, items_from, labels_of, pairs_after, text_of, or_itself}
+use Rattle.json_fields.specs.Reading.{◌>>=◌, within, where_there, some_of, value_at, optional_at, default_at, required_at, list_at, labels_at}
+use Rattle.json_fields.specs.Reading.{tells_at, name_at, list_of, items_if, items_from, labels_of, pairs_after, text_of, or_itself}
 use Rattle.json_fields.specs.Alike.{Same, FoundAlike, At, ItemsAlike, ListsAlike, Each, members_not_null, SameMap}
 
 found_same : {A : Type 0} (Like : Data → Data → Type 0) (go : Data → Result (Option A) Path) → ((d e : Data) → Like d e → go d ≡ go e)
@@ -19,7 +21,8 @@ pub optional_alike : {A : Type 0} (Like : Data → Data → Type 0) (read : Data
     → (path : Path) (d e : Data) → At path Like d e → optional_at read path d ≡ optional_at read path e
 unfolding optional_at
 optional_alike Like read same path d e alike =
-    found_same Like (λ value. some_of (within path (read value))) (λ x y like. ap (λ (found : Result _ Path). some_of (within path found)) (same x y like)) (value_at path d) (value_at path e) alike
+    found_same Like (λ value. some_of (within path (read value))) (λ x y like. ap (λ (found : Result _ Path). some_of (within path found)) (same x y like))
+    (value_at path d) (value_at path e) alike
 
 pub default_alike : {A : Type 0} (Like : Data → Data → Type 0) (read : Data → Result A Path) → ((d e : Data) → Like d e → read d ≡ read e)
     → (path : Path) (default : A) (d e : Data) → At path Like d e → default_at read path default d ≡ default_at read path default e
@@ -96,7 +99,8 @@ of_map (Some ms) = nulls_passed ms []
 map_read : (d e : Data) → SameMap d e → labels_of d ≡ labels_of e
 unfolding labels_of
 map_read d e same =
-    ap (λ (pairs : Option (List (List ℕ × List ℕ))). or_itself pairs) (sym (of_map (as_object d)) ∙ ap (option_and_then (pairs_after [])) same ∙ of_map (as_object e))
+    ap (λ (pairs : Option (List (List ℕ × List ℕ))). or_itself pairs)
+    (sym (of_map (as_object d)) ∙ ap (option_and_then (pairs_after [])) same ∙ of_map (as_object e))
 
 pub labels_alike : (path : Path) (d e : Data) → At path SameMap d e → labels_at path d ≡ labels_at path e
 unfolding labels_at

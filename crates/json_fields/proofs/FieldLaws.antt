@@ -13,7 +13,8 @@ then_through (Ok (Some d)) go next whole same = same d
 then_through (Err path) go next whole same = refl
 
 -- names, and behind them others
-pub behind-append : (path : Path) (front names : List Path) (d : Data) → behind path (front ++ names) d ≡ (behind path front d >>= where_there (behind path names))
+pub behind-append : (path : Path) (front names : List Path) (d : Data)
+    → behind path (front ++ names) d ≡ (behind path front d >>= where_there (behind path names))
 unfolding behind
 behind-append path [] names d = refl
 behind-append path (name ∷ front) names d =
@@ -22,7 +23,8 @@ behind-append path (name ∷ front) names d =
 through : (path : Path) (front names : List Path) (d x : Data) → behind path front d ≡ Ok (Some x) → behind path (front ++ names) d ≡ behind path names x
 through path front names d x at = behind-append path front names d ∙ rw at refl
 
-first_member : (path name : Path) (names : List Path) (d : Data) → IsObject d → behind path (name ∷ names) d ≡ where_there (behind path names) (unless_null (get name d))
+first_member : (path name : Path) (names : List Path) (d : Data) → IsObject d
+    → behind path (name ∷ names) d ≡ where_there (behind path names) (unless_null (get name d))
 unfolding behind member_at
 first_member path name names d is_object = rw is_object refl
 
@@ -59,15 +61,19 @@ elsewhere path (name ∷ names) [] found other differ apart = absurd apart
 elsewhere path (name ∷ names) (at ∷ place) None other differ apart = absurd differ
 elsewhere path (name ∷ names) (at ∷ place) (Some d) None differ apart = absurd differ
 elsewhere path (name ∷ names) (at ∷ place) (Some d) (Some e) differ (inl apart) =
-    rw (there d differ.0.0, there e differ.0.1) (first_member path name names d differ.0.0 ∙ rw (differ.1 name apart) (sym (first_member path name names e differ.0.1)))
+    rw (there d differ.0.0, there e differ.0.1)
+    (first_member path name names d differ.0.0 ∙ rw (differ.1 name apart) (sym (first_member path name names e differ.0.1)))
 elsewhere path (name ∷ names) (at ∷ place) (Some d) (Some e) differ (inr more) =
-    let inner : where_there (behind path names) (unless_null (get at d)) ≡ where_there (behind path names) (unless_null (get at e)) = elsewhere path names place (get at d) (get at e) differ.2 more.1 in
+    let inner : where_there (behind path names) (unless_null (get at d)) ≡ where_there (behind path names) (unless_null (get at e)) =
+    elsewhere path names place (get at d) (get at e) differ.2 more.1 in
     rw (there d differ.0.0, there e differ.0.1) (first_member path name names d differ.0.0 ∙ rw more.0 inner ∙ sym (first_member path name names e differ.0.1))
 
 pub member_off_path : MemberOffPath
 member_off_path path [] place d e differ apart = absurd apart
 member_off_path path (name ∷ names) [] d e differ apart = absurd apart
 member_off_path path (name ∷ names) (at ∷ place) d e differ apart =
-    let same : where_there (behind path (name ∷ names)) (unless_null (Some d)) ≡ where_there (behind path (name ∷ names)) (unless_null (Some e)) = elsewhere path (name ∷ names) (at ∷ place) (Some d) (Some e) differ apart in
-    let full : where_there (behind path (name ∷ names)) (Some d) ≡ where_there (behind path (name ∷ names)) (Some e) = rw (there d differ.0.0, there e differ.0.1) at same in
+    let same : where_there (behind path (name ∷ names)) (unless_null (Some d)) ≡ where_there (behind path (name ∷ names)) (unless_null (Some e)) =
+    elsewhere path (name ∷ names) (at ∷ place) (Some d) (Some e) differ apart in
+    let full : where_there (behind path (name ∷ names)) (Some d) ≡ where_there (behind path (name ∷ names)) (Some e) =
+    rw (there d differ.0.0, there e differ.0.1) at same in
     full

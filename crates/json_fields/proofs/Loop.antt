@@ -1,5 +1,6 @@
 -- Reading items one after the other, as a loop does.
-use Rattle.std.proofs.Common.{◌≡◌, ℕ, suc, ◌+◌, ◌≤◌, ◌<◌, List, [], ◌∷◌, ◌++◌, length, drop, get_or, Result, Ok, Err, refl, sym, ap, ◌∙◌, append_assoc, drop-cons, add-one}
+use Rattle.std.proofs.Common.{◌≡◌, ℕ, suc, ◌+◌, ◌≤◌, ◌<◌, List, [], ◌∷◌, ◌++◌, length, drop, get_or, Result}
+use Rattle.std.proofs.Common.{Ok, Err, refl, sym, ap, ◌∙◌, append_assoc, drop-cons, add-one}
 use Rattle.std.proofs.lemmas.List.{append-nil, drop_all}
 use Rattle.serde_json.specs.Data.{Data, Items, item}
 use Rattle.serde_json.specs.View.{view, items_view}
@@ -17,12 +18,14 @@ with_front front read = read >>= λ items. Ok (front ++ items)
 abbrev pub items_after : ℕ → List Value → Items
 items_after index values = items_view (drop index values)
 
-regroup : {A : Type 0} (front : List A) (x : A) (read : Result (List A) Path) → with_front front (read >>= λ items. Ok (x ∷ items)) ≡ with_front (front ++ x ∷ []) read
+regroup : {A : Type 0} (front : List A) (x : A) (read : Result (List A) Path)
+    → with_front front (read >>= λ items. Ok (x ∷ items)) ≡ with_front (front ++ x ∷ []) read
 regroup front x (Ok items) = ap (λ (l : List _). Ok l) (simp append_assoc)
 regroup front x (Err path) = refl
 
 -- the items from the index on begin with the one at the index
-opened : (index : ℕ) (values : List Value) (v : Value) → index < length values → v ≡ get_or values index v → items_after index values ≡ item (view v) (items_after (index + 1) values)
+opened : (index : ℕ) (values : List Value) (v : Value) → index < length values → v ≡ get_or values index v
+    → items_after index values ≡ item (view v) (items_after (index + 1) values)
 opened index values v lt at =
     let cut : drop index values ≡ get_or values index v ∷ drop (suc index) values = drop-cons values index v lt in
     rw (add-one, cut, ← at) refl
@@ -34,32 +37,39 @@ pub goes_on : {A : Type 0} (read : Data → Result A Path) (front : List A) (ind
 unfolding items_from
 goes_on read front index values v x total lt at h so_far =
     sym (regroup front x (items_from read (index + 1) (items_after (index + 1) values)))
-    ∙ (let one : with_front front (items_from read index (items_after index values)) ≡ with_front front (items_from read (index + 1) (items_after (index + 1) values) >>= λ items. Ok (x ∷ items)) = rw (opened index values v lt at, h) refl in sym one)
+    ∙ (let one : with_front front (items_from read index (items_after index values)) ≡ with_front front
+    (items_from read (index + 1) (items_after (index + 1) values) >>= λ items. Ok (x ∷ items)) = rw (opened index values v lt at, h) refl in sym one)
     ∙ so_far
 
 -- the fault of an item, seen from the list
-moved : {A : Type 0} (fault moved : FieldFault) (place : Path) (read : Result A Path) → Fails fault read → Moves fault place moved → Fails moved (within place read)
+moved : {A : Type 0} (fault moved : FieldFault) (place : Path) (read : Result A Path) → Fails fault read → Moves fault place moved
+    → Fails moved (within place read)
 moved (Faulty p) (Faulty q) place read h m = rw (h, m) refl
 moved (Faulty p) NoMemory place read h m = tt
 moved NoMemory (Faulty q) place read h m = absurd cc
 moved NoMemory NoMemory place read h m = tt
 
-pub Fails-within : {A : Type 0} (fault moved : FieldFault) (place : Path) (read : Result A Path) → Fails fault read → Moves fault place moved → Fails moved (within place read)
+pub Fails-within : {A : Type 0} (fault moved : FieldFault) (place : Path) (read : Result A Path) → Fails fault read → Moves fault place moved
+    → Fails moved (within place read)
 Fails-within = moved
 
-ends_with_fault : {A : Type 0} (fault : FieldFault) (front : List A) (first : Result A Path) (others : Result (List A) Path) → Fails fault first → Fails fault (with_front front (first >>= λ x. others >>= λ items. Ok (x ∷ items)))
+ends_with_fault : {A : Type 0} (fault : FieldFault) (front : List A) (first : Result A Path) (others : Result (List A) Path) → Fails fault first
+    → Fails fault (with_front front (first >>= λ x. others >>= λ items. Ok (x ∷ items)))
 ends_with_fault (Faulty p) front first others h = rw h refl
 ends_with_fault NoMemory front first others h = tt
 
-pub ends : {A : Type 0} (read : Data → Result A Path) (fault moved : FieldFault) (front : List A) (index : ℕ) (values : List Value) (v : Value) (total : Result (List A) Path)
+pub ends : {A : Type 0} (read : Data → Result A Path) (fault moved : FieldFault) (front : List A) (index : ℕ) (values : List Value) (v : Value)
+    (total : Result (List A) Path)
     → index < length values → v ≡ get_or values index v → Fails fault (read (view v)) → Moves fault (item_place index) moved
     → with_front front (items_from read index (items_after index values)) ≡ total
     → Fails moved total
 unfolding items_from
 ends read fault moved front index values v total lt at h m so_far =
     let inner = Fails-within fault moved (item_place index) (read (view v)) h m in
-    let one : with_front front (items_from read index (items_after index values)) ≡ with_front front (within (item_place index) (read (view v)) >>= λ x. items_from read (index + 1) (items_after (index + 1) values) >>= λ items. Ok (x ∷ items)) = rw (opened index values v lt at) refl in
-    rw (← so_far, one) (ends_with_fault moved front (within (item_place index) (read (view v))) (items_from read (index + 1) (items_after (index + 1) values)) inner)
+    let one : with_front front (items_from read index (items_after index values)) ≡ with_front front (within (item_place index) (read (view v)) >>=
+    λ x. items_from read (index + 1) (items_after (index + 1) values) >>= λ items. Ok (x ∷ items)) = rw (opened index values v lt at) refl in
+    rw (← so_far, one)
+    (ends_with_fault moved front (within (item_place index) (read (view v))) (items_from read (index + 1) (items_after (index + 1) values)) inner)
 
 pub is_done : {A : Type 0} (read : Data → Result A Path) (front : List A) (index : ℕ) (values : List Value) (total : Result (List A) Path)
     → length values ≤ index → with_front front (items_from read index (items_after index values)) ≡ total → total ≡ Ok front

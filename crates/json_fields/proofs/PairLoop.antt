@@ -16,12 +16,14 @@ pub passes_null : (pairs : Pairs) (name : String Global) (value : Value) (rest :
 unfolding pairs_after
 passes_null pairs name value rest h = rw h refl
 
-pub refuses : (pairs : Pairs) (name : String Global) (value : Value) (rest : List (String Global × Value)) → is_some (as_null (view value)) ≡ false → as_str (view value) ≡ None
+pub refuses : (pairs : Pairs) (name : String Global) (value : Value) (rest : List (String Global × Value)) → is_some (as_null (view value)) ≡ false
+    → as_str (view value) ≡ None
     → pairs_after pairs (members_view ((name, value) ∷ rest)) ≡ None
 unfolding pairs_after
 refuses pairs name value rest h e = rw (h, e) refl
 
-pub takes : (pairs : Pairs) (name : String Global) (value : Value) (rest : List (String Global × Value)) (text : List ℕ) → is_some (as_null (view value)) ≡ false → as_str (view value) ≡ Some text
+pub takes : (pairs : Pairs) (name : String Global) (value : Value) (rest : List (String Global × Value)) (text : List ℕ)
+    → is_some (as_null (view value)) ≡ false → as_str (view value) ≡ Some text
     → pairs_after pairs (members_view ((name, value) ∷ rest)) ≡ pairs_after (with_pair (string_bytes name) text pairs) (members_view rest)
 unfolding pairs_after
 takes pairs name value rest text h e = rw (h, e) refl

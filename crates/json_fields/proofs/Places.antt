@@ -20,7 +20,8 @@ whole : (path : Path) → position_or_len (λ c. eqb c 46) path ≡ length path 
 whole path h = slice_split_none (λ c. eqb c 46) path (λ k d high. fails_before_first (λ c. eqb c 46) path k d (omega arith))
 
 is_cut_from : (path : List ℕ) (r : Option (Bor (List ℕ) × Bor (List ℕ)))
-    → MatchOption r (position_or_len (λ b. eqb b 46) path ≡ length path) (λ x. (position_or_len (λ b. eqb b 46) path < length path) × (x.0.now ≡ before_first (λ b. eqb b 46) path) × (x.1.now ≡ after_first (λ b. eqb b 46) path))
+    → MatchOption r (position_or_len (λ b. eqb b 46) path ≡ length path) (λ x. (position_or_len (λ b. eqb b 46) path < length path)
+    × (x.0.now ≡ before_first (λ b. eqb b 46) path) × (x.1.now ≡ after_first (λ b. eqb b 46) path))
     → IsCut path r
 is_cut_from path None h = whole path h
 is_cut_from path (Some x) h = (
@@ -47,7 +48,8 @@ one_name path names d h =
     rw cut (behind-one path names d)
 
 -- else the first name comes before the first dot
-pub more_names : (path names : Path) (x : Bor (List ℕ) × Bor (List ℕ)) (d : Data) → IsSplitOnceResult 46 names (Some x) → behind path (names_of names) d ≡ (member_at path x.0.now d >>= where_there (behind path (names_of x.1.now)))
+pub more_names : (path names : Path) (x : Bor (List ℕ) × Bor (List ℕ)) (d : Data) → IsSplitOnceResult 46 names (Some x)
+    → behind path (names_of names) d ≡ (member_at path x.0.now d >>= where_there (behind path (names_of x.1.now)))
 unfolding behind
 more_names path names x d h =
     let cut : (names_of names ≡ x.0.now ∷ names_of x.1.now) × (length x.1.now < length names) = is_cut names (Some x) h in
@@ -59,6 +61,7 @@ fewer_names names x h =
     let cut : (names_of names ≡ x.0.now ∷ names_of x.1.now) × (length x.1.now < length names) = is_cut names (Some x) h in
     cut.1
 
-pub Fails-member : (fault : FieldFault) (read : Result (Option Data) Path) (go : Option Data → Result (Option Data) Path) → Fails fault read → Fails fault (read >>= go)
+pub Fails-member : (fault : FieldFault) (read : Result (Option Data) Path) (go : Option Data → Result (Option Data) Path) → Fails fault read
+    → Fails fault (read >>= go)
 Fails-member (Faulty p) read go h = rw h refl
 Fails-member NoMemory read go h = tt

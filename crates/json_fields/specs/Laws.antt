@@ -11,7 +11,8 @@ IsObject d = is_some (as_object d) ≡ true
 -- Two values are objects all the way to a place, and are alike but for what stands there.
 abbrev pub DifferAt : List Path → Option Data → Option Data → Type 0
 DifferAt [] found other = ⊤
-DifferAt (name ∷ place) (Some d) (Some e) = (IsObject d × IsObject e) × ((other : Path) → other ≢ name → get other d ≡ get other e) × DifferAt place (get name d) (get name e)
+DifferAt (name ∷ place) (Some d) (Some e) =
+    (IsObject d × IsObject e) × ((other : Path) → other ≢ name → get other d ≡ get other e) × DifferAt place (get name d) (get name e)
 DifferAt (name ∷ place) (Some d) None = ⊥
 DifferAt (name ∷ place) None other = ⊥
 
@@ -23,7 +24,8 @@ LeadElsewhere [] place = ⊥
 
 -- A member off a path leaves what stands at the path alone.
 abbrev pub MemberOffPath : Type 0
-MemberOffPath = (path : Path) (names place : List Path) (d e : Data) → DifferAt place (Some d) (Some e) → LeadElsewhere names place → behind path names d ≡ behind path names e
+MemberOffPath = (path : Path) (names place : List Path) (d e : Data) → DifferAt place (Some d) (Some e) → LeadElsewhere names place
+    → behind path names d ≡ behind path names e
 
 -- A member that is null is as one that is absent, at any depth.
 abbrev pub NullIsAbsent : Type 0

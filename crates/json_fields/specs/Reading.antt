@@ -1,5 +1,6 @@
 -- What a JSON value stands for, or the path of the first field in it that is not as stated.
-use Rattle.std.specs.Prelude.{◌≡◌, ℕ, ◌+◌, ◌&&◌, List, [], ◌∷◌, Bool, false, Option, Some, None, Result, Ok, Err, is_some, option_and_then, unwrap_or, nat_le, if◌then◌else◌, length, ◌==◌, ⊤}
+use Rattle.std.specs.Prelude.{◌≡◌, ℕ, ◌+◌, ◌&&◌, List, [], ◌∷◌, Bool, false, Option, Some, None, Result, Ok}
+use Rattle.std.specs.Prelude.{Err, is_some, option_and_then, unwrap_or, nat_le, if◌then◌else◌, length, ◌==◌, ⊤}
 use Rattle.std.specs.Str.{bytes_eq}
 use Rattle.serde_json.specs.Data.{Data, Items, no_items, item, Members, no_members, member}
 use Rattle.serde_json.specs.Find.{get, as_null, as_bool, as_str, as_number, as_u64, as_array, as_object}

@@ -1,13 +1,16 @@
 -- What a JSON string gives is UTF-8 where its text is.
-use Rattle.std.proofs.Common.{◌≡◌, ℕ, ◌<◌, ◌≤◌, true, false, cond, ◌&&◌, ◌||◌, ◌==◌, nat_lt, List, [], ◌∷◌, ◌++◌, length, get_or, Option, Some, None, option_and_then, IfSome, inl, inr, refl, sym, subst, arith, append_assoc, append-nil, length-append, ◌⊎◌}
+use Rattle.std.proofs.Common.{◌≡◌, ℕ, ◌<◌, ◌≤◌, true, false, cond, ◌&&◌, ◌||◌, ◌==◌, nat_lt, List, [], ◌∷◌, ◌++◌, length, get_or, Option, Some}
+use Rattle.std.proofs.Common.{None, option_and_then, IfSome, inl, inr, refl, sym, subst, arith, append_assoc, append-nil, length-append, ◌⊎◌}
 use Rattle.std.proofs.Math.Seq.{take-append_seam, drop-append_seam, get_or-append_seam}
-use Rattle.std.proofs.lemmas.Bool.{and_parts, and_cases, or_cases, cases_lt, cond_both, eqb-true, ltb-true, ltb-false, leb-true, leb-false, le-ltb, le-leb, lt-ltb}
+use Rattle.std.proofs.lemmas.Bool.{and_parts, and_cases, or_cases, cases_lt, cond_both, eqb-true, ltb-true}
+use Rattle.std.proofs.lemmas.Bool.{ltb-false, leb-true, leb-false, le-ltb, le-leb, lt-ltb}
 use Rattle.std.proofs.lemmas.Option.{cond_some}
 use Rattle.std.proofs.lemmas.Str.{IsUtf8-append, IsUtf8-encode, IsUtf8-take, IsUtf8-drop, IsCharBoundary-before_ascii, IsCharBoundary-after_ascii, encode_ascii}
 use Rattle.std.specs.Char.{IsScalar, encode_utf8, digit_value, is_digit}
 use Rattle.std.specs.Str.{IsUtf8}
 use lib.Utf8.{low_scalar}
-use Rattle.json.specs.Text.{code_unit, short_escape, is_high_surrogate, is_low_surrogate, surrogate_pair, Within, plain, after_backslash, after_u, after_high, prepend, content}
+use Rattle.json.specs.Text.{code_unit, short_escape, is_high_surrogate, is_low_surrogate, surrogate_pair}
+use Rattle.json.specs.Text.{Within, plain, after_backslash, after_u, after_high, prepend, content}
 
 -- ---- texts and ASCII
 
@@ -20,8 +23,10 @@ beside_ascii : (xs ys : List ℕ) (x : ℕ) → x < 128 → IsUtf8 (xs ++ x ∷ 
 beside_ascii xs ys x low u =
     let all : List ℕ = xs ++ x ∷ ys in
     let there : get_or all (length xs) 0 < 128 = subst (λ c. c < 128) (sym (get_or-append_seam xs x ys 0)) low in
-    let cut = IsCharBoundary-before_ascii all (length xs) (omega (arith, length-append xs (x ∷ ys))) there in
-    (subst IsUtf8 (take-append_seam xs (x ∷ ys)) (IsUtf8-take all (length xs) u cut), behind_ascii x ys low (subst IsUtf8 (drop-append_seam xs (x ∷ ys)) (IsUtf8-drop all (length xs) u cut)))
+    let cut = IsCharBoundary-before_ascii all (length xs) (omega (arith, length-append xs (x ∷ ys))) there in (
+      subst IsUtf8 (take-append_seam xs (x ∷ ys)) (IsUtf8-take all (length xs) u cut),
+      behind_ascii x ys low (subst IsUtf8 (drop-append_seam xs (x ∷ ys)) (IsUtf8-drop all (length xs) u cut)),
+    )
 
 ascii_text : (c : ℕ) → c < 128 → IsUtf8 (c ∷ [])
 ascii_text c low = subst IsUtf8 (encode_ascii c low) (IsUtf8-encode c (low_scalar c (omega arith)))
@@ -33,7 +38,14 @@ hex_ascii c e = elim (cases_lt c 123) [
   | inl low ↦ omega arith
   | inr high ↦
       let none : digit_value c ≡ 36 =
-      rw (le-ltb c 48 (omega arith), le-ltb c 58 (omega arith), le-ltb c 65 (omega arith), le-ltb c 91 (omega arith), le-ltb c 97 (omega arith), le-ltb c 123 high) refl in
+      rw (
+        le-ltb c 48 (omega arith),
+        le-ltb c 58 (omega arith),
+        le-ltb c 65 (omega arith),
+        le-ltb c 91 (omega arith),
+        le-ltb c 97 (omega arith),
+        le-ltb c 123 high,
+      ) refl in
       let digit = ltb-true (digit_value c) 16 e in
       absurd (omega arith)
 ]
@@ -75,7 +87,8 @@ no_surrogate u fits high low = elim (and_cases _ _ high) [
 ]
 
 unit_text : (u : ℕ) → u < 65536 → is_high_surrogate u ≡ false → is_low_surrogate u ≡ false → IsUtf8 (encode_utf8 u)
-unit_text u fits high low = elim (no_surrogate u fits high low) [ inl below ↦ IsUtf8-encode u (low_scalar u below) | inr above ↦ IsUtf8-encode u (high_scalar u above (omega arith)) ]
+unit_text u fits high low =
+    elim (no_surrogate u fits high low) [ inl below ↦ IsUtf8-encode u (low_scalar u below) | inr above ↦ IsUtf8-encode u (high_scalar u above (omega arith)) ]
 
 pair_text : (h l : ℕ) → is_high_surrogate h ≡ true → is_low_surrogate l ≡ true → IsUtf8 (encode_utf8 (surrogate_pair h l))
 pair_text h l high low =
@@ -112,14 +125,18 @@ record Escaped (x c : ℕ) : Type 0 where
 itself : (x : ℕ) → (((x == 34) || (x == 92)) || (x == 47)) ≡ true → Escaped x x
 itself x e =
     let low : x < 128 = elim (or_cases ((x == 34) || (x == 92)) (x == 47) e) [
-      | inl two ↦ elim (or_cases (x == 34) (x == 92) two) [ inl is ↦ (let same = eqb-true x 34 is in omega arith) | inr is ↦ (let same = eqb-true x 92 is in omega arith) ]
+      | inl two ↦ elim (or_cases (x == 34) (x == 92) two) [
+        | inl is ↦ (let same = eqb-true x 34 is in omega arith)
+        | inr is ↦ (let same = eqb-true x 92 is in omega arith)
+      ]
       | inr is ↦ (let same = eqb-true x 47 is in omega arith)
     ] in
     record { source = low; target = low }
 
 named : (x code c : ℕ) (rest : Option ℕ) → code < 128 → c < 128 → IfSome rest (λ c. Escaped x c) → IfSome (cond (x == code) (Some c) rest) (λ c. Escaped x c)
 named x code c rest low small more =
-    cond_both (x == code) (Some c) rest (λ r. IfSome r (λ c. Escaped x c)) (λ e. let same = eqb-true x code e in record { source = omega arith; target = small }) (λ _. more)
+    cond_both (x == code) (Some c) rest (λ r. IfSome r (λ c. Escaped x c))
+    (λ e. let same = eqb-true x code e in record { source = omega arith; target = small }) (λ _. more)
 
 escaped : (x : ℕ) → IfSome (short_escape x) (λ c. Escaped x c)
 unfolding short_escape
@@ -162,7 +179,8 @@ unit_step a b c d xs next high t = then_has (code_unit a b c d) _ IsUtf8 (λ u e
     let is = unit_of a b c d u e in
     let rest = behind_four a b c d u xs is t in
     cond_both (is_high_surrogate u) (content (after_high u) xs) _ (λ r. IfSome r IsUtf8) (λ up. high u up rest) (λ not_high.
-    cond_both (is_low_surrogate u) None _ (λ r. IfSome r IsUtf8) (λ _. tt) (λ not_low. prepended (encode_utf8 u) _ (unit_text u is.fits not_high not_low) (next [] rest))))
+    cond_both (is_low_surrogate u) None _ (λ r. IfSome r IsUtf8) (λ _. tt)
+    (λ not_low. prepended (encode_utf8 u) _ (unit_text u is.fits not_high not_low) (next [] rest))))
 
 high_step : (h s v a b c d : ℕ) (xs : List ℕ) → Reads plain xs → Reads (after_high h) (s ∷ v ∷ a ∷ b ∷ c ∷ d ∷ xs)
 unfolding content

@@ -1,5 +1,6 @@
 -- What is read of a value that has texts alone.
-use Rattle.std.proofs.Common.{◌≤◌, ◌&&◌, ℕ, ◌+◌, nat_le, Bool, List, [], ◌∷◌, ◌==◌, length, Option, Some, None, option_and_then, unwrap_or, is_some, Result, Ok, Err, IfOk, IfSome}
+use Rattle.std.proofs.Common.{◌≤◌, ◌&&◌, ℕ, ◌+◌, nat_le, Bool, List, [], ◌∷◌, ◌==◌, length, Option, Some}
+use Rattle.std.proofs.Common.{None, option_and_then, unwrap_or, is_some, Result, Ok, Err, IfOk, IfSome}
 use Rattle.std.proofs.lemmas.Bool.{and_parts, cond_both, leb-true}
 use Rattle.std.proofs.lemmas.Result.{IfOk-at_ok}
 use Rattle.std.proofs.lemmas.Str.{IsUtf8-nil}
@@ -15,7 +16,9 @@ use Rattle.serde_json.specs.Find.{get, get_member, as_null, as_number, as_u64, a
 use Rattle.kube_labels.specs.Pairs.{with_pair, value_of}
 use Rattle.mlb_base.proofs.Entries.{ascending-insert_entry}
 use Rattle.json_fields.specs.Path.{Path, names_of, item_place}
-use Rattle.json_fields.specs.Reading.{◌>>=◌, or_itself, unless_null, member_at, where_there, behind, value_at, within, some_of, optional_at, or_missing, required_at, default_at, text_of, in_range, number_in, items_from, list_of, list_at, pairs_after, labels_of, labels_at, name_at}
+use Rattle.json_fields.specs.Reading.{◌>>=◌, or_itself, unless_null, member_at, where_there, behind, value_at, within}
+use Rattle.json_fields.specs.Reading.{some_of, optional_at, or_missing, required_at, default_at, text_of, in_range}
+use Rattle.json_fields.specs.Reading.{number_in, items_from, list_of, list_at, pairs_after, labels_of, labels_at, name_at}
 use Rattle.json_text_laws.specs.Texts.{HasTexts, ItemsHaveTexts, MembersHaveTexts, AreLabels, TextMapsAreLabels}
 use Rattle.json_text_laws.proofs.Values.{chosen, then_if}
 
@@ -23,7 +26,8 @@ use Rattle.json_text_laws.proofs.Values.{chosen, then_if}
 abbrev pub Reads : {A : Type 0} → (A → Type 0) → (Data → Result A Path) → Type 0
 Reads P read = (d : Data) → HasTexts d → IfOk (read d) P
 
-pub then_ok : {A B : Type 0} (P : A → Type 0) (Q : B → Type 0) (r : Result A Path) (f : A → Result B Path) → IfOk r P → ((x : A) → P x → IfOk (f x) Q) → IfOk (r >>= f) Q
+pub then_ok : {A B : Type 0} (P : A → Type 0) (Q : B → Type 0) (r : Result A Path) (f : A → Result B Path) → IfOk r P → ((x : A) → P x → IfOk (f x) Q)
+    → IfOk (r >>= f) Q
 then_ok P Q (Ok x) f h each = each x h
 then_ok P Q (Err path) f h each = tt
 
@@ -50,9 +54,11 @@ there_texts (Some d) h = cond_both (is_some (as_null d)) None (Some d) (λ o. If
 member_at_texts : (path : Path) (name : List ℕ) → Reads (λ o. IfSome o HasTexts) (member_at path name)
 unfolding member_at
 member_at_texts path name d h =
-    cond_both (is_some (as_object d)) (Ok (unless_null (get name d))) (Err path) (λ r. IfOk r (λ o. IfSome o HasTexts)) (λ _. there_texts (get name d) (get_texts name d h)) (λ _. tt)
+    cond_both (is_some (as_object d)) (Ok (unless_null (get name d))) (Err path) (λ r. IfOk r (λ o. IfSome o HasTexts))
+    (λ _. there_texts (get name d) (get_texts name d h)) (λ _. tt)
 
-pub where_texts : {A : Type 0} (P : A → Type 0) (go : Data → Result (Option A) Path) (o : Option Data) → Reads (λ found. IfSome found P) go → IfSome o HasTexts → IfOk (where_there go o) (λ found. IfSome found P)
+pub where_texts : {A : Type 0} (P : A → Type 0) (go : Data → Result (Option A) Path) (o : Option Data) → Reads (λ found. IfSome found P) go → IfSome o HasTexts
+    → IfOk (where_there go o) (λ found. IfSome found P)
 where_texts P go None reads h = tt
 where_texts P go (Some d) reads h = reads d h
 
@@ -60,7 +66,8 @@ behind_texts : (path : Path) (names : List (List ℕ)) → Reads (λ o. IfSome o
 unfolding behind
 behind_texts path [] d h = h
 behind_texts path (name ∷ names) d h =
-    then_ok (λ o. IfSome o HasTexts) (λ o. IfSome o HasTexts) (member_at path name d) _ (member_at_texts path name d h) (λ o there. where_texts HasTexts (behind path names) o (behind_texts path names) there)
+    then_ok (λ o. IfSome o HasTexts) (λ o. IfSome o HasTexts) (member_at path name d) _ (member_at_texts path name d h)
+    (λ o there. where_texts HasTexts (behind path names) o (behind_texts path names) there)
 
 -- ---- fields
 
@@ -72,7 +79,8 @@ some_read : {A : Type 0} (P : A → Type 0) (path : Path) (r : Result A Path) �
 some_read P path (Ok x) h = h
 some_read P path (Err fault) h = tt
 
-pub reads-optional_at : {A : Type 0} (P : A → Type 0) (read : Data → Result A Path) (path : Path) → Reads P read → Reads (λ o. IfSome o P) (optional_at read path)
+pub reads-optional_at : {A : Type 0} (P : A → Type 0) (read : Data → Result A Path) (path : Path) → Reads P read
+    → Reads (λ o. IfSome o P) (optional_at read path)
 unfolding optional_at
 reads-optional_at P read path reads d h =
     then_ok (λ o. IfSome o HasTexts) (λ o. IfSome o P) (value_at path d) _ (behind_texts path (names_of path) d h)
@@ -84,7 +92,8 @@ missing P path None h = tt
 
 pub reads-required_at : {A : Type 0} (P : A → Type 0) (read : Data → Result A Path) (path : Path) → Reads P read → Reads P (required_at read path)
 unfolding required_at
-reads-required_at P read path reads d h = then_ok (λ o. IfSome o P) P (optional_at read path d) _ (reads-optional_at P read path reads d h) (λ o found. missing P path o found)
+reads-required_at P read path reads d h =
+    then_ok (λ o. IfSome o P) P (optional_at read path d) _ (reads-optional_at P read path reads d h) (λ o found. missing P path o found)
 
 or_default : {A : Type 0} (P : A → Type 0) (o : Option A) (x : A) → IfSome o P → P x → P (unwrap_or o x)
 or_default P (Some y) x h default = h
@@ -125,12 +134,14 @@ reads-name_at path d h =
     then_ok IsUtf8 IsUtf8 (required_at text_of path d) _ (reads-required_at IsUtf8 text_of path reads-text_of d h)
     (λ name text. cond_both (length name == 0) (Err path) (Ok name) (λ r. IfOk r IsUtf8) (λ _. tt) (λ _. text))
 
-items_read : {A : Type 0} (P : A → Type 0) (read : Data → Result A Path) → Reads P read → (index : ℕ) (ds : Items) → ItemsHaveTexts ds → IfOk (items_from read index ds) (AllByRecursion P)
+items_read : {A : Type 0} (P : A → Type 0) (read : Data → Result A Path) → Reads P read → (index : ℕ) (ds : Items) → ItemsHaveTexts ds
+    → IfOk (items_from read index ds) (AllByRecursion P)
 unfolding items_from
 items_read P read reads index no_items h = tt
 items_read P read reads index (item d ds) h =
     then_ok P (AllByRecursion P) (within (item_place index) (read d)) _ (placed P (item_place index) (read d) (reads d h.0))
-    (λ x first. then_ok (AllByRecursion P) (AllByRecursion P) (items_from read (index + 1) ds) _ (items_read P read reads (index + 1) ds h.1) (λ xs others. (first, others)))
+    (λ x first. then_ok (AllByRecursion P) (AllByRecursion P) (items_from read (index + 1) ds) _ (items_read P read reads (index + 1) ds h.1)
+    (λ xs others. (first, others)))
 
 reads-list_of : {A : Type 0} (P : A → Type 0) (read : Data → Result A Path) → Reads P read → Reads (AllByRecursion P) (list_of read)
 unfolding list_of
@@ -140,7 +151,8 @@ reads-list_of P read reads d h = tt
 pub reads-list_at : {A : Type 0} (P : A → Type 0) (read : Data → Result A Path) (path : Path) → Reads P read → Reads (AllByRecursion P) (list_at read path)
 unfolding list_at
 reads-list_at P read path reads d h =
-    then_ok (λ o. IfSome o (AllByRecursion P)) (AllByRecursion P) (optional_at (list_of read) path d) _ (reads-optional_at (AllByRecursion P) (list_of read) path (reads-list_of P read reads) d h)
+    then_ok (λ o. IfSome o (AllByRecursion P)) (AllByRecursion P) (optional_at (list_of read) path d)
+    _ (reads-optional_at (AllByRecursion P) (list_of read) path (reads-list_of P read reads) d h)
     (λ o found. or_default (AllByRecursion P) o [] found tt)
 
 -- ---- text maps
@@ -148,7 +160,8 @@ reads-list_at P read path reads d h =
 abbrev IsPair : List ℕ × List ℕ → Type 0
 IsPair p = IsUtf8 p.0 × IsUtf8 p.1
 
-with_texts : (pairs : List (List ℕ × List ℕ)) (name value : List ℕ) → IsUtf8 name → IsUtf8 value → AllByRecursion IsPair pairs → AllByRecursion IsPair (with_pair name value pairs)
+with_texts : (pairs : List (List ℕ × List ℕ)) (name value : List ℕ) → IsUtf8 name → IsUtf8 value → AllByRecursion IsPair pairs
+    → AllByRecursion IsPair (with_pair name value pairs)
 with_texts [] name value n v all = ((n, v), tt)
 with_texts (p ∷ pairs) name value n v all =
     chosen (AllByRecursion IsPair) (slice_cmp nat_cmp name p.0) _ _ _ ((n, v), all) ((all.0.0, v), all.1) (all.0, with_texts pairs name value n v all.1)
@@ -166,7 +179,8 @@ unfolding pairs_after
 pairs_read pairs no_members h all = h
 pairs_read pairs (member name d ms) h all =
     cond_both (is_some (as_null d)) (pairs_after pairs ms) _ (λ o. IfSome o AreLabels) (λ _. pairs_read pairs ms h all.2)
-    (λ _. then_if IsUtf8 AreLabels _ (as_str d) (λ text u. pairs_read (with_pair name text pairs) ms (with_labels pairs name text all.0 u h) all.2) (str_texts d all.1))
+    (λ _. then_if IsUtf8 AreLabels _ (as_str d) (λ text u. pairs_read (with_pair name text pairs) ms (with_labels pairs name text all.0 u h) all.2)
+    (str_texts d all.1))
 
 reads-labels_of : Reads AreLabels labels_of
 unfolding labels_of

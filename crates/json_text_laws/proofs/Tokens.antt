@@ -1,5 +1,6 @@
 -- The keys and the strings among the tokens of a UTF-8 text are UTF-8.
-use Rattle.std.proofs.Common.{◌≡◌, ℕ, ◌+◌, ◌<◌, suc, Bool, true, false, cond, ◌==◌, List, [], ◌∷◌, length, drop, get_or, Option, Some, None, IfSome, refl, subst, arith}
+use Rattle.std.proofs.Common.{◌≡◌, ℕ, ◌+◌, ◌<◌, suc, Bool, true, false, cond, ◌==◌, List, [], ◌∷◌, length}
+use Rattle.std.proofs.Common.{drop, get_or, Option, Some, None, IfSome, refl, subst, arith}
 use Rattle.std.proofs.lemmas.Bool.{cond_both, eqb-true}
 use Rattle.std.proofs.lemmas.Str.{IsUtf8-drop, IsCharBoundary-after_ascii}
 use Rattle.std.specs.List.{AllByRecursion}
@@ -9,7 +10,9 @@ use Rattle.json.specs.Token.{Token, begin_object, end_object, begin_array, end_a
 use Rattle.json.specs.Text.{content, plain}
 use Rattle.json.specs.Ascii as ascii
 use Rattle.json.specs.Word.{is_operator, is_space, head, literal, number_before, after_number, word}
-use Rattle.json.specs.Lex.{Lexeme, token, comma, colon, Class, quote, backslash, operator, space, other, class, operator_lexeme, string_token, Mode, between, in_word, in_string, in_escape, lex_byte, lex, Place, fresh, after_value, after_comma, after_key, begins_colon, may_begin, may_close, if_allowed, place_token, punctuate, tokens}
+use Rattle.json.specs.Lex.{Lexeme, token, comma, colon, Class, quote, backslash, operator, space, other, class, operator_lexeme}
+use Rattle.json.specs.Lex.{string_token, Mode, between, in_word, in_string, in_escape, lex_byte, lex, Place, fresh, after_value}
+use Rattle.json.specs.Lex.{after_comma, after_key, begins_colon, may_begin, may_close, if_allowed, place_token, punctuate, tokens}
 use Rattle.json_text_laws.proofs.Content.{content_text}
 
 abbrev pub TokenText : Token → Type 0
@@ -41,10 +44,13 @@ word_text : (xs : List ℕ) → TokenText (word xs)
 unfolding word
 word_text xs =
     word_by (head xs == 116) (head xs == 102) (head xs == 110)
-    (literal ascii.true_text (boolean true) xs) (literal ascii.false_text (boolean false) xs) (literal ascii.null_text null xs) (number_before xs (after_number xs))
-    (literal_text ascii.true_text (boolean true) xs tt) (literal_text ascii.false_text (boolean false) xs tt) (literal_text ascii.null_text null xs tt) (number_text xs (after_number xs))
+    (literal ascii.true_text (boolean true) xs) (literal ascii.false_text (boolean false) xs) (literal ascii.null_text null xs)
+    (number_before xs (after_number xs))
+    (literal_text ascii.true_text (boolean true) xs tt) (literal_text ascii.false_text (boolean false) xs tt) (literal_text ascii.null_text null xs tt)
+    (number_text xs (after_number xs))
 
-operator_by : (a b c d e : Bool) → LexemeText (cond a (token begin_object) (cond b (token end_object) (cond c (token begin_array) (cond d (token end_array) (cond e comma colon)))))
+operator_by : (a b c d e : Bool)
+    → LexemeText (cond a (token begin_object) (cond b (token end_object) (cond c (token begin_array) (cond d (token end_array) (cond e comma colon)))))
 operator_by true b c d e = tt
 operator_by false true c d e = tt
 operator_by false false true d e = tt
@@ -78,7 +84,8 @@ parted xs u i within low =
     let next : i + 1 ≡ suc i = omega arith in
     subst (λ k. IsUtf8 (drop k xs)) next (IsUtf8-drop xs (i + 1) u (IsCharBoundary-after_ascii xs i u within low))
 
-byte_text : (m : Mode) (c : Class) (x : ℕ) (xs : List ℕ) (k : Mode → List Lexeme) → (c ≡ quote → IsUtf8 xs) → ((next : Mode) → AllByRecursion LexemeText (k next)) → AllByRecursion LexemeText (lex_byte m c x xs k)
+byte_text : (m : Mode) (c : Class) (x : ℕ) (xs : List ℕ) (k : Mode → List Lexeme) → (c ≡ quote → IsUtf8 xs)
+    → ((next : Mode) → AllByRecursion LexemeText (k next)) → AllByRecursion LexemeText (lex_byte m c x xs k)
 byte_text between quote x xs k behind rest = (string_text (content plain xs) (content_text xs (behind refl)), rest in_string)
 byte_text between backslash x xs k behind rest = (tt, rest in_word)
 byte_text between operator x xs k behind rest = (operator_text x, rest between)
@@ -106,11 +113,13 @@ lexed m (x ∷ xs) h =
 
 -- ---- tokens
 
-allowed : (b : Bool) (t : Token) (k : Place → List Token) (next : Place) → TokenText t → ((p : Place) → AllByRecursion TokenText (k p)) → AllByRecursion TokenText (if_allowed b t k next)
+allowed : (b : Bool) (t : Token) (k : Place → List Token) (next : Place) → TokenText t → ((p : Place) → AllByRecursion TokenText (k p))
+    → AllByRecursion TokenText (if_allowed b t k next)
 allowed true t k next h rest = (h, rest next)
 allowed false t k next h rest = (tt, tt)
 
-placed : (p : Place) (t : Token) (b : Bool) (k : Place → List Token) → TokenText t → ((p : Place) → AllByRecursion TokenText (k p)) → AllByRecursion TokenText (place_token p t b k)
+placed : (p : Place) (t : Token) (b : Bool) (k : Place → List Token) → TokenText t → ((p : Place) → AllByRecursion TokenText (k p))
+    → AllByRecursion TokenText (place_token p t b k)
 placed p begin_object b k h rest = allowed (may_begin p) begin_object k fresh tt rest
 placed p end_object b k h rest = allowed (may_close p) end_object k after_value tt rest
 placed p begin_array b k h rest = allowed (may_begin p) begin_array k fresh tt rest

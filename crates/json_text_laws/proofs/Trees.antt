@@ -5,7 +5,8 @@ use Rattle.std.specs.Bool.{⊤}
 use Rattle.std.specs.Str.{IsUtf8}
 use Rattle.json.specs.Token as token
 use Rattle.json.specs.Token.{Token}
-use Rattle.json.specs.Json.{Json, null, boolean, number, string, array, object, Items, no_items, item, Members, no_members, member, Parse, parse_map, after_end_array, read_key, items_step, members_step, items, members, value_with, value, if_last}
+use Rattle.json.specs.Json.{Json, null, boolean, number, string, array, object, Items, no_items, item, Members, no_members, member, Parse}
+use Rattle.json.specs.Json.{parse_map, after_end_array, read_key, items_step, members_step, items, members, value_with, value, if_last}
 use Rattle.json_text_laws.proofs.Tokens.{TokenText}
 
 abbrev mutual
@@ -32,7 +33,8 @@ Found P r = IfSome r (λ p. P p.0 × AllByRecursion TokenText p.1)
 abbrev Finds : {A : Type 0} → (A → Type 0) → Parse A → Type 0
 Finds P parse = (ts : List Token) → AllByRecursion TokenText ts → Found P (parse ts)
 
-mapped : {A B : Type 0} (P : A → Type 0) (Q : B → Type 0) (f : A → B) (r : Option (A × List Token)) → ((x : A) → P x → Q (f x)) → Found P r → Found Q (parse_map f r)
+mapped : {A B : Type 0} (P : A → Type 0) (Q : B → Type 0) (f : A → B) (r : Option (A × List Token)) → ((x : A) → P x → Q (f x)) → Found P r
+    → Found Q (parse_map f r)
 mapped P Q f None each h = tt
 mapped P Q f (Some p) each h = (each p.0 h.0, h.1)
 
@@ -52,28 +54,33 @@ key_found (token.end_object ∷ ts) h = (tt, h.1)
 key_found (token.key s ∷ ts) h = (h.0, h.1)
 key_found (t ∷ ts) h = tt
 
-items_by : (read : Parse Json) (more : Parse Items) (ts : List Token) (end : Option (List Token)) → Finds JsonTexts read → Finds ItemsTexts more → AllByRecursion TokenText ts → IfSome end (AllByRecursion TokenText)
+items_by : (read : Parse Json) (more : Parse Items) (ts : List Token) (end : Option (List Token)) → Finds JsonTexts read → Finds ItemsTexts more
+    → AllByRecursion TokenText ts → IfSome end (AllByRecursion TokenText)
     → Found ItemsTexts (items_step read more ts end)
 items_by read more ts (Some rest) first others h e = (tt, e)
 items_by read more ts None first others h e =
-    then_found JsonTexts ItemsTexts _ (read ts) (λ p j rest. mapped ItemsTexts ItemsTexts (item p.0) (more p.1) (λ js all. (j, all)) (others p.1 rest)) (first ts h)
+    then_found JsonTexts ItemsTexts _ (read ts) (λ p j rest. mapped ItemsTexts ItemsTexts (item p.0) (more p.1) (λ js all. (j, all)) (others p.1 rest))
+    (first ts h)
 
 items_found : (read : Parse Json) → Finds JsonTexts read → (n : ℕ) → Finds ItemsTexts (items read n)
 unfolding items
 items_found read first zero ts h = tt
 items_found read first (suc n) ts h = items_by read (items read n) ts (after_end_array ts) first (items_found read first n) h (after_array ts h)
 
-members_by : (read : Parse Json) (more : Parse Members) (k : Option (List ℕ)) (ts : List Token) → Finds JsonTexts read → Finds MembersTexts more → IfSome k IsUtf8 → AllByRecursion TokenText ts
+members_by : (read : Parse Json) (more : Parse Members) (k : Option (List ℕ)) (ts : List Token) → Finds JsonTexts read → Finds MembersTexts more
+    → IfSome k IsUtf8 → AllByRecursion TokenText ts
     → Found MembersTexts (members_step read more k ts)
 members_by read more None ts first others k h = (tt, h)
 members_by read more (Some s) ts first others k h =
-    then_found JsonTexts MembersTexts _ (read ts) (λ p j rest. mapped MembersTexts MembersTexts (member s p.0) (more p.1) (λ ms all. (k, j, all)) (others p.1 rest)) (first ts h)
+    then_found JsonTexts MembersTexts _ (read ts)
+    (λ p j rest. mapped MembersTexts MembersTexts (member s p.0) (more p.1) (λ ms all. (k, j, all)) (others p.1 rest)) (first ts h)
 
 members_found : (read : Parse Json) → Finds JsonTexts read → (n : ℕ) → Finds MembersTexts (members read n)
 unfolding members
 members_found read first zero ts h = tt
 members_found read first (suc n) ts h =
-    then_found (λ k. IfSome k IsUtf8) MembersTexts _ (read_key ts) (λ p k rest. members_by read (members read n) p.0 p.1 first (members_found read first n) k rest) (key_found ts h)
+    then_found (λ k. IfSome k IsUtf8) MembersTexts _ (read_key ts)
+    (λ p k rest. members_by read (members read n) p.0 p.1 first (members_found read first n) k rest) (key_found ts h)
 
 value_by : (a : Parse Items) (o : Parse Members) → Finds ItemsTexts a → Finds MembersTexts o → Finds JsonTexts (value_with a o)
 value_by a o in_array in_object [] h = tt
@@ -95,7 +102,8 @@ value_found (suc n) =
     value_by (λ ts. items (value n) (length ts) ts) (λ ts. members (value n) (length ts) ts)
     (λ ts h. items_found (value n) (value_found n) (length ts) ts h) (λ ts h. members_found (value n) (value_found n) (length ts) ts h)
 
-pub last_texts : (r : Option (Json × List Token)) → IfSome r (λ p. JsonTexts p.0 × AllByRecursion TokenText p.1) → IfSome (option_and_then (λ p. if_last p.0 p.1) r) JsonTexts
+pub last_texts : (r : Option (Json × List Token)) → IfSome r (λ p. JsonTexts p.0 × AllByRecursion TokenText p.1)
+    → IfSome (option_and_then (λ p. if_last p.0 p.1) r) JsonTexts
 last_texts None h = tt
 last_texts (Some p) h = by p.0 p.1 h.0
   where

@@ -24,7 +24,8 @@ chosen P Less x y z a b c = a
 chosen P Equal x y z a b c = b
 chosen P Greater x y z a b c = c
 
-pub then_if : {A B : Type 0} (P : A → Type 0) (Q : B → Type 0) (f : A → Option B) (o : Option A) → ((x : A) → P x → IfSome (f x) Q) → IfSome o P → IfSome (option_and_then f o) Q
+pub then_if : {A B : Type 0} (P : A → Type 0) (Q : B → Type 0) (f : A → Option B) (o : Option A) → ((x : A) → P x → IfSome (f x) Q) → IfSome o P
+    → IfSome (option_and_then f o) Q
 then_if P Q f None each h = tt
 then_if P Q f (Some x) each h = each x h
 
@@ -53,16 +54,19 @@ mutual
   items_texts : (js : json.Items) → ItemsTexts js → IfSome (of_items js) ItemsHaveTexts
   items_texts json.no_items h = tt
   items_texts (json.item j js) h =
-      then_if HasTexts ItemsHaveTexts _ (of_json j) (λ d first. made_if ItemsHaveTexts ItemsHaveTexts (item d) (of_items js) (λ ds all. (first, all)) (items_texts js h.1)) (json_text_laws j h.0)
+      then_if HasTexts ItemsHaveTexts _ (of_json j)
+      (λ d first. made_if ItemsHaveTexts ItemsHaveTexts (item d) (of_items js) (λ ds all. (first, all)) (items_texts js h.1)) (json_text_laws j h.0)
 
   members_texts : (ms : json.Members) (found : Members) → MembersTexts ms → MembersHaveTexts found → IfSome (of_members ms found) MembersHaveTexts
   members_texts json.no_members found h all = all
   members_texts (json.member name j ms) found h all =
-      then_if HasTexts MembersHaveTexts _ (of_json j) (λ d first. members_texts ms (put name d found) h.2 (put_texts name d found h.0 first all)) (json_text_laws j h.1)
+      then_if HasTexts MembersHaveTexts _ (of_json j) (λ d first. members_texts ms (put name d found) h.2 (put_texts name d found h.0 first all))
+      (json_text_laws j h.1)
 
 read_texts : (text : List ℕ) → IsUtf8 text → IfSome (read text) HasTexts
 read_texts text u =
-    then_if JsonTexts HasTexts of_json _ json_text_laws (last_texts (json.value max_depth (tokens text)) (value_found max_depth (tokens text) (tokens_texts text u)))
+    then_if JsonTexts HasTexts of_json _ json_text_laws
+    (last_texts (json.value max_depth (tokens text)) (value_found max_depth (tokens text) (tokens_texts text u)))
 
 pub value_texts : (line : List ℕ) → IfSome (value_of_line line) HasTexts
 unfolding value_of_line

@@ -1,5 +1,6 @@
 -- Lists of distinct keys: what stands in a queue that is kept as two lists, and what is left of it.
-use Rattle.std.proofs.Common.{◌≡◌, ℕ, zero, suc, ◌+◌, ◌-◌, ◌≤◌, Bool, true, false, cond, not, ◌||◌, List, [], ◌∷◌, ◌++◌, length, take, drop, filter, refl, sym, ap, subst, ◌∙◌, append_assoc, if◌then◌else◌, true≢false, arith}
+use Rattle.std.proofs.Common.{◌≡◌, ℕ, zero, suc, ◌+◌, ◌-◌, ◌≤◌, Bool, true, false, cond, not, ◌||◌, List, [], ◌∷◌, ◌++◌, length}
+use Rattle.std.proofs.Common.{take, drop, filter, refl, sym, ap, subst, ◌∙◌, append_assoc, if◌then◌else◌, true≢false, arith}
 use Rattle.std.specs.Prelude.{reverse}
 use Rattle.std.specs.Cmp.{IsEquivalence}
 use Rattle.std.specs.List.{list_any, AllByRecursion, IsDistinct}
@@ -116,7 +117,8 @@ module _ {K : Type 0} {eq : K → K → Bool} (laws : IsEquivalence eq) where
   unfolding IsDistinct
   new-by [] keys absent d = sym (append-nil keys)
   new-by (key ∷ more) keys absent d =
-      ap (λ ks. queued_all eq ks more) (queued-new eq keys key absent.0) ∙ new-by more (keys ++ key ∷ []) (still-absent keys key more d.0 absent.1) d.1 ∙ append_assoc keys (key ∷ []) more
+      ap (λ ks. queued_all eq ks more) (queued-new eq keys key absent.0) ∙ new-by more (keys ++ key ∷ []) (still-absent keys key more d.0 absent.1) d.1
+      ∙ append_assoc keys (key ∷ []) more
 
   -- new keys go to the back as they are
   pub queued_all-new : (keys more : List K) → AreNew eq keys more → queued_all eq keys more ≡ keys ++ more
@@ -130,11 +132,13 @@ module _ {K : Type 0} {eq : K → K → Bool} (laws : IsEquivalence eq) where
 module _ {K : Type 0} where
   pub any_in_order : (test : K → Bool) (front back : List K) → list_any test (in_order front back) ≡ (list_any test front || list_any test back)
   any_in_order test front back =
-      list_any-append test (reverse front) back ∙ ap (λ b. b || list_any test back) (sym (list_any-IsPermutation test front (reverse front) (IsPermutation-reverse front)))
+      list_any-append test (reverse front) back
+      ∙ ap (λ b. b || list_any test back) (sym (list_any-IsPermutation test front (reverse front) (IsPermutation-reverse front)))
 
   filter-reverse : (p : K → Bool) (xs : List K) → filter p (reverse xs) ≡ reverse (filter p xs)
   filter-reverse p [] = refl
-  filter-reverse p (x ∷ xs) = ap (filter p) (reverse-append (x ∷ []) xs) ∙ filter-append p (reverse xs) (x ∷ []) ∙ ap (λ ks. ks ++ filter p (x ∷ [])) (filter-reverse p xs) ∙ by (p x)
+  filter-reverse p (x ∷ xs) =
+      ap (filter p) (reverse-append (x ∷ []) xs) ∙ filter-append p (reverse xs) (x ∷ []) ∙ ap (λ ks. ks ++ filter p (x ∷ [])) (filter-reverse p xs) ∙ by (p x)
     where
       by : (b : Bool) → reverse (filter p xs) ++ cond b (x ∷ []) [] ≡ reverse (cond b (x ∷ filter p xs) (filter p xs))
       by true = sym (reverse-append (x ∷ []) (filter p xs))
@@ -149,9 +153,11 @@ module _ {K : Type 0} (eq : K → K → Bool) where
   queued_in_front front back key there = queued-there eq (in_order front back) key (any_in_order (eq key) front back ∙ or_left _ _ there)
 
   -- another is queued in the set behind
-  pub queued_behind : (front back : List K) (key : K) → list_any (eq key) front ≡ false → queued eq (in_order front back) key ≡ in_order front (queued eq back key)
+  pub queued_behind : (front back : List K) (key : K) → list_any (eq key) front ≡ false
+      → queued eq (in_order front back) key ≡ in_order front (queued eq back key)
   queued_behind front back key absent =
-      ap (λ b. if b then in_order front back else in_order front back ++ key ∷ []) (any_in_order (eq key) front back ∙ or-false_left _ _ absent) ∙ by (list_any (eq key) back)
+      ap (λ b. if b then in_order front back else in_order front back ++ key ∷ []) (any_in_order (eq key) front back ∙ or-false_left _ _ absent)
+      ∙ by (list_any (eq key) back)
     where
       by : (b : Bool) → (if b then in_order front back else in_order front back ++ key ∷ []) ≡ in_order front (if b then back else back ++ key ∷ [])
       by true = refl
@@ -163,7 +169,8 @@ module _ {K : Type 0} {eq : K → K → Bool} (laws : IsEquivalence eq) where
   none-equal : (key x : K) (xs : List K) → eq key x ≡ true → AllByRecursion (λ y. eq x y ≡ false) xs → filter (λ k. not (eq key k)) xs ≡ xs
   none-equal key x [] same apart = refl
   none-equal key x (y ∷ xs) same apart =
-      ap (λ b. cond (not b) (y ∷ filter (λ k. not (eq key k)) xs) (filter (λ k. not (eq key k)) xs)) (laws.congr key x y same ∙ apart.0) ∙ ap (λ ks. y ∷ ks) (none-equal key x xs same apart.1)
+      ap (λ b. cond (not b) (y ∷ filter (λ k. not (eq key k)) xs) (filter (λ k. not (eq key k)) xs)) (laws.congr key x y same ∙ apart.0)
+      ∙ ap (λ ks. y ∷ ks) (none-equal key x xs same apart.1)
 
   -- of distinct keys one at most is equal to a key
   pub remove_key-filter : (key : K) (xs : List K) → AreDistinct eq xs → remove_key (eq key) xs ≡ filter (λ k. not (eq key k)) xs
@@ -181,7 +188,8 @@ module _ {K : Type 0} {eq : K → K → Bool} (laws : IsEquivalence eq) where
       → in_order (remove_key (eq key) front) (remove_key (eq key) back) ≡ filter (λ k. not (eq key k)) (in_order front back)
   removed_in_order key front back d =
       let p : K → Bool = λ k. not (eq key k) in
-      let first = IsDistinct-IsPermutation eq laws.symm (reverse front) front (IsPermutation-sym _ _ (IsPermutation-reverse front)) (distinct_left eq (reverse front) back d) in
+      let first = IsDistinct-IsPermutation eq laws.symm (reverse front) front (IsPermutation-sym _ _ (IsPermutation-reverse front))
+      (distinct_left eq (reverse front) back d) in
       ap (λ ks. in_order ks (remove_key (eq key) back)) (remove_key-filter key front first)
       ∙ ap (λ ks. in_order (filter p front) ks) (remove_key-filter key back (distinct_right eq (reverse front) back d))
       ∙ sym (filter-in_order p front back)
@@ -201,7 +209,8 @@ module _ {K : Type 0} where
       ap (in_order front) is ∙ sym (take-past (reverse front) back n (n - in_front) (omega arith))
 
 -- without the last of those at the front, which are in reverse, distinct keys are distinct
-pub distinct_rest : {K : Type 0} (eq : K → K → Bool) (rest last back : List K) → AreDistinct eq (in_order (rest ++ last) back) → AreDistinct eq (in_order rest back)
+pub distinct_rest : {K : Type 0} (eq : K → K → Bool) (rest last back : List K) → AreDistinct eq (in_order (rest ++ last) back)
+    → AreDistinct eq (in_order rest back)
 distinct_rest eq rest last back d =
     distinct_right eq (reverse last) (in_order rest back)
     (subst (AreDistinct eq) (ap (λ ks. ks ++ back) (reverse-append rest last) ∙ append_assoc (reverse last) (reverse rest) back) d)

@@ -1,5 +1,6 @@
 -- Keys by their numbers: one that came last, one that is taken out, and those that pass.
-use Rattle.std.proofs.Common.{◌≡◌, ℕ, ◌+◌, ◌<◌, ◌≤◌, Bool, true, false, cond, not, ◌||◌, List, [], ◌∷◌, ◌++◌, filter, Option, Some, None, is_some, Ordering, Less, Equal, Greater, is_eq, nat_lt, refl, sym, ap, ◌∙◌, arith}
+use Rattle.std.proofs.Common.{◌≡◌, ℕ, ◌+◌, ◌<◌, ◌≤◌, Bool, true, false, cond, not, ◌||◌, List, [], ◌∷◌, ◌++◌, filter, Option}
+use Rattle.std.proofs.Common.{Some, None, is_some, Ordering, Less, Equal, Greater, is_eq, nat_lt, refl, sym, ap, ◌∙◌, arith}
 use Rattle.std.specs.Cmp.{IsTotalOrder, Equal-is}
 use Rattle.std.specs.List.{AllByRecursion, list_any}
 use Rattle.std.specs.List.Sorted.{IsStrictlySortedBy}
@@ -60,12 +61,14 @@ module _ {K : Type 0} where
   placed-before e l [] lt = rw (is-below e.1 l.1 lt) refl
   placed-before e l (x ∷ es) lt = by (nat_lt e.1 x.1) (placed-before e l es lt)
     where
-      by : (b : Bool) → placed e (es ++ l ∷ []) ≡ placed e es ++ l ∷ [] → cond b (e ∷ x ∷ (es ++ l ∷ [])) (x ∷ placed e (es ++ l ∷ [])) ≡ cond b (e ∷ x ∷ es) (x ∷ placed e es) ++ l ∷ []
+      by : (b : Bool) → placed e (es ++ l ∷ []) ≡ placed e es ++ l ∷ []
+          → cond b (e ∷ x ∷ (es ++ l ∷ [])) (x ∷ placed e (es ++ l ∷ [])) ≡ cond b (e ∷ x ∷ es) (x ∷ placed e es) ++ l ∷ []
       by true rest = refl
       by false rest = ap (λ (more : List (K × ℕ)). x ∷ more) rest
 
   module _ (cmp : K → K → Ordering) (key : K) (n : ℕ) where
-    came-by : (r : Ordering) (e : K × ℕ) (es : List (K × ℕ)) → cond (is_eq r) (Some e.1) (lookup (is_at (cmp key)) es) ≡ None → AllByRecursion (λ x. x.1 < n) (e ∷ es)
+    came-by : (r : Ordering) (e : K × ℕ) (es : List (K × ℕ)) → cond (is_eq r) (Some e.1) (lookup (is_at (cmp key)) es) ≡ None
+        → AllByRecursion (λ x. x.1 < n) (e ∷ es)
         → (lookup (is_at (cmp key)) es ≡ None → by_number (insert_entry cmp es key n) ≡ by_number es ++ (key, n) ∷ [])
         → by_number (match_ordering r ((key, n) ∷ e ∷ es) ((e.0, n) ∷ es) (e ∷ insert_entry cmp es key n)) ≡ by_number (e ∷ es) ++ (key, n) ∷ []
     came-by Less e es none below ih = placed-end (key, n) (by_number (e ∷ es)) (all-by_number (λ x. x.1 < n) (e ∷ es) below)
@@ -73,11 +76,13 @@ module _ {K : Type 0} where
     came-by Greater e es none below ih = ap (placed e) (ih none) ∙ placed-before e (key, n) (by_number es) below.0
 
     -- a new key with the greatest number stands at the end
-    came : (es : List (K × ℕ)) → lookup (is_at (cmp key)) es ≡ None → AllByRecursion (λ x. x.1 < n) es → by_number (insert_entry cmp es key n) ≡ by_number es ++ (key, n) ∷ []
+    came : (es : List (K × ℕ)) → lookup (is_at (cmp key)) es ≡ None → AllByRecursion (λ x. x.1 < n) es
+        → by_number (insert_entry cmp es key n) ≡ by_number es ++ (key, n) ∷ []
     came [] none below = refl
     came (e ∷ es) none below = came-by (cmp key e.0) e es none below (λ absent. came es absent below.1)
 
-    within-by : (r : Ordering) (e : K × ℕ) (es : List (K × ℕ)) → AllByRecursion (λ x. x.1 < n) (e ∷ es) → AllByRecursion (λ x. x.1 < n + 1) (insert_entry cmp es key n)
+    within-by : (r : Ordering) (e : K × ℕ) (es : List (K × ℕ)) → AllByRecursion (λ x. x.1 < n) (e ∷ es)
+        → AllByRecursion (λ x. x.1 < n + 1) (insert_entry cmp es key n)
         → AllByRecursion (λ x. x.1 < n + 1) (match_ordering r ((key, n) ∷ e ∷ es) ((e.0, n) ∷ es) (e ∷ insert_entry cmp es key n))
     within-by Less e es below ih = (omega arith, all-mapped (λ x. x.1 < n) (λ x. x.1 < n + 1) (λ x lt. omega (arith, lt)) (e ∷ es) below)
     within-by Equal e es below ih = (omega arith, all-mapped (λ x. x.1 < n) (λ x. x.1 < n + 1) (λ x lt. omega (arith, lt)) es below.1)
@@ -136,7 +141,8 @@ module _ {K : Type 0} where
         by true is rest =
             let lt = was-below e.1 x.1 is in
             let above : AllByRecursion (λ y. e.1 < y.1) (x ∷ es) = (lt, all-mapped (λ y. x.1 ≤ y.1) (λ y. e.1 < y.1) (λ y le. omega (arith, lt, le)) es up.0) in
-            ap (λ (first : List (K × ℕ)). cond (p e) first (filter p (x ∷ es))) (sym (placed-first e (filter p (x ∷ es)) (all-filtered (λ y. e.1 < y.1) p (x ∷ es) above)))
+            ap (λ (first : List (K × ℕ)). cond (p e) first (filter p (x ∷ es)))
+            (sym (placed-first e (filter p (x ∷ es)) (all-filtered (λ y. e.1 < y.1) p (x ∷ es) above)))
         by false is rest = kept-by (p e) (p x) e x (filter p es) (filter p (placed e es)) is rest
 
     by_number-kept : (b : Bool) (e : K × ℕ) (es : List (K × ℕ)) → by_number (cond b (e ∷ es) es) ≡ cond b (placed e (by_number es)) (by_number es)
@@ -163,7 +169,8 @@ module _ {K : Type 0} where
   in_turn-kept q es = ap keys_of (sym (filter-by_number (λ e. q e.0) es)) ∙ sym (filter-keys q (by_number es))
 
   -- ---- an entry that is taken out
-  none-is : (key : K) (cmp : K → K → Ordering) (es : List (K × ℕ)) → AllByRecursion (λ k. cmp key k ≡ Less) (keys_of es) → filter (λ e. not (is_at (cmp key) e.0)) es ≡ es
+  none-is : (key : K) (cmp : K → K → Ordering) (es : List (K × ℕ)) → AllByRecursion (λ k. cmp key k ≡ Less) (keys_of es)
+      → filter (λ e. not (is_at (cmp key) e.0)) es ≡ es
   none-is key cmp [] above = refl
   none-is key cmp (e ∷ es) above = rw above.0 (ap (λ (rest : List (K × ℕ)). e ∷ rest) (none-is key cmp es above.1))
 
@@ -174,7 +181,8 @@ module _ {K : Type 0} where
 
     taken-by : (b : Bool) (e : K × ℕ) (es : List (K × ℕ)) → is_at (cmp key) e.0 ≡ b → AllByRecursion (λ y. cmp e.0 y ≡ Less) (keys_of es)
         → remove_entry (is_at (cmp key)) es ≡ filter (λ x. not (is_at (cmp key) x.0)) es
-        → cond b es (e ∷ remove_entry (is_at (cmp key)) es) ≡ cond (not b) (e ∷ filter (λ x. not (is_at (cmp key) x.0)) es) (filter (λ x. not (is_at (cmp key) x.0)) es)
+        → cond b es (e ∷ remove_entry (is_at (cmp key)) es)
+        ≡ cond (not b) (e ∷ filter (λ x. not (is_at (cmp key) x.0)) es) (filter (λ x. not (is_at (cmp key) x.0)) es)
     taken-by true e es is above ih = sym (none-is key cmp es (above-as e.0 (keys_of es) ((Equal-is (cmp key e.0)).0 is) above))
     taken-by false e es is above ih = ap (λ (rest : List (K × ℕ)). e ∷ rest) ih
 
@@ -183,7 +191,8 @@ module _ {K : Type 0} where
     taken [] up = refl
     taken (e ∷ es) up = taken-by (is_at (cmp key) e.0) e es refl up.0 (taken es up.1)
 
-    pub in_turn-taken : (es : List (K × ℕ)) → IsStrictlySortedBy cmp (keys_of es) → in_turn (remove_entry (is_at (cmp key)) es) ≡ filter (λ k. not (is_at (cmp key) k)) (in_turn es)
+    pub in_turn-taken : (es : List (K × ℕ)) → IsStrictlySortedBy cmp (keys_of es)
+        → in_turn (remove_entry (is_at (cmp key)) es) ≡ filter (λ k. not (is_at (cmp key) k)) (in_turn es)
     in_turn-taken es up = ap in_turn (taken es up) ∙ in_turn-kept (λ k. not (is_at (cmp key) k)) es
 
   pub within-kept : (n : ℕ) (p : K × ℕ → Bool) (es : List (K × ℕ)) → AllByRecursion (λ x. x.1 < n) es → AllByRecursion (λ x. x.1 < n) (filter p es)
@@ -208,7 +217,8 @@ module _ {K : Type 0} where
     any-placed e [] = refl
     any-placed e (x ∷ es) = by (nat_lt e.1 x.1) (any-placed e es)
       where
-        by : (b : Bool) → list_any test (keys_of (placed e es)) ≡ (test e.0 || list_any test (keys_of es)) → list_any test (keys_of (cond b (e ∷ x ∷ es) (x ∷ placed e es))) ≡ (test e.0 || list_any test (keys_of (x ∷ es)))
+        by : (b : Bool) → list_any test (keys_of (placed e es)) ≡ (test e.0 || list_any test (keys_of es))
+            → list_any test (keys_of (cond b (e ∷ x ∷ es) (x ∷ placed e es))) ≡ (test e.0 || list_any test (keys_of (x ∷ es)))
         by true rest = refl
         by false rest = ap (λ (more : Bool). test x.0 || more) rest ∙ either (test x.0) (test e.0) (list_any test (keys_of es))
 

@@ -1,5 +1,6 @@
 -- Reading the parts of a list of addresses one after the other, as a loop does.
-use Rattle.std.proofs.Common.{◌≡◌, ℕ, suc, ◌+◌, ◌≤◌, ◌<◌, List, [], ◌∷◌, ◌++◌, length, drop, get_or, map, Option, Some, None, Ok, Err, Bor, refl, sym, ap, ◌∙◌, append_assoc, drop-cons, add-one, option_map}
+use Rattle.std.proofs.Common.{◌≡◌, ℕ, suc, ◌+◌, ◌≤◌, ◌<◌, List, [], ◌∷◌, ◌++◌, length, drop, get_or, map, Option, Some}
+use Rattle.std.proofs.Common.{None, Ok, Err, Bor, refl, sym, ap, ◌∙◌, append_assoc, drop-cons, add-one, option_map}
 use Rattle.std.proofs.lemmas.List.{append-nil, drop_all}
 use Rattle.ip_ranges.specs.declared.fault.RangeFault.{RangeFault}
 use Rattle.ip_ranges.specs.Values.{AddressValue}
@@ -18,11 +19,13 @@ with_front front read = option_map (λ addresses. front ++ addresses) read
 abbrev pub parts_after : ℕ → Parts → List (List ℕ)
 parts_after index parts = map (λ part. part.now) (drop index parts)
 
-regroup : (front : List AddressValue) (address : AddressValue) (read : Option (List AddressValue)) → with_front front (option_map (λ addresses. address ∷ addresses) read) ≡ with_front (front ++ address ∷ []) read
+regroup : (front : List AddressValue) (address : AddressValue) (read : Option (List AddressValue))
+    → with_front front (option_map (λ addresses. address ∷ addresses) read) ≡ with_front (front ++ address ∷ []) read
 regroup front address (Some addresses) = ap (λ (l : List AddressValue). Some l) (simp append_assoc)
 regroup front address None = refl
 
-opened : (index : ℕ) (parts : Parts) (part : Bor (List ℕ)) → index < length parts → part ≡ get_or parts index part → parts_after index parts ≡ part.now ∷ parts_after (index + 1) parts
+opened : (index : ℕ) (parts : Parts) (part : Bor (List ℕ)) → index < length parts → part ≡ get_or parts index part
+    → parts_after index parts ≡ part.now ∷ parts_after (index + 1) parts
 opened index parts part lt at =
     let cut : drop index parts ≡ get_or parts index part ∷ drop (suc index) parts = drop-cons parts index part lt in
     rw (add-one, cut, ← at) refl
@@ -33,7 +36,9 @@ pub goes_on : (front : List AddressValue) (index : ℕ) (parts : Parts) (part : 
     → with_front (front ++ address ∷ []) (spelled_all (parts_after (index + 1) parts)) ≡ total
 goes_on front index parts part address total lt at read so_far =
     sym (regroup front address (spelled_all (parts_after (index + 1) parts)))
-    ∙ (let one : with_front front (spelled_all (parts_after index parts)) ≡ with_front front (option_map (λ addresses. address ∷ addresses) (spelled_all (parts_after (index + 1) parts))) = rw (opened index parts part lt at, read) refl in sym one)
+    ∙ (let one : with_front front (spelled_all (parts_after index parts))
+    ≡ with_front front (option_map (λ addresses. address ∷ addresses) (spelled_all (parts_after (index + 1) parts))) =
+    rw (opened index parts part lt at, read) refl in sym one)
     ∙ so_far
 
 pub ends : (front : List AddressValue) (index : ℕ) (parts : Parts) (part : Bor (List ℕ)) (fault : RangeFault) (total : Option (List AddressValue))

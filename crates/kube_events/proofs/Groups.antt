@@ -4,8 +4,10 @@ use Rattle.serde_json.specs.Data.{Data}
 use Rattle.json_fields.specs.Path.{Path}
 use Rattle.json_fields.specs.Reading.{◌>>=◌}
 use Rattle.kube_events.specs.Fields.{pools_field, pool_selectors_field, node_selectors_field}
-use Rattle.kube_events.specs.BgpFields.{length_field, length_v6_field, local_pref_field, communities_field, peers_field, bgp_of, route_spec_of, choice_spec_of, bgp_with}
-use Rattle.kube_events.specs.ServiceFields.{annotations_field, balancer_field, class_field, address_field, families_field, prefer_dual_field, policy_field, selector_field, ports_field, places_field, service_of, notes_of, request_of, traffic_of, recorded_of, service_with}
+use Rattle.kube_events.specs.BgpFields.{length_field, length_v6_field, local_pref_field, communities_field}
+use Rattle.kube_events.specs.BgpFields.{peers_field, bgp_of, route_spec_of, choice_spec_of, bgp_with}
+use Rattle.kube_events.specs.ServiceFields.{annotations_field, balancer_field, class_field, address_field, families_field, prefer_dual_field, policy_field}
+use Rattle.kube_events.specs.ServiceFields.{selector_field, ports_field, places_field, service_of, notes_of, request_of, traffic_of, recorded_of, service_with}
 use Rattle.kube_events.specs.Wanted.{wanted_of}
 
 in_group : {A B C : Type 0} (first : Result A Path) (then : A → Result B Path) (next : B → Result C Path)
@@ -28,25 +30,32 @@ group_of_three : {A B C D E : Type 0} (first : Result A Path) (second : Result B
 group_of_three (Ok a) second third make next = group_of_two second third (make a) next
 group_of_three (Err path) second third make next = refl
 
-group_of_four : {A B C D E F : Type 0} (first : Result A Path) (second : Result B Path) (third : Result C Path) (fourth : Result D Path) (make : A → B → C → D → E) (next : E → Result F Path)
-    → ((first >>= λ a. second >>= λ b. third >>= λ c. fourth >>= λ d. Ok (make a b c d)) >>= next) ≡ (first >>= λ a. second >>= λ b. third >>= λ c. fourth >>= λ d. next (make a b c d))
+group_of_four : {A B C D E F : Type 0} (first : Result A Path) (second : Result B Path) (third : Result C Path) (fourth : Result D Path)
+    (make : A → B → C → D → E) (next : E → Result F Path)
+    → ((first >>= λ a. second >>= λ b. third >>= λ c. fourth >>= λ d. Ok (make a b c d)) >>= next)
+    ≡ (first >>= λ a. second >>= λ b. third >>= λ c. fourth >>= λ d. next (make a b c d))
 group_of_four (Ok a) second third fourth make next = group_of_three second third fourth (make a) next
 group_of_four (Err path) second third fourth make next = refl
 
-group_of_five : {A B C D E F G : Type 0} (first : Result A Path) (second : Result B Path) (third : Result C Path) (fourth : Result D Path) (fifth : Result E Path) (make : A → B → C → D → E → F) (next : F → Result G Path)
-    → ((first >>= λ a. second >>= λ b. third >>= λ c. fourth >>= λ d. fifth >>= λ e. Ok (make a b c d e)) >>= next) ≡ (first >>= λ a. second >>= λ b. third >>= λ c. fourth >>= λ d. fifth >>= λ e. next (make a b c d e))
+group_of_five : {A B C D E F G : Type 0} (first : Result A Path) (second : Result B Path) (third : Result C Path) (fourth : Result D Path)
+    (fifth : Result E Path) (make : A → B → C → D → E → F) (next : F → Result G Path)
+    → ((first >>= λ a. second >>= λ b. third >>= λ c. fourth >>= λ d. fifth >>= λ e. Ok (make a b c d e)) >>= next)
+    ≡ (first >>= λ a. second >>= λ b. third >>= λ c. fourth >>= λ d. fifth >>= λ e. next (make a b c d e))
 group_of_five (Ok a) second third fourth fifth make next = group_of_four second third fourth fifth (make a) next
 group_of_five (Err path) second third fourth fifth make next = refl
 
-pub bgp_grouped : (d : Data) → (route_spec_of d >>= λ route. choice_spec_of d >>= λ choice. Ok (bgp_with (record { route = route; choice = choice }))) ≡ bgp_of d
+pub bgp_grouped : (d : Data) → (route_spec_of d >>= λ route. choice_spec_of d >>= λ choice. Ok (bgp_with (record { route = route; choice = choice })))
+    ≡ bgp_of d
 unfolding bgp_of route_spec_of choice_spec_of
 bgp_grouped d =
-    group_of_four (length_field d) (length_v6_field d) (local_pref_field d) (communities_field d) (λ length length_v6 local_pref communities. record { length = length; length_v6 = length_v6; local_pref = local_pref; communities = communities }) _
+    group_of_four (length_field d) (length_v6_field d) (local_pref_field d) (communities_field d)
+    (λ length length_v6 local_pref communities. record { length = length; length_v6 = length_v6; local_pref = local_pref; communities = communities }) _
     ∙ same_then (length_field d) _ _ (λ length.
     same_then (length_v6_field d) _ _ (λ length_v6.
     same_then (local_pref_field d) _ _ (λ local_pref.
     same_then (communities_field d) _ _ (λ communities.
-    group_of_four (pools_field d) (pool_selectors_field d) (node_selectors_field d) (peers_field d) (λ pools pool_selectors node_selectors peers. record { pools = pools; pool_selectors = pool_selectors; node_selectors = node_selectors; peers = peers }) _))))
+    group_of_four (pools_field d) (pool_selectors_field d) (node_selectors_field d) (peers_field d) (λ pools pool_selectors node_selectors peers.
+    record { pools = pools; pool_selectors = pool_selectors; node_selectors = node_selectors; peers = peers }) _))))
 
 pub service_grouped : (d : Data)
     → (notes_of d >>= λ notes. request_of d >>= λ request. traffic_of d >>= λ traffic. recorded_of d >>= λ addresses. Ok (service_with (record {
@@ -62,11 +71,13 @@ unfolding service_of notes_of request_of traffic_of recorded_of
 service_grouped d =
     in_group (annotations_field d) _ _
     ∙ same_then (annotations_field d) _ _ (λ annotations.
-    group_of_three (balancer_field d) (class_field d) (address_field d) (λ balancer class address. record { balancer = balancer; class = class; address = address }) _
+    group_of_three (balancer_field d) (class_field d) (address_field d)
+    (λ balancer class address. record { balancer = balancer; class = class; address = address }) _
     ∙ same_then (balancer_field d) _ _ (λ balancer.
     same_then (class_field d) _ _ (λ class.
     same_then (address_field d) _ _ (λ address.
-    group_of_five (families_field d) (prefer_dual_field d) (policy_field d) (selector_field d) (ports_field d) (λ families prefer_dual policy selector ports. record { families = families; prefer_dual = prefer_dual; policy = policy; selector = selector; ports = ports }) _
+    group_of_five (families_field d) (prefer_dual_field d) (policy_field d) (selector_field d) (ports_field d) (λ families prefer_dual policy selector ports.
+    record { families = families; prefer_dual = prefer_dual; policy = policy; selector = selector; ports = ports }) _
     ∙ same_then (families_field d) _ _ (λ families.
     same_then (prefer_dual_field d) _ _ (λ prefer_dual.
     same_then (policy_field d) _ _ (λ policy.

@@ -36,7 +36,17 @@ bgp_of d = do
   pool_selectors ← pool_selectors_field d
   node_selectors ← node_selectors_field d
   peers ← peers_field d
-  Ok (λ key. record { name = key.name; length = length; length_v6 = length_v6; local_pref = local_pref; communities = communities; pools = pools; pool_selectors = pool_selectors; node_selectors = node_selectors; peers = peers })
+  Ok (λ key. record {
+    name = key.name;
+    length = length;
+    length_v6 = length_v6;
+    local_pref = local_pref;
+    communities = communities;
+    pools = pools;
+    pool_selectors = pool_selectors;
+    node_selectors = node_selectors;
+    peers = peers;
+  })
 
 -- ---- the same in two parts, as they are read
 
@@ -57,4 +67,15 @@ choice_spec_of d = do
   Ok (record { pools = pools; pool_selectors = pool_selectors; node_selectors = node_selectors; peers = peers })
 
 abbrev pub bgp_with : BgpSpec → Key → BgpAdv
-bgp_with s key = record { name = key.name; length = s.route.length; length_v6 = s.route.length_v6; local_pref = s.route.local_pref; communities = s.route.communities; pools = s.choice.pools; pool_selectors = s.choice.pool_selectors; node_selectors = s.choice.node_selectors; peers = s.choice.peers }
+bgp_with s key = record {
+  name = key.name;
+  length = s.route.length;
+  length_v6 = s.route.length_v6;
+  local_pref = s.route.local_pref;
+  communities =
+      s.route.communities;
+  pools = s.choice.pools;
+  pool_selectors = s.choice.pool_selectors;
+  node_selectors = s.choice.node_selectors;
+  peers = s.choice.peers;
+}

@@ -58,7 +58,8 @@ text_in name d = option_and_then as_str (get name d)
 
 -- the annotation that says whether a list ends (Kubernetes, WatchList), where it is a text
 abbrev pub end_annotation : Data → Option (List ℕ)
-end_annotation d = option_and_then as_str (option_and_then (get (codes "k8s.io/initial-events-end")) (option_and_then (get (codes "annotations")) (get (codes "metadata") d)))
+end_annotation d =
+    option_and_then as_str (option_and_then (get (codes "k8s.io/initial-events-end")) (option_and_then (get (codes "annotations")) (get (codes "metadata") d)))
 
 -- A bookmark ends a list where that annotation is true.
 unfoldable pub ends_list : Data → Bool

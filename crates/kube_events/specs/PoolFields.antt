@@ -29,9 +29,11 @@ pool_of d = do
   auto_assign ← auto_assign_field d
   avoid_buggy ← avoid_buggy_field d
   allocation ← allocation_field d
-  Ok (λ key labels. record { name = key.name; labels = labels; entries = entries; auto_assign = auto_assign; avoid_buggy = avoid_buggy; allocation = allocation })
+  Ok (λ key labels.
+      record { name = key.name; labels = labels; entries = entries; auto_assign = auto_assign; avoid_buggy = avoid_buggy; allocation = allocation })
 
 -- ---- as it is read
 
 abbrev pub pool_with : PoolSpec → Key → Pairs → Pool
-pool_with s key labels = record { name = key.name; labels = labels; entries = s.entries; auto_assign = s.auto_assign; avoid_buggy = s.avoid_buggy; allocation = s.allocation }
+pool_with s key labels =
+    record { name = key.name; labels = labels; entries = s.entries; auto_assign = s.auto_assign; avoid_buggy = s.avoid_buggy; allocation = s.allocation }

@@ -11,7 +11,8 @@ use Rattle.kube_model.specs.declared.service.Wanted.TheVariants.{NotAsked, Unrea
 -- the addresses that the parts spell, blanks round them dropped, if each of them spells one
 abbrev pub spelled_all : List (List ℕ) → Option (List AddressValue)
 spelled_all [] = Some []
-spelled_all (part ∷ parts) = option_and_then (λ address. option_map (λ addresses. address ∷ addresses) (spelled_all parts)) (result_ok (address_of (trimmed part)))
+spelled_all (part ∷ parts) =
+    option_and_then (λ address. option_map (λ addresses. address ∷ addresses) (spelled_all parts)) (result_ok (address_of (trimmed part)))
 
 abbrev pub asked_of : Option (List AddressValue) → Wanted
 asked_of (Some addresses) = Asked addresses

@@ -2,7 +2,8 @@
 ghost use Rattle.std.specs.Prelude.{◌≡◌, IfOk};
 ghost use Rattle.serde_json.specs.View.{view};
 ghost use Rattle.json_fields.specs.Reading.{Gives};
-ghost use Rattle.kube_events.specs.ServiceFields.{families_at, notes_in, notes_of, request_of, traffic_of, ingress_of, addresses_in, recorded_of, service_of, service_with};
+ghost use Rattle.kube_events.specs.ServiceFields.{families_at, notes_in, notes_of, request_of, traffic_of};
+ghost use Rattle.kube_events.specs.ServiceFields.{ingress_of, addresses_in, recorded_of, service_of, service_with};
 
 use crate::fields::pair_value;
 use crate::named::{NamedFamily, SpelledAddress};

@@ -33,7 +33,8 @@ Contains-from_listed values value h =
     subst P e (a.0, a.2, a.3)
 
 listed_from_Contains : (values : List (List ℕ)) (value : List ℕ) → Contains values value → list_any (λ listed. bytes_eq listed value) values ≡ true
-listed_from_Contains values value there = list_any-from_Any (λ listed. bytes_eq listed value) values (there.0, value, there.1, there.2, (bytes_eq-Decides value value).1 refl)
+listed_from_Contains values value there =
+    list_any-from_Any (λ listed. bytes_eq listed value) values (there.0, value, there.1, there.2, (bytes_eq-Decides value value).1 refl)
 
 listed_value : (values : List (List ℕ)) (o : Option (List ℕ)) → is_listed values o ≡ true → (value : List ℕ) × Contains values value × (o ≡ Some value)
 listed_value values None h = absurd (cc)
@@ -53,13 +54,16 @@ name-Decides pairs ascending name = (
   λ there. let e : value_of name pairs ≡ Some there.0 = value_of-from_Contains name there.0 pairs ascending there.1 in rw e refl,
 )
 
-listed-Decides : (pairs : List (List ℕ × List ℕ)) → IsAscending pairs → (key : List ℕ) (values : List (List ℕ)) → Decides (is_listed values (value_of key pairs)) (HasListed pairs key values)
+listed-Decides : (pairs : List (List ℕ × List ℕ)) → IsAscending pairs → (key : List ℕ) (values : List (List ℕ))
+    → Decides (is_listed values (value_of key pairs)) (HasListed pairs key values)
 listed-Decides pairs ascending key values = (
   λ h. let v = listed_value values (value_of key pairs) h in (v.0, v.1, Contains-from_value_of key v.0 pairs v.2),
-  λ there. let e : value_of key pairs ≡ Some there.0 = value_of-from_Contains key there.0 pairs ascending there.2 in rw e (listed_from_Contains values there.0 there.1),
+  λ there. let e : value_of key pairs ≡ Some there.0 = value_of-from_Contains key there.0 pairs ascending there.2 in
+      rw e (listed_from_Contains values there.0 there.1),
 )
 
-holds_under-Decides : (o : Option Operator) (pairs : List (List ℕ × List ℕ)) → IsAscending pairs → (key : List ℕ) (values : List (List ℕ)) → Decides (holds_under o values (value_of key pairs)) (HoldsUnder o pairs key values)
+holds_under-Decides : (o : Option Operator) (pairs : List (List ℕ × List ℕ)) → IsAscending pairs → (key : List ℕ) (values : List (List ℕ))
+    → Decides (holds_under o values (value_of key pairs)) (HoldsUnder o pairs key values)
 holds_under-Decides None pairs ascending key values = (λ h. cc, λ h. absurd h)
 holds_under-Decides (Some In) pairs ascending key values = listed-Decides pairs ascending key values
 holds_under-Decides (Some NotIn) pairs ascending key values = Decides-not _ (listed-Decides pairs ascending key values)
@@ -71,7 +75,8 @@ pub holds_of-Decides : (pairs : List (List ℕ × List ℕ)) → IsAscending pai
 holds_of-Decides pairs ascending e = holds_under-Decides (operator_named e.operator) pairs ascending e.key e.values
 
 -- the test of a selector decides whether it matches
-pub matches-Decides : (selector : SelectorValue) (pairs : List (List ℕ × List ℕ)) → IsAscending pairs → Decides (matches selector pairs) (Matches selector pairs)
+pub matches-Decides : (selector : SelectorValue) (pairs : List (List ℕ × List ℕ)) → IsAscending pairs
+    → Decides (matches selector pairs) (Matches selector pairs)
 matches-Decides selector pairs ascending =
     Decides-and _ _
     (Decides-by_and (has_pair pairs) (Contains pairs) (list_all (has_pair pairs)) (has_pair-Decides pairs ascending) refl (λ _ _. refl) selector.pairs)

@@ -36,7 +36,8 @@ pub Contains-from_value_of : (name value : List ℕ) (pairs : Pairs) → value_o
 Contains-from_value_of name value pairs found = Contains-from_lookup (tells_apart exact_bytes) name value pairs found
 
 pub value_of-from_Contains : (name value : List ℕ) (pairs : Pairs) → IsAscending pairs → Contains pairs (name, value) → value_of name pairs ≡ Some value
-value_of-from_Contains name value pairs ascending there = lookup-from_Contains (eq_by_cmp_equiv nat_list_cmp_total) name value pairs (IsDistinct-from_sorted name_cmp _ ascending) there
+value_of-from_Contains name value pairs ascending there =
+    lookup-from_Contains (eq_by_cmp_equiv nat_list_cmp_total) name value pairs (IsDistinct-from_sorted name_cmp _ ascending) there
 
 -- ---- equal pairs
 

@@ -22,7 +22,8 @@ use Rattle.ip_ranges.proofs.BytesLemmas.{AreBytes-high_first, segments_fit, octe
 use Rattle.ip_ranges.proofs.SpelledLemmas.{spelled_v4, spelled_v6}
 use Rattle.kube_model.specs.declared.config_fault.ConfigFault.{ConfigFault}
 use Rattle.kube_model.specs.LineWords.{cause_text, kind_text}
-use Rattle.kube_lines.specs.Apart.{IsLineOf, LinesAreRead, accepted_pairs, announce_pairs, is_plain, members_of, refused_pairs, send_pairs, texts_object, update_pairs, withdraw_pairs}
+use Rattle.kube_lines.specs.Apart.{IsLineOf, LinesAreRead, accepted_pairs, announce_pairs, is_plain, members_of}
+use Rattle.kube_lines.specs.Apart.{refused_pairs, send_pairs, texts_object, update_pairs, withdraw_pairs}
 use Rattle.kube_lines.specs.OutputLines.{accepted_text, refused_text, announce_text, withdraw_text, send_text, update_text}
 
 -- ---- no line end stands in a line
@@ -95,8 +96,10 @@ lines-read = record {
       (refused-prints fault);
   announce = λ a. read-back (announce_text a) (announce_pairs a) (quoted-plain (canonical_text a) _ refl) (announce-prints a);
   withdraw = λ a. read-back (withdraw_text a) (withdraw_pairs a) (quoted-plain (canonical_text a) _ refl) (withdraw-prints a);
-  send = λ interface bytes. read-back (send_text interface bytes) (send_pairs interface bytes) (quoted-plain (encode_lower bytes) _ (quoted-plain interface _ refl)) (send-prints interface bytes);
-  update = λ peer bytes. read-back (update_text peer bytes) (update_pairs peer bytes) (quoted-plain (encode_lower bytes) _ (quoted-plain peer _ refl)) (update-prints peer bytes);
+  send = λ interface bytes. read-back (send_text interface bytes) (send_pairs interface bytes)
+      (quoted-plain (encode_lower bytes) _ (quoted-plain interface _ refl)) (send-prints interface bytes);
+  update = λ peer bytes.
+      read-back (update_text peer bytes) (update_pairs peer bytes) (quoted-plain (encode_lower bytes) _ (quoted-plain peer _ refl)) (update-prints peer bytes);
 }
 
 -- ---- an address is read off its text
@@ -109,7 +112,8 @@ spelled-in V6 n fits =
     let bytes = to_be_bytes w128 n in
     let fit = AreBytes-high_first 16 n in
     spelled_v6 (text_in V6 n) (segments_of bytes) (IsColonHex-hex_groups_text (segments_of bytes) refl (segments_fit bytes fit))
-    ∙ ap (λ (m : ℕ). Some (record { family = V6; number = m })) (ap (from_be_bytes w128) (octets_of-segments_of bytes fit refl) ∙ from_be_bytes-to_be_bytes_16 n fits)
+    ∙ ap (λ (m : ℕ). Some (record { family = V6; number = m }))
+    (ap (from_be_bytes w128) (octets_of-segments_of bytes fit refl) ∙ from_be_bytes-to_be_bytes_16 n fits)
 
 some-is : (a b : AddressValue) → Some a ≡ Some b → a ≡ b
 some-is a b e = cc
@@ -121,11 +125,13 @@ one-address a b fits fits' same =
 
 -- ---- lines that say other things are other lines
 -- equal lines say the same
-same-said : (one other : List ℕ) (pairs others : List (List ℕ × List ℕ)) → IsLineOf one pairs → IsLineOf other others → one ≡ other → texts_object pairs ≡ texts_object others
+same-said : (one other : List ℕ) (pairs others : List (List ℕ × List ℕ)) → IsLineOf one pairs → IsLineOf other others → one ≡ other
+    → texts_object pairs ≡ texts_object others
 same-said one other pairs others a b is = sym a.reads ∙ ap tokens is ∙ b.reads
 
 address-said : (a b : AddressValue) (op : List ℕ)
-    → texts_object ((codes "address", canonical_text a) ∷ (codes "op", op) ∷ []) ≡ texts_object ((codes "address", canonical_text b) ∷ (codes "op", op) ∷ []) → canonical_text a ≡ canonical_text b
+    → texts_object ((codes "address", canonical_text a) ∷ (codes "op", op) ∷ []) ≡ texts_object ((codes "address", canonical_text b) ∷ (codes "op", op) ∷ [])
+    → canonical_text a ≡ canonical_text b
 address-said a b op e = cc
 
 pub one-announced : (a b : AddressValue) → IsOfFamily a → IsOfFamily b → announce_text a ≡ announce_text b → a ≡ b
@@ -165,7 +171,8 @@ first-of (t ∷ ts) = byte_of t
 
 pub announced-withdrawn : (a b : AddressValue) → announce_text a ≡ withdraw_text b → ⊥
 announced-withdrawn a b is =
-    let e : 97 ≡ 119 = ap (λ (ts : List Token). first-of (tail (tail (tail (tail ts))))) (same-said (announce_text a) (withdraw_text b) (announce_pairs a) (withdraw_pairs b) (lines-read.announce a) (lines-read.withdraw b) is) in
+    let e : 97 ≡ 119 = ap (λ (ts : List Token). first-of (tail (tail (tail (tail ts)))))
+    (same-said (announce_text a) (withdraw_text b) (announce_pairs a) (withdraw_pairs b) (lines-read.announce a) (lines-read.withdraw b) is) in
     omega (arith, e)
 
 -- the first letter of the first member's name
@@ -207,7 +214,8 @@ updated-withdrawn peer bytes a is = let e : 98 ≡ 97 = ap letter is in omega (a
 
 pub sent-updated : (interface frame peer bytes : List ℕ) → send_text interface frame ≡ update_text peer bytes → ⊥
 sent-updated interface frame peer bytes is =
-    let e : 105 ≡ 111 = ap (λ (ts : List Token). first-of (tail (tail (tail ts)))) (same-said (send_text interface frame) (update_text peer bytes) (send_pairs interface frame) (update_pairs peer bytes)
+    let e : 105 ≡ 111 = ap (λ (ts : List Token). first-of (tail (tail (tail ts))))
+    (same-said (send_text interface frame) (update_text peer bytes) (send_pairs interface frame) (update_pairs peer bytes)
     (lines-read.send interface frame) (lines-read.update peer bytes) is) in
     omega (arith, e)
 
@@ -217,4 +225,5 @@ peers-said peer bytes other message e = cc
 pub one-updated : (peer bytes other message : List ℕ) → update_text peer bytes ≡ update_text other message → peer ≡ other
 one-updated peer bytes other message is =
     peers-said peer bytes other message
-    (same-said (update_text peer bytes) (update_text other message) (update_pairs peer bytes) (update_pairs other message) (lines-read.update peer bytes) (lines-read.update other message) is)
+    (same-said (update_text peer bytes) (update_text other message) (update_pairs peer bytes) (update_pairs other message) (lines-read.update peer bytes)
+    (lines-read.update other message) is)

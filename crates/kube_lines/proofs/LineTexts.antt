@@ -10,20 +10,25 @@ use Rattle.kube_model.specs.declared.put.Put.{Put}
 use Rattle.kube_model.specs.declared.reason.Reason.{Reason}
 use Rattle.kube_model.specs.declared.config_fault.ConfigFault.{ConfigFault}
 use Rattle.kube_model.specs.declared.status.LaneName.{LaneName}
-use Rattle.kube_lines.specs.OutputLines.{quoted_texts, address_strings, put_text, put_data, pending_text, pending_data, refused_text, refused_data, took_text, took_data, address_data, announce_text, withdraw_text, send_text, send_data, update_text, update_data, record_text, record_data, trial_text, trial_data}
+use Rattle.kube_lines.specs.OutputLines.{quoted_texts, address_strings, put_text, put_data, pending_text, pending_data, refused_text}
+use Rattle.kube_lines.specs.OutputLines.{refused_data, took_text, took_data, address_data, announce_text, withdraw_text, send_text}
+use Rattle.kube_lines.specs.OutputLines.{send_data, update_text, update_data, record_text, record_data, trial_text, trial_data}
 
 no_float : (addresses : List AddressValue) → items_have_float (address_strings addresses) ≡ false
 no_float [] = refl
 no_float (address ∷ addresses) = no_float addresses
 
-later : (address : AddressValue) (addresses : List AddressValue) → items_text true (address_strings (address ∷ addresses)) ≡ 44 ∷ (quoted_texts (map canonical_text (address ∷ addresses)) ++ 93 ∷ [])
+later : (address : AddressValue) (addresses : List AddressValue)
+    → items_text true (address_strings (address ∷ addresses)) ≡ 44 ∷ (quoted_texts (map canonical_text (address ∷ addresses)) ++ 93 ∷ [])
 later address [] = refl
-later address (next ∷ addresses) = ap (λ (rest : List ℕ). 44 ∷ (quoted (canonical_text address) ++ rest)) (later next addresses) ∙ ap (λ (rest : List ℕ). 44 ∷ rest) (sym (append_assoc (quoted (canonical_text address)) (44 ∷ quoted_texts (map canonical_text (next ∷ addresses))) (93 ∷ [])))
+later address (next ∷ addresses) = ap (λ (rest : List ℕ). 44 ∷ (quoted (canonical_text address) ++ rest)) (later next addresses) ∙ ap
+    (λ (rest : List ℕ). 44 ∷ rest) (sym (append_assoc (quoted (canonical_text address)) (44 ∷ quoted_texts (map canonical_text (next ∷ addresses))) (93 ∷ [])))
 
 pub items_text-strings : (addresses : List AddressValue) → items_text false (address_strings addresses) ≡ quoted_texts (map canonical_text addresses) ++ 93 ∷ []
 items_text-strings [] = refl
 items_text-strings (address ∷ []) = refl
-items_text-strings (address ∷ next ∷ addresses) = ap (λ (rest : List ℕ). quoted (canonical_text address) ++ rest) (later next addresses) ∙ sym (append_assoc (quoted (canonical_text address)) (44 ∷ quoted_texts (map canonical_text (next ∷ addresses))) (93 ∷ []))
+items_text-strings (address ∷ next ∷ addresses) = ap (λ (rest : List ℕ). quoted (canonical_text address) ++ rest) (later next addresses)
+    ∙ sym (append_assoc (quoted (canonical_text address)) (44 ∷ quoted_texts (map canonical_text (next ∷ addresses))) (93 ∷ []))
 
 pub put_has_float : (put : Put) → has_float (put_data put) ≡ false
 put_has_float put = rw (no_float put.holding.addresses) refl

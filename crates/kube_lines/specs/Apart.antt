@@ -26,7 +26,8 @@ abbrev pub accepted_pairs : List (List ℕ × List ℕ)
 accepted_pairs = (codes "op", codes "config") ∷ (codes "result", codes "accepted") ∷ []
 
 abbrev pub refused_pairs : ConfigFault → List (List ℕ × List ℕ)
-refused_pairs fault = (codes "fault", cause_text fault.cause) ∷ (codes "kind", kind_text fault.kind) ∷ (codes "name", fault.name) ∷ (codes "op", codes "config") ∷ (codes "result", codes "refused") ∷ []
+refused_pairs fault = (codes "fault", cause_text fault.cause) ∷ (codes "kind", kind_text fault.kind) ∷ (codes "name", fault.name) ∷ (codes "op", codes "config")
+    ∷ (codes "result", codes "refused") ∷ []
 
 abbrev pub announce_pairs : AddressValue → List (List ℕ × List ℕ)
 announce_pairs a = (codes "address", canonical_text a) ∷ (codes "op", codes "announce") ∷ []

@@ -3,7 +3,9 @@ ghost use Rattle.std.specs.Prelude.{◌≡◌, IfOk, IsTrue, false};
 ghost use Rattle.serde_json.specs.View.{view};
 ghost use Rattle.serde_json.specs.Data.{array};
 ghost use Rattle.serde_json.specs.Written.{has_float, compact_text};
-ghost use Rattle.kube_lines.specs.OutputLines.{put_text, put_data, address_strings, pending_text, pending_data, accepted_text, refused_text, refused_data, is_taken, took_text, took_data, announce_text, withdraw_text, address_data, send_text, send_data, update_text, update_data, record_text, record_data, trial_text, trial_data};
+ghost use Rattle.kube_lines.specs.OutputLines.{put_text, put_data, address_strings, pending_text, pending_data, accepted_text, refused_text};
+ghost use Rattle.kube_lines.specs.OutputLines.{refused_data, is_taken, took_text, took_data, announce_text, withdraw_text, address_data};
+ghost use Rattle.kube_lines.specs.OutputLines.{send_text, send_data, update_text, update_data, record_text, record_data, trial_text, trial_data};
 
 use ip_ranges::{Address, print_address};
 use kube_labels::Text;

@@ -19,7 +19,8 @@ use Rattle.l2_elect.proofs.Filters.{Contains-filter, filter-Contains}
 use Rattle.l2_elect.proofs.Passing.{passing, passes-where}
 
 module _ (v : ViewValue) (address : AddressValue) (node : List ℕ) where
-  pub advertises-Decides : (pool : CompiledPool) (adv : CompiledL2) → Decides (advertises v node pool adv) (Chooses adv.pools adv.pool_selectors pool.name pool.labels × Selects adv.node_selectors (node_labels v node))
+  pub advertises-Decides : (pool : CompiledPool) (adv : CompiledL2)
+      → Decides (advertises v node pool adv) (Chooses adv.pools adv.pool_selectors pool.name pool.labels × Selects adv.node_selectors (node_labels v node))
   advertises-Decides pool adv =
       Decides-and (chooses adv.pools adv.pool_selectors pool.name pool.labels) (selects adv.node_selectors (node_labels v node))
       (chooses-Decides adv.pools adv.pool_selectors pool.name pool.labels) (selects-Decides adv.node_selectors (node_labels v node))
@@ -27,12 +28,23 @@ module _ (v : ViewValue) (address : AddressValue) (node : List ℕ) where
   advertised-means : is_advertised v node address ≡ true → IsAdvertised v address node
   advertised-means e =
       let found = passing (advertises v node) address v.held.config e in
-      let both = (advertises-Decides found.pool found.advertisement).0 found.passes in
-      (found.advertisement, record { config = found.config; in_force = found.in_force; there = found.there; pool = found.pool; pool_is = found.pool_is; chosen = both.0; selected = both.1 })
+      let both = (advertises-Decides found.pool found.advertisement).0 found.passes in (
+        found.advertisement,
+        record {
+          config = found.config;
+          in_force = found.in_force;
+          there = found.there;
+          pool = found.pool;
+          pool_is = found.pool_is;
+          chosen = both.0;
+          selected = both.1;
+        },
+      )
 
   means-advertised : IsAdvertised v address node → is_advertised v node address ≡ true
   means-advertised (adv, by) =
-      passes-where (advertises v node) address v.held.config by.config by.pool adv by.in_force by.pool_is by.there ((advertises-Decides by.pool adv).1 (by.chosen, by.selected))
+      passes-where (advertises v node) address v.held.config by.config by.pool adv by.in_force by.pool_is by.there
+      ((advertises-Decides by.pool adv).1 (by.chosen, by.selected))
 
   abbrev recorded_by : Service → Bool
   recorded_by service = has_address service.holding.addresses address && can_announce v service node
@@ -42,12 +54,18 @@ module _ (v : ViewValue) (address : AddressValue) (node : List ℕ) where
       let found = any-found recorded_by (objects_of v.held.services) e in
       let service : Service = found.0 in
       let both = and_parts (has_address service.holding.addresses address) (can_announce v service node) found.2 in
-      record { service = service; held = found.1; recorded = has_address-is service.holding.addresses address both.0; announces = (can_announce-Decides v service node).0 both.1 }
+      record {
+        service = service;
+        held = found.1;
+        recorded = has_address-is service.holding.addresses address both.0;
+        announces = (can_announce-Decides v service node).0 both.1;
+      }
 
   means-recorded : IsRecorded v address node → announced_from v address node ≡ true
   means-recorded r =
       any-contains recorded_by (objects_of v.held.services) r.service r.held
-      (and_from (has_address r.service.holding.addresses address) (can_announce v r.service node) (has_address-from r.service.holding.addresses address r.recorded) ((can_announce-Decides v r.service node).1 r.announces))
+      (and_from (has_address r.service.holding.addresses address) (can_announce v r.service node)
+      (has_address-from r.service.holding.addresses address r.recorded) ((can_announce-Decides v r.service node).1 r.announces))
 
   -- the eligible nodes are the members that pass
   pub eligible-member : IsEligible v address node → Contains (filter (is_eligible v address) v.members) node

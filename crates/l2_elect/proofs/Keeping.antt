@@ -1,5 +1,6 @@
 -- What is held of the announcers after one address or some were renewed.
-use Rattle.std.proofs.Common.{◌≡◌, ℕ, Bool, true, false, cond, ◌||◌, List, [], Option, take, length, get_or, ◌<◌, ◌+◌, Contains, Ordering, refl, sym, ap, subst, ◌∙◌}
+use Rattle.std.proofs.Common.{◌≡◌, ℕ, Bool, true, false, cond, ◌||◌, List, [], Option, take, length, get_or}
+use Rattle.std.proofs.Common.{◌<◌, ◌+◌, Contains, Ordering, refl, sym, ap, subst, ◌∙◌}
 use Rattle.std.proofs.lemmas.Bool.{false≢true}
 use Rattle.std.proofs.lemmas.List.Folds.{list_any_more}
 use Rattle.std.specs.BTreeMap.{is_at}
@@ -26,16 +27,19 @@ Entries = List (AddressValue × List ℕ)
 looked-up : (entries : Entries) (a : AddressValue) → lookup (is_at (address_cmp a)) entries ≡ held_for entries a
 looked-up entries a = λ i. lookup (λ b. same-at a b i) entries
 
-pub found : (entries : Entries) (a : AddressValue) (answer : Option (List ℕ)) → answer ≡ lookup (is_at (derived.cmp-value.it a)) entries → answer ≡ held_for entries a
+pub found : (entries : Entries) (a : AddressValue) (answer : Option (List ℕ)) → answer ≡ lookup (is_at (derived.cmp-value.it a)) entries
+    → answer ≡ held_for entries a
 found entries a answer is = is ∙ ap (λ (R : AddressValue → AddressValue → Ordering). lookup (is_at (R a)) entries) address_cmp-is ∙ looked-up entries a
 
 -- an order finds what was held, but at an address this
 abbrev pub Finds : (AddressValue → AddressValue → Ordering) → Entries → Entries → Option (List ℕ) → AddressValue → Type 0
 Finds R old new name address = (a : AddressValue) → lookup (is_at (R a)) new ≡ cond (is_at (R address) a) name (lookup (is_at (R a)) old)
 
-pub held-now : (old new : Entries) (name : Option (List ℕ)) (address : AddressValue) → Finds derived.cmp-value.it old new name address → IsHeldNow address name old new
+pub held-now : (old new : Entries) (name : Option (List ℕ)) (address : AddressValue) → Finds derived.cmp-value.it old new name address
+    → IsHeldNow address name old new
 held-now old new name address finds a =
-    let by : Finds address_cmp old new name address = subst (λ (R : AddressValue → AddressValue → Ordering). Finds R old new name address) address_cmp-is finds in
+    let by : Finds address_cmp old new name address =
+    subst (λ (R : AddressValue → AddressValue → Ordering). Finds R old new name address) address_cmp-is finds in
     sym (looked-up new a) ∙ by a ∙ (λ i. cond ((same-at address a ∙ same_address-flip address a) i) name (looked-up old a i))
 
 -- ---- one after the other
@@ -53,14 +57,17 @@ at_same false here there was same = refl
 pub renewed-none : (v : ViewValue) (addresses : List AddressValue) (entries : Entries) → AreRenewed (take 0 addresses) v entries entries
 renewed-none v addresses entries a = refl
 
-pub renewed-more : (v : ViewValue) (addresses : List AddressValue) (i : ℕ) (address : AddressValue) → i < length addresses → get_or addresses i address ≡ address
-    → (old now new : Entries) → AreRenewed (take i addresses) v old now → IsHeldNow address (announcer_of v address) now new → AreRenewed (take (i + 1) addresses) v old new
+pub renewed-more : (v : ViewValue) (addresses : List AddressValue) (i : ℕ) (address : AddressValue) → i < length addresses
+    → get_or addresses i address ≡ address
+    → (old now new : Entries) → AreRenewed (take i addresses) v old now → IsHeldNow address (announcer_of v address) now new
+    → AreRenewed (take (i + 1) addresses) v old new
 renewed-more v addresses i address below at old now new so_far here a =
     let before = has_address (take i addresses) a in
     let more : has_address (take (i + 1) addresses) a ≡ (before || same_address a address) =
     list_any_more (same_address a) addresses i address below ∙ ap (λ b. before || same_address a b) at in
     here a
-    ∙ at_same (same_address a address) (announcer_of v address) (announcer_of v a) (held_for now a) (λ e. ap (announcer_of v) (sym (same_address-is a address e)))
+    ∙ at_same (same_address a address) (announcer_of v address) (announcer_of v a) (held_for now a)
+    (λ e. ap (announcer_of v) (sym (same_address-is a address e)))
     ∙ ap (λ (held : Option (List ℕ)). cond (same_address a address) (announcer_of v a) held) (so_far a)
     ∙ renewed_by before (same_address a address) (announcer_of v a) (held_for old a)
     ∙ ap (λ b. cond b (announcer_of v a) (held_for old a)) (sym more)

@@ -1,5 +1,6 @@
 -- The announcer is the least of the eligible nodes, and there is one exactly where a node is eligible.
-use Rattle.std.proofs.Common.{Bor, ◌≡◌, ◌↔◌, ℕ, Bool, true, false, cond, List, [], ◌∷◌, filter, length, get_or, Option, Some, None, All, Contains, ◌<◌, refl, ap, sym, ◌∙◌, subst}
+use Rattle.std.proofs.Common.{Bor, ◌≡◌, ◌↔◌, ℕ, Bool, true, false, cond, List, [], ◌∷◌, filter, length}
+use Rattle.std.proofs.Common.{get_or, Option, Some, None, All, Contains, ◌<◌, refl, ap, sym, ◌∙◌, subst}
 use Rattle.std.specs.Prelude.{IfNone}
 use Rattle.std.specs.Option.{option_copied}
 use Rattle.std.specs.declared.cmp.Ordering.{Ordering}
@@ -18,7 +19,8 @@ use Rattle.ip_ranges.specs.AddressText.{canonical_text}
 use Rattle.ip_ranges.specs.Values.{AddressValue}
 use Rattle.speaker_view.specs.ViewValue.{ViewValue}
 use Rattle.l2_elect.specs.Eligible.{is_eligible, IsEligible}
-use Rattle.l2_elect.specs.Election.{comes_before, digest_of, rank_cmp, best_from, announcer_of, is_named, announces_of, IsAnnouncer, OneAnnounces, OnlyAnEligibleNodeAnnounces}
+use Rattle.l2_elect.specs.Election.{comes_before, digest_of, rank_cmp, best_from, announcer_of, is_named}
+use Rattle.l2_elect.specs.Election.{announces_of, IsAnnouncer, OneAnnounces, OnlyAnEligibleNodeAnnounces}
 use Rattle.l2_elect.proofs.Eligibility.{eligible-member, member-eligible}
 
 rank_total : (text : List ℕ) → IsTotalOrder (rank_cmp text)
@@ -32,13 +34,15 @@ best_from-is text best [] = refl
 best_from-is text best (n ∷ nodes) = best_from-is text (cond (comes_before text n best) n best) nodes
 
 -- of any list of nodes
-least_of : (text : List ℕ) (nodes : List (List ℕ)) (n : List ℕ) → best_from text None nodes ≡ Some n → Contains nodes n × All (λ m. comes_before text m n ≡ false) nodes
+least_of : (text : List ℕ) (nodes : List (List ℕ)) (n : List ℕ) → best_from text None nodes ≡ Some n
+    → Contains nodes n × All (λ m. comes_before text m n ≡ false) nodes
 least_of text [] n is = cc
 least_of text (a ∷ nodes) n is =
     let first = IsFirstBest-from_best_of (before_order text) a nodes in
     let same : best_of (comes_before text) a nodes ≡ n = (let e = sym (best_from-is text a nodes) ∙ is in cc) in
     let at : get_or (a ∷ nodes) first.0 a ≡ n = first.2 ∙ same in
-    let least = λ (k : ℕ) (d : List ℕ) (below : k < length (a ∷ nodes)). subst (λ (x : List ℕ). comes_before text (get_or (a ∷ nodes) k d) x ≡ false) (get_or_default (a ∷ nodes) first.0 d a first.1.0 ∙ at) (first.1.1 k d below) in
+    let least = λ (k : ℕ) (d : List ℕ) (below : k < length (a ∷ nodes)). subst (λ (x : List ℕ). comes_before text (get_or (a ∷ nodes) k d) x ≡ false)
+    (get_or_default (a ∷ nodes) first.0 d a first.1.0 ∙ at) (first.1.1 k d below) in
     ((first.0, first.1.0, get_or_default (a ∷ nodes) first.0 n a first.1.0 ∙ at), least)
 
 none_of : (text : List ℕ) (nodes : List (List ℕ)) → best_from text None nodes ≡ None → nodes ≡ []
@@ -90,7 +94,8 @@ module _ (v : ViewValue) (address : AddressValue) where
   pub announcer-means : (answer : Option (List ℕ)) → answer ≡ announcer_of v address → (node : List ℕ) → (answer ≡ Some node) ↔ IsAnnouncer v address node
   announcer-means answer is node = (λ e. elected-least node (sym is ∙ e), λ a. is ∙ least_where (announcer_of v address) node refl a)
 
-  pub nobody-means : (answer : Option (Bor (List ℕ))) → option_copied answer ≡ announcer_of v address → IfNone answer ((node : List ℕ) → ¬ IsEligible v address node)
+  pub nobody-means : (answer : Option (Bor (List ℕ))) → option_copied answer ≡ announcer_of v address
+      → IfNone answer ((node : List ℕ) → ¬ IsEligible v address node)
   nobody-means None is = none-eligible (sym is)
   nobody-means (Some node) is = tt
 

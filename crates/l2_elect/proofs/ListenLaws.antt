@@ -25,8 +25,10 @@ has_text-Decides texts text = (
   λ there. any-contains (λ (t : List ℕ). bytes_eq t text) texts text there ((bytes_eq-Decides text text).1 refl),
 )
 
-names-Decides : (interfaces : List (List ℕ)) (interface : List ℕ) → Decides (names_interface interfaces interface) ((interfaces ≡ []) ⊎ Contains interfaces interface)
-names-Decides interfaces interface = Decides-or (is_nil interfaces) (has_text interfaces interface) (Decides-nil interfaces) (has_text-Decides interfaces interface)
+names-Decides : (interfaces : List (List ℕ)) (interface : List ℕ)
+    → Decides (names_interface interfaces interface) ((interfaces ≡ []) ⊎ Contains interfaces interface)
+names-Decides interfaces interface =
+    Decides-or (is_nil interfaces) (has_text interfaces interface) (Decides-nil interfaces) (has_text-Decides interfaces interface)
 
 module _ (v : ViewValue) (node interface : List ℕ) (address : AddressValue) where
   listens-means_so : listens_of v node interface address ≡ true → Listens v node interface address
@@ -38,7 +40,15 @@ module _ (v : ViewValue) (node interface : List ℕ) (address : AddressValue) wh
       record {
         announcer = announces-announcer v address node both.0;
         advertisement = found.advertisement;
-        advertised = record { config = found.config; in_force = found.in_force; there = found.there; pool = found.pool; pool_is = found.pool_is; chosen = advertised.0; selected = advertised.1 };
+        advertised = record {
+          config = found.config;
+          in_force = found.in_force;
+          there = found.there;
+          pool = found.pool;
+          pool_is = found.pool_is;
+          chosen = advertised.0;
+          selected = advertised.1;
+        };
         named = (names-Decides found.advertisement.interfaces interface).0 parts.1;
       }
 
@@ -46,7 +56,8 @@ module _ (v : ViewValue) (node interface : List ℕ) (address : AddressValue) wh
   so-listens l =
       let by = l.advertised in
       let adv = l.advertisement in
-      let passes = and_from (advertises v node by.pool adv) (names_interface adv.interfaces interface) ((advertises-Decides v address node by.pool adv).1 (by.chosen, by.selected)) ((names-Decides adv.interfaces interface).1 l.named) in
+      let passes = and_from (advertises v node by.pool adv) (names_interface adv.interfaces interface)
+      ((advertises-Decides v address node by.pool adv).1 (by.chosen, by.selected)) ((names-Decides adv.interfaces interface).1 l.named) in
       and_from (announces_of v node address) (is_listened v node interface address)
       (announcer-announces v address node l.announcer)
       (passes-where (listens_by v node interface) address v.held.config by.config by.pool adv by.in_force by.pool_is by.there passes)

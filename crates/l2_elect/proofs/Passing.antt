@@ -20,7 +20,8 @@ pub record Passing (test : CompiledPool → CompiledL2 → Bool) (address : Addr
   pub passes : test pool advertisement ≡ true
 
 module _ (test : CompiledPool → CompiledL2 → Bool) (address : AddressValue) where
-  at_pool : (config : ConfigValue) (found : Option CompiledPool) → pool_with config.pools address ≡ found → passes_for test config.l2 found ≡ true → Passing test address (Some config)
+  at_pool : (config : ConfigValue) (found : Option CompiledPool) → pool_with config.pools address ≡ found → passes_for test config.l2 found ≡ true
+      → Passing test address (Some config)
   at_pool config None is e = absurd (false≢true e)
   at_pool config (Some pool) is e =
       let some = any-found (test pool) config.l2 e in
@@ -30,7 +31,8 @@ module _ (test : CompiledPool → CompiledL2 → Bool) (address : AddressValue) 
   passing None e = absurd (false≢true e)
   passing (Some config) e = at_pool config (pool_with config.pools address) refl e
 
-  pub passes-where : (held : Option ConfigValue) (config : ConfigValue) (pool : CompiledPool) (advertisement : CompiledL2) → held ≡ Some config → pool_with config.pools address ≡ Some pool
+  pub passes-where : (held : Option ConfigValue) (config : ConfigValue) (pool : CompiledPool) (advertisement : CompiledL2) → held ≡ Some config
+      → pool_with config.pools address ≡ Some pool
       → Contains config.l2 advertisement → test pool advertisement ≡ true → passes_in test address held ≡ true
   passes-where held config pool advertisement in_force pool_is there passes =
       ap (passes_in test address) in_force ∙ ap (passes_for test config.l2) pool_is ∙ any-contains (test pool) config.l2 advertisement there passes

@@ -1,4 +1,5 @@
--- An address that is announced from no node has no announcer, so one that no service records has none; and where all stays that decides who may announce one, its announcer does.
+-- An address that is announced from no node has no announcer, so one that no service records has none; and where all stays that decides who may announce one,
+-- its announcer does.
 use Rattle.std.proofs.Common.{◌≡◌, ◌↔◌, ℕ, Bool, true, false, ◌&&◌, ◌||◌, List, [], ◌∷◌, filter, None, Contains, refl, sym, ap, subst}
 use Rattle.std.proofs.lemmas.Bool.{or_parts}
 use Rattle.std.specs.List.{list_any}

@@ -85,7 +85,8 @@ fn best_member<'a>(
 
 /// Whether the candidate comes before the one that is best so far, if any: by digests, ties by name.
 fn is_better(best: Option<Candidate<'_>>, candidate: Candidate<'_>) -> bool
-    ensures { (text : List ℕ) → ForSome best.entry (λ c. c.digest ≡ digest_of text c.node.now) → candidate.entry.digest ≡ digest_of text candidate.entry.node.now
+    ensures { (text : List ℕ) → ForSome best.entry (λ c. c.digest ≡ digest_of text c.node.now)
+        → candidate.entry.digest ≡ digest_of text candidate.entry.node.now
         → result ≡ is_better text (option_map (λ c. c.node.now) best.entry) candidate.entry.node.now }
 {
     match best {

@@ -1,5 +1,6 @@
 -- What follows of how the run of two lanes ended.
-use Rattle.std.proofs.Common.{◌≡◌, ◌≢◌, ◌⊎◌, inl, inr, ℕ, ◌≤◌, Bool, true, false, if◌then◌else◌, List, [], ◌∷◌, ◌++◌, Option, Some, None, refl, sym, ap, ◌∙◌, subst, append_assoc}
+use Rattle.std.proofs.Common.{◌≡◌, ◌≢◌, ◌⊎◌, inl, inr, ℕ, ◌≤◌, Bool, true, false, if◌then◌else◌, List, []}
+use Rattle.std.proofs.Common.{◌∷◌, ◌++◌, Option, Some, None, refl, sym, ap, ◌∙◌, subst, append_assoc}
 use Rattle.std.specs.Bool.{⊤}
 use Rattle.std.specs.List.{flat_map}
 use Rattle.std.proofs.lemmas.List.{append-nil}
@@ -90,7 +91,8 @@ module _ (name : Lane → LaneName) where
   lanes_done NoMemory end' e = absurd (cc)
 
   module _ (belongs : Lane → Event → Bool) where
-    lane_read : (lane : Lane) (before after : SourceView) (items : List Item) (own told : LaneName) (end : LaneEnd) → Sends belongs lane before after items end → statuses.ReadFault told ≡ status_of_lane own end → (told ≡ own) × Rose before.faults after.faults
+    lane_read : (lane : Lane) (before after : SourceView) (items : List Item) (own told : LaneName) (end : LaneEnd) → Sends belongs lane before after items end
+        → statuses.ReadFault told ≡ status_of_lane own end → (told ≡ own) × Rose before.faults after.faults
     lane_read lane before after items own told Done sends e = absurd (cc)
     lane_read lane before after items own told ReadFault sends e = (cc, sends.1)
     lane_read lane before after items own told (LineLimit number) sends e = absurd (cc)
@@ -99,7 +101,8 @@ module _ (name : Lane → LaneName) where
     lane_read lane before after items own told NoMemory sends e = absurd (cc)
 
     -- a read fault of a lane is one of its file
-    lanes_read : (first first' second second' : SourceView) (xs ys : List Item) (told : LaneName) (end end' : LaneEnd) → Sends belongs First first first' xs end → Sends belongs Second second second' ys end' → statuses.ReadFault told ≡ status_of_lanes name end end'
+    lanes_read : (first first' second second' : SourceView) (xs ys : List Item) (told : LaneName) (end end' : LaneEnd) → Sends belongs First first first' xs end
+        → Sends belongs Second second second' ys end' → statuses.ReadFault told ≡ status_of_lanes name end end'
         → ((told ≡ name First) × Rose first.faults first'.faults) ⊎ ((told ≡ name Second) × Rose second.faults second'.faults)
     lanes_read first first' second second' xs ys told Done end' sends sends' e = inr (lane_read Second second second' ys (name Second) told end' sends' e)
     lanes_read first first' second second' xs ys told ReadFault end' sends sends' e = inl (lane_read First first first' xs (name First) told ReadFault sends e)
@@ -109,7 +112,8 @@ module _ (name : Lane → LaneName) where
     lanes_read first first' second second' xs ys told NoMemory end' sends sends' e = absurd (cc)
 
 -- the replies are all lines of the input
-heard_all : (left : Option (List ℕ)) (reading : Reading) (left' : Option (List ℕ)) (replies : List Line) → Follows (to_come unread left) replies (to_come reading left') → EndsAs (to_come reading left') Whole → AreLinesOf left replies
+heard_all : (left : Option (List ℕ)) (reading : Reading) (left' : Option (List ℕ)) (replies : List Line)
+    → Follows (to_come unread left) replies (to_come reading left') → EndsAs (to_come reading left') Whole → AreLinesOf left replies
 heard_all None reading left' replies follows ends = tt
 heard_all (Some bytes) reading None replies follows ends = absurd follows
 heard_all (Some bytes) reading (Some more) replies follows ends =
@@ -117,8 +121,10 @@ heard_all (Some bytes) reading (Some more) replies follows ends =
 
 module _ {S E : Type 0} (belongs : Lane → Event → Bool) (rules : LaneRules S E) (start : S) where
   -- A beginning of the text of what was driven, and of the next item or reply, was written.
-  module _ (quiet : rules.waits start ≡ false) (first second : Option (List ℕ)) (items : List Item) (state : S) (told : List (Told E)) (before mid : Outside) (drove : Drives rules items start state told before mid) (after : Option (List ℕ)) where
-    upto_still : AreBeginnings belongs first second items → Grows mid.written after [] → WritesUpTo belongs rules start first second (to_come before.reading before.replies.left) before.written after
+  module _ (quiet : rules.waits start ≡ false) (first second : Option (List ℕ)) (items : List Item) (state : S) (told : List (Told E)) (before mid : Outside)
+      (drove : Drives rules items start state told before mid) (after : Option (List ℕ)) where
+    upto_still : AreBeginnings belongs first second items → Grows mid.written after []
+        → WritesUpTo belongs rules start first second (to_come before.reading before.replies.left) before.written after
     upto_still begin nothing = record {
       items = items;
       replies = drove.replies;
@@ -131,26 +137,33 @@ module _ {S E : Type 0} (belongs : Lane → Event → Bool) (rules : LaneRules S
       wrote = upto_all before.written after (told_text rules told) (nothing_more before.written mid.written after (told_text rules told) drove.wrote nothing);
     }
 
-    upto_item : (item : Item) (next : S) (entries : List E) → AreBeginnings belongs first second (items ++ item ∷ []) → rules.waits state ≡ false → rules.take state item ≡ Goes next entries → GrowsUpTo mid.written after (item_text rules item entries)
+    upto_item : (item : Item) (next : S) (entries : List E) → AreBeginnings belongs first second (items ++ item ∷ []) → rules.waits state ≡ false
+        → rules.take state item ≡ Goes next entries → GrowsUpTo mid.written after (item_text rules item entries)
         → WritesUpTo belongs rules start first second (to_come before.reading before.replies.left) before.written after
     upto_item item next entries begin quiet' steps part =
         let more = one_told item (entries ++ []) in
         let text : told_text rules (told ++ more) ≡ told_text rules told ++ item_text rules item entries =
-        told_text-append rules told more ∙ ap (λ (t : List ℕ). told_text rules told ++ t) (append-nil (item_text rules item (entries ++ [])) ∙ ap (item_text rules item) (append-nil entries)) in
+        told_text-append rules told more ∙ ap (λ (t : List ℕ). told_text rules told ++ t)
+        (append-nil (item_text rules item (entries ++ [])) ∙ ap (item_text rules item) (append-nil entries)) in
         record {
           items = items ++ item ∷ [];
           replies = drove.replies ++ [];
           next = to_come mid.reading mid.replies.left;
-          comes = Follows-append (to_come before.reading before.replies.left) (to_come mid.reading mid.replies.left) (to_come mid.reading mid.replies.left) drove.replies [] drove.comes (Follows-refl (to_come mid.reading mid.replies.left));
+          comes = Follows-append (to_come before.reading before.replies.left) (to_come mid.reading mid.replies.left) (to_come mid.reading mid.replies.left)
+              drove.replies [] drove.comes (Follows-refl (to_come mid.reading mid.replies.left));
           begin = begin;
           state = next;
           told = told ++ more;
-          taken = AreTaken-append rules items (item ∷ []) drove.replies [] start state next told more drove.taken (takes_one rules state next next item [] entries [] quiet' steps (refl, refl));
+          taken = AreTaken-append rules items (item ∷ []) drove.replies [] start state next told more drove.taken
+              (takes_one rules state next next item [] entries [] quiet' steps (refl, refl));
           wrote = rw text (upto_then before.written mid.written after (told_text rules told) (item_text rules item entries) drove.wrote part);
         }
 
-    upto_reply : (b : Bool) (line : Line) (next : S) (entries : List E) (next' : Option Input) → Follows (to_come mid.reading mid.replies.left) (line ∷ []) next' → rules.waits state ≡ b → AreBeginnings belongs first second items → (if b then rules.hear state line else Stops (statuses.BadReply line.number line.bytes)) ≡ Goes next entries
-        → GrowsUpTo mid.written after (flat_map rules.text entries) → WritesUpTo belongs rules start first second (to_come before.reading before.replies.left) before.written after
+    upto_reply : (b : Bool) (line : Line) (next : S) (entries : List E) (next' : Option Input)
+        → Follows (to_come mid.reading mid.replies.left) (line ∷ []) next' → rules.waits state ≡ b → AreBeginnings belongs first second items
+        → (if b then rules.hear state line else Stops (statuses.BadReply line.number line.bytes)) ≡ Goes next entries
+        → GrowsUpTo mid.written after (flat_map rules.text entries)
+        → WritesUpTo belongs rules start first second (to_come before.reading before.replies.left) before.written after
     upto_reply false line next entries next' comes waits begin steps part = absurd (cc)
     upto_reply true line next entries next' comes waits begin steps part =
         let last = hears_last rules items drove.replies start state next told line entries quiet drove.taken waits steps in
@@ -158,7 +171,8 @@ module _ {S E : Type 0} (belongs : Lane → Event → Bool) (rules : LaneRules S
           items = items;
           replies = drove.replies ++ line ∷ [];
           next = next';
-          comes = Follows-append (to_come before.reading before.replies.left) (to_come mid.reading mid.replies.left) next' drove.replies (line ∷ []) drove.comes comes;
+          comes = Follows-append (to_come before.reading before.replies.left) (to_come mid.reading mid.replies.left) next' drove.replies (line ∷ []) drove.comes
+              comes;
           begin = begin;
           state = next;
           told = last.0;
@@ -166,55 +180,77 @@ module _ {S E : Type 0} (belongs : Lane → Event → Bool) (rules : LaneRules S
           wrote = rw last.2 (upto_then before.written mid.written after (told_text rules told) (flat_map rules.text entries) drove.wrote part);
         }
 
-    upto_halted : (halt : Halt) (line : Line) (writes writes' : ℕ) (next' : Option Input) → Follows (to_come mid.reading mid.replies.left) (line ∷ []) next' → AreBeginnings belongs first second items → HaltsAt halt (reply_rules rules) state line mid.written after writes writes' → WritesUpTo belongs rules start first second (to_come before.reading before.replies.left) before.written after
-    upto_halted halts.WriteFault line writes writes' next' comes begin b = upto_reply (rules.waits state) line b.next b.entries next' comes refl begin b.steps (part_upto mid.written after (flat_map rules.text b.entries) b.halts.0)
+    upto_halted : (halt : Halt) (line : Line) (writes writes' : ℕ) (next' : Option Input) → Follows (to_come mid.reading mid.replies.left) (line ∷ []) next'
+        → AreBeginnings belongs first second items → HaltsAt halt (reply_rules rules) state line mid.written after writes writes'
+        → WritesUpTo belongs rules start first second (to_come before.reading before.replies.left) before.written after
+    upto_halted halts.WriteFault line writes writes' next' comes begin b = upto_reply (rules.waits state) line b.next b.entries next' comes refl begin b.steps
+        (part_upto mid.written after (flat_map rules.text b.entries) b.halts.0)
     upto_halted halts.NoMemory line writes writes' next' comes begin (inl nothing) = upto_still begin nothing
-    upto_halted halts.NoMemory line writes writes' next' comes begin (inr b) = upto_reply (rules.waits state) line b.next b.entries next' comes refl begin b.steps b.halts
+    upto_halted halts.NoMemory line writes writes' next' comes begin (inr b) =
+        upto_reply (rules.waits state) line b.next b.entries next' comes refl begin b.steps b.halts
 
-    upto_refused : (refusal : Refusal) (line : Line) (writes writes' : ℕ) (next' : Option Input) → Follows (to_come mid.reading mid.replies.left) (line ∷ []) next' → AreBeginnings belongs first second items → Refuses refusal (reply_rules rules) state line mid.written after writes writes' → WritesUpTo belongs rules start first second (to_come before.reading before.replies.left) before.written after
+    upto_refused : (refusal : Refusal) (line : Line) (writes writes' : ℕ) (next' : Option Input) → Follows (to_come mid.reading mid.replies.left)
+        (line ∷ []) next' → AreBeginnings belongs first second items → Refuses refusal (reply_rules rules) state line mid.written after writes writes'
+        → WritesUpTo belongs rules start first second (to_come before.reading before.replies.left) before.written after
     upto_refused (Stopped status) line writes writes' next' comes begin r = upto_still begin r.1
     upto_refused (Halted halt) line writes writes' next' comes begin r = upto_halted halt line writes writes' next' comes begin r
 
-    pub upto_read : (status : Status) (next : Option Input) (held' : List ℕ) (left' : Option (List ℕ)) (reads reads' writes writes' : ℕ) → AreBeginnings belongs first second items
-        → Ends (reply_rules rules) state status (to_come mid.reading mid.replies.left) next held' left' mid.written after reads reads' writes writes' → WritesUpTo belongs rules start first second (to_come before.reading before.replies.left) before.written after
+    pub upto_read : (status : Status) (next : Option Input) (held' : List ℕ) (left' : Option (List ℕ)) (reads reads' writes writes' : ℕ)
+        → AreBeginnings belongs first second items
+        → Ends (reply_rules rules) state status (to_come mid.reading mid.replies.left) next held' left' mid.written after reads reads' writes writes'
+        → WritesUpTo belongs rules start first second (to_come before.reading before.replies.left) before.written after
     upto_read status next held' left' reads reads' writes writes' begin (inl (last, nothing)) = upto_still begin nothing
     upto_read status next held' left' reads reads' writes writes' begin (inr (inl (u, nothing))) = upto_still begin nothing
-    upto_read status next held' left' reads reads' writes writes' begin (inr (inr u)) = upto_refused u.refusal u.line writes writes' next u.comes begin u.refuses
+    upto_read status next held' left' reads reads' writes writes' begin (inr (inr u)) =
+        upto_refused u.refusal u.line writes writes' next u.comes begin u.refuses
 
-    upto_unwritten : (halt : Halt) (item : Item) (writes writes' : ℕ) → AreBeginnings belongs first second items → AreBeginnings belongs first second (items ++ item ∷ []) → rules.waits state ≡ false → HaltsItem halt rules state item mid.written after writes writes'
+    upto_unwritten : (halt : Halt) (item : Item) (writes writes' : ℕ) → AreBeginnings belongs first second items
+        → AreBeginnings belongs first second (items ++ item ∷ []) → rules.waits state ≡ false → HaltsItem halt rules state item mid.written after writes writes'
         → WritesUpTo belongs rules start first second (to_come before.reading before.replies.left) before.written after
-    upto_unwritten halts.WriteFault item writes writes' begin begin' quiet' b = upto_item item b.next b.entries begin' quiet' b.steps (part_upto mid.written after (item_text rules item b.entries) b.halts.0)
+    upto_unwritten halts.WriteFault item writes writes' begin begin' quiet' b =
+        upto_item item b.next b.entries begin' quiet' b.steps (part_upto mid.written after (item_text rules item b.entries) b.halts.0)
     upto_unwritten halts.NoMemory item writes writes' begin begin' quiet' (inl nothing) = upto_still begin nothing
     upto_unwritten halts.NoMemory item writes writes' begin begin' quiet' (inr b) = upto_item item b.next b.entries begin' quiet' b.steps b.halts
 
-    pub upto_stopped : (status : Status) (item : Item) (writes writes' : ℕ) → AreBeginnings belongs first second items → AreBeginnings belongs first second (items ++ item ∷ []) → rules.waits state ≡ false
-        → ((rules.take state item ≡ Stops status) × Grows mid.written after []) ⊎ ((halt : Halt) × (status ≡ status_of_halt halt) × HaltsItem halt rules state item mid.written after writes writes') → WritesUpTo belongs rules start first second (to_come before.reading before.replies.left) before.written after
+    pub upto_stopped : (status : Status) (item : Item) (writes writes' : ℕ) → AreBeginnings belongs first second items
+        → AreBeginnings belongs first second (items ++ item ∷ []) → rules.waits state ≡ false
+        → ((rules.take state item ≡ Stops status) × Grows mid.written after [])
+        ⊎ ((halt : Halt) × (status ≡ status_of_halt halt) × HaltsItem halt rules state item mid.written after writes writes')
+        → WritesUpTo belongs rules start first second (to_come before.reading before.replies.left) before.written after
     upto_stopped status item writes writes' begin begin' quiet' (inl stops) = upto_still begin stops.1
     upto_stopped status item writes writes' begin begin' quiet' (inr (halt, is, h)) = upto_unwritten halt item writes writes' begin begin' quiet' h
 
   -- a beginning of what both lanes sent
-  pub begins_of : (first first' second second' : SourceView) (sent part rest : List Item) (end end' : LaneEnd) → LanesEnded belongs first first' second second' sent end end' → sent ≡ part ++ rest → AreBeginnings belongs first.left second.left part
+  pub begins_of : (first first' second second' : SourceView) (sent part rest : List Item) (end end' : LaneEnd)
+      → LanesEnded belongs first first' second second' sent end end' → sent ≡ part ++ rest → AreBeginnings belongs first.left second.left part
   begins_of first first' second second' sent part rest end end' lanes split = record {
     firsts = begins_part belongs First first.left sent part rest split lanes.first_ended.begins;
     seconds = begins_part belongs Second second.left sent part rest split lanes.second_ended.begins;
   }
 
   -- what both lanes sent
-  begins_all : (first first' second second' : SourceView) (sent : List Item) (end end' : LaneEnd) → LanesEnded belongs first first' second second' sent end end' → AreBeginnings belongs first.left second.left sent
+  begins_all : (first first' second second' : SourceView) (sent : List Item) (end end' : LaneEnd) → LanesEnded belongs first first' second second' sent end end'
+      → AreBeginnings belongs first.left second.left sent
   begins_all first first' second second' sent end end' lanes = record { firsts = lanes.first_ended.begins; seconds = lanes.second_ended.begins }
 
   module _ (first first' second second' : SourceView) (before after : Outside) where
     -- however the run ends, a beginning of the text of some items was written
-    pub writes_upto : (status : Status) → rules.waits start ≡ false → EndsSo belongs rules start first first' second second' before after status → WritesUpTo belongs rules start first.left second.left (to_come before.reading before.replies.left) before.written after.written
+    pub writes_upto : (status : Status) → rules.waits start ≡ false → EndsSo belongs rules start first first' second second' before after status
+        → WritesUpTo belongs rules start first.left second.left (to_come before.reading before.replies.left) before.written after.written
     writes_upto status quiet (inl s) =
-        upto_stopped quiet first.left second.left s.items s.state s.told before s.mid s.drove after.written status s.item s.mid.faults after.faults (begins_of first first' second second' (s.items ++ s.item ∷ s.dropped) s.items (s.item ∷ s.dropped) s.end s.end' s.lanes refl)
-        (begins_of first first' second second' (s.items ++ s.item ∷ s.dropped) (s.items ++ s.item ∷ []) s.dropped s.end s.end' s.lanes (sym (append_assoc s.items (s.item ∷ []) s.dropped))) s.quiet s.stops
-    writes_upto status quiet (inr (inl s)) = upto_read quiet first.left second.left s.items s.state s.told before s.mid s.drove after.written status _ _ _ _ _ _ _
+        upto_stopped quiet first.left second.left s.items s.state s.told before s.mid s.drove after.written status s.item s.mid.faults after.faults
+        (begins_of first first' second second' (s.items ++ s.item ∷ s.dropped) s.items (s.item ∷ s.dropped) s.end s.end' s.lanes refl)
+        (begins_of first first' second second' (s.items ++ s.item ∷ s.dropped) (s.items ++ s.item ∷ []) s.dropped s.end s.end' s.lanes
+        (sym (append_assoc s.items (s.item ∷ []) s.dropped))) s.quiet s.stops
+    writes_upto status quiet (inr (inl s)) =
+        upto_read quiet first.left second.left s.items s.state s.told before s.mid s.drove after.written status _ _ _ _ _ _ _
         (begins_of first first' second second' (s.items ++ s.dropped) s.items s.dropped s.end s.end' s.lanes refl) s.stops
     writes_upto status quiet (inr (inr (inl s))) =
-        upto_read quiet first.left second.left s.all.items s.all.state s.all.told before s.mid s.all.drove after.written status _ _ _ _ _ _ _ (begins_all first first' second second' s.all.items s.end s.end' s.all.lanes) s.stops
+        upto_read quiet first.left second.left s.all.items s.all.state s.all.told before s.mid s.all.drove after.written status
+        _ _ _ _ _ _ _ (begins_all first first' second second' s.all.items s.end s.end' s.all.lanes) s.stops
     writes_upto status quiet (inr (inr (inr (inl s)))) =
-        upto_still quiet first.left second.left s.all.items s.all.state s.all.told before s.mid s.all.drove after.written (begins_all first first' second second' s.all.items s.end s.end' s.all.lanes) s.kept
+        upto_still quiet first.left second.left s.all.items s.all.state s.all.told before s.mid s.all.drove after.written
+        (begins_all first first' second second' s.all.items s.end s.end' s.all.lanes) s.kept
     writes_upto status quiet (inr (inr (inr (inr s)))) = s.1
 
     -- all was taken
@@ -223,8 +259,10 @@ module _ {S E : Type 0} (belongs : Lane → Event → Bool) (rules : LaneRules S
     takes_whole fresh s =
         let ends = lanes_done rules.name s.end s.end' s.is in
         let all = s.all in
-        let one : Sends belongs First first first' (items_of First all.items) Done = subst (λ (end : LaneEnd). Sends belongs First first first' (items_of First all.items) end) ends.0 all.lanes.first_ended.sends in
-        let two : Sends belongs Second second second' (items_of Second all.items) Done = subst (λ (end : LaneEnd). Sends belongs Second second second' (items_of Second all.items) end) ends.1 all.lanes.second_ended.sends in
+        let one : Sends belongs First first first' (items_of First all.items) Done =
+        subst (λ (end : LaneEnd). Sends belongs First first first' (items_of First all.items) end) ends.0 all.lanes.first_ended.sends in
+        let two : Sends belongs Second second second' (items_of Second all.items) Done =
+        subst (λ (end : LaneEnd). Sends belongs Second second second' (items_of Second all.items) end) ends.1 all.lanes.second_ended.sends in
         let comes : Follows (to_come unread before.replies.left) all.drove.replies (to_come s.mid.reading s.mid.replies.left) =
         subst (λ (r : Reading). Follows (to_come r before.replies.left) all.drove.replies (to_come s.mid.reading s.mid.replies.left)) fresh all.drove.comes in
         record {
@@ -245,13 +283,16 @@ module _ {S E : Type 0} (belongs : Lane → Event → Bool) (rules : LaneRules S
 
     -- Why the machine stops.
     module _ (items_stop : (s : S) (item : Item) (status : Status) → rules.take s item ≡ Stops status → IsHeldLimit status)
-        (replies_stop : (s : S) (line : Line) (status : Status) → rules.waits s ≡ true → rules.hear s line ≡ Stops status → (status ≡ statuses.BadReply line.number line.bytes) ⊎ IsHeldLimit status)
+        (replies_stop : (s : S) (line : Line) (status : Status) → rules.waits s ≡ true → rules.hear s line ≡ Stops status
+        → (status ≡ statuses.BadReply line.number line.bytes) ⊎ IsHeldLimit status)
         (puts : (s : S) → rules.waits s ≡ true → (put : Put) × (rules.unanswered s ≡ statuses.NoReply put)) where
-      by_end : (s : S) (status : Status) (reads reads' writes writes' : ℕ) → status ≢ statuses.Done → (status ≡ (reply_rules rules).end s) ⊎ (status ≡ statuses.NoMemory) → IsIllBy status reads reads' writes writes'
+      by_end : (s : S) (status : Status) (reads reads' writes writes' : ℕ) → status ≢ statuses.Done → (status ≡ (reply_rules rules).end s)
+          ⊎ (status ≡ statuses.NoMemory) → IsIllBy status reads reads' writes writes'
       by_end s status reads reads' writes writes' ill (inl is) = end_ill status reads reads' writes writes' (rw is (end_causes rules puts s).0) ill
       by_end s status reads reads' writes writes' ill (inr is) = rw is tt
 
-      last_ill : (s : S) (status : Status) (now : Option Input) (left' : Option (List ℕ)) (reads reads' writes writes' : ℕ) → status ≢ statuses.Done → IsLast (reply_rules rules) s status now left' → IsIllBy status reads reads' writes writes'
+      last_ill : (s : S) (status : Status) (now : Option Input) (left' : Option (List ℕ)) (reads reads' writes writes' : ℕ) → status ≢ statuses.Done
+          → IsLast (reply_rules rules) s status now left' → IsIllBy status reads reads' writes writes'
       last_ill s status now left' reads reads' writes writes' ill last = by_end s status reads reads' writes writes' ill last.is
 
       -- a run that awaits a reply isn't done
@@ -263,76 +304,103 @@ module _ {S E : Type 0} (belongs : Lane → Event → Bool) (rules : LaneRules S
           absurd (cc)
       by_reply s status waits (inr is) done = absurd (cc)
 
-      by_ends : (s : S) (status : Status) (now : Option Input) (left' b a : Option (List ℕ)) (reads reads' writes writes' : ℕ) → (IsLast (reply_rules rules) s status now left' → status ≢ statuses.Done)
-          → (IsLast (reply_rules rules) s status now left' × Grows b a []) ⊎ IsIllBy status reads reads' writes writes' → IsIllBy status reads reads' writes writes'
-      by_ends s status now left' b a reads reads' writes writes' ill (inl (last, nothing)) = last_ill s status now left' reads reads' writes writes' (ill last) last
+      by_ends : (s : S) (status : Status) (now : Option Input) (left' b a : Option (List ℕ)) (reads reads' writes writes' : ℕ)
+          → (IsLast (reply_rules rules) s status now left' → status ≢ statuses.Done)
+          → (IsLast (reply_rules rules) s status now left' × Grows b a []) ⊎ IsIllBy status reads reads' writes writes'
+          → IsIllBy status reads reads' writes writes'
+      by_ends s status now left' b a reads reads' writes writes' ill (inl (last, nothing)) =
+          last_ill s status now left' reads reads' writes writes' (ill last) last
       by_ends s status now left' b a reads reads' writes writes' ill (inr is) = is
 
-      stops_ill : (s : S) (status : Status) (now next : Option Input) (held' : List ℕ) (left' b a : Option (List ℕ)) (r reads reads' w writes writes' : ℕ) → r ≤ reads → w ≤ writes
-          → (IsLast (reply_rules rules) s status now left' → status ≢ statuses.Done) → Ends (reply_rules rules) s status now next held' left' b a reads reads' writes writes' → IsIllBy status r reads' w writes'
+      stops_ill : (s : S) (status : Status) (now next : Option Input) (held' : List ℕ) (left' b a : Option (List ℕ)) (r reads reads' w writes writes' : ℕ)
+          → r ≤ reads → w ≤ writes
+          → (IsLast (reply_rules rules) s status now left' → status ≢ statuses.Done)
+          → Ends (reply_rules rules) s status now next held' left' b a reads reads' writes writes' → IsIllBy status r reads' w writes'
       stops_ill s status now next held' left' b a r reads reads' w writes writes' x y ill ends =
           ill_since status r reads reads' w writes writes' x y (by_ends s status now left' b a reads reads' writes writes' ill
-          (ends_ill (reply_rules rules) s (λ line stop e. (reply_causes rules replies_stop s line stop e).0) status now next held' left' b a reads reads' writes writes' ends))
+          (ends_ill (reply_rules rules) s (λ line stop e. (reply_causes rules replies_stop s line stop e).0) status now next held' left' b a reads reads' writes
+          writes' ends))
 
-      halts_rise : (halt : Halt) (s : S) (item : Item) (b a : Option (List ℕ)) (writes writes' : ℕ) → HaltsItem halt rules s item b a writes writes' → halt ≡ halts.WriteFault → Rose writes writes'
+      halts_rise : (halt : Halt) (s : S) (item : Item) (b a : Option (List ℕ)) (writes writes' : ℕ) → HaltsItem halt rules s item b a writes writes'
+          → halt ≡ halts.WriteFault → Rose writes writes'
       halts_rise halts.WriteFault s item b a writes writes' h e = h.halts.1
       halts_rise halts.NoMemory s item b a writes writes' h e = absurd (cc)
 
       item_ill : (s : S) (item : Item) (status : Status) (b a : Option (List ℕ)) (reads reads' writes writes' : ℕ)
-          → ((rules.take s item ≡ Stops status) × Grows b a []) ⊎ ((halt : Halt) × (status ≡ status_of_halt halt) × HaltsItem halt rules s item b a writes writes') → IsIllBy status reads reads' writes writes'
-      item_ill s item status b a reads reads' writes writes' (inl stops) = line_ill status reads reads' writes writes' (held_status status (items_stop s item status stops.0))
+          → ((rules.take s item ≡ Stops status) × Grows b a [])
+          ⊎ ((halt : Halt) × (status ≡ status_of_halt halt) × HaltsItem halt rules s item b a writes writes') → IsIllBy status reads reads' writes writes'
+      item_ill s item status b a reads reads' writes writes' (inl stops) =
+          line_ill status reads reads' writes writes' (held_status status (items_stop s item status stops.0))
       item_ill s item status b a reads reads' writes writes' (inr (halt, is, h)) =
-          let ill : IsIllBy (status_of_halt halt) reads reads' writes writes' = halt_ill halt reads reads' writes writes' (halts_rise halt s item b a writes writes' h) in
+          let ill : IsIllBy (status_of_halt halt) reads reads' writes writes' =
+          halt_ill halt reads reads' writes writes' (halts_rise halt s item b a writes writes' h) in
           rw is ill
 
       -- the run ended as the lanes did, or for another reason
       pub as_lanes_or_ill : (status : Status) → EndsSo belongs rules start first first' second second' before after status
-          → EndsAsLanes belongs rules start first first' second second' before after status ⊎ IsIllBy status before.replies.faults after.replies.faults before.faults after.faults
+          → EndsAsLanes belongs rules start first first' second second' before after status
+          ⊎ IsIllBy status before.replies.faults after.replies.faults before.faults after.faults
       as_lanes_or_ill status (inl s) =
-          inr (ill_since status before.replies.faults s.mid.replies.faults after.replies.faults before.faults s.mid.faults after.faults s.drove.reads s.drove.writes
+          inr (ill_since status before.replies.faults s.mid.replies.faults after.replies.faults before.faults s.mid.faults after.faults s.drove.reads
+          s.drove.writes
           (item_ill s.state s.item status s.mid.written after.written s.mid.replies.faults after.replies.faults s.mid.faults after.faults s.stops))
       as_lanes_or_ill status (inr (inl s)) =
-          inr (stops_ill s.state status _ _ _ _ _ _ before.replies.faults s.mid.replies.faults after.replies.faults before.faults s.mid.faults after.faults s.drove.reads s.drove.writes (λ last. by_reply s.state status s.waits last.is) s.stops)
+          inr (stops_ill s.state status _ _ _ _ _ _ before.replies.faults s.mid.replies.faults after.replies.faults before.faults s.mid.faults after.faults
+          s.drove.reads s.drove.writes (λ last. by_reply s.state status s.waits last.is) s.stops)
       as_lanes_or_ill status (inr (inr (inl s))) =
-          inr (stops_ill s.all.state status _ _ _ _ _ _ before.replies.faults s.mid.replies.faults after.replies.faults before.faults s.mid.faults after.faults s.all.drove.reads s.all.drove.writes (λ last. s.ill) s.stops)
+          inr (stops_ill s.all.state status _ _ _ _ _ _ before.replies.faults s.mid.replies.faults after.replies.faults before.faults s.mid.faults after.faults
+          s.all.drove.reads s.all.drove.writes (λ last. s.ill) s.stops)
       as_lanes_or_ill status (inr (inr (inr (inl s)))) = inl s
       as_lanes_or_ill status (inr (inr (inr (inr s)))) = inr (rw s.0 tt)
 
-      done_by : (status : Status) → status ≡ statuses.Done → before.reading ≡ unread → EndsAsLanes belongs rules start first first' second second' before after status ⊎ IsIllBy status before.replies.faults after.replies.faults before.faults after.faults
+      done_by : (status : Status) → status ≡ statuses.Done → before.reading ≡ unread → EndsAsLanes belongs rules start first first' second second' before after
+          status ⊎ IsIllBy status before.replies.faults after.replies.faults before.faults after.faults
           → TakesWhole belongs rules start first.left second.left before.replies.left after.replies.left before.written after.written
-      done_by status done fresh (inl s) = takes_whole fresh (subst (λ (x : Status). EndsAsLanes belongs rules start first first' second second' before after x) done s)
+      done_by status done fresh (inl s) =
+          takes_whole fresh (subst (λ (x : Status). EndsAsLanes belongs rules start first first' second second' before after x) done s)
       done_by status done fresh (inr ill) =
-          let none : IsIllBy statuses.Done before.replies.faults after.replies.faults before.faults after.faults = subst (λ (x : Status). IsIllBy x before.replies.faults after.replies.faults before.faults after.faults) done ill in
+          let none : IsIllBy statuses.Done before.replies.faults after.replies.faults before.faults after.faults =
+          subst (λ (x : Status). IsIllBy x before.replies.faults after.replies.faults before.faults after.faults) done ill in
           absurd none
 
       -- the run is done
-      pub done_whole : (status : Status) → before.reading ≡ unread → EndsSo belongs rules start first first' second second' before after status → status ≡ statuses.Done
+      pub done_whole : (status : Status) → before.reading ≡ unread → EndsSo belongs rules start first first' second second' before after status
+          → status ≡ statuses.Done
           → TakesWhole belongs rules start first.left second.left before.replies.left after.replies.left before.written after.written
       done_whole status fresh ends done = done_by status done fresh (as_lanes_or_ill status ends)
 
-      write_by : (status : Status) → status ≡ statuses.WriteFault → EndsAsLanes belongs rules start first first' second second' before after status ⊎ IsIllBy status before.replies.faults after.replies.faults before.faults after.faults → Rose before.faults after.faults
+      write_by : (status : Status) → status ≡ statuses.WriteFault → EndsAsLanes belongs rules start first first' second second' before after status
+          ⊎ IsIllBy status before.replies.faults after.replies.faults before.faults after.faults → Rose before.faults after.faults
       write_by status is (inl s) =
           let none : IsLaneStatus statuses.WriteFault = subst IsLaneStatus (sym s.is ∙ is) (lanes_status rules.name s.end s.end') in
           absurd none
       write_by status is (inr ill) = subst (λ (x : Status). IsIllBy x before.replies.faults after.replies.faults before.faults after.faults) is ill
 
-      pub write_fault : (status : Status) → EndsSo belongs rules start first first' second second' before after status → status ≡ statuses.WriteFault → Rose before.faults after.faults
+      pub write_fault : (status : Status) → EndsSo belongs rules start first first' second second' before after status → status ≡ statuses.WriteFault
+          → Rose before.faults after.faults
       write_fault status ends is = write_by status is (as_lanes_or_ill status ends)
 
-      opened_by : (status : Status) (lane : LaneName) → status ≡ statuses.OpenFault lane → EndsAsLanes belongs rules start first first' second second' before after status ⊎ IsIllBy status before.replies.faults after.replies.faults before.faults after.faults → ⊥
+      opened_by : (status : Status) (lane : LaneName) → status ≡ statuses.OpenFault lane → EndsAsLanes belongs rules start first first' second second' before
+          after status ⊎ IsIllBy status before.replies.faults after.replies.faults before.faults after.faults → ⊥
       opened_by status lane is (inl s) = subst IsLaneStatus (sym s.is ∙ is) (lanes_status rules.name s.end s.end')
       opened_by status lane is (inr ill) = subst (λ (x : Status). IsIllBy x before.replies.faults after.replies.faults before.faults after.faults) is ill
 
       -- both files are open
-      pub no_open_fault : (status : Status) → EndsSo belongs rules start first first' second second' before after status → (lane : LaneName) → status ≢ statuses.OpenFault lane
+      pub no_open_fault : (status : Status) → EndsSo belongs rules start first first' second second' before after status → (lane : LaneName)
+          → status ≢ statuses.OpenFault lane
       no_open_fault status ends lane is = opened_by status lane is (as_lanes_or_ill status ends)
 
-      read_by : (status : Status) (lane : LaneName) → status ≡ statuses.ReadFault lane → EndsAsLanes belongs rules start first first' second second' before after status ⊎ IsIllBy status before.replies.faults after.replies.faults before.faults after.faults
-          → ((lane ≡ lanes.Input) × Rose before.replies.faults after.replies.faults) ⊎ (((lane ≡ rules.name First) × Rose first.faults first'.faults) ⊎ ((lane ≡ rules.name Second) × Rose second.faults second'.faults))
-      read_by status lane is (inl s) = inr (lanes_read rules.name belongs first first' second second' (items_of First s.all.items) (items_of Second s.all.items) lane s.end s.end' s.all.lanes.first_ended.sends s.all.lanes.second_ended.sends (sym is ∙ s.is))
+      read_by : (status : Status) (lane : LaneName) → status ≡ statuses.ReadFault lane → EndsAsLanes belongs rules start first first' second second' before
+          after status ⊎ IsIllBy status before.replies.faults after.replies.faults before.faults after.faults
+          → ((lane ≡ lanes.Input) × Rose before.replies.faults after.replies.faults)
+          ⊎ (((lane ≡ rules.name First) × Rose first.faults first'.faults) ⊎ ((lane ≡ rules.name Second) × Rose second.faults second'.faults))
+      read_by status lane is (inl s) = inr (lanes_read rules.name belongs first first' second second' (items_of First s.all.items) (items_of Second s.all.items)
+          lane s.end s.end' s.all.lanes.first_ended.sends s.all.lanes.second_ended.sends (sym is ∙ s.is))
       read_by status lane is (inr ill) = inl (subst (λ (x : Status). IsIllBy x before.replies.faults after.replies.faults before.faults after.faults) is ill)
 
       -- the input or a file wasn't read
-      pub read_fault : (status : Status) → EndsSo belongs rules start first first' second second' before after status → (lane : LaneName) → status ≡ statuses.ReadFault lane
-          → ((lane ≡ lanes.Input) × Rose before.replies.faults after.replies.faults) ⊎ (((lane ≡ rules.name First) × Rose first.faults first'.faults) ⊎ ((lane ≡ rules.name Second) × Rose second.faults second'.faults))
+      pub read_fault : (status : Status) → EndsSo belongs rules start first first' second second' before after status → (lane : LaneName)
+          → status ≡ statuses.ReadFault lane
+          → ((lane ≡ lanes.Input) × Rose before.replies.faults after.replies.faults)
+          ⊎ (((lane ≡ rules.name First) × Rose first.faults first'.faults) ⊎ ((lane ≡ rules.name Second) × Rose second.faults second'.faults))
       read_fault status ends lane is = read_by status lane is (as_lanes_or_ill status ends)

@@ -60,19 +60,22 @@ end_ill (Limit what count) reads reads' writes writes' is ill = tt
 end_ill NoMemory reads reads' writes writes' is ill = tt
 
 -- a text isn't written whole
-pub halt_ill : (halt : Halt) (reads reads' writes writes' : ℕ) → (halt ≡ halts.WriteFault → Rose writes writes') → IsIllBy (status_of_halt halt) reads reads' writes writes'
+pub halt_ill : (halt : Halt) (reads reads' writes writes' : ℕ) → (halt ≡ halts.WriteFault → Rose writes writes')
+    → IsIllBy (status_of_halt halt) reads reads' writes writes'
 halt_ill halts.WriteFault reads reads' writes writes' rose = rose refl
 halt_ill halts.NoMemory reads reads' writes writes' rose = tt
 
 -- a line can't be read
-reader_ill : (end : LineEnd) (reads reads' writes writes' : ℕ) → (end ≡ reader.ReadFault → Rose reads reads') → IsIllBy (status_of_end end) reads reads' writes writes'
+reader_ill : (end : LineEnd) (reads reads' writes writes' : ℕ) → (end ≡ reader.ReadFault → Rose reads reads')
+    → IsIllBy (status_of_end end) reads reads' writes writes'
 reader_ill reader.ReadFault reads reads' writes writes' rose = (refl, rose refl)
 reader_ill (reader.LineLimit number) reads reads' writes writes' rose = tt
 reader_ill reader.InputLimit reads reads' writes writes' rose = tt
 reader_ill reader.NoMemory reads reads' writes writes' rose = tt
 
 -- the counts of before are no greater
-pub ill_since : (status : Status) (r reads reads' w writes writes' : ℕ) → r ≤ reads → w ≤ writes → IsIllBy status reads reads' writes writes' → IsIllBy status r reads' w writes'
+pub ill_since : (status : Status) (r reads reads' w writes writes' : ℕ) → r ≤ reads → w ≤ writes → IsIllBy status reads reads' writes writes'
+    → IsIllBy status r reads' w writes'
 ill_since Done r reads reads' w writes writes' x y ill = ill
 ill_since Usage r reads reads' w writes writes' x y ill = ill
 ill_since (OpenFault lane) r reads reads' w writes writes' x y ill = ill
@@ -87,21 +90,25 @@ ill_since (Limit what count) r reads reads' w writes writes' x y ill = tt
 ill_since NoMemory r reads reads' w writes writes' x y ill = tt
 
 module _ {S E : Type 0} (rules : Rules S E) (s : S) (can : (line : Line) (status : Status) → rules.step s line ≡ Stops status → IsLineStatus status) where
-  halted_ill : (halt : Halt) (line : Line) (before after : Option (List ℕ)) (reads reads' writes writes' : ℕ) → HaltsAt halt rules s line before after writes writes' → IsIllBy (status_of_halt halt) reads reads' writes writes'
+  halted_ill : (halt : Halt) (line : Line) (before after : Option (List ℕ)) (reads reads' writes writes' : ℕ)
+      → HaltsAt halt rules s line before after writes writes' → IsIllBy (status_of_halt halt) reads reads' writes writes'
   halted_ill halts.WriteFault line before after reads reads' writes writes' b = b.halts.1
   halted_ill halts.NoMemory line before after reads reads' writes writes' b = tt
 
-  refusal_ill : (refusal : Refusal) (line : Line) (before after : Option (List ℕ)) (reads reads' writes writes' : ℕ) → Refuses refusal rules s line before after writes writes' → IsIllBy (status_of_refusal refusal) reads reads' writes writes'
+  refusal_ill : (refusal : Refusal) (line : Line) (before after : Option (List ℕ)) (reads reads' writes writes' : ℕ)
+      → Refuses refusal rules s line before after writes writes' → IsIllBy (status_of_refusal refusal) reads reads' writes writes'
   refusal_ill (Stopped status) line before after reads reads' writes writes' r = line_ill status reads reads' writes writes' (can line status r.0)
   refusal_ill (Halted halt) line before after reads reads' writes writes' r = halted_ill halt line before after reads reads' writes writes' r
 
   -- Where the next line ends the run, no line is left or it is for one of these reasons.
-  pub ends_ill : (status : Status) (now next : Option Input) (held' : List ℕ) (left' before after : Option (List ℕ)) (reads reads' writes writes' : ℕ) → Ends rules s status now next held' left' before after reads reads' writes writes'
+  pub ends_ill : (status : Status) (now next : Option Input) (held' : List ℕ) (left' before after : Option (List ℕ)) (reads reads' writes writes' : ℕ)
+      → Ends rules s status now next held' left' before after reads reads' writes writes'
       → (IsLast rules s status now left' × Grows before after []) ⊎ IsIllBy status reads reads' writes writes'
   ends_ill status now next held' left' before after reads reads' writes writes' (inl last) = inl last
   ends_ill status now next held' left' before after reads reads' writes writes' (inr (inl (u, nothing))) =
       let ill : IsIllBy (status_of_end u.end) reads reads' writes writes' = reader_ill u.end reads reads' writes writes' (λ e. (u.failed e).1) in
       inr (rw u.is ill)
   ends_ill status now next held' left' before after reads reads' writes writes' (inr (inr u)) =
-      let ill : IsIllBy (status_of_refusal u.refusal) reads reads' writes writes' = refusal_ill u.refusal u.line before after reads reads' writes writes' u.refuses in
+      let ill : IsIllBy (status_of_refusal u.refusal) reads reads' writes writes' =
+      refusal_ill u.refusal u.line before after reads reads' writes writes' u.refuses in
       inr (rw u.is ill)

@@ -21,12 +21,14 @@ both_none (x ∷ xs) ys e = absurd (cc)
 
 module _ {S E : Type 0} (rules : LaneRules S E) where
   -- where a reply is awaited, the next line is it
-  pub hears_line : (b : Bool) (s : S) (line : Line) (step : Transition S E) → rules.waits s ≡ b → b ≡ true → (if b then rules.hear s line else Stops (statuses.BadReply line.number line.bytes)) ≡ step → rules.hear s line ≡ step
+  pub hears_line : (b : Bool) (s : S) (line : Line) (step : Transition S E) → rules.waits s ≡ b → b ≡ true
+      → (if b then rules.hear s line else Stops (statuses.BadReply line.number line.bytes)) ≡ step → rules.hear s line ≡ step
   hears_line true s line step is sure e = e
   hears_line false s line step is sure e = absurd (cc)
 
   -- some, and then others
-  pub AreHeard-append : (xs ys : List Line) (s t u : S) (es fs : List E) → AreHeard rules xs s t es → AreHeard rules ys t u fs → AreHeard rules (xs ++ ys) s u (es ++ fs)
+  pub AreHeard-append : (xs ys : List Line) (s t u : S) (es fs : List E) → AreHeard rules xs s t es → AreHeard rules ys t u fs
+      → AreHeard rules (xs ++ ys) s u (es ++ fs)
   AreHeard-append [] ys s t u es fs first second = rw first.1 (subst (λ (x : S). AreHeard rules ys x u fs) first.0 second)
   AreHeard-append (line ∷ xs) ys s t u es fs (next, mine, rest, waits, goes, others, is) second =
       (next, mine, rest ++ fs, waits, goes, AreHeard-append xs ys next t u rest fs others second, rw is (append_assoc mine rest fs))
@@ -48,8 +50,10 @@ module _ {S E : Type 0} (rules : LaneRules S E) where
     replies = first.replies ++ second.replies;
     entries = first.entries ++ second.entries;
     heard = AreHeard-append first.replies second.replies s t u first.entries second.entries first.heard second.heard;
-    comes = Follows-append (to_come before.reading before.replies.left) (to_come mid.reading mid.replies.left) (to_come after.reading after.replies.left) first.replies second.replies first.comes second.comes;
-    wrote = rw (flat_map-append rules.text first.entries second.entries) (Grows-append before.written mid.written after.written (flat_map rules.text first.entries) (flat_map rules.text second.entries) first.wrote second.wrote);
+    comes = Follows-append (to_come before.reading before.replies.left) (to_come mid.reading mid.replies.left) (to_come after.reading after.replies.left)
+        first.replies second.replies first.comes second.comes;
+    wrote = rw (flat_map-append rules.text first.entries second.entries) (Grows-append before.written mid.written after.written
+        (flat_map rules.text first.entries) (flat_map rules.text second.entries) first.wrote second.wrote);
     reads = omega (arith, first.reads, second.reads);
     writes = omega (arith, first.writes, second.writes);
     still = λ none.
@@ -58,12 +62,21 @@ module _ {S E : Type 0} (rules : LaneRules S E) where
   }
 
   -- one reply
-  pub hears_one : (s t : S) (before after : Outside) → rules.waits s ≡ true → Drives (reply_rules rules) s t (to_come before.reading before.replies.left) (to_come after.reading after.replies.left) before.written after.written
+  pub hears_one : (s t : S) (before after : Outside) → rules.waits s ≡ true
+      → Drives (reply_rules rules) s t (to_come before.reading before.replies.left) (to_come after.reading after.replies.left) before.written after.written
       → before.replies.faults ≤ after.replies.faults → before.faults ≤ after.faults → HearsSome rules s t before after
   hears_one s t before after waits d reads writes = record {
     replies = d.line ∷ [];
     entries = d.takes.entries;
-    heard = (t, d.takes.entries, [], waits, hears_line (rules.waits s) s d.line (Goes t d.takes.entries) refl waits d.takes.steps, (refl, refl), sym (append-nil d.takes.entries));
+    heard = (
+      t,
+      d.takes.entries,
+      [],
+      waits,
+      hears_line (rules.waits s) s d.line (Goes t d.takes.entries) refl waits d.takes.steps,
+      (refl, refl),
+      sym (append-nil d.takes.entries),
+    );
     comes = d.comes;
     wrote = d.takes.wrote;
     reads = reads;

@@ -1,5 +1,6 @@
 -- The run of two lanes, whose sources are files that were opened.
-use Rattle.std.proofs.Common.{◌≡◌, ◌≢◌, ◌⊎◌, inl, inr, ℕ, ◌≤◌, Bool, true, false, List, [], ◌++◌, Option, Some, Result, Ok, Err, OnOk, OnErr, refl, ap, ◌∙◌, subst, arith}
+use Rattle.std.proofs.Common.{◌≡◌, ◌≢◌, ◌⊎◌, inl, inr, ℕ, ◌≤◌, Bool, true, false, List, [], ◌++◌, Option}
+use Rattle.std.proofs.Common.{Some, Result, Ok, Err, OnOk, OnErr, refl, ap, ◌∙◌, subst, arith}
 use Rattle.std.proofs.lemmas.List.{append-nil}
 use Rattle.mlb_base.specs.declared.memory.NoMemory.{NoMemory as MemoryEnd}
 use Rattle.kube_model.specs.declared.event.Event.{Event}
@@ -28,37 +29,43 @@ use Rattle.lane_drive.proofs.Endings as endings
 use Rattle.lane_drive.proofs.Ways.{ends_undriven}
 
 -- a file isn't opened: but for OpenFault it is for want of memory
-pub memory_wants : (own : LaneName) (end : OpenEnd) (status : Status) → status ≡ status_of_open own end → ((lane : LaneName) → status ≢ statuses.OpenFault lane) → status ≡ statuses.NoMemory
+pub memory_wants : (own : LaneName) (end : OpenEnd) (status : Status) → status ≡ status_of_open own end → ((lane : LaneName) → status ≢ statuses.OpenFault lane)
+    → status ≡ statuses.NoMemory
 memory_wants own Failed status is other = absurd (other own is)
 memory_wants own NoMemory status is other = is
 
 -- a fault of an input that was new is one more of its name, once both are handed back
-counted : (own : List ℕ) (names : List (List ℕ)) (name : Option (List ℕ)) (faults : ℕ) → name ≡ Some own → faults ≢ 0 → Rose (times own names) (times own (with_closed names name faults))
+counted : (own : List ℕ) (names : List (List ℕ)) (name : Option (List ℕ)) (faults : ℕ) → name ≡ Some own → faults ≢ 0
+    → Rose (times own names) (times own (with_closed names name faults))
 counted own names name faults is some = rw is (Rose-closed own names faults some)
 
 -- a count that rose from nothing
 risen : (faults : ℕ) → Rose 0 faults → faults ≢ 0
 risen faults rose = λ none. absurd (omega (arith, none, rose))
 
-pub first_counted : (own : List ℕ) (m0 m1 m2 m3 : List (List ℕ)) (name name' : Option (List ℕ)) (faults faults' : ℕ) → m1 ≡ m0 → m2 ≡ with_closed m1 name faults → m3 ≡ with_closed m2 name' faults' → name ≡ Some own → faults ≢ 0 → Rose (times own m0) (times own m3)
+pub first_counted : (own : List ℕ) (m0 m1 m2 m3 : List (List ℕ)) (name name' : Option (List ℕ)) (faults faults' : ℕ) → m1 ≡ m0 → m2 ≡ with_closed m1 name faults
+    → m3 ≡ with_closed m2 name' faults' → name ≡ Some own → faults ≢ 0 → Rose (times own m0) (times own m3)
 first_counted own m0 m1 m2 m3 name name' faults faults' a b c is some =
     let rises : Rose (times own m1) (times own (with_closed m1 name faults)) = counted own m1 name faults is some in
     let later : times own m2 ≤ times own (with_closed m2 name' faults') = times-later own m2 _ in
     omega (arith, rises, later, ap (times own) a, ap (times own) b, ap (times own) c)
 
-pub second_counted : (own : List ℕ) (m0 m1 m2 m3 : List (List ℕ)) (name name' : Option (List ℕ)) (faults faults' : ℕ) → m1 ≡ m0 → m2 ≡ with_closed m1 name faults → m3 ≡ with_closed m2 name' faults' → name' ≡ Some own → faults' ≢ 0 → Rose (times own m0) (times own m3)
+pub second_counted : (own : List ℕ) (m0 m1 m2 m3 : List (List ℕ)) (name name' : Option (List ℕ)) (faults faults' : ℕ) → m1 ≡ m0
+    → m2 ≡ with_closed m1 name faults → m3 ≡ with_closed m2 name' faults' → name' ≡ Some own → faults' ≢ 0 → Rose (times own m0) (times own m3)
 second_counted own m0 m1 m2 m3 name name' faults faults' a b c is some =
     let later : times own m1 ≤ times own (with_closed m1 name faults) = times-later own m1 _ in
     let rises : Rose (times own m2) (times own (with_closed m2 name' faults')) = counted own m2 name' faults' is some in
     omega (arith, rises, later, ap (times own) a, ap (times own) b, ap (times own) c)
 
 -- of both inputs it is kept whether their readings failed
-pub kept_so : (own own' : List ℕ) (m0 m1 m2 m3 : List (List ℕ)) (name name' : Option (List ℕ)) (faults faults' : ℕ) → m1 ≡ m0 → m2 ≡ with_closed m1 name faults → m3 ≡ with_closed m2 name' faults' → name ≡ Some own → name' ≡ Some own'
+pub kept_so : (own own' : List ℕ) (m0 m1 m2 m3 : List (List ℕ)) (name name' : Option (List ℕ)) (faults faults' : ℕ) → m1 ≡ m0 → m2 ≡ with_closed m1 name faults
+    → m3 ≡ with_closed m2 name' faults' → name ≡ Some own → name' ≡ Some own'
     → m3 ≡ with_closed (with_closed m0 (Some own) faults) (Some own') faults'
 kept_so own own' m0 m1 m2 m3 name name' faults faults' a b c is is' = rw (c, b, a, is, is') refl
 
 -- an input that wasn't read leaves nothing to keep
-pub unread_closed : {T : Type 0} (closed : Result T MemoryEnd) (names names' : List (List ℕ)) (name : Option (List ℕ)) (faults : ℕ) → OnOk closed (names' ≡ with_closed names name faults) → OnErr closed (names' ≡ names) → faults ≡ 0 → names' ≡ names
+pub unread_closed : {T : Type 0} (closed : Result T MemoryEnd) (names names' : List (List ℕ)) (name : Option (List ℕ)) (faults : ℕ)
+    → OnOk closed (names' ≡ with_closed names name faults) → OnErr closed (names' ≡ names) → faults ≡ 0 → names' ≡ names
 unread_closed (Ok done) names names' name faults ok err none =
     let kept : names' ≡ names ++ [] = rw none at ok in
     kept ∙ append-nil names
@@ -67,59 +74,78 @@ unread_closed (Err end) names names' name faults ok err none = err
 -- Which openings failed.
 module _ (name : Lane → LaneName) (file file' : List ℕ) (status : Status) (opens opens' reads reads' : List (List ℕ)) where
   -- none
-  pub none_failed : ((lane : LaneName) → status ≢ statuses.OpenFault lane) → opens' ≡ opens → AtOpenFault name file file' status (files_view opens reads) (files_view opens' reads')
+  pub none_failed : ((lane : LaneName) → status ≢ statuses.OpenFault lane) → opens' ≡ opens
+      → AtOpenFault name file file' status (files_view opens reads) (files_view opens' reads')
   none_failed other same = ((λ lane is. absurd (other lane is)), (λ not. same))
 
   -- that of the first file, or memory was wanting
-  pub first_failed : (T : Type 0) (end : OpenEnd) → status ≡ status_of_open (name First) end → opens' ≡ with_failed {T = T} opens file (Err end) → reads' ≡ reads → AtOpenFault name file file' status (files_view opens reads) (files_view opens' reads')
+  pub first_failed : (T : Type 0) (end : OpenEnd) → status ≡ status_of_open (name First) end → opens' ≡ with_failed {T = T} opens file (Err end)
+      → reads' ≡ reads → AtOpenFault name file file' status (files_view opens reads) (files_view opens' reads')
   first_failed T Failed is failed same = ((λ lane it. (inl (cc, failed), same)), (λ other. absurd (other (name First) is)))
   first_failed T NoMemory is failed same = ((λ lane it. absurd (cc)), (λ other. failed))
 
   -- that of the second file, or memory was wanting
-  pub second_failed : (T : Type 0) (end : OpenEnd) → status ≡ status_of_open (name Second) end → opens' ≡ with_failed {T = T} opens file' (Err end) → reads' ≡ reads → AtOpenFault name file file' status (files_view opens reads) (files_view opens' reads')
+  pub second_failed : (T : Type 0) (end : OpenEnd) → status ≡ status_of_open (name Second) end → opens' ≡ with_failed {T = T} opens file' (Err end)
+      → reads' ≡ reads → AtOpenFault name file file' status (files_view opens reads) (files_view opens' reads')
   second_failed T Failed is failed same = ((λ lane it. (inr (cc, failed), same)), (λ other. absurd (other (name Second) is)))
   second_failed T NoMemory is failed same = ((λ lane it. absurd (cc)), (λ other. failed))
 
 -- Both inputs were just opened, and the reader has read nothing: what is so of them is so of the bytes of their files.
-pub of_files : (own own' : List ℕ) (bytes bytes' told : Option (List ℕ)) (safe safe' known : Bool) (name left : Option (List ℕ)) (faults : ℕ) (is_safe : Bool) (name' left' : Option (List ℕ)) (faults' : ℕ) (is_safe' : Bool) → IsOpened name left faults is_safe own bytes safe → IsOpened name' left' faults' is_safe' own' told known → told ≡ bytes' → known ≡ safe'
-    → (reader : Reading) → reader ≡ unread → (So : SourceView → SourceView → Reading → Type 0) → So (lane_view left name faults is_safe) (lane_view left' name' faults' is_safe') reader → So (lane_view bytes (Some own) 0 safe) (lane_view bytes' (Some own') 0 safe') unread
+pub of_files : (own own' : List ℕ) (bytes bytes' told : Option (List ℕ)) (safe safe' known : Bool) (name left : Option (List ℕ))
+    (faults : ℕ) (is_safe : Bool) (name' left' : Option (List ℕ)) (faults' : ℕ) (is_safe' : Bool) → IsOpened name left faults is_safe own bytes safe
+    → IsOpened name' left' faults' is_safe' own' told known → told ≡ bytes' → known ≡ safe'
+    → (reader : Reading) → reader ≡ unread → (So : SourceView → SourceView → Reading → Type 0) → So (lane_view left name faults is_safe)
+    (lane_view left' name' faults' is_safe') reader → So (lane_view bytes (Some own) 0 safe) (lane_view bytes' (Some own') 0 safe') unread
 of_files own own' bytes bytes' told safe safe' known name left faults is_safe name' left' faults' is_safe' opened opened' same same' reader fresh So so =
     let one : lane_view left name faults is_safe ≡ lane_view bytes (Some own) 0 safe = rw (opened.named, opened.whole, opened.none, opened.safety) refl in
-    let two : lane_view left' name' faults' is_safe' ≡ lane_view bytes' (Some own') 0 safe' = rw (opened'.named, opened'.whole, opened'.none, opened'.safety, same, same') refl in
+    let two : lane_view left' name' faults' is_safe' ≡ lane_view bytes' (Some own') 0 safe' =
+    rw (opened'.named, opened'.whole, opened'.none, opened'.safety, same, same') refl in
     let x = subst (λ (v : SourceView). So v (lane_view left' name' faults' is_safe') reader) one so in
     let y = subst (λ (v : SourceView). So (lane_view bytes (Some own) 0 safe) v reader) two x in
     subst (λ (r : Reading). So (lane_view bytes (Some own) 0 safe) (lane_view bytes' (Some own') 0 safe') r) fresh y
 
 module _ {S E : Type 0} (belongs : Lane → Event → Bool) (rules : LaneRules S E) (start : S) (quiet : rules.waits start ≡ false) where
   -- nothing was read or written
-  pub ends_none : (file file' : List ℕ) (files files' : FilesView) (first second replies : SourceView) (before : Option (List ℕ)) (writes : ℕ) (status : Status) → status ≡ statuses.NoMemory
+  pub ends_none : (file file' : List ℕ) (files files' : FilesView) (first second replies : SourceView) (before : Option (List ℕ)) (writes : ℕ) (status : Status)
+      → status ≡ statuses.NoMemory
       → EndsWith belongs rules start file file' files files' first second replies replies before before writes writes status
   ends_none file file' files files' first second replies before writes status is = record {
     first' = first;
     second' = second;
     reading = unread;
-    ends = rw is (ends_undriven belongs rules start quiet first first second second (outside unread replies before writes) (outside unread replies before writes) refl);
+    ends = rw is
+        (ends_undriven belongs rules start quiet first first second second (outside unread replies before writes) (outside unread replies before writes) refl);
     kept = λ known. absurd (known is);
   }
 
   -- both inputs were just opened, and the reader has read nothing
-  module _ (own own' : List ℕ) (bytes bytes' told : Option (List ℕ)) (safe safe' known : Bool) (name left : Option (List ℕ)) (faults : ℕ) (is_safe : Bool) (name' left' : Option (List ℕ)) (faults' : ℕ) (is_safe' : Bool) (opened : IsOpened name left faults is_safe own bytes safe) (opened' : IsOpened name' left' faults' is_safe' own' told known) (same : told ≡ bytes') (same' : known ≡ safe')
-      (reader : Reading) (fresh : reader ≡ unread) (first second replies : SourceView) (before : Option (List ℕ)) (writes : ℕ) (after : Outside) (status : Status)
-      (run : EndsSo belongs rules start (lane_view left name faults is_safe) first (lane_view left' name' faults' is_safe') second (outside reader replies before writes) after status) where
-    over_files : EndsSo belongs rules start (lane_view bytes (Some own) 0 safe) first (lane_view bytes' (Some own') 0 safe') second (outside unread replies before writes) after status
-    over_files = of_files own own' bytes bytes' told safe safe' known name left faults is_safe name' left' faults' is_safe' opened opened' same same' reader fresh
+  module _ (own own' : List ℕ) (bytes bytes' told : Option (List ℕ)) (safe safe' known : Bool) (name left : Option (List ℕ))
+      (faults : ℕ) (is_safe : Bool) (name' left' : Option (List ℕ)) (faults' : ℕ) (is_safe' : Bool) (opened : IsOpened name left faults is_safe own bytes safe)
+      (opened' : IsOpened name' left' faults' is_safe' own' told known) (same : told ≡ bytes') (same' : known ≡ safe')
+      (reader : Reading) (fresh : reader ≡ unread) (first second replies : SourceView) (before : Option (List ℕ)) (writes : ℕ) (after : Outside)
+      (status : Status)
+      (run : EndsSo belongs rules start (lane_view left name faults is_safe) first (lane_view left' name' faults' is_safe') second
+      (outside reader replies before writes) after status) where
+    over_files : EndsSo belongs rules start (lane_view bytes (Some own) 0 safe) first (lane_view bytes' (Some own') 0 safe') second
+        (outside unread replies before writes) after status
+    over_files =
+        of_files own own' bytes bytes' told safe safe' known name left faults is_safe name' left' faults' is_safe' opened opened' same same' reader fresh
         (λ v v' r. EndsSo belongs rules start v first v' second (outside r replies before writes) after status) run
 
-    pub ends_with : (files files' : FilesView) → files'.failed_reads ≡ with_closed (with_closed files.failed_reads (Some own) first.faults) (Some own') second.faults
-        → EndsWith belongs rules start own own' files files' (lane_view bytes (Some own) 0 safe) (lane_view bytes' (Some own') 0 safe') replies after.replies before after.written writes after.faults status
+    pub ends_with : (files files' : FilesView)
+        → files'.failed_reads ≡ with_closed (with_closed files.failed_reads (Some own) first.faults) (Some own') second.faults
+        → EndsWith belongs rules start own own' files files' (lane_view bytes (Some own) 0 safe) (lane_view bytes' (Some own') 0 safe') replies after.replies
+        before after.written writes after.faults status
     ends_with files files' kept = record { first' = first; second' = second; reading = after.reading; ends = over_files; kept = λ known. kept }
 
     pub only : WritesUpTo belongs rules start bytes bytes' (to_come unread replies.left) before after.written
-    only = endings.writes_upto belongs rules start (lane_view bytes (Some own) 0 safe) first (lane_view bytes' (Some own') 0 safe') second (outside unread replies before writes) after status quiet over_files
+    only = endings.writes_upto belongs rules start (lane_view bytes (Some own) 0 safe) first (lane_view bytes' (Some own') 0 safe') second
+        (outside unread replies before writes) after status quiet over_files
 
     -- that a reading failed isn't kept
     pub ends_unkept : (files files' : FilesView)
-        → EndsWith belongs rules start own own' files files' (lane_view bytes (Some own) 0 safe) (lane_view bytes' (Some own') 0 safe') replies after.replies before after.written writes after.faults statuses.NoMemory
+        → EndsWith belongs rules start own own' files files' (lane_view bytes (Some own) 0 safe) (lane_view bytes' (Some own') 0 safe') replies after.replies
+        before after.written writes after.faults statuses.NoMemory
     ends_unkept files files' = record {
       first' = first;
       second' = second;
@@ -128,26 +154,37 @@ module _ {S E : Type 0} (belongs : Lane → Event → Bool) (rules : LaneRules S
       kept = λ known. absurd (known refl);
     }
 
-    module _ (items_stop : (s : S) (item : Item) (status' : Status) → rules.take s item ≡ Stops status' → IsHeldLimit status') (replies_stop : (s : S) (line : Line) (status' : Status) → rules.waits s ≡ true → rules.hear s line ≡ Stops status' → (status' ≡ statuses.BadReply line.number line.bytes) ⊎ IsHeldLimit status')
+    module _ (items_stop : (s : S) (item : Item) (status' : Status) → rules.take s item ≡ Stops status' → IsHeldLimit status')
+        (replies_stop : (s : S) (line : Line) (status' : Status) → rules.waits s ≡ true → rules.hear s line ≡ Stops status'
+        → (status' ≡ statuses.BadReply line.number line.bytes) ⊎ IsHeldLimit status')
         (puts : (s : S) → rules.waits s ≡ true → (put : Put) × (rules.unanswered s ≡ statuses.NoReply put)) where
       pub done : status ≡ statuses.Done → TakesWhole belongs rules start bytes bytes' replies.left after.replies.left before after.written
-      done = endings.done_whole belongs rules start (lane_view bytes (Some own) 0 safe) first (lane_view bytes' (Some own') 0 safe') second (outside unread replies before writes) after items_stop replies_stop puts status refl over_files
+      done = endings.done_whole belongs rules start (lane_view bytes (Some own) 0 safe) first (lane_view bytes' (Some own') 0 safe') second
+          (outside unread replies before writes) after items_stop replies_stop puts status refl over_files
 
       pub write_fault : status ≡ statuses.WriteFault → Rose writes after.faults
-      write_fault = endings.write_fault belongs rules start (lane_view bytes (Some own) 0 safe) first (lane_view bytes' (Some own') 0 safe') second (outside unread replies before writes) after items_stop replies_stop puts status over_files
+      write_fault = endings.write_fault belongs rules start (lane_view bytes (Some own) 0 safe) first (lane_view bytes' (Some own') 0 safe') second
+          (outside unread replies before writes) after items_stop replies_stop puts status over_files
 
       pub no_open_fault : (lane : LaneName) → status ≢ statuses.OpenFault lane
-      no_open_fault = endings.no_open_fault belongs rules start (lane_view bytes (Some own) 0 safe) first (lane_view bytes' (Some own') 0 safe') second (outside unread replies before writes) after items_stop replies_stop puts status over_files
+      no_open_fault = endings.no_open_fault belongs rules start (lane_view bytes (Some own) 0 safe) first (lane_view bytes' (Some own') 0 safe') second
+          (outside unread replies before writes) after items_stop replies_stop puts status over_files
 
-      by_lane : (names names' : List (List ℕ)) → (first.faults ≢ 0 → Rose (times own names) (times own names')) → (second.faults ≢ 0 → Rose (times own' names) (times own' names')) → (lane : LaneName)
-          → ((lane ≡ lanes.Input) × Rose replies.faults after.replies.faults) ⊎ (((lane ≡ rules.name First) × Rose 0 first.faults) ⊎ ((lane ≡ rules.name Second) × Rose 0 second.faults))
-          → ((lane ≡ lanes.Input) × Rose replies.faults after.replies.faults) ⊎ (RoseFor lane (rules.name First) own names names' ⊎ RoseFor lane (rules.name Second) own' names names')
+      by_lane : (names names' : List (List ℕ)) → (first.faults ≢ 0 → Rose (times own names) (times own names'))
+          → (second.faults ≢ 0 → Rose (times own' names) (times own' names')) → (lane : LaneName)
+          → ((lane ≡ lanes.Input) × Rose replies.faults after.replies.faults)
+          ⊎ (((lane ≡ rules.name First) × Rose 0 first.faults) ⊎ ((lane ≡ rules.name Second) × Rose 0 second.faults))
+          → ((lane ≡ lanes.Input) × Rose replies.faults after.replies.faults)
+          ⊎ (RoseFor lane (rules.name First) own names names' ⊎ RoseFor lane (rules.name Second) own' names names')
       by_lane names names' rise rise' lane (inl input) = inl input
       by_lane names names' rise rise' lane (inr (inl one)) = inr (inl (one.0, rise (risen first.faults one.1)))
       by_lane names names' rise rise' lane (inr (inr two)) = inr (inr (two.0, rise' (risen second.faults two.1)))
 
-      pub read_fault : (names names' : List (List ℕ)) → (first.faults ≢ 0 → Rose (times own names) (times own names')) → (second.faults ≢ 0 → Rose (times own' names) (times own' names')) → (lane : LaneName) → status ≡ statuses.ReadFault lane
-          → ((lane ≡ lanes.Input) × Rose replies.faults after.replies.faults) ⊎ (RoseFor lane (rules.name First) own names names' ⊎ RoseFor lane (rules.name Second) own' names names')
+      pub read_fault : (names names' : List (List ℕ)) → (first.faults ≢ 0 → Rose (times own names) (times own names'))
+          → (second.faults ≢ 0 → Rose (times own' names) (times own' names')) → (lane : LaneName) → status ≡ statuses.ReadFault lane
+          → ((lane ≡ lanes.Input) × Rose replies.faults after.replies.faults)
+          ⊎ (RoseFor lane (rules.name First) own names names' ⊎ RoseFor lane (rules.name Second) own' names names')
       read_fault names names' rise rise' lane is =
           by_lane names names' rise rise' lane
-          (endings.read_fault belongs rules start (lane_view bytes (Some own) 0 safe) first (lane_view bytes' (Some own') 0 safe') second (outside unread replies before writes) after items_stop replies_stop puts status over_files lane is)
+          (endings.read_fault belongs rules start (lane_view bytes (Some own) 0 safe) first (lane_view bytes' (Some own') 0 safe') second
+          (outside unread replies before writes) after items_stop replies_stop puts status over_files lane is)

@@ -19,14 +19,16 @@ all_begin : {T : Type 0} (P : T → Type 0) (xs ys : List T) → AllByRecursion 
 all_begin P [] ys all = tt
 all_begin P (x ∷ xs) ys all = (all.0, all_begin P xs ys all.1)
 
-by_lane : (P : Item → Type 0) (one : Item) (items : List Item) (lane : Lane) → (AllByRecursion P (items_of First items) → AllByRecursion P (items_of Second items) → AllByRecursion P items)
+by_lane : (P : Item → Type 0) (one : Item) (items : List Item) (lane : Lane)
+    → (AllByRecursion P (items_of First items) → AllByRecursion P (items_of Second items) → AllByRecursion P items)
     → AllByRecursion P (if is_lane First lane then one ∷ items_of First items else items_of First items)
     → AllByRecursion P (if is_lane Second lane then one ∷ items_of Second items else items_of Second items) → P one × AllByRecursion P items
 by_lane P one items First all firsts seconds = (firsts.0, all firsts.1 seconds)
 by_lane P one items Second all firsts seconds = (seconds.0, all firsts seconds.1)
 
 -- what each item of either lane has, each item has
-all_lanes : (P : Item → Type 0) (items : List Item) → AllByRecursion P (items_of First items) → AllByRecursion P (items_of Second items) → AllByRecursion P items
+all_lanes : (P : Item → Type 0) (items : List Item) → AllByRecursion P (items_of First items) → AllByRecursion P (items_of Second items)
+    → AllByRecursion P items
 all_lanes P [] firsts seconds = tt
 all_lanes P (one ∷ items) firsts seconds = by_lane P one items one.lane (all_lanes P items) firsts seconds
 
@@ -38,11 +40,13 @@ module _ (belongs : Lane → Event → Bool) (lane : Lane) where
       subst (IsRead belongs) it (record { bytes = bytes; read = r; fits = fits })
   event_read event false number bytes one r fits e = absurd (cc)
 
-  item_read : (read : Result Event EventFault) (number : ℕ) (bytes : List ℕ) (one : Item) → event_of_line bytes ≡ read → item_by belongs lane number read ≡ Some one → IsRead belongs one
+  item_read : (read : Result Event EventFault) (number : ℕ) (bytes : List ℕ) (one : Item) → event_of_line bytes ≡ read
+      → item_by belongs lane number read ≡ Some one → IsRead belongs one
   item_read (Err fault) number bytes one r e = absurd (cc)
   item_read (Ok event) number bytes one r e = event_read event (belongs lane event) number bytes one r refl e
 
-  goes_read : (o : Option Item) (line : Line) (rest : LaneInput) → item_in belongs lane line ≡ o → AllByRecursion (IsRead belongs) rest.items → AllByRecursion (IsRead belongs) (goes_by o line rest).items
+  goes_read : (o : Option Item) (line : Line) (rest : LaneInput) → item_in belongs lane line ≡ o → AllByRecursion (IsRead belongs) rest.items
+      → AllByRecursion (IsRead belongs) (goes_by o line rest).items
   goes_read None line rest e all = tt
   goes_read (Some one) line rest e all = (item_read (event_of_line line.bytes) line.number line.bytes one refl e, all)
 
@@ -60,4 +64,5 @@ module _ (belongs : Lane → Event → Bool) (lane : Lane) where
 -- each item that is taken is the event of a line that may come by its lane
 pub items_are_read : (belongs : Lane → Event → Bool) → ItemsAreRead belongs
 items_are_read belongs first second items b =
-    all_lanes (IsRead belongs) items (begins_read belongs First first (items_of First items) b.firsts) (begins_read belongs Second second (items_of Second items) b.seconds)
+    all_lanes (IsRead belongs) items (begins_read belongs First first (items_of First items) b.firsts)
+    (begins_read belongs Second second (items_of Second items) b.seconds)

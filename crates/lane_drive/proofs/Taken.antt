@@ -22,7 +22,8 @@ use Rattle.mlb_edge.specs.InputLines.{Follows-refl, Follows-append, to_come}
 use Rattle.mlb_edge.specs.Written.{Grows, Grows-none, Grows-append}
 
 -- nothing is read where no line is, and none behind
-unread_both : (a b c : Outside) (xs ys : List Line) → (xs ≡ [] → (b.reading ≡ a.reading) × (b.replies ≡ a.replies)) → (ys ≡ [] → (c.reading ≡ b.reading) × (c.replies ≡ b.replies))
+unread_both : (a b c : Outside) (xs ys : List Line) → (xs ≡ [] → (b.reading ≡ a.reading) × (b.replies ≡ a.replies))
+    → (ys ≡ [] → (c.reading ≡ b.reading) × (c.replies ≡ b.replies))
     → xs ++ ys ≡ [] → (c.reading ≡ a.reading) × (c.replies ≡ a.replies)
 unread_both a b c xs ys first second none =
     let e = both_none xs ys none in
@@ -46,7 +47,8 @@ module _ {S E : Type 0} (rules : LaneRules S E) where
   told_text-append xs ys = flat_map-append (λ (one : Told E). item_text rules one.item one.entries) xs ys
 
   -- some items, and then others
-  pub AreTaken-append : (items items' : List Item) (xs ys : List Line) (s t u : S) (told told' : List (Told E)) → AreTaken rules items xs s t told → AreTaken rules items' ys t u told' → AreTaken rules (items ++ items') (xs ++ ys) s u (told ++ told')
+  pub AreTaken-append : (items items' : List Item) (xs ys : List Line) (s t u : S) (told told' : List (Told E)) → AreTaken rules items xs s t told
+      → AreTaken rules items' ys t u told' → AreTaken rules (items ++ items') (xs ++ ys) s u (told ++ told')
   AreTaken-append [] items' xs ys s t u told told' first second = rw (first.0, first.2) (subst (λ (x : S). AreTaken rules items' ys x u told') first.1 second)
   AreTaken-append (item ∷ items) items' xs ys s t u told told' (own, behind, next, entries, more, replies_are, taken, others, told_are) second = (
     own,
@@ -61,16 +63,20 @@ module _ {S E : Type 0} (rules : LaneRules S E) where
   )
 
   -- One reply more behind the last of these items.
-  pub hears_behind : (item : Item) (items : List Item) (lines : List Line) (s t u : S) (told : List (Told E)) (line : Line) (more : List E) → AreTaken rules (item ∷ items) lines s t told → rules.waits t ≡ true → rules.hear t line ≡ Goes u more
-      → (told' : List (Told E)) × AreTaken rules (item ∷ items) (lines ++ line ∷ []) s u told' × (told_text rules told' ≡ told_text rules told ++ flat_map rules.text more)
+  pub hears_behind : (item : Item) (items : List Item) (lines : List Line) (s t u : S) (told : List (Told E)) (line : Line) (more : List E)
+      → AreTaken rules (item ∷ items) lines s t told → rules.waits t ≡ true → rules.hear t line ≡ Goes u more
+      → (told' : List (Told E)) × AreTaken rules (item ∷ items) (lines ++ line ∷ []) s u told'
+      × (told_text rules told' ≡ told_text rules told ++ flat_map rules.text more)
   hears_behind item [] lines s t u told line more (own, behind, next, entries, rest, lines_are, taken, (none, same, last), told_are) waits hears =
       let waits' : rules.waits next ≡ true = ap rules.waits (sym same) ∙ waits in
       let hears' : rules.hear next line ≡ Goes u more = ap (λ (x : S). rules.hear x line) (sym same) ∙ hears in
       let heard : AreHeard rules (line ∷ []) next u more = (u, more, [], waits', hears', (refl, refl), sym (append-nil more)) in
       let one : Told E = record { item = item; entries = entries ++ more } in
       let text = item_text rules item entries in
-      let text_is : told_text rules (one ∷ []) ≡ text ++ flat_map rules.text more = append-nil (item_text rules item (entries ++ more)) ∙ item_text-append item entries more in
-      let before : told_text rules told ≡ text = ap (told_text rules) told_are ∙ (ap (λ (l : List (Told E)). text ++ told_text rules l) last ∙ append-nil text) in (
+      let text_is : told_text rules (one ∷ []) ≡ text ++ flat_map rules.text more =
+      append-nil (item_text rules item (entries ++ more)) ∙ item_text-append item entries more in
+      let before : told_text rules told ≡ text =
+      ap (told_text rules) told_are ∙ (ap (λ (l : List (Told E)). text ++ told_text rules l) last ∙ append-nil text) in (
         one ∷ [],
         (
           own ++ line ∷ [],
@@ -98,12 +104,15 @@ module _ {S E : Type 0} (rules : LaneRules S E) where
       let one : Told E = record { item = item; entries = entries } in (
         one ∷ last.0,
         (own, behind ++ line ∷ [], next, entries, last.0, rw lines_are (append_assoc own behind (line ∷ [])), taken, last.1, refl),
-        rw told_are (ap (λ (l : List ℕ). item_text rules item entries ++ l) last.2 ∙ sym (append_assoc (item_text rules item entries) (told_text rules rest) (flat_map rules.text more))),
+        rw told_are (ap (λ (l : List ℕ). item_text rules item entries ++ l) last.2
+            ∙ sym (append_assoc (item_text rules item entries) (told_text rules rest) (flat_map rules.text more))),
       )
 
   -- where a reply is awaited and none was at first, there is such an item
-  pub hears_last : (items : List Item) (lines : List Line) (s t u : S) (told : List (Told E)) (line : Line) (more : List E) → rules.waits s ≡ false → AreTaken rules items lines s t told → rules.waits t ≡ true → rules.hear t line ≡ Goes u more
-      → (told' : List (Told E)) × AreTaken rules items (lines ++ line ∷ []) s u told' × (told_text rules told' ≡ told_text rules told ++ flat_map rules.text more)
+  pub hears_last : (items : List Item) (lines : List Line) (s t u : S) (told : List (Told E)) (line : Line) (more : List E) → rules.waits s ≡ false
+      → AreTaken rules items lines s t told → rules.waits t ≡ true → rules.hear t line ≡ Goes u more
+      → (told' : List (Told E)) × AreTaken rules items (lines ++ line ∷ []) s u told'
+      × (told_text rules told' ≡ told_text rules told ++ flat_map rules.text more)
   hears_last [] lines s t u told line more quiet taken waits hears =
       let waits' : rules.waits s ≡ true = ap rules.waits (sym taken.1) ∙ waits in
       absurd (cc)
@@ -120,19 +129,23 @@ module _ {S E : Type 0} (rules : LaneRules S E) where
     unread = λ _. (refl, refl);
   }
 
-  pub drives_more : (items items' : List Item) (s t u : S) (told told' : List (Told E)) (before mid after : Outside) → Drives rules items s t told before mid → Drives rules items' t u told' mid after
+  pub drives_more : (items items' : List Item) (s t u : S) (told told' : List (Told E)) (before mid after : Outside) → Drives rules items s t told before mid
+      → Drives rules items' t u told' mid after
       → Drives rules (items ++ items') s u (told ++ told') before after
   drives_more items items' s t u told told' before mid after first second = record {
     replies = first.replies ++ second.replies;
     taken = AreTaken-append items items' first.replies second.replies s t u told told' first.taken second.taken;
-    comes = Follows-append (to_come before.reading before.replies.left) (to_come mid.reading mid.replies.left) (to_come after.reading after.replies.left) first.replies second.replies first.comes second.comes;
-    wrote = rw (told_text-append told told') (Grows-append before.written mid.written after.written (told_text rules told) (told_text rules told') first.wrote second.wrote);
+    comes = Follows-append (to_come before.reading before.replies.left) (to_come mid.reading mid.replies.left) (to_come after.reading after.replies.left)
+        first.replies second.replies first.comes second.comes;
+    wrote = rw (told_text-append told told')
+        (Grows-append before.written mid.written after.written (told_text rules told) (told_text rules told') first.wrote second.wrote);
     reads = omega (arith, first.reads, second.reads);
     writes = omega (arith, first.writes, second.writes);
     unread = unread_both before mid after first.replies second.replies first.unread second.unread;
   }
 
-  pub takes_one : (s t u : S) (item : Item) (lines : List Line) (first rest : List E) → rules.waits s ≡ false → rules.take s item ≡ Goes t first → AreHeard rules lines t u rest → AreTaken rules (item ∷ []) lines s u (one_told item (first ++ rest))
+  pub takes_one : (s t u : S) (item : Item) (lines : List Line) (first rest : List E) → rules.waits s ≡ false → rules.take s item ≡ Goes t first
+      → AreHeard rules lines t u rest → AreTaken rules (item ∷ []) lines s u (one_told item (first ++ rest))
   takes_one s t u item lines first rest quiet steps heard = (
     lines,
     [],
@@ -145,7 +158,8 @@ module _ {S E : Type 0} (rules : LaneRules S E) where
     refl,
   )
 
-  drives_one : (s t u : S) (item : Item) (before mid after : Outside) → rules.waits s ≡ false → (took : TakesItem rules s t item before.written mid.written) → mid.reading ≡ before.reading → mid.replies ≡ before.replies → before.faults ≤ mid.faults
+  drives_one : (s t u : S) (item : Item) (before mid after : Outside) → rules.waits s ≡ false → (took : TakesItem rules s t item before.written mid.written)
+      → mid.reading ≡ before.reading → mid.replies ≡ before.replies → before.faults ≤ mid.faults
       → (hears : HearsSome rules t u mid after) → Drives rules (item ∷ []) s u (one_told item (took.entries ++ hears.entries)) before after
   drives_one s t u item before mid after quiet took reading replies later hears =
       let text = item_text rules item took.entries in
@@ -156,7 +170,8 @@ module _ {S E : Type 0} (rules : LaneRules S E) where
         replies = hears.replies;
         taken = takes_one s t u item hears.replies took.entries hears.entries quiet took.steps hears.heard;
         comes = rw same hears.comes;
-        wrote = subst (λ (x : List ℕ). Grows before.written after.written x) (sym (append-nil (item_text rules item (took.entries ++ hears.entries)) ∙ item_text-append item took.entries hears.entries)) wrote;
+        wrote = subst (λ (x : List ℕ). Grows before.written after.written x)
+            (sym (append-nil (item_text rules item (took.entries ++ hears.entries)) ∙ item_text-append item took.entries hears.entries)) wrote;
         reads = omega (arith, hears.reads, ap (λ (v : SourceView). v.faults) replies);
         writes = omega (arith, later, hears.writes);
         unread = λ none.
@@ -165,9 +180,11 @@ module _ {S E : Type 0} (rules : LaneRules S E) where
       }
 
   -- What the reconciler makes of an item: where no reply is awaited, none is heard before it.
-  module _ (s s' t : S) (item : Item) (before mid mid' : Outside) (first : HearsSome rules s s' before mid) (took : TakesItem rules s' t item mid.written mid'.written)
+  module _ (s s' t : S) (item : Item) (before mid mid' : Outside) (first : HearsSome rules s s' before mid)
+      (took : TakesItem rules s' t item mid.written mid'.written)
       (reading : mid'.reading ≡ mid.reading) (replies : mid'.replies ≡ mid.replies) (later : mid.faults ≤ mid'.faults) where
-    driven_one : (u : S) (after : Outside) → rules.waits s ≡ false → (hears : HearsSome rules t u mid' after) → Drives rules (item ∷ []) s u (one_told item (took.entries ++ hears.entries)) before after
+    driven_one : (u : S) (after : Outside) → rules.waits s ≡ false → (hears : HearsSome rules t u mid' after)
+        → Drives rules (item ∷ []) s u (one_told item (took.entries ++ hears.entries)) before after
     driven_one u after quiet hears =
         let same = hears_not rules s s' before mid quiet first in
         let told = one_told item (took.entries ++ hears.entries) in
@@ -199,8 +216,10 @@ module _ {S E : Type 0} (rules : LaneRules S E) where
     })
 
   -- the item isn't taken
-  pub fails_item : (s s' : S) (item : Item) (before mid after : Outside) (status : Status) (refusal : Refusal) → HearsSome rules s s' before mid → status ≡ status_of_refusal refusal
-      → RefusesItem refusal rules s' item mid.written after.written mid.faults after.faults → after.reading ≡ mid.reading → after.replies ≡ mid.replies → RefusesNext rules status s item before after
+  pub fails_item : (s s' : S) (item : Item) (before mid after : Outside) (status : Status) (refusal : Refusal) → HearsSome rules s s' before mid
+      → status ≡ status_of_refusal refusal
+      → RefusesItem refusal rules s' item mid.written after.written mid.faults after.faults → after.reading ≡ mid.reading → after.replies ≡ mid.replies
+      → RefusesNext rules status s item before after
   fails_item s s' item before mid after status refusal first is refuses reading replies quiet =
       let same = hears_not rules s s' before mid quiet first in
       let fails : FailsItem rules status s' item mid after = record { refusal = refusal; is = is; refuses = refuses; unread = (reading, replies) } in
@@ -215,7 +234,8 @@ module _ {S E : Type 0} (rules : LaneRules S E) where
       absurd (cc)
 
   -- no reply is awaited, so none stops the run
-  pub fails_not : (s : S) (item : Item) (before after : Outside) (status : Status) → StopsHearing rules s status before after → RefusesNext rules status s item before after
+  pub fails_not : (s : S) (item : Item) (before after : Outside) (status : Status) → StopsHearing rules s status before after
+      → RefusesNext rules status s item before after
   fails_not s item before after status stops quiet =
       let same = hears_not rules s stops.state before stops.mid quiet stops.hears in
       let waits : rules.waits stops.state ≡ true = stops.waits in
@@ -223,7 +243,8 @@ module _ {S E : Type 0} (rules : LaneRules S E) where
       absurd (cc)
 
   -- The items that drove the reconciler were taken one after the other.
-  pub drives_all : (items : List Item) (s t : S) (before after : Outside) → rules.waits s ≡ false → AreDriven (DrivesItem rules) items s t before after → (told : List (Told E)) × Drives rules items s t told before after × (rules.waits t ≡ false)
+  pub drives_all : (items : List Item) (s t : S) (before after : Outside) → rules.waits s ≡ false → AreDriven (DrivesItem rules) items s t before after
+      → (told : List (Told E)) × Drives rules items s t told before after × (rules.waits t ≡ false)
   drives_all [] s t before after quiet are = ([], rw (are.0, are.1) (drives_none s before), rw are.0 quiet)
   drives_all (item ∷ items) s t before after quiet (next, mid, one, others) =
       let x = one quiet in
@@ -231,7 +252,8 @@ module _ {S E : Type 0} (rules : LaneRules S E) where
       (x.0 ++ y.0, drives_more (item ∷ []) items s next t x.0 y.0 before mid after x.1 y.1, y.2)
 
   -- Where a reply is asked for while the reconciler takes an item, it is awaited behind all that were taken.
-  pub awaits_in : (s : S) (before now : Outside) → rules.waits s ≡ false → AsksIn (DrivesItem rules) (AsksFor rules) s before now → (items : List Item) × AwaitsReply rules items s before now
+  pub awaits_in : (s : S) (before now : Outside) → rules.waits s ≡ false → AsksIn (DrivesItem rules) (AsksFor rules) s before now
+      → (items : List Item) × AwaitsReply rules items s before now
   awaits_in s before now quiet asks =
       let d = drives_all asks.driven s asks.state before asks.mid quiet asks.drove in
       let more = asks.asks d.2 in (
@@ -246,13 +268,15 @@ module _ {S E : Type 0} (rules : LaneRules S E) where
       )
 
   -- Where the next item is waited for, all that were taken are answered.
-  pub answers_in : (s : S) (before : Outside) (items : List Item) (written : Option (List ℕ)) → rules.waits s ≡ false → HasDriven (DrivesItem rules) s before items written → AnswersAll rules s before items written
+  pub answers_in : (s : S) (before : Outside) (items : List Item) (written : Option (List ℕ)) → rules.waits s ≡ false
+      → HasDriven (DrivesItem rules) s before items written → AnswersAll rules s before items written
   answers_in s before items written quiet has =
       let d = drives_all items s has.state before has.now quiet has.drove in
       record { state = has.state; told = d.0; now = has.now; drove = d.1; quiet = d.2; is = has.is }
 
   -- Where what the lanes still send is dropped, the run has stopped.
-  pub stopped_in : (s : S) (before : Outside) (items : List Item) (written : Option (List ℕ)) → rules.waits s ≡ false → HasRefused (DrivesItem rules) (RefusesNext rules) s before items written → HasStopped rules s before items written
+  pub stopped_in : (s : S) (before : Outside) (items : List Item) (written : Option (List ℕ)) → rules.waits s ≡ false
+      → HasRefused (DrivesItem rules) (RefusesNext rules) s before items written → HasStopped rules s before items written
   stopped_in s before items written quiet has =
       let d = drives_all has.driven s has.state before has.mid quiet has.drove in
       record {

@@ -1,5 +1,6 @@
 -- How the run of two lanes that are open ends.
-use Rattle.std.proofs.Common.{◌≡◌, ◌≢◌, ◌⊎◌, inl, inr, ℕ, Bool, true, false, List, [], ◌∷◌, ◌++◌, Option, None, Some, Result, Ok, Err, refl, sym, ap, ◌∙◌, subst, append_assoc}
+use Rattle.std.proofs.Common.{◌≡◌, ◌≢◌, ◌⊎◌, inl, inr, ℕ, Bool, true, false, List, [], ◌∷◌, ◌++◌, Option}
+use Rattle.std.proofs.Common.{None, Some, Result, Ok, Err, refl, sym, ap, ◌∙◌, subst, append_assoc}
 use Rattle.std.proofs.lemmas.List.{append-nil}
 use Rattle.kube_model.specs.declared.event.Event.{Event}
 use Rattle.kube_model.specs.declared.status.Status.{Status}
@@ -39,7 +40,8 @@ begins_none belongs lane None = record { input = lane_input_from belongs lane []
 begins_none belongs lane (Some bytes) = record { input = lane_input belongs lane bytes; is = refl; begins = ((lane_input belongs lane bytes).items, refl) }
 
 -- where nothing was refused, all that was taken drove the reconciler
-drove_all : {S U : Type 0} (Goes : S → S → Item → Outside → Outside → Type 0) (Refuses : Status → S → Item → Outside → Outside → Type 0) (taken : List Item) (s t : S) (before after : Outside) (done : U)
+drove_all : {S U : Type 0} (Goes : S → S → Item → Outside → Outside → Type 0) (Refuses : Status → S → Item → Outside → Outside → Type 0) (taken : List Item)
+    (s t : S) (before after : Outside) (done : U)
     → Drove Goes Refuses taken s t before after (Ok done) → AreDriven Goes taken s t before after
 drove_all Goes Refuses taken s t before after done d =
     let all : taken ≡ d.driven = d.split ∙ (ap (λ (l : List Item). d.driven ++ l) d.leaves.0 ∙ append-nil d.driven) in
@@ -47,9 +49,11 @@ drove_all Goes Refuses taken s t before after done d =
 
 module _ {S E : Type 0} (rules : LaneRules S E) where
   -- why the item isn't taken
-  why : (refusal : Refusal) (s : S) (item : Item) (before after : Outside) → RefusesItem refusal rules s item before.written after.written before.faults after.faults
+  why : (refusal : Refusal) (s : S) (item : Item) (before after : Outside)
+      → RefusesItem refusal rules s item before.written after.written before.faults after.faults
       → ((rules.take s item ≡ Stops (status_of_refusal refusal)) × Grows before.written after.written [])
-      ⊎ ((halt : Halt) × (status_of_refusal refusal ≡ status_of_halt halt) × HaltsItem halt rules s item before.written after.written before.faults after.faults)
+      ⊎ ((halt : Halt) × (status_of_refusal refusal ≡ status_of_halt halt)
+      × HaltsItem halt rules s item before.written after.written before.faults after.faults)
   why (Stopped status) s item before after r = inl r
   why (Halted halt) s item before after r = inr (halt, refl, r)
 
@@ -60,7 +64,8 @@ module _ {S E : Type 0} (rules : LaneRules S E) where
       absurd (cc)
 
   -- where no reply is ever awaited, none is heard
-  pub silent : (items : List Item) (replies : List Line) (s t : S) (told : List (Told E)) → ((x : S) → rules.waits x ≡ false) → AreTaken rules items replies s t told → replies ≡ []
+  pub silent : (items : List Item) (replies : List Line) (s t : S) (told : List (Told E)) → ((x : S) → rules.waits x ≡ false)
+      → AreTaken rules items replies s t told → replies ≡ []
   silent [] replies s t told never taken = taken.0
   silent (item ∷ items) replies s t told never (own, behind, next, entries, more, replies_are, taken, others, told_are) =
       let none : own ≡ [] = never_heard own taken.next next taken.rest never taken.heard in
@@ -69,7 +74,8 @@ module _ {S E : Type 0} (rules : LaneRules S E) where
 
 module _ {S E : Type 0} (belongs : Lane → Event → Bool) (rules : LaneRules S E) (start : S) (quiet : rules.waits start ≡ false) where
   -- for want of memory nothing was done
-  pub writes_none : (first second : Option (List ℕ)) (now : Option Input) (before : Option (List ℕ)) → WritesUpTo belongs rules start first second now before before
+  pub writes_none : (first second : Option (List ℕ)) (now : Option Input) (before : Option (List ℕ))
+      → WritesUpTo belongs rules start first second now before before
   writes_none first second now before = record {
     items = [];
     replies = [];
@@ -82,9 +88,14 @@ module _ {S E : Type 0} (belongs : Lane → Event → Bool) (rules : LaneRules S
     wrote = upto_none before [];
   }
 
-  pub ends_undriven : (first first' second second' : SourceView) (before after : Outside) → after.written ≡ before.written → EndsSo belongs rules start first first' second second' before after statuses.NoMemory
+  pub ends_undriven : (first first' second second' : SourceView) (before after : Outside) → after.written ≡ before.written
+      → EndsSo belongs rules start first first' second second' before after statuses.NoMemory
   ends_undriven first first' second second' before after same =
-      inr (inr (inr (inr (refl, subst (λ (o : Option (List ℕ)). WritesUpTo belongs rules start first.left second.left (to_come before.reading before.replies.left) before.written o) (sym same) (writes_none first.left second.left (to_come before.reading before.replies.left) before.written)))))
+      inr (inr (inr (inr (
+        refl,
+        subst (λ (o : Option (List ℕ)). WritesUpTo belongs rules start first.left second.left (to_come before.reading
+            before.replies.left) before.written o) (sym same) (writes_none first.left second.left (to_come before.reading before.replies.left) before.written),
+      ))))
 
   -- The items before this one drove the machine, which refused it or a reply behind it.
   record Refused (before after : Outside) (taken : List Item) (status : Status) : Type 0 where
@@ -99,7 +110,8 @@ module _ {S E : Type 0} (belongs : Lane → Event → Bool) (rules : LaneRules S
     pub still : rules.waits state ≡ false
     pub fails : FailsItem rules status state item mid after ⊎ FailsBehind rules status state item mid after
 
-  module _ (first first' second second' : SourceView) (end end' : LaneEnd) (before after : Outside) (taken : List Item) (status : Status) (r : Refused before after taken status) (lanes : LanesEnded belongs first first' second second' taken end end') where
+  module _ (first first' second second' : SourceView) (end end' : LaneEnd) (before after : Outside) (taken : List Item) (status : Status)
+      (r : Refused before after taken status) (lanes : LanesEnded belongs first first' second second' taken end end') where
     sent : LanesEnded belongs first first' second second' (r.items ++ r.item ∷ r.dropped) end end'
     sent = subst (λ (l : List Item). LanesEnded belongs first first' second second' l end end') r.split lanes
 
@@ -110,9 +122,11 @@ module _ {S E : Type 0} (belongs : Lane → Event → Bool) (rules : LaneRules S
     begin = begins_of belongs rules start first first' second second' (r.items ++ r.item ∷ r.dropped) r.items (r.item ∷ r.dropped) end end' sent refl
 
     begin' : AreBeginnings belongs first.left second.left (r.items ++ r.item ∷ [])
-    begin' = begins_of belongs rules start first first' second second' (r.items ++ r.item ∷ r.dropped) (r.items ++ r.item ∷ []) r.dropped end end' sent with_item
+    begin' = begins_of belongs rules start first first' second second' (r.items ++ r.item ∷ r.dropped) (r.items ++ r.item ∷ []) r.dropped end end' sent
+        with_item
 
-    by_fails : (end ≢ NoMemory) × (end' ≢ NoMemory) → FailsItem rules status r.state r.item r.mid after ⊎ FailsBehind rules status r.state r.item r.mid after → EndsSo belongs rules start first first' second second' before after status
+    by_fails : (end ≢ NoMemory) × (end' ≢ NoMemory) → FailsItem rules status r.state r.item r.mid after ⊎ FailsBehind rules status r.state r.item r.mid after
+        → EndsSo belongs rules start first first' second second' before after status
     by_fails known (inl fails) = inl (record {
       items = r.items;
       item = r.item;
@@ -144,16 +158,20 @@ module _ {S E : Type 0} (belongs : Lane → Event → Bool) (rules : LaneRules S
       known = known;
     }))
 
-    upto_fails : FailsItem rules status r.state r.item r.mid after ⊎ FailsBehind rules status r.state r.item r.mid after → WritesUpTo belongs rules start first.left second.left (to_come before.reading before.replies.left) before.written after.written
+    upto_fails : FailsItem rules status r.state r.item r.mid after ⊎ FailsBehind rules status r.state r.item r.mid after
+        → WritesUpTo belongs rules start first.left second.left (to_come before.reading before.replies.left) before.written after.written
     upto_fails (inl fails) =
-        upto_stopped belongs rules start quiet first.left second.left r.items r.state r.told before r.mid r.drove after.written status r.item r.mid.faults after.faults begin begin' r.still
+        upto_stopped belongs rules start quiet first.left second.left r.items r.state r.told before r.mid r.drove after.written status r.item r.mid.faults
+        after.faults begin begin' r.still
         (rw fails.is (why rules fails.refusal r.state r.item r.mid after fails.refuses))
     upto_fails (inr fails) =
         upto_read belongs rules start quiet first.left second.left (r.items ++ r.item ∷ []) fails.state (r.told ++ fails.told) before fails.mid
-        (drives_more rules r.items (r.item ∷ []) start r.state fails.state r.told fails.told before r.mid fails.mid r.drove fails.drove) after.written status _ _ _ _ _ _ _ begin' fails.stops
+        (drives_more rules r.items (r.item ∷ []) start r.state fails.state r.told fails.told before r.mid fails.mid r.drove fails.drove) after.written status
+        _ _ _ _ _ _ _ begin' fails.stops
 
     -- where no reply is ever awaited, nothing was read
-    leaves_fails : ((x : S) → rules.waits x ≡ false) → FailsItem rules status r.state r.item r.mid after ⊎ FailsBehind rules status r.state r.item r.mid after → after.replies ≡ before.replies
+    leaves_fails : ((x : S) → rules.waits x ≡ false) → FailsItem rules status r.state r.item r.mid after ⊎ FailsBehind rules status r.state r.item r.mid after
+        → after.replies ≡ before.replies
     leaves_fails never (inl fails) = fails.unread.1 ∙ (r.drove.unread (silent rules r.items r.drove.replies start r.state r.told never r.drove.taken)).1
     leaves_fails never (inr fails) =
         let waits : rules.waits fails.state ≡ true = fails.waits in
@@ -161,7 +179,8 @@ module _ {S E : Type 0} (belongs : Lane → Event → Bool) (rules : LaneRules S
         absurd (cc)
 
   -- the reconciler refused an item
-  module _ (first first' second second' : SourceView) (before after : Outside) (t : S) (run : LaneRun) (ran : Ran belongs (DrivesItem rules) (RefusesNext rules) first first' second second' start t before after run) (status : Status) (ill : run.outcome ≡ Err status) where
+  module _ (first first' second second' : SourceView) (before after : Outside) (t : S) (run : LaneRun) (ran : Ran belongs (DrivesItem rules) (RefusesNext rules)
+      first first' second second' start t before after run) (status : Status) (ill : run.outcome ≡ Err status) where
     refused : Refused before after ran.taken status
     refused =
         let failed : Result (Unit {0}) Status = Err status in
@@ -185,14 +204,17 @@ module _ {S E : Type 0} (belongs : Lane → Event → Bool) (rules : LaneRules S
     ends_refused known = by_fails first first' second second' run.first run.second before after ran.taken status refused ran.lanes known refused.fails
 
     pub leaves_refused : (rules.hears ≡ false → (x : S) → rules.waits x ≡ false) → rules.hears ≡ false → LeavesInput before.replies after.replies
-    leaves_refused never none = leaves_fails first first' second second' run.first run.second before after ran.taken status refused ran.lanes (never none) refused.fails
+    leaves_refused never none =
+        leaves_fails first first' second second' run.first run.second before after ran.taken status refused ran.lanes (never none) refused.fails
 
     -- and a lane ended for want of memory
     upto_refused : EndsSo belongs rules start first first' second second' before after statuses.NoMemory
-    upto_refused = inr (inr (inr (inr (refl, upto_fails first first' second second' run.first run.second before after ran.taken status refused ran.lanes refused.fails))))
+    upto_refused =
+        inr (inr (inr (inr (refl, upto_fails first first' second second' run.first run.second before after ran.taken status refused ran.lanes refused.fails))))
 
   -- all that both lanes sent was taken
-  module _ (first first' second second' : SourceView) (before mid : Outside) (t : S) (run : LaneRun) (ran : Ran belongs (DrivesItem rules) (RefusesNext rules) first first' second second' start t before mid run) (done : run.outcome ≡ Ok tt) where
+  module _ (first first' second second' : SourceView) (before mid : Outside) (t : S) (run : LaneRun)
+      (ran : Ran belongs (DrivesItem rules) (RefusesNext rules) first first' second second' start t before mid run) (done : run.outcome ≡ Ok tt) where
     all_driven : AreDriven (DrivesItem rules) ran.taken start t before mid
     all_driven =
         let well : Result (Unit {0}) Status = Ok tt in
@@ -221,7 +243,8 @@ module _ {S E : Type 0} (belongs : Lane → Event → Bool) (rules : LaneRules S
           },
         ))))
 
-    abbrev all_taken : (run.first ≢ NoMemory) × (run.second ≢ NoMemory) → TakesAll belongs rules start first first' second second' before mid run.first run.second
+    abbrev all_taken : (run.first ≢ NoMemory) × (run.second ≢ NoMemory)
+        → TakesAll belongs rules start first first' second second' before mid run.first run.second
     all_taken known =
         let d = drives_all rules ran.taken start t before mid quiet all_driven in
         record {
@@ -235,15 +258,20 @@ module _ {S E : Type 0} (belongs : Lane → Event → Bool) (rules : LaneRules S
         }
 
     -- where there are replies, the end of the input may be asked for
-    pub asks_behind : (run.first ≢ NoMemory) × (run.second ≢ NoMemory) → rules.hears ≡ true → (HoldsLine mid.reading → ⊥) → AsksMore belongs rules start first second before mid
-    asks_behind known hears none_held = inr (record { first' = first'; second' = second'; end = run.first; end' = run.second; all = all_taken known; none_held = none_held; hears = hears })
+    pub asks_behind : (run.first ≢ NoMemory) × (run.second ≢ NoMemory) → rules.hears ≡ true → (HoldsLine mid.reading → ⊥)
+        → AsksMore belongs rules start first second before mid
+    asks_behind known hears none_held =
+        inr (record { first' = first'; second' = second'; end = run.first; end' = run.second; all = all_taken known; none_held = none_held; hears = hears })
 
     -- the input isn't at its end
-    pub ends_behind : (run.first ≢ NoMemory) × (run.second ≢ NoMemory) → (after : Outside) (status : Status) → GoesBehind rules t status mid after → EndsSo belongs rules start first first' second second' before after status
-    ends_behind known after status behind = inr (inr (inl (record { end = run.first; end' = run.second; mid = mid; all = all_taken known; hears = behind.hears; stops = behind.stops; ill = behind.ill })))
+    pub ends_behind : (run.first ≢ NoMemory) × (run.second ≢ NoMemory) → (after : Outside) (status : Status) → GoesBehind rules t status mid after
+        → EndsSo belongs rules start first first' second second' before after status
+    ends_behind known after status behind = inr (inr
+        (inl (record { end = run.first; end' = run.second; mid = mid; all = all_taken known; hears = behind.hears; stops = behind.stops; ill = behind.ill })))
 
     -- it is, or there are no replies
-    pub ends_as_lanes : (run.first ≢ NoMemory) × (run.second ≢ NoMemory) → (after : Outside) → EndsHearing rules mid after → EndsSo belongs rules start first first' second second' before after (status_of_lanes rules.name run.first run.second)
+    pub ends_as_lanes : (run.first ≢ NoMemory) × (run.second ≢ NoMemory) → (after : Outside) → EndsHearing rules mid after
+        → EndsSo belongs rules start first first' second second' before after (status_of_lanes rules.name run.first run.second)
     ends_as_lanes known after behind = inr (inr (inr (inl (record {
       end = run.first;
       end' = run.second;
@@ -261,19 +289,23 @@ module _ {S E : Type 0} (belongs : Lane → Event → Bool) (rules : LaneRules S
         let d = (drives_all rules ran.taken start t before mid quiet all_driven).1 in
         (d.unread (silent rules ran.taken d.replies start t (drives_all rules ran.taken start t before mid quiet all_driven).0 never d.taken)).1
 
-    pub leaves_lanes : (after : Outside) → (rules.hears ≡ false → (x : S) → rules.waits x ≡ false) → EndsHearing rules mid after → rules.hears ≡ false → LeavesInput before.replies after.replies
+    pub leaves_lanes : (after : Outside) → (rules.hears ≡ false → (x : S) → rules.waits x ≡ false) → EndsHearing rules mid after → rules.hears ≡ false
+        → LeavesInput before.replies after.replies
     leaves_lanes after never behind none = (behind.unheard none).1 ∙ leaves_driven (never none)
 
   -- One of the lanes ended for want of memory, whatever the reconciler made of what they sent.
-  module _ (first first' second second' : SourceView) (before mid : Outside) (t : S) (run : LaneRun) (ran : Ran belongs (DrivesItem rules) (RefusesNext rules) first first' second second' start t before mid run) where
-    unknown_by : (outcome : Result (Unit {0}) Status) → run.outcome ≡ outcome → EndsSo belongs rules start first first' second second' before mid statuses.NoMemory
+  module _ (first first' second second' : SourceView) (before mid : Outside) (t : S) (run : LaneRun)
+      (ran : Ran belongs (DrivesItem rules) (RefusesNext rules) first first' second second' start t before mid run) where
+    unknown_by : (outcome : Result (Unit {0}) Status) → run.outcome ≡ outcome
+        → EndsSo belongs rules start first first' second second' before mid statuses.NoMemory
     unknown_by (Ok tt) done = upto_done first first' second second' before mid t run ran done
     unknown_by (Err status) ill = upto_refused first first' second second' before mid t run ran status ill
 
     pub ends_unknown : EndsSo belongs rules start first first' second second' before mid statuses.NoMemory
     ends_unknown = unknown_by run.outcome refl
 
-    leaves_by : (rules.hears ≡ false → (x : S) → rules.waits x ≡ false) → rules.hears ≡ false → (outcome : Result (Unit {0}) Status) → run.outcome ≡ outcome → LeavesInput before.replies mid.replies
+    leaves_by : (rules.hears ≡ false → (x : S) → rules.waits x ≡ false) → rules.hears ≡ false → (outcome : Result (Unit {0}) Status) → run.outcome ≡ outcome
+        → LeavesInput before.replies mid.replies
     leaves_by never none (Ok tt) done = leaves_driven first first' second second' before mid t run ran done (never none)
     leaves_by never none (Err status) ill = leaves_refused first first' second second' before mid t run ran status ill never none
 

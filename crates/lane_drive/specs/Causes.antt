@@ -27,7 +27,8 @@ module _ {S E : Type 0} (rules : LaneRules S E) where
       (subst IsLineStatus it tt, tt)
 
   -- the line that a run stops at is one that may stop it
-  pub reply_causes : ((s : S) (line : Line) (status : Status) → rules.waits s ≡ true → rules.hear s line ≡ Stops status → (status ≡ BadReply line.number line.bytes) ⊎ IsHeldLimit status)
+  pub reply_causes : ((s : S) (line : Line) (status : Status) → rules.waits s ≡ true → rules.hear s line ≡ Stops status
+      → (status ≡ BadReply line.number line.bytes) ⊎ IsHeldLimit status)
       → (s : S) (line : Line) (status : Status) → (reply_rules rules).step s line ≡ Stops status → IsLineStatus status × ⊤
   reply_causes stops s line status e = causes_where (rules.waits s) s line status refl (stops s line) e
 

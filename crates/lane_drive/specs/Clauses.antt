@@ -55,15 +55,18 @@ module _ {S E : Type 0} (belongs : Lane → Event → Bool) (rules : LaneRules S
   AtDone first second status replies left before after = status ≡ statuses.Done → TakesWhole first second replies left before after
 
   -- The run of both lanes ended so. Of each file's input it is kept, when it is handed back, whether its reading failed, unless memory is wanting.
-  pub record EndsWith (file file' : List ℕ) (files files' : FilesView) (first second : SourceView) (replies replies' : SourceView) (before after : Option (List ℕ)) (writes writes' : ℕ) (status : Status) : Type 0 where
+  pub record EndsWith (file file' : List ℕ) (files files' : FilesView) (first second : SourceView) (replies replies' : SourceView)
+      (before after : Option (List ℕ)) (writes writes' : ℕ) (status : Status) : Type 0 where
     pub first' : SourceView
     pub second' : SourceView
     pub reading : Reading
     pub ends : EndsSo belongs rules start first first' second second' (outside unread replies before writes) (outside reading replies' after writes') status
-    pub kept : status ≢ statuses.NoMemory → files'.failed_reads ≡ with_closed (with_closed files.failed_reads (Some file) first'.faults) (Some file') second'.faults
+    pub kept : status ≢ statuses.NoMemory
+        → files'.failed_reads ≡ with_closed (with_closed files.failed_reads (Some file) first'.faults) (Some file') second'.faults
 
   -- so it is where both files were opened
-  abbrev pub AtEnd : (file file' : List ℕ) (files files' : FilesView) (first second : SourceView) (replies replies' : SourceView) (before after : Option (List ℕ)) (writes writes' : ℕ) → Status → Type 0
+  abbrev pub AtEnd : (file file' : List ℕ) (files files' : FilesView) (first second : SourceView) (replies replies' : SourceView)
+      (before after : Option (List ℕ)) (writes writes' : ℕ) → Status → Type 0
   AtEnd file file' files files' first second replies replies' before after writes writes' status =
       ((lane : LaneName) → status ≢ statuses.OpenFault lane) → EndsWith file file' files files' first second replies replies' before after writes writes' status
 

@@ -19,7 +19,8 @@ use Rattle.mlb_edge.specs.declared.lines.Line.{Line}
 module _ {S E : Type 0} (belongs : Lane → Event → Bool) (rules : LaneRules S E) (start : S) where
   -- in whatever order these items of both lanes come, all are taken with just these replies, and none is awaited at last
   abbrev pub CanTake : (firsts seconds : List Item) (replies : List Line) → Type 0
-  CanTake firsts seconds replies = (items : List Item) → IsMerge items firsts seconds → (t : S) × (told : List (Told E)) × AreTaken rules items replies start t told × (rules.waits t ≡ false)
+  CanTake firsts seconds replies = (items : List Item) → IsMerge items firsts seconds
+      → (t : S) × (told : List (Told E)) × AreTaken rules items replies start t told × (rules.waits t ≡ false)
 
   -- Each line of both files is an event of its lane, within the limits. In whatever order the events of both come they can be taken, with all
   -- lines of the input, if there are replies, as the replies.
@@ -36,6 +37,8 @@ module _ {S E : Type 0} (belongs : Lane → Event → Bool) (rules : LaneRules S
     pub taken : CanTake (lane_input belongs First one).items (lane_input belongs Second two).items lines
 
   -- where both files open and no count of faults rises such a run is done, but for want of memory
-  abbrev pub IsComplete : (first second : Option (List ℕ)) → Status → (files files' : FilesView) (replies : Option (List ℕ)) (reads reads' writes writes' : ℕ) → Type 0
+  abbrev pub IsComplete : (first second : Option (List ℕ)) → Status → (files files' : FilesView) (replies : Option (List ℕ)) (reads reads' writes writes' : ℕ)
+      → Type 0
   IsComplete first second status files files' replies reads reads' writes writes' = AreReadable first second replies
-      → files'.failed_opens ≡ files.failed_opens → files'.failed_reads ≡ files.failed_reads → ¬ (Rose reads reads') → ¬ (Rose writes writes') → (status ≡ statuses.Done) ⊎ (status ≡ statuses.NoMemory)
+      → files'.failed_opens ≡ files.failed_opens → files'.failed_reads ≡ files.failed_reads → ¬ (Rose reads reads') → ¬ (Rose writes writes')
+      → (status ≡ statuses.Done) ⊎ (status ≡ statuses.NoMemory)

@@ -18,7 +18,8 @@ pub record Told (E : Type 0) : Type 0 where
 abbrev pub AreHeard : {S E : Type 0} → LaneRules S E → List Line → S → S → List E → Type 0
 AreHeard rules [] s t entries = (t ≡ s) × (entries ≡ [])
 AreHeard {S} {E} rules (line ∷ lines) s t entries =
-    (next : S) × (first : List E) × (rest : List E) × (rules.waits s ≡ true) × (rules.hear s line ≡ Goes next first) × AreHeard rules lines next t rest × (entries ≡ first ++ rest)
+    (next : S) × (first : List E) × (rest : List E) × (rules.waits s ≡ true) × (rules.hear s line ≡ Goes next first) × AreHeard rules lines next t rest
+    × (entries ≡ first ++ rest)
 
 -- The item was taken where no reply was awaited, and these lines were heard behind it.
 pub record IsTaken {S E : Type 0} (rules : LaneRules S E) (item : Item) (replies : List Line) (s t : S) (entries : List E) : Type 0 where

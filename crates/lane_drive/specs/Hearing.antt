@@ -52,7 +52,8 @@ pub record GoesBehind {S E : Type 0} (rules : LaneRules S E) (s : S) (status : S
 
 -- Where no reply is awaited: the item is taken, with the replies behind it, and none is awaited any more.
 abbrev pub DrivesItem : {S E : Type 0} → LaneRules S E → (s t : S) (item : Item) (before after : Outside) → Type 0
-DrivesItem {S} {E} rules s t item before after = rules.waits s ≡ false → ((told : List (Told E)) × Drives rules (item ∷ []) s t told before after × (rules.waits t ≡ false))
+DrivesItem {S} {E} rules s t item before after =
+    rules.waits s ≡ false → ((told : List (Told E)) × Drives rules (item ∷ []) s t told before after × (rules.waits t ≡ false))
 
 -- The item isn't taken, or its text isn't written whole.
 pub record FailsItem {S E : Type 0} (rules : LaneRules S E) (status : Status) (s : S) (item : Item) (before after : Outside) : Type 0 where

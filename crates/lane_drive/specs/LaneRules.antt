@@ -58,7 +58,8 @@ pub record TakesItem {S E : Type 0} (rules : LaneRules S E) (s t : S) (item : It
   pub wrote : Grows before after (item_text rules item entries)
 
 -- The item can be taken, and its text isn't written whole.
-pub record BreaksItem {S E : Type 0} (halt : Halt) (rules : LaneRules S E) (s : S) (item : Item) (before after : Option (List ℕ)) (faults faults' : ℕ) : Type 0 where
+pub record BreaksItem {S E : Type 0} (halt : Halt) (rules : LaneRules S E) (s : S) (item : Item) (before after : Option (List ℕ)) (faults faults' : ℕ) : Type
+    0 where
   pub next : S
   pub entries : List E
   pub steps : rules.take s item ≡ Goes next entries

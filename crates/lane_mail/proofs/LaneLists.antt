@@ -37,17 +37,23 @@ module _ {T : Type 0} (lane_of : T → Lane) where
   one_out lane x e = rw e refl
 
   -- what comes last
-  last : (lane : Lane) (got items : List T) (x : T) → of_lane lane_of lane (got ++ (items ++ x ∷ [])) ≡ of_lane lane_of lane (got ++ items) ++ of_lane lane_of lane (x ∷ [])
-  last lane got items x = ap (of_lane lane_of lane) (sym (append_assoc got items (x ∷ []))) ∙ filter-append (λ y. is_lane lane (lane_of y)) (got ++ items) (x ∷ [])
+  last : (lane : Lane) (got items : List T) (x : T)
+      → of_lane lane_of lane (got ++ (items ++ x ∷ [])) ≡ of_lane lane_of lane (got ++ items) ++ of_lane lane_of lane (x ∷ [])
+  last lane got items x =
+      ap (of_lane lane_of lane) (sym (append_assoc got items (x ∷ []))) ∙ filter-append (λ y. is_lane lane (lane_of y)) (got ++ items) (x ∷ [])
 
-  pub last_in : (lane : Lane) (got items : List T) (x : T) → is_lane lane (lane_of x) ≡ true → of_lane lane_of lane (got ++ (items ++ x ∷ [])) ≡ of_lane lane_of lane (got ++ items) ++ x ∷ []
+  pub last_in : (lane : Lane) (got items : List T) (x : T) → is_lane lane (lane_of x) ≡ true
+      → of_lane lane_of lane (got ++ (items ++ x ∷ [])) ≡ of_lane lane_of lane (got ++ items) ++ x ∷ []
   last_in lane got items x e = last lane got items x ∙ ap (λ l. of_lane lane_of lane (got ++ items) ++ l) (one_in lane x e)
 
-  pub last_out : (lane : Lane) (got items : List T) (x : T) → is_lane lane (lane_of x) ≡ false → of_lane lane_of lane (got ++ (items ++ x ∷ [])) ≡ of_lane lane_of lane (got ++ items)
-  last_out lane got items x e = last lane got items x ∙ ap (λ l. of_lane lane_of lane (got ++ items) ++ l) (one_out lane x e) ∙ append-nil (of_lane lane_of lane (got ++ items))
+  pub last_out : (lane : Lane) (got items : List T) (x : T) → is_lane lane (lane_of x) ≡ false
+      → of_lane lane_of lane (got ++ (items ++ x ∷ [])) ≡ of_lane lane_of lane (got ++ items)
+  last_out lane got items x e =
+      last lane got items x ∙ ap (λ l. of_lane lane_of lane (got ++ items) ++ l) (one_out lane x e) ∙ append-nil (of_lane lane_of lane (got ++ items))
 
   -- each element is of one lane
-  one_length : (lane : Lane) (xs : List T) (x : T) → lane_of x ≡ lane → length (of_lane lane_of First (x ∷ xs)) + length (of_lane lane_of Second (x ∷ xs)) ≡ length (of_lane lane_of First xs) + length (of_lane lane_of Second xs) + 1
+  one_length : (lane : Lane) (xs : List T) (x : T) → lane_of x ≡ lane → length (of_lane lane_of First (x ∷ xs)) + length (of_lane lane_of Second (x ∷ xs))
+      ≡ length (of_lane lane_of First xs) + length (of_lane lane_of Second xs) + 1
   one_length First xs x e = rw e (omega arith)
   one_length Second xs x e = rw e (omega arith)
 

@@ -32,6 +32,7 @@ pub settled : (lane l : Lane) → l ≡ lane → (v u w : Hand Item) (v' u' w' :
     → of_lane mark_lane lane v'.got ≡ marks_of lane end → end ≡ Some (length (items_of lane v.got)) → items_of lane v.got ≡ u.sent
 settled lane l e v u w v' u' w' items marks end sends ended is is' told told' marked has =
     let all : items_of lane (v.got ++ items) ≡ u.sent = gathered_all item_lane lane v u w items is (may_of lane l u u.sent e sends) told in
-    let ends : of_lane mark_lane lane (v'.got ++ marks) ≡ u'.sent = gathered_all mark_lane lane v' u' w' marks is' (may_of lane l u' (mark l (length u.sent) ∷ []) e ended) told' in
+    let ends : of_lane mark_lane lane (v'.got ++ marks) ≡ u'.sent =
+    gathered_all mark_lane lane v' u' w' marks is' (may_of lane l u' (mark l (length u.sent) ∷ []) e ended) told' in
     let one : u'.sent ≡ mark lane (length u.sent) ∷ [] = ap (λ x. x.sent) ended ∙ ap (λ k. mark k (length u.sent) ∷ []) e in
     settles lane v.got items u.sent v'.got marks end all (ends ∙ one) marked has

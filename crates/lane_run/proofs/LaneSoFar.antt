@@ -36,7 +36,8 @@ module _ (belongs : Lane → Event → Bool) (lane : Lane) where
   pub begins : (start : Option (List ℕ)) → Watching belongs lane start (to_come fresh start) []
   begins start = record { done = []; are = refl; follows = begins_at start }
 
-  pub goes_on : (start : Option (List ℕ)) (now next : Option Input) (old new : Sender) → Watching belongs lane start now old.sent → SendsNext belongs lane old new now next → Watching belongs lane start next new.sent
+  pub goes_on : (start : Option (List ℕ)) (now next : Option Input) (old new : Sender) → Watching belongs lane start now old.sent
+      → SendsNext belongs lane old new now next → Watching belongs lane start next new.sent
   goes_on start now next old new w s = record {
     done = w.done ++ s.line ∷ [];
     are = rw (ap (λ (p : Sender). p.sent) s.sent) (items-push belongs lane w.done old.sent s.line s.item w.are s.is);
@@ -44,7 +45,8 @@ module _ (belongs : Lane → Event → Bool) (lane : Lane) where
   }
 
   -- the lane's input, behind what was sent
-  input_is : (bytes : List ℕ) (now : Input) (done : List Line) (sent : List Item) → AreItems belongs lane done sent → Follows (Some (input_of bytes)) done (Some now)
+  input_is : (bytes : List ℕ) (now : Input) (done : List Line) (sent : List Item) → AreItems belongs lane done sent
+      → Follows (Some (input_of bytes)) done (Some now)
       → lane_input belongs lane bytes ≡ with_items sent (lane_input_from belongs lane now.lines now.ending)
   input_is bytes now done sent are follows = rw (follows.0, follows.1) (input-behind belongs lane done now.lines now.ending sent are)
 
@@ -67,7 +69,8 @@ module _ (belongs : Lane → Event → Bool) (lane : Lane) where
   }
 
   -- no line is left
-  stops : (start : Option (List ℕ)) (now : Option Input) (sent : List Item) (ending : Ending) → Watching belongs lane start now sent → EndsAs now ending → StopsAs belongs lane start sent (end_at ending)
+  stops : (start : Option (List ℕ)) (now : Option Input) (sent : List Item) (ending : Ending) → Watching belongs lane start now sent → EndsAs now ending
+      → StopsAs belongs lane start sent (end_at ending)
   stops None now sent ending w ends = (w.done ++ [], ending, with_none sent (end_at ending) ∙ sym (input-behind belongs lane w.done [] ending sent w.are))
   stops (Some bytes) None sent ending w ends = absurd w.follows
   stops (Some bytes) (Some now) sent ending w ends =
@@ -76,23 +79,30 @@ module _ (belongs : Lane → Event → Bool) (lane : Lane) where
       with_none sent (end_at ending) ∙ sym whole
 
   -- the next line is none that the lane carries
-  stops_at : (start : Option (List ℕ)) (now next : Option Input) (sent : List Item) (number : ℕ) (bytes : List ℕ) → Watching belongs lane start now sent → IsBad belongs lane now next number bytes → StopsAs belongs lane start sent (BadLine number bytes)
+  stops_at : (start : Option (List ℕ)) (now next : Option Input) (sent : List Item) (number : ℕ) (bytes : List ℕ) → Watching belongs lane start now sent
+      → IsBad belongs lane now next number bytes → StopsAs belongs lane start sent (BadLine number bytes)
   stops_at None now next sent number bytes w bad =
-      let last : lane_input_from belongs lane (bad.line ∷ []) Whole ≡ no_items (BadLine number bytes) = rw (bad.none, bad.number_is, bad.bytes_are) refl in
-      (w.done ++ bad.line ∷ [], Whole, with_none sent (BadLine number bytes) ∙ (ap (with_items sent) (sym last) ∙ sym (input-behind belongs lane w.done (bad.line ∷ []) Whole sent w.are)))
+      let last : lane_input_from belongs lane (bad.line ∷ []) Whole ≡ no_items (BadLine number bytes) = rw (bad.none, bad.number_is, bad.bytes_are) refl in (
+        w.done ++ bad.line ∷ [],
+        Whole,
+        with_none sent (BadLine number bytes) ∙ (ap (with_items sent) (sym last) ∙ sym (input-behind belongs lane w.done (bad.line ∷ []) Whole sent w.are)),
+      )
   stops_at (Some text) None next sent number bytes w bad = absurd w.follows
   stops_at (Some text) (Some now) None sent number bytes w bad = absurd bad.comes
   stops_at (Some text) (Some now) (Some next) sent number bytes w bad =
-      let last : lane_input_from belongs lane now.lines now.ending ≡ no_items (BadLine number bytes) = rw (bad.comes.0, bad.none, bad.number_is, bad.bytes_are) refl in
+      let last : lane_input_from belongs lane now.lines now.ending ≡ no_items (BadLine number bytes) =
+      rw (bad.comes.0, bad.none, bad.number_is, bad.bytes_are) refl in
       with_none sent (BadLine number bytes) ∙ (ap (with_items sent) (sym last) ∙ sym (input_is text now w.done sent w.are w.follows))
 
   -- the source failed
-  sends_read : (start left : Option (List ℕ)) (r r' : Reading) (now : Option (List ℕ)) (sent : List Item) → Watching belongs lane start (to_come r now) sent → Follows (to_come r now) [] (to_come r' left)
+  sends_read : (start left : Option (List ℕ)) (r r' : Reading) (now : Option (List ℕ)) (sent : List Item) → Watching belongs lane start (to_come r now) sent
+      → Follows (to_come r now) [] (to_come r' left)
       → Passes fresh r' start left → HasNoNewline r'.held → SendsRead belongs lane start left sent
   sends_read None left r r' now sent w same passes waits = (w.done, w.are)
   sends_read (Some bytes) None r r' now sent w same passes waits = passes.eats
   sends_read (Some bytes) (Some more) r r' now sent w same passes waits =
-      let follows : Follows (Some (input_of bytes)) (w.done ++ []) (to_come r' (Some more)) = Follows-append (Some (input_of bytes)) (to_come r now) (to_come r' (Some more)) w.done [] w.follows same in
+      let follows : Follows (Some (input_of bytes)) (w.done ++ []) (to_come r' (Some more)) =
+      Follows-append (Some (input_of bytes)) (to_come r now) (to_come r' (Some more)) w.done [] w.follows same in
       let counted : r'.passed ≡ length passes.gone = omega (arith, passes.counted) in
       record {
         front = passes.gone;
@@ -106,18 +116,24 @@ module _ (belongs : Lane → Event → Bool) (lane : Lane) where
       }
 
   -- the lane ends
-  pub ended_by : (before now after : SourceView) (r r' : Reading) (sent : List Item) (end : LaneEnd) → Watching belongs lane before.left (to_come r now.left) sent → Passes fresh r' before.left after.left
-      → before.faults ≤ now.faults → now.safe ≡ before.safe → EndsAt belongs lane (to_come r now.left) (to_come r' after.left) r'.held after.left now.faults after.faults now.safe end → Sends belongs lane before after sent end
+  pub ended_by : (before now after : SourceView) (r r' : Reading) (sent : List Item) (end : LaneEnd)
+      → Watching belongs lane before.left (to_come r now.left) sent → Passes fresh r' before.left after.left
+      → before.faults ≤ now.faults → now.safe ≡ before.safe → EndsAt belongs lane (to_come r now.left) (to_come r' after.left) r'.held after.left now.faults
+      after.faults now.safe end → Sends belongs lane before after sent end
   ended_by before now after r r' sent Done w passes later safety e = (stops before.left (to_come r now.left) sent Whole w e.0, e.1)
-  ended_by before now after r r' sent ReadFault w passes later safety e = (sends_read before.left after.left r r' now.left sent w e.0 passes e.1, omega (arith, e.2, later), sym safety ∙ e.3)
+  ended_by before now after r r' sent ReadFault w passes later safety e =
+      (sends_read before.left after.left r r' now.left sent w e.0 passes e.1, omega (arith, e.2, later), sym safety ∙ e.3)
   ended_by before now after r r' sent (LineLimit number) w passes later safety e = stops before.left (to_come r now.left) sent (LongLine number) w e
   ended_by before now after r r' sent InputLimit w passes later safety e = stops before.left (to_come r now.left) sent LongInput w e
-  ended_by before now after r r' sent (BadLine number bytes) w passes later safety e = stops_at before.left (to_come r now.left) (to_come r' after.left) sent number bytes w e
+  ended_by before now after r r' sent (BadLine number bytes) w passes later safety e =
+      stops_at before.left (to_come r now.left) (to_come r' after.left) sent number bytes w e
   ended_by before now after r r' sent NoMemory w passes later safety e = tt
 
   -- where nothing more is sent
-  pub ended_so : (before now after : SourceView) (r r' : Reading) (sent sent' : List Item) (end : LaneEnd) → Watching belongs lane before.left (to_come r now.left) sent → Passes fresh r' before.left after.left
-      → before.faults ≤ now.faults → now.name ≡ before.name → now.safe ≡ before.safe → EndsAt belongs lane (to_come r now.left) (to_come r' after.left) r'.held after.left now.faults after.faults now.safe end → sent' ≡ sent → now.faults ≤ after.faults → after.name ≡ now.name → after.safe ≡ now.safe
+  pub ended_so : (before now after : SourceView) (r r' : Reading) (sent sent' : List Item) (end : LaneEnd)
+      → Watching belongs lane before.left (to_come r now.left) sent → Passes fresh r' before.left after.left
+      → before.faults ≤ now.faults → now.name ≡ before.name → now.safe ≡ before.safe → EndsAt belongs lane (to_come r now.left) (to_come r' after.left) r'.held
+      after.left now.faults after.faults now.safe end → sent' ≡ sent → now.faults ≤ after.faults → after.name ≡ now.name → after.safe ≡ now.safe
       → Ended belongs lane before after sent' end
   ended_so before now after r r' sent sent' end w passes later named safety e same later' named' safety' = rw same (record {
     sends = ended_by before now after r r' sent end w passes later safety e;
@@ -129,4 +145,5 @@ module _ (belongs : Lane → Event → Bool) (lane : Lane) where
 
   -- there was no memory for a reader
   pub ended_unread : (view : SourceView) (sent : List Item) → sent ≡ [] → Ended belongs lane view view sent NoMemory
-  ended_unread view sent none = rw none (record { sends = tt; begins = begins_so view.left (to_come fresh view.left) [] (begins view.left); later = omega arith; named = refl; safety = refl })
+  ended_unread view sent none = rw none
+      (record { sends = tt; begins = begins_so view.left (to_come fresh view.left) [] (begins view.left); later = omega arith; named = refl; safety = refl })

@@ -20,7 +20,8 @@ pub record LanesEnded (belongs : Lane → Event → Bool) (first first' second s
   pub merge : IsMerge sent (items_of First sent) (items_of Second sent)
 
 -- All that both lanes sent was taken, and the items drove the reconciler up to the first that was refused.
-pub record Ran {S : Type 0} (belongs : Lane → Event → Bool) (Drives : S → S → Item → Outside → Outside → Type 0) (Refuses : Status → S → Item → Outside → Outside → Type 0) (first first' second second' : SourceView) (s t : S) (before after : Outside) (run : LaneRun) : Type 0 where
+pub record Ran {S : Type 0} (belongs : Lane → Event → Bool) (Drives : S → S → Item → Outside → Outside → Type 0) (Refuses : Status → S → Item → Outside
+    → Outside → Type 0) (first first' second second' : SourceView) (s t : S) (before after : Outside) (run : LaneRun) : Type 0 where
   pub taken : List Item
   pub lanes : LanesEnded belongs first first' second second' taken run.first run.second
   pub drove : Drove Drives Refuses taken s t before after run.outcome

@@ -14,7 +14,8 @@ AreDriven Drives [] s t before after = (t ≡ s) × (after ≡ before)
 AreDriven {S} Drives (item ∷ items) s t before after = (next : S) × (mid : Outside) × Drives s next item before mid × AreDriven Drives items next t mid after
 
 -- Some items drove it, and while it takes the one behind them it may ask for replies.
-pub record AsksIn {S : Type 0} (Drives : S → S → Item → Outside → Outside → Type 0) (Asks : S → Item → Outside → Outside → Type 0) (s : S) (before now : Outside) : Type 0 where
+pub record AsksIn {S : Type 0} (Drives : S → S → Item → Outside → Outside → Type 0) (Asks : S → Item → Outside → Outside → Type 0) (s : S)
+    (before now : Outside) : Type 0 where
   pub driven : List Item
   pub item : Item
   pub state : S
@@ -23,14 +24,16 @@ pub record AsksIn {S : Type 0} (Drives : S → S → Item → Outside → Outsid
   pub asks : Asks state item mid now
 
 -- Just these items drove it, and this stands written.
-pub record HasDriven {S : Type 0} (Drives : S → S → Item → Outside → Outside → Type 0) (s : S) (before : Outside) (items : List Item) (written : Option (List ℕ)) : Type 0 where
+pub record HasDriven {S : Type 0} (Drives : S → S → Item → Outside → Outside → Type 0) (s : S) (before : Outside) (items : List Item)
+    (written : Option (List ℕ)) : Type 0 where
   pub state : S
   pub now : Outside
   pub drove : AreDriven Drives items s state before now
   pub is : written ≡ now.written
 
 -- Just the items before the last drove it, which it refused, and this stands written.
-pub record HasRefused {S : Type 0} (Drives : S → S → Item → Outside → Outside → Type 0) (Refuses : Status → S → Item → Outside → Outside → Type 0) (s : S) (before : Outside) (items : List Item) (written : Option (List ℕ)) : Type 0 where
+pub record HasRefused {S : Type 0} (Drives : S → S → Item → Outside → Outside → Type 0) (Refuses : Status → S → Item → Outside → Outside → Type 0) (s : S)
+    (before : Outside) (items : List Item) (written : Option (List ℕ)) : Type 0 where
   pub driven : List Item
   pub item : Item
   pub items_are : items ≡ driven ++ item ∷ []
@@ -44,8 +47,10 @@ pub record HasRefused {S : Type 0} (Drives : S → S → Item → Outside → Ou
 
 -- While the reconciler is driven from this state it may ask for replies where it says so; the next item may be waited for where just those before
 -- drove it, and what the lanes still send may be dropped where it refused the last. `seen` is what is outside.
-pub record MayReconcile {S I K R : Type 0} (Drives : S → S → Item → Outside → Outside → Type 0) (Refuses : Status → S → Item → Outside → Outside → Type 0) (Asks : S → Item → Outside → Outside → Type 0) (s : S)
-    (name : I → Option (List ℕ)) (may_read : I → Reading → K → Type 0) (may_wait may_drop : R → List Item → K → Type 0) (written : K → Option (List ℕ)) (seen : I → Reading → K → Outside) (rt : R) (input : I) (reader : Reading) (out : K) : Type 0 where
+pub record MayReconcile {S I K R : Type 0} (Drives : S → S → Item → Outside → Outside → Type 0) (Refuses : Status → S → Item → Outside → Outside → Type 0)
+    (Asks : S → Item → Outside → Outside → Type 0) (s : S)
+    (name : I → Option (List ℕ)) (may_read : I → Reading → K → Type 0) (may_wait may_drop : R → List Item → K → Type 0) (written : K → Option (List ℕ))
+    (seen : I → Reading → K → Outside) (rt : R) (input : I) (reader : Reading) (out : K) : Type 0 where
   pub live : MayBeAsked name may_read input (λ i r o. AsksIn Drives Asks s (seen input reader out) (seen i r o))
   pub waits : MayBeAwaited may_wait rt written (HasDriven Drives s (seen input reader out))
   pub drops : MayBeAwaited may_drop rt written (HasRefused Drives Refuses s (seen input reader out))
@@ -56,7 +61,8 @@ Leaves Refuses (Ok done) behind s t before after = (behind ≡ []) × (t ≡ s) 
 Leaves Refuses (Err status) behind s t before after = (item : Item) × (more : List Item) × (behind ≡ item ∷ more) × Refuses status s item before after
 
 -- Of the items taken the first ones were driven: all, or those before the one that was refused.
-pub record Drove {S U : Type 0} (Drives : S → S → Item → Outside → Outside → Type 0) (Refuses : Status → S → Item → Outside → Outside → Type 0) (taken : List Item) (s t : S) (before after : Outside) (outcome : Result U Status) : Type 0 where
+pub record Drove {S U : Type 0} (Drives : S → S → Item → Outside → Outside → Type 0) (Refuses : Status → S → Item → Outside → Outside → Type 0)
+    (taken : List Item) (s t : S) (before after : Outside) (outcome : Result U Status) : Type 0 where
   pub driven : List Item
   pub behind : List Item
   pub split : taken ≡ driven ++ behind
@@ -66,7 +72,8 @@ pub record Drove {S U : Type 0} (Drives : S → S → Item → Outside → Outsi
   pub leaves : Leaves Refuses outcome behind state t mid after
 
 -- Both lanes have ended and each of their items was taken, and these were driven.
-pub record Reconciled {S U : Type 0} (Drives : S → S → Item → Outside → Outside → Type 0) (Refuses : Status → S → Item → Outside → Outside → Type 0) (mail : MailId) (inbox : Receiver) (s t : S) (before after : Outside) (outcome : Result U Status) : Type 0 where
+pub record Reconciled {S U : Type 0} (Drives : S → S → Item → Outside → Outside → Type 0) (Refuses : Status → S → Item → Outside → Outside → Type 0)
+    (mail : MailId) (inbox : Receiver) (s t : S) (before after : Outside) (outcome : Result U Status) : Type 0 where
   pub mail_is : inbox.mail ≡ mail
   pub ended : HasAll inbox
   pub drove : Drove Drives Refuses inbox.taken s t before after outcome

@@ -34,7 +34,8 @@ pub record IsBad (belongs : Lane → Event → Bool) (lane : Lane) (now next : O
   pub bytes_are : bytes ≡ line.bytes
 
 -- why the lane ends
-abbrev pub EndsAt : (Lane → Event → Bool) → Lane → (now next : Option Input) (held' : List ℕ) (left' : Option (List ℕ)) (faults faults' : ℕ) (safe : Bool) → LaneEnd → Type 0
+abbrev pub EndsAt : (Lane → Event → Bool) → Lane → (now next : Option Input) (held' : List ℕ) (left' : Option (List ℕ)) (faults faults' : ℕ) (safe : Bool)
+    → LaneEnd → Type 0
 EndsAt belongs lane now next held' left' faults faults' safe Done = EndsAs now Whole × IsAtEnd left'
 EndsAt belongs lane now next held' left' faults faults' safe ReadFault = Follows now [] next × HasNoNewline held' × Rose faults faults' × (safe ≡ false)
 EndsAt belongs lane now next held' left' faults faults' safe (LineLimit number) = EndsAs now (LongLine number)

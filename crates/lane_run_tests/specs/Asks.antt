@@ -49,4 +49,5 @@ pub record AwaitsLine (s : ⊤) (item : Item) (before now : Outside) : Type 0 wh
 abbrev pub AsksInVain : Status → ⊤ → Item → Outside → Outside → Type 0
 AsksInVain status s item before after =
     ((status ≡ WriteFault) × GrowsInPart before.written after.written (lane_byte item.lane ∷ []) × Rose before.faults after.faults)
-    ⊎ (Grows before.written after.written (lane_byte item.lane ∷ []) × Unheard status (to_come before.reading before.replies.left) before.replies.faults after.replies.faults)
+    ⊎ (Grows before.written after.written (lane_byte item.lane ∷ [])
+    × Unheard status (to_come before.reading before.replies.left) before.replies.faults after.replies.faults)

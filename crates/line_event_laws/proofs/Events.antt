@@ -23,7 +23,8 @@ use Rattle.kube_events.specs.Fields.{Pairs, key_of, version_field, labels_field}
 use Rattle.kube_events.specs.ObjectFields.{body_of, changed_of, deleted_of}
 use Rattle.kube_events.specs.Members.{distinct_names, members_field, members_of}
 use Rattle.kube_events.specs.Frame.{interface_field, bytes_field, frame_of}
-use Rattle.kube_events.specs.Event.{in_field, listed_in, text_in, ends_list, list_end, Says, set_event, deleted_event, bookmark_event, of_kind, of_object, watched, of_type, of_type_if, event_of, event_if, event_of_line}
+use Rattle.kube_events.specs.Event.{in_field, listed_in, text_in, ends_list, list_end, Says, set_event, deleted_event, bookmark_event}
+use Rattle.kube_events.specs.Event.{of_kind, of_object, watched, of_type, of_type_if, event_of, event_if, event_of_line}
 use Rattle.line_event_laws.proofs.Keys.{HasText, reads-key_of}
 
 -- it holds of each object of these fields, at any version

@@ -1,5 +1,6 @@
 -- The numbers of what is read of a value.
-use Rattle.std.proofs.Common.{◌≡◌, ◌≤◌, ◌<◌, ◌+◌, ◌-◌, ◌/◌, ◌%◌, ◌^◌, ◌∙◌, ℕ, zero, suc, Bool, true, false, List, [], ◌∷◌, ◌++◌, length, replicate, length-append, Option, Some, None, Result, Ok, Err, IfOk, IfSome, option_and_then, codes, refl, sym, ap, subst, inl, inr, arith}
+use Rattle.std.proofs.Common.{◌≡◌, ◌≤◌, ◌<◌, ◌+◌, ◌-◌, ◌/◌, ◌%◌, ◌^◌, ◌∙◌, ℕ, zero, suc, Bool, true, false, List, [], ◌∷◌, ◌++◌, length, replicate}
+use Rattle.std.proofs.Common.{length-append, Option, Some, None, Result, Ok, Err, IfOk, IfSome, option_and_then, codes, refl, sym, ap, subst, inl, inr, arith}
 use Rattle.std.specs.Bool.{⊤}
 use Rattle.std.proofs.lemmas.Int.Digits.{digits_value-lt}
 use Rattle.std.proofs.lemmas.List.{length-replicate}
@@ -28,7 +29,8 @@ use Rattle.kube_events.specs.Named.{address_in}
 use Rattle.kube_events.specs.Fields.{Pairs, pools_field, pool_selectors_field, node_selectors_field}
 use Rattle.kube_events.specs.BgpFields.{length_field, length_v6_field, local_pref_field, communities_field, peers_field, bgp_of}
 use Rattle.kube_events.specs.PeerFields.{my_asn_field, peer_asn_field, peer_of}
-use Rattle.kube_events.specs.ServiceFields.{annotations_field, balancer_field, class_field, address_field, families_field, prefer_dual_field, policy_field, selector_field, ports_field, places_field, ingress_of, addresses_in, service_of}
+use Rattle.kube_events.specs.ServiceFields.{annotations_field, balancer_field, class_field, address_field, families_field, prefer_dual_field}
+use Rattle.kube_events.specs.ServiceFields.{policy_field, selector_field, ports_field, places_field, ingress_of, addresses_in, service_of}
 use Rattle.kube_events.specs.PoolFields.{pool_of}
 use Rattle.kube_events.specs.L2Fields.{l2_of}
 use Rattle.kube_events.specs.CommunityFields.{named_values_field}
@@ -91,7 +93,8 @@ colon-groups text groups (inl (are, eight)) = (groups-fit true [] text groups ar
 colon-groups text groups (inr is) = (
   subst Groups (sym is.value)
       (append-fits (is.head ++ replicate (8 - length is.head - length is.tail) 0) is.tail
-      (append-fits is.head (replicate (8 - length is.head - length is.tail) 0) (groups-fit false [] is.head_text is.head is.head_groups) (zeros-fit (8 - length is.head - length is.tail)))
+      (append-fits is.head (replicate (8 - length is.head - length is.tail) 0) (groups-fit false [] is.head_text is.head is.head_groups)
+      (zeros-fit (8 - length is.head - length is.tail)))
       (groups-fit true [] is.tail_text is.tail is.tail_groups)),
   ap length is.value ∙ elided-length is.head is.tail is.room,
 )
@@ -110,7 +113,8 @@ sixteen a b c d e f g h i j k l m n o p ha hb hc hd he hf hg hh hi hj hk hl hm h
 
 eight-fit : (groups : List ℕ) → Groups groups → length groups ≡ 8 → from_be_bytes w128 (octets_of groups) < 2 ^ 128
 eight-fit (a ∷ b ∷ c ∷ d ∷ e ∷ f ∷ g ∷ h ∷ []) (ha, (hb, (hc, (hd, (he, (hf, (hg, (hh, end)))))))) eight =
-    sixteen (a / 256) (a % 256) (b / 256) (b % 256) (c / 256) (c % 256) (d / 256) (d % 256) (e / 256) (e % 256) (f / 256) (f % 256) (g / 256) (g % 256) (h / 256) (h % 256)
+    sixteen (a / 256) (a % 256) (b / 256) (b % 256) (c / 256) (c % 256) (d / 256) (d % 256) (e / 256) (e % 256) (f / 256) (f % 256) (g / 256) (g % 256)
+    (h / 256) (h % 256)
     (high-fits a ha) (low-fits a) (high-fits b hb) (low-fits b) (high-fits c hc) (low-fits c) (high-fits d hd) (low-fits d)
     (high-fits e he) (low-fits e) (high-fits f hf) (low-fits f) (high-fits g hg) (low-fits g) (high-fits h hh) (low-fits h)
 eight-fit (a ∷ b ∷ c ∷ d ∷ e ∷ f ∷ g ∷ h ∷ i ∷ more) fit eight = absurd (omega (arith, eight))
@@ -180,7 +184,8 @@ reads-service_of d h =
     then_ok (λ _. ⊤) MakesAddresses (policy_field d) _ (any_ok (policy_field d)) (λ policy _.
     then_ok (λ _. ⊤) MakesAddresses (selector_field d) _ (any_ok (selector_field d)) (λ selector _.
     then_ok (λ _. ⊤) MakesAddresses (ports_field d) _ (any_ok (ports_field d)) (λ ports _.
-    then_ok (AllByRecursion PlaceFits) MakesAddresses (places_field d) _ (reads-list_at PlaceFits ingress_of (codes "status.loadBalancer.ingress") reads-ingress_of d h)
+    then_ok (AllByRecursion PlaceFits) MakesAddresses (places_field d)
+    _ (reads-list_at PlaceFits ingress_of (codes "status.loadBalancer.ingress") reads-ingress_of d h)
     (λ places all key labels. all-there places all))))))))))
 
 abbrev MakesRoutes : (Key → BgpAdv) → Type 0
@@ -192,9 +197,14 @@ Within low high n = (low ≤ n) × (n ≤ high)
 reads-bgp_of : Reads MakesRoutes bgp_of
 unfolding bgp_of
 reads-bgp_of d h =
-    then_ok (Within 1 32) MakesRoutes (length_field d) _ (reads-default_at (Within 1 32) (number_in 1 32) (codes "spec.aggregationLength") 32 (omega arith, omega arith) (reads-number_in 1 32) d h) (λ length short.
-    then_ok (Within 0 128) MakesRoutes (length_v6_field d) _ (reads-default_at (Within 0 128) (number_in 0 128) (codes "spec.aggregationLengthV6") 128 (omega arith, omega arith) (reads-number_in 0 128) d h) (λ length_v6 short_v6.
-    then_ok (Within 0 4294967295) MakesRoutes (local_pref_field d) _ (reads-default_at (Within 0 4294967295) (number_in 0 4294967295) (codes "spec.localPref") 0 (omega arith, omega arith) (reads-number_in 0 4294967295) d h) (λ local_pref small.
+    then_ok (Within 1 32) MakesRoutes (length_field d) _ (reads-default_at (Within 1 32) (number_in 1 32) (codes "spec.aggregationLength") 32 (
+      omega arith,
+      omega arith,
+    ) (reads-number_in 1 32) d h) (λ length short.
+    then_ok (Within 0 128) MakesRoutes (length_v6_field d) _ (reads-default_at (Within 0 128) (number_in 0 128) (codes "spec.aggregationLengthV6") 128
+    (omega arith, omega arith) (reads-number_in 0 128) d h) (λ length_v6 short_v6.
+    then_ok (Within 0 4294967295) MakesRoutes (local_pref_field d) _ (reads-default_at (Within 0 4294967295) (number_in 0 4294967295) (codes "spec.localPref") 0
+    (omega arith, omega arith) (reads-number_in 0 4294967295) d h) (λ local_pref small.
     then_ok (λ _. ⊤) MakesRoutes (communities_field d) _ (any_ok (communities_field d)) (λ communities _.
     then_ok (λ _. ⊤) MakesRoutes (pools_field d) _ (any_ok (pools_field d)) (λ pools _.
     then_ok (λ _. ⊤) MakesRoutes (pool_selectors_field d) _ (any_ok (pool_selectors_field d)) (λ pool_selectors _.
@@ -208,7 +218,8 @@ MakesAsn make = (key : Key) → HasAsn (make key)
 reads-peer_of : Reads MakesAsn peer_of
 unfolding peer_of
 reads-peer_of d h =
-    then_ok (Within 1 4294967295) MakesAsn (my_asn_field d) _ (reads-required_at (Within 1 4294967295) (number_in 1 4294967295) (codes "spec.myASN") (reads-number_in 1 4294967295) d h) (λ my_asn small.
+    then_ok (Within 1 4294967295) MakesAsn (my_asn_field d)
+    _ (reads-required_at (Within 1 4294967295) (number_in 1 4294967295) (codes "spec.myASN") (reads-number_in 1 4294967295) d h) (λ my_asn small.
     then_ok (λ _. ⊤) MakesAsn (peer_asn_field d) _ (any_ok (peer_asn_field d)) (λ peer_asn _.
     then_ok (λ _. ⊤) MakesAsn (node_selectors_field d) _ (any_ok (node_selectors_field d)) (λ node_selectors _ key.
     let top : my_asn ≤ 4294967295 = small.1 in omega (arith, top))))
@@ -217,12 +228,14 @@ reads-peer_of d h =
 
 reads-body_of : (kind : Kind) → Reads (Makes ShowsNumbers) (body_of kind)
 unfolding body_of
-reads-body_of kinds.Service d h = then_ok MakesAddresses (Makes ShowsNumbers) (service_of d) _ (reads-service_of d h) (λ make short version key labels text. short key labels)
+reads-body_of kinds.Service d h =
+    then_ok MakesAddresses (Makes ShowsNumbers) (service_of d) _ (reads-service_of d h) (λ make short version key labels text. short key labels)
 reads-body_of kinds.Bgp d h = then_ok MakesRoutes (Makes ShowsNumbers) (bgp_of d) _ (reads-bgp_of d h) (λ make numbers version key labels text. numbers key)
 reads-body_of kinds.Peer d h = then_ok MakesAsn (Makes ShowsNumbers) (peer_of d) _ (reads-peer_of d h) (λ make asn version key labels text. asn key)
 reads-body_of kinds.Pool d h = then_ok (λ _. ⊤) (Makes ShowsNumbers) (pool_of d) _ (any_ok (pool_of d)) (λ make _ version key labels text. tt)
 reads-body_of kinds.L2 d h = then_ok (λ _. ⊤) (Makes ShowsNumbers) (l2_of d) _ (any_ok (l2_of d)) (λ make _ version key labels text. tt)
-reads-body_of kinds.Community d h = then_ok (λ _. ⊤) (Makes ShowsNumbers) (named_values_field d) _ (any_ok (named_values_field d)) (λ values _ version key labels text. tt)
+reads-body_of kinds.Community d h =
+    then_ok (λ _. ⊤) (Makes ShowsNumbers) (named_values_field d) _ (any_ok (named_values_field d)) (λ values _ version key labels text. tt)
 reads-body_of kinds.Namespace d h = λ version key labels text. tt
 reads-body_of kinds.Node d h = λ version key labels text. tt
 reads-body_of kinds.Slice d h = then_ok (λ _. ⊤) (Makes ShowsNumbers) (slice_of d) _ (any_ok (slice_of d)) (λ make _ version key labels text. tt)

@@ -19,7 +19,8 @@ pub record Kept {S E : Type 0} (rules : Rules S E) (Holds : List E → S → Typ
 
 module _ {S E : Type 0} (rules : Rules S E) (Holds : List E → S → Type 0)
     (keeps : (s next : S) (line : Line) (entries told : List E) → rules.step s line ≡ Goes next entries → Holds told s → Holds (told ++ entries) next) where
-  on_step : (step : Transition S E) (s : S) (line : Line) (told : List E) (rest : S → Run E) → rules.step s line ≡ step → ((next : S) (more : List E) → Holds more next → Kept rules Holds more (rest next)) → Holds told s
+  on_step : (step : Transition S E) (s : S) (line : Line) (told : List E) (rest : S → Run E) → rules.step s line ≡ step
+      → ((next : S) (more : List E) → Holds more next → Kept rules Holds more (rest next)) → Holds told s
       → Kept rules Holds told (runs_on step rest)
   on_step (Goes next entries) s line told rest is then holds =
       let more = then next (told ++ entries) (keeps s next line entries told is holds) in

@@ -10,11 +10,13 @@ use Rattle.line_run.specs.Run.{AreTaken, text_of}
 
 -- the source of this name may be asked for more wherever this is so of it, of what the reader holds and of the sink
 abbrev pub MayBeAsked : {I K : Type 0} → (I → Option (List ℕ)) → (I → Reading → K → Type 0) → I → (I → Reading → K → Type 0) → Type 0
-MayBeAsked {I} {K} name may_read input Where = (source : I) (reader : Reading) (out : K) → name source ≡ name input → Where source reader out → may_read source reader out
+MayBeAsked {I} {K} name may_read input Where = (source : I) (reader : Reading) (out : K) → name source ≡ name input → Where source reader out
+    → may_read source reader out
 
 -- From the first byte of the input up to what the reader holds just these lines came, each was taken, and just their text was written. No
 -- other line came whole.
-pub record IsAnswered {S E : Type 0} (rules : Rules S E) (s : S) (start : Option (List ℕ)) (reader : Reading) (left before after : Option (List ℕ)) : Type 0 where
+pub record IsAnswered {S E : Type 0} (rules : Rules S E) (s : S) (start : Option (List ℕ)) (reader : Reading) (left before after : Option (List ℕ)) : Type
+    0 where
   pub lines : List Line
   pub come : Follows (option_map input_of start) lines (to_come reader left)
   pub none_held : HoldsLine reader → ⊥

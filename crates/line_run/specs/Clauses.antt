@@ -44,7 +44,8 @@ module _ {S E : Type 0} (rules : Rules S E) (cause : Status → Type 0) (s : S) 
   AtDone = status ≡ Done → StopsFor rules cause s left before after status
 
   abbrev pub AtBadLine : Type 0
-  AtBadLine = (lane : LaneName) (number : ℕ) (bytes : List ℕ) → status ≡ BadLine lane number bytes → (lane ≡ lanes.Input) × StopsFor rules cause s left before after status
+  AtBadLine = (lane : LaneName) (number : ℕ) (bytes : List ℕ) → status ≡ BadLine lane number bytes
+      → (lane ≡ lanes.Input) × StopsFor rules cause s left before after status
 
   abbrev pub AtBadReply : Type 0
   AtBadReply = (number : ℕ) (bytes : List ℕ) → status ≡ BadReply number bytes → StopsFor rules cause s left before after status

@@ -37,7 +37,8 @@ pub record IsUnread (status : Status) (now next : Option Input) (held' : List �
   pub failed : end ≡ ReadFault → HasNoNewline held' × Rose reads reads'
 
 -- The next line is read, and isn't taken or its text isn't written whole.
-pub record IsUntaken {S E : Type 0} (rules : Rules S E) (s : S) (status : Status) (now next : Option Input) (before after : Option (List ℕ)) (writes writes' : ℕ) : Type 0 where
+pub record IsUntaken {S E : Type 0} (rules : Rules S E) (s : S) (status : Status) (now next : Option Input) (before after : Option (List ℕ))
+    (writes writes' : ℕ) : Type 0 where
   pub line : Line
   pub comes : Follows now (line ∷ []) next
   pub refusal : Refusal
@@ -45,7 +46,8 @@ pub record IsUntaken {S E : Type 0} (rules : Rules S E) (s : S) (status : Status
   pub refuses : Refuses refusal rules s line before after writes writes'
 
 -- why the run ends: nothing is written where no line is read
-abbrev pub Ends : {S E : Type 0} → Rules S E → S → Status → (now next : Option Input) (held' : List ℕ) (left' before after : Option (List ℕ)) (reads reads' writes writes' : ℕ) → Type 0
+abbrev pub Ends : {S E : Type 0} → Rules S E → S → Status
+    → (now next : Option Input) (held' : List ℕ) (left' before after : Option (List ℕ)) (reads reads' writes writes' : ℕ) → Type 0
 Ends rules s status now next held' left' before after reads reads' writes writes' =
     (IsLast rules s status now left' × Grows before after [])
     ⊎ ((IsUnread status now next held' reads reads' × Grows before after [])

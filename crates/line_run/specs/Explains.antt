@@ -23,13 +23,18 @@ LimitStops rules cause s left before after Input count = (count ≡ 2 ^ 40 + 1) 
 LimitStops rules cause s left before after Services count = StopsFor rules cause s left before after (Limit Services count)
 LimitStops rules cause s left before after Nodes count = StopsFor rules cause s left before after (Limit Nodes count)
 
-abbrev pub Explains : {S E : Type 0} → Rules S E → (Status → Type 0) → S → Status → (left left' before after : Option (List ℕ)) (reads reads' writes writes' : ℕ) → Type 0
+abbrev pub Explains : {S E : Type 0} → Rules S E → (Status → Type 0) → S → Status
+    → (left left' before after : Option (List ℕ)) (reads reads' writes writes' : ℕ) → Type 0
 Explains rules cause s Done left left' before after reads reads' writes writes' = StopsFor rules cause s left before after Done × IsAtEnd left'
-Explains rules cause s (NoReply put) left left' before after reads reads' writes writes' = StopsFor rules cause s left before after (NoReply put) × IsAtEnd left'
-Explains rules cause s (BadLine lane number bytes) left left' before after reads reads' writes writes' = (lane ≡ lanes.Input) × StopsFor rules cause s left before after (BadLine lane number bytes)
-Explains rules cause s (BadReply number bytes) left left' before after reads reads' writes writes' = StopsFor rules cause s left before after (BadReply number bytes)
+Explains rules cause s (NoReply put) left left' before after reads reads' writes writes' =
+    StopsFor rules cause s left before after (NoReply put) × IsAtEnd left'
+Explains rules cause s (BadLine lane number bytes) left left' before after reads reads' writes writes' =
+    (lane ≡ lanes.Input) × StopsFor rules cause s left before after (BadLine lane number bytes)
+Explains rules cause s (BadReply number bytes) left left' before after reads reads' writes writes' =
+    StopsFor rules cause s left before after (BadReply number bytes)
 Explains rules cause s (Limit what count) left left' before after reads reads' writes writes' = LimitStops rules cause s left before after what count
-Explains rules cause s (ReadFault lane) left left' before after reads reads' writes writes' = (lane ≡ lanes.Input) × WritesRead rules s left left' before after × Rose reads reads'
+Explains rules cause s (ReadFault lane) left left' before after reads reads' writes writes' =
+    (lane ≡ lanes.Input) × WritesRead rules s left left' before after × Rose reads reads'
 Explains rules cause s WriteFault left left' before after reads reads' writes writes' = WritesInPart rules s left before after × Rose writes writes'
 Explains rules cause s NoMemory left left' before after reads reads' writes writes' = WritesUpTo rules s left before after
 Explains rules cause s Usage left left' before after reads reads' writes writes' = ⊥

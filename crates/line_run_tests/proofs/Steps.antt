@@ -18,14 +18,16 @@ module _ (left : ℕ) (line : Line) (short : length line.bytes ≤ 3) (some : 0 
       let more : (left == 0) ≡ false = grind (arith, nat_tests) in
       rw (fits, more) refl
 
-  pub takes : (bytes : List ℕ) (before after : Option (List ℕ)) → bytes ≡ line.bytes ++ 10 ∷ [] → Grows before after bytes → Takes echo_rules left (left - 1) line before after
+  pub takes : (bytes : List ℕ) (before after : Option (List ℕ)) → bytes ≡ line.bytes ++ 10 ∷ [] → Grows before after bytes
+      → Takes echo_rules left (left - 1) line before after
   takes bytes before after is wrote = record {
     entries = line.bytes ∷ [];
     steps = goes;
     wrote = rw (append-nil (line.bytes ++ 10 ∷ []), ← is) wrote;
   }
 
-  pub breaks : (bytes : List ℕ) (before after : Option (List ℕ)) (k n : ℕ) → bytes ≡ line.bytes ++ 10 ∷ [] → GrowsInPart before after bytes → Rose k n → Breaks WriteFault echo_rules left line before after k n
+  pub breaks : (bytes : List ℕ) (before after : Option (List ℕ)) (k n : ℕ) → bytes ≡ line.bytes ++ 10 ∷ [] → GrowsInPart before after bytes → Rose k n
+      → Breaks WriteFault echo_rules left line before after k n
   breaks bytes before after k n is part rose = record {
     next = left - 1;
     entries = line.bytes ∷ [];

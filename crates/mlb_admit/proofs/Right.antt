@@ -31,20 +31,26 @@ right_answer s review earlier e = record {
   refused = named_is s review.change;
 }
 
-module _ (lines : List Line) (ending : Ending) (after : (earlier : List Observation) (s : ObjectSet) → IsHeld s earlier → AreRight lines earlier (run_from admit_rules lines ending (Judging s)).entries) where
+module _ (lines : List Line) (ending : Ending) (after : (earlier : List Observation) (s : ObjectSet) → IsHeld s earlier
+    → AreRight lines earlier (run_from admit_rules lines ending (Judging s)).entries) where
   right_after : (read : Result Event EventFault) (line : Line) (earlier : List Observation) (s : ObjectSet) → IsHeld s earlier
-      → IsRightAfter read earlier (runs_on (event_step s line read) (λ next. run_from admit_rules lines ending next)).entries (λ shown rest. AreRight lines shown rest)
+      → IsRightAfter read earlier (runs_on (event_step s line read) (λ next. run_from admit_rules lines ending next)).entries
+      (λ shown rest. AreRight lines shown rest)
   right_after (Ok event) line earlier s e = after (Watched event ∷ earlier) (objects_after (Watched event) s) (ap (objects_after (Watched event)) e)
   right_after (Err fault) line earlier s e = refl
 
   right_at : (found : Option Review) (line : Line) (earlier : List Observation) (s : ObjectSet) → IsHeld s earlier
-      → IsRightAt found line.bytes earlier (runs_on (step_where found s line) (λ next. run_from admit_rules lines ending next)).entries (λ shown rest. AreRight lines shown rest)
-  right_at (Some review) line earlier s e = (answer_of s review, (run_from admit_rules lines ending (Judging s)).entries, refl, right_answer s review earlier e, after earlier s e)
+      → IsRightAt found line.bytes earlier (runs_on (step_where found s line) (λ next. run_from admit_rules lines ending next)).entries
+      (λ shown rest. AreRight lines shown rest)
+  right_at (Some review) line earlier s e =
+      (answer_of s review, (run_from admit_rules lines ending (Judging s)).entries, refl, right_answer s review earlier e, after earlier s e)
   right_at None line earlier s e = right_after (event_of_line line.bytes) line earlier s e
 
-right_from : (lines : List Line) (ending : Ending) (earlier : List Observation) (s : ObjectSet) → IsHeld s earlier → AreRight lines earlier (run_from admit_rules lines ending (Judging s)).entries
+right_from : (lines : List Line) (ending : Ending) (earlier : List Observation) (s : ObjectSet) → IsHeld s earlier
+    → AreRight lines earlier (run_from admit_rules lines ending (Judging s)).entries
 right_from [] ending earlier s e = refl
-right_from (line ∷ lines) ending earlier s e = right_at lines ending (λ shown t held. right_from lines ending shown t held) (readable_review line.bytes) line earlier s e
+right_from (line ∷ lines) ending earlier s e =
+    right_at lines ending (λ shown t held. right_from lines ending shown t held) (readable_review line.bytes) line earlier s e
 
 pub runs_are_right : RunsAreRight
 runs_are_right lines ending = right_from lines ending [] _ refl

@@ -30,7 +30,8 @@ module _ (work next : Work) (line : Line) (entry : Entry) (steps : line_step wor
   takes_one : (before after : Option (List ℕ)) → Grows before after (entry_text entry) → Takes admit_rules work next line before after
   takes_one before after wrote = record { entries = entry ∷ []; steps = steps; wrote = rw (one_text entry) wrote }
 
-  one_halts : (halt : Halt) (before after : Option (List ℕ)) (k n : ℕ) → Halts halt (entry_text entry) before after k n → Refuses (Halted halt) admit_rules work line before after k n
+  one_halts : (halt : Halt) (before after : Option (List ℕ)) (k n : ℕ) → Halts halt (entry_text entry) before after k n
+      → Refuses (Halted halt) admit_rules work line before after k n
   one_halts halt before after k n h =
       broken halt admit_rules work line before after k n
       (record { next = next; entries = entry ∷ []; steps = steps; halts = rw (one_text entry) h })
@@ -41,18 +42,22 @@ module _ (s : ObjectSet) (line : Line) (review : Review) (reads : readable_revie
   answers : line_step (Judging s) line ≡ Goes (Judging s) (Answered (answer_of s review) ∷ [])
   answers = ap (λ (found : Option Review). step_where found s line) reads
 
-  pub takes_review : (before after : Option (List ℕ)) → Grows before after (entry_text (Answered (answer_of s review))) → Takes admit_rules (Judging s) (Judging s) line before after
+  pub takes_review : (before after : Option (List ℕ)) → Grows before after (entry_text (Answered (answer_of s review)))
+      → Takes admit_rules (Judging s) (Judging s) line before after
   takes_review before after wrote = takes_one (Judging s) (Judging s) line (Answered (answer_of s review)) answers before after wrote
 
-  pub review_halts : (halt : Halt) (before after : Option (List ℕ)) (k n : ℕ) → Halts halt (entry_text (Answered (answer_of s review))) before after k n → Refuses (Halted halt) admit_rules (Judging s) line before after k n
+  pub review_halts : (halt : Halt) (before after : Option (List ℕ)) (k n : ℕ) → Halts halt (entry_text (Answered (answer_of s review))) before after k n
+      → Refuses (Halted halt) admit_rules (Judging s) line before after k n
   review_halts halt before after k n h = one_halts (Judging s) (Judging s) line (Answered (answer_of s review)) answers halt before after k n h
 
 -- ---- an event is held
 
-pub means_event : (s : ObjectSet) (line : Line) (event : Event) → readable_review line.bytes ≡ None → event_of_line line.bytes ≡ Ok event → line_step (Judging s) line ≡ Goes (Judging (objects_after (Watched event) s)) []
+pub means_event : (s : ObjectSet) (line : Line) (event : Event) → readable_review line.bytes ≡ None → event_of_line line.bytes ≡ Ok event
+    → line_step (Judging s) line ≡ Goes (Judging (objects_after (Watched event) s)) []
 means_event s line event none reads = ap (λ (found : Option Review). step_where found s line) none ∙ ap (event_step s line) reads
 
-pub takes_event : (s t : ObjectSet) (line : Line) (event : Event) (before : Option (List ℕ)) → readable_review line.bytes ≡ None → event_of_line line.bytes ≡ Ok event → t ≡ objects_after (Watched event) s → Takes admit_rules (Judging s) (Judging t) line before before
+pub takes_event : (s t : ObjectSet) (line : Line) (event : Event) (before : Option (List ℕ)) → readable_review line.bytes ≡ None
+    → event_of_line line.bytes ≡ Ok event → t ≡ objects_after (Watched event) s → Takes admit_rules (Judging s) (Judging t) line before before
 takes_event s t line event before none reads leads = record {
   entries = [];
   steps = means_event s line event none reads ∙ ap (λ (next : ObjectSet). let step : Transition Work Entry = Goes (Judging next) [] in step) (sym leads);
@@ -61,8 +66,10 @@ takes_event s t line event before none reads leads = record {
 
 -- ---- it is told what a line is read as
 
-pub takes_told : (line : Line) (before after : Option (List ℕ)) → Grows before after (entry_text (told_of line)) → Takes admit_rules Explaining Explaining line before after
+pub takes_told : (line : Line) (before after : Option (List ℕ)) → Grows before after (entry_text (told_of line))
+    → Takes admit_rules Explaining Explaining line before after
 takes_told line before after wrote = takes_one Explaining Explaining line (told_of line) refl before after wrote
 
-pub told_halts : (line : Line) (halt : Halt) (before after : Option (List ℕ)) (k n : ℕ) → Halts halt (entry_text (told_of line)) before after k n → Refuses (Halted halt) admit_rules Explaining line before after k n
+pub told_halts : (line : Line) (halt : Halt) (before after : Option (List ℕ)) (k n : ℕ) → Halts halt (entry_text (told_of line)) before after k n
+    → Refuses (Halted halt) admit_rules Explaining line before after k n
 told_halts line halt before after k n h = one_halts Explaining Explaining line (told_of line) refl halt before after k n h

@@ -24,7 +24,8 @@ ends_well Whole lane number bytes e = cc
 ends_well (LongLine at) lane number bytes e = cc
 ends_well LongInput lane number bytes e = cc
 
-stops_well : (lines : List Line) (ending : Ending) (lane : LaneName) (number : ℕ) (bytes : List ℕ) → (run_from admit_rules lines ending Explaining).stop ≡ BadLine lane number bytes → ⊥
+stops_well : (lines : List Line) (ending : Ending) (lane : LaneName) (number : ℕ) (bytes : List ℕ)
+    → (run_from admit_rules lines ending Explaining).stop ≡ BadLine lane number bytes → ⊥
 stops_well lines ending lane number bytes e = ends_well ending lane number bytes (sym (ap (λ (r : Run Entry). r.stop) (lines_are_told lines ending)) ∙ e)
 
 -- so a run that tells of lines stops at none

@@ -19,13 +19,15 @@ use Rattle.mlb_admit.specs.Stream.{readable_review, event_step, step_where, line
 abbrev IsFair : Status → Type 0
 IsFair status = IsLineStatus status × IsCause status
 
-event_cause : (read : Result Event EventFault) (s : ObjectSet) (line : Line) (status : Status) → readable_review line.bytes ≡ None → event_of_line line.bytes ≡ read → event_step s line read ≡ Stops status → IsFair status
+event_cause : (read : Result Event EventFault) (s : ObjectSet) (line : Line) (status : Status) → readable_review line.bytes ≡ None
+    → event_of_line line.bytes ≡ read → event_step s line read ≡ Stops status → IsFair status
 event_cause (Err fault) s line status none r e =
     let it : BadLine lanes.Input line.number line.bytes ≡ status = cc in
     subst IsFair it (refl, record { no_review = none; no_event = ap is_err r })
 event_cause (Ok event) s line status none r e = absurd (cc)
 
-where_cause : (found : Option Review) (s : ObjectSet) (line : Line) (status : Status) → readable_review line.bytes ≡ found → step_where found s line ≡ Stops status → IsFair status
+where_cause : (found : Option Review) (s : ObjectSet) (line : Line) (status : Status) → readable_review line.bytes ≡ found
+    → step_where found s line ≡ Stops status → IsFair status
 where_cause None s line status none e = event_cause (event_of_line line.bytes) s line status none refl e
 where_cause (Some review) s line status is e = absurd (cc)
 

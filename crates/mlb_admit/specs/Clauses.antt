@@ -15,9 +15,11 @@ abbrev pub work_of : {Z : Type 0} → List (String Z) → Work
 work_of words = begun_by (texts_of words)
 
 -- where the words are known, the input may be asked for more wherever all that came whole was answered
-abbrev pub MayAskAnswered : {Z S K : Type 0} → List (String Z) → (name left : S → Option (List ℕ)) → (S → Reading → K → Type 0) → (K → Option (List ℕ)) → S → K → Type 0
+abbrev pub MayAskAnswered : {Z S K : Type 0} → List (String Z) → (name left : S → Option (List ℕ)) → (S → Reading → K → Type 0) → (K → Option (List ℕ)) → S → K
+    → Type 0
 MayAskAnswered words name left may_read written input out = AreKnown (texts_of words)
-    → MayBeAsked name may_read input (λ source reader out'. IsAnswered admit_rules (work_of words) (left input) reader (left source) (written out) (written out'))
+    → MayBeAsked name may_read input
+    (λ source reader out'. IsAnswered admit_rules (work_of words) (left input) reader (left source) (written out) (written out'))
 
 -- the words are faulty, or it is one of the statuses that a run may end with: no file is opened, and nothing that is held has a limit
 abbrev pub CanEnd : Status → Type 0

@@ -32,7 +32,8 @@ IsRightAfter (Err fault) earlier entries Rest = entries ≡ []
 
 -- a review has the first of the answers, and shows nothing
 abbrev pub IsRightAt : Option Review → List ℕ → List Observation → List Entry → (List Observation → List Entry → Type 0) → Type 0
-IsRightAt (Some review) bytes earlier entries Rest = (answer : Answer) × (rest : List Entry) × (entries ≡ Answered answer ∷ rest) × IsRightAnswer review answer earlier × Rest earlier rest
+IsRightAt (Some review) bytes earlier entries Rest =
+    (answer : Answer) × (rest : List Entry) × (entries ≡ Answered answer ∷ rest) × IsRightAnswer review answer earlier × Rest earlier rest
 IsRightAt None bytes earlier entries Rest = IsRightAfter (event_of_line bytes) earlier entries Rest
 
 -- Behind what was shown earlier, the newest first, these are the answers to the lines: one to each review, in their order, up to a line that is

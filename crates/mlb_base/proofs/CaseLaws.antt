@@ -65,7 +65,8 @@ find_by true P test z zs found d ih x e = inl (d.0 refl, cc)
 find_by false P test z zs found d ih x e = inr (fails false d refl, ih x e)
 
 -- what a search finds is the first
-pub find-first : {X : Type 0} (P : X → Type 0) (test : X → Bool) (xs : List X) (x : X) → ((z : X) → Decides (test z) (P z)) → find test xs ≡ Some x → IsFirst P xs x
+pub find-first : {X : Type 0} (P : X → Type 0) (test : X → Bool) (xs : List X) (x : X) → ((z : X) → Decides (test z) (P z)) → find test xs ≡ Some x
+    → IsFirst P xs x
 find-first P test [] x d e = absurd (cc)
 find-first P test (z ∷ zs) x d e = find_by (test z) P test z zs (find test zs) (d z) (λ y. find-first P test zs y d) x e
 

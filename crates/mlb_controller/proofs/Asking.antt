@@ -28,14 +28,16 @@ lanes_no_run words class files say (other, run) =
     let wrong : Some (Lanes class files) ≡ Some (Run other) = sym (say-read words (Lanes class files) say) ∙ say-read words (Run other) run in
     absurd (cc)
 
-pub lanes_no_trial : (words : List (List ℕ)) (class : Option (List ℕ)) (files : LaneNames) → AskLanes words class files → (seed steps : ℕ) → ¬ (AskTrial words seed steps)
+pub lanes_no_trial : (words : List (List ℕ)) (class : Option (List ℕ)) (files : LaneNames) → AskLanes words class files → (seed steps : ℕ)
+    → ¬ (AskTrial words seed steps)
 lanes_no_trial words class files say seed steps trial =
     let wrong : Some (Lanes class files) ≡ Some (Trial seed steps) = sym (say-read words (Lanes class files) say) ∙ say-read words (Trial seed steps) trial in
     absurd (cc)
 
 -- words that ask for either of them ask for no run over two lanes
 pub run_no_lanes : (words : List (List ℕ)) (class : Option (List ℕ)) → Some (Run class) ≡ asked_in words → AskNoLanes words
-run_no_lanes words class is other files say = let wrong : Some (Run class) ≡ Some (Lanes other files) = is ∙ say-read words (Lanes other files) say in absurd (cc)
+run_no_lanes words class is other files say = let wrong : Some (Run class) ≡ Some (Lanes other files) = is ∙ say-read words (Lanes other files) say in
+    absurd (cc)
 
 pub trial_no_lanes : (words : List (List ℕ)) (seed steps : ℕ) → Some (Trial seed steps) ≡ asked_in words → AskNoLanes words
 trial_no_lanes words seed steps is class files say =
@@ -43,9 +45,11 @@ trial_no_lanes words seed steps is class files say =
     absurd (cc)
 
 -- the class and the files that are asked for are one
-pub one_lanes : (words : List (List ℕ)) (class class' : Option (List ℕ)) (files files' : LaneNames) → AskLanes words class files → AskLanes words class' files' → (class ≡ class') × (files ≡ files')
+pub one_lanes : (words : List (List ℕ)) (class class' : Option (List ℕ)) (files files' : LaneNames) → AskLanes words class files → AskLanes words class' files'
+    → (class ≡ class') × (files ≡ files')
 one_lanes words class class' files files' say say' =
-    let same : Some (Lanes class files) ≡ Some (Lanes class' files') = sym (say-read words (Lanes class files) say) ∙ say-read words (Lanes class' files') say' in
+    let same : Some (Lanes class files) ≡ Some (Lanes class' files') =
+    sym (say-read words (Lanes class files) say) ∙ say-read words (Lanes class' files') say' in
     let classes : class ≡ class' = cc in
     let names : files ≡ files' = cc in
     (classes, names)

@@ -54,14 +54,16 @@ end_fair : (o : Option Put) (s : State) → s.out ≡ o → CanEndLanes ((reply_
 end_fair None s is = rw is tt
 end_fair (Some put) s is = rw is tt
 
-step_fair : (b : Bool) (s : State) (line : Line) (status : Status) → is_some s.out ≡ b → (reply_rules lane_rules).step s line ≡ Stops status → CanEndLanes status
+step_fair : (b : Bool) (s : State) (line : Line) (status : Status) → is_some s.out ≡ b → (reply_rules lane_rules).step s line ≡ Stops status
+    → CanEndLanes status
 step_fair true s line status waits e = fair status (statuses.BadReply line.number line.bytes) (not_a_reply s line status waits (rw waits at e)) tt
 step_fair false s line status waits e =
     let it : Stops (statuses.BadReply line.number line.bytes) ≡ Stops status = rw waits at e in
     let same : statuses.BadReply line.number line.bytes ≡ status = cc in
     fair status (statuses.BadReply line.number line.bytes) (sym same) tt
 
-refusal_fair : (refusal : Refusal) (s : State) (line : Line) (before after : Option (List ℕ)) (k n : ℕ) → Refuses refusal (reply_rules lane_rules) s line before after k n → CanEndLanes (status_of_refusal refusal)
+refusal_fair : (refusal : Refusal) (s : State) (line : Line) (before after : Option (List ℕ)) (k n : ℕ)
+    → Refuses refusal (reply_rules lane_rules) s line before after k n → CanEndLanes (status_of_refusal refusal)
 refusal_fair (Stopped status) s line before after k n r = step_fair (is_some s.out) s line status refl r.0
 refusal_fair (Halted halt) s line before after k n r = halt_fair halt
 
@@ -73,7 +75,8 @@ reading_fair s status mid after (inl (last, wrote)) = last_fair last.is
     last_fair (inr is) = fair status statuses.NoMemory is tt
 reading_fair s status mid after (inr (inl (unread, wrote))) = fair status (status_of_end unread.end) unread.is (reader_fair unread.end)
 reading_fair s status mid after (inr (inr untaken)) =
-    fair status (status_of_refusal untaken.refusal) untaken.is (refusal_fair untaken.refusal s untaken.line mid.written after.written mid.faults after.faults untaken.refuses)
+    fair status (status_of_refusal untaken.refusal) untaken.is
+    (refusal_fair untaken.refusal s untaken.line mid.written after.written mid.faults after.faults untaken.refuses)
 
 -- ---- the lanes
 second_fair : (end : LaneEnd) → CanEndLanes (status_of_lanes name_of lane_ends.Done end)
@@ -98,7 +101,8 @@ module _ (start : State) (first first' second second' : SourceView) (before afte
   ends_fair (inl at_item) = item_fair at_item.stops
     where
       item_fair : ((lane_rules.take at_item.state at_item.item ≡ Stops status) × Grows at_item.mid.written after.written [])
-          ⊎ ((halt : Halt) × (status ≡ status_of_halt halt) × HaltsItem halt lane_rules at_item.state at_item.item at_item.mid.written after.written at_item.mid.faults after.faults) → CanEndLanes status
+          ⊎ ((halt : Halt) × (status ≡ status_of_halt halt)
+          × HaltsItem halt lane_rules at_item.state at_item.item at_item.mid.written after.written at_item.mid.faults after.faults) → CanEndLanes status
       item_fair (inl (stops, wrote)) = fair status (statuses.Limit whats.Services (most_services + 1)) (items_past at_item.state at_item.item status stops) refl
       item_fair (inr (halt, is, halts)) = fair status (status_of_halt halt) is (halt_fair halt)
   ends_fair (inr (inl at_reply)) = reading_fair at_reply.state status at_reply.mid after at_reply.stops
@@ -106,8 +110,10 @@ module _ (start : State) (first first' second second' : SourceView) (before afte
   ends_fair (inr (inr (inr (inl ended)))) = fair status (status_of_lanes name_of ended.end ended.end') ended.is (lanes_fair ended.end ended.end')
   ends_fair (inr (inr (inr (inr (is, wrote))))) = fair status statuses.NoMemory is tt
 
-module _ (start : State) (file file' : List ℕ) (files files' : FilesView) (first second replies replies' : SourceView) (before after : Option (List ℕ)) (k n : ℕ) where
-  opened_fair : (status : Status) → ((lane : LaneName) → status ≢ statuses.OpenFault lane) → AtEnd belongs_to lane_rules start file file' files files' first second replies replies' before after k n status
+module _ (start : State) (file file' : List ℕ) (files files' : FilesView) (first second replies replies' : SourceView) (before after : Option (List ℕ))
+    (k n : ℕ) where
+  opened_fair : (status : Status) → ((lane : LaneName) → status ≢ statuses.OpenFault lane)
+      → AtEnd belongs_to lane_rules start file file' files files' first second replies replies' before after k n status
       → CanEndLanes status
   opened_fair status opened at_end =
       let ended = at_end opened in
@@ -137,7 +143,8 @@ begins_nothing lane None = record { input = no_items lane_ends.Done; is = ([], W
 begins_nothing lane (Some bytes) = record { input = lane_input belongs_to lane bytes; is = refl; begins = ((lane_input belongs_to lane bytes).items, refl) }
 
 -- nothing was taken and nothing written
-pub writes_nothing : (start : State) (first second replies written : Option (List ℕ)) → OnlyWrites belongs_to lane_rules start first second replies written written
+pub writes_nothing : (start : State) (first second replies written : Option (List ℕ))
+    → OnlyWrites belongs_to lane_rules start first second replies written written
 writes_nothing start first second replies written = record {
   items = [];
   replies = [];

@@ -29,35 +29,42 @@ use Rattle.mlb_controller.proofs.Turning.{none_from}
 use Rattle.mlb_edge.specs.declared.lines.Line.{Line}
 
 module _ (class : Option (List ℕ)) where
-  item_goes : (event : Event) (s : State) (lane : Lane) (bytes : List ℕ) → s.out ≡ None → event_of_line bytes ≡ Ok event → GoesOn class s (lane_arrival s lane event)
+  item_goes : (event : Event) (s : State) (lane : Lane) (bytes : List ℕ) → s.out ≡ None → event_of_line bytes ≡ Ok event
+      → GoesOn class s (lane_arrival s lane event)
   item_goes Expired s lane bytes none reads next entries told e leads =
       by_driven class (expiring s (lane_group lane)) next entries told e (expiries_go_on class told s (lane_group lane) leads none)
-  item_goes (Changed version object) s lane bytes none reads next entries told e leads = arrival_goes class s bytes (Changed version object) none reads next entries told e leads
-  item_goes (Deleted kind key) s lane bytes none reads next entries told e leads = arrival_goes class s bytes (Deleted kind key) none reads next entries told e leads
+  item_goes (Changed version object) s lane bytes none reads next entries told e leads =
+      arrival_goes class s bytes (Changed version object) none reads next entries told e leads
+  item_goes (Deleted kind key) s lane bytes none reads next entries told e leads =
+      arrival_goes class s bytes (Deleted kind key) none reads next entries told e leads
   item_goes (ListEnd group) s lane bytes none reads next entries told e leads = arrival_goes class s bytes (ListEnd group) none reads next entries told e leads
   item_goes (Members names) s lane bytes none reads next entries told e leads = arrival_goes class s bytes (Members names) none reads next entries told e leads
-  item_goes (Frame interface frame) s lane bytes none reads next entries told e leads = arrival_goes class s bytes (Frame interface frame) none reads next entries told e leads
+  item_goes (Frame interface frame) s lane bytes none reads next entries told e leads =
+      arrival_goes class s bytes (Frame interface frame) none reads next entries told e leads
   item_goes Ignored s lane bytes none reads next entries told e leads = arrival_goes class s bytes Ignored none reads next entries told e leads
 
   joined : (a b c : List Entry) (s : State) → LeadsTo class ((a ++ b) ++ c) s → LeadsTo class (a ++ (b ++ c)) s
   joined a b c s leads = subst (λ (told : List Entry). LeadsTo class told s) (append_assoc a b c) leads
 
   -- replies that are heard
-  heard_leads : (lines : List Line) (s t : State) (entries told : List Entry) → AreHeard lane_rules lines s t entries → LeadsTo class told s → LeadsTo class (told ++ entries) t
+  heard_leads : (lines : List Line) (s t : State) (entries told : List Entry) → AreHeard lane_rules lines s t entries → LeadsTo class told s
+      → LeadsTo class (told ++ entries) t
   heard_leads [] s t entries told (same, none) leads = rw (same, none, append-nil told) leads
   heard_leads (line ∷ lines) s t entries told (next, first, rest, waits, hears, more, is) leads =
       let one = where_goes class s.out s line refl next first told hears leads in
       rw is (joined told first rest t (heard_leads lines next t rest (told ++ first) more one))
 
   -- an item that is taken, with the replies behind it
-  one_leads : (item : Item) (replies : List Line) (s t : State) (entries told : List Entry) → IsRead belongs_to item → IsTaken lane_rules item replies s t entries
+  one_leads : (item : Item) (replies : List Line) (s t : State) (entries told : List Entry) → IsRead belongs_to item
+      → IsTaken lane_rules item replies s t entries
       → LeadsTo class told s → LeadsTo class (told ++ entries) t
   one_leads item replies s t entries told read taken leads =
       let one = item_goes item.event s item.lane read.bytes (none_from s.out taken.quiet) read.read taken.next taken.first told taken.steps leads in
       rw taken.entries_are (joined told taken.first taken.rest t (heard_leads replies taken.next t taken.rest (told ++ taken.first) taken.heard one))
 
   -- all that are taken
-  taken_leads : (items : List Item) (replies : List Line) (s t : State) (told : List (Told Entry)) (earlier : List Entry) → AllByRecursion (IsRead belongs_to) items
+  taken_leads : (items : List Item) (replies : List Line) (s t : State) (told : List (Told Entry)) (earlier : List Entry)
+      → AllByRecursion (IsRead belongs_to) items
       → AreTaken lane_rules items replies s t told → LeadsTo class earlier s → LeadsTo class (earlier ++ entries_of told) t
   taken_leads [] replies s t told earlier read (none, same, nothing) leads = rw (same, nothing, append-nil earlier) leads
   taken_leads (item ∷ items) replies s t told earlier read (own, behind, next, entries, more, split, taken, rest, is) leads =
@@ -65,19 +72,22 @@ module _ (class : Option (List ℕ)) where
       rw is (joined earlier entries (entries_of more) t (taken_leads items behind next t more (earlier ++ entries) read.1 rest one))
 
   -- from the start, where the items are beginnings of both lanes
-  lanes_lead : (first second : Option (List ℕ)) (items : List Item) (replies : List Line) (t : State) (told : List (Told Entry)) → AreBeginnings belongs_to first second items
+  lanes_lead : (first second : Option (List ℕ)) (items : List Item) (replies : List Line) (t : State) (told : List (Told Entry))
+      → AreBeginnings belongs_to first second items
       → AreTaken lane_rules items replies (fresh class) t told → LeadsTo class (entries_of told) t
   lanes_lead first second items replies t told begin taken =
       taken_leads items replies (fresh class) t told [] (items_are_read belongs_to first second items begin) taken (begins_fresh class)
 
   -- so what is told of them is sound and safe
-  pub any_sound : (first second : Option (List ℕ)) (items : List Item) (replies : List Line) (t : State) (told : List (Told Entry)) → AreBeginnings belongs_to first second items
+  pub any_sound : (first second : Option (List ℕ)) (items : List Item) (replies : List Line) (t : State) (told : List (Told Entry))
+      → AreBeginnings belongs_to first second items
       → AreTaken lane_rules items replies (fresh class) t told → IsSound class (entries_of told) × IsSafeThroughout class (entries_of told)
   any_sound first second items replies t told begin taken =
       let led = lanes_lead first second items replies t told begin taken in
       (drives_are_sound class (entries_of told) t led, safe_led class (entries_of told) t led)
 
-  pub lanes_sound : (first second replies before after : Option (List ℕ)) → OnlyWrites belongs_to lane_rules (fresh class) first second replies before after → TellsSound first second replies before after class
+  pub lanes_sound : (first second replies before after : Option (List ℕ)) → OnlyWrites belongs_to lane_rules (fresh class) first second replies before after
+      → TellsSound first second replies before after class
   lanes_sound first second replies before after only =
       let (sound, safe) = any_sound first second only.items only.replies only.state only.told only.begin only.taken in
       record { written = only; sound = sound; safe = safe }
@@ -86,11 +96,15 @@ module _ (class : Option (List ℕ)) where
   all_begins : (lane : Lane) (left : Option (List ℕ)) (items : List Item) → StopsAs belongs_to lane left items Done → Begins belongs_to lane left items
   all_begins lane left items stops = record { input = record { items = items; end = Done }; is = stops; begins = ([], sym (append-nil items)) }
 
-  pub lanes_quiet : (first second left left' before after : Option (List ℕ)) → TakesWhole belongs_to lane_rules (fresh class) first second left left' before after
+  pub lanes_quiet : (first second left left' before after : Option (List ℕ))
+      → TakesWhole belongs_to lane_rules (fresh class) first second left left' before after
       → LeavesServed first second left left' before after class
   lanes_quiet first second left left' before after whole =
       let begin : AreBeginnings belongs_to first second whole.items =
-      record { firsts = all_begins First first (items_of First whole.items) whole.firsts; seconds = all_begins Second second (items_of Second whole.items) whole.seconds } in
+      record {
+        firsts = all_begins First first (items_of First whole.items) whole.firsts;
+        seconds = all_begins Second second (items_of Second whole.items) whole.seconds;
+      } in
       let led = lanes_lead first second whole.items whole.heard whole.state whole.told begin whole.taken in
       record { whole = whole; quiet = led_quiet class (entries_of whole.told) whole.state led (none_from whole.state.out whole.quiet) }
 

@@ -34,16 +34,19 @@ module _ (class : Option (List ℕ)) where
   abbrev pub GoesOn : State → Transition State Entry → Type 0
   GoesOn s step = (next : State) (entries told : List Entry) → step ≡ Goes next entries → LeadsTo class told s → LeadsTo class (told ++ entries) next
 
-  pub by_driven : (d : Driven) (next : State) (entries told : List Entry) → goes_by d ≡ Goes next entries → LeadsTo class (told ++ d.entries) d.core → LeadsTo class (told ++ entries) next
+  pub by_driven : (d : Driven) (next : State) (entries told : List Entry) → goes_by d ≡ Goes next entries → LeadsTo class (told ++ d.entries) d.core
+      → LeadsTo class (told ++ entries) next
   by_driven d next entries told e leads =
       let core : d.core ≡ next = cc in
       let same : d.entries ≡ entries = cc in
       rw (← core, ← same) leads
 
-  within_goes : (b : Bool) (s : State) (bytes : List ℕ) (event : Event) → s.out ≡ None → event_of_line bytes ≡ Ok event → GoesOn s (cond b (Stops (Limit whats.Services (most_services + 1))) (goes_by (taking s event)))
+  within_goes : (b : Bool) (s : State) (bytes : List ℕ) (event : Event) → s.out ≡ None → event_of_line bytes ≡ Ok event
+      → GoesOn s (cond b (Stops (Limit whats.Services (most_services + 1))) (goes_by (taking s event)))
   within_goes true s bytes event none reads next entries told e leads = absurd (cc)
   within_goes false s bytes event none reads next entries told e leads =
-      by_driven (taking s event) next entries told e (events_go_on class told s event leads none (events_show_terms bytes event reads) (events_show_families bytes event reads))
+      by_driven (taking s event) next entries told e
+      (events_go_on class told s event leads none (events_show_terms bytes event reads) (events_show_families bytes event reads))
 
   pub arrival_goes : (s : State) (bytes : List ℕ) (event : Event) → s.out ≡ None → event_of_line bytes ≡ Ok event → GoesOn s (arrival s event)
   arrival_goes s bytes event none reads = within_goes (limits s event) s bytes event none reads
@@ -69,7 +72,8 @@ module _ (class : Option (List ℕ)) where
 
   -- so it is sound
   sound_in : (lines : List Line) (ending : Ending) → IsSound class (run_from controller_rules lines ending (fresh class)).entries
-  sound_in lines ending = let led = leads_in lines ending in drives_are_sound class (run_from controller_rules lines ending (fresh class)).entries led.state led.kept
+  sound_in lines ending = let led = leads_in lines ending in
+      drives_are_sound class (run_from controller_rules lines ending (fresh class)).entries led.state led.kept
 
   -- a beginning of a run is one
   begun_run : (later : List Entry) (earlier : List CoreEntry) → IsRun class (behind later earlier) → IsRun class earlier
@@ -91,7 +95,8 @@ module _ (class : Option (List ℕ)) where
 
   -- what leads to a core is safe in every world
   pub safe_led : (told : List Entry) (s : State) → LeadsTo class told s → IsSafeThroughout class told
-  safe_led told s leads first later e = runs_are_safe_in_worlds class (behind first []) (beginning_run first later [] (rw e at leads.is)) (beginning_terms first later [] (rw e at leads.typed))
+  safe_led told s leads first later e =
+      runs_are_safe_in_worlds class (behind first []) (beginning_run first later [] (rw e at leads.is)) (beginning_terms first later [] (rw e at leads.typed))
 
   -- and so is the stream
   safe_in : (lines : List Line) (ending : Ending) → IsSafeThroughout class (run_from controller_rules lines ending (fresh class)).entries
@@ -115,7 +120,8 @@ module _ (class : Option (List ℕ)) where
   pub led_quiet : (told : List Entry) (s : State) → LeadsTo class told s → s.out ≡ None → LeavesNothing class told
   led_quiet told s leads none = record { quiet = drives_are_quiet class told s leads none; settled = drives_are_settled class told s leads none }
 
-  quiet_in : (lines : List Line) (ending : Ending) → (run_from controller_rules lines ending (fresh class)).stop ≡ Done → LeavesNothing class (run_from controller_rules lines ending (fresh class)).entries
+  quiet_in : (lines : List Line) (ending : Ending) → (run_from controller_rules lines ending (fresh class)).stop ≡ Done
+      → LeavesNothing class (run_from controller_rules lines ending (fresh class)).entries
   quiet_in lines ending done =
       let led = leads_in lines ending in
       let stops : StopsIn controller_rules led.state Done = rw done at led.stops in
@@ -129,7 +135,8 @@ module _ (class : Option (List ℕ)) where
   safe_where_told None = tt
   safe_where_told (Some bytes) = safe_in (input_of bytes).lines (input_of bytes).ending
 
-  pub quiet_where_done : (left before after : Option (List ℕ)) → StopsAs controller_rules (fresh class) left before after Done → EndsQuiet class left before after
+  pub quiet_where_done : (left before after : Option (List ℕ)) → StopsAs controller_rules (fresh class) left before after Done
+      → EndsQuiet class left before after
   quiet_where_done None before after stops =
       record { lines = stops.0; ending = stops.1; stops = stops.2; quiet = quiet_in stops.0 stops.1 stops.2.0 }
   quiet_where_done (Some bytes) before after stops = quiet_in (input_of bytes).lines (input_of bytes).ending stops.0

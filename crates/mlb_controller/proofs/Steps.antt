@@ -29,20 +29,25 @@ use Rattle.mlb_controller.specs.Lanes.{name_of, item_step, lane_rules}
 use Rattle.mlb_controller.specs.Output.{output_of, note_text}
 use Rattle.mlb_controller.specs.Stream.{arrival, Enters, event_step, goes_by, line_step, step_where, controller_rules}
 
-meant : (o : Option Put) (s : State) (line : Line) (reply : PutReply) → IsSome o → ((put : Put) → o ≡ Some put → reply_of put line.bytes ≡ Some reply) → step_where o s line ≡ goes_by (hearing s reply)
+meant : (o : Option Put) (s : State) (line : Line) (reply : PutReply) → IsSome o → ((put : Put) → o ≡ Some put → reply_of put line.bytes ≡ Some reply)
+    → step_where o s line ≡ goes_by (hearing s reply)
 meant None s line reply some gives = absurd (cc)
 meant (Some put) s line reply some gives = rw (gives put refl) refl
 
 -- a reply is heard
-module _ (s t : State) (line : Line) (reply : PutReply) (some : IsSome s.out) (gives : (put : Put) → s.out ≡ Some put → reply_of put line.bytes ≡ Some reply) (leads : t ≡ core_reply s reply) where
-  pub hears : (u : State) (before after : Option (List ℕ)) → u ≡ (turns_from t).core → Grows before after (output_of (turns_from t).entries) → Takes controller_rules s u line before after
+module _ (s t : State) (line : Line) (reply : PutReply) (some : IsSome s.out) (gives : (put : Put) → s.out ≡ Some put → reply_of put line.bytes ≡ Some reply)
+    (leads : t ≡ core_reply s reply) where
+  pub hears : (u : State) (before after : Option (List ℕ)) → u ≡ (turns_from t).core → Grows before after (output_of (turns_from t).entries)
+      → Takes controller_rules s u line before after
   hears u before after core wrote = record {
     entries = (hearing s reply).entries;
-    steps = meant s.out s line reply some gives ∙ ap (λ (next : State). let step : Transition State Entry = Goes next (hearing s reply).entries in step) (sym (rw leads at core));
+    steps = meant s.out s line reply some gives
+        ∙ ap (λ (next : State). let step : Transition State Entry = Goes next (hearing s reply).entries in step) (sym (rw leads at core));
     wrote = rw leads at wrote;
   }
 
-  pub hears_broken : (halt : Halt) (before after : Option (List ℕ)) (k n : ℕ) → Halts halt (output_of (turns_from t).entries) before after k n → Breaks halt controller_rules s line before after k n
+  pub hears_broken : (halt : Halt) (before after : Option (List ℕ)) (k n : ℕ) → Halts halt (output_of (turns_from t).entries) before after k n
+      → Breaks halt controller_rules s line before after k n
   hears_broken halt before after k n h = record {
     next = (hearing s reply).core;
     entries = (hearing s reply).entries;
@@ -52,14 +57,16 @@ module _ (s t : State) (line : Line) (reply : PutReply) (some : IsSome s.out) (g
 
 -- the watch of one list expires
 pub enters_lapse : (s t : State) (group : Group) → t ≡ core_expired s group → Enters (goes_by (expiring s group)) Quiet t
-enters_lapse s t group leads = record { entry = ListExpired group; steps = ap (λ (u : State). goes_by (with_turns (ListExpired group) u)) (sym leads); text = refl }
+enters_lapse s t group leads =
+    record { entry = ListExpired group; steps = ap (λ (u : State). goes_by (with_turns (ListExpired group) u)) (sym leads); text = refl }
 
 -- what an event of a line is to the core
 pub means_event : (s : State) (line : Line) (event : Event) → s.out ≡ None → event_of_line line.bytes ≡ Ok event → line_step s line ≡ arrival s event
 means_event s line event none reads = ap (λ (out : Option Put). step_where out s line) none ∙ ap (event_step s line) reads
 
 -- the text of an item that is taken isn't written whole
-item_broken : (halt : Halt) (s : State) (item : Item) (before after : Option (List ℕ)) (k n : ℕ) → BreaksItem halt lane_rules s item before after k n → RefusesItem (Halted halt) lane_rules s item before after k n
+item_broken : (halt : Halt) (s : State) (item : Item) (before after : Option (List ℕ)) (k n : ℕ) → BreaksItem halt lane_rules s item before after k n
+    → RefusesItem (Halted halt) lane_rules s item before after k n
 item_broken WriteFault s item before after k n b = b
 item_broken NoMemory s item before after k n b = inr b
 
@@ -75,10 +82,13 @@ module _ (step : Transition State Entry) (note : TakeNote) (t : State) (enters :
   leads_to : (u : State) → u ≡ (turns_from t).core → step ≡ Goes u (with_turns enters.entry t).entries
   leads_to u core = enters.steps ∙ ap (λ (next : State). let step : Transition State Entry = Goes next (with_turns enters.entry t).entries in step) (sym core)
 
-  pub takes : (s u : State) (line : Line) (before after : Option (List ℕ)) → line_step s line ≡ step → u ≡ (turns_from t).core → Grows before after told → Takes controller_rules s u line before after
-  takes s u line before after means core wrote = record { entries = (with_turns enters.entry t).entries; steps = means ∙ leads_to u core; wrote = rw told_is at wrote }
+  pub takes : (s u : State) (line : Line) (before after : Option (List ℕ)) → line_step s line ≡ step → u ≡ (turns_from t).core → Grows before after told
+      → Takes controller_rules s u line before after
+  takes s u line before after means core wrote =
+      record { entries = (with_turns enters.entry t).entries; steps = means ∙ leads_to u core; wrote = rw told_is at wrote }
 
-  pub line_halts : (halt : Halt) (s : State) (line : Line) (before after : Option (List ℕ)) (k n : ℕ) → line_step s line ≡ step → Halts halt told before after k n
+  pub line_halts : (halt : Halt) (s : State) (line : Line) (before after : Option (List ℕ)) (k n : ℕ) → line_step s line ≡ step
+      → Halts halt told before after k n
       → Refuses (Halted halt) controller_rules s line before after k n
   line_halts halt s line before after k n means h =
       broken halt controller_rules s line before after k n

@@ -19,9 +19,11 @@ abbrev pub begun_by : {Z : Type 0} → List (String Z) → State
 begun_by words = fresh (class_of (texts_of words))
 
 -- where the words ask for a run, the input may be asked for more wherever all that came whole was answered
-abbrev pub MayAskAnswered : {Z S K : Type 0} → List (String Z) → (name left : S → Option (List ℕ)) → (S → Reading → K → Type 0) → (K → Option (List ℕ)) → S → K → Type 0
+abbrev pub MayAskAnswered : {Z S K : Type 0} → List (String Z) → (name left : S → Option (List ℕ)) → (S → Reading → K → Type 0) → (K → Option (List ℕ)) → S → K
+    → Type 0
 MayAskAnswered words name left may_read written input out = AskRun (texts_of words)
-    → MayBeAsked name may_read input (λ source reader out'. IsAnswered controller_rules (begun_by words) (left input) reader (left source) (written out) (written out'))
+    → MayBeAsked name may_read input
+    (λ source reader out'. IsAnswered controller_rules (begun_by words) (left input) reader (left source) (written out) (written out'))
 
 -- the words are faulty, or it is one of the statuses that a run of the controller or a trial may end with: no file is opened, no lane is
 -- known but the input, and of what is held services alone have a limit
@@ -42,7 +44,8 @@ RunsSafe words left = sound.RunsSafe (class_of (texts_of words)) left
 
 -- where the run is done, nothing is left waiting that could be served, and each settled service has its own
 abbrev pub EndsQuiet : {Z K : Type 0} → List (String Z) → Status → Option (List ℕ) → (K → Option (List ℕ)) → K → K → Type 0
-EndsQuiet words status left written out out' = AskRun (texts_of words) → status ≡ Done → sound.EndsQuiet (class_of (texts_of words)) left (written out) (written out')
+EndsQuiet words status left written out out' =
+    AskRun (texts_of words) → status ≡ Done → sound.EndsQuiet (class_of (texts_of words)) left (written out) (written out')
 
 -- the class that the run handles is the one that the words name, if they name one
 abbrev pub HandlesNamed : {Z : Type 0} → List (String Z) → Type 0

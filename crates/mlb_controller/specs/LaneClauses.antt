@@ -36,28 +36,36 @@ abbrev pub OverLanes : {Z : Type 0} → List (String Z) → (Option (List ℕ) �
 OverLanes words Owes = (class : Option (List ℕ)) (files : LaneNames) → AskLanes (texts_of words) class files → Owes class files
 
 -- the input may be asked for more wherever all that was taken is answered, with all replies that came, and a reply is awaited or both lanes have ended
-abbrev pub LanesMayAsk : {S K : Type 0} → (List ℕ → Option (List ℕ)) → (List ℕ → Bool) → (name left : S → Option (List ℕ)) (reads : S → ℕ) → (S → Reading → K → Type 0) → (written : K → Option (List ℕ)) (writes : K → ℕ) → S → K → Option (List ℕ) → LaneNames → Type 0
+abbrev pub LanesMayAsk : {S K : Type 0} → (List ℕ → Option (List ℕ)) → (List ℕ → Bool) → (name left : S → Option (List ℕ)) (reads : S → ℕ)
+    → (S → Reading → K → Type 0) → (written : K → Option (List ℕ)) (writes : K → ℕ) → S → K → Option (List ℕ) → LaneNames → Type 0
 LanesMayAsk bytes safe name left reads may_read written writes input out class files =
-    MayBeAsked name may_read input (λ source reader out'. AsksMore belongs_to lane_rules (fresh class) (lane_view (bytes files.first) (Some files.first) 0 (safe files.first)) (lane_view (bytes files.second) (Some files.second) 0 (safe files.second))
+    MayBeAsked name may_read input (λ source reader out'. AsksMore belongs_to lane_rules (fresh class)
+    (lane_view (bytes files.first) (Some files.first) 0 (safe files.first)) (lane_view (bytes files.second) (Some files.second) 0 (safe files.second))
     (outside lanes.unread (source_view (left input) (name input) (reads input)) (written out) (writes out))
     (outside reader (source_view (left source) (name source) (reads source)) (written out') (writes out')))
 
 -- the next item may be waited for wherever just the text of all items taken before stands written, with all replies to them heard
-abbrev pub LanesMayWait : {R K : Type 0} → (R → List Item → K → Type 0) → R → (replies : SourceView) (written : K → Option (List ℕ)) (writes : K → ℕ) → K → Option (List ℕ) → LaneNames → Type 0
-LanesMayWait may_wait rt replies written writes out class files = MayBeAwaited may_wait rt written (AnswersAll lane_rules (fresh class) (outside lanes.unread replies (written out) (writes out)))
+abbrev pub LanesMayWait : {R K : Type 0} → (R → List Item → K → Type 0) → R → (replies : SourceView) (written : K → Option (List ℕ)) (writes : K → ℕ) → K
+    → Option (List ℕ) → LaneNames → Type 0
+LanesMayWait may_wait rt replies written writes out class files =
+    MayBeAwaited may_wait rt written (AnswersAll lane_rules (fresh class) (outside lanes.unread replies (written out) (writes out)))
 
 -- what the files still give may be dropped wherever the run stopped at the last item taken, or at a reply behind it
-abbrev pub LanesMayDrop : {R K : Type 0} → (R → List Item → K → Type 0) → R → (replies : SourceView) (written : K → Option (List ℕ)) (writes : K → ℕ) → K → Option (List ℕ) → LaneNames → Type 0
-LanesMayDrop may_drop rt replies written writes out class files = MayBeAwaited may_drop rt written (HasStopped lane_rules (fresh class) (outside lanes.unread replies (written out) (writes out)))
+abbrev pub LanesMayDrop : {R K : Type 0} → (R → List Item → K → Type 0) → R → (replies : SourceView) (written : K → Option (List ℕ)) (writes : K → ℕ) → K
+    → Option (List ℕ) → LaneNames → Type 0
+LanesMayDrop may_drop rt replies written writes out class files =
+    MayBeAwaited may_drop rt written (HasStopped lane_rules (fresh class) (outside lanes.unread replies (written out) (writes out)))
 
 -- the file of the configuration may be opened, and once it is open that of the services
 abbrev pub LanesMayOpen : {F : Type 0} → (F → List ℕ → Type 0) → (F → F → List ℕ → Type 0) → F → Option (List ℕ) → LaneNames → Type 0
 LanesMayOpen may_open Opens unopened class files = MayBeOpened may_open Opens unopened files.first files.second
 
 -- how the run ended, once both files are open
-abbrev pub LanesEnd : (List ℕ → Option (List ℕ)) → (List ℕ → Bool) → (files files' : FilesView) (replies replies' : SourceView) (before after : Option (List ℕ)) (writes writes' : ℕ) → Status → Option (List ℕ) → LaneNames → Type 0
+abbrev pub LanesEnd : (List ℕ → Option (List ℕ)) → (List ℕ → Bool) → (files files' : FilesView) (replies replies' : SourceView) (before after : Option (List ℕ))
+    (writes writes' : ℕ) → Status → Option (List ℕ) → LaneNames → Type 0
 LanesEnd bytes safe opened opened' replies replies' before after writes writes' status class files =
-    lanes.AtEnd belongs_to lane_rules (fresh class) files.first files.second opened opened' (lane_view (bytes files.first) (Some files.first) 0 (safe files.first)) (lane_view (bytes files.second) (Some files.second) 0 (safe files.second))
+    lanes.AtEnd belongs_to lane_rules (fresh class) files.first files.second opened opened'
+    (lane_view (bytes files.first) (Some files.first) 0 (safe files.first)) (lane_view (bytes files.second) (Some files.second) 0 (safe files.second))
     replies replies' before after writes writes' status
 
 -- where it is done all that both files carry was taken, with all lines of the input as the replies, and just its text was written
@@ -94,11 +102,13 @@ pub record LeavesServed (first second left left' before after class : Option (Li
 
 -- so it is where the run is done
 abbrev pub LanesQuiet : (List ℕ → Option (List ℕ)) → Status → (left left' before after : Option (List ℕ)) → Option (List ℕ) → LaneNames → Type 0
-LanesQuiet bytes status left left' before after class files = status ≡ Done → LeavesServed (bytes files.first) (bytes files.second) left left' before after class
+LanesQuiet bytes status left left' before after class files =
+    status ≡ Done → LeavesServed (bytes files.first) (bytes files.second) left left' before after class
 
 -- where each line of both files can be taken, in whatever order the events of both come, with a reply to each put and no line behind the last,
 -- and no count of faults rises, the run is done, but for want of memory
-abbrev pub LanesComplete : (List ℕ → Option (List ℕ)) → Status → (files files' : FilesView) (replies : Option (List ℕ)) (reads reads' writes writes' : ℕ) → Option (List ℕ) → LaneNames → Type 0
+abbrev pub LanesComplete : (List ℕ → Option (List ℕ)) → Status → (files files' : FilesView) (replies : Option (List ℕ)) (reads reads' writes writes' : ℕ)
+    → Option (List ℕ) → LaneNames → Type 0
 LanesComplete bytes status before after replies reads reads' writes writes' class files =
     can_be_done.IsComplete belongs_to lane_rules (fresh class) (bytes files.first) (bytes files.second) status before after replies reads reads' writes writes'
 

@@ -6,7 +6,8 @@ ghost use Rattle.kube_model.specs.declared.status.LaneName.{LaneName};
 ghost use Rattle.lane_drive.specs.Files.{files_view};
 ghost use Rattle.lane_run.specs.Views.{source_view};
 ghost use Rattle.line_run.specs.Clauses.{AtWriteFault};
-ghost use Rattle.mlb_controller.specs.LaneClauses.{LanesMayAsk, LanesMayOpen, LanesMayWait, LanesMayDrop, LanesEnd, LanesComplete, LanesDone, LanesSound, LanesQuiet, CanEndLanes, LaneOpenFault, LaneReadFault, LaneOthers};
+ghost use Rattle.mlb_controller.specs.LaneClauses.{LanesMayAsk, LanesMayOpen, LanesMayWait, LanesMayDrop, LanesEnd, LanesComplete};
+ghost use Rattle.mlb_controller.specs.LaneClauses.{LanesDone, LanesSound, LanesQuiet, CanEndLanes, LaneOpenFault, LaneReadFault, LaneOthers};
 
 use crate::controller::Controller;
 use command_options::LaneFiles;

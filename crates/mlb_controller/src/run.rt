@@ -9,8 +9,11 @@ ghost use Rattle.line_run.specs.Clauses.{AtReadFault, AtWriteFault, RunOwes};
 ghost use Rattle.command_options.specs.Options.{texts_of};
 ghost use Rattle.controller_words.specs.Words.{AreKnown};
 ghost use Rattle.mlb_controller.specs.Asked.{AskLanes, AskNoLanes, AskRun};
-ghost use Rattle.mlb_controller.specs.LaneClauses.{OverLanes, LanesMayAsk, LanesMayOpen, LanesMayWait, LanesMayDrop, LanesEnd, LanesComplete, LanesDone, LanesSound, LanesAreSound, LanesAreWatches, LanesQuiet, LaneCanEnd, LaneOpenFault, LaneReadFault, LaneOthers};
-ghost use Rattle.mlb_controller.specs.Clauses.{begun_by, MayAskAnswered, CanEnd, WritesSound, RunsSound, RunsSafe, EndsQuiet, HandlesNamed, WritesTrial, LeavesInput, TrialIsSafe};
+ghost use Rattle.mlb_controller.specs.LaneClauses.{OverLanes, LanesMayAsk, LanesMayOpen, LanesMayWait, LanesMayDrop, LanesEnd};
+ghost use Rattle.mlb_controller.specs.LaneClauses.{LanesComplete, LanesDone, LanesSound, LanesAreSound, LanesAreWatches};
+ghost use Rattle.mlb_controller.specs.LaneClauses.{LanesQuiet, LaneCanEnd, LaneOpenFault, LaneReadFault, LaneOthers};
+ghost use Rattle.mlb_controller.specs.Clauses.{begun_by, MayAskAnswered, CanEnd, WritesSound, RunsSound, RunsSafe};
+ghost use Rattle.mlb_controller.specs.Clauses.{EndsQuiet, HandlesNamed, WritesTrial, LeavesInput, TrialIsSafe};
 ghost use Rattle.mlb_controller.specs.Stream.{IsCause, controller_rules};
 
 use crate::lane_files::lanes_controller;

@@ -4,7 +4,8 @@ ghost use Rattle.line_run.specs.Clauses.{AtReadFault, AtWriteFault, RunOwes};
 ghost use Rattle.command_options.specs.Options.{texts_of};
 ghost use Rattle.controller_words.specs.Words.{AreKnown};
 ghost use Rattle.mlb_controller.specs.Asked.{AskNoLanes, AskRun};
-ghost use Rattle.mlb_controller.specs.Clauses.{begun_by, MayAskAnswered, CanEnd, WritesSound, RunsSound, RunsSafe, EndsQuiet, HandlesNamed, WritesTrial, LeavesInput, TrialIsSafe};
+ghost use Rattle.mlb_controller.specs.Clauses.{begun_by, MayAskAnswered, CanEnd, WritesSound, RunsSound, RunsSafe};
+ghost use Rattle.mlb_controller.specs.Clauses.{EndsQuiet, HandlesNamed, WritesTrial, LeavesInput, TrialIsSafe};
 ghost use Rattle.mlb_controller.specs.Stream.{IsCause, controller_rules};
 
 use crate::controller::Controller;

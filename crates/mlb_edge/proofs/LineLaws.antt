@@ -1,5 +1,6 @@
 -- What can be read of a text: the lines of its cut before the first that breaks a limit.
-use Rattle.std.proofs.Common.{◌≡◌, ℕ, zero, suc, ◌+◌, ◌^◌, ◌<◌, ◌≤◌, Bool, true, false, cond, eqb, ltb, List, [], ◌∷◌, ◌++◌, length, ap, ◌∙◌, refl, subst, arith, add_assoc, zero-add}
+use Rattle.std.proofs.Common.{◌≡◌, ℕ, zero, suc, ◌+◌, ◌^◌, ◌<◌, ◌≤◌, Bool, true, false, cond, eqb, ltb}
+use Rattle.std.proofs.Common.{List, [], ◌∷◌, ◌++◌, length, ap, ◌∙◌, refl, subst, arith, add_assoc, zero-add}
 use Rattle.std.specs.List.{AllByRecursion}
 use Rattle.std.proofs.lemmas.Bool.{eqb-true, eqb-false}
 use Rattle.std.proofs.lemmas.Bool.Decides.{nat_tests}
@@ -43,7 +44,8 @@ summed passed raw raws = add_assoc passed (size_of raw) (total raws)
 counted : (number : ℕ) (raw : RawLine) (raws : List RawLine) → (number + 1) + length raws ≡ number + length (raw ∷ raws)
 counted number raw raws = omega arith
 
-given_more : (number : ℕ) (raw : RawLine) (raws : List RawLine) (lines : List Line) → lines ≡ numbered (number + 1) raws → more number raw lines ≡ numbered number (raw ∷ raws)
+given_more : (number : ℕ) (raw : RawLine) (raws : List RawLine) (lines : List Line) → lines ≡ numbered (number + 1) raws
+    → more number raw lines ≡ numbered number (raw ∷ raws)
 unfolding numbered
 given_more number raw raws lines given = ap (more number raw) given
 
@@ -67,7 +69,8 @@ read_later passed number raw raws lines Whole short r = ((short, r.0), omega (ar
 read_later passed number raw raws lines (LongLine n) short r = stops_later passed number raw raws lines (IsLong n) short r
 read_later passed number raw raws lines LongInput short r = stops_later passed number raw raws lines IsFar short r
 
-stops_here : (passed number : ℕ) (raw : RawLine) (raws : List RawLine) (Breaks : ℕ → ℕ → RawLine → Type 0) → passed ≤ 2 ^ 40 → Breaks (passed + 0) (number + 0) raw → StopsBehind passed number (raw ∷ raws) [] Breaks
+stops_here : (passed number : ℕ) (raw : RawLine) (raws : List RawLine) (Breaks : ℕ → ℕ → RawLine → Type 0) → passed ≤ 2 ^ 40
+    → Breaks (passed + 0) (number + 0) raw → StopsBehind passed number (raw ∷ raws) [] Breaks
 unfolding numbered
 stops_here passed number raw raws Breaks near breaks = record {
   before = [];
@@ -92,11 +95,14 @@ ending_by : (blank : Bool) (line : Line) (rest : Input) → (cond blank rest (wi
 ending_by true line rest = refl
 ending_by false line rest = refl
 
-read_by : (long far : Bool) (passed number : ℕ) (raw : RawLine) (raws : List RawLine) (rest : Input) → (long ≡ true → 1048576 < length raw.bytes) → (long ≡ false → length raw.bytes ≤ 1048576)
+read_by : (long far : Bool) (passed number : ℕ) (raw : RawLine) (raws : List RawLine) (rest : Input) → (long ≡ true → 1048576 < length raw.bytes)
+    → (long ≡ false → length raw.bytes ≤ 1048576)
     → (far ≡ true → 2 ^ 40 < passed + size_of raw) → (far ≡ false → passed + size_of raw ≤ 2 ^ 40) → passed ≤ 2 ^ 40
     → (passed + size_of raw ≤ 2 ^ 40 → IsReadBehind (passed + size_of raw) (number + 1) raws rest.lines rest.ending)
-    → IsReadBehind passed number (raw ∷ raws) (by_tests long far (is_blank raw.bytes) number raw rest).lines (by_tests long far (is_blank raw.bytes) number raw rest).ending
-read_by true far passed number raw raws rest long short beyond within near later = stops_here passed number raw raws (IsLong (number + 1)) near (long refl, omega arith)
+    → IsReadBehind passed number (raw ∷ raws) (by_tests long far (is_blank raw.bytes) number raw rest).lines
+    (by_tests long far (is_blank raw.bytes) number raw rest).ending
+read_by true far passed number raw raws rest long short beyond within near later =
+    stops_here passed number raw raws (IsLong (number + 1)) near (long refl, omega arith)
 read_by false true passed number raw raws rest long short beyond within near later =
     stops_here passed number raw raws IsFar near (short refl, omega (arith, beyond refl))
 read_by false false passed number raw raws rest long short beyond within near later =
@@ -109,12 +115,14 @@ above a b e = grind (arith, nat_tests)
 not_above : (a b : ℕ) → ltb a b ≡ false → b ≤ a
 not_above a b e = grind (arith, nat_tests)
 
-read_behind : (passed number : ℕ) (raws : List RawLine) → passed ≤ 2 ^ 40 → IsReadBehind passed number raws (input_from passed number raws).lines (input_from passed number raws).ending
+read_behind : (passed number : ℕ) (raws : List RawLine) → passed ≤ 2 ^ 40
+    → IsReadBehind passed number raws (input_from passed number raws).lines (input_from passed number raws).ending
 unfolding input_from numbered
 read_behind passed number [] near = (tt, omega arith, refl)
 read_behind passed number (raw ∷ raws) near =
     read_by (ltb 1048576 (length raw.bytes)) (ltb (2 ^ 40) (passed + size_of raw)) passed number raw raws (input_from (passed + size_of raw) (number + 1) raws)
-    (above 1048576 (length raw.bytes)) (not_above 1048576 (length raw.bytes)) (above (2 ^ 40) (passed + size_of raw)) (not_above (2 ^ 40) (passed + size_of raw)) near
+    (above 1048576 (length raw.bytes)) (not_above 1048576 (length raw.bytes)) (above (2 ^ 40) (passed + size_of raw))
+    (not_above (2 ^ 40) (passed + size_of raw)) near
     (λ within. read_behind (passed + size_of raw) (number + 1) raws within)
 
 kept : (raws : List RawLine) → AllByRecursion (λ (raw : RawLine). length raw.bytes ≤ 1048576) raws → 0 + total raws ≤ 2 ^ 40 → KeepLimits raws
@@ -149,11 +157,13 @@ nothing_new : (byte : ℕ) (xs : List ℕ) → eqb byte 10 ≡ false → HasNoNe
 nothing_new byte xs other none zero below same = eqb-false byte 10 other same
 nothing_new byte xs other none (suc k) below same = none k (omega arith) same
 
-longer_ended : (byte : ℕ) (raw : RawLine) (raws : List RawLine) → AreEnded (raw ∷ raws) → AreEnded (record { bytes = byte ∷ raw.bytes; is_ended = raw.is_ended } ∷ raws)
+longer_ended : (byte : ℕ) (raw : RawLine) (raws : List RawLine) → AreEnded (raw ∷ raws)
+    → AreEnded (record { bytes = byte ∷ raw.bytes; is_ended = raw.is_ended } ∷ raws)
 longer_ended byte raw [] e = omega arith
 longer_ended byte raw (next ∷ rest) e = e
 
-lengthened_cut : (byte : ℕ) (bytes : List ℕ) (raws : List RawLine) → eqb byte 10 ≡ false → IsCutInto bytes raws → IsCutInto (byte ∷ bytes) (lengthened byte raws)
+lengthened_cut : (byte : ℕ) (bytes : List ℕ) (raws : List RawLine) → eqb byte 10 ≡ false → IsCutInto bytes raws
+    → IsCutInto (byte ∷ bytes) (lengthened byte raws)
 lengthened_cut byte bytes [] other c = record {
   joined = ap (λ (t : List ℕ). byte ∷ t) c.joined;
   plain = (nothing_new byte [] other (λ k below same. omega arith), tt);

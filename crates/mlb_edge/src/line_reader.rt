@@ -1,6 +1,7 @@
 //! Reads the lines of a source, one after the other.
 
-ghost use Rattle.std.specs.Prelude.{◌≡◌, ◌≢◌, true, false, IsOk, ◌≤◌, ◌<◌, ◌+◌, ◌^◌, ◌++◌, ◌∷◌, ℕ, List, [], length, slice_index, IfSome, IfNone, OnSome, ◌⊎◌, IfOk, OnOk, IfErr, OnErr, IsErrOf, IsTrue, MatchResult, take, drop, slice_range, ◌-◌, vec_len};
+ghost use Rattle.std.specs.Prelude.{◌≡◌, ◌≢◌, true, false, IsOk, ◌≤◌, ◌<◌, ◌+◌, ◌^◌, ◌++◌, ◌∷◌, ℕ, List, [], length, slice_index, IfSome, IfNone};
+ghost use Rattle.std.specs.Prelude.{OnSome, ◌⊎◌, IfOk, OnOk, IfErr, OnErr, IsErrOf, IsTrue, MatchResult, take, drop, slice_range, ◌-◌, vec_len};
 ghost use Rattle.mlb_edge.specs.Causes.{HasCause, Rose};
 ghost use Rattle.std.specs.Io.KnownBytes.{Consumes, IsAtEnd, Keeps};
 ghost use Rattle.mlb_edge.specs.Rows.{is_blank, CutsRow, HasNoNewline};

@@ -1,5 +1,6 @@
 -- Of each event is told just what it changes.
-use Rattle.std.proofs.Common.{◌≡◌, ◌↔◌, ℕ, Bool, true, false, cond, not, ◌&&◌, List, [], ◌∷◌, ◌++◌, map, Option, Some, None, refl, sym, ap, ◌∙◌, subst, append_assoc, Contains, inl, inr}
+use Rattle.std.proofs.Common.{◌≡◌, ◌↔◌, ℕ, Bool, true, false, cond, not, ◌&&◌, List, [], ◌∷◌, ◌++◌, map}
+use Rattle.std.proofs.Common.{Option, Some, None, refl, sym, ap, ◌∙◌, subst, append_assoc, Contains, inl, inr}
 use Rattle.std.proofs.lemmas.Bool.{and_parts, and_from, false_from_ne_true, true≢false}
 use Rattle.std.proofs.lemmas.List.{append-nil}
 use Rattle.std.proofs.lemmas.List.Kept.{IsStrictlySortedBy-filter}
@@ -102,7 +103,8 @@ none-messages peer (message ∷ messages) = let rest = none-messages peer messag
 none-peers : (v v' : ViewValue) (node : List ℕ) (hop : NextHops) (peers : List CompiledPeer) → TellsNone (flat_map (updates_to v v' node hop) peers)
 none-peers v v' node hop [] = record { announced = refl; withdrawn = refl }
 none-peers v v' node hop (peer ∷ peers) =
-    none-append (updates_to v v' node hop peer) (flat_map (updates_to v v' node hop) peers) (none-messages peer (messages_to v v' node hop peer)) (none-peers v v' node hop peers)
+    none-append (updates_to v v' node hop peer) (flat_map (updates_to v v' node hop) peers) (none-messages peer (messages_to v v' node hop peer))
+    (none-peers v v' node hop peers)
 
 none-hop : (are : Bool) (entries : List Entry) → TellsNone entries → TellsNone (cond are entries [])
 none-hop true entries none = none
@@ -191,7 +193,8 @@ module _ (node : List ℕ) (v w : ViewValue) where
         (announces-announcer v a node both.0, refuses a (announces_of w node a) refl both.1),
     λ is.
         let none : announces_of w node a ≡ false = false_from_ne_true (announces_of w node a) (λ h. is.1 (announces-announcer w a node h)) in
-        listed-in alone a (has_address-is alone a (tested a ∙ and_from (announces_of v node a) (not (announces_of w node a)) (announcer-announces v a node is.0) (ap not none))),
+        listed-in alone a (has_address-is alone a
+        (tested a ∙ and_from (announces_of v node a) (not (announces_of w node a)) (announcer-announces v a node is.0) (ap not none))),
   )
 
   pub alone-ascends : IsStrictlySortedBy address_cmp alone
@@ -205,8 +208,10 @@ nothing_ascends = tt
 -- nothing is told where the view stays
 still : (node : List ℕ) (v : ViewValue) (entries : List Entry) → TellsNone entries → TellsChange node v v entries
 still node v entries none = record {
-  withdrawn = λ a. (λ there. let none_there : IsIn [] a = subst (λ (zs : List AddressValue). IsIn zs a) none.withdrawn there in absurd none_there, λ is. absurd (is.1 is.0));
-  announced = λ a. (λ there. let none_there : IsIn [] a = subst (λ (zs : List AddressValue). IsIn zs a) none.announced there in absurd none_there, λ is. absurd (is.1 is.0));
+  withdrawn = λ a.
+      (λ there. let none_there : IsIn [] a = subst (λ (zs : List AddressValue). IsIn zs a) none.withdrawn there in absurd none_there, λ is. absurd (is.1 is.0));
+  announced = λ a.
+      (λ there. let none_there : IsIn [] a = subst (λ (zs : List AddressValue). IsIn zs a) none.announced there in absurd none_there, λ is. absurd (is.1 is.0));
   withdrawn_ascend = subst (IsStrictlySortedBy address_cmp) (sym none.withdrawn) nothing_ascends;
   announced_ascend = subst (IsStrictlySortedBy address_cmp) (sym none.announced) nothing_ascends;
   first = [];
@@ -216,7 +221,8 @@ still node v entries none = record {
   later_announces = none.withdrawn;
 }
 
-event-told : (o : Option Received) (s : SpeakerState) (event : Event) → frame_in event ≡ o → TellsChange s.local.node s.view (view_after event s.view) (entries_at o s event)
+event-told : (o : Option Received) (s : SpeakerState) (event : Event) → frame_in event ≡ o
+    → TellsChange s.local.node s.view (view_after event s.view) (entries_at o s event)
 event-told (Some received) s event is =
     let stays = frame_leaves event received s.view is in
     subst (λ (w : ViewValue). TellsChange s.local.node s.view w (entries_at (Some received) s event)) (sym stays)
@@ -244,7 +250,8 @@ event-told None s event is =
       later_announces = come-withdraws w s.local note before after updates none;
     }
 
-pub line-told : (s : SpeakerState) (line : Line) (t : SpeakerState) (entries : List Entry) → line_step s line ≡ Goes t entries → TellsChange s.local.node s.view t.view entries
+pub line-told : (s : SpeakerState) (line : Line) (t : SpeakerState) (entries : List Entry) → line_step s line ≡ Goes t entries
+    → TellsChange s.local.node s.view t.view entries
 line-told s line t entries goes =
     let by = event_applies (event_of_line line.bytes) s t line entries goes in
     subst (λ (es : List Entry). TellsChange s.local.node s.view t.view es) (sym by.tells)

@@ -28,11 +28,13 @@ announcer-fits : (v : ViewValue) (a : AddressValue) (node : List ℕ) → IsNumb
 announcer-fits v a node numbered announcer =
     let recorded = announcer.eligible.recorded in
     let fitting : HasFittingAddresses recorded.service =
-    each-of HasFittingAddresses (objects_of v.held.services) recorded.service numbered.services (listed-in (objects_of v.held.services) recorded.service recorded.held) in
+    each-of HasFittingAddresses (objects_of v.held.services) recorded.service numbered.services
+    (listed-in (objects_of v.held.services) recorded.service recorded.held) in
     each-of IsOfFamily recorded.service.holding.addresses a fitting (listed-in recorded.service.holding.addresses a recorded.recorded)
 
 -- entries whose withdrawn and announced addresses fit
-all-fit : (entries : List Entry) → ((a : AddressValue) → IsIn (withdrawn_in entries) a → IsOfFamily a) → ((a : AddressValue) → IsIn (announced_in entries) a → IsOfFamily a) → AllFit entries
+all-fit : (entries : List Entry) → ((a : AddressValue) → IsIn (withdrawn_in entries) a → IsOfFamily a)
+    → ((a : AddressValue) → IsIn (announced_in entries) a → IsOfFamily a) → AllFit entries
 all-fit [] gone come = tt
 all-fit (Noted note ∷ entries) gone come = (tt, all-fit entries gone come)
 all-fit (Withdrawn b ∷ entries) gone come = (gone b (inl refl), all-fit entries (λ a there. gone a (inr there)) come)
@@ -40,7 +42,8 @@ all-fit (Announced b ∷ entries) gone come = (come b (inl refl), all-fit entrie
 all-fit (Sent interface frame ∷ entries) gone come = (tt, all-fit entries gone come)
 all-fit (Updated peer message ∷ entries) gone come = (tt, all-fit entries gone come)
 
-line-fits : (s t : SpeakerState) (line : Line) (entries : List Entry) → line_step s line ≡ Goes t entries → IsNumbered s.view → IsNumbered t.view → AllFit entries
+line-fits : (s t : SpeakerState) (line : Line) (entries : List Entry) → line_step s line ≡ Goes t entries → IsNumbered s.view → IsNumbered t.view
+    → AllFit entries
 line-fits s t line entries goes before after =
     let told = line-told s line t entries goes in
     all-fit entries

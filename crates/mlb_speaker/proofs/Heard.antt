@@ -1,5 +1,6 @@
 -- What a peer was told since it came adds up to its routes.
-use Rattle.std.proofs.Common.{◌≡◌, ◌<◌, ◌^◌, ℕ, Bool, true, false, cond, ◌&&◌, ◌==◌, List, [], ◌∷◌, ◌++◌, map, Option, Some, None, Ok, refl, sym, ap, ◌∙◌, subst, inl, inr, append_assoc, arith}
+use Rattle.std.proofs.Common.{◌≡◌, ◌<◌, ◌^◌, ℕ, Bool, true, false, cond, ◌&&◌, ◌==◌, List, [], ◌∷◌, ◌++◌, map}
+use Rattle.std.proofs.Common.{Option, Some, None, Ok, refl, sym, ap, ◌∙◌, subst, inl, inr, append_assoc, arith}
 use Rattle.std.proofs.lemmas.Bool.{and_from, true≢false}
 use Rattle.std.proofs.lemmas.List.{append-nil}
 use Rattle.std.proofs.lemmas.Grind.{flat_map-append}
@@ -51,13 +52,15 @@ use Rattle.announced_set.specs.Announced.{announced_by}
 use Rattle.mlb_speaker.specs.Clauses.{nothing_said, begun_with}
 use Rattle.announced_set.specs.Changes.{difference}
 use Rattle.mlb_speaker.specs.Entries.{withdrawn, withdrawals, announcements, entries_for}
-use Rattle.mlb_speaker.specs.Heard.{message_to, messages_told, IsSamePeer, IsThere, StaysOver, HasComeSince, GiveTable, AreToldBy, HearsItsRoutes, PeersHearTheirRoutes}
+use Rattle.mlb_speaker.specs.Heard.{message_to, messages_told, IsSamePeer, IsThere, StaysOver, HasComeSince}
+use Rattle.mlb_speaker.specs.Heard.{GiveTable, AreToldBy, HearsItsRoutes, PeersHearTheirRoutes}
 use Rattle.mlb_speaker.specs.Sends.{unsolicited_by, unsolicited, listening, announcement, answer_on, sent_on, answer_by, interface_of}
 use Rattle.mlb_speaker.specs.LocalNode.{hops_of}
 use Rattle.mlb_speaker.specs.Stream.{SpeakerState, Received, first_state, frame_in, changes_of, entries_at, line_step, speaker_rules}
 use Rattle.bgp_routes.specs.Peers.{peers_in, peers_of}
 use Rattle.mlb_speaker.specs.Updates.{table_by, table_of, messages_to, updated, updates_to, updates_by, update_entries, are_hops, both_with, is_v6}
-use Rattle.mlb_speaker.proofs.NamedPeers.{NamesAscend, apart-later, decided, found, has-peer, names-tail, not-found, number-is, number-itself, other-name, peer-has}
+use Rattle.mlb_speaker.proofs.NamedPeers.{NamesAscend, apart-later, decided, found, has-peer, names-tail}
+use Rattle.mlb_speaker.proofs.NamedPeers.{not-found, number-is, number-itself, other-name, peer-has}
 use Rattle.mlb_speaker.proofs.Steps.{frame_leaves}
 use Rattle.mlb_speaker.proofs.Telling.{event_applies, station_kept}
 
@@ -82,7 +85,8 @@ module _ (name : List ℕ) where
       ∙ ap (λ ms. ms ++ messages_told name (flat_map (announcement v local) addresses)) (told-unsolicited a (listening v local a))
       ∙ told-announced v local addresses
 
-  told-changes : (v : ViewValue) (local : LocalNode) (note : TakeNote) (before after : List AddressValue) → messages_told name (entries_for v local note before after) ≡ []
+  told-changes : (v : ViewValue) (local : LocalNode) (note : TakeNote) (before after : List AddressValue)
+      → messages_told name (entries_for v local note before after) ≡ []
   told-changes v local note before after =
       told-append (withdrawals before after) (announcements v local before after)
       ∙ ap (λ ms. ms ++ messages_told name (announcements v local before after)) (told-withdrawn (difference before after))
@@ -146,7 +150,8 @@ begun-good (Some said) = fresh-good said.class
 
 -- ---- what a peer is told
 
-module _ (peer : CompiledPeer) (node : List ℕ) (hop : NextHops) (are : are_hops hop ≡ true) (small : hop.v4.number < 2 ^ 32) (small_v6 : number_of_hop hop.v6 < 2 ^ 128) where
+module _ (peer : CompiledPeer) (node : List ℕ) (hop : NextHops) (are : are_hops hop ≡ true) (small : hop.v4.number < 2 ^ 32)
+    (small_v6 : number_of_hop hop.v6 < 2 ^ 128) where
   abbrev Table : Type 0
   Table = List (PrefixValue × Terms)
 
@@ -160,7 +165,8 @@ module _ (peer : CompiledPeer) (node : List ℕ) (hop : NextHops) (are : are_hop
   both = both_with hop
 
   -- the table of a peer that is there, and of one that isn't
-  there-table : (v : ViewValue) (other : CompiledPeer) → IsGoodView v → IsIn (peers_of v) other → IsSamePeer peer other → table_of v node both peer ≡ routes_of v node other both
+  there-table : (v : ViewValue) (other : CompiledPeer) → IsGoodView v → IsIn (peers_of v) other → IsSamePeer peer other
+      → table_of v node both peer ≡ routes_of v node other both
   there-table v other good there same = ap (table_by v node both) (found peer other (peers_of v) (names-of v good) there same)
 
   absent-table : (v : ViewValue) → ¬ (IsThere peer v) → table_of v node both peer ≡ []
@@ -168,7 +174,8 @@ module _ (peer : CompiledPeer) (node : List ℕ) (hop : NextHops) (are : are_hop
 
   -- the same for each peer of its name and AS numbers
   abbrev table_for : ViewValue → List ℕ → ℕ → ℕ → Table
-  table_for v name my_asn peer_asn = table_by v node both (find (λ (q : CompiledPeer). bytes_eq q.name name && (q.my_asn == my_asn) && (q.peer_asn == peer_asn)) (peers_of v))
+  table_for v name my_asn peer_asn =
+      table_by v node both (find (λ (q : CompiledPeer). bytes_eq q.name name && (q.my_asn == my_asn) && (q.peer_asn == peer_asn)) (peers_of v))
 
   same-table : (v : ViewValue) (other : CompiledPeer) → IsSamePeer peer other → table_of v node both other ≡ table_of v node both peer
   same-table v other same =
@@ -178,16 +185,20 @@ module _ (peer : CompiledPeer) (node : List ℕ) (hop : NextHops) (are : are_hop
 
   same-peering : (other : CompiledPeer) → IsSamePeer peer other → peering_of other hop.v4 hop.v6 ≡ peering
   same-peering other same =
-      ap (λ (m : ℕ). let p : Peering = record { own = cond (m == other.peer_asn) None (Some m); next_hop = hop.v4.number; next_hop_v6 = number_of_hop hop.v6 } in p) same.my_asn
-      ∙ ap (λ (m : ℕ). let p : Peering = record { own = cond (peer.my_asn == m) None (Some peer.my_asn); next_hop = hop.v4.number; next_hop_v6 = number_of_hop hop.v6 } in p) same.peer_asn
+      ap (λ (m : ℕ). let p : Peering =
+      record { own = cond (m == other.peer_asn) None (Some m); next_hop = hop.v4.number; next_hop_v6 = number_of_hop hop.v6 } in p) same.my_asn
+      ∙ ap (λ (m : ℕ). let p : Peering =
+      record { own = cond (peer.my_asn == m) None (Some peer.my_asn); next_hop = hop.v4.number; next_hop_v6 = number_of_hop hop.v6 } in p) same.peer_asn
 
   module _ (v v' : ViewValue) where
     -- to peers of other names nothing is told
-    others-told : (peers : List CompiledPeer) → ((q : CompiledPeer) → IsIn peers q → q.name ≡ peer.name → ⊥) → told (flat_map (updates_to v v' node hop) peers) ≡ []
+    others-told : (peers : List CompiledPeer) → ((q : CompiledPeer) → IsIn peers q → q.name ≡ peer.name → ⊥)
+        → told (flat_map (updates_to v v' node hop) peers) ≡ []
     others-told [] apart = refl
     others-told (q ∷ peers) apart =
         told-append peer.name (updates_to v v' node hop q) (flat_map (updates_to v v' node hop) peers)
-        ∙ ap (λ ms. ms ++ told (flat_map (updates_to v v' node hop) peers)) (told-other peer.name q (messages_to v v' node hop q) (other-name q.name peer.name (apart q (inl refl))))
+        ∙ ap (λ ms. ms ++ told (flat_map (updates_to v v' node hop) peers))
+        (told-other peer.name q (messages_to v v' node hop q) (other-name q.name peer.name (apart q (inl refl))))
         ∙ others-told peers (λ p there. apart p (inr there))
 
     peers-told : (other : CompiledPeer) (peers : List CompiledPeer) → NamesAscend peers → IsIn peers other → IsSamePeer peer other
@@ -196,14 +207,16 @@ module _ (peer : CompiledPeer) (node : List ℕ) (hop : NextHops) (are : are_hop
     peers-told other (p ∷ peers) sorted (inl here) same =
         let named : p.name ≡ peer.name = ap (λ (q : CompiledPeer). q.name) here ∙ same.name in
         told-append peer.name (updates_to v v' node hop p) (flat_map (updates_to v v' node hop) peers)
-        ∙ ap (λ ms. ms ++ told (flat_map (updates_to v v' node hop) peers)) (told-own peer.name p (messages_to v v' node hop p) ((bytes_eq-Decides p.name peer.name).1 named))
+        ∙ ap (λ ms. ms ++ told (flat_map (updates_to v v' node hop) peers))
+        (told-own peer.name p (messages_to v v' node hop p) ((bytes_eq-Decides p.name peer.name).1 named))
         ∙ ap (λ ms. messages_to v v' node hop p ++ ms) (others-told peers (λ q there is. apart-later p q peers sorted there (named ∙ sym is)))
         ∙ append-nil (messages_to v v' node hop p)
         ∙ ap (messages_to v v' node hop) here
     peers-told other (p ∷ peers) sorted (inr later) same =
         told-append peer.name (updates_to v v' node hop p) (flat_map (updates_to v v' node hop) peers)
         ∙ ap (λ ms. ms ++ told (flat_map (updates_to v v' node hop) peers))
-        (told-other peer.name p (messages_to v v' node hop p) (other-name p.name peer.name (λ named. apart-later p other peers sorted later (named ∙ sym same.name))))
+        (told-other peer.name p (messages_to v v' node hop p)
+        (other-name p.name peer.name (λ named. apart-later p other peers sorted later (named ∙ sym same.name))))
         ∙ peers-told other peers (names-tail p peers sorted) later same
 
     hop-told : (b : Bool) (entries : List Entry) → b ≡ true → cond b entries [] ≡ entries
@@ -221,7 +234,8 @@ module _ (peer : CompiledPeer) (node : List ℕ) (hop : NextHops) (are : are_hop
 
   -- ---- one table after the other
 
-  over-append : (old : Table) (xs ys : List Table) → messages_over peering old (xs ++ ys) ≡ messages_over peering old xs ++ messages_over peering (last_table old xs) ys
+  over-append : (old : Table) (xs ys : List Table)
+      → messages_over peering old (xs ++ ys) ≡ messages_over peering old xs ++ messages_over peering (last_table old xs) ys
   over-append old [] ys = refl
   over-append old (x ∷ xs) ys =
       ap (λ ms. messages_between peering old x ++ ms) (over-append x xs ys)
@@ -258,10 +272,12 @@ module _ (peer : CompiledPeer) (node : List ℕ) (hop : NextHops) (are : are_hop
         last = last-append old a.tables b.tables ∙ ap (λ (t : Table). last_table t b.tables) a.last ∙ b.last;
       }
 
-  can-be-told : (v : ViewValue) (other : CompiledPeer) → IsGoodView v → IsIn (peers_of v) other → IsSamePeer peer other → CanBeTold peering (routes_of v node other both)
+  can-be-told : (v : ViewValue) (other : CompiledPeer) → IsGoodView v → IsIn (peers_of v) other → IsSamePeer peer other
+      → CanBeTold peering (routes_of v node other both)
   can-be-told v other good there same =
       subst (λ (p : Peering). CanBeTold p (routes_of v node other both)) (same-peering other same)
-      (routes_can_be_told v node other both hop.v4 hop.v6 good.numbered good.few (each-of HasCompiledAsn (peers_of v) other (asns-in v.held.config good.numbered.config) there) small small_v6)
+      (routes_can_be_told v node other both hop.v4 hop.v6 good.numbered good.few
+      (each-of HasCompiledAsn (peers_of v) other (asns-in v.held.config good.numbered.config) there) small small_v6)
 
   -- ---- an event
 
@@ -271,7 +287,8 @@ module _ (peer : CompiledPeer) (node : List ℕ) (hop : NextHops) (are : are_hop
         let v' = view_after event s.view in
         let others = entries_for v' s.local (note_by s.view event) (announced_by s.view s.local.node) (announced_by v' s.local.node) in
         told-append peer.name others (update_entries s.view v' s.local)
-        ∙ ap (λ ms. ms ++ told (update_entries s.view v' s.local)) (told-changes peer.name v' s.local (note_by s.view event) (announced_by s.view s.local.node) (announced_by v' s.local.node))
+        ∙ ap (λ ms. ms ++ told (update_entries s.view v' s.local))
+        (told-changes peer.name v' s.local (note_by s.view event) (announced_by s.view s.local.node) (announced_by v' s.local.node))
         ∙ ap (λ (n : List ℕ). told (updates_by s.view v' n s.local.next_hops)) at
         ∙ ap (λ (h : Option NextHops). told (updates_by s.view v' node h)) hops
 
@@ -279,18 +296,21 @@ module _ (peer : CompiledPeer) (node : List ℕ) (hop : NextHops) (are : are_hop
         → Leads s.view (view_after event s.view) (told (entries_at o s event))
     event-leads event (Some received) is good there =
         subst (λ (u : ViewValue). Leads s.view u (told (entries_at (Some received) s event))) (sym (frame_leaves event received s.view is))
-        (leads-nowhere s.view (told (entries_at (Some received) s event)) (told-answer peer.name s.view s.local.node (interface_of s.local received.interface) received.frame))
+        (leads-nowhere s.view (told (entries_at (Some received) s event))
+        (told-answer peer.name s.view s.local.node (interface_of s.local received.interface) received.frame))
     event-leads event None is good there =
         let v' = view_after event s.view in
         let (other, among, same) = has-peer peer (peers_of v') there in
         record {
           tables = routes_of v' node other both ∷ [];
           tellable = (can-be-told v' other good among same, tt);
-          messages_are = changes-told event ∙ updates-told s.view v' other good among same ∙ sym (append-nil (messages_between peering (table_of s.view node both peer) (routes_of v' node other both)));
+          messages_are = changes-told event ∙ updates-told s.view v' other good among same
+              ∙ sym (append-nil (messages_between peering (table_of s.view node both peer) (routes_of v' node other both)));
           last = sym (there-table v' other good among same);
         }
 
-    line-leads : (t : SpeakerState) (line : Line) (entries : List Entry) → line_step s line ≡ Goes t entries → IsGoodView t.view → IsThere peer t.view → Leads s.view t.view (told entries)
+    line-leads : (t : SpeakerState) (line : Line) (entries : List Entry) → line_step s line ≡ Goes t entries → IsGoodView t.view → IsThere peer t.view
+        → Leads s.view t.view (told entries)
     line-leads t line entries goes good there =
         let by = event_applies (event_of_line line.bytes) s t line entries goes in
         let view_is : t.view ≡ view_after by.event s.view = ap (λ (u : SpeakerState). u.view) by.leads in
@@ -300,7 +320,8 @@ module _ (peer : CompiledPeer) (node : List ℕ) (hop : NextHops) (are : are_hop
 
   -- ---- lines
 
-  lines-lead : (lines : List Line) (s t : SpeakerState) (entries : List Entry) → s.local.node ≡ node → s.local.next_hops ≡ Some hop → IsGoodView s.view → StaysOver peer lines s t entries → Leads s.view t.view (told entries)
+  lines-lead : (lines : List Line) (s t : SpeakerState) (entries : List Entry) → s.local.node ≡ node → s.local.next_hops ≡ Some hop → IsGoodView s.view
+      → StaysOver peer lines s t entries → Leads s.view t.view (told entries)
   lines-lead [] s t entries at hops good stays =
       subst (λ (u : SpeakerState). Leads s.view u.view (told entries)) (sym stays.0) (leads-nowhere s.view (told entries) (ap told stays.1))
   lines-lead (line ∷ lines) s t entries at hops good (next, first, rest, goes, there, later, is) =
@@ -312,13 +333,16 @@ module _ (peer : CompiledPeer) (node : List ℕ) (hop : NextHops) (are : are_hop
       (lines-lead lines next t rest (ap (λ (x : LocalNode). x.node) kept ∙ at) (ap (λ (x : LocalNode). x.next_hops) kept ∙ hops) next_good later))
 
   -- from where the peer isn't there
-  leads-from : (v v' : ViewValue) (messages : List (List ℕ)) → ¬ (IsThere peer v) → (leads : Leads v v' messages) → messages ≡ messages_over peering [] leads.tables
+  leads-from : (v v' : ViewValue) (messages : List (List ℕ)) → ¬ (IsThere peer v) → (leads : Leads v v' messages)
+      → messages ≡ messages_over peering [] leads.tables
   leads-from v v' messages absent leads = leads.messages_are ∙ ap (λ (t : Table). messages_over peering t leads.tables) (absent-table v absent)
 
-  leads-table : (v v' : ViewValue) (messages : List (List ℕ)) → ¬ (IsThere peer v) → IsGoodView v' → IsIn (peers_of v') peer → Leads v v' messages → GiveTable messages (routes_of v' node peer both)
+  leads-table : (v v' : ViewValue) (messages : List (List ℕ)) → ¬ (IsThere peer v) → IsGoodView v' → IsIn (peers_of v') peer → Leads v v' messages
+      → GiveTable messages (routes_of v' node peer both)
   leads-table v v' messages absent good there leads p =
       let same : IsSamePeer peer peer = record { name = refl; my_asn = refl; peer_asn = refl } in
-      let last : last_table [] leads.tables ≡ routes_of v' node peer both = ap (λ (t : Table). last_table t leads.tables) (sym (absent-table v absent)) ∙ leads.last ∙ there-table v' peer good there same in
+      let last : last_table [] leads.tables ≡ routes_of v' node peer both =
+      ap (λ (t : Table). last_table t leads.tables) (sym (absent-table v absent)) ∙ leads.last ∙ there-table v' peer good there same in
       ap (λ (ms : List (List ℕ)). option_map (λ table. table p) (received_bytes (λ q. None) (joined ms))) (leads-from v v' messages absent leads)
       ∙ tables-received peering [] leads.tables (tt, tt) leads.tellable p
       ∙ ap (λ (t : Table). Some (terms_at t p)) last
@@ -334,7 +358,12 @@ module _ (peer : CompiledPeer) (node : List ℕ) (hop : NextHops) (are : are_hop
   leads-told : (v v' : ViewValue) (messages : List (List ℕ)) → ¬ (IsThere peer v) → Leads v v' messages → AreToldBy peer hop messages
   leads-told v v' messages absent leads = (
     peering,
-    record { next_hop = refl; next_hop_v6 = λ h is. ap number_of_hop is; inside = inside (peer.my_asn == peer.peer_asn) refl; outside = outside (peer.my_asn == peer.peer_asn) refl },
+    record {
+      next_hop = refl;
+      next_hop_v6 = λ h is. ap number_of_hop is;
+      inside = inside (peer.my_asn == peer.peer_asn) refl;
+      outside = outside (peer.my_asn == peer.peer_asn) refl;
+    },
     subst (AllByRecursion (IsMessageOf peering)) (sym (leads-from v v' messages absent leads)) (of-sender peering [] leads.tables (tt, tt) leads.tellable),
   )
 
@@ -344,14 +373,30 @@ module _ (start : SpeakerState) (peer : CompiledPeer) where
   abbrev HasCome : List Line → SpeakerState → Type 0
   HasCome lines s = IsThere peer s.view → (told : List Entry) × HasComeSince start lines peer s told
 
-  stays-push : (lines : List Line) (s t u : SpeakerState) (line : Line) (told more : List Entry) → StaysOver peer lines s t told → line_step t line ≡ Goes u more → IsThere peer u.view
+  stays-push : (lines : List Line) (s t u : SpeakerState) (line : Line) (told more : List Entry) → StaysOver peer lines s t told
+      → line_step t line ≡ Goes u more → IsThere peer u.view
       → StaysOver peer (lines ++ line ∷ []) s u (told ++ more)
-  stays-push [] s t u line told more stays goes there =
-      (u, more, [], subst (λ (x : SpeakerState). line_step x line ≡ Goes u more) stays.0 goes, there, (refl, refl), ap (λ (es : List Entry). es ++ more) stays.1 ∙ sym (append-nil more))
-  stays-push (l ∷ lines) s t u line told more (next, first, rest, steps, here, later, is) goes there =
-      (next, first, rest ++ more, steps, here, stays-push lines next t u line rest more later goes there, ap (λ (es : List Entry). es ++ more) is ∙ append_assoc first rest more)
+  stays-push [] s t u line told more stays goes there = (
+    u,
+    more,
+    [],
+    subst (λ (x : SpeakerState). line_step x line ≡ Goes u more) stays.0 goes,
+    there,
+    (refl, refl),
+    ap (λ (es : List Entry). es ++ more) stays.1 ∙ sym (append-nil more),
+  )
+  stays-push (l ∷ lines) s t u line told more (next, first, rest, steps, here, later, is) goes there = (
+    next,
+    first,
+    rest ++ more,
+    steps,
+    here,
+    stays-push lines next t u line rest more later goes there,
+    ap (λ (es : List Entry). es ++ more) is ∙ append_assoc first rest more,
+  )
 
-  come-next : (done : List Line) (s next : SpeakerState) (line : Line) (before first : List Entry) → AreTaken speaker_rules done start s before → line_step s line ≡ Goes next first → HasCome done s → HasCome (done ++ line ∷ []) next
+  come-next : (done : List Line) (s next : SpeakerState) (line : Line) (before first : List Entry) → AreTaken speaker_rules done start s before
+      → line_step s line ≡ Goes next first → HasCome done s → HasCome (done ++ line ∷ []) next
   come-next done s next line before first reached goes come there = elim (decided peer s.view) [
     | inl already ↦
         let (told, since) = come already in (
@@ -382,7 +427,8 @@ module _ (start : SpeakerState) (peer : CompiledPeer) where
     )
   ]
 
-  come-by : (lines done : List Line) (s t : SpeakerState) (before entries : List Entry) → AreTaken speaker_rules done start s before → HasCome done s → AreTaken speaker_rules lines s t entries → HasCome (done ++ lines) t
+  come-by : (lines done : List Line) (s t : SpeakerState) (before entries : List Entry) → AreTaken speaker_rules done start s before → HasCome done s
+      → AreTaken speaker_rules lines s t entries → HasCome (done ++ lines) t
   come-by [] done s t before entries reached come taken =
       subst (λ (ls : List Line). HasCome ls t) (sym (append-nil done)) (subst (HasCome done) (sym taken.0) come)
   come-by (line ∷ lines) done s t before entries reached come (next, first, rest, goes, others, is) =
@@ -424,7 +470,8 @@ module _ (said : Said) where
       )
 
 -- a hop of the family that fits it
-hop-of : (family : Family) (values : List (List ℕ)) (next_hop : Option AddressValue) (hop : AddressValue) → AllZip (IsNextHop family) values (option_to_list next_hop) → next_hop ≡ Some hop
+hop-of : (family : Family) (values : List (List ℕ)) (next_hop : Option AddressValue) (hop : AddressValue)
+    → AllZip (IsNextHop family) values (option_to_list next_hop) → next_hop ≡ Some hop
     → (hop.family ≡ family) × (hop.number < 2 ^ width_of family)
 hop-of family values None hop zip is = absurd (cc)
 hop-of family [] (Some h) hop zip is = absurd zip
@@ -434,7 +481,8 @@ hop-of family (text ∷ values) (Some h) hop zip is =
     (next.is, subst (λ (f : Family). hop.number < 2 ^ width_of f) next.is (text-fits text hop next.written))
 
 -- one of IPv6, if it is there
-v6-of : (values : List (List ℕ)) (next_hop : Option AddressValue) → AllZip (IsNextHop V6) values (option_to_list next_hop) → (is_v6 next_hop ≡ true) × (number_of_hop next_hop < 2 ^ 128)
+v6-of : (values : List (List ℕ)) (next_hop : Option AddressValue) → AllZip (IsNextHop V6) values (option_to_list next_hop)
+    → (is_v6 next_hop ≡ true) × (number_of_hop next_hop < 2 ^ 128)
 v6-of values None zip = (refl, omega arith)
 v6-of values (Some hop) zip =
     let by = hop-of V6 values (Some hop) hop zip refl in
@@ -442,7 +490,8 @@ v6-of values (Some hop) zip =
 
 said-hops : (words : List (List ℕ)) (said : Said) → Say words said → (hop : NextHops) → hops_of said ≡ Some hop → FitHops hop
 said-hops words said say hop is = by-hop said.next_hop refl is where
-  by-hop : (o : Option AddressValue) → said.next_hop ≡ o → option_map (λ (h : AddressValue). let hops : NextHops = record { v4 = h; v6 = said.next_hop_v6 } in hops) o ≡ Some hop → FitHops hop
+  by-hop : (o : Option AddressValue) → said.next_hop ≡ o
+      → option_map (λ (h : AddressValue). let hops : NextHops = record { v4 = h; v6 = said.next_hop_v6 } in hops) o ≡ Some hop → FitHops hop
   by-hop None at e = absurd (let none : None ≡ Some hop = e in cc)
   by-hop (Some h) at e =
       let own : NextHops = record { v4 = h; v6 = said.next_hop_v6 } in

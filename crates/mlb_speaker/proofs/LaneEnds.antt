@@ -48,7 +48,8 @@ can_pass whats.Input count none = absurd none
 can_pass whats.Services count is = is
 can_pass whats.Nodes count is = is
 
-limit_ends : (o : Option (Kind × ℕ)) (s : SpeakerState) (event : Event) (status : Status) → limit_by s.view event ≡ o → limit_step s event o ≡ Stops status → CanEndLanes status
+limit_ends : (o : Option (Kind × ℕ)) (s : SpeakerState) (event : Event) (status : Status) → limit_by s.view event ≡ o → limit_step s event o ≡ Stops status
+    → CanEndLanes status
 limit_ends None s event status is e = absurd (cc)
 limit_ends (Some p) s event status is e =
     let it : statuses.Limit (what_of p.0) p.1 ≡ status = cc in
@@ -76,7 +77,8 @@ lanes_end (BadLine number bytes) second = lane_ends First (BadLine number bytes)
 lanes_end NoMemory second = lane_ends First NoMemory
 
 module _ (start : SpeakerState) where
-  ends_so : (first first' second second' : SourceView) (before after : Outside) (status : Status) → EndsSo belongs_to lane_rules start first first' second second' before after status → CanEndLanes status
+  ends_so : (first first' second second' : SourceView) (before after : Outside) (status : Status)
+      → EndsSo belongs_to lane_rules start first first' second second' before after status → CanEndLanes status
   ends_so first first' second second' before after status (inl at) = elim at.stops [
     | inl stops ↦ limit_ends (limit_by at.state.view at.item.event) at.state at.item.event status refl stops.0
     | inr halts ↦ let (halt, is, more) = halts in subst CanEndLanes (sym is) (halt_ends halt)
@@ -87,13 +89,15 @@ module _ (start : SpeakerState) where
   ends_so first first' second second' before after status (inr (inr (inr (inr (is, writes))))) = subst CanEndLanes (sym is) tt
 
   module _ (file file' : List ℕ) (files files' : FilesView) (first second input input' : SourceView) (before after : Option (List ℕ)) (k n : ℕ) where
-    ends_by : (status : Status) → ((lane : LaneName) → status ≢ statuses.OpenFault lane) → AtEnd belongs_to lane_rules start file file' files files' first second input input' before after k n status → CanEndLanes status
+    ends_by : (status : Status) → ((lane : LaneName) → status ≢ statuses.OpenFault lane)
+        → AtEnd belongs_to lane_rules start file file' files files' first second input input' before after k n status → CanEndLanes status
     ends_by status opened at =
         let it = at opened in
         ends_so first it.first' second it.second' _ _ status it.ends
 
     -- how a run over lanes ends is a way that it may end
-    pub can_end : (status : Status) → AtOpenFault name_of file file' status files files' → AtEnd belongs_to lane_rules start file file' files files' first second input input' before after k n status → CanEndLanes status
+    pub can_end : (status : Status) → AtOpenFault name_of file file' status files files'
+        → AtEnd belongs_to lane_rules start file file' files files' first second input input' before after k n status → CanEndLanes status
     can_end (statuses.OpenFault lane) fails at = elim (fails.0 lane refl).0 [
       | inl failed ↦ inl failed.0
       | inr failed ↦ inr failed.0

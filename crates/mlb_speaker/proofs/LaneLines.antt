@@ -13,7 +13,8 @@ use Rattle.line_run.specs.Run.{AreTaken}
 use Rattle.mlb_edge.specs.declared.lines.Line.{Line}
 use Rattle.mlb_speaker.specs.declared.entries.Entry.{Entry}
 use Rattle.mlb_speaker.specs.Causes.{awaits_none}
-use Rattle.mlb_speaker.specs.LaneLaws.{HaveEvents, event_in, ItemsAreAsLines, ItemsTellWhatIsAnnounced, ItemsTellWhatChanges, ItemsSendWhatIsMeant, ItemsMakeRoutes}
+use Rattle.mlb_speaker.specs.LaneLaws.{HaveEvents, event_in, ItemsAreAsLines, ItemsTellWhatIsAnnounced}
+use Rattle.mlb_speaker.specs.LaneLaws.{ItemsTellWhatChanges, ItemsSendWhatIsMeant, ItemsMakeRoutes}
 use Rattle.mlb_speaker.specs.Lanes.{belongs_to, item_step, lane_rules}
 use Rattle.mlb_speaker.specs.Heard.{HearsItsRoutes}
 use Rattle.mlb_speaker.specs.Meant.{SendsWhatIsMeant}
@@ -47,7 +48,8 @@ heard_none : (replies : List Line) (s t : SpeakerState) (entries : List Entry) �
 heard_none [] s t entries heard = heard
 heard_none (line ∷ lines) s t entries (next, first, rest, waits, hears, others, is) = awaits_none s waits
 
-item_goes : (item : Item) (replies : List Line) (s t : SpeakerState) (entries : List Entry) → IsTaken lane_rules item replies s t entries → item_step s item ≡ Goes t entries
+item_goes : (item : Item) (replies : List Line) (s t : SpeakerState) (entries : List Entry) → IsTaken lane_rules item replies s t entries
+    → item_step s item ≡ Goes t entries
 item_goes item replies s t entries taken =
     let (same, none) = heard_none replies taken.next t taken.rest taken.heard in
     let all : entries ≡ taken.first = taken.entries_are ∙ ap (λ (es : List Entry). taken.first ++ es) none ∙ append-nil taken.first in
@@ -55,11 +57,18 @@ item_goes item replies s t entries taken =
     ∙ ap (λ (u : SpeakerState). Goes u taken.first) (sym same)
     ∙ ap (λ (es : List Entry). Goes t es) (sym all)
 
-lines_taken : (items : List Item) (all : AreRead items) (replies : List Line) (s t : SpeakerState) (told : List (Told Entry)) → AreItemsTaken lane_rules items replies s t told
+lines_taken : (items : List Item) (all : AreRead items) (replies : List Line) (s t : SpeakerState) (told : List (Told Entry))
+    → AreItemsTaken lane_rules items replies s t told
     → AreTaken speaker_rules (lines_for items all) s t (entries_of told)
 lines_taken [] all replies s t told (none, same, nothing) = (same, ap entries_of nothing)
-lines_taken (item ∷ items) all replies s t told (own, behind, next, entries, more, split, taken, others, is) =
-    (next, entries, entries_of more, line_is item all.0 s ∙ item_goes item own s next entries taken, lines_taken items all.1 behind next t more others, ap entries_of is)
+lines_taken (item ∷ items) all replies s t told (own, behind, next, entries, more, split, taken, others, is) = (
+  next,
+  entries,
+  entries_of more,
+  line_is item all.0 s ∙ item_goes item own s next entries taken,
+  lines_taken items all.1 behind next t more others,
+  ap entries_of is,
+)
 
 module _ (start : SpeakerState) where
   pub items_as_lines : ItemsAreAsLines start
@@ -81,9 +90,11 @@ module _ (start : SpeakerState) where
   pub items_send : SendsWhatIsMeant start → ItemsSendWhatIsMeant start
   items_send sends items item s t told entries taken goes =
       let (read, last) = read_parts items item (items_are_read belongs_to taken.first taken.second (items ++ item ∷ []) taken.begin) in
-      sends (lines_for items read) s (entries_of told) (lines_taken items read taken.replies start s told taken.taken) (line_for item last) t entries (line_is item last s ∙ goes) item.event last.read
+      sends (lines_for items read) s (entries_of told) (lines_taken items read taken.replies start s told taken.taken) (line_for item last) t entries
+      (line_is item last s ∙ goes) item.event last.read
 
   pub items_tell_changes : TellsWhatChanges start → ItemsTellWhatChanges start
   items_tell_changes tells items item s t told entries taken goes =
       let (read, last) = read_parts items item (items_are_read belongs_to taken.first taken.second (items ++ item ∷ []) taken.begin) in
-      tells (lines_for items read) s (entries_of told) (lines_taken items read taken.replies start s told taken.taken) (line_for item last) t entries (line_is item last s ∙ goes)
+      tells (lines_for items read) s (entries_of told) (lines_taken items read taken.replies start s told taken.taken) (line_for item last) t entries
+      (line_is item last s ∙ goes)

@@ -1,5 +1,6 @@
 -- Peers of distinct names, and those of one name with the same AS numbers.
-use Rattle.std.proofs.Common.{◌≡◌, ℕ, Bool, true, false, ◌&&◌, ◌==◌, List, [], ◌∷◌, map, Option, Some, None, Ordering, Less, refl, sym, ap, ◌∙◌, subst, inl, inr, ◌⊎◌, arith}
+use Rattle.std.proofs.Common.{◌≡◌, ℕ, Bool, true, false, ◌&&◌, ◌==◌, List, [], ◌∷◌, map, Option, Some, None}
+use Rattle.std.proofs.Common.{Ordering, Less, refl, sym, ap, ◌∙◌, subst, inl, inr, ◌⊎◌, arith}
 use Rattle.std.proofs.lemmas.Bool.{and_parts, and_from, true≢false}
 use Rattle.std.proofs.lemmas.Bool.Decides.{nat_tests}
 use Rattle.std.proofs.lemmas.Slice.Eq.{bytes_eq-Decides}
@@ -37,7 +38,8 @@ unfolding IsStrictlySortedBy
 names-known None known = tt
 names-known (Some c) known = (known c refl).peers
 
-pub names-head : (p : CompiledPeer) (peers : List CompiledPeer) → NamesAscend (p ∷ peers) → AllByRecursion (λ name. name_cmp p.name name ≡ Less) (map (λ (q : CompiledPeer). q.name) peers)
+pub names-head : (p : CompiledPeer) (peers : List CompiledPeer) → NamesAscend (p ∷ peers)
+    → AllByRecursion (λ name. name_cmp p.name name ≡ Less) (map (λ (q : CompiledPeer). q.name) peers)
 unfolding IsStrictlySortedBy
 names-head p peers sorted = sorted.0
 
@@ -60,7 +62,8 @@ other-name a b apart = by_bool (bytes_eq a b ≡ false) (bytes_eq a b) (λ t. ab
 -- a peer further on has another name
 pub apart-later : (p other : CompiledPeer) (peers : List CompiledPeer) → NamesAscend (p ∷ peers) → IsIn peers other → p.name ≡ other.name → ⊥
 apart-later p other peers sorted there = go peers (names-head p peers sorted) there where
-  go : (qs : List CompiledPeer) → AllByRecursion (λ name. name_cmp p.name name ≡ Less) (map (λ (q : CompiledPeer). q.name) qs) → IsIn qs other → p.name ≡ other.name → ⊥
+  go : (qs : List CompiledPeer) → AllByRecursion (λ name. name_cmp p.name name ≡ Less) (map (λ (q : CompiledPeer). q.name) qs) → IsIn qs other
+      → p.name ≡ other.name → ⊥
   go [] all none same = none
   go (q ∷ qs) all (inl here) same = not-less p.name q.name all.0 (same ∙ ap (λ (x : CompiledPeer). x.name) (sym here))
   go (q ∷ qs) all (inr later) same = go qs all.1 later same
@@ -69,17 +72,23 @@ module _ (peer : CompiledPeer) where
   pub one-peer : (other : CompiledPeer) → IsSamePeer peer other → is_one_peer peer other ≡ true
   one-peer other same =
       and_from (bytes_eq other.name peer.name && (other.my_asn == peer.my_asn)) (other.peer_asn == peer.peer_asn)
-      (and_from (bytes_eq other.name peer.name) (other.my_asn == peer.my_asn) ((bytes_eq-Decides other.name peer.name).1 same.name) (rw same.my_asn (number-itself peer.my_asn)))
+      (and_from (bytes_eq other.name peer.name) (other.my_asn == peer.my_asn) ((bytes_eq-Decides other.name peer.name).1 same.name)
+      (rw same.my_asn (number-itself peer.my_asn)))
       (rw same.peer_asn (number-itself peer.peer_asn))
 
   pub peer-one : (other : CompiledPeer) → is_one_peer peer other ≡ true → IsSamePeer peer other
   peer-one other e =
       let outer = and_parts (bytes_eq other.name peer.name && (other.my_asn == peer.my_asn)) (other.peer_asn == peer.peer_asn) e in
       let inner = and_parts (bytes_eq other.name peer.name) (other.my_asn == peer.my_asn) outer.0 in
-      record { name = (bytes_eq-Decides other.name peer.name).0 inner.0; my_asn = number-is other.my_asn peer.my_asn inner.1; peer_asn = number-is other.peer_asn peer.peer_asn outer.1 }
+      record {
+        name = (bytes_eq-Decides other.name peer.name).0 inner.0;
+        my_asn = number-is other.my_asn peer.my_asn inner.1;
+        peer_asn = number-is other.peer_asn peer.peer_asn outer.1;
+      }
 
   -- a peer that is there is found, and no other
-  pub found : (other : CompiledPeer) (peers : List CompiledPeer) → NamesAscend peers → IsIn peers other → IsSamePeer peer other → find (is_one_peer peer) peers ≡ Some other
+  pub found : (other : CompiledPeer) (peers : List CompiledPeer) → NamesAscend peers → IsIn peers other → IsSamePeer peer other
+      → find (is_one_peer peer) peers ≡ Some other
   found other [] sorted none same = absurd none
   found other (p ∷ peers) sorted (inl here) same =
       let own : is_one_peer peer p ≡ true = one-peer p (subst (IsSamePeer peer) (sym here) same) in

@@ -1,5 +1,6 @@
 -- What is told of the parts that a change may have changed is what the views before and after say.
-use Rattle.std.proofs.Common.{◌≡◌, ◌++◌, ℕ, zero, suc, ◌+◌, ◌<◌, Bool, true, false, cond, List, [], ◌∷◌, length, get_or, drop, drop-cons, add-one, append_assoc, map, filter, Option, Some, None, Result, Ok, Err, OnOk, arith, inl, inr, refl, sym, ap, ap₂, ◌∙◌, subst, is_some}
+use Rattle.std.proofs.Common.{◌≡◌, ◌++◌, ℕ, zero, suc, ◌+◌, ◌<◌, Bool, true, false, cond, List, [], ◌∷◌, length, get_or, drop, drop-cons, add-one}
+use Rattle.std.proofs.Common.{append_assoc, map, filter, Option, Some, None, Result, Ok, Err, OnOk, arith, inl, inr, refl, sym, ap, ap₂, ◌∙◌, subst, is_some}
 use Rattle.std.proofs.lemmas.List.{append-nil}
 use Rattle.std.proofs.lemmas.Bool.{and_parts, cond_both}
 use Rattle.std.proofs.lemmas.List.Elements.{All-from_recursion, recursion_from_All}
@@ -44,11 +45,13 @@ Routes = List (PrefixValue × Terms)
 
 module _ (v : ViewValue) (node : List ℕ) (both : Bool) where
   -- the table that is found is that of the peer that is found
-  found-among : (peer : CompiledPeer) (peers : List CompiledPeer) → unwrap_or (table_found peer (map (table_at v node both) peers)) [] ≡ table_by v node both (find (is_one_peer peer) peers)
+  found-among : (peer : CompiledPeer) (peers : List CompiledPeer)
+      → unwrap_or (table_found peer (map (table_at v node both) peers)) [] ≡ table_by v node both (find (is_one_peer peer) peers)
   found-among peer [] = refl
   found-among peer (p ∷ peers) = by_test (is_one_peer peer p) (found-among peer peers) where
     by_test : (b : Bool) → unwrap_or (table_found peer (map (table_at v node both) peers)) [] ≡ table_by v node both (find (is_one_peer peer) peers)
-        → unwrap_or (option_map (λ (table : HeldTable). table.routes) (cond b (Some (table_at v node both p)) (find (is_table_of peer) (map (table_at v node both) peers)))) [] ≡ table_by v node both (cond b (Some p) (find (is_one_peer peer) peers))
+        → unwrap_or (option_map (λ (table : HeldTable). table.routes) (cond b (Some (table_at v node both p))
+        (find (is_table_of peer) (map (table_at v node both) peers)))) [] ≡ table_by v node both (cond b (Some p) (find (is_one_peer peer) peers))
     by_test true rest = refl
     by_test false rest = rest
 
@@ -69,7 +72,8 @@ part-none change v = by_all change.all where
   by_all true = refl
   by_all false = refl
 
-pub part-found : (change : ViewChange) (v : ViewValue) (o : Option Routes) → unwrap_or (option_map (changed_part change v) o) [] ≡ changed_part change v (unwrap_or o [])
+pub part-found : (change : ViewChange) (v : ViewValue) (o : Option Routes)
+    → unwrap_or (option_map (changed_part change v) o) [] ≡ changed_part change v (unwrap_or o [])
 part-found change v None = sym (part-none change v)
 part-found change v (Some table) = refl
 
@@ -85,25 +89,30 @@ module _ (change : ViewChange) (u v : ViewValue) (node : List ℕ) (hops : NextH
 
   same-touched : DiffersAt u v node change.addresses → (table : Routes) → part_of u change.addresses table ≡ part_of v change.addresses table
   same-touched d table =
-      ap (λ (config : Option ConfigValue). filter (λ (route : PrefixValue × Terms). list_any (λ a. list_any (λ adv. same_prefix route.0 (prefix_under adv a)) (bgp_in config)) change.addresses) table) d.config
+      ap (λ (config : Option ConfigValue). filter (λ (route : PrefixValue × Terms).
+      list_any (λ a. list_any (λ adv. same_prefix route.0 (prefix_under adv a)) (bgp_in config)) change.addresses) table) d.config
 
   cut-told : DiffersAt u v node change.addresses → (peer : CompiledPeer) → IsIn (peers_of v) peer
-      → told peer (part_of u change.addresses (table_of u node both peer)) (part_of v change.addresses (table_of v node both peer)) ≡ told peer (table_of u node both peer) (routes_of v node peer both)
+      → told peer (part_of u change.addresses (table_of u node both peer)) (part_of v change.addresses (table_of v node both peer))
+      ≡ told peer (table_of u node both peer) (routes_of v node peer both)
   cut-told d peer there =
       let names_u : NamesAscend (peers_of u) = subst (λ (config : Option ConfigValue). NamesAscend (peers_in config)) (sym d.config) names in
       let there_u : IsIn (peers_of u) peer = subst (λ (config : Option ConfigValue). IsIn (peers_in config) peer) (sym d.config) there in
       let before : table_of u node both peer ≡ routes_of u node peer both = own-table u node both names_u peer there_u in
       let after : table_of v node both peer ≡ routes_of v node peer both = own-table v node both names peer there in
-      ap (λ (part : Routes). told peer part (part_of v change.addresses (table_of v node both peer))) (same-touched d (table_of u node both peer) ∙ ap (part_of v change.addresses) before)
+      ap (λ (part : Routes). told peer part (part_of v change.addresses (table_of v node both peer)))
+      (same-touched d (table_of u node both peer) ∙ ap (part_of v change.addresses) before)
       ∙ ap (λ (table : Routes). told peer (part_of v change.addresses (routes_of u node peer both)) (part_of v change.addresses table)) after
-      ∙ ap (map (updated peer)) (parts-tell (peering_of peer hops.v4 hops.v6) (is_touched v change.addresses) (routes_of u node peer both) (routes_of v node peer both) (apart u node both peer) (apart v node both peer)
+      ∙ ap (map (updated peer)) (parts-tell (peering_of peer hops.v4 hops.v6) (is_touched v change.addresses) (routes_of u node peer both)
+      (routes_of v node peer both) (apart u node both peer) (apart v node both peer)
       (λ p beside. others-agree u v node change.addresses d few peer both p beside))
       ∙ ap (λ (table : Routes). told peer table (routes_of v node peer both)) (sym before)
 
   part-told : (peer : CompiledPeer) → IsIn (peers_of v) peer → part_updates change u v node hops peer ≡ updates_to u v node hops peer
   part-told peer there = by_all change.all differs where
     by_all : (all : Bool) → (all ≡ false → DiffersAt u v node change.addresses)
-        → told peer (cond all (table_of u node both peer) (part_of u change.addresses (table_of u node both peer))) (cond all (table_of v node both peer) (part_of v change.addresses (table_of v node both peer)))
+        → told peer (cond all (table_of u node both peer) (part_of u change.addresses (table_of u node both peer)))
+        (cond all (table_of v node both peer) (part_of v change.addresses (table_of v node both peer)))
         ≡ told peer (table_of u node both peer) (routes_of v node peer both)
     by_all true d = ap (λ (table : Routes). told peer (table_of u node both peer) table) (own-table v node both names peer there)
     by_all false d = cut-told (d refl) peer there
@@ -124,7 +133,8 @@ IsOfIpv4 route = route.0.family ≡ V4
 filter-all : (test : PrefixValue × Terms → Bool) (routes : Routes) → AllByRecursion IsOfIpv4 routes → AllByRecursion IsOfIpv4 (filter test routes)
 filter-all test [] all = tt
 filter-all test (route ∷ routes) all =
-    cond_both (test route) (route ∷ filter test routes) (filter test routes) (AllByRecursion IsOfIpv4) (λ _. (all.0, filter-all test routes all.1)) (λ _. filter-all test routes all.1)
+    cond_both (test route) (route ∷ filter test routes) (filter test routes) (AllByRecursion IsOfIpv4) (λ _. (all.0, filter-all test routes all.1))
+    (λ _. filter-all test routes all.1)
 
 table-v4 : (v : ViewValue) (node : List ℕ) (o : Option CompiledPeer) → AllByRecursion IsOfIpv4 (table_by v node false o)
 table-v4 v node None = tt
@@ -135,23 +145,27 @@ part-v4 change v node peer =
     let table = table_of v node false peer in
     let all : AllByRecursion IsOfIpv4 table = table-v4 v node (find (is_one_peer peer) (peers_of v)) in
     All-from_recursion IsOfIpv4 (part_at change v node false peer)
-    (cond_both change.all table (part_of v change.addresses table) (AllByRecursion IsOfIpv4) (λ _. all) (λ _. filter-all (λ route. is_touched v change.addresses route.0) table all))
+    (cond_both change.all table (part_of v change.addresses table) (AllByRecursion IsOfIpv4) (λ _. all)
+    (λ _. filter-all (λ route. is_touched v change.addresses route.0) table all))
 
 hops-by : (o : Option AddressValue) (table : Routes) → is_v6 o ≡ true → (is_some o ≡ false → AreV4 table) → HasHops o table
 hops-by None table six alone = alone refl
 hops-by (Some hop) table six alone = same_family-is hop.family V6 six
 
-pub part-hops : (hops : NextHops) (change : ViewChange) (v : ViewValue) (node : List ℕ) (peer : CompiledPeer) → are_hops hops ≡ true → HasHops hops.v6 (part_at change v node (both_with hops) peer)
+pub part-hops : (hops : NextHops) (change : ViewChange) (v : ViewValue) (node : List ℕ) (peer : CompiledPeer) → are_hops hops ≡ true
+    → HasHops hops.v6 (part_at change v node (both_with hops) peer)
 part-hops hops change v node peer are =
     hops-by hops.v6 (part_at change v node (both_with hops) peer) (and_parts (same_family hops.v4.family V4) (is_v6 hops.v6) are).1
     (λ none. subst (λ (b : Bool). AreV4 (part_at change v node b peer)) (sym none) (part-v4 change v node peer))
 
 -- ---- behind an event what is kept was right for the view before
-were-with : (hop : Option NextHops) (kept : KeptValue) (v w : ViewValue) (change : ViewChange) → AreKeptWith hop kept v → OthersStay v w change → WereKeptWith hop change kept v w
+were-with : (hop : Option NextHops) (kept : KeptValue) (v w : ViewValue) (change : ViewChange) → AreKeptWith hop kept v → OthersStay v w change
+    → WereKeptWith hop change kept v w
 were-with None kept v w change are stay = are
 were-with (Some hop) kept v w change are stay = record { right = are; differs = λ some. changed-differ v w change stay some kept.node }
 
-pub were-routes : (kept : KeptValue) (v w : ViewValue) (local : LocalNode) (change : ViewChange) → AreRoutesOf kept v local → OthersStay v w change → WereRoutes change kept v w local
+pub were-routes : (kept : KeptValue) (v w : ViewValue) (local : LocalNode) (change : ViewChange) → AreRoutesOf kept v local → OthersStay v w change
+    → WereRoutes change kept v w local
 were-routes kept v w local change are stay = record {
   node = are.node;
   both = are.both;
@@ -159,11 +173,14 @@ were-routes kept v w local change are stay = record {
 }
 
 -- ---- with the words' next hop, or without one
-pub were-hop : (o : Option NextHops) (hop : NextHops) (change : ViewChange) (kept : KeptValue) (v w : ViewValue) → o ≡ Some hop → WereKeptWith o change kept v w → WereKept change kept v w
+pub were-hop : (o : Option NextHops) (hop : NextHops) (change : ViewChange) (kept : KeptValue) (v w : ViewValue) → o ≡ Some hop → WereKeptWith o change kept v w
+    → WereKept change kept v w
 were-hop o hop change kept v w is were = subst (λ (h : Option NextHops). WereKeptWith h change kept v w) is were
 
-pub still-none : (o : Option NextHops) (change : ViewChange) (kept : KeptValue) (v w : ViewValue) → o ≡ None → WereKeptWith o change kept v w → AreKeptWith o kept w
-still-none o change kept v w is were = subst (λ (h : Option NextHops). AreKeptWith h kept w) (sym is) (subst (λ (h : Option NextHops). WereKeptWith h change kept v w) is were)
+pub still-none : (o : Option NextHops) (change : ViewChange) (kept : KeptValue) (v w : ViewValue) → o ≡ None → WereKeptWith o change kept v w
+    → AreKeptWith o kept w
+still-none o change kept v w is were =
+    subst (λ (h : Option NextHops). AreKeptWith h kept w) (sym is) (subst (λ (h : Option NextHops). WereKeptWith h change kept v w) is were)
 
 pub right-hop : (o : Option NextHops) (hop : NextHops) (kept : KeptValue) (w : ViewValue) → o ≡ Some hop → AreKeptFor w kept → AreKeptWith o kept w
 right-hop o hop kept w is right = subst (λ (h : Option NextHops). AreKeptWith h kept w) (sym is) right
@@ -179,7 +196,8 @@ hop-told o hop before after v w kept node is own told =
     ∙ ap (λ (h : Option NextHops). before ++ updates_by v w node h) (sym is)
 
 -- ---- one peer after the other
-pub told-next : {T U : Type 0} (f : T → List U) (told next : List U) (items : List T) (i : ℕ) (item : T) (whole : List U) → i < length items → item ≡ get_or items i item → next ≡ told ++ f item
+pub told-next : {T U : Type 0} (f : T → List U) (told next : List U) (items : List T) (i : ℕ) (item : T) (whole : List U) → i < length items
+    → item ≡ get_or items i item → next ≡ told ++ f item
     → told ++ flat_map f (drop i items) ≡ whole → next ++ flat_map f (drop (i + 1) items) ≡ whole
 told-next f told next items i item whole below at is so_far =
     let cons = drop-cons items i item below ∙ ap (λ x. x ∷ drop (suc i) items) (sym at) in
@@ -189,13 +207,16 @@ told-next f told next items i item whole below at is so_far =
     ∙ so_far)
 
 -- the part of what is found, or of nothing, is that of the peer's table
-pub part-kept : (change : ViewChange) (v : ViewValue) (node : List ℕ) (both : Bool) (peer : CompiledPeer) (o : Option Routes) → o ≡ option_map (changed_part change v) (table_found peer (tables_of v node both))
+pub part-kept : (change : ViewChange) (v : ViewValue) (node : List ℕ) (both : Bool) (peer : CompiledPeer) (o : Option Routes)
+    → o ≡ option_map (changed_part change v) (table_found peer (tables_of v node both))
     → unwrap_or o [] ≡ part_at change v node both peer
 part-kept change v node both peer o is =
-    ap (λ (found : Option Routes). unwrap_or found []) is ∙ part-found change v (table_found peer (tables_of v node both)) ∙ ap (changed_part change v) (found-table v node both peer)
+    ap (λ (found : Option Routes). unwrap_or found []) is ∙ part-found change v (table_found peer (tables_of v node both))
+    ∙ ap (changed_part change v) (found-table v node both peer)
 
 -- one of what is made of items
-pub mapped-at : {T U : Type 0} (f : T → U) (items : List T) (made : List U) (i : ℕ) (item : T) (one : U) → i < length items → item ≡ get_or items i item → made ≡ map f items → one ≡ get_or made i one → one ≡ f item
+pub mapped-at : {T U : Type 0} (f : T → U) (items : List T) (made : List U) (i : ℕ) (item : T) (one : U) → i < length items → item ≡ get_or items i item
+    → made ≡ map f items → one ≡ get_or made i one → one ≡ f item
 mapped-at {T} {U} f items made i item one below at all is = go items i below at (is ∙ ap (λ us. get_or us i one) all) where
   go : (ts : List T) (k : ℕ) → k < length ts → item ≡ get_or ts k item → one ≡ get_or (map f ts) k one → one ≡ f item
   go [] k under here there = absurd (omega (arith, under))

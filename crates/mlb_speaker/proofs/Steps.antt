@@ -1,5 +1,6 @@
 -- What a line is to a view, and what is written of it.
-use Rattle.std.proofs.Common.{◌≡◌, ◌↔◌, ℕ, suc, ◌+◌, ◌<◌, List, ◌∷◌, ◌++◌, length, get_or, drop, drop-cons, add-one, Option, Some, None, Result, Ok, Err, refl, sym, ap, ◌∙◌}
+use Rattle.std.proofs.Common.{◌≡◌, ◌↔◌, ℕ, suc, ◌+◌, ◌<◌, List, ◌∷◌, ◌++◌, length, get_or, drop, drop-cons}
+use Rattle.std.proofs.Common.{add-one, Option, Some, None, Result, Ok, Err, refl, sym, ap, ◌∙◌}
 use Rattle.kube_events.specs.Event.{event_of_line}
 use Rattle.kube_model.specs.declared.event.Event.{Event}
 use Rattle.kube_model.specs.declared.event.Event.TheVariants.{Changed, Deleted, ListEnd, Expired, Members, Frame, Ignored}
@@ -52,10 +53,12 @@ pub handed_on : (fault told : ApplyFault) → unmade fault ≡ unmade told → r
 handed_on fault told e = let same : fault ≡ told = cc in ap refused same
 
 -- what is told where addresses are withdrawn and announced, of whichever view the announcers were
-pub entries-told : {E : Type 0} (r : Result (List Entry) E) (local : LocalNode) (note : TakeNote) (held : List (AddressValue × List ℕ)) (v' : ViewValue) (gone come : List AddressValue)
+pub entries-told : {E : Type 0} (r : Result (List Entry) E) (local : LocalNode) (note : TakeNote) (held : List (AddressValue × List ℕ)) (v' : ViewValue)
+    (gone come : List AddressValue)
     → AreWithdrawn held v' local.node gone → AreComeSince held v' local.node come
     → IfOk r (λ entries. entries ≡ Noted note ∷ map withdrawn gone ++ flat_map (announcement v' local) come)
-    → IfOk r (λ entries. (was : ViewValue) → AreKeptFor held was → entries ≡ entries_for v' local note (announced_by was local.node) (announced_by v' local.node))
+    → IfOk r (λ entries. (was : ViewValue) → AreKeptFor held was
+    → entries ≡ entries_for v' local note (announced_by was local.node) (announced_by v' local.node))
 entries-told (Ok entries) local note held v' gone come w a is =
     λ was kept. is ∙ (λ i. Noted note ∷ map withdrawn (w was kept i) ++ flat_map (announcement v' local) (a was kept i))
 entries-told (Err e) local note held v' gone come w a is = tt
@@ -71,7 +74,8 @@ module _ (v : ViewValue) (local : LocalNode) (event : Event) where
       ∙ ap (λ (u : ViewValue). entries_for u local (note_by v event) (announced_by v local.node) (announced_by u local.node) ++ update_entries v u local) w
 
   -- a line that reads as the event is to a state what the event is
-  pub breaks : (line : Line) (t : SpeakerState) (halt : Halt) (entries : List Entry) (before after : Option (List ℕ)) (k n : ℕ) → event_of_line line.bytes ≡ Ok event
+  pub breaks : (line : Line) (t : SpeakerState) (halt : Halt) (entries : List Entry) (before after : Option (List ℕ)) (k n : ℕ)
+      → event_of_line line.bytes ≡ Ok event
       → step_by (state_of v local) event ≡ Goes t entries → Halts halt (text_of speaker_rules entries) before after k n
       → Breaks halt speaker_rules (state_of v local) line before after k n
   breaks line t halt entries before after k n reads goes h = record { next = t; entries = entries; steps = rw (reads, goes) refl; halts = h }
@@ -96,7 +100,8 @@ frame_within (Members names) received v e = absurd (cc)
 frame_within Ignored received v e = absurd (cc)
 
 -- the text of the entries from one on
-pub next_is : (entries : List Entry) (i : ℕ) (e : Entry) → i < length entries → e ≡ get_or entries i e → text_of speaker_rules (drop i entries) ≡ entry_text e ++ text_of speaker_rules (drop (i + 1) entries)
+pub next_is : (entries : List Entry) (i : ℕ) (e : Entry) → i < length entries → e ≡ get_or entries i e
+    → text_of speaker_rules (drop i entries) ≡ entry_text e ++ text_of speaker_rules (drop (i + 1) entries)
 next_is entries i e within is =
     let cons : drop i entries ≡ e ∷ drop (suc i) entries = drop-cons entries i e within ∙ ap (λ (x : Entry). x ∷ drop (suc i) entries) (sym is) in
     rw (add-one, cons)

@@ -1,5 +1,6 @@
 -- What was told follows what the node announces.
-use Rattle.std.proofs.Common.{◌≡◌, ◌≢◌, ℕ, Bool, true, false, cond, not, ◌&&◌, ◌||◌, List, [], ◌∷◌, ◌++◌, map, filter, Option, Some, None, Result, Ok, Err, refl, sym, ap, ◌∙◌, subst, ◌⊎◌, inl, inr, append_assoc}
+use Rattle.std.proofs.Common.{◌≡◌, ◌≢◌, ℕ, Bool, true, false, cond, not, ◌&&◌, ◌||◌, List, [], ◌∷◌, ◌++◌, map, filter}
+use Rattle.std.proofs.Common.{Option, Some, None, Result, Ok, Err, refl, sym, ap, ◌∙◌, subst, ◌⊎◌, inl, inr, append_assoc}
 use Rattle.std.specs.Prelude.{fold}
 use Rattle.std.proofs.lemmas.Bool.{false_from_ne_true}
 use Rattle.std.proofs.lemmas.List.{append-nil}
@@ -31,7 +32,8 @@ use Rattle.mlb_speaker.specs.declared.local_node.LocalNode.{LocalNode}
 use Rattle.announced_set.specs.Changes.{difference}
 use Rattle.mlb_speaker.specs.Entries.{withdrawn, withdrawals, announcements, entries_for}
 use Rattle.mlb_speaker.specs.Sends.{unsolicited_by, listening, announcement, answer_on, answer_by, sent_on, interface_of}
-use Rattle.mlb_speaker.specs.Stream.{SpeakerState, Received, first_state, state_after, frame_in, changes_of, entries_at, entries_of, limit_step, event_step, line_step, speaker_rules}
+use Rattle.mlb_speaker.specs.Stream.{SpeakerState, Received, first_state, state_after, frame_in, changes_of}
+use Rattle.mlb_speaker.specs.Stream.{entries_at, entries_of, limit_step, event_step, line_step, speaker_rules}
 use Rattle.mlb_speaker.specs.Told.{AllLeave, IsToldOf, TellsWhatIsAnnounced, LinesTellWhatIsAnnounced}
 use Rattle.speaker_words.specs.Reading.{said_in}
 use Rattle.speaker_words.specs.Words.{Said}
@@ -63,8 +65,10 @@ and_true' false = refl
 module _ (a : AddressValue) where
   -- a filter has the address where it is there and passes
   module _ (p : AddressValue → Bool) where
-    kept_here : (b : Bool) (x : AddressValue) (zs : List AddressValue) (rest : Bool) → p x ≡ b → x ≡ a → has_address zs a ≡ (rest && p a) → has_address (cond b (x ∷ zs) zs) a ≡ p a
-    kept_here true x zs rest px is more = ap (λ (c : Bool). c || has_address zs a) (ap (λ (y : AddressValue). same_address a y) is ∙ same_address-itself a) ∙ sym px ∙ ap p is
+    kept_here : (b : Bool) (x : AddressValue) (zs : List AddressValue) (rest : Bool) → p x ≡ b → x ≡ a → has_address zs a ≡ (rest && p a)
+        → has_address (cond b (x ∷ zs) zs) a ≡ p a
+    kept_here true x zs rest px is more =
+        ap (λ (c : Bool). c || has_address zs a) (ap (λ (y : AddressValue). same_address a y) is ∙ same_address-itself a) ∙ sym px ∙ ap p is
     kept_here false x zs rest px is more = let none : p a ≡ false = ap p (sym is) ∙ px in more ∙ ap (λ (c : Bool). rest && c) none ∙ and_false rest ∙ sym none
 
     kept_other : (b : Bool) (x : AddressValue) (zs : List AddressValue) → same_address a x ≡ false → has_address (cond b (x ∷ zs) zs) a ≡ has_address zs a
@@ -74,7 +78,8 @@ module _ (a : AddressValue) where
     has-filter : (xs : List AddressValue) → has_address (filter p xs) a ≡ (has_address xs a && p a)
     has-filter [] = refl
     has-filter (x ∷ xs) = by_bool _ (same_address a x)
-        (λ t. kept_here (p x) x (filter p xs) (has_address xs a) refl (sym (same_address-is a x t)) (has-filter xs) ∙ ap (λ (c : Bool). (c || has_address xs a) && p a) (sym t))
+        (λ t. kept_here (p x) x (filter p xs) (has_address xs a) refl (sym (same_address-is a x t)) (has-filter xs)
+        ∙ ap (λ (c : Bool). (c || has_address xs a) && p a) (sym t))
         (λ f. kept_other (p x) x (filter p xs) f ∙ has-filter xs ∙ ap (λ (c : Bool). (c || has_address xs a) && p a) (sym f))
 
   -- ---- what was told of the address
@@ -110,7 +115,8 @@ module _ (a : AddressValue) where
   stands-sent x [] b = refl
   stands-sent x (i ∷ interfaces) b = stands-sent x interfaces b
 
-  stands-announced : (v : ViewValue) (local : LocalNode) (xs : List AddressValue) (b : Bool) → fold says b (flat_map (announcement v local) xs) ≡ (b || has_address xs a)
+  stands-announced : (v : ViewValue) (local : LocalNode) (xs : List AddressValue) (b : Bool)
+      → fold says b (flat_map (announcement v local) xs) ≡ (b || has_address xs a)
   stands-announced v local [] b = or_false b
   stands-announced v local (x ∷ xs) b =
       fold-append says b (announcement v local x) (flat_map (announcement v local) xs)
@@ -128,7 +134,8 @@ module _ (a : AddressValue) where
   turned false false = refl
 
   -- from what was announced before to what is announced now
-  stands-entries : (v : ViewValue) (local : LocalNode) (note : TakeNote) (before after : List AddressValue) → fold says (has_address before a) (entries_for v local note before after) ≡ has_address after a
+  stands-entries : (v : ViewValue) (local : LocalNode) (note : TakeNote) (before after : List AddressValue)
+      → fold says (has_address before a) (entries_for v local note before after) ≡ has_address after a
   stands-entries v local note before after =
       fold-append says (has_address before a) (Noted note ∷ withdrawals before after) (announcements v local before after)
       ∙ stands-announced v local (difference after before) (fold says (has_address before a) (withdrawals before after))
@@ -142,7 +149,8 @@ module _ (a : AddressValue) where
   stands-messages peer [] b = refl
   stands-messages peer (message ∷ messages) b = stands-messages peer messages b
 
-  stands-peers : (v v' : ViewValue) (node : List ℕ) (hop : NextHops) (peers : List CompiledPeer) (b : Bool) → fold says b (flat_map (updates_to v v' node hop) peers) ≡ b
+  stands-peers : (v v' : ViewValue) (node : List ℕ) (hop : NextHops) (peers : List CompiledPeer) (b : Bool)
+      → fold says b (flat_map (updates_to v v' node hop) peers) ≡ b
   stands-peers v v' node hop [] b = refl
   stands-peers v v' node hop (peer ∷ peers) b =
       fold-append says b (updates_to v v' node hop peer) (flat_map (updates_to v v' node hop) peers)
@@ -155,7 +163,8 @@ module _ (a : AddressValue) where
 
   stands-updates : (v v' : ViewValue) (node : List ℕ) (hop : Option NextHops) (b : Bool) → fold says b (updates_by v v' node hop) ≡ b
   stands-updates v v' node None b = refl
-  stands-updates v v' node (Some hop) b = stands-hop (are_hops hop) (flat_map (updates_to v v' node hop) (peers_of v')) b (stands-peers v v' node hop (peers_of v') b)
+  stands-updates v v' node (Some hop) b =
+      stands-hop (are_hops hop) (flat_map (updates_to v v' node hop) (peers_of v')) b (stands-peers v v' node hop (peers_of v') b)
 
   stands-answer : (v : ViewValue) (node : List ℕ) (i : Option Interface) (frame : List ℕ) (b : Bool) → fold says b (answer_by v node i frame) ≡ b
   stands-answer v node None frame b = refl
@@ -177,14 +186,16 @@ pub record Applies (read : Result Event EventFault) (s t : SpeakerState) (entrie
   pub leads : t ≡ state_after s event
   pub tells : entries ≡ entries_of s event
 
-limit_applies : (o : Option (Kind × ℕ)) (s t : SpeakerState) (event : Event) (entries : List Entry) → limit_step s event o ≡ Goes t entries → Applies (Ok event) s t entries
+limit_applies : (o : Option (Kind × ℕ)) (s t : SpeakerState) (event : Event) (entries : List Entry) → limit_step s event o ≡ Goes t entries
+    → Applies (Ok event) s t entries
 limit_applies None s t event entries e =
     let leads : t ≡ state_after s event = cc in
     let tells : entries ≡ entries_of s event = cc in
     record { event = event; reads = refl; leads = leads; tells = tells }
 limit_applies (Some p) s t event entries e = absurd (cc)
 
-pub event_applies : (read : Result Event EventFault) (s t : SpeakerState) (line : Line) (entries : List Entry) → event_step s line read ≡ Goes t entries → Applies read s t entries
+pub event_applies : (read : Result Event EventFault) (s t : SpeakerState) (line : Line) (entries : List Entry) → event_step s line read ≡ Goes t entries
+    → Applies read s t entries
 event_applies (Err fault) s t line entries e = absurd (cc)
 event_applies (Ok event) s t line entries e = limit_applies (limit_by s.view event) s t event entries e
 
@@ -198,14 +209,17 @@ module _ (a : AddressValue) where
   told_by_event None s event is =
       ap (λ (b : Bool). fold (says a) b (changes_of s event)) (sym (has-announced s.view s.local.node a))
       ∙ fold-append (says a) (has_address (announced_by s.view s.local.node) a)
-      (entries_for (view_after event s.view) s.local (note_by s.view event) (announced_by s.view s.local.node) (announced_by (view_after event s.view) s.local.node))
+      (entries_for (view_after event s.view) s.local (note_by s.view event) (announced_by s.view s.local.node)
+      (announced_by (view_after event s.view) s.local.node))
       (update_entries s.view (view_after event s.view) s.local)
       ∙ ap (λ (b : Bool). fold (says a) b (update_entries s.view (view_after event s.view) s.local))
-      (stands-entries a (view_after event s.view) s.local (note_by s.view event) (announced_by s.view s.local.node) (announced_by (view_after event s.view) s.local.node))
+      (stands-entries a (view_after event s.view) s.local (note_by s.view event) (announced_by s.view s.local.node)
+      (announced_by (view_after event s.view) s.local.node))
       ∙ stands-updates a s.view (view_after event s.view) s.local.node s.local.next_hops (has_address (announced_by (view_after event s.view) s.local.node) a)
       ∙ has-announced (view_after event s.view) s.local.node a
 
-  kept : (s t : SpeakerState) (line : Line) (told entries : List Entry) → fold (says a) false told ≡ announces_of s.view s.local.node a → line_step s line ≡ Goes t entries
+  kept : (s t : SpeakerState) (line : Line) (told entries : List Entry) → fold (says a) false told ≡ announces_of s.view s.local.node a
+      → line_step s line ≡ Goes t entries
       → fold (says a) false (told ++ entries) ≡ announces_of t.view t.local.node a
   kept s t line told entries keeps goes =
       let by = event_applies (event_of_line line.bytes) s t line entries goes in
@@ -216,10 +230,12 @@ module _ (a : AddressValue) where
       ∙ told_by_event (frame_in event) s event refl
       ∙ ap (λ (u : SpeakerState). announces_of u.view u.local.node a) (sym by.leads)
 
-  taken_keeps : (lines : List Line) (s t : SpeakerState) (told entries : List Entry) → fold (says a) false told ≡ announces_of s.view s.local.node a → AreTaken speaker_rules lines s t entries
+  taken_keeps : (lines : List Line) (s t : SpeakerState) (told entries : List Entry) → fold (says a) false told ≡ announces_of s.view s.local.node a
+      → AreTaken speaker_rules lines s t entries
       → fold (says a) false (told ++ entries) ≡ announces_of t.view t.local.node a
   taken_keeps [] s t told entries keeps taken =
-      ap (λ (es : List Entry). fold (says a) false (told ++ es)) taken.1 ∙ ap (λ (es : List Entry). fold (says a) false es) (append-nil told) ∙ keeps ∙ ap (λ (u : SpeakerState). announces_of u.view u.local.node a) (sym taken.0)
+      ap (λ (es : List Entry). fold (says a) false (told ++ es)) taken.1 ∙ ap (λ (es : List Entry). fold (says a) false es) (append-nil told) ∙ keeps
+      ∙ ap (λ (u : SpeakerState). announces_of u.view u.local.node a) (sym taken.0)
   taken_keeps (line ∷ lines) s t told entries keeps (next, first, rest, goes, others, is) =
       ap (λ (es : List Entry). fold (says a) false (told ++ es)) is
       ∙ ap (λ (es : List Entry). fold (says a) false es) (sym (append_assoc told first rest))
@@ -227,7 +243,8 @@ module _ (a : AddressValue) where
 
   -- nothing is announced at first
   nothing_yet : (node : List ℕ) (class : Option (List ℕ)) → false ≡ announces_of (fresh class) node a
-  nothing_yet node class = sym (false_from_ne_true (announces_of (fresh class) node a) (λ h. contains-none node (announces-announcer (fresh class) a node h).eligible.member))
+  nothing_yet node class =
+      sym (false_from_ne_true (announces_of (fresh class) node a) (λ h. contains-none node (announces-announcer (fresh class) a node h).eligible.member))
 
   -- ---- the relation
 
@@ -258,29 +275,36 @@ module _ (a : AddressValue) where
 
   withdrawn_case : (c : Bool) (x : AddressValue) (b : Bool) → same_address a x ≡ c → cond c false b ≡ true → (b ≡ true) × (x ≢ a)
   withdrawn_case true x b s p = absurd (cc)
-  withdrawn_case false x b s p = (p, λ e. let u : same_address a x ≡ true = subst (λ (y : AddressValue). same_address a y ≡ true) (sym e) (same_address-itself a) in absurd (cc))
+  withdrawn_case false x b s p =
+      (p, λ e. let u : same_address a x ≡ true = subst (λ (y : AddressValue). same_address a y ≡ true) (sym e) (same_address-itself a) in absurd (cc))
 
-  withdrawn_cases : (x : AddressValue) (b : Bool) (told : List Entry) → ((cond (same_address a x) false b ≡ true) × AllLeave a told) ⊎ IsToldOf told a → ((b ≡ true) × AllLeave a (Withdrawn x ∷ told)) ⊎ IsToldOf (Withdrawn x ∷ told) a
+  withdrawn_cases : (x : AddressValue) (b : Bool) (told : List Entry) → ((cond (same_address a x) false b ≡ true) × AllLeave a told) ⊎ IsToldOf told a
+      → ((b ≡ true) × AllLeave a (Withdrawn x ∷ told)) ⊎ IsToldOf (Withdrawn x ∷ told) a
   withdrawn_cases x b told (inl p) = let q = withdrawn_case (same_address a x) x b refl p.0 in inl (q.0, (q.1, p.1))
   withdrawn_cases x b told (inr is) = inr (behind (Withdrawn x) told is)
 
-  announced_case : (c : Bool) (x : AddressValue) (b : Bool) (told : List Entry) → same_address a x ≡ c → cond c true b ≡ true → AllLeave a told → ((b ≡ true) × AllLeave a (Announced x ∷ told)) ⊎ IsToldOf (Announced x ∷ told) a
+  announced_case : (c : Bool) (x : AddressValue) (b : Bool) (told : List Entry) → same_address a x ≡ c → cond c true b ≡ true → AllLeave a told
+      → ((b ≡ true) × AllLeave a (Announced x ∷ told)) ⊎ IsToldOf (Announced x ∷ told) a
   announced_case true x b told s p all = inr (told_here x told (sym (same_address-is a x s)) all)
   announced_case false x b told s p all = inl (p, (tt, all))
 
-  announced_cases : (x : AddressValue) (b : Bool) (told : List Entry) → ((cond (same_address a x) true b ≡ true) × AllLeave a told) ⊎ IsToldOf told a → ((b ≡ true) × AllLeave a (Announced x ∷ told)) ⊎ IsToldOf (Announced x ∷ told) a
+  announced_cases : (x : AddressValue) (b : Bool) (told : List Entry) → ((cond (same_address a x) true b ≡ true) × AllLeave a told) ⊎ IsToldOf told a
+      → ((b ≡ true) × AllLeave a (Announced x ∷ told)) ⊎ IsToldOf (Announced x ∷ told) a
   announced_cases x b told (inl p) = announced_case (same_address a x) x b told refl p.0 p.1
   announced_cases x b told (inr is) = inr (behind (Announced x) told is)
 
-  sent_cases : (interface frame : List ℕ) (b : Bool) (told : List Entry) → ((b ≡ true) × AllLeave a told) ⊎ IsToldOf told a → ((b ≡ true) × AllLeave a (Sent interface frame ∷ told)) ⊎ IsToldOf (Sent interface frame ∷ told) a
+  sent_cases : (interface frame : List ℕ) (b : Bool) (told : List Entry) → ((b ≡ true) × AllLeave a told) ⊎ IsToldOf told a
+      → ((b ≡ true) × AllLeave a (Sent interface frame ∷ told)) ⊎ IsToldOf (Sent interface frame ∷ told) a
   sent_cases interface frame b told (inl p) = inl (p.0, (tt, p.1))
   sent_cases interface frame b told (inr is) = inr (behind (Sent interface frame) told is)
 
-  updated_cases : (peer message : List ℕ) (b : Bool) (told : List Entry) → ((b ≡ true) × AllLeave a told) ⊎ IsToldOf told a → ((b ≡ true) × AllLeave a (Updated peer message ∷ told)) ⊎ IsToldOf (Updated peer message ∷ told) a
+  updated_cases : (peer message : List ℕ) (b : Bool) (told : List Entry) → ((b ≡ true) × AllLeave a told) ⊎ IsToldOf told a
+      → ((b ≡ true) × AllLeave a (Updated peer message ∷ told)) ⊎ IsToldOf (Updated peer message ∷ told) a
   updated_cases peer message b told (inl p) = inl (p.0, (tt, p.1))
   updated_cases peer message b told (inr is) = inr (behind (Updated peer message) told is)
 
-  noted_cases : (note : TakeNote) (b : Bool) (told : List Entry) → ((b ≡ true) × AllLeave a told) ⊎ IsToldOf told a → ((b ≡ true) × AllLeave a (Noted note ∷ told)) ⊎ IsToldOf (Noted note ∷ told) a
+  noted_cases : (note : TakeNote) (b : Bool) (told : List Entry) → ((b ≡ true) × AllLeave a told) ⊎ IsToldOf told a
+      → ((b ≡ true) × AllLeave a (Noted note ∷ told)) ⊎ IsToldOf (Noted note ∷ told) a
   noted_cases note b told (inl p) = inl (p.0, (tt, p.1))
   noted_cases note b told (inr is) = inr (behind (Noted note) told is)
 

@@ -1,5 +1,6 @@
 -- What the written lines tell is what the entries do.
-use Rattle.std.proofs.Common.{◌≡◌, ◌≢◌, ◌↔◌, ◌⊎◌, ℕ, zero, suc, true, false, not, ◌==◌, List, [], ◌∷◌, ◌++◌, map, inl, inr, refl, sym, ap, ◌∙◌, subst, append_assoc, arith}
+use Rattle.std.proofs.Common.{◌≡◌, ◌≢◌, ◌↔◌, ◌⊎◌, ℕ, zero, suc, true, false, not, ◌==◌, List, [], ◌∷◌, ◌++◌}
+use Rattle.std.proofs.Common.{map, inl, inr, refl, sym, ap, ◌∙◌, subst, append_assoc, arith}
 use Rattle.std.proofs.lemmas.Bool.{and_parts, true≢false}
 use Rattle.std.proofs.lemmas.Grind.{flat_map-append}
 use Rattle.std.proofs.lemmas.Slice.Eq.{bytes_eq-Decides}
@@ -9,7 +10,9 @@ use Rattle.std.specs.Str.{bytes_eq}
 use Rattle.ip_ranges.specs.Values.{AddressValue, IsOfFamily}
 use Rattle.kube_lines.specs.Apart.{is_plain}
 use Rattle.kube_lines.specs.OutputLines.{accepted_text, announce_text, refused_text, send_text, update_text, withdraw_text}
-use Rattle.kube_lines.proofs.Apart.{accepted-announced, accepted-updated, accepted-withdrawn, announced-withdrawn, lines-read, one-announced, one-updated, one-withdrawn, refused-announced, refused-updated, refused-withdrawn, sent-announced, sent-updated, sent-withdrawn, updated-announced, updated-withdrawn}
+use Rattle.kube_lines.proofs.Apart.{accepted-announced, accepted-updated, accepted-withdrawn, announced-withdrawn, lines-read}
+use Rattle.kube_lines.proofs.Apart.{one-announced, one-updated, one-withdrawn, refused-announced, refused-updated, refused-withdrawn}
+use Rattle.kube_lines.proofs.Apart.{sent-announced, sent-updated, sent-withdrawn, updated-announced, updated-withdrawn}
 use Rattle.object_cache.specs.declared.change.TakeNote.{TakeNote}
 use Rattle.object_cache.specs.declared.change.TakeNote.TheVariants.{Quiet, Accepted, Refused}
 use Rattle.line_run.specs.Run.{text_of}
@@ -119,7 +122,8 @@ module _ (a : AddressValue) (fits : IsOfFamily a) where
 
   all-stay : (told : List Entry) → AllFit told → AllLeave a told → AllByRecursion Stays (flat_map entry_lines told)
   all-stay [] fit leave = tt
-  all-stay (entry ∷ told) fit leave = stays-append (entry_lines entry) (flat_map entry_lines told) (entry-stays entry fit.0 leave.0) (all-stay told fit.1 leave.1)
+  all-stay (entry ∷ told) fit leave =
+      stays-append (entry_lines entry) (flat_map entry_lines told) (entry-stays entry fit.0 leave.0) (all-stay told fit.1 leave.1)
 
   -- an entry none of whose lines withdraws the address leaves it
   stays-leaves : (entry : Entry) → AllByRecursion Stays (entry_lines entry) → Leaves a entry
@@ -131,7 +135,8 @@ module _ (a : AddressValue) (fits : IsOfFamily a) where
 
   all-leave : (told : List Entry) → AllByRecursion Stays (flat_map entry_lines told) → AllLeave a told
   all-leave [] all = tt
-  all-leave (entry ∷ told) all = let (own, more) = stays-behind (entry_lines entry) (flat_map entry_lines told) all in (stays-leaves entry own, all-leave told more)
+  all-leave (entry ∷ told) all = let (own, more) = stays-behind (entry_lines entry) (flat_map entry_lines told) all in
+      (stays-leaves entry own, all-leave told more)
 
   fit-behind : (xs ys : List Entry) → AllFit (xs ++ ys) → AllFit ys
   fit-behind [] ys fit = fit
@@ -159,15 +164,19 @@ module _ (a : AddressValue) (fits : IsOfFamily a) where
   in-rest line lines other is = go is.earlier is.later is.split is.lasts where
     go : (earlier later : List (List ℕ)) → line ∷ lines ≡ earlier ++ announce_text a ∷ later → AllByRecursion Stays later → IsAnnouncedIn lines a
     go [] later split lasts = absurd (other (cons-head line (announce_text a) lines later split))
-    go (one ∷ earlier) later split lasts = record { earlier = earlier; later = later; split = cons-tail line one lines (earlier ++ announce_text a ∷ later) split; lasts = lasts }
+    go (one ∷ earlier) later split lasts =
+        record { earlier = earlier; later = later; split = cons-tail line one lines (earlier ++ announce_text a ∷ later) split; lasts = lasts }
 
   -- or it announces the address
-  here-or-later : (line : List ℕ) (lines : List (List ℕ)) → IsAnnouncedIn (line ∷ lines) a → ((line ≡ announce_text a) × AllByRecursion Stays lines) ⊎ IsAnnouncedIn lines a
+  here-or-later : (line : List ℕ) (lines : List (List ℕ)) → IsAnnouncedIn (line ∷ lines) a → ((line ≡ announce_text a) × AllByRecursion Stays lines)
+      ⊎ IsAnnouncedIn lines a
   here-or-later line lines is = go is.earlier is.later is.split is.lasts where
-    go : (earlier later : List (List ℕ)) → line ∷ lines ≡ earlier ++ announce_text a ∷ later → AllByRecursion Stays later → ((line ≡ announce_text a) × AllByRecursion Stays lines) ⊎ IsAnnouncedIn lines a
+    go : (earlier later : List (List ℕ)) → line ∷ lines ≡ earlier ++ announce_text a ∷ later → AllByRecursion Stays later
+        → ((line ≡ announce_text a) × AllByRecursion Stays lines) ⊎ IsAnnouncedIn lines a
     go [] later split lasts =
         inl (cons-head line (announce_text a) lines later split, subst (AllByRecursion Stays) (sym (cons-tail line (announce_text a) lines later split)) lasts)
-    go (one ∷ earlier) later split lasts = inr (record { earlier = earlier; later = later; split = cons-tail line one lines (earlier ++ announce_text a ∷ later) split; lasts = lasts })
+    go (one ∷ earlier) later split lasts =
+        inr (record { earlier = earlier; later = later; split = cons-tail line one lines (earlier ++ announce_text a ∷ later) split; lasts = lasts })
 
   note-rest : (note : TakeNote) (lines : List (List ℕ)) → IsAnnouncedIn (note_lines note ++ lines) a → IsAnnouncedIn lines a
   note-rest Quiet lines is = is
@@ -181,15 +190,18 @@ module _ (a : AddressValue) (fits : IsOfFamily a) where
     none (one ∷ earlier) later split = no-cons one (earlier ++ announce_text a ∷ later) split
   from-lines (Noted note ∷ told) fit is = told-later (Noted note) told (from-lines told fit.1 (note-rest note (flat_map entry_lines told) is))
   from-lines (Withdrawn b ∷ told) fit is =
-      told-later (Withdrawn b) told (from-lines told fit.1 (in-rest (withdraw_text b) (flat_map entry_lines told) (λ same. announced-withdrawn a b (sym same)) is))
+      told-later (Withdrawn b) told
+      (from-lines told fit.1 (in-rest (withdraw_text b) (flat_map entry_lines told) (λ same. announced-withdrawn a b (sym same)) is))
   from-lines (Announced b ∷ told) fit is = elim (here-or-later (announce_text b) (flat_map entry_lines told) is) [
     | inl here ↦ told-here b told (one-announced b a fit.0 fits here.0) (all-leave told here.1)
     | inr later ↦ told-later (Announced b) told (from-lines told fit.1 later)
   ]
   from-lines (Sent interface frame ∷ told) fit is =
-      told-later (Sent interface frame) told (from-lines told fit.1 (in-rest (send_text interface frame) (flat_map entry_lines told) (λ same. sent-announced interface frame a same) is))
+      told-later (Sent interface frame) told
+      (from-lines told fit.1 (in-rest (send_text interface frame) (flat_map entry_lines told) (λ same. sent-announced interface frame a same) is))
   from-lines (Updated peer message ∷ told) fit is =
-      told-later (Updated peer message) told (from-lines told fit.1 (in-rest (update_text peer message) (flat_map entry_lines told) (λ same. updated-announced peer message a same) is))
+      told-later (Updated peer message) told
+      (from-lines told fit.1 (in-rest (update_text peer message) (flat_map entry_lines told) (λ same. updated-announced peer message a same) is))
 
   -- the written lines say of the address what the entries do
   pub announced-written : (told : List Entry) → AllFit told → IsAnnouncedIn (written_lines told) a ↔ IsToldOf told a
@@ -202,7 +214,8 @@ module _ (a : AddressValue) (fits : IsOfFamily a) where
 
 module _ (name : List ℕ) where
   -- a line that is no update line for the peer
-  passed : (line : List ℕ) (lines messages : List (List ℕ)) → ((message : List ℕ) → line ≢ update_text name message) → AreWrittenTo name lines messages → AreWrittenTo name (line ∷ lines) messages
+  passed : (line : List ℕ) (lines messages : List (List ℕ)) → ((message : List ℕ) → line ≢ update_text name message) → AreWrittenTo name lines messages
+      → AreWrittenTo name (line ∷ lines) messages
   passed line lines messages other are = inr (other, are)
 
   note-passed : (note : TakeNote) (lines messages : List (List ℕ)) → AreWrittenTo name lines messages → AreWrittenTo name (note_lines note ++ lines) messages
@@ -210,19 +223,24 @@ module _ (name : List ℕ) where
   note-passed Accepted lines messages are = passed accepted_text lines messages (λ message is. accepted-updated name message is) are
   note-passed (Refused fault) lines messages are = passed (refused_text fault) lines messages (λ message is. refused-updated fault name message is) are
 
-  update-written : (peer message : List ℕ) (lines messages : List (List ℕ)) → AreWrittenTo name lines messages → AreWrittenTo name (update_text peer message ∷ lines) (message_to name (Updated peer message) ++ messages)
+  update-written : (peer message : List ℕ) (lines messages : List (List ℕ)) → AreWrittenTo name lines messages
+      → AreWrittenTo name (update_text peer message ∷ lines) (message_to name (Updated peer message) ++ messages)
   update-written peer message lines messages are =
       by_bool (AreWrittenTo name (update_text peer message ∷ lines) (message_to name (Updated peer message) ++ messages)) (bytes_eq peer name)
       (λ own. rw own (inl (message, messages, refl, ap (λ (n : List ℕ). update_text n message) ((bytes_eq-Decides peer name).0 own), are)))
-      (λ other. rw other (passed (update_text peer message) lines messages (λ m is. true≢false (sym ((bytes_eq-Decides peer name).1 (one-updated peer message name m is)) ∙ other)) are))
+      (λ other. rw other (passed (update_text peer message) lines messages
+      (λ m is. true≢false (sym ((bytes_eq-Decides peer name).1 (one-updated peer message name m is)) ∙ other)) are))
 
   all-written : (told : List Entry) → AreWrittenTo name (flat_map entry_lines told) (messages_told name told)
   all-written [] = refl
   all-written (Noted note ∷ told) = note-passed note (flat_map entry_lines told) (messages_told name told) (all-written told)
-  all-written (Withdrawn a ∷ told) = passed (withdraw_text a) (flat_map entry_lines told) (messages_told name told) (λ message is. updated-withdrawn name message a (sym is)) (all-written told)
-  all-written (Announced a ∷ told) = passed (announce_text a) (flat_map entry_lines told) (messages_told name told) (λ message is. updated-announced name message a (sym is)) (all-written told)
+  all-written (Withdrawn a ∷ told) = passed (withdraw_text a) (flat_map entry_lines told) (messages_told name told)
+      (λ message is. updated-withdrawn name message a (sym is)) (all-written told)
+  all-written (Announced a ∷ told) = passed (announce_text a) (flat_map entry_lines told) (messages_told name told)
+      (λ message is. updated-announced name message a (sym is)) (all-written told)
   all-written (Sent interface frame ∷ told) =
-      passed (send_text interface frame) (flat_map entry_lines told) (messages_told name told) (λ message is. sent-updated interface frame name message is) (all-written told)
+      passed (send_text interface frame) (flat_map entry_lines told) (messages_told name told) (λ message is. sent-updated interface frame name message is)
+      (all-written told)
   all-written (Updated peer message ∷ told) = update-written peer message (flat_map entry_lines told) (messages_told name told) (all-written told)
 
   -- the update lines that are written carry the messages that the entries tell

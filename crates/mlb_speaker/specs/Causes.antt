@@ -41,7 +41,8 @@ past_first false kind most p fair e = absurd (cc)
 past_first true kind most p fair e = let is : (kind, most + 1) ≡ p = cc in subst IsFairLimit is fair
 
 object_fair : (held : Cached) (version : ℕ) (object : Object) (p : Kind × ℕ) → object_limit held version object ≡ Some p → IsFairLimit p
-object_fair held version (objects.Service service) p e = past_first (passes key_cmp most_services held.services service.key version) kinds.Service most_services p (tt, refl) e
+object_fair held version (objects.Service service) p e =
+    past_first (passes key_cmp most_services held.services service.key version) kinds.Service most_services p (tt, refl) e
 object_fair held version (objects.Node node) p e = past_first (passes name_cmp most_nodes held.nodes node.name version) kinds.Node most_nodes p (tt, refl) e
 object_fair held version (objects.Namespace namespace) p e = absurd (cc)
 object_fair held version (objects.Pool pool) p e = absurd (cc)
@@ -60,13 +61,15 @@ limit_fair held (Members names) p e = absurd (cc)
 limit_fair held (Frame interface bytes) p e = absurd (cc)
 limit_fair held Ignored p e = absurd (cc)
 
-pub limit_cause : (passed : Option (Kind × ℕ)) (s : SpeakerState) (event : Event) (status : Status) → limit_by s.view event ≡ passed → limit_step s event passed ≡ Stops status → IsFair status
+pub limit_cause : (passed : Option (Kind × ℕ)) (s : SpeakerState) (event : Event) (status : Status) → limit_by s.view event ≡ passed
+    → limit_step s event passed ≡ Stops status → IsFair status
 limit_cause None s event status is e = absurd (cc)
 limit_cause (Some p) s event status is e =
     let it : Limit (what_of p.0) p.1 ≡ status = cc in
     subst IsFair it (limit_fair s.view.held event p is)
 
-event_cause : (read : Result Event EventFault) (s : SpeakerState) (line : Line) (status : Status) → event_of_line line.bytes ≡ read → event_step s line read ≡ Stops status → IsFair status
+event_cause : (read : Result Event EventFault) (s : SpeakerState) (line : Line) (status : Status) → event_of_line line.bytes ≡ read
+    → event_step s line read ≡ Stops status → IsFair status
 event_cause (Err fault) s line status r e =
     let it : BadLine lanes.Input line.number line.bytes ≡ status = cc in
     subst IsFair it (refl, ap is_err r)
@@ -80,7 +83,8 @@ line_causes s line status e = event_cause (event_of_line line.bytes) s line stat
 pub end_causes : (s : SpeakerState) → IsEndStatus Done × IsCause Done
 end_causes s = (tt, tt)
 
-held_limit : (o : Option (Kind × ℕ)) (s : SpeakerState) (event : Event) (status : Status) → limit_by s.view event ≡ o → limit_step s event o ≡ Stops status → IsHeldLimit status
+held_limit : (o : Option (Kind × ℕ)) (s : SpeakerState) (event : Event) (status : Status) → limit_by s.view event ≡ o → limit_step s event o ≡ Stops status
+    → IsHeldLimit status
 held_limit None s event status is e = absurd (cc)
 held_limit (Some p) s event status is e =
     let it : Limit (what_of p.0) p.1 ≡ status = cc in

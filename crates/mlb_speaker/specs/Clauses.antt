@@ -45,9 +45,11 @@ abbrev pub InStream : {Z : Type 0} → List (String Z) → Type 0 → Type 0
 InStream words so = lanes_of (texts_of words) ≡ None → so
 
 -- in one stream, the input may be asked for more wherever all that came whole was answered
-abbrev pub MayAskAnswered : {Z S K : Type 0} → List (String Z) → (name left : S → Option (List ℕ)) → (S → Reading → K → Type 0) → (K → Option (List ℕ)) → S → K → Type 0
+abbrev pub MayAskAnswered : {Z S K : Type 0} → List (String Z) → (name left : S → Option (List ℕ)) → (S → Reading → K → Type 0) → (K → Option (List ℕ)) → S → K
+    → Type 0
 MayAskAnswered words name left may_read told input out =
-    InStream words (MayBeAsked name may_read input (λ source reader out'. IsAnswered speaker_rules (begun_by words) (left input) reader (left source) (told out) (told out')))
+    InStream words (MayBeAsked name may_read input
+    (λ source reader out'. IsAnswered speaker_rules (begun_by words) (left input) reader (left source) (told out) (told out')))
 
 -- the words are faulty, or it is one of the statuses that a run of the speaker may end with: no file is opened, no lane is known
 -- but the input, and there are no puts

@@ -50,7 +50,8 @@ IsThere peer v = Has (IsSamePeer peer) (peers_of v)
 abbrev pub StaysOver : CompiledPeer → List Line → SpeakerState → SpeakerState → List Entry → Type 0
 StaysOver peer [] s t told = (t ≡ s) × (told ≡ [])
 StaysOver peer (line ∷ lines) s t told =
-    (next : SpeakerState) × (first : List Entry) × (rest : List Entry) × (line_step s line ≡ Goes next first) × IsThere peer next.view × StaysOver peer lines next t rest × (told ≡ first ++ rest)
+    (next : SpeakerState) × (first : List Entry) × (rest : List Entry) × (line_step s line ≡ Goes next first) × IsThere peer next.view
+    × StaysOver peer lines next t rest × (told ≡ first ++ rest)
 
 -- The peer came, or its AS numbers last changed, with the first of the later lines: it isn't there before them, and is after each.
 -- `told` is what was told over them.
@@ -84,7 +85,8 @@ AreToldBy peer hops messages = (sender : Peering) × IsSender peer hops sender �
 abbrev pub HearsSince : (start : SpeakerState) (lines : List Line) (t : SpeakerState) → NextHops → CompiledPeer → Type 0
 HearsSince start lines t hops peer =
     ((told : List Entry) × HasComeSince start lines peer t told)
-    × ((told : List Entry) → HasComeSince start lines peer t told → GiveTable (messages_told peer.name told) (routes_of t.view start.local.node peer (is_some hops.v6))
+    × ((told : List Entry) → HasComeSince start lines peer t told
+    → GiveTable (messages_told peer.name told) (routes_of t.view start.local.node peer (is_some hops.v6))
     × AreToldBy peer hops (messages_told peer.name told))
 
 -- so it is after any lines, with a next hop, with each peer of the configuration in force

@@ -30,24 +30,31 @@ abbrev pub opened : (List ℕ → Option (List ℕ)) → (List ℕ → Bool) →
 opened bytes safe file = lane_view (bytes file) (Some file) 0 (safe file)
 
 -- the next item may be waited for wherever just the text of all items taken before stands written
-abbrev pub LanesMayWait : {Z R K : Type 0} → List (String Z) → (R → List Item → K → Type 0) → R → (input : SourceView) → (K → Option (List ℕ)) → (K → ℕ) → K → Type 0
-LanesMayWait words may_wait rt input written faults out = OverLanes words (λ files. MayBeAwaited may_wait rt written (AnswersAll lane_rules (begun_by words) (outside drive.unread input (written out) (faults out))))
+abbrev pub LanesMayWait : {Z R K : Type 0} → List (String Z) → (R → List Item → K → Type 0) → R → (input : SourceView) → (K → Option (List ℕ)) → (K → ℕ) → K
+    → Type 0
+LanesMayWait words may_wait rt input written faults out =
+    OverLanes words (λ files. MayBeAwaited may_wait rt written (AnswersAll lane_rules (begun_by words) (outside drive.unread input (written out) (faults out))))
 
 -- what the files still give may be dropped wherever the run stopped at the last item taken
-abbrev pub LanesMayDrop : {Z R K : Type 0} → List (String Z) → (R → List Item → K → Type 0) → R → (input : SourceView) → (K → Option (List ℕ)) → (K → ℕ) → K → Type 0
-LanesMayDrop words may_drop rt input written faults out = OverLanes words (λ files. MayBeAwaited may_drop rt written (HasStopped lane_rules (begun_by words) (outside drive.unread input (written out) (faults out))))
+abbrev pub LanesMayDrop : {Z R K : Type 0} → List (String Z) → (R → List Item → K → Type 0) → R → (input : SourceView) → (K → Option (List ℕ)) → (K → ℕ) → K
+    → Type 0
+LanesMayDrop words may_drop rt input written faults out =
+    OverLanes words (λ files. MayBeAwaited may_drop rt written (HasStopped lane_rules (begun_by words) (outside drive.unread input (written out) (faults out))))
 
 -- the watched file may be opened, and once it is open that of the frames
 abbrev pub LanesMayOpen : {Z F : Type 0} → List (String Z) → (F → List ℕ → Type 0) → (F → F → List ℕ → Type 0) → F → Type 0
 LanesMayOpen words may_open Opens unopened = OverLanes words (λ files. MayBeOpened may_open Opens unopened files.first files.second)
 
 -- how the run ended, once both files are open
-abbrev pub EndsLanes : {Z K : Type 0} → List (String Z) → Status → (List ℕ → Option (List ℕ)) → (List ℕ → Bool) → (seen seen' : FilesView) (input input' : SourceView) → (K → Option (List ℕ)) → (K → ℕ) → K → K → Type 0
-EndsLanes words status bytes safe seen seen' input input' written faults out out' = OverLanes words (λ files. drive.AtEnd belongs_to lane_rules (begun_by words) files.first files.second seen seen'
+abbrev pub EndsLanes : {Z K : Type 0} → List (String Z) → Status → (List ℕ → Option (List ℕ)) → (List ℕ → Bool)
+    → (seen seen' : FilesView) (input input' : SourceView) → (K → Option (List ℕ)) → (K → ℕ) → K → K → Type 0
+EndsLanes words status bytes safe seen seen' input input' written faults out out' =
+    OverLanes words (λ files. drive.AtEnd belongs_to lane_rules (begun_by words) files.first files.second seen seen'
     (opened bytes safe files.first) (opened bytes safe files.second) input input' (written out) (written out') (faults out) (faults out') status)
 
 -- where it is done, all that both files carry was taken, and just its text was written
-abbrev pub LanesDone : {Z K : Type 0} → List (String Z) → Status → (List ℕ → Option (List ℕ)) → (input input' : SourceView) → (K → Option (List ℕ)) → K → K → Type 0
+abbrev pub LanesDone : {Z K : Type 0} → List (String Z) → Status → (List ℕ → Option (List ℕ)) → (input input' : SourceView) → (K → Option (List ℕ)) → K → K
+    → Type 0
 LanesDone words status bytes input input' written out out' = OverLanes words (λ files. drive.AtDone belongs_to lane_rules (begun_by words)
     (bytes files.first) (bytes files.second) status input.left input'.left (written out) (written out'))
 
@@ -58,8 +65,10 @@ LanesWriteOnly words bytes left written out out' = OverLanes words (λ files. dr
 
 -- where each line of both files can be applied, in whatever order the events of both come, and no count of faults rises, the run is done, but for want
 -- of memory
-abbrev pub LanesComplete : {Z : Type 0} → List (String Z) → Status → (List ℕ → Option (List ℕ)) → (seen seen' : FilesView) (input input' : SourceView) (writes writes' : ℕ) → Type 0
-LanesComplete words status bytes seen seen' input input' writes writes' = OverLanes words (λ files. can_be_done.IsComplete belongs_to lane_rules (begun_by words)
+abbrev pub LanesComplete : {Z : Type 0} → List (String Z) → Status → (List ℕ → Option (List ℕ))
+    → (seen seen' : FilesView) (input input' : SourceView) (writes writes' : ℕ) → Type 0
+LanesComplete words status bytes seen seen' input input' writes writes' =
+    OverLanes words (λ files. can_be_done.IsComplete belongs_to lane_rules (begun_by words)
     (bytes files.first) (bytes files.second) status seen seen' input.left input.faults input'.faults writes writes')
 
 -- a lane isn't opened exactly where the opening of its file failed, and then nothing was read; else no opening failed
@@ -68,7 +77,8 @@ AtLaneOpenFault words status seen seen' = OverLanes words (λ files. drive.AtOpe
 
 -- a lane isn't read only where the count of failed readings of its file rose
 abbrev pub AtLaneReadFault : {Z : Type 0} → List (String Z) → Status → (seen seen' : FilesView) → (reads reads' : ℕ) → Type 0
-AtLaneReadFault words status seen seen' reads reads' = OverLanes words (λ files. drive.AtReadFault name_of files.first files.second status seen seen' reads reads')
+AtLaneReadFault words status seen seen' reads reads' =
+    OverLanes words (λ files. drive.AtReadFault name_of files.first files.second status seen seen' reads reads')
 
 -- of no other file an opening or a reading failed
 abbrev pub LeavesOtherFiles : {Z : Type 0} → List (String Z) → (seen seen' : FilesView) → Type 0

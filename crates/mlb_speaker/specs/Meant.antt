@@ -36,7 +36,8 @@ pub record IsAnswer (v : ViewValue) (local : LocalNode) (received : Received) (f
   pub interface : Interface
   pub of_words : Contains local.interfaces interface
   pub named : interface.name ≡ received.interface
-  pub says : IsArpAnswer v local.node interface.name interface.mac received.frame frame ⊎ IsNdpAnswer v local.node interface.name interface.mac received.frame frame
+  pub says : IsArpAnswer v local.node interface.name interface.mac received.frame frame
+      ⊎ IsNdpAnswer v local.node interface.name interface.mac received.frame frame
 
 -- the entry is no frame, or an unsolicited one of an address that these entries announce
 abbrev pub IsOfThese : ViewValue → LocalNode → List Entry → Entry → Type 0

@@ -62,7 +62,8 @@ frame_in Ignored = None
 -- peers
 abbrev pub changes_of : SpeakerState → Event → List Entry
 changes_of s event =
-    entries_for (view_after event s.view) s.local (note_by s.view event) (announced_by s.view s.local.node) (announced_by (view_after event s.view) s.local.node)
+    entries_for (view_after event s.view) s.local (note_by s.view event) (announced_by s.view s.local.node)
+    (announced_by (view_after event s.view) s.local.node)
     ++ update_entries s.view (view_after event s.view) s.local
 
 -- a frame changes nothing, and may be answered

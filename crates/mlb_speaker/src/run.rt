@@ -5,8 +5,11 @@ ghost use Rattle.lane_drive.specs.Files.{files_view};
 ghost use Rattle.lane_run.specs.Views.{source_view};
 ghost use Rattle.line_run.specs.Clauses.{AtReadFault, AtWriteFault, RunOwes};
 ghost use Rattle.command_options.specs.Options.{texts_of};
-ghost use Rattle.mlb_speaker.specs.Clauses.{begun_by, InStream, MayAskAnswered, CanEnd, SpeaksForNamed, TellsWhatIsAnnounced, TellsWhatChanges, SendsWhatIsMeant, TellsPeersTheirRoutes, WritesWhatIsAnnounced, WritesPeersTheirRoutes};
-ghost use Rattle.mlb_speaker.specs.LaneClauses.{EndsLanes, LanesMayOpen, LanesMayWait, LanesMayDrop, LanesComplete, LanesDone, LanesWriteOnly, AtLaneOpenFault, AtLaneReadFault, LeavesOtherFiles, LeavesInput, LanesCanEnd, LanesAreAsLines, LanesTellWhatIsAnnounced, LanesTellWhatChanges, LanesSendWhatIsMeant, LanesMakeRoutes};
+ghost use Rattle.mlb_speaker.specs.Clauses.{begun_by, InStream, MayAskAnswered, CanEnd, SpeaksForNamed, TellsWhatIsAnnounced, TellsWhatChanges};
+ghost use Rattle.mlb_speaker.specs.Clauses.{SendsWhatIsMeant, TellsPeersTheirRoutes, WritesWhatIsAnnounced, WritesPeersTheirRoutes};
+ghost use Rattle.mlb_speaker.specs.LaneClauses.{EndsLanes, LanesMayOpen, LanesMayWait, LanesMayDrop, LanesComplete, LanesDone, LanesWriteOnly};
+ghost use Rattle.mlb_speaker.specs.LaneClauses.{AtLaneOpenFault, AtLaneReadFault, LeavesOtherFiles, LeavesInput, LanesCanEnd, LanesAreAsLines};
+ghost use Rattle.mlb_speaker.specs.LaneClauses.{LanesTellWhatIsAnnounced, LanesTellWhatChanges, LanesSendWhatIsMeant, LanesMakeRoutes};
 ghost use Rattle.mlb_speaker.specs.Stream.{IsCause, speaker_rules};
 ghost use Rattle.speaker_words.specs.Words.{AreKnown};
 

@@ -2,7 +2,8 @@
 ghost use Rattle.std.specs.Prelude.{◌≡◌, ◌↔◌, None};
 ghost use Rattle.line_run.specs.Clauses.{AtReadFault, AtWriteFault, RunOwes};
 ghost use Rattle.command_options.specs.Options.{texts_of};
-ghost use Rattle.mlb_speaker.specs.Clauses.{begun_by, lanes_of, InStream, MayAskAnswered, CanEnd, SpeaksForNamed, TellsWhatIsAnnounced, TellsWhatChanges, SendsWhatIsMeant, TellsPeersTheirRoutes, WritesWhatIsAnnounced, WritesPeersTheirRoutes};
+ghost use Rattle.mlb_speaker.specs.Clauses.{begun_by, lanes_of, InStream, MayAskAnswered, CanEnd, SpeaksForNamed, TellsWhatIsAnnounced};
+ghost use Rattle.mlb_speaker.specs.Clauses.{TellsWhatChanges, SendsWhatIsMeant, TellsPeersTheirRoutes, WritesWhatIsAnnounced, WritesPeersTheirRoutes};
 ghost use Rattle.mlb_speaker.specs.Stream.{IsCause, speaker_rules};
 ghost use Rattle.speaker_words.specs.Words.{AreKnown};
 

@@ -14,14 +14,17 @@ module _ (v : ViewValue) (node interface mac frame : List ℕ) where
   abbrev reply : List ℕ
   reply = arp_reply mac (slice_range frame 38 42) (slice_range frame 22 28) (slice_range frame 28 32)
 
-  asked-Decides : Decides (is_arp_request frame && listens_of v node interface (address_at frame 38)) (((42 ≤ length frame) × (slice_range frame 12 22 ≡ arp_header 1)) × Listens v node interface (address_at frame 38))
+  asked-Decides : Decides (is_arp_request frame && listens_of v node interface (address_at frame 38))
+      (((42 ≤ length frame) × (slice_range frame 12 22 ≡ arp_header 1)) × Listens v node interface (address_at frame 38))
   asked-Decides =
       Decides-and (is_arp_request frame) (listens_of v node interface (address_at frame 38))
-      (Decides-and (nat_le 42 (length frame)) (bytes_eq (slice_range frame 12 22) (arp_header 1)) (Decides-nat_le 42 (length frame)) (bytes_eq-Decides (slice_range frame 12 22) (arp_header 1)))
+      (Decides-and (nat_le 42 (length frame)) (bytes_eq (slice_range frame 12 22) (arp_header 1)) (Decides-nat_le 42 (length frame))
+      (bytes_eq-Decides (slice_range frame 12 22) (arp_header 1)))
       (listens-means v node interface (address_at frame 38) (listens_of v node interface (address_at frame 38)) refl)
 
   -- what a call tells by the tests
-  pub arp-means : (answer : List ℕ) (told : Option (List ℕ)) → told ≡ arp_answer_of (listens_of v node interface) mac frame → (told ≡ Some answer) ↔ IsArpAnswer v node interface mac frame answer
+  pub arp-means : (answer : List ℕ) (told : Option (List ℕ)) → told ≡ arp_answer_of (listens_of v node interface) mac frame
+      → (told ≡ Some answer) ↔ IsArpAnswer v node interface mac frame answer
   arp-means answer told is = (
     λ e.
         let given = answered (is_arp_request frame && listens_of v node interface (address_at frame 38)) reply answer (sym is ∙ e) in

@@ -54,7 +54,8 @@ sum_from-below sum (high ∷ low ∷ rest) s b =
     sum_from-below (plus sum (high * 256 + low)) rest (plus-below sum (high * 256 + low) s (word-below high low (b 0) (b 1))) (λ i. b (suc (suc i)))
 
 -- a number that is added before the bytes may be added behind them
-pub sum_from-plus : (sum more : ℕ) (bytes : List ℕ) → sum < 0x1_0000 → more < 0x1_0000 → AreBytes bytes → sum_from (plus sum more) bytes ≡ plus (sum_from sum bytes) more
+pub sum_from-plus : (sum more : ℕ) (bytes : List ℕ) → sum < 0x1_0000 → more < 0x1_0000 → AreBytes bytes
+    → sum_from (plus sum more) bytes ≡ plus (sum_from sum bytes) more
 sum_from-plus sum more [] s m b = refl
 sum_from-plus sum more (last ∷ []) s m b = plus-swap sum more (last * 256) s m (high-below last (b 0))
 sum_from-plus sum more (high ∷ low ∷ rest) s m b =

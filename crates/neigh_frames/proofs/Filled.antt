@@ -29,7 +29,8 @@ pub ones_sum-complemented : (whole : ℕ → List ℕ) (front rest : List ℕ) (
 ones_sum-complemented whole front rest pairs is even f r =
     let sum = ones_sum (whole 0) in
     let parts : ones_sum (whole 0) ≡ ones_sum (front ++ (to_be_bytes w16 0 ++ rest)) = ap ones_sum (is 0) in
-    let small : sum < 0x1_0000 = rw parts (sum_from-below 0 (front ++ (to_be_bytes w16 0 ++ rest)) (omega arith) (AreBytes-append front (to_be_bytes w16 0 ++ rest) f (AreBytes-cons 0 (0 ∷ rest) (omega arith) (AreBytes-cons 0 rest (omega arith) r)))) in
+    let small : sum < 0x1_0000 = rw parts (sum_from-below 0 (front ++ (to_be_bytes w16 0 ++ rest)) (omega arith)
+    (AreBytes-append front (to_be_bytes w16 0 ++ rest) f (AreBytes-cons 0 (0 ∷ rest) (omega arith) (AreBytes-cons 0 rest (omega arith) r)))) in
     ap ones_sum (is (0xffff - sum))
     ∙ sum_from-filled pairs (0xffff - sum) front rest even f r (omega arith)
     ∙ ap (λ (n : ℕ). plus n (0xffff - sum)) (sym parts)

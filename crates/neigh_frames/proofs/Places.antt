@@ -18,12 +18,16 @@ take-front : (front back : List ℕ) (n : ℕ) → length front ≡ n → take n
 take-front front back n is = rw (sym is) (take-append_seam front back)
 
 -- a frame of these parts has a right checksum where the sum over its addresses and its message is right
-module _ (head target destination message : List ℕ) (h : length head ≡ 12) (t : length target ≡ 16) (d : length destination ≡ 16) (m : length message ≡ 32) where
+module _ (head target destination message : List ℕ) (h : length head ≡ 12) (t : length target ≡ 16) (d : length destination ≡ 16)
+    (m : length message ≡ 32) where
   abbrev frame : List ℕ
   frame = head ++ (header ++ (target ++ (destination ++ message)))
 
   payload : payload_length frame ≡ 32
-  payload = rw (get_or-front head (header ++ (target ++ (destination ++ message))) 12 6 h, get_or-front head (header ++ (target ++ (destination ++ message))) 12 7 h) refl
+  payload = rw (
+    get_or-front head (header ++ (target ++ (destination ++ message))) 12 6 h,
+    get_or-front head (header ++ (target ++ (destination ++ message))) 12 7 h,
+  ) refl
 
   addresses : slice_range frame 22 54 ≡ target ++ destination
   addresses =

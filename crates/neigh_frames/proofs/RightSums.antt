@@ -29,10 +29,12 @@ module _ (mac target destination : List ℕ) (flags : ℕ) (m : length mac ≡ 6
   abbrev after : List ℕ
   after = (flags ∷ 0 ∷ 0 ∷ 0 ∷ []) ++ (target ++ ((2 ∷ 1 ∷ []) ++ mac))
 
-  in_parts : (checksum : ℕ) → with_pseudo_header (target ++ destination) (advertisement flags target mac checksum) ≡ before ++ (to_be_bytes w16 checksum ++ after)
+  in_parts : (checksum : ℕ)
+      → with_pseudo_header (target ++ destination) (advertisement flags target mac checksum) ≡ before ++ (to_be_bytes w16 checksum ++ after)
   in_parts checksum =
       ap (λ (n : ℕ). (target ++ destination) ++ (to_be_bytes w32 n ++ ((0 ∷ 0 ∷ 0 ∷ 58 ∷ []) ++ advertisement flags target mac checksum))) (long checksum)
-      ∙ regrouped (target ++ destination) (to_be_bytes w32 32) (0 ∷ 0 ∷ 0 ∷ 58 ∷ []) (136 ∷ 0 ∷ []) (to_be_bytes w16 checksum) (flags ∷ 0 ∷ 0 ∷ 0 ∷ []) target (2 ∷ 1 ∷ []) mac
+      ∙ regrouped (target ++ destination) (to_be_bytes w32 32) (0 ∷ 0 ∷ 0 ∷ 58 ∷ []) (136 ∷ 0 ∷ []) (to_be_bytes w16 checksum) (flags ∷ 0 ∷ 0 ∷ 0 ∷ []) target
+      (2 ∷ 1 ∷ []) mac
 
   before-bytes : AreBytes before
   before-bytes =
@@ -46,13 +48,19 @@ module _ (mac target destination : List ℕ) (flags : ℕ) (m : length mac ≡ 6
       (AreBytes-append target ((2 ∷ 1 ∷ []) ++ mac) t_bytes (AreBytes-append (2 ∷ 1 ∷ []) mac (AreBytes-literal (2 ∷ 1 ∷ []) refl) m_bytes)))
 
   even : length before ≡ 21 + 21
-  even = omega (arith, length-append (target ++ destination) (to_be_bytes w32 32 ++ ((0 ∷ 0 ∷ 0 ∷ 58 ∷ []) ++ (136 ∷ 0 ∷ []))), length-append target destination)
+  even = omega (
+    arith,
+    length-append (target ++ destination) (to_be_bytes w32 32 ++ ((0 ∷ 0 ∷ 0 ∷ 58 ∷ []) ++ (136 ∷ 0 ∷ []))),
+    length-append target destination,
+  )
 
   right : ones_sum (with_pseudo_header (target ++ destination) (advertisement flags target mac (checksum_of flags target destination mac))) ≡ 0xffff
-  right = ones_sum-complemented (λ (n : ℕ). with_pseudo_header (target ++ destination) (advertisement flags target mac n)) before after 21 in_parts even before-bytes after-bytes
+  right = ones_sum-complemented (λ (n : ℕ). with_pseudo_header (target ++ destination) (advertisement flags target mac n)) before after 21 in_parts even
+      before-bytes after-bytes
 
   pub ndp_reply-HasRightChecksum : (hardware : List ℕ) → length hardware ≡ 6 → HasRightChecksum (ndp_reply mac hardware target destination flags)
   ndp_reply-HasRightChecksum hardware h =
       let message : List ℕ = advertisement flags target mac (checksum_of flags target destination mac) in
       subst HasRightChecksum (sym (framed hardware mac header target destination message))
-      (HasRightChecksum-parts (hardware ++ mac) target destination message (omega (arith, length-append hardware mac)) t d (long (checksum_of flags target destination mac)) right)
+      (HasRightChecksum-parts (hardware ++ mac) target destination message (omega (arith, length-append hardware mac)) t d
+      (long (checksum_of flags target destination mac)) right)

@@ -8,7 +8,8 @@ use Rattle.speaker_view.specs.ViewValue.{ViewValue}
 use Rattle.l2_elect.specs.Listening.{Listens}
 use Rattle.neigh_frames.specs.declared.options.Sender.{Sender}
 use Rattle.neigh_frames.specs.Options.{NdpOption, options_of, sender_in}
-use Rattle.neigh_frames.specs.Solicitation.{HasMessage, IsSolicitation, IsUnaddressed, source_of, target_of, options_in, unspecified, has_message, is_solicitation, has_valid_source}
+use Rattle.neigh_frames.specs.Solicitation.{HasMessage, IsSolicitation, IsUnaddressed, source_of, target_of}
+use Rattle.neigh_frames.specs.Solicitation.{options_in, unspecified, has_message, is_solicitation, has_valid_source}
 use Rattle.neigh_frames.specs.Advertisement.{reply_to}
 
 -- the IPv6 address of these sixteen bytes

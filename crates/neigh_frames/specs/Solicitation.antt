@@ -1,6 +1,7 @@
 -- A neighbor solicitation (RFC 4861, section 4.3) by the places of a frame's bytes: the Ethernet header is at 0, the IPv6 header
 -- (RFC 8200, section 3) at 14, the ICMPv6 message at 54.
-use Rattle.std.specs.Prelude.{◌≡◌, ◌≢◌, ◌≤◌, ℕ, Bool, ◌&&◌, ◌||◌, ◌==◌, not, ◌+◌, ◌*◌, ◌/◌, nat_le, List, [], ◌∷◌, ◌++◌, length, slice_range, slice_index, replicate, All}
+use Rattle.std.specs.Prelude.{◌≡◌, ◌≢◌, ◌≤◌, ℕ, Bool, ◌&&◌, ◌||◌, ◌==◌, not, ◌+◌, ◌*◌, ◌/◌, nat_le, List}
+use Rattle.std.specs.Prelude.{[], ◌∷◌, ◌++◌, length, slice_range, slice_index, replicate, All}
 use Rattle.std.specs.Str.{bytes_eq}
 use Rattle.neigh_frames.specs.declared.options.Sender.{Sender}
 use Rattle.neigh_frames.specs.Checksum.{ones_sum, with_pseudo_header}

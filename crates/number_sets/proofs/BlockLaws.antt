@@ -7,7 +7,8 @@ use Rattle.number_sets.specs.Blocks.{is_edge, IsLeft, AreClosed}
 pub none-closed : (numbers closed : RunsValue) → has closed ≡ (λ n. false) → AreClosed numbers closed
 none-closed numbers closed none n here = absurd (let no : has closed n ≡ false = ap (λ (f : ℕ → Bool). f n) none in cc)
 
-pub same-closed : (numbers numbers' closed closed' : RunsValue) → has numbers' ≡ has numbers → has closed' ≡ has closed → AreClosed numbers closed → AreClosed numbers' closed'
+pub same-closed : (numbers numbers' closed closed' : RunsValue) → has numbers' ≡ has numbers → has closed' ≡ has closed → AreClosed numbers closed
+    → AreClosed numbers' closed'
 same-closed numbers numbers' closed closed' numbers_are closed_are are n here =
     ap (λ (f : ℕ → Bool). is_edge n || f n) numbers_are ∙ are n (sym (ap (λ (f : ℕ → Bool). f n) closed_are) ∙ here)
 
@@ -17,7 +18,8 @@ added-by false true closed held left old = refl
 added-by false false closed held left old = old left
 
 -- a number was put in, and it and edges may be closed
-pub added : (number : ℕ) (before after closed now : RunsValue) → has after ≡ (λ n. (n == number) || has before n) → IsLeft (λ n. is_edge n || ((n == number) || has closed n)) now
+pub added : (number : ℕ) (before after closed now : RunsValue) → has after ≡ (λ n. (n == number) || has before n)
+    → IsLeft (λ n. is_edge n || ((n == number) || has closed n)) now
     → AreClosed before closed → AreClosed after now
 added number before after closed now is left old n here =
     ap (λ (f : ℕ → Bool). is_edge n || f n) is ∙ added-by (is_edge n) (n == number) (has closed n) (has before n) (left n here) (old n)
@@ -31,7 +33,8 @@ removed-by false true closed held left old = absurd (cc)
 removed-by false false closed held left old = old left
 
 -- a number was taken out, and is closed no more
-pub removed : (number : ℕ) (before after closed now : RunsValue) → has after ≡ (λ n. not (n == number) && has before n) → IsLeft (λ n. not (n == number) && has closed n) now
+pub removed : (number : ℕ) (before after closed now : RunsValue) → has after ≡ (λ n. not (n == number) && has before n)
+    → IsLeft (λ n. not (n == number) && has closed n) now
     → AreClosed before closed → AreClosed after now
 removed number before after closed now is left old n here =
     ap (λ (f : ℕ → Bool). is_edge n || f n) is ∙ removed-by (is_edge n) (n == number) (has closed n) (has before n) (left n here) (old n)

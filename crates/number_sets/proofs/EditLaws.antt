@@ -1,5 +1,6 @@
 -- Runs with a number more, and with one less.
-use Rattle.std.proofs.Common.{◌≡◌, ◌≤◌, ◌<◌, ◌+◌, ◌-◌, ℕ, zero, suc, Bool, true, false, cond, ◌&&◌, ◌||◌, eqb, leb, List, [], ◌∷◌, ◌++◌, length, get_or, take, drop, Some, None, refl, sym, ap, subst, arith}
+use Rattle.std.proofs.Common.{◌≡◌, ◌≤◌, ◌<◌, ◌+◌, ◌-◌, ℕ, zero, suc, Bool, true, false, cond, ◌&&◌, ◌||◌, eqb, leb}
+use Rattle.std.proofs.Common.{List, [], ◌∷◌, ◌++◌, length, get_or, take, drop, Some, None, refl, sym, ap, subst, arith}
 use Rattle.std.proofs.lemmas.Bool.Decides.{nat_tests}
 use Rattle.std.proofs.lemmas.Bool.{or_from, or_left, and_from, and_right, lt-leb, le-leb}
 use Rattle.std.proofs.lemmas.List.{set_split}
@@ -8,7 +9,8 @@ use Rattle.std.proofs.Math.ListN.{set}
 use Rattle.std.specs.List.{slice_get, insert, remove}
 use Rattle.number_sets.specs.declared.runs.Run.{Run}
 use Rattle.number_sets.specs.RunLists.{is_in_run, has_number, AreRunsFrom, IsFound, IsSetTo}
-use Rattle.number_sets.proofs.RunLaws.{lower, none-below, set-behind, set-same, drop-at, drop-past, apart-at, has-at, absent-past, absent-before, absent-after, ends-before, ends-from}
+use Rattle.number_sets.proofs.RunLaws.{lower, none-below, set-behind, set-same, drop-at, drop-past, apart-at}
+use Rattle.number_sets.proofs.RunLaws.{has-at, absent-past, absent-before, absent-after, ends-before, ends-from}
 
 abbrev run : ℕ → ℕ → Run
 run first last = record { first = first; last = last }
@@ -22,7 +24,8 @@ first-has n f l m h e within = grind (arith, nat_tests)
 last-has : (n f l m : ℕ) (h : Bool) → n ≡ l + 1 → f ≤ l → ((leb f m && leb m n) || h) ≡ cond (eqb m n) true ((leb f m && leb m l) || h)
 last-has n f l m h e within = grind (arith, nat_tests)
 
-join-has : (n f l g k m : ℕ) (h : Bool) → n ≡ l + 1 → g ≡ n + 1 → f ≤ l → g ≤ k → ((leb f m && leb m k) || h) ≡ cond (eqb m n) true ((leb f m && leb m l) || ((leb g m && leb m k) || h))
+join-has : (n f l g k m : ℕ) (h : Bool) → n ≡ l + 1 → g ≡ n + 1 → f ≤ l → g ≤ k
+    → ((leb f m && leb m k) || h) ≡ cond (eqb m n) true ((leb f m && leb m l) || ((leb g m && leb m k) || h))
 join-has n f l g k m h e s within later = grind (arith, nat_tests)
 
 same-has : (n f l m : ℕ) (h : Bool) → f ≤ n → n ≤ l → ((leb f m && leb m l) || h) ≡ cond (eqb m n) true ((leb f m && leb m l) || h)
@@ -76,10 +79,12 @@ grown-first n low r rs from e up =
 
 none-after : (n low : ℕ) (r : Run) (rs : List Run) → n ≡ r.last + 1 → AreRunsFrom low (r ∷ rs) → has_number (r ∷ rs) n ≡ false
 none-after n low r rs e up =
-    or_from (is_in_run n r) (has_number rs n) (and_right (leb r.first n) (leb n r.last) (lt-leb n r.last (omega (arith, e)))) (none-below (r.last + 2) rs n up.2 (omega (arith, e)))
+    or_from (is_in_run n r) (has_number rs n) (and_right (leb r.first n) (leb n r.last) (lt-leb n r.last (omega (arith, e))))
+    (none-below (r.last + 2) rs n up.2 (omega (arith, e)))
 
 -- a number behind the first run, which doesn't touch the next
-grown-last : (n low : ℕ) (r : Run) (rs : List Run) → n ≡ r.last + 1 → AreRunsFrom low (r ∷ rs) → AreRunsFrom (n + 2) rs → IsSetTo low n true (r ∷ rs) (run r.first n ∷ rs)
+grown-last : (n low : ℕ) (r : Run) (rs : List Run) → n ≡ r.last + 1 → AreRunsFrom low (r ∷ rs) → AreRunsFrom (n + 2) rs
+    → IsSetTo low n true (r ∷ rs) (run r.first n ∷ rs)
 grown-last n low r rs e up behind =
     let none = none-after n low r rs e up in
     record {
@@ -89,7 +94,8 @@ grown-last n low r rs e up behind =
     }
 
 -- a number between two runs
-grown-join : (n low : ℕ) (r q : Run) (rs : List Run) → n ≡ r.last + 1 → q.first ≡ n + 1 → AreRunsFrom low (r ∷ q ∷ rs) → IsSetTo low n true (r ∷ q ∷ rs) (run r.first q.last ∷ rs)
+grown-join : (n low : ℕ) (r q : Run) (rs : List Run) → n ≡ r.last + 1 → q.first ≡ n + 1 → AreRunsFrom low (r ∷ q ∷ rs)
+    → IsSetTo low n true (r ∷ q ∷ rs) (run r.first q.last ∷ rs)
 grown-join n low r q rs e s up =
     let none = none-after n low r (q ∷ rs) e up in
     record {
@@ -135,7 +141,8 @@ cut-last n low r rs e less up =
     }
 
 -- one between its first and its last
-cut-middle : (n low : ℕ) (r : Run) (rs : List Run) → r.first < n → n < r.last → AreRunsFrom low (r ∷ rs) → IsSetTo low n false (r ∷ rs) (run r.first (n - 1) ∷ run (n + 1) r.last ∷ rs)
+cut-middle : (n low : ℕ) (r : Run) (rs : List Run) → r.first < n → n < r.last → AreRunsFrom low (r ∷ rs)
+    → IsSetTo low n false (r ∷ rs) (run r.first (n - 1) ∷ run (n + 1) r.last ∷ rs)
 cut-middle n low r rs from to up =
     let is = here n r rs (omega (arith, from)) (omega (arith, to)) in
     record {
@@ -148,7 +155,8 @@ cut-middle n low r rs from to up =
 module _ (n bound : ℕ) (flag : Bool) (runs : List Run) (i : ℕ) (near : bound ≤ n + 1) (within : i ≤ length runs) (up : AreRunsFrom 0 runs)
     (before : (k : ℕ) (d : Run) → k < i → (get_or runs k d).last + 2 ≤ bound) where
   edit-at : (r : Run) (new : List Run) → slice_get runs i ≡ Some r
-      → ((l : ℕ) → l ≤ bound → AreRunsFrom l (r ∷ drop (suc i) runs) → IsSetTo l n flag (r ∷ drop (suc i) runs) new) → IsSetTo 0 n flag runs (take i runs ++ new)
+      → ((l : ℕ) → l ≤ bound → AreRunsFrom l (r ∷ drop (suc i) runs) → IsSetTo l n flag (r ∷ drop (suc i) runs) new)
+      → IsSetTo 0 n flag runs (take i runs ++ new)
   edit-at r new e each =
       set-behind n bound flag runs new i 0 near (omega arith) within before up
       (subst (λ (rest : List Run). (l : ℕ) → l ≤ bound → AreRunsFrom l rest → IsSetTo l n flag rest new) (sym (drop-at runs i r e)) each)
@@ -227,7 +235,8 @@ module _ (n : ℕ) (runs : List Run) (i : ℕ) (found : IsFound (n - 1) runs i) 
           let from : AreRunsFrom (n + 1) (q ∷ drop (suc (suc i)) runs) = subst (AreRunsFrom (n + 1)) split behind in
           subst (IsSetTo 0 n true runs) (sym (joined runs i (run r.first q.last) (slice_get_within runs i r e)))
           (put-at r (run r.first q.last ∷ drop (suc (suc i)) runs) e
-          (λ l less. subst (λ (rest : List Run). AreRunsFrom l (r ∷ rest) → IsSetTo l n true (r ∷ rest) (run r.first q.last ∷ drop (suc (suc i)) runs)) (sym split)
+          (λ l less.
+          subst (λ (rest : List Run). AreRunsFrom l (r ∷ rest) → IsSetTo l n true (r ∷ rest) (run r.first q.last ∷ drop (suc (suc i)) runs)) (sym split)
           (λ all. grown-join n l r q (drop (suc (suc i)) runs) (omega (arith, ends)) (omega (arith, near, from.0)) all)))
 
 module _ (n : ℕ) (runs : List Run) (i : ℕ) (found : IsFound n runs i) where
@@ -244,7 +253,8 @@ module _ (n : ℕ) (runs : List Run) (i : ℕ) (found : IsFound n runs i) where
     pub there : r.first ≤ n → has_number runs n ≡ true
     there from = has-at runs i r n e from (ends-from n runs i r found.point e)
 
-    cut-at : (new : List Run) → ((l : ℕ) → l ≤ n + 1 → AreRunsFrom l (r ∷ drop (suc i) runs) → IsSetTo l n false (r ∷ drop (suc i) runs) new) → IsSetTo 0 n false runs (take i runs ++ new)
+    cut-at : (new : List Run) → ((l : ℕ) → l ≤ n + 1 → AreRunsFrom l (r ∷ drop (suc i) runs) → IsSetTo l n false (r ∷ drop (suc i) runs) new)
+        → IsSetTo 0 n false runs (take i runs ++ new)
     cut-at new = edit-at n (n + 1) false runs i (omega arith) found.within found.apart before-cut r new e
 
     pub take-single : r.first ≤ n → r.first ≡ r.last → IsSetTo 0 n false runs (remove runs i)
@@ -256,7 +266,8 @@ module _ (n : ℕ) (runs : List Run) (i : ℕ) (found : IsFound n runs i) where
     take-first same more =
         let to = ends-from n runs i r found.point e in
         subst (IsSetTo 0 n false runs) (sym (set_split runs i (run (n + 1) r.last) (slice_get_within runs i r e)))
-        (cut-at (run (n + 1) r.last ∷ drop (suc i) runs) (λ l less all. cut-first n l r (drop (suc i) runs) (omega (arith, same)) (omega (arith, same, more, to)) all))
+        (cut-at (run (n + 1) r.last ∷ drop (suc i) runs)
+        (λ l less all. cut-first n l r (drop (suc i) runs) (omega (arith, same)) (omega (arith, same, more, to)) all))
 
     pub take-last : r.first < n → r.last ≤ n → IsSetTo 0 n false runs (set runs i (run r.first (n - 1)))
     take-last from past =

@@ -1,5 +1,6 @@
 -- Lists of runs.
-use Rattle.std.proofs.Common.{◌≡◌, ◌≤◌, ◌<◌, ◌+◌, ℕ, zero, suc, Bool, true, false, cond, ◌||◌, eqb, leb, ltb, List, [], ◌∷◌, ◌++◌, length, get_or, take, drop, Option, Some, None, refl, sym, ap, ◌∙◌, subst, arith}
+use Rattle.std.proofs.Common.{◌≡◌, ◌≤◌, ◌<◌, ◌+◌, ℕ, zero, suc, Bool, true, false, cond, ◌||◌, eqb, leb, ltb, List, []}
+use Rattle.std.proofs.Common.{◌∷◌, ◌++◌, length, get_or, take, drop, Option, Some, None, refl, sym, ap, ◌∙◌, subst, arith}
 use Rattle.std.proofs.lemmas.Bool.{or_from, or_left, or_right, and_from, and_left, and_right, lt-leb, le-leb, eqb-true, ltb-true, ltb-false}
 use Rattle.std.proofs.lemmas.Option.{slice_get_within, get_or_from_slice_get}
 use Rattle.std.specs.List.{slice_get}
@@ -16,7 +17,8 @@ lower a b (r ∷ rs) less up = (omega (arith, less, up.0), up.1, up.2)
 pub none-below : (low : ℕ) (runs : List Run) (m : ℕ) → AreRunsFrom low runs → m < low → has_number runs m ≡ false
 none-below low [] m up below = refl
 none-below low (r ∷ rs) m up below =
-    or_from (is_in_run m r) (has_number rs m) (and_left (leb r.first m) (leb m r.last) (lt-leb r.first m (omega (arith, below, up.0)))) (none-below (r.last + 2) rs m up.2 (omega (arith, below, up.0, up.1)))
+    or_from (is_in_run m r) (has_number rs m) (and_left (leb r.first m) (leb m r.last) (lt-leb r.first m (omega (arith, below, up.0))))
+    (none-below (r.last + 2) rs m up.2 (omega (arith, below, up.0, up.1)))
 
 -- each run has a number
 pub no_more : (low : ℕ) (runs : List Run) → AreRunsFrom low runs → length runs ≤ count_numbers runs
@@ -94,7 +96,8 @@ apart-at runs i r up e =
     let all : AreRunsFrom behind.0 (r ∷ drop (suc i) runs) = subst (AreRunsFrom behind.0) (drop-at runs i r e) behind.1 in
     (omega arith, all.1, all.2)
 
-has-behind : (n : ℕ) (runs : List Run) (i : ℕ) → i ≤ length runs → ((k : ℕ) (d : Run) → k < i → (get_or runs k d).last < n) → has_number runs n ≡ has_number (drop i runs) n
+has-behind : (n : ℕ) (runs : List Run) (i : ℕ) → i ≤ length runs → ((k : ℕ) (d : Run) → k < i → (get_or runs k d).last < n)
+    → has_number runs n ≡ has_number (drop i runs) n
 has-behind n runs zero within before = refl
 has-behind n [] (suc i) within before = absurd (omega (arith, within))
 has-behind n (r ∷ rs) (suc i) within before =
@@ -117,7 +120,8 @@ module _ (n : ℕ) (runs : List Run) (i : ℕ) (within : i ≤ length runs) (bef
 
   pub absent-before : (r : Run) → AreRunsFrom 0 runs → slice_get runs i ≡ Some r → n < r.first → has_number runs n ≡ false
   absent-before r up e less =
-      has-behind n runs i within before ∙ ap (λ (rs : List Run). has_number rs n) (drop-at runs i r e) ∙ none-below r.first (r ∷ drop (suc i) runs) n (apart-at runs i r up e) less
+      has-behind n runs i within before ∙ ap (λ (rs : List Run). has_number rs n) (drop-at runs i r e)
+      ∙ none-below r.first (r ∷ drop (suc i) runs) n (apart-at runs i r up e) less
 
   pub absent-after : (r : Run) → AreRunsFrom 0 runs → slice_get runs i ≡ Some r → n ≡ r.last + 1 → has_number runs n ≡ false
   absent-after r up e is =
@@ -136,7 +140,8 @@ ends-from n runs i r point e =
     let same : get_or runs i r ≡ r = get_or_from_slice_get runs i r r e in
     subst (λ (x : Run). n ≤ x.last) same ends
 
-pub run-of : (n : ℕ) (runs : List Run) (i : ℕ) (r : Run) → AreRunsFrom 0 runs → IsFirstFrom n runs i → i ≤ length runs → slice_get runs i ≡ Some r → r.first ≤ n → IsRunOf runs n r
+pub run-of : (n : ℕ) (runs : List Run) (i : ℕ) (r : Run) → AreRunsFrom 0 runs → IsFirstFrom n runs i → i ≤ length runs → slice_get runs i ≡ Some r → r.first ≤ n
+    → IsRunOf runs n r
 run-of n runs i r up point within e from =
     let to = ends-from n runs i r point e in
     record {
@@ -174,7 +179,8 @@ set-same n flag runs up is =
     }
 
 -- where a run has a number between its first and its last, there are more numbers than runs
-pub fewer-runs : (low : ℕ) (runs : List Run) (i : ℕ) (r : Run) → AreRunsFrom low runs → slice_get runs i ≡ Some r → r.first + 2 ≤ r.last → length runs < count_numbers runs
+pub fewer-runs : (low : ℕ) (runs : List Run) (i : ℕ) (r : Run) → AreRunsFrom low runs → slice_get runs i ≡ Some r → r.first + 2 ≤ r.last
+    → length runs < count_numbers runs
 fewer-runs low [] i r up e long = absurd (cc)
 fewer-runs low (x ∷ xs) zero r up e long =
     let same : x ≡ r = cc in
@@ -188,7 +194,8 @@ read-by : (o : Option Run) (n : ℕ) (x : Run) → IsSomeAnd o (λ r. r.last + 1
 read-by None n x ends same = absurd ends
 read-by (Some r) n x ends same = let is : x ≡ r = same r refl in (ap Some (sym is), ap (λ (y : Run). y.last + 1) is ∙ ends)
 
-pub read-at : (runs : List Run) (i n : ℕ) (x : Run) → IsSomeAnd (slice_get runs i) (λ r. r.last + 1 ≡ n) → x ≡ get_or runs i x → (slice_get runs i ≡ Some x) × (x.last + 1 ≡ n)
+pub read-at : (runs : List Run) (i n : ℕ) (x : Run) → IsSomeAnd (slice_get runs i) (λ r. r.last + 1 ≡ n) → x ≡ get_or runs i x
+    → (slice_get runs i ≡ Some x) × (x.last + 1 ≡ n)
 read-at runs i n x ends is = read-by (slice_get runs i) n x ends (λ r e. is ∙ get_or_from_slice_get runs i r x e)
 
 pub ends-at : (o : Option Run) (n : ℕ) (r : Run) → o ≡ Some r → r.last + 1 ≡ n → IsSomeAnd o (λ r. r.last + 1 ≡ n)

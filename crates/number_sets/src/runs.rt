@@ -1,5 +1,6 @@
 //! Sets of numbers as sorted runs.
-ghost use Rattle.std.specs.Prelude.{◌≡◌, ◌≤◌, ◌<◌, ◌+◌, ◌-◌, ◌==◌, ◌||◌, ◌&&◌, true, false, not, length, slice_get, vec_len, vec_capacity, IsTrue, IfSome, IfNone, IsSomeAnd, OnOk};
+ghost use Rattle.std.specs.Prelude.{◌≡◌, ◌≤◌, ◌<◌, ◌+◌, ◌-◌, ◌==◌, ◌||◌, ◌&&◌, true, false, not, length};
+ghost use Rattle.std.specs.Prelude.{slice_get, vec_len, vec_capacity, IsTrue, IfSome, IfNone, IsSomeAnd, OnOk};
 ghost use Rattle.std.specs.List.{insert};
 ghost use Rattle.number_sets.specs.Least.{IsLeastIn, NonePasses};
 ghost use Rattle.number_sets.specs.RunLists.{AreRunsFrom, IsFound, IsRunOf, IsSetTo, count_numbers, has_number};

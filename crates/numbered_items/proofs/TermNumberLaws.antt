@@ -1,5 +1,6 @@
 -- Ascending numbers into which one is put, and of which one is taken out.
-use Rattle.std.proofs.Common.{◌≡◌, ℕ, zero, suc, ◌+◌, ◌-◌, ◌<◌, ◌≤◌, ◌==◌, true, false, not, List, [], ◌∷◌, ◌++◌, length, get_or, take, drop, filter, remove, Less, Ok, Err, refl, sym, ap, ◌∙◌, subst, arith, length-drop}
+use Rattle.std.proofs.Common.{◌≡◌, ℕ, zero, suc, ◌+◌, ◌-◌, ◌<◌, ◌≤◌, ◌==◌, true, false, not, List, [], ◌∷◌, ◌++◌, length}
+use Rattle.std.proofs.Common.{get_or, take, drop, filter, remove, Less, Ok, Err, refl, sym, ap, ◌∙◌, subst, arith, length-drop}
 use Rattle.std.specs.List.{AllByRecursion}
 use Rattle.std.specs.List.Sorted.{IsStrictlySortedBy, IsBinarySearchResult}
 use Rattle.std.specs.Ordering.{nat_cmp}
@@ -27,7 +28,8 @@ put-above : (n m : ℕ) (xs : List ℕ) → AllByRecursion (λ k. nat_cmp n k �
 put-above n m [] above first = (first, tt)
 put-above n m (x ∷ xs) above first = (above.0, put-above n m xs above.1 first)
 
-pub ascending-put : (xs : List ℕ) (n : ℕ) → IsStrictlySortedBy nat_cmp xs → (0 < length xs → get_or xs (length xs - 1) 0 < n) → IsStrictlySortedBy nat_cmp (xs ++ n ∷ [])
+pub ascending-put : (xs : List ℕ) (n : ℕ) → IsStrictlySortedBy nat_cmp xs → (0 < length xs → get_or xs (length xs - 1) 0 < n)
+    → IsStrictlySortedBy nat_cmp (xs ++ n ∷ [])
 unfolding IsStrictlySortedBy
 ascending-put [] n up last = (tt, tt)
 ascending-put (x ∷ []) n up last = ((less x n (last (omega arith)), tt), (tt, tt))
@@ -71,10 +73,12 @@ rising (x ∷ xs) up (suc i) zero le lt = absurd (omega (arith, le))
 rising (x ∷ xs) up (suc i) (suc j) le lt = rising xs up.1 i j (omega (arith, le)) (omega (arith, lt))
 
 -- what a search by halves found is taken out; where it found nothing, all stay
-pub found-out : (n : ℕ) (xs : List ℕ) (i : ℕ) → IsStrictlySortedBy nat_cmp xs → IsBinarySearchResult (λ m. nat_cmp m n) xs (Ok i) → i < length xs → remove xs i ≡ filter (λ m. not (m == n)) xs
+pub found-out : (n : ℕ) (xs : List ℕ) (i : ℕ) → IsStrictlySortedBy nat_cmp xs → IsBinarySearchResult (λ m. nat_cmp m n) xs (Ok i) → i < length xs
+    → remove xs i ≡ filter (λ m. not (m == n)) xs
 found-out n xs i up found lt = taken-out n xs i up lt (searched xs n (Ok i) found (rising xs up)).1
 
-pub none-out : (n : ℕ) (xs : List ℕ) (i : ℕ) → IsStrictlySortedBy nat_cmp xs → IsBinarySearchResult (λ m. nat_cmp m n) xs (Err i) → xs ≡ filter (λ m. not (m == n)) xs
+pub none-out : (n : ℕ) (xs : List ℕ) (i : ℕ) → IsStrictlySortedBy nat_cmp xs → IsBinarySearchResult (λ m. nat_cmp m n) xs (Err i)
+    → xs ≡ filter (λ m. not (m == n)) xs
 none-out n xs i up found =
     let parts = searched xs n (Err i) found (rising xs up) in
     sym (kept-all n xs (others-from n xs (λ k lt. other k (get_or xs k 0) (parts.1 k) (λ from. parts.2 k from lt))))
@@ -89,7 +93,8 @@ pub front-dropped : (xs : List ℕ) (gone left : ℕ) → gone + left ≡ length
 front-dropped xs gone left whole =
     let same : left ≡ 0 + left = omega arith in
     let long : length (drop gone xs) ≡ left = omega (arith, whole, length-drop gone xs) in
-    ap (λ k. take k (paste xs 0 (drop gone xs) left)) same ∙ take-paste xs 0 (drop gone xs) left (omega arith) (omega (arith, long)) ∙ take_all left (drop gone xs) (omega (arith, long))
+    ap (λ k. take k (paste xs 0 (drop gone xs) left)) same ∙ take-paste xs 0 (drop gone xs) left (omega arith) (omega (arith, long))
+    ∙ take_all left (drop gone xs) (omega (arith, long))
 
 -- those ahead of the index move up by one place
 pub moved-up : (xs : List ℕ) (gone i : ℕ) → gone + i < length xs → drop (gone + 1) (paste xs (gone + 1) (drop gone xs) i) ≡ remove (drop gone xs) i

@@ -51,7 +51,8 @@ impl<T: Ord> InvertedIndex<T> {
     /// no memory.
     pub fn add(&mut self, term: &T, number: u64)
         requires { 0 < room_under T.cmp self.old term.now }
-        ensures numbers { numbers_under T.cmp self.new ≡ (λ t. if is_at (T.cmp term.now) t then numbers_under T.cmp self.old t ++ number ∷ [] else numbers_under T.cmp self.old t) }
+        ensures numbers { numbers_under T.cmp self.new
+            ≡ (λ t. if is_at (T.cmp term.now) t then numbers_under T.cmp self.old t ++ number ∷ [] else numbers_under T.cmp self.old t) }
         ensures room { (t : T) → room_under T.cmp self.old t ≤ room_under T.cmp self.new t + (if is_at (T.cmp term.now) t then 1 else 0) }
     {
         let Some(list) = self.lists.get_mut(term) else {
@@ -82,7 +83,8 @@ impl<T: Ord + Drop> InvertedIndex<T> {
     /// takes no memory. Where each number of the list was greater than the one before it, the number is found in the logarithm of the
     /// list's length, and those on the shorter side of it move; else the list is gone through.
     pub fn remove(&mut self, term: &T, number: u64)
-        ensures numbers { numbers_under T.cmp self.new ≡ (λ t. if is_at (T.cmp term.now) t then filter (λ n. not (n == number)) (numbers_under T.cmp self.old t) else numbers_under T.cmp self.old t) }
+        ensures numbers { numbers_under T.cmp self.new
+            ≡ (λ t. if is_at (T.cmp term.now) t then filter (λ n. not (n == number)) (numbers_under T.cmp self.old t) else numbers_under T.cmp self.old t) }
         ensures room { (t : T) → is_at (T.cmp term.now) t ≡ false → room_under T.cmp self.new t ≡ room_under T.cmp self.old t }
     {
         let Some(list) = self.lists.get_mut(term) else {

@@ -1,5 +1,6 @@
 -- Which event passes a limit, and that what is held stays within the limits.
-use Rattle.std.proofs.Common.{◌≡◌, ◌↔◌, ℕ, zero, suc, ◌≤◌, ◌+◌, Bool, true, false, cond, leb, ltb, not, ◌&&◌, List, [], ◌∷◌, length, Option, Some, None, Ordering, is_some, refl, sym, ap, subst, ◌∙◌, arith, leb-true, leb-false, lt-ltb}
+use Rattle.std.proofs.Common.{◌≡◌, ◌↔◌, ℕ, zero, suc, ◌≤◌, ◌+◌, Bool, true, false, cond, leb, ltb, not, ◌&&◌, List, [], ◌∷◌, length}
+use Rattle.std.proofs.Common.{Option, Some, None, Ordering, is_some, refl, sym, ap, subst, ◌∙◌, arith, leb-true, leb-false, lt-ltb}
 use Rattle.std.proofs.lemmas.Bool.{and_parts, lt-leb}
 use Rattle.std.specs.Option.{option_map_or}
 use Rattle.std.specs.List.Sorted.{IsStrictlySortedBy}
@@ -37,7 +38,8 @@ more_than_none v = lt-leb (suc v) 0 (omega arith)
 none_is_fewer : (v : ℕ) → ltb 0 (suc v) ≡ true
 none_is_fewer v = lt-ltb 0 (suc v) (omega arith)
 
-within_none : (full : Bool) (version most n new : ℕ) → full ≡ leb most n → n ≤ most → ((ltb 0 version && full) && true) ≡ false → new ≡ cond (leb version 0) n (suc n) → new ≤ most
+within_none : (full : Bool) (version most n new : ℕ) → full ≡ leb most n → n ≤ most → ((ltb 0 version && full) && true) ≡ false
+    → new ≡ cond (leb version 0) n (suc n) → new ≤ most
 within_none full zero most n new f few unpassed is = omega (arith, few, is)
 within_none true (suc v) most n new f few unpassed is =
     let wrong : true ≡ false = rw (none_is_fewer v) at unpassed in
@@ -58,11 +60,13 @@ module _ {T : Type 0} where
   abbrev length_then : Option (Versioned T) → ℕ → ℕ → ℕ
   length_then found version n = cond (leb version (option_map_or (λ (held : Versioned T). held.version) found 0)) n (cond (is_some found) n (suc n))
 
-  within_by : (found : Option (Versioned T)) (version most n new : ℕ) → n ≤ most → ((ltb 0 version && leb most n) && not (is_some found)) ≡ false → new ≡ length_then found version n → new ≤ most
+  within_by : (found : Option (Versioned T)) (version most n new : ℕ) → n ≤ most → ((ltb 0 version && leb most n) && not (is_some found)) ≡ false
+      → new ≡ length_then found version n → new ≤ most
   within_by None version most n new few unpassed is = within_none (leb most n) version most n new refl few unpassed is
   within_by (Some held) version most n new few unpassed is = either_way (leb version held.version) n new most few is
 
-  past_by : (found : Option (Versioned T)) (version most n new : ℕ) → n ≤ most → ((ltb 0 version && leb most n) && not (is_some found)) ≡ true → new ≡ length_then found version n → new ≡ most + 1
+  past_by : (found : Option (Versioned T)) (version most n new : ℕ) → n ≤ most → ((ltb 0 version && leb most n) && not (is_some found)) ≡ true
+      → new ≡ length_then found version n → new ≡ most + 1
   past_by None version most n new few passed is = past_none version most n new few passed is
   past_by (Some held) version most n new few passed is =
       let wrong : false ≡ true = (and_parts (ltb 0 version && leb most n) false passed).1 in
@@ -76,14 +80,18 @@ module _ {K T : Type 0} {cmp : K → K → Ordering} (o : IsTotalOrder cmp) (ent
   inserted false key version object = length-insert_entry o entries key (record { version = version; object = object }) s
 
   -- where no limit is passed, no more than may be are held
-  shown-within : (most : ℕ) (key : K) (version : ℕ) (object : T) → length entries ≤ most → passes cmp most entries key version ≡ false → length (shown cmp entries key version object) ≤ most
+  shown-within : (most : ℕ) (key : K) (version : ℕ) (object : T) → length entries ≤ most → passes cmp most entries key version ≡ false
+      → length (shown cmp entries key version object) ≤ most
   shown-within most key version object few unpassed =
-      within_by (held_at cmp entries key) version most (length entries) (length (shown cmp entries key version object)) few unpassed (inserted (leb version (version_at cmp entries key)) key version object)
+      within_by (held_at cmp entries key) version most (length entries) (length (shown cmp entries key version object)) few unpassed
+      (inserted (leb version (version_at cmp entries key)) key version object)
 
   -- where one is passed, one more is held
-  shown-past : (most : ℕ) (key : K) (version : ℕ) (object : T) → length entries ≤ most → passes cmp most entries key version ≡ true → length (shown cmp entries key version object) ≡ most + 1
+  shown-past : (most : ℕ) (key : K) (version : ℕ) (object : T) → length entries ≤ most → passes cmp most entries key version ≡ true
+      → length (shown cmp entries key version object) ≡ most + 1
   shown-past most key version object few passed =
-      past_by (held_at cmp entries key) version most (length entries) (length (shown cmp entries key version object)) few passed (inserted (leb version (version_at cmp entries key)) key version object)
+      past_by (held_at cmp entries key) version most (length entries) (length (shown cmp entries key version object)) few passed
+      (inserted (leb version (version_at cmp entries key)) key version object)
 
 module _ {K T : Type 0} (resource : Resource K T) (entries : List (K × Versioned T)) (most : ℕ) (few : length entries ≤ most) where
   deleted-within : (gone : Option K) → length (deleted_in resource gone entries) ≤ most
@@ -185,7 +193,8 @@ one_limit s Ignored e = refl
 
 module _ (s : Cached) (w : IsWithin s) where
   services-within : (event : Event) → passes_services s event ≡ false → length (held_after_event service_resource event s.services) ≤ most_services
-  services-within (Changed version (objects.Service service)) unpassed = shown-within key_cmp-total s.services w.services_ascend most_services service.key version service w.services unpassed
+  services-within (Changed version (objects.Service service)) unpassed =
+      shown-within key_cmp-total s.services w.services_ascend most_services service.key version service w.services unpassed
   services-within (Changed version (objects.Pool pool)) unpassed = w.services
   services-within (Changed version (objects.L2 adv)) unpassed = w.services
   services-within (Changed version (objects.Bgp adv)) unpassed = w.services
@@ -202,7 +211,8 @@ module _ (s : Cached) (w : IsWithin s) where
   services-within Ignored unpassed = w.services
 
   nodes-within : (event : Event) → passes_nodes s event ≡ false → length (held_after_event node_resource event s.nodes) ≤ most_nodes
-  nodes-within (Changed version (objects.Node node)) unpassed = shown-within name_cmp-total s.nodes w.nodes_ascend most_nodes node.name version node w.nodes unpassed
+  nodes-within (Changed version (objects.Node node)) unpassed =
+      shown-within name_cmp-total s.nodes w.nodes_ascend most_nodes node.name version node w.nodes unpassed
   nodes-within (Changed version (objects.Service service)) unpassed = w.nodes
   nodes-within (Changed version (objects.Pool pool)) unpassed = w.nodes
   nodes-within (Changed version (objects.L2 adv)) unpassed = w.nodes
@@ -219,7 +229,8 @@ module _ (s : Cached) (w : IsWithin s) where
   nodes-within Ignored unpassed = w.nodes
 
   services-past : (event : Event) → passes_services s event ≡ true → length (held_after_event service_resource event s.services) ≡ most_services + 1
-  services-past (Changed version (objects.Service service)) passed = shown-past key_cmp-total s.services w.services_ascend most_services service.key version service w.services passed
+  services-past (Changed version (objects.Service service)) passed =
+      shown-past key_cmp-total s.services w.services_ascend most_services service.key version service w.services passed
   services-past (Changed version (objects.Pool pool)) passed = absurd (cc)
   services-past (Changed version (objects.L2 adv)) passed = absurd (cc)
   services-past (Changed version (objects.Bgp adv)) passed = absurd (cc)
@@ -268,7 +279,8 @@ module _ (then : Cached) where
   none_past few less kinds.Namespace count past = absurd past.1
   none_past few less kinds.Slice count past = absurd past.1
 
-  services_past : length then.services ≡ most_services + 1 → length then.nodes ≤ most_nodes → (kind : Kind) (count : ℕ) → IsPastLimit then kind count → first_past kinds.Service most_services true ≡ Some (kind, count)
+  services_past : length then.services ≡ most_services + 1 → length then.nodes ≤ most_nodes → (kind : Kind) (count : ℕ) → IsPastLimit then kind count
+      → first_past kinds.Service most_services true ≡ Some (kind, count)
   services_past more few kinds.Service count past = ap (λ (n : ℕ). first kinds.Service n) (sym (past.1.1 ∙ more))
   services_past more few kinds.Node count past = absurd (omega (arith, few, past.1.0, past.1.1, past.2))
   services_past more few kinds.Pool count past = absurd past.1
@@ -279,7 +291,8 @@ module _ (then : Cached) where
   services_past more few kinds.Namespace count past = absurd past.1
   services_past more few kinds.Slice count past = absurd past.1
 
-  nodes_past : length then.nodes ≡ most_nodes + 1 → length then.services ≤ most_services → (kind : Kind) (count : ℕ) → IsPastLimit then kind count → first_past kinds.Node most_nodes true ≡ Some (kind, count)
+  nodes_past : length then.nodes ≡ most_nodes + 1 → length then.services ≤ most_services → (kind : Kind) (count : ℕ) → IsPastLimit then kind count
+      → first_past kinds.Node most_nodes true ≡ Some (kind, count)
   nodes_past more few kinds.Node count past = ap (λ (n : ℕ). first kinds.Node n) (sym (past.1.1 ∙ more))
   nodes_past more few kinds.Service count past = absurd (omega (arith, few, past.1.0, past.1.1, past.2))
   nodes_past more few kinds.Pool count past = absurd past.1
@@ -290,14 +303,16 @@ module _ (then : Cached) where
   nodes_past more few kinds.Namespace count past = absurd past.1
   nodes_past more few kinds.Slice count past = absurd past.1
 
-  past_services : length then.services ≡ most_services + 1 → (kind : Kind) (count : ℕ) → first_past kinds.Service most_services true ≡ Some (kind, count) → IsPastLimit then kind count
+  past_services : length then.services ≡ most_services + 1 → (kind : Kind) (count : ℕ) → first_past kinds.Service most_services true ≡ Some (kind, count)
+      → IsPastLimit then kind count
   past_services more kind count e =
       let same : Path (Kind × ℕ) (kinds.Service, most_services + 1) (kind, count) = cc in
       let is : kinds.Service ≡ kind = ap (λ (p : Kind × ℕ). p.0) same in
       let n : most_services + 1 ≡ count = ap (λ (p : Kind × ℕ). p.1) same in
       subst (λ (k : Kind). IsPastLimit then k count) is (most_services, (refl, sym (more ∙ n)), omega (arith, n))
 
-  past_nodes : length then.nodes ≡ most_nodes + 1 → (kind : Kind) (count : ℕ) → first_past kinds.Node most_nodes true ≡ Some (kind, count) → IsPastLimit then kind count
+  past_nodes : length then.nodes ≡ most_nodes + 1 → (kind : Kind) (count : ℕ) → first_past kinds.Node most_nodes true ≡ Some (kind, count)
+      → IsPastLimit then kind count
   past_nodes more kind count e =
       let same : Path (Kind × ℕ) (kinds.Node, most_nodes + 1) (kind, count) = cc in
       let is : kinds.Node ≡ kind = ap (λ (p : Kind × ℕ). p.0) same in
@@ -328,13 +343,15 @@ none_passed true nodes e = absurd (cc)
 none_passed false true e = absurd (cc)
 none_passed false false e = (refl, refl)
 
-is_within : (observations : List Observation) → (length (cached observations).services ≤ most_services) × (length (cached observations).nodes ≤ most_nodes) → IsWithin (cached observations)
+is_within : (observations : List Observation) → (length (cached observations).services ≤ most_services) × (length (cached observations).nodes ≤ most_nodes)
+    → IsWithin (cached observations)
 is_within observations lengths =
     let shown = all_is_as_shown observations in
     record { services_ascend = shown.services.ascend; nodes_ascend = shown.nodes.ascend; services = lengths.0; nodes = lengths.1 }
 
 -- what is held after observations that passed no limit stays within them
-within-lengths : (observations : List Observation) → NonePassed observations → (length (cached observations).services ≤ most_services) × (length (cached observations).nodes ≤ most_nodes)
+within-lengths : (observations : List Observation) → NonePassed observations
+    → (length (cached observations).services ≤ most_services) × (length (cached observations).nodes ≤ most_nodes)
 within-lengths [] none = (omega arith, omega arith)
 within-lengths (Watched event ∷ earlier) none =
     let w = is_within earlier (within-lengths earlier none.1) in
@@ -350,4 +367,5 @@ within-lengths (Written key version holding ∷ earlier) none =
     (rw (length-amended key_cmp (cached earlier).services key version (with_holding holding)) before.0, before.1)
 
 pub limits_are_exact : LimitsAreExact
-limits_are_exact observations event kind count none = limit-exact (cached observations) (is_within observations (within-lengths observations none)) event kind count
+limits_are_exact observations event kind count none =
+    limit-exact (cached observations) (is_within observations (within-lengths observations none)) event kind count

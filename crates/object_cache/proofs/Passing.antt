@@ -1,5 +1,6 @@
 -- What an event leaves as it was.
-use Rattle.std.proofs.Common.{◌≡◌, ℕ, Bool, true, false, cond, leb, eqb, not, List, [], ◌∷◌, Option, Some, None, option_map, Ordering, Less, Equal, Greater, is_eq, filter, map, refl, sym, ap, ◌∙◌}
+use Rattle.std.proofs.Common.{◌≡◌, ℕ, Bool, true, false, cond, leb, eqb, not, List, [], ◌∷◌, Option, Some, None}
+use Rattle.std.proofs.Common.{option_map, Ordering, Less, Equal, Greater, is_eq, filter, map, refl, sym, ap, ◌∙◌}
 use Rattle.std.specs.List.{list_any}
 use Rattle.std.specs.List.Sorted.{IsStrictlySortedBy}
 use Rattle.std.specs.Ordering.{match_ordering}
@@ -31,7 +32,8 @@ abbrev Entries : Type 0
 Entries = List (Key × Versioned Service)
 
 -- the key of an entry that passes, before those of the others
-first_key : (b : Bool) (d e : Key × Versioned Service) (xs ys : Entries) → d.0 ≡ e.0 → map (λ (x : Key × Versioned Service). x.0) xs ≡ map (λ (x : Key × Versioned Service). x.0) ys
+first_key : (b : Bool) (d e : Key × Versioned Service) (xs ys : Entries) → d.0 ≡ e.0
+    → map (λ (x : Key × Versioned Service). x.0) xs ≡ map (λ (x : Key × Versioned Service). x.0) ys
     → map (λ (x : Key × Versioned Service). x.0) (cond b (d ∷ xs) xs) ≡ map (λ (x : Key × Versioned Service). x.0) (cond b (e ∷ ys) ys)
 first_key true d e xs ys same rest = cc
 first_key false d e xs ys same rest = rest
@@ -59,7 +61,8 @@ module _ (test : Key → Service → Bool) where
       rw own refl
   passing-inserted (e ∷ es) k v fails = inserted_by (key_cmp k e.0) e es k v refl fails (passing-inserted es k v fails)
 
-  removed_by : (b : Bool) (e : Key × Versioned Service) (es less : Entries) (k : Key) → b ≡ is_eq (key_cmp k e.0) → FailsAt k → passing test less ≡ passing test es
+  removed_by : (b : Bool) (e : Key × Versioned Service) (es less : Entries) (k : Key) → b ≡ is_eq (key_cmp k e.0) → FailsAt k
+      → passing test less ≡ passing test es
       → passing test (cond b es (e ∷ less)) ≡ passing test (e ∷ es)
   removed_by true e es less k p fails ih =
       let old : test e.0 e.1.object ≡ false = fails e.0 e.1.object (sym p) in
@@ -78,7 +81,8 @@ module _ (test : Key → Service → Bool) where
   FailsAtEach keys = (key : Key) (service : Service) → list_any (λ k. is_eq (key_cmp k key)) keys ≡ true → test key service ≡ false
 
   listed_by : (unlisted : Bool) (e : Key × Versioned Service) (es : Entries)
-      → FailsAtEach (map (λ (x : Key × Versioned Service). x.0) (cond unlisted (e ∷ filter (λ (x : Key × Versioned Service). eqb x.1.version 0) es) (filter (λ (x : Key × Versioned Service). eqb x.1.version 0) es)))
+      → FailsAtEach (map (λ (x : Key × Versioned Service). x.0)
+      (cond unlisted (e ∷ filter (λ (x : Key × Versioned Service). eqb x.1.version 0) es) (filter (λ (x : Key × Versioned Service). eqb x.1.version 0) es)))
       → (FailsAtEach (unlisted_keys es) → passing test (listed es) ≡ passing test es)
       → passing test (cond (not unlisted) (e ∷ listed es) (listed es)) ≡ passing test (e ∷ es)
   listed_by true e es fails ih =
@@ -91,13 +95,16 @@ module _ (test : Key → Service → Bool) where
   passing-listed (e ∷ es) fails = listed_by (eqb e.1.version 0) e es fails (passing-listed es)
 
   shown_by : (old : Bool) (es : Entries) (service : Service) (version : ℕ)
-      → ((key : Key) (s : Service) → tells_of key (service_change service.key (cond old (Passed service) (HeldNow (object_at key_cmp es service.key)))) ≡ true → test key s ≡ false)
+      → ((key : Key) (s : Service) → tells_of key (service_change service.key (cond old (Passed service) (HeldNow (object_at key_cmp es service.key)))) ≡ true
+      → test key s ≡ false)
       → passing test (cond old es (insert_entry key_cmp es service.key (record { version = version; object = service }))) ≡ passing test es
   shown_by true es service version never = refl
   shown_by false es service version never = passing-inserted es service.key (record { version = version; object = service }) never
 
-  held_after_event-passing : (s : Cached) (event : Event) → NeverPasses test (change_by s event) → passing test (held_after_event service_resource event s.services) ≡ passing test s.services
-  held_after_event-passing s (Changed version (objects.Service service)) never = shown_by (leb version (version_at key_cmp s.services service.key)) s.services service version never
+  held_after_event-passing : (s : Cached) (event : Event) → NeverPasses test (change_by s event)
+      → passing test (held_after_event service_resource event s.services) ≡ passing test s.services
+  held_after_event-passing s (Changed version (objects.Service service)) never =
+      shown_by (leb version (version_at key_cmp s.services service.key)) s.services service version never
   held_after_event-passing s (Changed version (objects.Pool pool)) never = refl
   held_after_event-passing s (Changed version (objects.L2 adv)) never = refl
   held_after_event-passing s (Changed version (objects.Bgp adv)) never = refl
@@ -133,27 +140,32 @@ unlike true k key p apart =
     absurd (cc)
 unlike false k key p apart = sym p
 
-same_object : (found : Option (Versioned Service)) → option_map (λ (h : Versioned Service). h.object) (option_map (at_version 0) found) ≡ option_map (λ (h : Versioned Service). h.object) found
+same_object : (found : Option (Versioned Service))
+    → option_map (λ (h : Versioned Service). h.object) (option_map (at_version 0) found) ≡ option_map (λ (h : Versioned Service). h.object) found
 same_object None = refl
 same_object (Some h) = refl
 
 object_shown : (old : Bool) (es : Entries) (service : Service) (version : ℕ) (key : Key)
     → tells_of key (service_change service.key (cond old (Passed service) (HeldNow (object_at key_cmp es service.key)))) ≡ false
-    → option_map (λ (h : Versioned Service). h.object) (cond old (held_at key_cmp es key) (cond (is_eq (key_cmp key service.key)) (Some (record { version = version; object = service })) (held_at key_cmp es key)))
+    → option_map (λ (h : Versioned Service). h.object) (cond old (held_at key_cmp es key)
+    (cond (is_eq (key_cmp key service.key)) (Some (record { version = version; object = service })) (held_at key_cmp es key)))
     ≡ object_at key_cmp es key
 object_shown true es service version key apart = refl
 object_shown false es service version key apart =
     let other : is_eq (key_cmp key service.key) ≡ false = unlike (is_eq (key_cmp key service.key)) service.key key refl apart in
     rw other refl
 
-object_removed : (es : Entries) (gone key : Key) → IsStrictlySortedBy key_cmp (keys_of es) → is_eq (key_cmp gone key) ≡ false → object_at key_cmp (remove_entry (is_at (key_cmp gone)) es) key ≡ object_at key_cmp es key
+object_removed : (es : Entries) (gone key : Key) → IsStrictlySortedBy key_cmp (keys_of es) → is_eq (key_cmp gone key) ≡ false
+    → object_at key_cmp (remove_entry (is_at (key_cmp gone)) es) key ≡ object_at key_cmp es key
 object_removed es gone key s apart = rw (held_at-removed key_cmp-total es gone key s, apart) refl
 
 -- what is held at version 0 is among the keys that weren't listed
-unlisted_by : (unlisted same : Bool) (e : Key × Versioned Service) (es : Entries) (key : Key) (h : Versioned Service) → unlisted ≡ eqb e.1.version 0 → same ≡ is_eq (key_cmp key e.0)
+unlisted_by : (unlisted same : Bool) (e : Key × Versioned Service) (es : Entries) (key : Key) (h : Versioned Service) → unlisted ≡ eqb e.1.version 0
+    → same ≡ is_eq (key_cmp key e.0)
     → (held_at key_cmp es key ≡ Some h → list_any (λ k. is_eq (key_cmp k key)) (unlisted_keys es) ≡ false → eqb h.version 0 ≡ false)
     → cond same (Some e.1) (held_at key_cmp es key) ≡ Some h
-    → list_any (λ k. is_eq (key_cmp k key)) (map (λ (x : Key × Versioned Service). x.0) (cond unlisted (e ∷ filter (λ (x : Key × Versioned Service). eqb x.1.version 0) es) (filter (λ (x : Key × Versioned Service). eqb x.1.version 0) es))) ≡ false
+    → list_any (λ k. is_eq (key_cmp k key)) (map (λ (x : Key × Versioned Service). x.0) (cond unlisted
+    (e ∷ filter (λ (x : Key × Versioned Service). eqb x.1.version 0) es) (filter (λ (x : Key × Versioned Service). eqb x.1.version 0) es))) ≡ false
     → eqb h.version 0 ≡ false
 unlisted_by true true e es key h u s ih found none =
     let back : is_eq (key_cmp e.0 key) ≡ true = ap is_eq (tied_back key_cmp-total key e.0 ((Equal-is (key_cmp key e.0)).0 (sym s))) in
@@ -166,23 +178,27 @@ unlisted_by false true e es key h u s ih found none =
     ap (λ (x : Versioned Service). eqb x.version 0) (sym is) ∙ sym u
 unlisted_by false false e es key h u s ih found none = ih found none
 
-unlisted-none : (es : Entries) (key : Key) (h : Versioned Service) → held_at key_cmp es key ≡ Some h → list_any (λ k. is_eq (key_cmp k key)) (unlisted_keys es) ≡ false → eqb h.version 0 ≡ false
+unlisted-none : (es : Entries) (key : Key) (h : Versioned Service) → held_at key_cmp es key ≡ Some h
+    → list_any (λ k. is_eq (key_cmp k key)) (unlisted_keys es) ≡ false → eqb h.version 0 ≡ false
 unlisted-none [] key h found none = absurd (cc)
 unlisted-none (e ∷ es) key h found none = unlisted_by (eqb e.1.version 0) (is_eq (key_cmp key e.0)) e es key h refl refl (unlisted-none es key h) found none
 
 listed_stays : (found : Option (Versioned Service)) → ((h : Versioned Service) → found ≡ Some h → eqb h.version 0 ≡ false)
-    → option_map (λ (h : Versioned Service). h.object) (option_filter (λ (h : Versioned Service). not (eqb h.version 0)) found) ≡ option_map (λ (h : Versioned Service). h.object) found
+    → option_map (λ (h : Versioned Service). h.object) (option_filter (λ (h : Versioned Service). not (eqb h.version 0)) found)
+    ≡ option_map (λ (h : Versioned Service). h.object) found
 listed_stays None later = refl
 listed_stays (Some h) later = rw (later h refl) refl
 
-object_listed : (es : Entries) (key : Key) → IsStrictlySortedBy key_cmp (keys_of es) → list_any (λ k. is_eq (key_cmp k key)) (unlisted_keys es) ≡ false → object_at key_cmp (listed es) key ≡ object_at key_cmp es key
+object_listed : (es : Entries) (key : Key) → IsStrictlySortedBy key_cmp (keys_of es) → list_any (λ k. is_eq (key_cmp k key)) (unlisted_keys es) ≡ false
+    → object_at key_cmp (listed es) key ≡ object_at key_cmp es key
 object_listed es key s none =
     rw (held_at-listed key_cmp-total es key s) (listed_stays (held_at key_cmp es key) (λ h found. unlisted-none es key h found none))
 
 object_told : (s : Cached) (event : Event) (key : Key) → IsStrictlySortedBy key_cmp (keys_of s.services) → tells_of key (change_by s event) ≡ false
     → object_at key_cmp (held_after_event service_resource event s.services) key ≡ object_at key_cmp s.services key
 object_told s (Changed version (objects.Service service)) key a apart =
-    rw (held_at-shown key_cmp-total s.services service.key key version service) (object_shown (leb version (version_at key_cmp s.services service.key)) s.services service version key apart)
+    rw (held_at-shown key_cmp-total s.services service.key key version service)
+    (object_shown (leb version (version_at key_cmp s.services service.key)) s.services service version key apart)
 object_told s (Changed version (objects.Pool pool)) key a apart = refl
 object_told s (Changed version (objects.L2 adv)) key a apart = refl
 object_told s (Changed version (objects.Bgp adv)) key a apart = refl

@@ -11,7 +11,8 @@ use Rattle.kube_model.specs.declared.event.Group.TheVariants as groups
 use Rattle.versioned_map.specs.declared.map.Versioned.{Versioned}
 use Rattle.versioned_map.specs.Entries.{held_at}
 use Rattle.kube_labels.proofs.NameLaws.{name_cmp-total, name_cmp-exact}
-use Rattle.object_history.specs.Kinds.{Resource, service_resource, pool_resource, l2_resource, bgp_resource, peer_resource, community_resource, namespace_resource, node_resource, slice_resource}
+use Rattle.object_history.specs.Kinds.{Resource, service_resource, pool_resource, l2_resource, bgp_resource, peer_resource}
+use Rattle.object_history.specs.Kinds.{community_resource, namespace_resource, node_resource, slice_resource}
 use Rattle.object_history.specs.Observations.{Observation, Watched, WatchExpired, Written, same_group}
 use Rattle.object_history.specs.Cache.{held_after, ended_after, cached}
 use Rattle.object_history.specs.LookBack.{last_shown, seen_after, expires, NoneExpires, HasEnded, AreAsShown, IsSetAsShown}
@@ -31,19 +32,25 @@ module _ {K T : Type 0} (resource : Resource K T) (o : IsTotalOrder resource.cmp
   ascending-held_of (observation ∷ earlier) = ascending-held_after resource o observation (held_of resource earlier) (ascending-held_of earlier)
 
 module _ {K T : Type 0} (resource : Resource K T) (o : IsTotalOrder resource.cmp) (exact : CmpEqualImpliesEq resource.cmp) where
-  pub held_at-held_of : (observations : List Observation) (key : K) → held_at resource.cmp (held_of resource observations) key ≡ last_shown resource key observations
+  pub held_at-held_of : (observations : List Observation) (key : K)
+      → held_at resource.cmp (held_of resource observations) key ≡ last_shown resource key observations
   held_at-held_of [] key = refl
   held_at-held_of (observation ∷ earlier) key =
-      held_at-held_after resource o exact key observation (held_of resource earlier) (ascending-held_of resource o earlier) ∙ ap (seen_after resource key observation) (held_at-held_of earlier key)
+      held_at-held_after resource o exact key observation (held_of resource earlier) (ascending-held_of resource o earlier)
+      ∙ ap (seen_after resource key observation) (held_at-held_of earlier key)
 
   held_of-is : (observations : List Observation) → AreAsShown resource (held_of resource observations) observations
   held_of-is observations =
       record {
         ascend = ascending-held_of resource o observations;
-        each = λ key held. (λ e. last_shown-is resource key observations held (sym (held_at-held_of observations key) ∙ e), λ i. held_at-held_of observations key ∙ is-last_shown resource key observations held i);
+        each = λ key held. (
+          λ e. last_shown-is resource key observations held (sym (held_at-held_of observations key) ∙ e),
+          λ i. held_at-held_of observations key ∙ is-last_shown resource key observations held i,
+        );
       }
 
-  pub as_shown : (entries : List (K × Versioned T)) (observations : List Observation) → entries ≡ held_of resource observations → AreAsShown resource entries observations
+  pub as_shown : (entries : List (K × Versioned T)) (observations : List Observation) → entries ≡ held_of resource observations
+      → AreAsShown resource entries observations
   as_shown entries observations e = subst (λ (l : List (K × Versioned T)). AreAsShown resource l observations) (sym e) (held_of-is observations)
 
 -- each kind by itself
@@ -114,16 +121,20 @@ abbrev pub ended_of : Group → List Observation → Bool
 ended_of group [] = false
 ended_of group (observation ∷ earlier) = ended_after group observation (ended_of group earlier)
 
-ended_on : (group : Group) (observation : Observation) (earlier : List Observation) → expires group observation ≡ false → HasEnded group earlier → HasEnded group (observation ∷ earlier)
-ended_on group observation earlier stays i = record { later = observation ∷ i.later; earlier = i.earlier; split = ap (λ (l : List Observation). observation ∷ l) i.split; lasts = (stays, i.lasts) }
+ended_on : (group : Group) (observation : Observation) (earlier : List Observation) → expires group observation ≡ false → HasEnded group earlier
+    → HasEnded group (observation ∷ earlier)
+ended_on group observation earlier stays i =
+    record { later = observation ∷ i.later; earlier = i.earlier; split = ap (λ (l : List Observation). observation ∷ l) i.split; lasts = (stays, i.lasts) }
 
-ends_now : (same : Bool) (group g : Group) (earlier : List Observation) → same ≡ same_group g group → ((ended_of group earlier ≡ true) → HasEnded group earlier) → (same || ended_of group earlier) ≡ true → HasEnded group (Watched (ListEnd g) ∷ earlier)
+ends_now : (same : Bool) (group g : Group) (earlier : List Observation) → same ≡ same_group g group → ((ended_of group earlier ≡ true) → HasEnded group earlier)
+    → (same || ended_of group earlier) ≡ true → HasEnded group (Watched (ListEnd g) ∷ earlier)
 ends_now true group g earlier e ih ended =
     let is : g ≡ group = same_group-is g group (sym e) in
     record { later = []; earlier = earlier; split = ap (λ (k : Group). Watched (ListEnd k) ∷ earlier) is; lasts = tt }
 ends_now false group g earlier e ih ended = ended_on group (Watched (ListEnd g)) earlier refl (ih ended)
 
-expired_not : (same : Bool) (group g : Group) (earlier : List Observation) → same ≡ same_group g group → ((ended_of group earlier ≡ true) → HasEnded group earlier) → cond same false (ended_of group earlier) ≡ true → HasEnded group (WatchExpired g ∷ earlier)
+expired_not : (same : Bool) (group g : Group) (earlier : List Observation) → same ≡ same_group g group
+    → ((ended_of group earlier ≡ true) → HasEnded group earlier) → cond same false (ended_of group earlier) ≡ true → HasEnded group (WatchExpired g ∷ earlier)
 expired_not true group g earlier e ih ended = absurd (cc)
 expired_not false group g earlier e ih ended = ended_on group (WatchExpired g) earlier (sym e) (ih ended)
 
@@ -150,9 +161,11 @@ ended_stays group (Watched Ignored) e = refl
 ended_stays group (WatchExpired g) e = rw e refl
 ended_stays group (Written key version holding) e = refl
 
-ended_through : (group : Group) (later earlier : List Observation) → NoneExpires group later → ended_of group (later ++ Watched (ListEnd group) ∷ earlier) ≡ true
+ended_through : (group : Group) (later earlier : List Observation) → NoneExpires group later
+    → ended_of group (later ++ Watched (ListEnd group) ∷ earlier) ≡ true
 ended_through group [] earlier stays = rw (same_group-itself group) refl
-ended_through group (observation ∷ later) earlier stays = ap (ended_after group observation) (ended_through group later earlier stays.1) ∙ ended_stays group observation stays.0
+ended_through group (observation ∷ later) earlier stays =
+    ap (ended_after group observation) (ended_through group later earlier stays.1) ∙ ended_stays group observation stays.0
 
 pub is-ended_of : (group : Group) (observations : List Observation) → HasEnded group observations → ended_of group observations ≡ true
 is-ended_of group observations i = ap (ended_of group) i.split ∙ ended_through group i.later i.earlier i.lasts
@@ -169,5 +182,6 @@ pub endpoints_ended-is : (observations : List Observation) → (cached observati
 endpoints_ended-is [] = refl
 endpoints_ended-is (observation ∷ earlier) = ap (ended_after groups.Endpoint observation) (endpoints_ended-is earlier)
 
-pub ended_both : (ended : Bool) (group : Group) (observations : List Observation) → ended ≡ ended_of group observations → (ended ≡ true) ↔ HasEnded group observations
+pub ended_both : (ended : Bool) (group : Group) (observations : List Observation) → ended ≡ ended_of group observations
+    → (ended ≡ true) ↔ HasEnded group observations
 ended_both ended group observations e = (λ t. ended_of-is group observations (sym e ∙ t), λ i. e ∙ is-ended_of group observations i)

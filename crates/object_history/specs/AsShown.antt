@@ -5,7 +5,8 @@ use Rattle.versioned_map.specs.Entries.{version_at}
 use Rattle.kube_model.specs.declared.event.Group.TheVariants as groups
 use Rattle.pool_config.specs.ConfigValue.{ConfigValue}
 use Rattle.object_history.specs.Observations.{Observation}
-use Rattle.object_history.specs.Kinds.{Resource, service_resource, pool_resource, l2_resource, bgp_resource, peer_resource, community_resource, namespace_resource, node_resource, slice_resource}
+use Rattle.object_history.specs.Kinds.{Resource, service_resource, pool_resource, l2_resource, bgp_resource, peer_resource}
+use Rattle.object_history.specs.Kinds.{community_resource, namespace_resource, node_resource, slice_resource}
 use Rattle.object_history.specs.LookBack.{version_last_shown, AreAsShown, IsSetAsShown, HasEnded, IsInForce}
 use Rattle.object_history.specs.Cache.{Cached, cached}
 

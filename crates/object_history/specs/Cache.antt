@@ -20,7 +20,8 @@ use Rattle.pool_config.specs.Compile.{compiled}
 use Rattle.pool_config.specs.Objects.{no_objects, set_shows}
 use Rattle.object_history.specs.Observations.{same_group, is_config_kind}
 pub use Rattle.object_history.specs.Observations.{Observation, Watched, WatchExpired, Written}
-use Rattle.object_history.specs.Kinds.{Resource, service_resource, pool_resource, l2_resource, bgp_resource, peer_resource, community_resource, namespace_resource, node_resource, slice_resource}
+use Rattle.object_history.specs.Kinds.{Resource, service_resource, pool_resource, l2_resource, bgp_resource, peer_resource}
+use Rattle.object_history.specs.Kinds.{community_resource, namespace_resource, node_resource, slice_resource}
 
 module _ {K T : Type 0} (resource : Resource K T) where
   -- an object of the kind is shown

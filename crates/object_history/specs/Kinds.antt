@@ -145,7 +145,13 @@ abbrev pub no_record : {K T : Type 0} → Key → Record → Option (K × (T →
 no_record key holding = None
 
 abbrev pub service_resource : Resource Key Service
-service_resource = record { cmp = key_cmp; group = group_of kinds.Service; shown = show_service; deleted = deletes kinds.Service; recorded = λ key holding. Some (key, with_holding holding) }
+service_resource = record {
+  cmp = key_cmp;
+  group = group_of kinds.Service;
+  shown = show_service;
+  deleted = deletes kinds.Service;
+  recorded = λ key holding. Some (key, with_holding holding);
+}
 
 abbrev pub pool_resource : Resource (List ℕ) Pool
 pool_resource = record { cmp = name_cmp; group = group_of kinds.Pool; shown = show_pool; deleted = deletes_named kinds.Pool; recorded = no_record }
@@ -160,10 +166,12 @@ abbrev pub peer_resource : Resource (List ℕ) BgpPeer
 peer_resource = record { cmp = name_cmp; group = group_of kinds.Peer; shown = show_peer; deleted = deletes_named kinds.Peer; recorded = no_record }
 
 abbrev pub community_resource : Resource (List ℕ) CommunityList
-community_resource = record { cmp = name_cmp; group = group_of kinds.Community; shown = show_community; deleted = deletes_named kinds.Community; recorded = no_record }
+community_resource =
+    record { cmp = name_cmp; group = group_of kinds.Community; shown = show_community; deleted = deletes_named kinds.Community; recorded = no_record }
 
 abbrev pub namespace_resource : Resource (List ℕ) Namespace
-namespace_resource = record { cmp = name_cmp; group = group_of kinds.Namespace; shown = show_namespace; deleted = deletes_named kinds.Namespace; recorded = no_record }
+namespace_resource =
+    record { cmp = name_cmp; group = group_of kinds.Namespace; shown = show_namespace; deleted = deletes_named kinds.Namespace; recorded = no_record }
 
 abbrev pub node_resource : Resource (List ℕ) Node
 node_resource = record { cmp = name_cmp; group = group_of kinds.Node; shown = show_node; deleted = deletes_named kinds.Node; recorded = no_record }

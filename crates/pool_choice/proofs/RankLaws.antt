@@ -1,5 +1,6 @@
 -- Ranks and pools are in order; a pool ranks ahead of another exactly where it stands before it.
-use Rattle.std.proofs.Common.{◌≡◌, ℕ, Bool, true, false, cond, eqb, List, Option, Some, None, Ordering, Less, Equal, Greater, ◌⊎◌, inl, inr, ⊎_elim, refl, sym, ap, ◌∙◌}
+use Rattle.std.proofs.Common.{◌≡◌, ℕ, Bool, true, false, cond, eqb, List, Option, Some, None, Ordering}
+use Rattle.std.proofs.Common.{Less, Equal, Greater, ◌⊎◌, inl, inr, ⊎_elim, refl, sym, ap, ◌∙◌}
 use Rattle.std.proofs.lemmas.Bool.{eqb-true, eqb-false}
 use Rattle.std.proofs.lemmas.Map.Lookups.{CmpEqualImpliesEq, exact_unsigned}
 use Rattle.std.specs.Cmp.{IsTotalOrder, on_total, then_total, nat_cmp_total}
@@ -16,7 +17,8 @@ use Rattle.pool_choice.specs.contracts.choice.EntryOrd.TheImpl as derived
 use Rattle.pool_choice.specs.Eligible.{IsSooner, IsNameBefore, StandsBy, StandsBefore, entry_cmp}
 use Rattle.pool_choice.specs.Rank.{rank_by, rank_of, rank_cmp, pool_cmp}
 
-entry_by : (r s : Rank) (m n : ℕ) → derived.cmp-value.it (record { rank = r; place = m }) (record { rank = s; place = n }) ≡ entry_cmp (record { rank = r; place = m }) (record { rank = s; place = n })
+entry_by : (r s : Rank) (m n : ℕ) → derived.cmp-value.it (record { rank = r; place = m }) (record { rank = s; place = n })
+    ≡ entry_cmp (record { rank = r; place = m }) (record { rank = s; place = n })
 entry_by (At p) (At q) m n = refl
 entry_by (At p) Last m n = refl
 entry_by (At p) Unallocated m n = refl
@@ -100,7 +102,8 @@ then-less Greater b e = absurd (cc)
 
 -- of two priorities, by whether each is 0
 sooner_by : (x y : Bool) (a b : CompiledAllocation) (p q : List ℕ) → eqb a.priority 0 ≡ x → eqb b.priority 0 ≡ y
-    → ordering_then (rank_cmp (cond x Last (At a.priority)) (cond y Last (At b.priority))) (name_cmp p q) ≡ Less → IsSooner a.priority b.priority ⊎ ((a.priority ≡ b.priority) × IsNameBefore p q)
+    → ordering_then (rank_cmp (cond x Last (At a.priority)) (cond y Last (At b.priority))) (name_cmp p q) ≡ Less → IsSooner a.priority b.priority
+    ⊎ ((a.priority ≡ b.priority) × IsNameBefore p q)
 sooner_by true true a b p q s t e = inr (eqb-true a.priority 0 s ∙ sym (eqb-true b.priority 0 t), e)
 sooner_by true false a b p q s t e = absurd (cc)
 sooner_by false true a b p q s t e = inl (eqb-false a.priority 0 s, inl (eqb-true b.priority 0 t))

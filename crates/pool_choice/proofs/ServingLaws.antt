@@ -20,20 +20,26 @@ matched-Decides selectors labels = (
   λ h. any-contains (λ selector. matches selector labels) selectors h.0 h.1 h.2,
 )
 
-namespace-Decides : (a : CompiledAllocation) (name : List ℕ) (labels : List (List ℕ × List ℕ)) → Decides (namespace_passes a name labels) (PassesNamespace a name labels)
+namespace-Decides : (a : CompiledAllocation) (name : List ℕ) (labels : List (List ℕ × List ℕ))
+    → Decides (namespace_passes a name labels) (PassesNamespace a name labels)
 namespace-Decides a name labels =
     Decides-or (is_nil a.namespaces && is_nil a.namespace_selectors) (has_text a.namespaces name || any_matches a.namespace_selectors labels)
     (Decides-and (is_nil a.namespaces) (is_nil a.namespace_selectors) (Decides-nil a.namespaces) (Decides-nil a.namespace_selectors))
-    (Decides-or (has_text a.namespaces name) (any_matches a.namespace_selectors labels) (has_text-Decides a.namespaces name) (matched-Decides a.namespace_selectors labels))
+    (Decides-or (has_text a.namespaces name) (any_matches a.namespace_selectors labels) (has_text-Decides a.namespaces name)
+    (matched-Decides a.namespace_selectors labels))
 
 service-Decides : (a : CompiledAllocation) (labels : List (List ℕ × List ℕ)) → Decides (service_passes a labels) (PassesService a labels)
 service-Decides a labels =
-    Decides-or (is_nil a.service_selectors) (any_matches a.service_selectors labels) (Decides-nil a.service_selectors) (matched-Decides a.service_selectors labels)
+    Decides-or (is_nil a.service_selectors) (any_matches a.service_selectors labels) (Decides-nil a.service_selectors)
+    (matched-Decides a.service_selectors labels)
 
-serves_by-Decides : (a : Option CompiledAllocation) (service : Service) (labels : List (List ℕ × List ℕ)) → Decides (serves_by a service labels) (ServesBy a service labels)
+serves_by-Decides : (a : Option CompiledAllocation) (service : Service) (labels : List (List ℕ × List ℕ))
+    → Decides (serves_by a service labels) (ServesBy a service labels)
 serves_by-Decides None service labels = (λ _. tt, λ _. refl)
 serves_by-Decides (Some a) service labels =
-    Decides-and (namespace_passes a service.key.namespace labels) (service_passes a service.labels) (namespace-Decides a service.key.namespace labels) (service-Decides a service.labels)
+    Decides-and (namespace_passes a service.key.namespace labels) (service_passes a service.labels) (namespace-Decides a service.key.namespace labels)
+    (service-Decides a service.labels)
 
-pub serves-Decides : (service : Service) (labels : List (List ℕ × List ℕ)) (pool : CompiledPool) → Decides (serves service labels pool) (Serves service labels pool)
+pub serves-Decides : (service : Service) (labels : List (List ℕ × List ℕ)) (pool : CompiledPool)
+    → Decides (serves service labels pool) (Serves service labels pool)
 serves-Decides service labels pool = serves_by-Decides pool.allocation service labels

@@ -1,5 +1,6 @@
 -- Lists that are sorted item by item: they have the same items, and ascend; and the one list of the items that ascends.
-use Rattle.std.proofs.Common.{◌≡◌, ◌≢◌, zero, suc, Bool, true, false, cond, get_or, List, [], ◌∷◌, Ordering, Less, Equal, Greater, All, AllPairs, Contains, IsPermutation, IsSorted, ◌⊎◌, inl, inr, ⊎_elim, refl, sym, ap, subst, ◌∙◌, arith}
+use Rattle.std.proofs.Common.{◌≡◌, ◌≢◌, zero, suc, Bool, true, false, cond, get_or, List, [], ◌∷◌, Ordering, Less, Equal, Greater, All}
+use Rattle.std.proofs.Common.{AllPairs, Contains, IsPermutation, IsSorted, ◌⊎◌, inl, inr, ⊎_elim, refl, sym, ap, subst, ◌∙◌, arith}
 use Rattle.std.proofs.lemmas.Bool.{true≢false}
 use Rattle.std.proofs.lemmas.List.Kept.{AllPairs-cons}
 use Rattle.std.proofs.lemmas.List.MinMax.{ranks_by}
@@ -70,7 +71,8 @@ module _ {X : Type 0} (R : X → X → Ordering) where
       less_by (R x y) x y o refl back (λ e. apart i j d lt within (exact x y e)))
 
   same-Decides : IsTotalOrder R → CmpEqualImpliesEq R → (x y : X) → Decides (is_eq (R x y)) (x ≡ y)
-  same-Decides o exact x y = (λ e. exact x y ((Equal-is (R x y)).0 e), λ same. (Equal-is (R x y)).1 (subst (λ z. R x z ≡ Equal) same (itself (R x x) (o.antisymm x x))))
+  same-Decides o exact x y =
+      (λ e. exact x y ((Equal-is (R x y)).0 e), λ same. (Equal-is (R x y)).1 (subst (λ z. R x z ≡ Equal) same (itself (R x x) (o.antisymm x x))))
     where
       itself : (r : Ordering) → r ≡ ordering_reverse r → r ≡ Equal
       itself Less e = absurd (cc)
@@ -85,10 +87,12 @@ module _ {X : Type 0} (R : X → X → Ordering) where
   apart-moved : IsTotalOrder R → CmpEqualImpliesEq R → (xs ys : List X) → IsPermutation xs ys → AllPairs (λ x y. x ≢ y) xs → AllPairs (λ x y. x ≢ y) ys
   apart-moved o exact xs ys moved apart =
       AllPairs-from_IsDistinct (same-Decides o exact) ys
-      (IsDistinct-IsPermutation (λ x y. is_eq (R x y)) (λ x y. flips (R x y) (R y x) (o.antisymm x y)) xs ys moved (IsDistinct-from_AllPairs (same-Decides o exact) xs apart))
+      (IsDistinct-IsPermutation (λ x y. is_eq (R x y)) (λ x y. flips (R x y) (R y x) (o.antisymm x y)) xs ys moved
+      (IsDistinct-from_AllPairs (same-Decides o exact) xs apart))
 
   -- two lists of the same items that ascend are one
-  pub ascend-only : IsTotalOrder R → (xs ys : List X) → IsStrictlySortedBy R xs → IsStrictlySortedBy R ys → ((z : X) → Contains xs z → Contains ys z) → ((z : X) → Contains ys z → Contains xs z) → xs ≡ ys
+  pub ascend-only : IsTotalOrder R → (xs ys : List X) → IsStrictlySortedBy R xs → IsStrictlySortedBy R ys → ((z : X) → Contains xs z → Contains ys z)
+      → ((z : X) → Contains ys z → Contains xs z) → xs ≡ ys
   unfolding IsStrictlySortedBy
   ascend-only o [] [] up up' to from = refl
   ascend-only o [] (y ∷ ys) up up' to from = absurd (contains-none y (from y (contains-first y ys)))
@@ -102,8 +106,10 @@ module _ {X : Type 0} (R : X → X → Ordering) where
       (contains-cons x xs y (from y (contains-first y ys))))
       (contains-cons y ys x (to x (contains-first x xs))) in
       let tails : xs ≡ ys = ascend-only o xs ys up.1 up'.1
-      (λ z there. ⊎_elim (λ first. absurd (not_below o z (subst (λ w. R w z ≡ Less) (heads ∙ first) (all-at (λ w. R x w ≡ Less) xs z up.0 there)))) (λ later. later) (contains-cons y ys z (to z (contains-later x xs z there))))
-      (λ z there. ⊎_elim (λ first. absurd (not_below o z (subst (λ w. R w z ≡ Less) (sym heads ∙ first) (all-at (λ w. R y w ≡ Less) ys z up'.0 there)))) (λ later. later) (contains-cons x xs z (from z (contains-later y ys z there)))) in
+      (λ z there. ⊎_elim (λ first. absurd (not_below o z (subst (λ w. R w z ≡ Less) (heads ∙ first) (all-at (λ w. R x w ≡ Less) xs z up.0 there))))
+      (λ later. later) (contains-cons y ys z (to z (contains-later x xs z there))))
+      (λ z there. ⊎_elim (λ first. absurd (not_below o z (subst (λ w. R w z ≡ Less) (sym heads ∙ first) (all-at (λ w. R y w ≡ Less) ys z up'.0 there))))
+      (λ later. later) (contains-cons x xs z (from z (contains-later y ys z there)))) in
       ap (λ (h : X). h ∷ xs) heads ∙ ap (λ (t : List X). y ∷ t) tails
     where
       not_both : IsTotalOrder R → (a b : X) → R a b ≡ Less → R b a ≡ Less → ⊥
@@ -147,14 +153,16 @@ module _ {X : Type 0} (R : X → X → Ordering) where
   pub sorted-found : (xs : List X) (z : X) → Contains (sorted R xs) z → Contains xs z
   sorted-found [] z there = there
   sorted-found (x ∷ xs) z there =
-      ⊎_elim (λ first. subst (Contains (x ∷ xs)) first (contains-first x xs)) (λ later. contains-later x xs z (sorted-found xs z later)) (placed-found x (sorted R xs) z there)
+      ⊎_elim (λ first. subst (Contains (x ∷ xs)) first (contains-first x xs)) (λ later. contains-later x xs z (sorted-found xs z later))
+      (placed-found x (sorted R xs) z there)
 
   pub sorted-has : (xs : List X) (z : X) → Contains xs z → Contains (sorted R xs) z
   sorted-has [] z there = there
   sorted-has (x ∷ xs) z there =
       placed-has x (sorted R xs) z (⊎_elim (λ first. inl first) (λ later. inr (sorted-has xs z later)) (contains-cons x xs z there))
 
-  all_by : (b : Bool) (P : X → Type 0) (x y : X) (ys : List X) → P x → AllByRecursion P (y ∷ ys) → AllByRecursion P (placed R x ys) → AllByRecursion P (cond b (x ∷ y ∷ ys) (y ∷ placed R x ys))
+  all_by : (b : Bool) (P : X → Type 0) (x y : X) (ys : List X) → P x → AllByRecursion P (y ∷ ys) → AllByRecursion P (placed R x ys)
+      → AllByRecursion P (cond b (x ∷ y ∷ ys) (y ∷ placed R x ys))
   all_by true P x y ys new all ih = (new, all)
   all_by false P x y ys new all ih = (all.0, ih)
 
@@ -166,7 +174,8 @@ module _ {X : Type 0} (R : X → X → Ordering) where
   all-sorted P [] all = tt
   all-sorted P (x ∷ xs) all = all-placed P x (sorted R xs) all.0 (all-sorted P xs all.1)
 
-  placed_by : (r : Ordering) (x y : X) (ys : List X) → IsTotalOrder R → R x y ≡ r → (r ≡ Equal → ⊥) → IsStrictlySortedBy R (y ∷ ys) → IsStrictlySortedBy R (placed R x ys)
+  placed_by : (r : Ordering) (x y : X) (ys : List X) → IsTotalOrder R → R x y ≡ r → (r ≡ Equal → ⊥) → IsStrictlySortedBy R (y ∷ ys)
+      → IsStrictlySortedBy R (placed R x ys)
       → IsStrictlySortedBy R (cond (is_lt r) (x ∷ y ∷ ys) (y ∷ placed R x ys))
   unfolding IsStrictlySortedBy
   placed_by Less x y ys o e apart up ih = ((e, all-map (λ z. R y z ≡ Less) (λ z. R x z ≡ Less) ys (λ z below. o.trans x y z e below) up.0), up)
@@ -175,7 +184,8 @@ module _ {X : Type 0} (R : X → X → Ordering) where
       let below : R y x ≡ Less = o.antisymm y x ∙ ap ordering_reverse e in
       (all-placed (λ z. R y z ≡ Less) x ys below up.0, ih)
 
-  placed-ascends : IsTotalOrder R → (x : X) (ys : List X) → AllByRecursion (λ y. R x y ≡ Equal → ⊥) ys → IsStrictlySortedBy R ys → IsStrictlySortedBy R (placed R x ys)
+  placed-ascends : IsTotalOrder R → (x : X) (ys : List X) → AllByRecursion (λ y. R x y ≡ Equal → ⊥) ys → IsStrictlySortedBy R ys
+      → IsStrictlySortedBy R (placed R x ys)
   unfolding IsStrictlySortedBy
   placed-ascends o x [] apart up = (tt, tt)
   placed-ascends o x (y ∷ ys) apart up = placed_by (R x y) x y ys o refl apart.0 up (placed-ascends o x ys apart.1 up.1)
@@ -192,7 +202,8 @@ module _ {X : Type 0} (R : X → X → Ordering) where
   sorted-ascends o (x ∷ xs) apart = placed-ascends o x (sorted R xs) (all-sorted (λ y. R x y ≡ Equal → ⊥) xs apart.0) (sorted-ascends o xs apart.1)
 
 -- what a sort makes of items that all differ is the sorted list
-pub sort-is : {X : Type 0} (R : X → X → Ordering) → IsTotalOrder R → CmpEqualImpliesEq R → (xs ys : List X) → AreApart R xs → IsPermutation xs ys → IsSorted R ys → ys ≡ sorted R xs
+pub sort-is : {X : Type 0} (R : X → X → Ordering) → IsTotalOrder R → CmpEqualImpliesEq R → (xs ys : List X) → AreApart R xs → IsPermutation xs ys
+    → IsSorted R ys → ys ≡ sorted R xs
 sort-is {X} R o exact xs ys apart moved up =
     let differ : AllPairs (λ x y. x ≢ y) xs = apart-differ xs apart in
     ascend-only R o ys (sorted R xs) (ascend-sorted R o exact ys up (apart-moved R o exact xs ys moved differ)) (sorted-ascends R o xs apart)
@@ -201,4 +212,5 @@ sort-is {X} R o exact xs ys apart moved up =
   where
     apart-differ : (zs : List X) → AreApart R zs → AllPairs (λ x y. x ≢ y) zs
     apart-differ [] all = λ i j d lt within. absurd (omega arith)
-    apart-differ (z ∷ zs) all = AllPairs-cons (λ x y. x ≢ y) z zs (all-places (λ y. z ≢ y) zs (all-map (λ y. R z y ≡ Equal → ⊥) (λ y. z ≢ y) zs (λ y tied same. tied ((Equal-is (R z y)).0 ((same-Decides R o exact z y).1 same))) all.0)) (apart-differ zs all.1)
+    apart-differ (z ∷ zs) all = AllPairs-cons (λ x y. x ≢ y) z zs (all-places (λ y. z ≢ y) zs (all-map (λ y. R z y ≡ Equal → ⊥) (λ y. z ≢ y) zs
+        (λ y tied same. tied ((Equal-is (R z y)).0 ((same-Decides R o exact z y).1 same))) all.0)) (apart-differ zs all.1)

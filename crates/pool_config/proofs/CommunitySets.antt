@@ -1,5 +1,6 @@
 -- The numbers and the large communities of an advertisement are exactly those that its texts stand for.
-use Rattle.std.proofs.Common.{◌≡◌, ℕ, Bool, true, false, cond, List, [], ◌∷◌, ◌++◌, ◌⊎◌, ◌↔◌, inl, inr, Ordering, IsTrue, codes, Option, Some, None, decimal, refl, sym, ap, ◌∙◌}
+use Rattle.std.proofs.Common.{◌≡◌, ℕ, Bool, true, false, cond, List, [], ◌∷◌, ◌++◌, ◌⊎◌, ◌↔◌, inl, inr}
+use Rattle.std.proofs.Common.{Ordering, IsTrue, codes, Option, Some, None, decimal, refl, sym, ap, ◌∙◌}
 use Rattle.std.proofs.lemmas.Bool.{false≢true, cases_Bool}
 use Rattle.std.proofs.lemmas.Map.Lookups.{CmpEqualImpliesEq, exact_pairs, exact_unsigned}
 use Rattle.std.specs.Cmp.{IsTotalOrder, nat_cmp_total, on_total, then_total}
@@ -33,7 +34,8 @@ large_colon : (text : List ℕ) (c : LargeCommunity) → IsLargeText text c → 
 large_colon text c is = ap has_colon is.spelled ∙ colon_within (codes "large") (decimal c.global ++ 58 ∷ (decimal c.first ++ 58 ∷ decimal c.second))
 
 -- what is read of the texts, whatever it is
-module _ {K : Type 0} {R : K → K → Ordering} (total : IsTotalOrder R) (tells : CmpEqualImpliesEq R) (read : List ℕ → Option K) (IsText : List ℕ → K → Type 0) (are_read : (text : List ℕ) (k : K) → (read text ≡ Some k) ↔ IsText text k) (colon : (text : List ℕ) (k : K) → IsText text k → has_colon text ≡ true) where
+module _ {K : Type 0} {R : K → K → Ordering} (total : IsTotalOrder R) (tells : CmpEqualImpliesEq R) (read : List ℕ → Option K) (IsText : List ℕ → K → Type 0)
+    (are_read : (text : List ℕ) (k : K) → (read text ≡ Some k) ↔ IsText text k) (colon : (text : List ℕ) (k : K) → IsText text k → has_colon text ≡ true) where
   abbrev found_in : List (List ℕ × CommunityList) → List ℕ → Option K
   found_in communities text = cond (has_colon text) (read text) (option_and_then read (named_value communities text))
 
@@ -59,7 +61,8 @@ module _ {K : Type 0} {R : K → K → Ordering} (total : IsTotalOrder R) (tells
     | inr none ↦ rw (none, is) ((are_read value k).1 one)
   ]
 
-  exactly : (communities : List (List ℕ × CommunityList)) (texts : List (List ℕ)) (k : K) → IsIn (keys_with R [] (filter_map (found_in communities) texts)) k ↔ Has (λ text. Stands communities text k) texts
+  exactly : (communities : List (List ℕ × CommunityList)) (texts : List (List ℕ)) (k : K)
+      → IsIn (keys_with R [] (filter_map (found_in communities) texts)) k ↔ Has (λ text. Stands communities text k) texts
   exactly communities texts k = (to, from)
     where
       found : List K
@@ -88,13 +91,17 @@ communities_are_read communities texts = record {
 
 -- ---- the order of large communities
 pub large_cmp-total : IsTotalOrder large_cmp
-large_cmp-total = then_total (on_total (λ (c : LargeCommunity). c.global) nat_cmp_total) (then_total (on_total (λ (c : LargeCommunity). c.first) nat_cmp_total) (on_total (λ (c : LargeCommunity). c.second) nat_cmp_total))
+large_cmp-total = then_total (on_total (λ (c : LargeCommunity). c.global) nat_cmp_total)
+    (then_total (on_total (λ (c : LargeCommunity). c.first) nat_cmp_total) (on_total (λ (c : LargeCommunity). c.second) nat_cmp_total))
 
 pub large_cmp-exact : CmpEqualImpliesEq large_cmp
 large_cmp-exact a b e =
     let at : ℕ × (ℕ × ℕ) → LargeCommunity = λ p. record { global = p.0; first = p.1.0; second = p.1.1 } in
     let Local : ℕ × ℕ → ℕ × ℕ → Ordering = λ x y. ordering_then (nat_cmp x.0 y.0) (nat_cmp x.1 y.1) in
-    ap at (exact_pairs nat_cmp Local exact_unsigned (exact_pairs nat_cmp nat_cmp exact_unsigned exact_unsigned) (a.global, (a.first, a.second)) (b.global, (b.first, b.second)) e)
+    ap at (exact_pairs nat_cmp Local exact_unsigned (exact_pairs nat_cmp nat_cmp exact_unsigned exact_unsigned) (a.global, (a.first, a.second)) (
+      b.global,
+      (b.first, b.second),
+    ) e)
 
 pub larges_are_read : (communities : List (List ℕ × CommunityList)) (texts : List (List ℕ)) → AreLargesOf communities texts (larges_in communities texts)
 larges_are_read communities texts = record {

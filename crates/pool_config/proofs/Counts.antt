@@ -1,5 +1,6 @@
 -- How many spans a span overlaps, told by where they begin and where they end.
-use Rattle.std.proofs.Common.{◌≡◌, ℕ, ◌+◌, ◌<◌, ◌≤◌, Bool, true, false, ◌||◌, cond, List, [], ◌∷◌, ◌++◌, zero, suc, length, ◌↔◌, IsTrue, inl, inr, refl, sym, ◌∙◌, ap, zero-add, arith}
+use Rattle.std.proofs.Common.{◌≡◌, ℕ, ◌+◌, ◌<◌, ◌≤◌, Bool, true, false, ◌||◌, cond, List, [], ◌∷◌, ◌++◌}
+use Rattle.std.proofs.Common.{zero, suc, length, ◌↔◌, IsTrue, inl, inr, refl, sym, ◌∙◌, ap, zero-add, arith}
 use Rattle.std.proofs.lemmas.Bool.{cases_lt, lt-leb, le-leb, lt-ltb, ltb-true, ltb-false, and_left}
 use Rattle.std.proofs.lemmas.List.Sorted.{sum_by-IsPermutation}
 use Rattle.std.proofs.lemmas.List.Sums.{sum_by-append}
@@ -43,24 +44,29 @@ one_counted s t rises rises' same = go (nat_lt t.high s.low) refl
         rw (same, yes) (sym (zero-add (cond (nat_le t.low s.high) 1 0)))
 
 counted : (s : SpanValue) → s.low ≤ s.high → (spans : List SpanValue) → AllByRecursion IsRange spans
-    → count_by (λ low. nat_le low s.high) (lows_in s.family spans) ≡ count_by (λ high. nat_lt high s.low) (highs_in s.family spans) + count_by (overlaps s) spans
+    → count_by (λ low. nat_le low s.high) (lows_in s.family spans)
+    ≡ count_by (λ high. nat_lt high s.low) (highs_in s.family spans) + count_by (overlaps s) spans
 counted s rises [] all = refl
 counted s rises (t ∷ ts) all = go (same_family t.family s.family) refl (counted s rises ts all.1)
   where
     go : (b : Bool) → same_family t.family s.family ≡ b
         → count_by (λ low. nat_le low s.high) (lows_in s.family ts) ≡ count_by (λ high. nat_lt high s.low) (highs_in s.family ts) + count_by (overlaps s) ts
-        → count_by (λ low. nat_le low s.high) (lows_in s.family (t ∷ ts)) ≡ count_by (λ high. nat_lt high s.low) (highs_in s.family (t ∷ ts)) + count_by (overlaps s) (t ∷ ts)
+        → count_by (λ low. nat_le low s.high) (lows_in s.family (t ∷ ts))
+        ≡ count_by (λ high. nat_lt high s.low) (highs_in s.family (t ∷ ts)) + count_by (overlaps s) (t ∷ ts)
     go true e rest =
-        let lows : count_by (λ low. nat_le low s.high) (lows_in s.family (t ∷ ts)) ≡ cond (nat_le t.low s.high) 1 0 + count_by (λ low. nat_le low s.high) (lows_in s.family ts) =
+        let lows : count_by (λ low. nat_le low s.high) (lows_in s.family (t ∷ ts))
+        ≡ cond (nat_le t.low s.high) 1 0 + count_by (λ low. nat_le low s.high) (lows_in s.family ts) =
         rw e (count-cons (λ low. nat_le low s.high) t.low (lows_in s.family ts)) in
-        let highs : count_by (λ high. nat_lt high s.low) (highs_in s.family (t ∷ ts)) ≡ cond (nat_lt t.high s.low) 1 0 + count_by (λ high. nat_lt high s.low) (highs_in s.family ts) =
+        let highs : count_by (λ high. nat_lt high s.low) (highs_in s.family (t ∷ ts))
+        ≡ cond (nat_lt t.high s.low) 1 0 + count_by (λ high. nat_lt high s.low) (highs_in s.family ts) =
         rw e (count-cons (λ high. nat_lt high s.low) t.high (highs_in s.family ts)) in
         let met = count-cons (overlaps s) t ts in
         let one = one_counted s t rises all.0.0 (same_sym s.family t.family ∙ e) in
         omega arith
     go false e rest =
         let lows : count_by (λ low. nat_le low s.high) (lows_in s.family (t ∷ ts)) ≡ count_by (λ low. nat_le low s.high) (lows_in s.family ts) = rw e refl in
-        let highs : count_by (λ high. nat_lt high s.low) (highs_in s.family (t ∷ ts)) ≡ count_by (λ high. nat_lt high s.low) (highs_in s.family ts) = rw e refl in
+        let highs : count_by (λ high. nat_lt high s.low) (highs_in s.family (t ∷ ts)) ≡ count_by (λ high. nat_lt high s.low) (highs_in s.family ts) =
+        rw e refl in
         let met = count_no (overlaps s) t ts (and_left _ _ (same_sym s.family t.family ∙ e)) in
         omega arith
 
@@ -76,10 +82,12 @@ overlaps-itself : (s : SpanValue) → s.low ≤ s.high → overlaps s s ≡ true
 overlaps-itself s rises = rw (same_family-itself s.family, le-leb s.low s.high rises) refl
 
 -- where a span overlaps no more than itself, it overlaps none behind it
-alone : (s : SpanValue) → s.low ≤ s.high → (before behind : List SpanValue) → count_by (overlaps s) (before ++ s ∷ behind) ≤ 1 → list_any (overlaps s) behind ≡ false
+alone : (s : SpanValue) → s.low ≤ s.high → (before behind : List SpanValue) → count_by (overlaps s) (before ++ s ∷ behind) ≤ 1
+    → list_any (overlaps s) behind ≡ false
 alone s rises before behind few =
     let one : SpanValue → ℕ = λ t. cond (overlaps s t) 1 0 in
-    let all : count_by (overlaps s) (before ++ s ∷ behind) ≡ count_by (overlaps s) before + count_by (overlaps s) (s ∷ behind) = sum_by-append one before (s ∷ behind) in
+    let all : count_by (overlaps s) (before ++ s ∷ behind) ≡ count_by (overlaps s) before + count_by (overlaps s) (s ∷ behind) =
+    sum_by-append one before (s ∷ behind) in
     let here = count_yes (overlaps s) s behind (overlaps-itself s rises) in
     none_counted (overlaps s) behind (omega arith)
 
@@ -114,10 +122,12 @@ pub point_counts : (p : ℕ → Bool) (xs : List ℕ) (i : ℕ) → i ≤ length
 point_counts p [] i within point = omega arith
 point_counts p (x ∷ xs) zero within point =
     let all = count_no p x xs (point.1 0 0 (omega arith) (omega arith)) in
-    let rest : 0 ≡ count_by p xs = point_counts p xs 0 (omega arith) (λ k d from below. absurd (omega arith), λ k d from below. point.1 (suc k) d (omega arith) (omega arith)) in
+    let rest : 0 ≡ count_by p xs =
+    point_counts p xs 0 (omega arith) (λ k d from below. absurd (omega arith), λ k d from below. point.1 (suc k) d (omega arith) (omega arith)) in
     rest ∙ sym all
 point_counts p (x ∷ xs) (suc i) within point =
     let all = count_yes p x xs (point.0 0 0 (omega arith) (omega arith)) in
     let rest : i ≡ count_by p xs =
-    point_counts p xs i (omega arith) (λ k d from below. point.0 (suc k) d (omega arith) (omega arith), λ k d from below. point.1 (suc k) d (omega arith) (omega arith)) in
+    point_counts p xs i (omega arith)
+    (λ k d from below. point.0 (suc k) d (omega arith) (omega arith), λ k d from below. point.1 (suc k) d (omega arith) (omega arith)) in
     omega arith

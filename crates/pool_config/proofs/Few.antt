@@ -1,5 +1,6 @@
 -- What is compiled has few communities, since its advertisements have few distinct texts for them.
-use Rattle.std.proofs.Common.{◌≡◌, ℕ, zero, suc, ◌<◌, ◌≤◌, Bool, true, false, ◌&&◌, ◌||◌, cond, inl, inr, Ordering, List, [], ◌∷◌, length, map, Option, Some, None, Ok, refl, sym, ap, ◌∙◌, subst, arith}
+use Rattle.std.proofs.Common.{◌≡◌, ℕ, zero, suc, ◌<◌, ◌≤◌, Bool, true, false, ◌&&◌, ◌||◌, cond, inl, inr, Ordering}
+use Rattle.std.proofs.Common.{List, [], ◌∷◌, length, map, Option, Some, None, Ok, refl, sym, ap, ◌∙◌, subst, arith}
 use Rattle.std.proofs.lemmas.Bool.{cases_lt, or_left, or_right}
 use Rattle.std.proofs.lemmas.List.Elements.{All-from_recursion}
 use Rattle.std.proofs.lemmas.Map.Lookups.{CmpEqualImpliesEq, exact_unsigned}
@@ -19,7 +20,8 @@ use Rattle.pool_config.specs.declared.compiled.CompiledBgp.{CompiledBgp}
 use Rattle.pool_config.specs.declared.object_set.ObjectSet.{ObjectSet}
 use Rattle.pool_config.specs.Compile.{compiled}
 use Rattle.pool_config.specs.ConfigValue.{ConfigValue, HasValue, HasAtMost, HasFewCommunities}
-use Rattle.pool_config.specs.Faults.{ManyTexts, ManyLarge, Differ, HasText, HaveMore, FaultyItem, HasNoFault, key_of, is_large_name, counts_as_large, with_large, all_with_large}
+use Rattle.pool_config.specs.Faults.{ManyTexts, ManyLarge, Differ, HasText, HaveMore, FaultyItem, HasNoFault}
+use Rattle.pool_config.specs.Faults.{key_of, is_large_name, counts_as_large, with_large, all_with_large}
 use Rattle.pool_config.specs.KeySets.{keys_with}
 use Rattle.pool_config.specs.Large.{begins_large, large_of, words_of}
 use Rattle.pool_config.specs.Lists.{named_value, number_in, large_in, compiled_bgp, lists_of}
@@ -43,10 +45,15 @@ last-of x (y ∷ xs) = last-of y xs
 -- an advertisement has the text where another at its place is counted
 abbrev IsCounted : {K : Type 0} → (List ℕ → Option K) → List (List ℕ × BgpAdv) → ℕ → List ℕ × BgpAdv → Type 0
 IsCounted {K} read counted place adv =
-    (other : List ℕ × BgpAdv) × ItemAt counted place other × ((text : List ℕ) (k : K) → IsIn adv.1.communities text → read text ≡ Some k → IsIn other.1.communities text)
+    (other : List ℕ × BgpAdv) × ItemAt counted place other
+    × ((text : List ℕ) (k : K) → IsIn adv.1.communities text → read text ≡ Some k → IsIn other.1.communities text)
 
 -- the values that are read of texts, whatever they are, where the texts of counted advertisements are at most so many
-module _ {K : Type 0} {R : K → K → Ordering} (total : IsTotalOrder R) (tells : CmpEqualImpliesEq R) (o : Objects) (read : List ℕ → Option K) (values : CompiledBgp → List K) (made : (adv : List ℕ × BgpAdv) → values (compiled_bgp o.communities adv) ≡ keys_with R [] (filter_map read adv.1.communities)) (counted : List (List ℕ × BgpAdv)) (are_counted : (place : ℕ) (adv : List ℕ × BgpAdv) → ItemAt o.bgps place adv → IsCounted read counted place adv) (limit : ℕ) (none : (i j : ℕ) (name : List ℕ) → ¬ FaultyItem key_of (λ _. HaveMore limit counted (suc i)) counted i j name) where
+module _ {K : Type 0}
+    {R : K → K → Ordering} (total : IsTotalOrder R) (tells : CmpEqualImpliesEq R) (o : Objects) (read : List ℕ → Option K) (values : CompiledBgp → List K)
+    (made : (adv : List ℕ × BgpAdv) → values (compiled_bgp o.communities adv) ≡ keys_with R [] (filter_map read adv.1.communities))
+    (counted : List (List ℕ × BgpAdv)) (are_counted : (place : ℕ) (adv : List ℕ × BgpAdv) → ItemAt o.bgps place adv → IsCounted read counted place adv)
+    (limit : ℕ) (none : (i j : ℕ) (name : List ℕ) → ¬ FaultyItem key_of (λ _. HaveMore limit counted (suc i)) counted i j name) where
   -- A counted text that stands for the value.
   record TextOf (k : K) : Type 0 where
     place : ℕ
@@ -110,7 +117,8 @@ module _ {K : Type 0} {R : K → K → Ordering} (total : IsTotalOrder R) (tells
     differ ks all.1 sorted.1,
   )
 
-  have-texts : (count : ℕ) → length counted ≡ count → (ks : List K) (all : AllByRecursion (HasValue values (lists_of o)) ks) → AllByRecursion (HasText counted count) (texts-of ks all)
+  have-texts : (count : ℕ) → length counted ≡ count → (ks : List K) (all : AllByRecursion (HasValue values (lists_of o)) ks)
+      → AllByRecursion (HasText counted count) (texts-of ks all)
   unfolding texts-of
   have-texts count is [] all = tt
   have-texts count is (k ∷ ks) all =
@@ -118,7 +126,8 @@ module _ {K : Type 0} {R : K → K → Ordering} (total : IsTotalOrder R) (tells
       let bound = item_bound counted by.place by.adv by.there in
       ((by.place, by.adv, omega arith, by.there, by.among), have-texts count is ks all.1)
 
-  too-many : (bgps : List (List ℕ × BgpAdv)) → counted ≡ bgps → (texts : List (List ℕ)) → Differ texts → AllByRecursion (HasText counted (length bgps)) texts → limit < length texts → ⊥
+  too-many : (bgps : List (List ℕ × BgpAdv)) → counted ≡ bgps → (texts : List (List ℕ)) → Differ texts → AllByRecursion (HasText counted (length bgps)) texts
+      → limit < length texts → ⊥
   too-many [] is [] apart all large = absurd (omega arith)
   too-many [] is (text ∷ texts) apart all large = let (place, adv, below, there, among) = all.0 in absurd (omega arith)
   too-many (adv ∷ bgps) is texts apart all large =
@@ -134,12 +143,14 @@ module _ {K : Type 0} {R : K → K → Ordering} (total : IsTotalOrder R) (tells
 
   values-few : (ks : List K) → IsStrictlySortedBy R ks → AllByRecursion (HasValue values (lists_of o)) ks → length ks ≤ limit
   values-few ks sorted all = elim (cases_lt limit (length ks)) [
-    | inl large ↦ absurd (too-many counted refl (texts-of ks all) (differ ks all sorted) (have-texts (length counted) refl ks all) (subst (λ (k : ℕ). limit < k) (sym (as-many ks all)) large))
+    | inl large ↦ absurd (too-many counted refl (texts-of ks all) (differ ks all sorted) (have-texts (length counted) refl ks all)
+        (subst (λ (k : ℕ). limit < k) (sym (as-many ks all)) large))
     | inr small ↦ small
   ]
 
   -- those of each advertisement ascend
-  compiled-ascend : (bgps : List (List ℕ × BgpAdv)) → AllByRecursion (λ (adv : CompiledBgp). IsStrictlySortedBy R (values adv)) (map (compiled_bgp o.communities) bgps)
+  compiled-ascend : (bgps : List (List ℕ × BgpAdv))
+      → AllByRecursion (λ (adv : CompiledBgp). IsStrictlySortedBy R (values adv)) (map (compiled_bgp o.communities) bgps)
   compiled-ascend [] = tt
   compiled-ascend (adv ∷ bgps) =
       (subst (IsStrictlySortedBy R) (sym (made adv)) (ascending-keys_with total tells [] (filter_map read adv.1.communities) (no_keys R)), compiled-ascend bgps)
@@ -177,13 +188,16 @@ name-large text value begins (c ∷ more) found = go (lookup (λ n. bytes_eq n t
     go (Some v) here later found = or_left _ (is_large_name more text) (values-large text value begins c.1.values (here ∙ found))
     go None here later found = or_right _ (is_large_name more text) (later found)
 
-text-large : (communities : List (List ℕ × CommunityList)) (text : List ℕ) (c : LargeCommunity) → large_in communities text ≡ Some c → counts_as_large communities text ≡ true
+text-large : (communities : List (List ℕ × CommunityList)) (text : List ℕ) (c : LargeCommunity) → large_in communities text ≡ Some c
+    → counts_as_large communities text ≡ true
 text-large communities text c e = go (has_colon text) (named_value communities text) refl e
   where
-    go : (b : Bool) (o : Option (List ℕ)) → named_value communities text ≡ o → cond b (large_of text) (option_and_then large_of o) ≡ Some c → counts_as_large communities text ≡ true
+    go : (b : Bool) (o : Option (List ℕ)) → named_value communities text ≡ o → cond b (large_of text) (option_and_then large_of o) ≡ Some c
+        → counts_as_large communities text ≡ true
     go true o is found = or_left (begins_large text) (is_large_name communities text) (large-begins text c found)
     go false None is found = absurd (let h : None ≡ Some c = found in cc)
-    go false (Some value) is found = or_right (begins_large text) (is_large_name communities text) (name-large text value (large-begins value c found) communities is)
+    go false (Some value) is found =
+        or_right (begins_large text) (is_large_name communities text) (name-large text value (large-begins value c found) communities is)
 
 large-counted : (communities : List (List ℕ × CommunityList)) (bgps : List (List ℕ × BgpAdv)) (place : ℕ) (adv : List ℕ × BgpAdv) → ItemAt bgps place adv
     → IsCounted (large_in communities) (map (with_large communities) bgps) place adv
@@ -199,8 +213,10 @@ large-counted communities (first ∷ bgps) (suc place) adv there = large-counted
 -- ---- both
 all-few : (o : Objects) → HasNoFault o → HasFewCommunities (lists_of o)
 all-few o none = record {
-  numbers = lists-few nat_cmp_total exact_unsigned o (number_in o.communities) (λ adv. adv.communities) (λ adv. refl) o.bgps (λ place adv there. (adv, there, λ text n among found. among)) 512 (none ManyTexts);
-  large = lists-few large_cmp-total large_cmp-exact o (large_in o.communities) (λ adv. adv.large) (λ adv. refl) (all_with_large o) (large-counted o.communities o.bgps) 128 (none ManyLarge);
+  numbers = lists-few nat_cmp_total exact_unsigned o (number_in o.communities) (λ adv. adv.communities) (λ adv. refl) o.bgps
+      (λ place adv there. (adv, there, λ text n among found. among)) 512 (none ManyTexts);
+  large = lists-few large_cmp-total large_cmp-exact o (large_in o.communities) (λ adv. adv.large) (λ adv. refl) (all_with_large o)
+      (large-counted o.communities o.bgps) 128 (none ManyLarge);
 }
 
 pub compiled-few : (s : ObjectSet) (c : ConfigValue) → compiled s ≡ Ok c → HasFewCommunities c

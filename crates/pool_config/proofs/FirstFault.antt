@@ -1,5 +1,6 @@
 -- What the objects are compiled to is the first fault, or else the lists.
-use Rattle.std.proofs.Common.{◌≡◌, ℕ, List, [], ◌∷◌, ◌++◌, inl, inr, All, Option, Some, None, Result, Ok, Err, IfOk, IfErr, ◌↔◌, refl, sym, ◌∙◌, ap, subst, arith}
+use Rattle.std.proofs.Common.{◌≡◌, ℕ, List, [], ◌∷◌, ◌++◌, inl, inr, All, Option, Some, None, Result, Ok}
+use Rattle.std.proofs.Common.{Err, IfOk, IfErr, ◌↔◌, refl, sym, ◌∙◌, ap, subst, arith}
 use Rattle.std.proofs.lemmas.Bool.{cases_order}
 use Rattle.std.proofs.lemmas.List.Elements.{All-nil, All-cons, All-head, All-tail}
 use Rattle.std.specs.Option.{option_map, option_or, MatchOption}
@@ -9,7 +10,9 @@ use Rattle.pool_config.specs.declared.compile_objects.CompileFault.{CompileFault
 use Rattle.pool_config.specs.declared.compile_objects.CompileFault.TheVariants.{Refused}
 use Rattle.pool_config.specs.Compile.{compiled, compiled_unless}
 use Rattle.pool_config.specs.ConfigValue.{ConfigValue}
-use Rattle.pool_config.specs.Faults.{Row, ManyPools, ManyEntries, ManyTexts, ManyLarge, BadEntry, NoEntry, Overlap, PoolSelector, L2Selector, BgpSelector, PeerSelector, Aggregation, PrefClash, UnknownCommunity, BadValue, BadText, TwiceNamed, UnknownPeer, rows, fault_at, FaultAt, FaultyItem, FaultyPair, IsFirstOf, IsFirstFault, NoFaultAt, HasNoFault}
+use Rattle.pool_config.specs.Faults.{Row, ManyPools, ManyEntries, ManyTexts, ManyLarge, BadEntry, NoEntry, Overlap, PoolSelector, L2Selector}
+use Rattle.pool_config.specs.Faults.{BgpSelector, PeerSelector, Aggregation, PrefClash, UnknownCommunity, BadValue, BadText, TwiceNamed}
+use Rattle.pool_config.specs.Faults.{UnknownPeer, rows, fault_at, FaultAt, FaultyItem, FaultyPair, IsFirstOf, IsFirstFault, NoFaultAt, HasNoFault}
 use Rattle.pool_config.specs.Lists.{lists_of}
 use Rattle.pool_config.specs.Objects.{Objects, objects_of}
 use Rattle.pool_config.specs.Search.{found_at, found_among, first_fault}
@@ -35,8 +38,10 @@ among : (o : Objects) (all : List Row) → Among o all (found_among o all)
 among o [] = All-nil (NoFaultAt o)
 among o (row ∷ more) = go (found_at o row) (finds o row) (found_among o more) (among o more)
   where
-    go : (r : Option (List ℕ)) → Finds (FaultAt o row) r → (rest : Option ConfigFault) → Among o more rest → Among o (row ∷ more) (option_or (option_map (fault_at row) r) rest)
-    go (Some name) found rest later = record { earlier = []; row = row; later = more; name = name; order = refl; none = All-nil (NoFaultAt o); here = found; is = refl }
+    go : (r : Option (List ℕ)) → Finds (FaultAt o row) r → (rest : Option ConfigFault) → Among o more rest
+        → Among o (row ∷ more) (option_or (option_map (fault_at row) r) rest)
+    go (Some name) found rest later =
+        record { earlier = []; row = row; later = more; name = name; order = refl; none = All-nil (NoFaultAt o); here = found; is = refl }
     go None found None later = All-cons (NoFaultAt o) row more found later
     go None found (Some fault) later = record {
       earlier = row ∷ later.earlier;
@@ -82,10 +87,12 @@ settled o = go (found_among o rows) (among o rows)
     go (Some fault) f = record { earlier = f.earlier; row = f.row; later = f.later; name = f.name; order = f.order; none = f.none; here = f.here; is = f.is }
 
 -- a fault at its places names one object
-item_names : {A : Type 0} (name_of : A → List ℕ) (P Q : A → Type 0) (xs : List A) (i j : ℕ) (m n : List ℕ) → FaultyItem name_of P xs i j m → FaultyItem name_of Q xs i j n → m ≡ n
+item_names : {A : Type 0} (name_of : A → List ℕ) (P Q : A → Type 0) (xs : List A) (i j : ℕ) (m n : List ℕ) → FaultyItem name_of P xs i j m
+    → FaultyItem name_of Q xs i j n → m ≡ n
 item_names name_of P Q xs i j m n h k = h.named ∙ ap name_of (same_item xs i h.item k.item h.stands k.stands) ∙ sym k.named
 
-pair_names : {A : Type 0} (name_of : A → List ℕ) (R : A → A → Type 0) (xs : List A) (i j : ℕ) (m n : List ℕ) → FaultyPair name_of R xs i j m → FaultyPair name_of R xs i j n → m ≡ n
+pair_names : {A : Type 0} (name_of : A → List ℕ) (R : A → A → Type 0) (xs : List A) (i j : ℕ) (m n : List ℕ) → FaultyPair name_of R xs i j m
+    → FaultyPair name_of R xs i j n → m ≡ n
 pair_names name_of R xs i j m n h k = h.named ∙ ap name_of (same_item xs j h.other k.other h.other_stands k.other_stands) ∙ sym k.named
 
 names : (o : Objects) (row : Row) (i j : ℕ) (m n : List ℕ) → FaultAt o row i j m → FaultAt o row i j n → m ≡ n
@@ -154,7 +161,8 @@ pub refused_is : (s : ObjectSet) (fault : ConfigFault) → (compiled s ≡ Err f
 refused_is s fault = go (first_fault (objects_of s)) (settled (objects_of s))
   where
     go : (r : Option ConfigFault) → Settled (objects_of s) r → (compiled_unless r (lists_of (objects_of s)) ≡ Err fault) ↔ IsFirstFault (objects_of s) fault
-    go None none = (λ e. absurd (let h : Ok (lists_of (objects_of s)) ≡ Err fault = e in cc), λ f. absurd (none f.row f.here.first f.here.second f.name f.here.here))
+    go None none =
+        (λ e. absurd (let h : Ok (lists_of (objects_of s)) ≡ Err fault = e in cc), λ f. absurd (none f.row f.here.first f.here.second f.name f.here.here))
     go (Some found) first = (
       λ e. let same : found ≡ fault = cc in let P : ConfigFault → Type 0 = IsFirstFault (objects_of s) in subst P same first,
       λ f. ap (λ x. Err x) (one_fault (objects_of s) found fault first f),
@@ -163,7 +171,8 @@ refused_is s fault = go (first_fault (objects_of s)) (settled (objects_of s))
 pub accepted_is : (s : ObjectSet) (config : ConfigValue) → (compiled s ≡ Ok config) ↔ (HasNoFault (objects_of s) × (config ≡ lists_of (objects_of s)))
 accepted_is s config = go (first_fault (objects_of s)) (settled (objects_of s))
   where
-    go : (r : Option ConfigFault) → Settled (objects_of s) r → (compiled_unless r (lists_of (objects_of s)) ≡ Ok config) ↔ (HasNoFault (objects_of s) × (config ≡ lists_of (objects_of s)))
+    go : (r : Option ConfigFault) → Settled (objects_of s) r
+        → (compiled_unless r (lists_of (objects_of s)) ≡ Ok config) ↔ (HasNoFault (objects_of s) × (config ≡ lists_of (objects_of s)))
     go None none = (
       λ e. let same : lists_of (objects_of s) ≡ config = cc in (none, sym same),
       λ h. ap (λ x. Ok x) (sym h.1),

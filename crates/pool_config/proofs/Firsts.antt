@@ -71,7 +71,8 @@ first_name-is : {T : Type 0} (p : T → Bool) (xs : List (List ℕ × T)) → op
 first_name-is p [] = refl
 first_name-is {T} p (e ∷ es) = go (p e.1) (first_name-is p es)
   where
-    go : (b : Bool) → option_map key_of (find (λ x. p x.1) es) ≡ first_name p es → option_map key_of (cond b (Some e) (find (λ x. p x.1) es)) ≡ cond b (Some e.0) (first_name p es)
+    go : (b : Bool) → option_map key_of (find (λ x. p x.1) es) ≡ first_name p es
+        → option_map key_of (cond b (Some e) (find (λ x. p x.1) es)) ≡ cond b (Some e.0) (first_name p es)
     go true rest = refl
     go false rest = rest
 
@@ -90,7 +91,15 @@ more_none name_of r R each a more e rest zero (suc j) name h =
     not_from_Decides (r a h.other) (each a h.other) (find_none (r a) more e j h.other h.other_stands) (rw same h.faulty)
 more_none name_of r R each a more e rest (suc i) zero name h = let ordered = h.ordered in omega arith
 more_none name_of r R each a more e rest (suc i) (suc j) name h =
-    rest i j name (record { one = h.one; other = h.other; ordered = (let ordered = h.ordered in omega arith); one_stands = h.one_stands; other_stands = h.other_stands; faulty = h.faulty; named = h.named })
+    rest i j name (record {
+      one = h.one;
+      other = h.other;
+      ordered = (let ordered = h.ordered in omega arith);
+      one_stands = h.one_stands;
+      other_stands = h.other_stands;
+      faulty = h.faulty;
+      named = h.named;
+    })
 
 more_some : {A : Type 0} (name_of : A → List ℕ) (r : A → A → Bool) (R : A → A → Type 0) → ((x y : A) → Decides (r x y) (R x y)) → (a : A) (more : List A)
     → find (r a) more ≡ None → (name : List ℕ) → IsFirstOf (FaultyPair name_of R more) name → IsFirstOf (FaultyPair name_of R (a ∷ more)) name
@@ -99,7 +108,15 @@ more_some {A} name_of r R each a more e name f =
     record {
       first = suc f.first;
       second = suc f.second;
-      here = record { one = h.one; other = h.other; ordered = (let ordered = h.ordered in omega arith); one_stands = h.one_stands; other_stands = h.other_stands; faulty = h.faulty; named = h.named };
+      here = record {
+        one = h.one;
+        other = h.other;
+        ordered = (let ordered = h.ordered in omega arith);
+        one_stands = h.one_stands;
+        other_stands = h.other_stands;
+        faulty = h.faulty;
+        named = h.named;
+      };
       least = least;
     }
   where
@@ -111,14 +128,23 @@ more_some {A} name_of r R each a more e name f =
     least (suc i) zero other h before = let ordered = h.ordered in omega arith
     least (suc i) (suc j) other h before =
         f.least i j other
-        (record { one = h.one; other = h.other; ordered = (let ordered = h.ordered in omega arith); one_stands = h.one_stands; other_stands = h.other_stands; faulty = h.faulty; named = h.named })
+        (record {
+          one = h.one;
+          other = h.other;
+          ordered = (let ordered = h.ordered in omega arith);
+          one_stands = h.one_stands;
+          other_stands = h.other_stands;
+          faulty = h.faulty;
+          named = h.named;
+        })
         (lower before)
       where
         lower : IsBefore (suc i) (suc j) (suc f.first) (suc f.second) → IsBefore i j f.first f.second
         lower (inl below) = inl (omega arith)
         lower (inr tied) = inr (omega arith, omega arith)
 
-here_some : {A : Type 0} (name_of : A → List ℕ) (r : A → A → Bool) (R : A → A → Type 0) → ((x y : A) → Decides (r x y) (R x y)) → (a : A) (more : List A) (b : A)
+here_some : {A : Type 0} (name_of : A → List ℕ) (r : A → A → Bool) (R : A → A → Type 0) → ((x y : A) → Decides (r x y) (R x y))
+    → (a : A) (more : List A) (b : A)
     → FoundAt (r a) more b → IsFirstOf (FaultyPair name_of R (a ∷ more)) (name_of b)
 here_some {A} name_of r R each a more b f =
     record {

@@ -1,5 +1,6 @@
 -- The items of lists, by their places, and lists some item of which is so.
-use Rattle.std.proofs.Common.{◌≡◌, ℕ, zero, suc, Bool, true, false, cond, filter, List, [], ◌∷◌, ◌++◌, ◌<◌, inl, inr, length, arith, Option, Some, None, refl, sym, ◌∙◌, ap, subst}
+use Rattle.std.proofs.Common.{◌≡◌, ℕ, zero, suc, Bool, true, false, cond, filter, List, [], ◌∷◌, ◌++◌, ◌<◌}
+use Rattle.std.proofs.Common.{inl, inr, length, arith, Option, Some, None, refl, sym, ◌∙◌, ap, subst}
 use Rattle.std.proofs.lemmas.Bool.{false≢true}
 use Rattle.std.specs.List.{filter_map, cons_option}
 use Rattle.mlb_base.specs.Items.{ItemAt, Has, IsIn}
@@ -43,7 +44,8 @@ pub in_filter_map : {X Y : Type 0} (f : X → Option Y) (xs : List X) (y : Y) �
 in_filter_map f [] y h = absurd h
 in_filter_map {X} {Y} f (x ∷ xs) y h = go (f x) refl (in_filter_map f xs y) h
   where
-    go : (r : Option Y) → f x ≡ r → (IsIn (filter_map f xs) y → Has (λ z. f z ≡ Some y) xs) → IsIn (cons_option r (filter_map f xs)) y → Has (λ z. f z ≡ Some y) (x ∷ xs)
+    go : (r : Option Y) → f x ≡ r → (IsIn (filter_map f xs) y → Has (λ z. f z ≡ Some y) xs) → IsIn (cons_option r (filter_map f xs)) y
+        → Has (λ z. f z ≡ Some y) (x ∷ xs)
     go None e rest inside = inr (rest inside)
     go (Some z) e rest (inl here) = inl (e ∙ ap (λ w. Some w) here)
     go (Some z) e rest (inr later) = inr (rest later)
@@ -52,7 +54,8 @@ pub filter_map_in : {X Y : Type 0} (f : X → Option Y) (xs : List X) (y : Y) �
 filter_map_in f [] y h = absurd h
 filter_map_in {X} {Y} f (x ∷ xs) y h = go (f x) refl (filter_map_in f xs y) h
   where
-    go : (r : Option Y) → f x ≡ r → (Has (λ z. f z ≡ Some y) xs → IsIn (filter_map f xs) y) → Has (λ z. f z ≡ Some y) (x ∷ xs) → IsIn (cons_option r (filter_map f xs)) y
+    go : (r : Option Y) → f x ≡ r → (Has (λ z. f z ≡ Some y) xs → IsIn (filter_map f xs) y) → Has (λ z. f z ≡ Some y) (x ∷ xs)
+        → IsIn (cons_option r (filter_map f xs)) y
     go None e rest (inl here) = absurd (let h : None ≡ Some y = sym e ∙ here in cc)
     go None e rest (inr later) = rest later
     go (Some z) e rest (inl here) = let whole : Some z ≡ Some y = sym e ∙ here in inl cc

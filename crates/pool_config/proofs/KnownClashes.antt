@@ -1,5 +1,6 @@
 -- An advertisement that clashes with another one is known to.
-use Rattle.std.proofs.Common.{◌≡◌, ℕ, zero, suc, ◌+◌, ◌<◌, ◌≤◌, Bool, true, false, ◌&&◌, ◌==◌, not, cond, List, [], ◌∷◌, ◌++◌, inl, inr, map, find, length, get_or, Option, Some, None, Ordering, Less, Equal, Greater, refl, sym, ◌∙◌, ap, subst, arith}
+use Rattle.std.proofs.Common.{◌≡◌, ℕ, zero, suc, ◌+◌, ◌<◌, ◌≤◌, Bool, true, false, ◌&&◌, ◌==◌, not, cond, List, [], ◌∷◌, ◌++◌, inl, inr, map}
+use Rattle.std.proofs.Common.{find, length, get_or, Option, Some, None, Ordering, Less, Equal, Greater, refl, sym, ◌∙◌, ap, subst, arith}
 use Rattle.std.proofs.lemmas.Bool.{or_parts, cases_Bool, cases_lt, true≢false, false≢true, eqb-true, eq-eqb}
 use Rattle.std.proofs.lemmas.Map.Lookups.{exact_unsigned}
 use Rattle.std.specs.BTreeMap.{BTreeMap, get, is_at, UpdatesBy}
@@ -16,7 +17,8 @@ use Rattle.pool_config.specs.declared.preferences.Preferences.{Preferences}
 use Rattle.pool_config.specs.declared.preferences.PoolPreferences.{PoolPreferences}
 use Rattle.pool_config.specs.Faults.{length_for}
 use Rattle.pool_config.specs.Search.{chooses_pool, clash, first_pair, has_equal_length}
-use Rattle.pool_config.specs.Preferences.{joined, IsKnownAs, Knows, is_several, are_several, KnowsEach, KnowsPool, Notes, of_family, clashes_at, clashes_anywhere}
+use Rattle.pool_config.specs.Preferences.{joined, IsKnownAs, Knows, is_several, are_several, KnowsEach}
+use Rattle.pool_config.specs.Preferences.{KnowsPool, Notes, of_family, clashes_at, clashes_anywhere}
 use Rattle.pool_config.proofs.ItemLaws.{item_bound}
 use Rattle.pool_config.specs.Clashing.{clashing_from, first_clashing}
 
@@ -37,7 +39,8 @@ joined-keeps (Some (Some known)) preference p is = go (known == preference) refl
   go true same = let one : known ≡ preference = eqb-true known preference same in omega arith
   go false other = tt
 
-pub kept-known : (old new : BTreeMap ℕ (Option ℕ)) (length preference : ℕ) → UpdatesBy nat_cmp (nat_cmp length) old new (Some (joined (get nat_cmp old length) preference))
+pub kept-known : (old new : BTreeMap ℕ (Option ℕ)) (length preference : ℕ)
+    → UpdatesBy nat_cmp (nat_cmp length) old new (Some (joined (get nat_cmp old length) preference))
     → (l p : ℕ) → IsKnownAs (get nat_cmp old l) p → IsKnownAs (get nat_cmp new l) p
 kept-known old new length preference updates l p known = go (is_at (nat_cmp length) l) refl
   where
@@ -67,7 +70,8 @@ item-is (y ∷ ys) (suc i) x d stands = item-is ys i x d stands
 pub knows-none : (family : Family) (pool : CompiledPool) (bgp : List CompiledBgp) (held : Preferences) → KnowsBelow family 0 pool bgp held
 knows-none family pool bgp held k adv below stands chosen = absurd (omega arith)
 
-pub knows-more : (family : Family) (pool : CompiledPool) (bgp : List CompiledBgp) (i : ℕ) (adv : CompiledBgp) (old new : Preferences) → adv ≡ get_or bgp i adv → Notes family pool adv old new
+pub knows-more : (family : Family) (pool : CompiledPool) (bgp : List CompiledBgp) (i : ℕ) (adv : CompiledBgp) (old new : Preferences) → adv ≡ get_or bgp i adv
+    → Notes family pool adv old new
     → KnowsBelow family i pool bgp old → KnowsBelow family (i + 1) pool bgp new
 knows-more family pool bgp i adv old new is notes known k a below stands chosen = elim (cases_lt k i) [
   | inl before ↦ notes.0 _ _ (known k a before stands chosen)
@@ -77,7 +81,8 @@ knows-more family pool bgp i adv old new is notes known k a below stands chosen 
       subst (λ (b : CompiledBgp). chooses_pool b pool ≡ true → Knows new (length_for b family) b.local_pref) same notes.1 chosen
 ]
 
-pub knows-each : (family : Family) (pool : CompiledPool) (bgp : List CompiledBgp) (i : ℕ) (held : Preferences) → length bgp ≤ i → KnowsBelow family i pool bgp held → KnowsEach family pool bgp held
+pub knows-each : (family : Family) (pool : CompiledPool) (bgp : List CompiledBgp) (i : ℕ) (held : Preferences) → length bgp ≤ i
+    → KnowsBelow family i pool bgp held → KnowsEach family pool bgp held
 knows-each family pool bgp i held end known k adv stands chosen = let bound = item_bound bgp k adv stands in known k adv (omega arith) stands chosen
 
 module _ (bgp : List CompiledBgp) where
@@ -88,7 +93,8 @@ module _ (bgp : List CompiledBgp) where
   one-preference (Some (Some known)) p q one left right = sym left ∙ right
 
   module _ (a b : CompiledBgp) (i j : ℕ) (a-there : ItemAt bgp i a) (b-there : ItemAt bgp j b) (differ : (a.local_pref == b.local_pref) ≡ false) where
-    other-lengths : (held : PoolPreferences) → KnowsPool bgp held → chooses_pool a held.pool.now ≡ true → chooses_pool b held.pool.now ≡ true → (family : Family)
+    other-lengths : (held : PoolPreferences) → KnowsPool bgp held → chooses_pool a held.pool.now ≡ true → chooses_pool b held.pool.now ≡ true
+        → (family : Family)
         → of_family family (are_several held.v4 a.length) (are_several held.v6 a.length_v6) ≡ false → (length_for a family == length_for b family) ≡ false
     other-lengths held knows first second V4 one = elim (cases_Bool (a.length == b.length)) [
       | inl same ↦
@@ -109,8 +115,10 @@ module _ (bgp : List CompiledBgp) where
       | inr other ↦ other
     ]
 
-    at-spans : (held : PoolPreferences) → KnowsPool bgp held → chooses_pool a held.pool.now ≡ true → chooses_pool b held.pool.now ≡ true → (spans : List SpanValue)
-        → list_any (λ (span : SpanValue). of_family span.family (are_several held.v4 a.length) (are_several held.v6 a.length_v6)) spans ≡ false → list_any (has_equal_length a b) spans ≡ false
+    at-spans : (held : PoolPreferences) → KnowsPool bgp held → chooses_pool a held.pool.now ≡ true → chooses_pool b held.pool.now ≡ true
+        → (spans : List SpanValue)
+        → list_any (λ (span : SpanValue). of_family span.family (are_several held.v4 a.length) (are_several held.v6 a.length_v6)) spans ≡ false
+        → list_any (has_equal_length a b) spans ≡ false
     at-spans held knows first second [] none = refl
     at-spans held knows first second (s ∷ ss) none =
         let (here, later) = or_parts _ _ none in
@@ -121,20 +129,23 @@ module _ (bgp : List CompiledBgp) where
     at-pool held knows none = go (chooses_pool a held.pool.now) (chooses_pool b held.pool.now) refl refl none
       where
         go : (x y : Bool) → chooses_pool a held.pool.now ≡ x → chooses_pool b held.pool.now ≡ y
-            → (x && list_any (λ (span : SpanValue). of_family span.family (are_several held.v4 a.length) (are_several held.v6 a.length_v6)) held.pool.now.spans) ≡ false
+            → (x && list_any (λ (span : SpanValue). of_family span.family (are_several held.v4 a.length) (are_several held.v6 a.length_v6)) held.pool.now.spans)
+            ≡ false
             → ((x && y) && list_any (has_equal_length a b) held.pool.now.spans) ≡ false
         go false y first second nowhere = refl
         go true false first second nowhere = refl
         go true true first second nowhere = at-spans held knows first second held.pool.now.spans nowhere
 
     at-pools : (known : List PoolPreferences) → AllByRecursion (KnowsPool bgp) known → clashes_anywhere known a ≡ false
-        → list_any (λ (p : CompiledPool). (chooses_pool a p && chooses_pool b p) && list_any (has_equal_length a b) p.spans) (map (λ (held : PoolPreferences). held.pool.now) known) ≡ false
+        → list_any (λ (p : CompiledPool). (chooses_pool a p && chooses_pool b p) && list_any (has_equal_length a b) p.spans)
+        (map (λ (held : PoolPreferences). held.pool.now) known) ≡ false
     at-pools [] all none = refl
     at-pools (held ∷ known) all none =
         let (here, later) = or_parts _ _ none in
         rw (at-pool held all.0 here) (at-pools known all.1 later)
 
-  module _ (known : List PoolPreferences) (pools : List CompiledPool) (are : map (λ (held : PoolPreferences). held.pool.now) known ≡ pools) (all : AllByRecursion (KnowsPool bgp) known) where
+  module _ (known : List PoolPreferences) (pools : List CompiledPool) (are : map (λ (held : PoolPreferences). held.pool.now) known ≡ pools)
+      (all : AllByRecursion (KnowsPool bgp) known) where
     no-clash : (a b : CompiledBgp) (i j : ℕ) → ItemAt bgp i a → ItemAt bgp j b → clashes_anywhere known a ≡ false → clash pools a b ≡ false
     no-clash a b i j a-there b-there none = go (a.local_pref == b.local_pref) refl
       where
@@ -144,24 +155,28 @@ module _ (bgp : List CompiledBgp) where
         go false differ = rw (← are) (at-pools a b i j a-there b-there differ known all none)
 
     -- the advertisements behind a place of the list
-    none-behind : (a : CompiledBgp) (i : ℕ) → ItemAt bgp i a → clashes_anywhere known a ≡ false → (behind : List CompiledBgp) → ((k : ℕ) (b : CompiledBgp) → ItemAt behind k b → (j : ℕ) × ItemAt bgp j b)
+    none-behind : (a : CompiledBgp) (i : ℕ) → ItemAt bgp i a → clashes_anywhere known a ≡ false → (behind : List CompiledBgp)
+        → ((k : ℕ) (b : CompiledBgp) → ItemAt behind k b → (j : ℕ) × ItemAt bgp j b)
         → find (clash pools a) behind ≡ None
     none-behind a i there none [] within = refl
     none-behind a i there none (b ∷ behind) within =
         let (j, at) = within 0 b refl in
         rw (no-clash a b i j there at none) (none-behind a i there none behind (λ k c stands. within (suc k) c stands))
 
-    from-is : (a : CompiledBgp) (i : ℕ) → ItemAt bgp i a → (behind : List CompiledBgp) → ((k : ℕ) (b : CompiledBgp) → ItemAt behind k b → (j : ℕ) × ItemAt bgp j b)
+    from-is : (a : CompiledBgp) (i : ℕ) → ItemAt bgp i a → (behind : List CompiledBgp)
+        → ((k : ℕ) (b : CompiledBgp) → ItemAt behind k b → (j : ℕ) × ItemAt bgp j b)
         → clashing_from known pools a behind ≡ option_map (λ (other : CompiledBgp). other.name) (find (clash pools a) behind)
     unfolding clashing_from
     from-is a i there behind within = go (clashes_anywhere known a) refl
       where
         go : (b : Bool) → clashes_anywhere known a ≡ b
-            → cond b (option_map (λ (other : CompiledBgp). other.name) (find (clash pools a) behind)) None ≡ option_map (λ (other : CompiledBgp). other.name) (find (clash pools a) behind)
+            → cond b (option_map (λ (other : CompiledBgp). other.name) (find (clash pools a) behind)) None
+            ≡ option_map (λ (other : CompiledBgp). other.name) (find (clash pools a) behind)
         go true e = refl
         go false e = ap (option_map (λ (other : CompiledBgp). other.name)) (sym (none-behind a i there e behind within))
 
-    first-among : (xs : List CompiledBgp) → ((k : ℕ) (b : CompiledBgp) → ItemAt xs k b → (j : ℕ) × ItemAt bgp j b) → first_clashing known pools xs ≡ first_pair (λ adv. adv.name) (clash pools) xs
+    first-among : (xs : List CompiledBgp) → ((k : ℕ) (b : CompiledBgp) → ItemAt xs k b → (j : ℕ) × ItemAt bgp j b)
+        → first_clashing known pools xs ≡ first_pair (λ adv. adv.name) (clash pools) xs
     first-among [] within = refl
     first-among (a ∷ behind) within =
         let (i, there) = within 0 a refl in

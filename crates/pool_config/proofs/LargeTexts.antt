@@ -1,5 +1,6 @@
 -- The texts that are large communities are those of the form `large:A:B:C`.
-use Rattle.std.proofs.Common.{◌≡◌, ℕ, ◌^◌, ◌<◌, Bool, true, false, List, [], ◌∷◌, ◌++◌, ◌↔◌, Option, Some, None, length, drop, decimal, cond, refl, sym, ◌∙◌, ap, subst, arith, Decides, is_none}
+use Rattle.std.proofs.Common.{◌≡◌, ℕ, ◌^◌, ◌<◌, Bool, true, false, List, [], ◌∷◌, ◌++◌, ◌↔◌, Option, Some, None}
+use Rattle.std.proofs.Common.{length, drop, decimal, cond, refl, sym, ◌∙◌, ap, subst, arith, Decides, is_none}
 use Rattle.std.proofs.lemmas.Bool.Decides.{Decides-eqb}
 use Rattle.std.proofs.lemmas.Bool.{false≢true}
 use Rattle.std.proofs.lemmas.Slice.Eq.{starts_is}
@@ -17,15 +18,19 @@ word-is text a e fits = ap word_of e ∙ below_decimal (2 ^ 32) (omega arith) a 
 
 local_written : (b c : ℕ) → b < 2 ^ 32 → c < 2 ^ 32 → local_of (decimal b ++ 58 ∷ decimal c) ≡ Some (b, c)
 local_written b c fb fc =
-    ap (λ v. pair v (word_of (after_first is_colon (decimal b ++ 58 ∷ decimal c)))) (word-is (before_first is_colon (decimal b ++ 58 ∷ decimal c)) b (before_decimal b (decimal c) (omega arith)) fb)
+    ap (λ v. pair v (word_of (after_first is_colon (decimal b ++ 58 ∷ decimal c))))
+    (word-is (before_first is_colon (decimal b ++ 58 ∷ decimal c)) b (before_decimal b (decimal c) (omega arith)) fb)
     ∙ ap (pair (Some b)) (word-is (after_first is_colon (decimal b ++ 58 ∷ decimal c)) c (behind_decimal b (decimal c) (omega arith)) fc)
 
-words-before : (a : ℕ) (local : List ℕ) (l : ℕ × ℕ) → a < 2 ^ 32 → local_of local ≡ Some l → words_of (decimal a ++ 58 ∷ local) ≡ Some (record { global = a; first = l.0; second = l.1 })
+words-before : (a : ℕ) (local : List ℕ) (l : ℕ × ℕ) → a < 2 ^ 32 → local_of local ≡ Some l
+    → words_of (decimal a ++ 58 ∷ local) ≡ Some (record { global = a; first = l.0; second = l.1 })
 words-before a local l fits is =
-    ap (λ v. with_global v (local_of (after_first is_colon (decimal a ++ 58 ∷ local)))) (word-is (before_first is_colon (decimal a ++ 58 ∷ local)) a (before_decimal a local (omega arith)) fits)
+    ap (λ v. with_global v (local_of (after_first is_colon (decimal a ++ 58 ∷ local))))
+    (word-is (before_first is_colon (decimal a ++ 58 ∷ local)) a (before_decimal a local (omega arith)) fits)
     ∙ ap (with_global (Some a)) (ap local_of (behind_decimal a local (omega arith)) ∙ is)
 
-words_written : (a b c : ℕ) → a < 2 ^ 32 → b < 2 ^ 32 → c < 2 ^ 32 → words_of (decimal a ++ 58 ∷ (decimal b ++ 58 ∷ decimal c)) ≡ Some (record { global = a; first = b; second = c })
+words_written : (a b c : ℕ) → a < 2 ^ 32 → b < 2 ^ 32 → c < 2 ^ 32
+    → words_of (decimal a ++ 58 ∷ (decimal b ++ 58 ∷ decimal c)) ≡ Some (record { global = a; first = b; second = c })
 words_written a b c fa fb fc = words-before a (decimal b ++ 58 ∷ decimal c) (b, c) fa (local_written b c fb fc)
 
 -- behind the mark stands what is behind the first colon
@@ -43,7 +48,8 @@ large-behind text rest c is found =
 
 large_written : (text : List ℕ) (c : LargeCommunity) → IsLargeText text c → large_of text ≡ Some c
 large_written text c is =
-    large-behind text (decimal c.global ++ 58 ∷ (decimal c.first ++ 58 ∷ decimal c.second)) c is.spelled (words_written c.global c.first c.second is.global is.first is.second)
+    large-behind text (decimal c.global ++ 58 ∷ (decimal c.first ++ 58 ∷ decimal c.second)) c is.spelled
+    (words_written c.global c.first c.second is.global is.first is.second)
 
 -- ---- what is read was written so
 begins_form : (text : List ℕ) → begins_large text ≡ true → text ≡ large_mark ++ drop 6 text
@@ -70,7 +76,8 @@ local_form text l e = go (word_of (before_first is_colon text)) refl (word_of (a
         let (fb, one) = below_some (2 ^ 32) (omega arith) (before_first is_colon text) b hx in
         let (fc, two) = below_some (2 ^ 32) (omega arith) (after_first is_colon text) c hy in
         let within : 0 < length (after_first is_colon text) = some-by (after_first is_colon text) c two (omega arith) in
-        let whole : text ≡ decimal b ++ 58 ∷ decimal c = cut_at_colon text within ∙ cut-is (before_first is_colon text) (after_first is_colon text) (decimal b) (decimal c) one two in
+        let whole : text ≡ decimal b ++ 58 ∷ decimal c =
+        cut_at_colon text within ∙ cut-is (before_first is_colon text) (after_first is_colon text) (decimal b) (decimal c) one two in
         let is : (b, c) ≡ l = (let h : Some (b, c) ≡ Some l = found in cc) in
         subst (λ (k : ℕ × ℕ). (k.0 < 2 ^ 32) × (k.1 < 2 ^ 32) × (text ≡ decimal k.0 ++ 58 ∷ decimal k.1)) is (fb, fc, whole)
 
@@ -79,16 +86,20 @@ words_form : (text : List ℕ) (c : LargeCommunity) → words_of text ≡ Some c
 words_form text c e = go (word_of (before_first is_colon text)) refl (local_of (after_first is_colon text)) refl e
   where
     go : (x : Option ℕ) → word_of (before_first is_colon text) ≡ x → (y : Option (ℕ × ℕ)) → local_of (after_first is_colon text) ≡ y
-        → with_global x y ≡ Some c → (c.global < 2 ^ 32) × (c.first < 2 ^ 32) × (c.second < 2 ^ 32) × (text ≡ decimal c.global ++ 58 ∷ (decimal c.first ++ 58 ∷ decimal c.second))
+        → with_global x y ≡ Some c → (c.global < 2 ^ 32) × (c.first < 2 ^ 32) × (c.second < 2 ^ 32)
+        × (text ≡ decimal c.global ++ 58 ∷ (decimal c.first ++ 58 ∷ decimal c.second))
     go None hx y hy found = absurd (let h : None ≡ Some c = found in cc)
     go (Some a) hx None hy found = absurd (let h : None ≡ Some c = found in cc)
     go (Some a) hx (Some l) hy found =
         let (fa, one) = below_some (2 ^ 32) (omega arith) (before_first is_colon text) a hx in
         let (fb, fc, inner) = local_form (after_first is_colon text) l hy in
         let within : 0 < length (after_first is_colon text) = subst (λ (xs : List ℕ). 0 < length xs) (sym inner) (behind_some (decimal l.0) (decimal l.1)) in
-        let whole : text ≡ decimal a ++ 58 ∷ (decimal l.0 ++ 58 ∷ decimal l.1) = cut_at_colon text within ∙ cut-is (before_first is_colon text) (after_first is_colon text) (decimal a) (decimal l.0 ++ 58 ∷ decimal l.1) one inner in
-        let is : record { global = a; first = l.0; second = l.1 } ≡ c = (let h : Some (record { global = a; first = l.0; second = l.1 }) ≡ Some c = found in cc) in
-        subst (λ (k : LargeCommunity). (k.global < 2 ^ 32) × (k.first < 2 ^ 32) × (k.second < 2 ^ 32) × (text ≡ decimal k.global ++ 58 ∷ (decimal k.first ++ 58 ∷ decimal k.second))) is (fa, fb, fc, whole)
+        let whole : text ≡ decimal a ++ 58 ∷ (decimal l.0 ++ 58 ∷ decimal l.1) = cut_at_colon text within
+        ∙ cut-is (before_first is_colon text) (after_first is_colon text) (decimal a) (decimal l.0 ++ 58 ∷ decimal l.1) one inner in
+        let is : record { global = a; first = l.0; second = l.1 } ≡ c =
+        (let h : Some (record { global = a; first = l.0; second = l.1 }) ≡ Some c = found in cc) in
+        subst (λ (k : LargeCommunity). (k.global < 2 ^ 32) × (k.first < 2 ^ 32) × (k.second < 2 ^ 32)
+        × (text ≡ decimal k.global ++ 58 ∷ (decimal k.first ++ 58 ∷ decimal k.second))) is (fa, fb, fc, whole)
 
 large_form : (text : List ℕ) (c : LargeCommunity) → large_of text ≡ Some c → IsLargeText text c
 large_form text c e = go (begins_large text) refl e

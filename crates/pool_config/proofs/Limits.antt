@@ -1,5 +1,6 @@
 -- The first pool, and the first advertisement, past a limit; the first name that stood before.
-use Rattle.std.proofs.Common.{◌≡◌, ℕ, zero, suc, ◌-◌, ◌<◌, ◌≤◌, ◌==◌, Bool, true, false, List, [], ◌∷◌, ◌++◌, ◌⊎◌, inl, inr, cond, length, All, Option, Some, None, refl, sym, ◌∙◌, ap, subst, arith, append_assoc}
+use Rattle.std.proofs.Common.{◌≡◌, ℕ, zero, suc, ◌-◌, ◌<◌, ◌≤◌, ◌==◌, Bool, true, false, List, [], ◌∷◌, ◌++◌, ◌⊎◌, inl}
+use Rattle.std.proofs.Common.{inr, cond, length, All, Option, Some, None, refl, sym, ◌∙◌, ap, subst, arith, append_assoc}
 use Rattle.std.proofs.lemmas.Bool.{cases_lt, ltb-true, ltb-false, ne_eqb}
 use Rattle.std.proofs.lemmas.List.Elements.{All-nil, All-cons, All-head, All-tail}
 use Rattle.std.specs.Prelude.{nat_lt}
@@ -33,7 +34,8 @@ at_none (suc n) (x ∷ xs) e y h =
     let less : suc n - 1 ≡ n = omega arith in
     at_none n xs (rw (other, less) at e) y h
 
-pub finds_at : {T : Type 0} (n : ℕ) (xs : List (List ℕ × T)) → Finds (λ first second name. FaultyItem key_of (λ _. first ≡ n) xs first second name) (name_at n xs)
+pub finds_at : {T : Type 0} (n : ℕ) (xs : List (List ℕ × T))
+    → Finds (λ first second name. FaultyItem key_of (λ _. first ≡ n) xs first second name) (name_at n xs)
 finds_at {T} n xs = go (name_at n xs) refl
   where
     go : (r : Option (List ℕ)) → name_at n xs ≡ r → Finds (λ first second name. FaultyItem key_of (λ _. first ≡ n) xs first second name) r
@@ -95,11 +97,14 @@ push_in (x ∷ xs) e t (inl (inl here)) = inl here
 push_in (x ∷ xs) e t (inl (inr later)) = inr (push_in xs e t (inl later))
 push_in (x ∷ xs) e t (inr new) = inr (push_in xs e t (inr new))
 
-holds_more : (done : List (List ℕ × BgpAdv)) (e : List ℕ × BgpAdv) (held : List (List ℕ)) → Holds done held → Holds (done ++ e ∷ []) (keys_with name_cmp held e.1.communities)
+holds_more : (done : List (List ℕ × BgpAdv)) (e : List ℕ × BgpAdv) (held : List (List ℕ)) → Holds done held
+    → Holds (done ++ e ∷ []) (keys_with name_cmp held e.1.communities)
 holds_more done e held h = record {
   ascending = ascending-keys_with name_cmp-total name_cmp-exact held e.1.communities h.ascending;
-  to = λ t inside. push_in done e t (elim (in_keys name_cmp-total name_cmp-exact held e.1.communities t inside) [ inl old ↦ inl (h.to t old) | inr new ↦ inr new ]);
-  from = λ t inside. keys_in name_cmp-total name_cmp-exact held e.1.communities t (elim (in_push done e t inside) [ inl old ↦ inl (h.from t old) | inr new ↦ inr new ]);
+  to = λ t inside.
+      push_in done e t (elim (in_keys name_cmp-total name_cmp-exact held e.1.communities t inside) [ inl old ↦ inl (h.to t old) | inr new ↦ inr new ]);
+  from = λ t inside.
+      keys_in name_cmp-total name_cmp-exact held e.1.communities t (elim (in_push done e t inside) [ inl old ↦ inl (h.from t old) | inr new ↦ inr new ]);
 }
 
 all_in : (P : List ℕ → Type 0) (ts : List (List ℕ)) → ((t : List ℕ) → IsIn ts t → P t) → All P ts
@@ -112,13 +117,16 @@ in_all P (x ∷ xs) all t (inl here) = let Q : List ℕ → Type 0 = P in subst 
 in_all P (x ∷ xs) all t (inr later) = in_all P xs (All-tail P x xs all) t later
 
 -- those that are done have more than so many texts exactly where more keys are held
-more_held : (limit : ℕ) (done rest : List (List ℕ × BgpAdv)) (held : List (List ℕ)) → Holds done held → limit < length held → HaveMore limit (done ++ rest) (length done)
+more_held : (limit : ℕ) (done rest : List (List ℕ × BgpAdv)) (held : List (List ℕ)) → Holds done held → limit < length held
+    → HaveMore limit (done ++ rest) (length done)
 more_held limit done rest held h above =
     (held, ascending_differ held h.ascending, all_in (HasText (done ++ rest) (length done)) held (λ t inside. done_within done rest t (h.to t inside)), above)
 
-held_more : (limit : ℕ) (done rest : List (List ℕ × BgpAdv)) (held : List (List ℕ)) → Holds done held → HaveMore limit (done ++ rest) (length done) → limit < length held
+held_more : (limit : ℕ) (done rest : List (List ℕ × BgpAdv)) (held : List (List ℕ)) → Holds done held → HaveMore limit (done ++ rest) (length done)
+    → limit < length held
 held_more limit done rest held h (texts, differ, all, above) =
-    let within : length texts ≤ length held = no_more texts held differ (λ t inside. h.from t (within_done done rest t (in_all (HasText (done ++ rest) (length done)) texts all t inside))) in
+    let within : length texts ≤ length held =
+    no_more texts held differ (λ t inside. h.from t (within_done done rest t (in_all (HasText (done ++ rest) (length done)) texts all t inside))) in
     omega arith
 
 abbrev PastAt : ℕ → List (List ℕ × BgpAdv) → ℕ → ℕ → List ℕ → Type 0
@@ -128,7 +136,8 @@ past_from : (limit : ℕ) (bgps done rest : List (List ℕ × BgpAdv)) (held : L
     → ((i : ℕ) → i < length done → ¬ HaveMore limit bgps (suc i)) → Finds (PastAt limit bgps) (first_past limit held rest)
 past_from limit bgps done [] held split h before = λ first second name f.
     let whole : bgps ≡ done = split ∙ append_nil done in
-    before first (let bound : first < length bgps = item_bound bgps first f.item f.stands in omega (arith, ap (λ (l : List (List ℕ × BgpAdv)). length l) whole)) f.faulty
+    before first (let bound : first < length bgps = item_bound bgps first f.item f.stands in
+    omega (arith, ap (λ (l : List (List ℕ × BgpAdv)). length l) whole)) f.faulty
 past_from limit bgps done (e ∷ rest) held split h before =
     go (nat_lt limit (length (keys_with name_cmp held e.1.communities))) refl
     (past_from limit bgps (done ++ e ∷ []) rest (keys_with name_cmp held e.1.communities) again (holds_more done e held h))
@@ -150,7 +159,8 @@ past_from limit bgps done (e ∷ rest) held split h before =
     least first second name f (inr tied) = let alone = f.alone in omega arith
 
     go : (b : Bool) → nat_lt limit (length (keys_with name_cmp held e.1.communities)) ≡ b
-        → (((i : ℕ) → i < length (done ++ e ∷ []) → ¬ HaveMore limit bgps (suc i)) → Finds (PastAt limit bgps) (first_past limit (keys_with name_cmp held e.1.communities) rest))
+        → (((i : ℕ) → i < length (done ++ e ∷ []) → ¬ HaveMore limit bgps (suc i))
+        → Finds (PastAt limit bgps) (first_past limit (keys_with name_cmp held e.1.communities) rest))
         → Finds (PastAt limit bgps) (cond b (Some e.0) (first_past limit (keys_with name_cmp held e.1.communities) rest))
     go true passed later =
         let Q : List (List ℕ × BgpAdv) → Type 0 = λ l. HaveMore limit l (suc (length done)) in
@@ -162,7 +172,8 @@ past_from limit bgps done (e ∷ rest) held split h before =
           here = record {
             item = e;
             stands = subst S (sym split) (item_at_length done rest e);
-            faulty = subst Q (sym again) (subst R len (more_held limit (done ++ e ∷ []) rest (keys_with name_cmp held e.1.communities) (holds_more done e held h) (ltb-true limit _ passed)));
+            faulty = subst Q (sym again) (subst R len
+                (more_held limit (done ++ e ∷ []) rest (keys_with name_cmp held e.1.communities) (holds_more done e held h) (ltb-true limit _ passed)));
             named = refl;
             alone = refl;
           };

@@ -1,5 +1,6 @@
 -- The texts that have a number are those of the form `A:B`.
-use Rattle.std.proofs.Common.{◌≡◌, ℕ, zero, suc, ◌+◌, ◌*◌, ◌^◌, ◌<◌, ◌≤◌, Bool, true, false, ◌&&◌, List, [], ◌∷◌, ◌++◌, ◌↔◌, Option, Some, None, length, get_or, take, drop, decimal, cond, refl, sym, ◌∙◌, ap, subst, arith, eqb-true, eq-eqb, ne_eqb, inl, inr, nat_lt, Decides, is_none}
+use Rattle.std.proofs.Common.{◌≡◌, ℕ, zero, suc, ◌+◌, ◌*◌, ◌^◌, ◌<◌, ◌≤◌, Bool, true, false, ◌&&◌, List, [], ◌∷◌, ◌++◌, ◌↔◌, Option, Some, None, length, get_or}
+use Rattle.std.proofs.Common.{take, drop, decimal, cond, refl, sym, ◌∙◌, ap, subst, arith, eqb-true, eq-eqb, ne_eqb, inl, inr, nat_lt, Decides, is_none}
 use Rattle.std.proofs.lemmas.Bool.{cases_lt, cases_eq, true≢false, false≢true, lt-ltb, ltb-true, and_parts}
 use Rattle.std.proofs.lemmas.Fmt.{decimal_is_IsNumeral, decimal_digit, first_decimal, decimal-digits_value, decimal_nonempty}
 use Rattle.std.proofs.lemmas.List.Sums.{split_at_first, passes_at_first, position_or_len_is}
@@ -26,7 +27,8 @@ alone (c ∷ d ∷ rest) e first = elim (cases_eq c 43) [
 unpadded : (text : List ℕ) → 48 < get_or text 0 0 → is_padded text ≡ false
 unpadded [] above = refl
 unpadded (c ∷ []) above = ne_eqb c 43 (λ e. omega arith)
-unpadded (c ∷ d ∷ rest) above = let not_plus : (c ≡ 43 → ⊥) = λ e. omega arith in let not_zero : (c ≡ 48 → ⊥) = λ e. omega arith in rw (ne_eqb c 43 not_plus, ne_eqb c 48 not_zero) refl
+unpadded (c ∷ d ∷ rest) above =
+    let not_plus : (c ≡ 43 → ⊥) = λ e. omega arith in let not_zero : (c ≡ 48 → ⊥) = λ e. omega arith in rw (ne_eqb c 43 not_plus, ne_eqb c 48 not_zero) refl
 
 decimal_unpadded : (a : ℕ) → a < 2 ^ 64 → is_padded (decimal a) ≡ false
 decimal_unpadded a fits = elim (cases_lt a 10) [
@@ -86,7 +88,8 @@ colon_at : (a : ℕ) (rest : List ℕ) → a < 2 ^ 64 → position_or_len is_col
 colon_at a rest fits =
     let (numeral, value) = decimal_is_IsNumeral a fits in
     position_or_len_is is_colon (decimal a ++ 58 ∷ rest) (length (decimal a)) 0 (joined_length (decimal a) (58 ∷ rest))
-    (λ k below. let range = digit_at (decimal a) k numeral.1 below in rw (get_left (decimal a) (58 ∷ rest) k 0 below) (ne_eqb (get_or (decimal a) k 0) 58 (λ e. omega arith)))
+    (λ k below. let range = digit_at (decimal a) k numeral.1 below in
+    rw (get_left (decimal a) (58 ∷ rest) k 0 below) (ne_eqb (get_or (decimal a) k 0) 58 (λ e. omega arith)))
     (λ below. rw (get_here (decimal a) rest 58 0) refl)
 
 pub before_decimal : (a : ℕ) (rest : List ℕ) → a < 2 ^ 64 → before_first is_colon (decimal a ++ 58 ∷ rest) ≡ decimal a
@@ -100,7 +103,12 @@ behind_decimal a rest fits =
 
 number_written : (a b : ℕ) → a < 65536 → b < 65536 → number_of (decimal a ++ 58 ∷ decimal b) ≡ Some (a * 65536 + b)
 number_written a b fa fb =
-    rw (before_decimal a (decimal b) (omega arith), behind_decimal a (decimal b) (omega arith), below_decimal 65536 (omega arith) a fa, below_decimal 65536 (omega arith) b fb) refl
+    rw (
+      before_decimal a (decimal b) (omega arith),
+      behind_decimal a (decimal b) (omega arith),
+      below_decimal 65536 (omega arith) a fa,
+      below_decimal 65536 (omega arith) b fb,
+    ) refl
 
 drop_short : (xs : List ℕ) (n : ℕ) → 0 < length (drop n xs) → n < length xs
 drop_short [] zero h = h
@@ -118,14 +126,16 @@ cut_at_colon text long =
 number_form : (text : List ℕ) (n : ℕ) → number_of text ≡ Some n → IsNumberText text n
 number_form text n e = go (half_of (before_first is_colon text)) refl (half_of (after_first is_colon text)) refl e
   where
-    go : (x : Option ℕ) → half_of (before_first is_colon text) ≡ x → (y : Option ℕ) → half_of (after_first is_colon text) ≡ y → joined x y ≡ Some n → IsNumberText text n
+    go : (x : Option ℕ) → half_of (before_first is_colon text) ≡ x → (y : Option ℕ) → half_of (after_first is_colon text) ≡ y → joined x y ≡ Some n
+        → IsNumberText text n
     go None hx y hy found = absurd (let h : None ≡ Some n = found in cc)
     go (Some a) hx None hy found = absurd (let h : None ≡ Some n = found in cc)
     go (Some a) hx (Some b) hy found =
         let (fa, before) = below_some 65536 (omega arith) (before_first is_colon text) a hx in
         let (fb, behind) = below_some 65536 (omega arith) (after_first is_colon text) b hy in
         let long : 0 < length (after_first is_colon text) = subst (λ (l : List ℕ). 0 < length l) (sym behind) (decimal_nonempty b (omega arith)) in
-        let whole : text ≡ decimal a ++ 58 ∷ decimal b = cut_at_colon text long ∙ ap (λ l. l ++ 58 ∷ after_first is_colon text) before ∙ ap (λ l. decimal a ++ 58 ∷ l) behind in
+        let whole : text ≡ decimal a ++ 58 ∷ decimal b =
+        cut_at_colon text long ∙ ap (λ l. l ++ 58 ∷ after_first is_colon text) before ∙ ap (λ l. decimal a ++ 58 ∷ l) behind in
         let number : n ≡ a * 65536 + b = (let h : Some (a * 65536 + b) ≡ Some n = found in cc) in
         (a, b, fa, fb, whole, number)
 

@@ -1,5 +1,6 @@
 -- The one pool that has an address.
-use Rattle.std.proofs.Common.{◌≡◌, ℕ, zero, suc, ◌+◌, ◌<◌, ◌≤◌, Bool, true, false, List, [], ◌∷◌, ◌++◌, inl, inr, map, cond, length, Option, Some, None, refl, sym, ◌∙◌, ap, subst, arith, Decides, IfSome, IfNone, IsSome, Bor, get_or}
+use Rattle.std.proofs.Common.{◌≡◌, ℕ, zero, suc, ◌+◌, ◌<◌, ◌≤◌, Bool, true, false, List, [], ◌∷◌, ◌++◌, inl, inr, map, cond, length}
+use Rattle.std.proofs.Common.{Option, Some, None, refl, sym, ◌∙◌, ap, subst, arith, Decides, IfSome, IfNone, IsSome, Bor, get_or}
 use Rattle.std.proofs.lemmas.Bool.{cases_order, false≢true, and_parts, and_from, leb-true, le-leb}
 use Rattle.std.proofs.lemmas.Bool.Decides.{not_from_Decides}
 use Rattle.std.proofs.lemmas.Option.{slice_get_read}
@@ -42,7 +43,8 @@ apart_behind [] ys h = h
 apart_behind (x ∷ xs) ys h = apart_behind xs ys (λ i j a b below ha hb. h (suc i) (suc j) a b (omega arith) ha hb)
 
 -- a span of a pool that has the address
-span_in : (name : List ℕ) (spans : List SpanValue) (a : AddressValue) → Has (λ s. Holds s a) spans → (k : ℕ) × (s : SpanValue) × Holds s a × ItemAt {A = Placed} (map (λ t. (name, t)) spans) k (name, s)
+span_in : (name : List ℕ) (spans : List SpanValue) (a : AddressValue) → Has (λ s. Holds s a) spans
+    → (k : ℕ) × (s : SpanValue) × Holds s a × ItemAt {A = Placed} (map (λ t. (name, t)) spans) k (name, s)
 span_in name [] a h = absurd h
 span_in name (s ∷ ss) a (inl here) = (0, s, here, refl)
 span_in name (s ∷ ss) a (inr later) = let (k, t, holds, stands) = span_in name ss a later in (suc k, t, holds, stands)
@@ -59,7 +61,8 @@ span_among (p ∷ ps) (suc j) pool a stands h =
     let (m, behind, there) = item_right (map (λ t. (p.name, t)) p.spans) (placed_spans ps) n (name, s) at in
     (m, name, s, holds, there)
 
-not_two : (pools : List CompiledPool) → AreApart (placed_spans pools) → (a : AddressValue) (i j : ℕ) (p q : CompiledPool) → i < j → ItemAt pools i p → ItemAt pools j q
+not_two : (pools : List CompiledPool) → AreApart (placed_spans pools) → (a : AddressValue) (i j : ℕ) (p q : CompiledPool) → i < j → ItemAt pools i p
+    → ItemAt pools j q
     → HasAddress a p → HasAddress a q → ⊥
 not_two [] apart a i j p q below hp hq ap aq = hp
 not_two (x ∷ xs) apart a i zero p q below hp hq ap aq = omega arith
@@ -73,7 +76,8 @@ not_two (x ∷ xs) apart a zero (suc j) p q below hp hq ap aq =
 not_two (x ∷ xs) apart a (suc i) (suc j) p q below hp hq ap aq =
     not_two xs (apart_behind (map (λ u. (x.name, u)) x.spans) (placed_spans xs) apart) a i j p q (omega arith) hp hq ap aq
 
-pub one_pool : (pools : List CompiledPool) → AreApart (placed_spans pools) → (a : AddressValue) (i j : ℕ) (p q : CompiledPool) → ItemAt pools i p → ItemAt pools j q
+pub one_pool : (pools : List CompiledPool) → AreApart (placed_spans pools) → (a : AddressValue) (i j : ℕ) (p q : CompiledPool) → ItemAt pools i p
+    → ItemAt pools j q
     → HasAddress a p → HasAddress a q → i ≡ j
 one_pool pools apart a i j p q hp hq ap aq = elim (cases_order i j) [
   | inl same ↦ same
@@ -82,7 +86,8 @@ one_pool pools apart a i j p q hp hq ap aq = elim (cases_order i j) [
 ]
 
 -- what a search by places gives
-pub position_is : {A : Type 0} (p : A → Bool) (xs : List A) (n m : ℕ) → position_from p n xs ≡ Some m → (i : ℕ) × (x : A) × (m ≡ n + i) × ItemAt xs i x × (p x ≡ true)
+pub position_is : {A : Type 0} (p : A → Bool) (xs : List A) (n m : ℕ) → position_from p n xs ≡ Some m
+    → (i : ℕ) × (x : A) × (m ≡ n + i) × ItemAt xs i x × (p x ≡ true)
 position_is p [] n m e = absurd (let h : None ≡ Some m = e in cc)
 position_is {A} p (x ∷ xs) n m e = go (p x) refl e (λ e. position_is p xs (n + 1) m e)
   where
@@ -102,7 +107,8 @@ position_none {A} p (y ∷ xs) n e i x h = go (p y) refl e (position_none p xs (
     go false here none rest zero h = rw (← h) here
     go false here none rest (suc i) h = rest none i x h
 
-pub holder_found : (pools : List CompiledPool) (a : AddressValue) → IfSome (pool_of pools a) (λ place. (pool : CompiledPool) × ItemAt pools place pool × HasAddress a pool)
+pub holder_found : (pools : List CompiledPool) (a : AddressValue)
+    → IfSome (pool_of pools a) (λ place. (pool : CompiledPool) × ItemAt pools place pool × HasAddress a pool)
 holder_found pools a = go (pool_of pools a) refl
   where
     go : (r : Option ℕ) → pool_of pools a ≡ r → IfSome r (λ place. (pool : CompiledPool) × ItemAt pools place pool × HasAddress a pool)
@@ -113,7 +119,8 @@ holder_found pools a = go (pool_of pools a) refl
         let Stands : ℕ → Type 0 = λ n. ItemAt pools n x in
         (x, subst Stands (sym same) stands, (address-Decides a x).0 passes)
 
-pub holder_only : (pools : List CompiledPool) → AreApart (placed_spans pools) → (a : AddressValue) (place : ℕ) (pool : CompiledPool) → ItemAt pools place pool → HasAddress a pool
+pub holder_only : (pools : List CompiledPool) → AreApart (placed_spans pools) → (a : AddressValue) (place : ℕ) (pool : CompiledPool) → ItemAt pools place pool
+    → HasAddress a pool
     → pool_of pools a ≡ Some place
 holder_only pools apart a place pool stands has = go (pool_of pools a) refl
   where
@@ -146,7 +153,8 @@ with_found pools a = go (pool_with pools a) refl
         let f = find_some (has_address a) pools pool e in
         (at_has (λ p. p ≡ pool) pools f.place pool f.stands refl, (address-Decides a pool).0 f.passes)
 
-pub with_only : (pools : List CompiledPool) → AreApart (placed_spans pools) → (a : AddressValue) (pool : CompiledPool) → IsIn pools pool → HasAddress a pool → pool_with pools a ≡ Some pool
+pub with_only : (pools : List CompiledPool) → AreApart (placed_spans pools) → (a : AddressValue) (pool : CompiledPool) → IsIn pools pool → HasAddress a pool
+    → pool_with pools a ≡ Some pool
 with_only pools apart a pool inside has = go (pool_with pools a) refl
   where
     go : (r : Option CompiledPool) → pool_with pools a ≡ r → pool_with pools a ≡ Some pool
@@ -175,16 +183,20 @@ if_found P (Some y) x e h = let same : y ≡ x = cc in subst P same h
 
 pub place_bound : (pools : List CompiledPool) (a : AddressValue) (place : ℕ) → pool_of pools a ≡ Some place → place < length pools
 place_bound pools a place e =
-    let (p, stands, has) = if_found (λ (place : ℕ). (p : CompiledPool) × ItemAt pools place p × HasAddress a p) (pool_of pools a) place e (holder_found pools a) in
+    let (p, stands, has) =
+    if_found (λ (place : ℕ). (p : CompiledPool) × ItemAt pools place p × HasAddress a p) (pool_of pools a) place e (holder_found pools a) in
     item_bound pools place p stands
 
-pub with_at : (pools : List CompiledPool) → AreApart (placed_spans pools) → (a : AddressValue) (place : ℕ) → pool_of pools a ≡ Some place → slice_get pools place ≡ pool_with pools a
+pub with_at : (pools : List CompiledPool) → AreApart (placed_spans pools) → (a : AddressValue) (place : ℕ) → pool_of pools a ≡ Some place
+    → slice_get pools place ≡ pool_with pools a
 with_at pools apart a place e =
-    let (p, stands, has) = if_found (λ (place : ℕ). (p : CompiledPool) × ItemAt pools place p × HasAddress a p) (pool_of pools a) place e (holder_found pools a) in
+    let (p, stands, has) =
+    if_found (λ (place : ℕ). (p : CompiledPool) × ItemAt pools place p × HasAddress a p) (pool_of pools a) place e (holder_found pools a) in
     get_at pools place p stands ∙ sym (with_only pools apart a p (at_has (λ q. q ≡ p) pools place p stands refl) has)
 
 -- what a look at the place gives
-pub got : {X : Type 0} (xs : List X) (i : ℕ) (r : Option (Bor X)) → IfSome r (λ x. x.now ≡ get_or xs i x.now) → (i < length xs → IsSome r) → i < length xs → option_copied r ≡ slice_get xs i
+pub got : {X : Type 0} (xs : List X) (i : ℕ) (r : Option (Bor X)) → IfSome r (λ x. x.now ≡ get_or xs i x.now) → (i < length xs → IsSome r) → i < length xs
+    → option_copied r ≡ slice_get xs i
 got xs i None value some below = absurd (false≢true (some below))
 got xs i (Some x) value some below = sym (slice_get_read xs (length xs) i x.now refl below value)
 

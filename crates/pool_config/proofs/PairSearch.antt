@@ -20,7 +20,8 @@ find-append : {A : Type 0} (p : A → Bool) (xs ys : List A) → find p (xs ++ y
 find-append p [] ys = refl
 find-append {A} p (x ∷ xs) ys = go (p x) (find-append p xs ys)
   where
-    go : (b : Bool) → find p (xs ++ ys) ≡ option_or (find p xs) (find p ys) → cond b (Some x) (find p (xs ++ ys)) ≡ option_or (cond b (Some x) (find p xs)) (find p ys)
+    go : (b : Bool) → find p (xs ++ ys) ≡ option_or (find p xs) (find p ys)
+        → cond b (Some x) (find p (xs ++ ys)) ≡ option_or (cond b (Some x) (find p xs)) (find p ys)
     go true rest = refl
     go false rest = rest
 
@@ -33,7 +34,8 @@ or_or None b c = refl
 or_or (Some x) b c = refl
 
 -- among the spans of one pool
-in_pool : (name : List ℕ) (a : Placed) (spans : List SpanValue) → option_map key_of (find (meet a) (map (λ s. (name, s)) spans)) ≡ cond (list_any (overlaps a.1) spans) (Some name) None
+in_pool : (name : List ℕ) (a : Placed) (spans : List SpanValue)
+    → option_map key_of (find (meet a) (map (λ s. (name, s)) spans)) ≡ cond (list_any (overlaps a.1) spans) (Some name) None
 in_pool name a [] = refl
 in_pool name a (s ∷ ss) = go (overlaps a.1 s) (in_pool name a ss)
   where
@@ -43,7 +45,8 @@ in_pool name a (s ∷ ss) = go (overlaps a.1 s) (in_pool name a ss)
     go false rest = rest
 
 -- among those of the pools behind
-in_pools : (a : Placed) (pools : List CompiledPool) → option_map key_of (find (meet a) (placed_spans pools)) ≡ option_map (λ p. p.name) (find (λ p. list_any (overlaps a.1) p.spans) pools)
+in_pools : (a : Placed) (pools : List CompiledPool)
+    → option_map key_of (find (meet a) (placed_spans pools)) ≡ option_map (λ p. p.name) (find (λ p. list_any (overlaps a.1) p.spans) pools)
 in_pools a [] = refl
 in_pools a (p ∷ ps) =
     ap (option_map key_of) (find-append (meet a) (map (λ s. (p.name, s)) p.spans) (placed_spans ps))
@@ -68,17 +71,20 @@ behind name s others pools =
     go false = refl
 
 -- a span that overlaps none of those behind it
-none_in_pools : (s : SpanValue) (pools : List CompiledPool) → list_any (overlaps s) (all_spans pools) ≡ false → find (λ p. list_any (overlaps s) p.spans) pools ≡ None
+none_in_pools : (s : SpanValue) (pools : List CompiledPool) → list_any (overlaps s) (all_spans pools) ≡ false
+    → find (λ p. list_any (overlaps s) p.spans) pools ≡ None
 none_in_pools s [] none = refl
 none_in_pools s (p ∷ ps) none =
-    let parts : (list_any (overlaps s) p.spans || list_any (overlaps s) (all_spans ps)) ≡ false = sym (list_any-append (overlaps s) p.spans (all_spans ps)) ∙ none in
+    let parts : (list_any (overlaps s) p.spans || list_any (overlaps s) (all_spans ps)) ≡ false =
+    sym (list_any-append (overlaps s) p.spans (all_spans ps)) ∙ none in
     let here : list_any (overlaps s) p.spans ≡ false = (or_parts _ _ parts).0 in
     rw here (none_in_pools s ps (or_parts _ _ parts).1)
 
 none_behind : (name : List ℕ) (s : SpanValue) (others : List SpanValue) (pools : List CompiledPool) → list_any (overlaps s) (others ++ all_spans pools) ≡ false
     → met_behind s name others pools ≡ None
 none_behind name s others pools none =
-    let parts : (list_any (overlaps s) others || list_any (overlaps s) (all_spans pools)) ≡ false = sym (list_any-append (overlaps s) others (all_spans pools)) ∙ none in
+    let parts : (list_any (overlaps s) others || list_any (overlaps s) (all_spans pools)) ≡ false =
+    sym (list_any-append (overlaps s) others (all_spans pools)) ∙ none in
     let here : list_any (overlaps s) others ≡ false = (or_parts _ _ parts).0 in
     rw here (ap (option_map (λ p. p.name)) (none_in_pools s pools (or_parts _ _ parts).1))
 
@@ -95,7 +101,8 @@ passed_over before name s others pools bounds are = go (meets_another bounds s) 
 
 within : (before : List SpanValue) (name : List ℕ) (spans : List SpanValue) (pools : List CompiledPool) (bounds : Bounds)
     → AreBoundsOf (before ++ (spans ++ all_spans pools)) bounds
-    → first_pair key_of meet (map (λ t. (name, t)) spans ++ placed_spans pools) ≡ option_or (met_within bounds name spans pools) (first_pair key_of meet (placed_spans pools))
+    → first_pair key_of meet (map (λ t. (name, t)) spans ++ placed_spans pools)
+    ≡ option_or (met_within bounds name spans pools) (first_pair key_of meet (placed_spans pools))
 within before name [] pools bounds are = refl
 within before name (s ∷ ss) pools bounds are =
     let later : AreBoundsOf ((before ++ s ∷ []) ++ (ss ++ all_spans pools)) bounds = rw append_assoc are in
@@ -110,5 +117,6 @@ met-is before (p ∷ ps) bounds are =
     let later : AreBoundsOf ((before ++ p.spans) ++ all_spans ps) bounds = rw append_assoc are in
     rw (met-is (before ++ p.spans) ps bounds later) (sym (within before p.name p.spans ps bounds are))
 
-pub first_met-is : (pools : List CompiledPool) (bounds : Bounds) → AreBoundsOf (all_spans pools) bounds → first_met bounds pools ≡ first_pair key_of meet (placed_spans pools)
+pub first_met-is : (pools : List CompiledPool) (bounds : Bounds) → AreBoundsOf (all_spans pools) bounds
+    → first_met bounds pools ≡ first_pair key_of meet (placed_spans pools)
 first_met-is pools bounds are = met-is [] pools bounds are

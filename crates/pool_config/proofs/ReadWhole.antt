@@ -1,5 +1,6 @@
 -- Where there is no fault, everything is read: every entry, every selector and every community.
-use Rattle.std.proofs.Common.{◌≡◌, ℕ, Bool, true, false, cond, List, [], ◌∷◌, ◌++◌, ◌⊎◌, inl, inr, map, Option, Some, None, Result, Ok, Err, is_err, is_some, IsErr, IsOk, refl, sym, ◌∙◌, ap, subst}
+use Rattle.std.proofs.Common.{◌≡◌, ℕ, Bool, true, false, cond, List, [], ◌∷◌, ◌++◌, ◌⊎◌, inl, inr, map, Option}
+use Rattle.std.proofs.Common.{Some, None, Result, Ok, Err, is_err, is_some, IsErr, IsOk, refl, sym, ◌∙◌, ap, subst}
 use Rattle.std.proofs.lemmas.Bool.{false≢true}
 use Rattle.std.proofs.lemmas.Bool.Decides.{not_from_Decides}
 use Rattle.std.specs.List.{AllByRecursion, filter_map, cons_option}
@@ -12,7 +13,8 @@ use Rattle.kube_labels.specs.Selectors.{selector_of}
 use Rattle.kube_model.specs.declared.bgp.BgpAdv.{BgpAdv}
 use Rattle.kube_model.specs.declared.community.CommunityList.{CommunityList}
 use Rattle.kube_model.specs.declared.selector.SelectorText.{SelectorText}
-use Rattle.pool_config.specs.Faults.{HasNoFault, BadEntry, PoolSelector, L2Selector, BgpSelector, PeerSelector, UnknownCommunity, BadValue, BadText, IsBadSelector, IsCommunityName, IsNoCommunity, IsUnknownText, IsBadText}
+use Rattle.pool_config.specs.Faults.{HasNoFault, BadEntry, PoolSelector, L2Selector, BgpSelector, PeerSelector, UnknownCommunity}
+use Rattle.pool_config.specs.Faults.{BadValue, BadText, IsBadSelector, IsCommunityName, IsNoCommunity, IsUnknownText, IsBadText}
 use Rattle.pool_config.specs.Laws.{AreRead, IsReadText, IsReadWhole}
 use Rattle.pool_config.specs.Lists.{number_in, large_in, named_value}
 use Rattle.large_numbers.specs.declared.numbers.LargeCommunity.{LargeCommunity}
@@ -30,7 +32,8 @@ all_ok : {X Y E : Type 0} (f : X → Result Y E) (xs : List X) → ¬ Has (λ x.
 all_ok f [] none = refl
 all_ok {X} {Y} {E} f (x ∷ xs) none = go (f x) refl (all_ok f xs (λ later. none (inr later)))
   where
-    go : (r : Result Y E) → f x ≡ r → map f xs ≡ map Ok (filter_map (λ y. result_ok (f y)) xs) → r ∷ map f xs ≡ map Ok (cons_option (result_ok r) (filter_map (λ y. result_ok (f y)) xs))
+    go : (r : Result Y E) → f x ≡ r → map f xs ≡ map Ok (filter_map (λ y. result_ok (f y)) xs)
+        → r ∷ map f xs ≡ map Ok (cons_option (result_ok r) (filter_map (λ y. result_ok (f y)) xs))
     go (Ok y) e rest = ap (λ (l : List (Result Y E)). Ok y ∷ l) rest
     go (Err z) e rest = absurd (none (inl (ap is_err e)))
 
@@ -61,7 +64,8 @@ bad_in : (values : List (List ℕ × List ℕ)) (t v : List ℕ) → lookup (λ 
 bad_in [] t v e bad = absurd (let h : None ≡ Some v = e in cc)
 bad_in (w ∷ ws) t v e bad = go (bytes_eq w.0 t) e (bad_in ws t v)
   where
-    go : (b : Bool) → cond b (Some w.1) (lookup (λ n. bytes_eq n t) ws) ≡ Some v → (lookup (λ n. bytes_eq n t) ws ≡ Some v → IsNoCommunity v → Has (λ u. IsNoCommunity u.1) ws)
+    go : (b : Bool) → cond b (Some w.1) (lookup (λ n. bytes_eq n t) ws) ≡ Some v
+        → (lookup (λ n. bytes_eq n t) ws ≡ Some v → IsNoCommunity v → Has (λ u. IsNoCommunity u.1) ws)
         → Has (λ u. IsNoCommunity u.1) (w ∷ ws)
     go true found rest = let same : w.1 ≡ v = cc in let P : List ℕ → Type 0 = IsNoCommunity in inl (subst P (sym same) bad)
     go false found rest = inr (rest found bad)
@@ -70,7 +74,8 @@ bad_named : (communities : List (List ℕ × CommunityList)) (t v : List ℕ) �
 bad_named [] t v e bad = absurd (let h : None ≡ Some v = e in cc)
 bad_named (c ∷ cs) t v e bad = go (lookup (λ n. bytes_eq n t) c.1.values) refl e (bad_named cs t v)
   where
-    go : (o : Option (List ℕ)) → lookup (λ n. bytes_eq n t) c.1.values ≡ o → option_or o (named_value cs t) ≡ Some v → (named_value cs t ≡ Some v → IsNoCommunity v → HasBadValue cs) → HasBadValue (c ∷ cs)
+    go : (o : Option (List ℕ)) → lookup (λ n. bytes_eq n t) c.1.values ≡ o → option_or o (named_value cs t) ≡ Some v
+        → (named_value cs t ≡ Some v → IsNoCommunity v → HasBadValue cs) → HasBadValue (c ∷ cs)
     go None is found rest = inr (rest found bad)
     go (Some w) is found rest = inl (bad_in c.1.values t v (is ∙ found) bad)
 
@@ -82,14 +87,17 @@ abbrev IsBadNumber : List (List ℕ × CommunityList) → List ℕ → Type 0
 IsBadNumber communities t =
     IsUnknownText communities t ⊎ (IsBadText t ⊎ HasBadValue communities)
 
-bad_number : (communities : List (List ℕ × CommunityList)) (t : List ℕ) → number_in communities t ≡ None → large_in communities t ≡ None → IsBadNumber communities t
+bad_number : (communities : List (List ℕ × CommunityList)) (t : List ℕ) → number_in communities t ≡ None → large_in communities t ≡ None
+    → IsBadNumber communities t
 bad_number communities t e f = go (has_colon t) refl e f
   where
-    from : (o : Option (List ℕ)) → named_value communities t ≡ o → has_colon t ≡ false → option_and_then number_of o ≡ None → option_and_then large_of o ≡ None → IsBadNumber communities t
+    from : (o : Option (List ℕ)) → named_value communities t ≡ o → has_colon t ≡ false → option_and_then number_of o ≡ None → option_and_then large_of o ≡ None
+        → IsBadNumber communities t
     from None is plain none nor = inl (λ colon. false≢true (sym plain ∙ colon), none_named communities t is)
     from (Some v) is plain none nor = inr (inr (bad_named communities t v is (no_number v none, no_large v nor)))
 
-    go : (b : Bool) → has_colon t ≡ b → cond b (number_of t) (option_and_then number_of (named_value communities t)) ≡ None → cond b (large_of t) (option_and_then large_of (named_value communities t)) ≡ None
+    go : (b : Bool) → has_colon t ≡ b → cond b (number_of t) (option_and_then number_of (named_value communities t)) ≡ None
+        → cond b (large_of t) (option_and_then large_of (named_value communities t)) ≡ None
         → IsBadNumber communities t
     go true colon none nor = inr (inl (colon, (no_number t none, no_large t nor)))
     go false plain none nor = from (named_value communities t) refl plain none nor
@@ -98,9 +106,11 @@ bad_number communities t e f = go (has_colon t) refl e f
 abbrev IsUnread : List (List ℕ × CommunityList) → List ℕ → Type 0
 IsUnread communities t = (number_in communities t ≡ None) × (large_in communities t ≡ None)
 
-all_read : (communities : List (List ℕ × CommunityList)) (texts : List (List ℕ)) → ¬ Has (IsUnread communities) texts → AllByRecursion (IsReadText communities) texts
+all_read : (communities : List (List ℕ × CommunityList)) (texts : List (List ℕ)) → ¬ Has (IsUnread communities) texts
+    → AllByRecursion (IsReadText communities) texts
 all_read communities [] none = tt
-all_read communities (t ∷ texts) none = (one (number_in communities t) refl (large_in communities t) refl, all_read communities texts (λ later. none (inr later)))
+all_read communities (t ∷ texts) none =
+    (one (number_in communities t) refl (large_in communities t) refl, all_read communities texts (λ later. none (inr later)))
   where
     one : (x : Option ℕ) → number_in communities t ≡ x → (y : Option LargeCommunity) → large_in communities t ≡ y → IsReadText communities t
     one (Some n) e y f = inl (n, e)
@@ -109,15 +119,19 @@ all_read communities (t ∷ texts) none = (one (number_in communities t) refl (l
 
 pub read_whole : (o : Objects) → HasNoFault o → IsReadWhole o
 read_whole o none = record {
-  entries = λ i e stands. all_ok entry_of e.1.entries (λ h. none BadEntry i i e.0 (record { item = e; stands = stands; faulty = h; named = refl; alone = refl }));
+  entries =
+      λ i e stands. all_ok entry_of e.1.entries (λ h. none BadEntry i i e.0 (record { item = e; stands = stands; faulty = h; named = refl; alone = refl }));
   allocations = λ i e stands a is.
       both_read a.namespace_selectors a.service_selectors
       (λ h. none PoolSelector i i e.0 (record { item = e; stands = stands; faulty = (rw is h); named = refl; alone = refl }));
   l2s = λ i e stands.
-      both_read e.1.pool_selectors e.1.node_selectors (λ h. none L2Selector i i e.0 (record { item = e; stands = stands; faulty = h; named = refl; alone = refl }));
+      both_read e.1.pool_selectors e.1.node_selectors
+      (λ h. none L2Selector i i e.0 (record { item = e; stands = stands; faulty = h; named = refl; alone = refl }));
   bgps = λ i e stands.
-      both_read e.1.pool_selectors e.1.node_selectors (λ h. none BgpSelector i i e.0 (record { item = e; stands = stands; faulty = h; named = refl; alone = refl }));
-  peers = λ i e stands. selectors_read e.1.node_selectors (λ h. none PeerSelector i i e.0 (record { item = e; stands = stands; faulty = h; named = refl; alone = refl }));
+      both_read e.1.pool_selectors e.1.node_selectors
+      (λ h. none BgpSelector i i e.0 (record { item = e; stands = stands; faulty = h; named = refl; alone = refl }));
+  peers = λ i e stands.
+      selectors_read e.1.node_selectors (λ h. none PeerSelector i i e.0 (record { item = e; stands = stands; faulty = h; named = refl; alone = refl }));
   communities = λ i e stands. all_read o.communities e.1.communities (known i e stands);
 }
   where
@@ -125,8 +139,10 @@ read_whole o none = record {
     known i e stands h =
         let (k, t, at, bad) = in_list (IsUnread o.communities) e.1.communities h in
         elim (bad_number o.communities t bad.0 bad.1) [
-          | inl unknown ↦ none UnknownCommunity i i e.0 (record { item = e; stands = stands; faulty = at_has (IsUnknownText o.communities) e.1.communities k t at unknown; named = refl; alone = refl })
-          | inr (inl text) ↦ none BadText i i e.0 (record { item = e; stands = stands; faulty = at_has IsBadText e.1.communities k t at text; named = refl; alone = refl })
+          | inl unknown ↦ none UnknownCommunity i i e.0
+              (record { item = e; stands = stands; faulty = at_has (IsUnknownText o.communities) e.1.communities k t at unknown; named = refl; alone = refl })
+          | inr (inl text) ↦
+              none BadText i i e.0 (record { item = e; stands = stands; faulty = at_has IsBadText e.1.communities k t at text; named = refl; alone = refl })
           | inr (inr value) ↦
               let (j, c, there, has) = in_list (λ (d : List ℕ × CommunityList). Has (λ v. IsNoCommunity v.1) d.1.values) o.communities value in
               none BadValue j j c.0 (record { item = c; stands = there; faulty = has; named = refl; alone = refl })

@@ -1,5 +1,6 @@
 -- The first list of communities with a name that stood before.
-use Rattle.std.proofs.Common.{◌≡◌, ℕ, zero, suc, ◌<◌, Bool, true, false, ◌||◌, List, [], ◌∷◌, ◌++◌, ◌⊎◌, inl, inr, map, cond, length, Option, Some, None, refl, sym, ◌∙◌, ap, subst, arith, Decides, append_assoc}
+use Rattle.std.proofs.Common.{◌≡◌, ℕ, zero, suc, ◌<◌, Bool, true, false, ◌||◌, List, [], ◌∷◌, ◌++◌, ◌⊎◌, inl, inr, map}
+use Rattle.std.proofs.Common.{cond, length, Option, Some, None, refl, sym, ◌∙◌, ap, subst, arith, Decides, append_assoc}
 use Rattle.std.proofs.lemmas.Bool.{cases_lt}
 use Rattle.std.proofs.lemmas.Bool.Decides.{not_from_Decides}
 use Rattle.std.specs.List.{list_any}
@@ -29,13 +30,15 @@ one_list : (c : List ℕ) (held : List (List ℕ)) (values rest : List Entry)
 one_list c held [] rest = refl
 one_list c held (v ∷ vs) rest = go (list_any (is_at (name_cmp v.0)) held) (one_list c (insert_key name_cmp held v.0) vs rest)
   where
-    go : (b : Bool) → repeat_from (insert_key name_cmp held v.0) (map (λ w. (c, w.0)) vs ++ rest) ≡ cond (repeats (insert_key name_cmp held v.0) vs) (Some c) (repeat_from (names_with (insert_key name_cmp held v.0) vs) rest)
+    go : (b : Bool) → repeat_from (insert_key name_cmp held v.0) (map (λ w. (c, w.0)) vs ++ rest)
+        ≡ cond (repeats (insert_key name_cmp held v.0) vs) (Some c) (repeat_from (names_with (insert_key name_cmp held v.0) vs) rest)
         → cond b (Some c) (repeat_from (insert_key name_cmp held v.0) (map (λ w. (c, w.0)) vs ++ rest))
         ≡ cond (b || repeats (insert_key name_cmp held v.0) vs) (Some c) (repeat_from (names_with (insert_key name_cmp held v.0) vs) rest)
     go true later = refl
     go false later = later
 
-pub all_lists : (held : List (List ℕ)) (communities : List (List ℕ × CommunityList)) → repeat_from held (community_entries communities) ≡ first_repeat held communities
+pub all_lists : (held : List (List ℕ)) (communities : List (List ℕ × CommunityList))
+    → repeat_from held (community_entries communities) ≡ first_repeat held communities
 all_lists held [] = refl
 all_lists held (c ∷ cs) = one_list c.0 held c.1.values (community_entries cs) ∙ rw (all_lists (names_with held c.1.values) cs) refl
 
@@ -63,7 +66,8 @@ record Holds (done : List Entry) (held : List (List ℕ)) : Type 0 where
 holds_more : (done : List Entry) (v : Entry) (held : List (List ℕ)) → Holds done held → Holds (done ++ v ∷ []) (insert_key name_cmp held v.1)
 holds_more done v held h = record {
   to = λ n inside. push_named done v n (elim (in_insert name_cmp-total name_cmp-exact held v.1 n inside) [ inl new ↦ inl new | inr old ↦ inr (h.to n old) ]);
-  from = λ n inside. insert_in name_cmp-total name_cmp-exact held v.1 n (elim (named_push done v n inside) [ inl new ↦ inl new | inr old ↦ inr (h.from n old) ]);
+  from = λ n inside.
+      insert_in name_cmp-total name_cmp-exact held v.1 n (elim (named_push done v n inside) [ inl new ↦ inl new | inr old ↦ inr (h.from n old) ]);
 }
 
 -- an entry whose name stands at a place before
@@ -91,7 +95,8 @@ repeats_from : (entries done rest : List Entry) (held : List (List ℕ)) → ent
     → ((i : ℕ) (v : Entry) → i < length done → ItemAt entries i v → ¬ Repeated entries i v) → Finds (RepeatAt entries) (repeat_from held rest)
 repeats_from entries done [] held split h before = λ first second name f.
     let whole : entries ≡ done = split ∙ append_nil done in
-    before first f.item (let bound : first < length entries = item_bound entries first f.item f.stands in omega (arith, ap (λ (l : List Entry). length l) whole)) f.stands f.faulty
+    before first f.item (let bound : first < length entries = item_bound entries first f.item f.stands in
+    omega (arith, ap (λ (l : List Entry). length l) whole)) f.stands f.faulty
 repeats_from entries done (v ∷ rest) held split h before =
     go (list_any (is_at (name_cmp v.1)) held) (held-Decides name_cmp-total name_cmp-exact held v.1)
     (repeats_from entries (done ++ v ∷ []) rest (insert_key name_cmp held v.1) (split ∙ sym (append_assoc done (v ∷ []) rest)) (holds_more done v held h))
@@ -104,7 +109,8 @@ repeats_from entries done (v ∷ rest) held split h before =
     least first second name f (inr tied) = let alone = f.alone in omega arith
 
     go : (b : Bool) → Decides b (IsIn held v.1)
-        → (((i : ℕ) (w : Entry) → i < length (done ++ v ∷ []) → ItemAt entries i w → ¬ Repeated entries i w) → Finds (RepeatAt entries) (repeat_from (insert_key name_cmp held v.1) rest))
+        → (((i : ℕ) (w : Entry) → i < length (done ++ v ∷ []) → ItemAt entries i w → ¬ Repeated entries i w)
+        → Finds (RepeatAt entries) (repeat_from (insert_key name_cmp held v.1) rest))
         → Finds (RepeatAt entries) (cond b (Some v.0) (repeat_from (insert_key name_cmp held v.1) rest))
     go true decides later =
         let (k, w, below, stands, is) = named_before done (v ∷ rest) v.1 (h.to v.1 (decides.0 refl)) in
@@ -139,4 +145,5 @@ pub finds_repeat : (communities : List (List ℕ × CommunityList)) → Finds (R
 finds_repeat communities =
     let P : Option (List ℕ) → Type 0 = Finds (RepeatAt (community_entries communities)) in
     subst P (all_lists [] communities)
-    (repeats_from (community_entries communities) [] (community_entries communities) [] refl (record { to = λ n h. h; from = λ n h. h }) (λ i v below. absurd (omega arith)))
+    (repeats_from (community_entries communities) [] (community_entries communities) [] refl (record { to = λ n h. h; from = λ n h. h })
+    (λ i v below. absurd (omega arith)))

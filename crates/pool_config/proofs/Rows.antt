@@ -1,5 +1,6 @@
 -- Each condition, and what is found for it.
-use Rattle.std.proofs.Common.{◌≡◌, ℕ, ◌<◌, ◌==◌, Bool, true, false, ◌&&◌, List, [], ◌∷◌, ◌++◌, ◌⊎◌, inl, inr, map, cond, length, Option, Some, None, is_some, is_none, refl, arith, Decides}
+use Rattle.std.proofs.Common.{◌≡◌, ℕ, ◌<◌, ◌==◌, Bool, true, false, ◌&&◌, List, [], ◌∷◌, ◌++◌, ◌⊎◌, inl, inr}
+use Rattle.std.proofs.Common.{map, cond, length, Option, Some, None, is_some, is_none, refl, arith, Decides}
 use Rattle.std.proofs.lemmas.Bool.{false≢true}
 use Rattle.std.proofs.lemmas.Bool.Decides.{Decides-and, Decides-not, Decides-at, Decides-ltb, Decides-eqb}
 use Rattle.std.proofs.lemmas.Map.Made.{is_some-lookup}
@@ -16,7 +17,10 @@ use Rattle.kube_model.specs.declared.peer.BgpPeer.{BgpPeer}
 use Rattle.kube_model.specs.declared.community.CommunityList.{CommunityList}
 use Rattle.pool_config.specs.declared.compiled.CompiledPool.{CompiledPool}
 use Rattle.pool_config.specs.declared.compiled.CompiledBgp.{CompiledBgp}
-use Rattle.pool_config.specs.Faults.{Row, ManyPools, ManyEntries, ManyTexts, ManyLarge, BadEntry, NoEntry, Overlap, PoolSelector, L2Selector, BgpSelector, PeerSelector, Aggregation, PrefClash, UnknownCommunity, BadValue, BadText, TwiceNamed, UnknownPeer, key_of, FaultAt, IsBadEntry, IsBadSelector, allocation_selectors, AggregatesTooFar, Clash, ChoosesPool, length_for, IsTooShort, HaveEqualLength, IsCommunityName, IsNoCommunity, IsUnknownText, IsBadText, all_with_large}
+use Rattle.pool_config.specs.Faults.{Row, ManyPools, ManyEntries, ManyTexts, ManyLarge, BadEntry, NoEntry, Overlap, PoolSelector, L2Selector}
+use Rattle.pool_config.specs.Faults.{BgpSelector, PeerSelector, Aggregation, PrefClash, UnknownCommunity, BadValue, BadText, TwiceNamed, UnknownPeer}
+use Rattle.pool_config.specs.Faults.{key_of, FaultAt, IsBadEntry, IsBadSelector, allocation_selectors, AggregatesTooFar, Clash, ChoosesPool}
+use Rattle.pool_config.specs.Faults.{length_for, IsTooShort, HaveEqualLength, IsCommunityName, IsNoCommunity, IsUnknownText, IsBadText, all_with_large}
 use Rattle.pool_config.specs.Lists.{lists_of, named_value}
 use Rattle.pool_config.specs.Large.{large_of}
 use Rattle.pool_config.specs.Numbers.{has_colon, number_of}
@@ -25,7 +29,9 @@ use Rattle.kube_labels.specs.Names.{name_cmp}
 use Rattle.mlb_base.specs.Items.{Has, IsIn}
 use Rattle.mlb_base.proofs.Lists.{Decides-has}
 use Rattle.mlb_base.proofs.Bools.{Decides-itself}
-use Rattle.pool_config.specs.Search.{found_at, clash, aggregates_too_far, has_many_entries, has_bad_entry, has_no_entry, has_bad_selector, has_bad_allocation, has_bad_in_l2, has_bad_in_bgp, has_bad_in_peer, is_bad_selector, is_bad_entry, is_unknown, is_no_community, has_bad_value, is_bad_text, is_unknown_peer, is_too_short, chooses_pool, has_equal_length}
+use Rattle.pool_config.specs.Search.{found_at, clash, aggregates_too_far, has_many_entries, has_bad_entry, has_no_entry, has_bad_selector}
+use Rattle.pool_config.specs.Search.{has_bad_allocation, has_bad_in_l2, has_bad_in_bgp, has_bad_in_peer, is_bad_selector, is_bad_entry, is_unknown}
+use Rattle.pool_config.specs.Search.{is_no_community, has_bad_value, is_bad_text, is_unknown_peer, is_too_short, chooses_pool, has_equal_length}
 use Rattle.pool_config.proofs.Firsts.{Finds, finds_item, finds_named, finds_pair}
 use Rattle.pool_config.proofs.Limits.{finds_at, finds_past}
 use Rattle.pool_config.proofs.LargeTexts.{no_large-Decides}
@@ -57,7 +63,8 @@ chosen adv pool = chooses-Decides adv.pools adv.pool_selectors pool.name pool.la
 too_far : (pools : List CompiledPool) (adv : CompiledBgp) → Decides (aggregates_too_far pools adv) (AggregatesTooFar pools adv)
 too_far pools adv =
     Decides-has (λ pool. chooses_pool adv pool && list_any (is_too_short adv) pool.spans) (λ pool. ChoosesPool adv pool × Has (IsTooShort adv) pool.spans)
-    (λ pool. Decides-and _ _ (chosen adv pool) (Decides-has (is_too_short adv) (IsTooShort adv) (λ span. Decides-ltb (length_for adv span.family) (least_length_of span)) pool.spans)) pools
+    (λ pool. Decides-and _ _ (chosen adv pool)
+    (Decides-has (is_too_short adv) (IsTooShort adv) (λ span. Decides-ltb (length_for adv span.family) (least_length_of span)) pool.spans)) pools
 
 clashes : (pools : List CompiledPool) (a b : CompiledBgp) → Decides (clash pools a b) (Clash pools a b)
 clashes pools a b =
@@ -89,7 +96,8 @@ unknown : (communities : List (List ℕ × CommunityList)) (t : List ℕ) → De
 unknown communities t = Decides-and _ _ (Decides-not _ (Decides-itself (has_colon t))) (Decides-none (named_value communities t) (name_known communities t))
 
 unknown_peer : (peers : List (List ℕ × BgpPeer)) (t : List ℕ) → Decides (is_unknown_peer peers t) (¬ IsIn (map key_of peers) t)
-unknown_peer peers t = Decides-none (lookup (is_at (name_cmp t)) peers) (Decides-at _ _ (is_some-lookup (is_at (name_cmp t)) peers) (held-Decides name_cmp-total name_cmp-exact (keys_of peers) t))
+unknown_peer peers t = Decides-none (lookup (is_at (name_cmp t)) peers)
+    (Decides-at _ _ (is_some-lookup (is_at (name_cmp t)) peers) (held-Decides name_cmp-total name_cmp-exact (keys_of peers) t))
 
 no_community : (text : List ℕ) → Decides (is_no_community text) (IsNoCommunity text)
 no_community text = Decides-and (is_none (number_of text)) (is_none (large_of text)) (no_number-Decides text) (no_large-Decides text)
@@ -107,7 +115,8 @@ finds o PoolSelector = finds_named has_bad_allocation (λ pool. Has IsBadSelecto
 finds o L2Selector = finds_named has_bad_in_l2 (λ adv. Has IsBadSelector (adv.pool_selectors ++ adv.node_selectors)) (λ adv. bad_selector _) o.l2s
 finds o BgpSelector = finds_named has_bad_in_bgp (λ adv. Has IsBadSelector (adv.pool_selectors ++ adv.node_selectors)) (λ adv. bad_selector _) o.bgps
 finds o PeerSelector = finds_named has_bad_in_peer (λ peer. Has IsBadSelector peer.node_selectors) (λ peer. bad_selector _) o.peers
-finds o Aggregation = finds_item (λ adv. adv.name) (aggregates_too_far (lists_of o).pools) (AggregatesTooFar (lists_of o).pools) (too_far (lists_of o).pools) (lists_of o).bgp
+finds o Aggregation =
+    finds_item (λ adv. adv.name) (aggregates_too_far (lists_of o).pools) (AggregatesTooFar (lists_of o).pools) (too_far (lists_of o).pools) (lists_of o).bgp
 finds o PrefClash = finds_pair (λ adv. adv.name) (clash (lists_of o).pools) (Clash (lists_of o).pools) (clashes (lists_of o).pools) (lists_of o).bgp
 finds o UnknownCommunity =
     finds_named (λ adv. list_any (is_unknown o.communities) adv.communities) (λ adv. Has (IsUnknownText o.communities) adv.communities)

@@ -24,10 +24,12 @@ use Rattle.pool_config.specs.Objects.{put_at, set_put, set_without}
 
 is_put : {T : Type 0} (entries : List (List ℕ × Versioned T)) (name : List ℕ) (object : T) → IsPut entries name object (put_at entries name object)
 is_put {T} entries name object = λ other.
-    ap (λ (h : Option (Versioned T)). option_map (λ v. v.object) h) (lookup-insert_entry name_cmp-total entries name other (record { version = version_at name_cmp entries name; object = object }))
+    ap (λ (h : Option (Versioned T)). option_map (λ v. v.object) h)
+    (lookup-insert_entry name_cmp-total entries name other (record { version = version_at name_cmp entries name; object = object }))
     ∙ go (is_eq (name_cmp other name)) (lookup (is_at (name_cmp other)) entries)
   where
-    go : (b : Bool) (h : Option (Versioned T)) → option_map (λ v. v.object) (cond b (Some (record { version = version_at name_cmp entries name; object = object })) h) ≡ cond b (Some object) (option_map (λ v. v.object) h)
+    go : (b : Bool) (h : Option (Versioned T)) → option_map (λ v. v.object)
+        (cond b (Some (record { version = version_at name_cmp entries name; object = object })) h) ≡ cond b (Some object) (option_map (λ v. v.object) h)
     go true h = refl
     go false h = refl
 
@@ -46,7 +48,8 @@ sets_put_in_place s (objects.Slice slice) = refl
 flipped : (x y : List ℕ) → eq_by_cmp name_cmp x y ≡ eq_by_cmp name_cmp y x
 flipped x y = (eq_by_cmp_equiv name_cmp-total).symm x y
 
-is_taken_out : {T : Type 0} (entries : List (List ℕ × Versioned T)) (name : List ℕ) → Ascend (keys_of entries) → IsTakenOut entries name (remove_entry (is_at (name_cmp name)) entries)
+is_taken_out : {T : Type 0} (entries : List (List ℕ × Versioned T)) (name : List ℕ) → Ascend (keys_of entries)
+    → IsTakenOut entries name (remove_entry (is_at (name_cmp name)) entries)
 is_taken_out {T} entries name ascends = λ other.
     ap (λ (h : Option (Versioned T)). option_map (λ v. v.object) h)
     (lookup-remove_entry (eq_by_cmp_equiv name_cmp-total) (is_at (name_cmp name)) one other entries (IsDistinct-from_sorted name_cmp (keys_of entries) ascends))

@@ -1,5 +1,6 @@
 -- Spans that share an address, and the test of it on spans that are read of entries.
-use Rattle.std.proofs.Common.{◌≡◌, ℕ, zero, suc, ◌+◌, ◌≤◌, Bool, true, false, List, [], ◌∷◌, ◌++◌, length, map, cond, not, Option, Some, None, Result, Ok, Err, max, refl, sym, ◌∙◌, subst, arith}
+use Rattle.std.proofs.Common.{◌≡◌, ℕ, zero, suc, ◌+◌, ◌≤◌, Bool, true, false, List, [], ◌∷◌, ◌++◌, length, map}
+use Rattle.std.proofs.Common.{cond, not, Option, Some, None, Result, Ok, Err, max, refl, sym, ◌∙◌, subst, arith}
 use Rattle.std.proofs.lemmas.Bool.{and_parts, and_from, leb-true, le-leb, ltb-false}
 use Rattle.std.specs.List.{AllByRecursion, cons_option}
 use Rattle.std.specs.Prelude.{nat_lt}
@@ -56,7 +57,8 @@ bound (Err z) f y e = absurd (let h : Err z ≡ Ok y = e in cc)
 between_rises : (low high : AddressValue) (s : SpanValue) → span_between low high ≡ Ok s → Rises s
 between_rises low high s e = go (same_family low.family high.family) (nat_lt high.number low.number) refl e
   where
-    go : (b c : Bool) → nat_lt high.number low.number ≡ c → cond (not b) (Err MixedFamilies) (cond c (Err Backwards) (Ok (record { family = low.family; low = low.number; high = high.number }))) ≡ Ok s → Rises s
+    go : (b c : Bool) → nat_lt high.number low.number ≡ c
+        → cond (not b) (Err MixedFamilies) (cond c (Err Backwards) (Ok (record { family = low.family; low = low.number; high = high.number }))) ≡ Ok s → Rises s
     go false c is found = absurd (let h : Err MixedFamilies ≡ Ok s = found in cc)
     go true true is found = absurd (let h : Err Backwards ≡ Ok s = found in cc)
     go true false is found =
@@ -78,7 +80,8 @@ le_add a b = omega arith
 prefix_rises : (address_text length_text : List ℕ) (s : SpanValue) → prefix_of address_text length_text ≡ Ok s → Rises s
 prefix_rises address_text length_text s e =
     let g : AddressValue → ℕ → Result SpanValue RangeFault = λ address length. Ok (span_of (masked address length)) in
-    let f : AddressValue → Result SpanValue RangeFault = λ address. bind (length_within (width_of address.family) (whole_value (read_octet length_text))) (g address) in
+    let f : AddressValue → Result SpanValue RangeFault =
+    λ address. bind (length_within (width_of address.family) (whole_value (read_octet length_text))) (g address) in
     let h : bind (address_of address_text) f ≡ Ok s = e in
     let (address, rest) = bound (address_of address_text) f s h in
     let (length, last) = bound (length_within (width_of address.family) (whole_value (read_octet length_text))) (g address) s rest in
@@ -90,7 +93,8 @@ prefix_rises address_text length_text s e =
 written_rises : (text : List ℕ) (s : SpanValue) → written_span text ≡ Ok s → Rises s
 written_rises text s e = go (nat_lt (position_or_len is_dash text) (length text)) e
   where
-    go : (b : Bool) → cond b (range_of (before_first is_dash text) (after_first is_dash text)) (prefix_of (before_first is_slash text) (after_first is_slash text)) ≡ Ok s → Rises s
+    go : (b : Bool) → cond b (range_of (before_first is_dash text) (after_first is_dash text))
+        (prefix_of (before_first is_slash text) (after_first is_slash text)) ≡ Ok s → Rises s
     go true found = range_rises (before_first is_dash text) (after_first is_dash text) s found
     go false found = prefix_rises (before_first is_slash text) (after_first is_slash text) s found
 
@@ -113,7 +117,8 @@ all_rise : (entries : List (List ℕ)) → AllByRecursion Rises (spans_of entrie
 all_rise [] = tt
 all_rise (t ∷ ts) = go (entry_of t) refl (all_rise ts)
   where
-    go : (r : Result SpanValue RangeFault) → entry_of t ≡ r → AllByRecursion Rises (spans_of ts) → AllByRecursion Rises (cons_option (result_ok r) (spans_of ts))
+    go : (r : Result SpanValue RangeFault) → entry_of t ≡ r → AllByRecursion Rises (spans_of ts)
+        → AllByRecursion Rises (cons_option (result_ok r) (spans_of ts))
     go (Ok s) e rest = (entry_rises t s e, rest)
     go (Err f) e rest = rest
 
@@ -138,12 +143,15 @@ rises_at [] all i x stands = absurd stands
 rises_at (y ∷ ys) all zero x stands = let P : Placed → Type 0 = PlacedRises in subst P stands all.0
 rises_at (y ∷ ys) all (suc i) x stands = rises_at ys all.1 i x stands
 
-pub pools_rise : (entries : List (List ℕ × Pool)) (pools : List CompiledPool) → pools ≡ map compiled_pool entries → (i : ℕ) (x : Placed) → ItemAt (placed_spans pools) i x → PlacedRises x
+pub pools_rise : (entries : List (List ℕ × Pool)) (pools : List CompiledPool) → pools ≡ map compiled_pool entries → (i : ℕ) (x : Placed)
+    → ItemAt (placed_spans pools) i x → PlacedRises x
 pools_rise entries pools made i x stands =
-    rises_at (placed_spans (map compiled_pool entries)) (all_placed_rise entries) i x (subst (λ (ps : List CompiledPool). ItemAt (placed_spans ps) i x) made stands)
+    rises_at (placed_spans (map compiled_pool entries)) (all_placed_rise entries) i x
+    (subst (λ (ps : List CompiledPool). ItemAt (placed_spans ps) i x) made stands)
 
 -- what finds one fault finds another that is as good
-finds_like : (F G : ℕ → ℕ → List ℕ → Type 0) → ((i j : ℕ) (n : List ℕ) → F i j n → G i j n) → ((i j : ℕ) (n : List ℕ) → G i j n → F i j n) → (r : Option (List ℕ))
+finds_like : (F G : ℕ → ℕ → List ℕ → Type 0) → ((i j : ℕ) (n : List ℕ) → F i j n → G i j n) → ((i j : ℕ) (n : List ℕ) → G i j n → F i j n)
+    → (r : Option (List ℕ))
     → Finds F r → Finds G r
 finds_like F G to from None none = λ i j n g. none i j n (from i j n g)
 finds_like F G to from (Some name) f =
@@ -151,7 +159,8 @@ finds_like F G to from (Some name) f =
 
 -- the first two entries that overlap
 pub finds_overlap : (pools : List (List ℕ × Pool))
-    → Finds (FaultyPair key_of (λ a b. Overlaps a.1 b.1) (placed_spans (map compiled_pool pools))) (first_pair key_of meet (placed_spans (map compiled_pool pools)))
+    → Finds (FaultyPair key_of (λ a b. Overlaps a.1 b.1) (placed_spans (map compiled_pool pools)))
+    (first_pair key_of meet (placed_spans (map compiled_pool pools)))
 finds_overlap pools =
     finds_like (FaultyPair key_of Meet spans) (FaultyPair key_of Share spans) to from (first_pair key_of meet spans)
     (finds_pair key_of meet Meet (λ a b. Decides-itself (meet a b)) spans)

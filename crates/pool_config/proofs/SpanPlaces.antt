@@ -1,5 +1,6 @@
 -- What a search among the spans in order finds is the pool that has the address.
-use Rattle.std.proofs.Common.{◌≡◌, ℕ, zero, suc, ◌+◌, ◌-◌, ◌<◌, ◌≤◌, Bool, true, false, List, [], ◌∷◌, ◌++◌, ◌⊎◌, inl, inr, map, cond, length, get_or, Option, Some, None, refl, sym, ◌∙◌, ap, subst, arith, IfSome, IfNone, Contains}
+use Rattle.std.proofs.Common.{◌≡◌, ℕ, zero, suc, ◌+◌, ◌-◌, ◌<◌, ◌≤◌, Bool, true, false, List, [], ◌∷◌, ◌++◌, ◌⊎◌, inl, inr, map}
+use Rattle.std.proofs.Common.{cond, length, get_or, Option, Some, None, refl, sym, ◌∙◌, ap, subst, arith, IfSome, IfNone, Contains}
 use Rattle.std.proofs.lemmas.Bool.{cases_order, cases_lt, leb-true, le-leb, true≢false}
 use Rattle.std.proofs.lemmas.List.Sorted.{Contains-permutation, IsPermutation-refl, IsPermutation-sym}
 use Rattle.std.specs.Prelude.{nat_le}
@@ -21,7 +22,8 @@ use Rattle.pool_config.proofs.ItemLaws.{has_left, has_right, has_map, in_list, a
 use Rattle.pool_config.proofs.OnePool.{Placed, item_left, item_right, holder_found, holder_only}
 
 -- ---- a search by halves
-module _ (xs : List PlacedSpan) (n i : ℕ) (point : IsPartitionPoint (λ (s : PlacedSpan). nat_le s.low n ≡ true) (λ (s : PlacedSpan). nat_le s.low n ≡ false) xs i) where
+module _ (xs : List PlacedSpan) (n i : ℕ)
+    (point : IsPartitionPoint (λ (s : PlacedSpan). nat_le s.low n ≡ true) (λ (s : PlacedSpan). nat_le s.low n ≡ false) xs i) where
   -- a span that has the number is among those that have begun
   begun : (s : PlacedSpan) (there : Contains xs s) → s.low ≤ n → there.0 < i
   begun s there low = elim (cases_lt there.0 i) [
@@ -53,7 +55,8 @@ module _ (xs : List PlacedSpan) (n i : ℕ) (point : IsPartitionPoint (λ (s : P
         let from_s : get_or xs there.0 s ≡ s = there.2 in
         let rises : (get_or xs there.0 last).low ≤ (get_or xs (i - 1) last).low = ascend there.0 (i - 1) last (omega arith) (omega arith) in
         let here : get_or xs there.0 last ≡ s = get_or-any xs there.0 last s there.1 ∙ from_s in
-        let low : s.low ≤ last.low = subst (λ (t : PlacedSpan). s.low ≤ t.low) at (subst (λ (t : PlacedSpan). t.low ≤ (get_or xs (i - 1) last).low) here rises) in
+        let low : s.low ≤ last.low =
+        subst (λ (t : PlacedSpan). s.low ≤ t.low) at (subst (λ (t : PlacedSpan). t.low ≤ (get_or xs (i - 1) last).low) here rises) in
         (last, last-there, low, last-low, ended)
       where
         get_or-any : (ys : List PlacedSpan) (k : ℕ) (d e : PlacedSpan) → k < length ys → get_or ys k d ≡ get_or ys k e
@@ -109,7 +112,8 @@ listed family (p ∷ ps) place s there = elim (has-cases (λ t. t ≡ s) (filter
 ]
 
 -- each span of a pool is in the index
-lists : (family : Family) (pools : List CompiledPool) (place i m : ℕ) (p : CompiledPool) (u : SpanValue) → m ≡ place + i → ItemAt pools i p → IsIn p.spans u → u.family ≡ family
+lists : (family : Family) (pools : List CompiledPool) (place i m : ℕ) (p : CompiledPool) (u : SpanValue) → m ≡ place + i → ItemAt pools i p → IsIn p.spans u
+    → u.family ≡ family
     → IsIn (spans_in family place pools) (record { low = u.low; high = u.high; pool = m })
 lists family [] place i m p u is none there same = absurd none
 lists family (q ∷ ps) place zero m p u is stands there same =
@@ -123,10 +127,12 @@ lists family (q ∷ ps) place zero m p u is stands there same =
     passes = rw (same, same_family-itself family) refl
 lists family (q ∷ ps) place (suc i) m p u is stands there same =
     let s : PlacedSpan = record { low = u.low; high = u.high; pool = m } in
-    has_right (λ t. t ≡ s) (filter_map (placed_in family place) q.spans) (spans_in family (place + 1) ps) (lists family ps (place + 1) i m p u (omega arith) stands there same)
+    has_right (λ t. t ≡ s) (filter_map (placed_in family place) q.spans) (spans_in family (place + 1) ps)
+    (lists family ps (place + 1) i m p u (omega arith) stands there same)
 
 -- ---- spans that share an address are one
-placed-at : (pools : List CompiledPool) (i : ℕ) (p : CompiledPool) (u : SpanValue) → ItemAt pools i p → IsIn p.spans u → (m : ℕ) × (x : Placed) × ItemAt (placed_spans pools) m x × (x.1 ≡ u)
+placed-at : (pools : List CompiledPool) (i : ℕ) (p : CompiledPool) (u : SpanValue) → ItemAt pools i p → IsIn p.spans u
+    → (m : ℕ) × (x : Placed) × ItemAt (placed_spans pools) m x × (x.1 ≡ u)
 placed-at [] i p u none there = absurd none
 placed-at (q ∷ ps) zero p u stands there =
     let here : IsIn q.spans u = subst (λ (p : CompiledPool). IsIn p.spans u) (sym stands) there in
@@ -156,7 +162,8 @@ module _ (pools : List CompiledPool) (index : SpanIndex) (apart : AreApart (plac
 
   in-pool : (s : PlacedSpan) → Contains spans s → (p : CompiledPool) × ItemAt pools s.pool p × IsIn p.spans (span_from a.family s)
   in-pool s there =
-      let (k, below, at) = Contains-permutation spans (spans_in a.family 0 pools) s (IsPermutation-sym (spans_in a.family 0 pools) spans (of.same a.family)) there in
+      let (k, below, at) =
+      Contains-permutation spans (spans_in a.family 0 pools) s (IsPermutation-sym (spans_in a.family 0 pools) spans (of.same a.family)) there in
       let (i, p, place, stands, has) = listed a.family pools 0 s (contains-in (spans_in a.family 0 pools) s k below at) in
       let same : i ≡ s.pool = omega arith in
       (p, subst (λ (k : ℕ). ItemAt pools k p) same stands, has)
@@ -169,14 +176,16 @@ module _ (pools : List CompiledPool) (index : SpanIndex) (apart : AreApart (plac
       let address : HasAddress a p = at_has (λ t. Holds t a) p.spans k u stood (subst (λ (t : SpanValue). Holds t a) (sym is) holds) in
       holder_only pools apart a place p (subst (λ (k : ℕ). ItemAt pools k p) at stands) address
 
-  none-is : AreCut spans a.number → (r : Option ℕ) → pool_of pools a ≡ r → IfSome r (λ place. (pool : CompiledPool) × ItemAt pools place pool × HasAddress a pool) → None ≡ r
+  none-is : AreCut spans a.number → (r : Option ℕ) → pool_of pools a ≡ r
+      → IfSome r (λ place. (pool : CompiledPool) × ItemAt pools place pool × HasAddress a pool) → None ≡ r
   none-is cut None is found = refl
   none-is cut (Some place) is (p, stands, has) =
       let (k, u, stood, holds) = in_list (λ t. Holds t a) p.spans has in
       let (family, low, high) = holds in
       let inside : IsIn p.spans u = at_has (λ t. t ≡ u) p.spans k u stood refl in
       let s : PlacedSpan = record { low = u.low; high = u.high; pool = place } in
-      let there : Contains spans s = Contains-permutation (spans_in a.family 0 pools) spans s (of.same a.family) (in-contains (spans_in a.family 0 pools) s (lists a.family pools 0 place place p u (omega arith) stands inside family)) in
+      let there : Contains spans s = Contains-permutation (spans_in a.family 0 pools) spans s (of.same a.family)
+      (in-contains (spans_in a.family 0 pools) s (lists a.family pools 0 place place p u (omega arith) stands inside family)) in
       let (t, t_there, above, t_low, ended) = cut s there (low, high) in
       let (q, q_stands, q_has) = in-pool t t_there in
       let (i, x, x_at, x_is) = placed-at pools place p u stands inside in

@@ -8,12 +8,15 @@ use Rattle.ip_ranges.specs.Values.{SpanValue, IsRange}
 use Rattle.pool_config.specs.declared.compiled.CompiledPool.{CompiledPool}
 use Rattle.pool_config.specs.Bounds.{all_spans}
 
-spans_more : (pools : List CompiledPool) (i : ℕ) (p : CompiledPool) → i < length pools → p ≡ get_or pools i p → all_spans (drop i pools) ≡ p.spans ++ all_spans (drop (i + 1) pools)
+spans_more : (pools : List CompiledPool) (i : ℕ) (p : CompiledPool) → i < length pools → p ≡ get_or pools i p
+    → all_spans (drop i pools) ≡ p.spans ++ all_spans (drop (i + 1) pools)
 spans_more pools i p below is = rw add-one (ap all_spans (drop-cons pools i p below ∙ ap (λ q. q ∷ drop (suc i) pools) (sym is)))
 
 -- the numbers of one more pool
-pub numbers_more : (h : SpanValue → Option ℕ) (pools : List CompiledPool) (i : ℕ) (p : CompiledPool) → i < length pools → p ≡ get_or pools i p → (before after all : List ℕ)
-    → after ≡ before ++ filter_map h p.spans → before ++ filter_map h (all_spans (drop i pools)) ≡ all → after ++ filter_map h (all_spans (drop (i + 1) pools)) ≡ all
+pub numbers_more : (h : SpanValue → Option ℕ) (pools : List CompiledPool) (i : ℕ) (p : CompiledPool) → i < length pools → p ≡ get_or pools i p
+    → (before after all : List ℕ)
+    → after ≡ before ++ filter_map h p.spans → before ++ filter_map h (all_spans (drop i pools)) ≡ all
+    → after ++ filter_map h (all_spans (drop (i + 1) pools)) ≡ all
 numbers_more h pools i p below is before after all pushed so_far =
     rw (pushed, append_assoc, ← filter_map-append h p.spans (all_spans (drop (i + 1) pools)), ← spans_more pools i p below is) so_far
 

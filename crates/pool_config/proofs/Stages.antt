@@ -42,33 +42,40 @@ module _ (s : ObjectSet) where
   pub refused_overlap : found_among (objects_of s) pool_rows ≡ None
       → (fault : ConfigFault) → found_among (objects_of s) overlap_rows ≡ Some fault → compiled s ≡ Err fault
   refused_overlap a fault e =
-      refused fault (passed (objects_of s) pool_rows (overlap_rows ++ (selector_rows ++ (advertised_rows ++ name_rows))) (Some fault) a (stopped (objects_of s) overlap_rows (selector_rows ++ (advertised_rows ++ name_rows)) fault e))
+      refused fault (passed (objects_of s) pool_rows (overlap_rows ++ (selector_rows ++ (advertised_rows ++ name_rows))) (Some fault) a
+      (stopped (objects_of s) overlap_rows (selector_rows ++ (advertised_rows ++ name_rows)) fault e))
 
   pub refused_selectors : found_among (objects_of s) pool_rows ≡ None → found_among (objects_of s) overlap_rows ≡ None
       → (fault : ConfigFault) → found_among (objects_of s) selector_rows ≡ Some fault → compiled s ≡ Err fault
   refused_selectors a b fault e =
       refused fault (passed (objects_of s) pool_rows (overlap_rows ++ (selector_rows ++ (advertised_rows ++ name_rows))) (Some fault) a
-      (passed (objects_of s) overlap_rows (selector_rows ++ (advertised_rows ++ name_rows)) (Some fault) b (stopped (objects_of s) selector_rows (advertised_rows ++ name_rows) fault e)))
+      (passed (objects_of s) overlap_rows (selector_rows ++ (advertised_rows ++ name_rows)) (Some fault) b
+      (stopped (objects_of s) selector_rows (advertised_rows ++ name_rows) fault e)))
 
-  pub refused_advertised : found_among (objects_of s) pool_rows ≡ None → found_among (objects_of s) overlap_rows ≡ None → found_among (objects_of s) selector_rows ≡ None
+  pub refused_advertised : found_among (objects_of s) pool_rows ≡ None → found_among (objects_of s) overlap_rows ≡ None
+      → found_among (objects_of s) selector_rows ≡ None
       → (fault : ConfigFault) → found_among (objects_of s) advertised_rows ≡ Some fault → compiled s ≡ Err fault
   refused_advertised a b c fault e =
       refused fault (passed (objects_of s) pool_rows (overlap_rows ++ (selector_rows ++ (advertised_rows ++ name_rows))) (Some fault) a
       (passed (objects_of s) overlap_rows (selector_rows ++ (advertised_rows ++ name_rows)) (Some fault) b
       (passed (objects_of s) selector_rows (advertised_rows ++ name_rows) (Some fault) c (stopped (objects_of s) advertised_rows name_rows fault e))))
 
-  pub last_of_them : found_among (objects_of s) pool_rows ≡ None → found_among (objects_of s) overlap_rows ≡ None → found_among (objects_of s) selector_rows ≡ None
-      → found_among (objects_of s) advertised_rows ≡ None → (r : Option ConfigFault) → found_among (objects_of s) name_rows ≡ r → found_among (objects_of s) rows ≡ r
+  pub last_of_them : found_among (objects_of s) pool_rows ≡ None → found_among (objects_of s) overlap_rows ≡ None
+      → found_among (objects_of s) selector_rows ≡ None
+      → found_among (objects_of s) advertised_rows ≡ None → (r : Option ConfigFault) → found_among (objects_of s) name_rows ≡ r
+      → found_among (objects_of s) rows ≡ r
   last_of_them a b c d r e =
       passed (objects_of s) pool_rows (overlap_rows ++ (selector_rows ++ (advertised_rows ++ name_rows))) r a
       (passed (objects_of s) overlap_rows (selector_rows ++ (advertised_rows ++ name_rows)) r b
       (passed (objects_of s) selector_rows (advertised_rows ++ name_rows) r c (passed (objects_of s) advertised_rows name_rows r d e)))
 
-  pub refused_names : found_among (objects_of s) pool_rows ≡ None → found_among (objects_of s) overlap_rows ≡ None → found_among (objects_of s) selector_rows ≡ None
+  pub refused_names : found_among (objects_of s) pool_rows ≡ None → found_among (objects_of s) overlap_rows ≡ None
+      → found_among (objects_of s) selector_rows ≡ None
       → found_among (objects_of s) advertised_rows ≡ None → (fault : ConfigFault) → found_among (objects_of s) name_rows ≡ Some fault → compiled s ≡ Err fault
   refused_names a b c d fault e = refused fault (last_of_them a b c d (Some fault) e)
 
-  pub accepted_all : found_among (objects_of s) pool_rows ≡ None → found_among (objects_of s) overlap_rows ≡ None → found_among (objects_of s) selector_rows ≡ None
+  pub accepted_all : found_among (objects_of s) pool_rows ≡ None → found_among (objects_of s) overlap_rows ≡ None
+      → found_among (objects_of s) selector_rows ≡ None
       → found_among (objects_of s) advertised_rows ≡ None → found_among (objects_of s) name_rows ≡ None → compiled s ≡ Ok (lists_of (objects_of s))
   accepted_all a b c d e = accepted (last_of_them a b c d None e)
 
@@ -78,7 +85,8 @@ apart_spans spans none = go (first_pair key_of meet spans) none (finds_pair key_
   where
     go : (r : Option (List ℕ)) → r ≡ None → Finds (FaultyPair key_of (λ a b. meet a b ≡ true) spans) r → AreApart spans
     go None e found = λ i j a b below ha hb (x, in_a, in_b).
-        found i j b.0 (record { one = a; other = b; ordered = below; one_stands = ha; other_stands = hb; faulty = overlaps-from a.1 b.1 x in_a in_b; named = refl })
+        found i j b.0
+        (record { one = a; other = b; ordered = below; one_stands = ha; other_stands = hb; faulty = overlaps-from a.1 b.1 x in_a in_b; named = refl })
     go (Some name) e found = absurd (let h : Some name ≡ None = e in cc)
 
 pub apart_checked : {U E : Type 0} (spans : List (List ℕ × SpanValue)) (found : Option (List ℕ)) (r : Result U E) → found ≡ first_pair key_of meet spans

@@ -43,7 +43,8 @@ AllAreCompiledRight = (s : ObjectSet) → IsCompiledRight s
 
 -- the object is held under the name, and every other name holds what it held
 abbrev pub IsPut : {T : Type 0} → List (List ℕ × Versioned T) → List ℕ → T → List (List ℕ × Versioned T) → Type 0
-IsPut old name object new = (other : List ℕ) → object_at name_cmp new other ≡ (if is_eq (name_cmp other name) then Some object else object_at name_cmp old other)
+IsPut old name object new =
+    (other : List ℕ) → object_at name_cmp new other ≡ (if is_eq (name_cmp other name) then Some object else object_at name_cmp old other)
 
 -- the object is put in place of the one of its kind and name, and every other object stays
 abbrev pub IsSet : ObjectSet → Object → ObjectSet → Type 0

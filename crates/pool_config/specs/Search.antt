@@ -1,5 +1,6 @@
 -- The first fault, as it is found.
-use Rattle.std.specs.Prelude.{◌≡◌, ℕ, ◌-◌, Bool, false, ◌&&◌, ◌||◌, not, List, [], ◌∷◌, ◌++◌, length, map, find, Option, Some, None, is_err, is_none, if◌then◌else◌, ◌==◌, nat_lt}
+use Rattle.std.specs.Prelude.{◌≡◌, ℕ, ◌-◌, Bool, false, ◌&&◌, ◌||◌, not, List, [], ◌∷◌, ◌++◌, length, map}
+use Rattle.std.specs.Prelude.{find, Option, Some, None, is_err, is_none, if◌then◌else◌, ◌==◌, nat_lt}
 use Rattle.std.specs.List.{list_any}
 use Rattle.std.specs.Option.{option_map, option_or}
 use Rattle.std.specs.Map.{lookup}
@@ -21,7 +22,9 @@ use Rattle.pool_config.specs.declared.compile_objects.CompileFault.TheVariants.{
 use Rattle.pool_config.specs.declared.compiled.CompiledPool.{CompiledPool}
 use Rattle.pool_config.specs.declared.compiled.CompiledBgp.{CompiledBgp}
 use Rattle.pool_config.specs.Choice.{chooses}
-pub use Rattle.pool_config.specs.Faults.{Row, ManyPools, ManyEntries, ManyTexts, ManyLarge, BadEntry, NoEntry, Overlap, PoolSelector, L2Selector, BgpSelector, PeerSelector, Aggregation, PrefClash, UnknownCommunity, BadValue, BadText, TwiceNamed, UnknownPeer, rows, fault_at, allocation_selectors, length_for, key_of, all_with_large}
+pub use Rattle.pool_config.specs.Faults.{Row, ManyPools, ManyEntries, ManyTexts, ManyLarge, BadEntry, NoEntry, Overlap, PoolSelector}
+pub use Rattle.pool_config.specs.Faults.{L2Selector, BgpSelector, PeerSelector, Aggregation, PrefClash, UnknownCommunity, BadValue, BadText}
+pub use Rattle.pool_config.specs.Faults.{TwiceNamed, UnknownPeer, rows, fault_at, allocation_selectors, length_for, key_of, all_with_large}
 use Rattle.pool_config.specs.ConfigValue.{placed_spans}
 use Rattle.pool_config.specs.Lists.{lists_of, named_value}
 use Rattle.pool_config.specs.Large.{large_of}

@@ -1,5 +1,6 @@
 //! What holds of each set of objects, apart from the code.
-ghost use Rattle.pool_config.specs.Laws.{AcceptedAreReadWhole, AllAreCompiledRight, CommunitiesAreRead, LargesAreRead, LargeTextsAreRead, NamesAreKept, NumbersAreRead, RemovesTakeOut, SetsPutInPlace};
+ghost use Rattle.pool_config.specs.Laws.{AcceptedAreReadWhole, AllAreCompiledRight, CommunitiesAreRead, LargesAreRead};
+ghost use Rattle.pool_config.specs.Laws.{LargeTextsAreRead, NamesAreKept, NumbersAreRead, RemovesTakeOut, SetsPutInPlace};
 
 /// A set is compiled to a fault exactly where that is its first one, and else to its lists.
 pub fn objects_are_compiled()

@@ -1,5 +1,6 @@
 -- The bytes of a text are bytes.
-use Rattle.std.proofs.Common.{◌≡◌, ℕ, zero, suc, ◌+◌, ◌/◌, ◌%◌, ◌<◌, Bool, true, false, cond, ltb, List, [], ◌∷◌, ◌++◌, IsUtf8, ⊎_elim, refl, sym, subst, arith, lit<, T}
+use Rattle.std.proofs.Common.{◌≡◌, ℕ, zero, suc, ◌+◌, ◌/◌, ◌%◌, ◌<◌, Bool, true, false, cond, ltb, List, []}
+use Rattle.std.proofs.Common.{◌∷◌, ◌++◌, IsUtf8, ⊎_elim, refl, sym, subst, arith, lit<, T}
 use Rattle.std.proofs.lemmas.Bool.{and_parts}
 use Rattle.std.specs.List.{AllByRecursion}
 use Rattle.hex.specs.Hex.{IsBytes}
@@ -15,7 +16,8 @@ all-append (x ∷ xs) ys all more = (all.0, all-append xs ys all.1 more)
 
 -- one to four bytes, by the size of the character
 encode_by : (c : ℕ) (one two three : Bool) → ltb c 128 ≡ one → ltb c 2048 ≡ two → ltb c 65536 ≡ three → c < 1114112
-    → AllBytes (cond one (c ∷ []) (cond two ((192 + c / 64) ∷ (128 + c % 64) ∷ []) (cond three ((224 + c / 4096) ∷ (128 + c / 64 % 64) ∷ (128 + c % 64) ∷ []) ((240 + c / 262144) ∷ (128 + c / 4096 % 64) ∷ (128 + c / 64 % 64) ∷ (128 + c % 64) ∷ []))))
+    → AllBytes (cond one (c ∷ []) (cond two ((192 + c / 64) ∷ (128 + c % 64) ∷ []) (cond three ((224 + c / 4096) ∷ (128 + c / 64 % 64) ∷ (128 + c % 64) ∷ [])
+    ((240 + c / 262144) ∷ (128 + c / 4096 % 64) ∷ (128 + c / 64 % 64) ∷ (128 + c % 64) ∷ []))))
 encode_by c true two three a b d below = let small : c < 128 = ltb→lt c 128 (subst T (sym a) tt) in (omega arith, tt)
 encode_by c false true three a b d below = let small : c < 2048 = ltb→lt c 2048 (subst T (sym b) tt) in (omega arith, (omega arith, tt))
 encode_by c false false true a b d below = let small : c < 65536 = ltb→lt c 65536 (subst T (sym d) tt) in (omega arith, (omega arith, (omega arith, tt)))

@@ -1,5 +1,6 @@
 -- Texts that are cut at a byte that the parts lack.
-use Rattle.std.proofs.Common.{◌≡◌, ℕ, ◌+◌, ◌-◌, ◌*◌, ◌/◌, ◌%◌, ◌<◌, ◌^◌, suc, zero, Bool, true, false, cond, not, ◌&&◌, eqb, leb, ltb, List, [], ◌∷◌, ◌++◌, map, get_or, Option, Some, None, decimal, refl, ap, ◌∙◌, append-nil, arith}
+use Rattle.std.proofs.Common.{◌≡◌, ℕ, ◌+◌, ◌-◌, ◌*◌, ◌/◌, ◌%◌, ◌<◌, ◌^◌, suc, zero, Bool, true, false, cond, not, ◌&&◌, eqb, leb}
+use Rattle.std.proofs.Common.{ltb, List, [], ◌∷◌, ◌++◌, map, get_or, Option, Some, None, decimal, refl, ap, ◌∙◌, append-nil, arith}
 use Rattle.std.proofs.lemmas.Bool.{eq-eqb, and_parts, not-true, le-leb, lt-ltb}
 use Rattle.std.proofs.lemmas.Fmt.{decimal_by_steps}
 use Rattle.std.specs.List.{list_all, flat_map, AllByRecursion}
@@ -37,7 +38,8 @@ pieces-last byte [] lacks = refl
 pieces-last byte (x ∷ xs) lacks = let first = lacks.0 in rw first (ap (extended x) (pieces-last byte xs lacks.1))
 
 -- parts behind such bytes are the pieces
-pub pieces-flat : {X : Type 0} (byte : ℕ) (g : X → List ℕ) (first : List ℕ) (xs : List X) → Lacks byte first → AllByRecursion (λ x. Lacks byte (g x)) xs → pieces byte (first ++ flat_map (λ x. byte ∷ g x) xs) ≡ first ∷ map g xs
+pub pieces-flat : {X : Type 0} (byte : ℕ) (g : X → List ℕ) (first : List ℕ) (xs : List X) → Lacks byte first → AllByRecursion (λ x. Lacks byte (g x)) xs
+    → pieces byte (first ++ flat_map (λ x. byte ∷ g x) xs) ≡ first ∷ map g xs
 pieces-flat byte g first [] lacks all = ap (pieces byte) (append-nil first) ∙ pieces-last byte first lacks
 pieces-flat byte g first (x ∷ xs) lacks all =
     pieces-cut byte first (g x ++ flat_map (λ y. byte ∷ g y) xs) lacks ∙ ap (λ (ps : List (List ℕ)). first ∷ ps) (pieces-flat byte g (g x) xs all.0 all.1)
@@ -64,16 +66,19 @@ hex-lacks_61 xs = coded_lacks 61 lower_digits xs (lacks-test 61 lower_digits ref
 
 pub decimal-lacks : (byte n : ℕ) → ((d : ℕ) → d < 10 → eqb (48 + d) byte ≡ false) → n < 2 ^ 64 → Lacks byte (decimal n)
 decimal-lacks byte n apart fits =
-    decimal_by_steps (λ m ds. Lacks byte ds) (λ m lt. (apart m lt, tt)) (λ m ds ten lacks. lacks-append byte ds ((48 + m % 10) ∷ []) lacks (apart (m % 10) (omega arith), tt)) n fits
+    decimal_by_steps (λ m ds. Lacks byte ds) (λ m lt. (apart m lt, tt))
+    (λ m ds ten lacks. lacks-append byte ds ((48 + m % 10) ∷ []) lacks (apart (m % 10) (omega arith), tt)) n fits
 
-number_by : (b : Bool) (rest : Option ℕ) (last : Option ℕ) (m : ℕ) (more : Option ℕ) → (rest ≡ Some m → last ≡ more) → cond b rest None ≡ Some m → cond b last None ≡ more
+number_by : (b : Bool) (rest : Option ℕ) (last : Option ℕ) (m : ℕ) (more : Option ℕ) → (rest ≡ Some m → last ≡ more) → cond b rest None ≡ Some m
+    → cond b last None ≡ more
 number_by true rest last m more ih e = ih e
 number_by false rest last m more ih e = absurd (cc)
 
 number-append : (ds : List ℕ) (n m c : ℕ) → number_from n ds ≡ Some m → number_from n (ds ++ c ∷ []) ≡ number_from m (c ∷ [])
 number-append [] n m c e = let same : n ≡ m = cc in ap (λ k. number_from k (c ∷ [])) same
 number-append (d ∷ ds) n m c e =
-    number_by (leb 48 d && leb d 57 && ltb (n * 10 + (d - 48)) 65536) (number_from (n * 10 + (d - 48)) ds) (number_from (n * 10 + (d - 48)) (ds ++ c ∷ [])) m (number_from m (c ∷ [])) (number-append ds (n * 10 + (d - 48)) m c) e
+    number_by (leb 48 d && leb d 57 && ltb (n * 10 + (d - 48)) 65536) (number_from (n * 10 + (d - 48)) ds) (number_from (n * 10 + (d - 48)) (ds ++ c ∷ [])) m
+    (number_from m (c ∷ [])) (number-append ds (n * 10 + (d - 48)) m c) e
 
 digit-step : (m d : ℕ) → d < 10 → m * 10 + d < 65536 → number_from m ((48 + d) ∷ []) ≡ Some (m * 10 + d)
 digit-step m d lt fits =

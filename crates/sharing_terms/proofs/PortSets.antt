@@ -1,5 +1,6 @@
 -- Sets of ports: their order is the one that a set of the code goes by; they have exactly the ports that were put in, ascending.
-use Rattle.std.proofs.Common.{◌≡◌, ℕ, ◌+◌, ◌<◌, length, get_or, drop, drop-cons, add-one, append-nil, append_assoc, List, [], ◌∷◌, ◌++◌, map, Ordering, Less, Equal, Greater, Contains, Result, Ok, Err, IfOk, ◌⊎◌, inl, inr, ⊎_elim, ◌∙◌, ap, refl, sym, subst}
+use Rattle.std.proofs.Common.{◌≡◌, ℕ, ◌+◌, ◌<◌, length, get_or, drop, drop-cons, add-one, append-nil, append_assoc, List, [], ◌∷◌, ◌++◌, map}
+use Rattle.std.proofs.Common.{Ordering, Less, Equal, Greater, Contains, Result, Ok, Err, IfOk, ◌⊎◌, inl, inr, ⊎_elim, ◌∙◌, ap, refl, sym, subst}
 use Rattle.std.proofs.lemmas.Map.Lookups.{CmpEqualImpliesEq, exact_unsigned}
 use Rattle.std.specs.BTreeMap.{insert_entry}
 use Rattle.std.specs.BTreeSet.{insert_key}
@@ -18,7 +19,8 @@ use Rattle.kube_model.specs.contracts.port.PortOrd.TheImpl as derived
 use Rattle.sharing_terms.specs.Ports.{rank, port_cmp, AreAscending, ports_with, ports_in, ArePortsOf}
 
 -- ---- the order of ports
-by_protocols : (p q : Protocol) (m n : ℕ) → derived.cmp-value.it (record { protocol = p; port = m }) (record { protocol = q; port = n }) ≡ port_cmp (record { protocol = p; port = m }) (record { protocol = q; port = n })
+by_protocols : (p q : Protocol) (m n : ℕ) → derived.cmp-value.it (record { protocol = p; port = m }) (record { protocol = q; port = n })
+    ≡ port_cmp (record { protocol = p; port = m }) (record { protocol = q; port = n })
 by_protocols Tcp Tcp m n = refl
 by_protocols Tcp Udp m n = refl
 by_protocols Tcp Sctp m n = refl
@@ -66,7 +68,8 @@ module _ {K : Type 0} where
 
 module _ {K : Type 0} (R : K → K → Ordering) where
   keys_by : (r : Ordering) (e : K × K) (es : List (K × K)) (k : K) → keys_of (insert_entry R es k k) ≡ insert_key R (keys_of es) k
-      → keys_of (match_ordering r ((k, k) ∷ e ∷ es) ((e.0, k) ∷ es) (e ∷ insert_entry R es k k)) ≡ match_ordering r (k ∷ e.0 ∷ keys_of es) (e.0 ∷ keys_of es) (e.0 ∷ insert_key R (keys_of es) k)
+      → keys_of (match_ordering r ((k, k) ∷ e ∷ es) ((e.0, k) ∷ es) (e ∷ insert_entry R es k k))
+      ≡ match_ordering r (k ∷ e.0 ∷ keys_of es) (e.0 ∷ keys_of es) (e.0 ∷ insert_key R (keys_of es) k)
   keys_by Less e es k ih = refl
   keys_by Equal e es k ih = refl
   keys_by Greater e es k ih = ap (λ (ks : List K). e.0 ∷ ks) ih
@@ -78,7 +81,8 @@ module _ {K : Type 0} (R : K → K → Ordering) where
   ascending-insert_key : IsTotalOrder R → (ks : List K) (k : K) → IsStrictlySortedBy R ks → IsStrictlySortedBy R (insert_key R ks k)
   ascending-insert_key o ks k up =
       let twice = map (λ (x : K). (x, x)) ks in
-      let same : keys_of (insert_entry R twice k k) ≡ insert_key R ks k = keys_of-insert_entry twice k ∙ ap (λ (xs : List K). insert_key R xs k) (keys_of-twice ks) in
+      let same : keys_of (insert_entry R twice k k) ≡ insert_key R ks k =
+      keys_of-insert_entry twice k ∙ ap (λ (xs : List K). insert_key R xs k) (keys_of-twice ks) in
       subst (IsStrictlySortedBy R) same (ascending-insert_entry o twice k k (subst (IsStrictlySortedBy R) (sym (keys_of-twice ks)) up))
 
   found_by : (r : Ordering) (k y : K) (ys : List K) (x : K) → (Contains (insert_key R ys k) x → (k ≡ x) ⊎ Contains ys x)
@@ -172,12 +176,14 @@ pub ports_in-ascending : (ports : List Port) → AreAscending ports → ports_in
 ports_in-ascending ports up = ports_with-last [] ports up
 
 -- ---- what the calls answer
-pub collected-are : {E : Type 0} (ports : List Port) (answer : Result (List Port) E) → IfOk answer (λ set. set ≡ ports_in ports) → IfOk answer (ArePortsOf ports)
+pub collected-are : {E : Type 0} (ports : List Port) (answer : Result (List Port) E) → IfOk answer (λ set. set ≡ ports_in ports)
+    → IfOk answer (ArePortsOf ports)
 collected-are ports (Ok set) is = subst (ArePortsOf ports) (sym is) (ports_in-are ports)
 collected-are ports (Err f) is = tt
 
 -- ---- the loops of the code
-pub ports_with-next : (kept now ports all : List Port) (i : ℕ) (d : Port) → i < length ports → now ≡ insert_key port_cmp kept (get_or ports i d) → ports_with kept (drop i ports) ≡ all → ports_with now (drop (i + 1) ports) ≡ all
+pub ports_with-next : (kept now ports all : List Port) (i : ℕ) (d : Port) → i < length ports → now ≡ insert_key port_cmp kept (get_or ports i d)
+    → ports_with kept (drop i ports) ≡ all → ports_with now (drop (i + 1) ports) ≡ all
 ports_with-next kept now ports all i d lt is e =
     let there = rw (drop-cons ports i d lt) at e in
     rw (is, add-one) there

@@ -1,5 +1,7 @@
 -- A text is read as some terms exactly where it is their mark.
-use Rattle.std.proofs.Common.{◌≡◌, ◌↔◌, IfOk, OnOk, ℕ, ◌+◌, ◌-◌, ◌*◌, ◌<◌, Bool, true, false, cond, ◌&&◌, eqb, leb, ltb, List, [], ◌∷◌, ◌++◌, map, Option, Some, None, Result, Ok, Err, Ordering, Less, Equal, Greater, codes, Contains, IsUtf8, ⊎_elim, refl, sym, ap, ◌∙◌, subst, append_assoc, append-nil, arith}
+use Rattle.std.proofs.Common.{◌≡◌, ◌↔◌, IfOk, OnOk, ℕ, ◌+◌, ◌-◌, ◌*◌, ◌<◌, Bool, true, false, cond, ◌&&◌, eqb, leb, ltb}
+use Rattle.std.proofs.Common.{List, [], ◌∷◌, ◌++◌, map, Option, Some, None, Result, Ok, Err, Ordering, Less, Equal, Greater}
+use Rattle.std.proofs.Common.{codes, Contains, IsUtf8, ⊎_elim, refl, sym, ap, ◌∙◌, subst, append_assoc, append-nil, arith}
 use borrow.Author.Tests.{ltb-true}
 use Rattle.std.proofs.lemmas.Bool.{ne_eqb, and_parts}
 use Rattle.std.proofs.lemmas.Slice.Eq.{bytes_eq-Decides}
@@ -25,9 +27,12 @@ use Rattle.sharing_terms.specs.declared.terms.Backend.TheVariants.{Cluster, Loca
 use Rattle.sharing_terms.specs.Marked.{AreSmall, AreTexts, IsBackend, AreTerms, IsMarkOf}
 use Rattle.sharing_terms.specs.Marks.{protocol_letter, port_text, ports_text, backend_text, mark_of}
 use Rattle.sharing_terms.specs.Ports.{ports_in}
-use Rattle.sharing_terms.specs.Spelled.{ahead_of, behind, text_of_bytes, text_of_hex, protocol_of_letter, number_from, port_by, port_of_text, pieces, ports_by, ports_from, ports_of_text, pair_by, pair_of_text, labels_from, local_by, local_from, backend_of_text, terms_by, spelled, if_marked, recorded_terms}
+use Rattle.sharing_terms.specs.Spelled.{ahead_of, behind, text_of_bytes, text_of_hex, protocol_of_letter, number_from, port_by}
+use Rattle.sharing_terms.specs.Spelled.{port_of_text, pieces, ports_by, ports_from, ports_of_text, pair_by, pair_of_text, labels_from}
+use Rattle.sharing_terms.specs.Spelled.{local_by, local_from, backend_of_text, terms_by, spelled, if_marked, recorded_terms}
 use Rattle.sharing_terms.proofs.Bytes.{utf8-bytes}
-use Rattle.sharing_terms.proofs.Cuts.{Lacks, lacks-append, ahead-found, behind-found, pieces-flat, hex-lacks_59, hex-lacks_44, hex-lacks_61, decimal-lacks, number-decimal}
+use Rattle.sharing_terms.proofs.Cuts.{Lacks, lacks-append, ahead-found, behind-found, pieces-flat}
+use Rattle.sharing_terms.proofs.Cuts.{hex-lacks_59, hex-lacks_44, hex-lacks_61, decimal-lacks, number-decimal}
 use Rattle.sharing_terms.proofs.PortSets.{ports_in-ascending, ports_in-are}
 
 -- ---- a mark is read as its terms
@@ -55,10 +60,12 @@ letter_lacks byte Udp t u s = u
 letter_lacks byte Sctp t u s = s
 
 port-lacks_44 : (p : Port) → p.port < 65536 → Lacks 44 (port_text p)
-port-lacks_44 p fits = (letter_lacks 44 p.protocol refl refl refl, decimal-lacks 44 p.port (λ d lt. ne_eqb (48 + d) 44 (λ e. omega (arith, e))) (omega (arith, fits)))
+port-lacks_44 p fits =
+    (letter_lacks 44 p.protocol refl refl refl, decimal-lacks 44 p.port (λ d lt. ne_eqb (48 + d) 44 (λ e. omega (arith, e))) (omega (arith, fits)))
 
 port-lacks_59 : (p : Port) → p.port < 65536 → Lacks 59 (port_text p)
-port-lacks_59 p fits = (letter_lacks 59 p.protocol refl refl refl, decimal-lacks 59 p.port (λ d lt. ne_eqb (48 + d) 59 (λ e. omega (arith, e, lt))) (omega (arith, fits)))
+port-lacks_59 p fits =
+    (letter_lacks 59 p.protocol refl refl refl, decimal-lacks 59 p.port (λ d lt. ne_eqb (48 + d) 59 (λ e. omega (arith, e, lt))) (omega (arith, fits)))
 
 ports_lack_44 : (ports : List Port) → AreSmall ports → AllByRecursion (λ p. Lacks 44 (port_text p)) ports
 ports_lack_44 [] all = tt
@@ -66,7 +73,8 @@ ports_lack_44 (p ∷ ports) all = (port-lacks_44 p all.0, ports_lack_44 ports al
 
 others_lack_59 : (ports : List Port) → AreSmall ports → Lacks 59 (flat_map (λ p. 44 ∷ port_text p) ports)
 others_lack_59 [] all = tt
-others_lack_59 (p ∷ ports) all = (refl, lacks-append 59 (port_text p) (flat_map (λ q. 44 ∷ port_text q) ports) (port-lacks_59 p all.0) (others_lack_59 ports all.1))
+others_lack_59 (p ∷ ports) all =
+    (refl, lacks-append 59 (port_text p) (flat_map (λ q. 44 ∷ port_text q) ports) (port-lacks_59 p all.0) (others_lack_59 ports all.1))
 
 ports-lack_59 : (ports : List Port) → AreSmall ports → Lacks 59 (ports_text ports)
 ports-lack_59 [] all = tt
@@ -79,9 +87,15 @@ ports_text-read (p ∷ ports) all =
 
 pair-read : (p : List ℕ × List ℕ) → IsUtf8 p.0 × IsUtf8 p.1 → pair_of_text (encode_lower p.0 ++ 61 ∷ encode_lower p.1) ≡ Some (p.0, p.1)
 pair-read p h =
-    rw (ahead-found 61 (encode_lower p.0) (encode_lower p.1) (hex-lacks_61 p.0), behind-found 61 (encode_lower p.0) (encode_lower p.1) (hex-lacks_61 p.0), text-read p.0 h.0, text-read p.1 h.1) refl
+    rw (
+      ahead-found 61 (encode_lower p.0) (encode_lower p.1) (hex-lacks_61 p.0),
+      behind-found 61 (encode_lower p.0) (encode_lower p.1) (hex-lacks_61 p.0),
+      text-read p.0 h.0,
+      text-read p.1 h.1,
+    ) refl
 
-labels-read : (kept pairs : List (List ℕ × List ℕ)) → IsAscending (kept ++ pairs) → AreTexts pairs → labels_from kept (map (λ p. encode_lower p.0 ++ 61 ∷ encode_lower p.1) pairs) ≡ Some (kept ++ pairs)
+labels-read : (kept pairs : List (List ℕ × List ℕ)) → IsAscending (kept ++ pairs) → AreTexts pairs
+    → labels_from kept (map (λ p. encode_lower p.0 ++ 61 ∷ encode_lower p.1) pairs) ≡ Some (kept ++ pairs)
 labels-read kept [] up all = ap Some (sym (append-nil kept))
 labels-read kept (p ∷ pairs) up all =
     let end : with_pair p.0 p.1 kept ≡ kept ++ (p.0, p.1) ∷ [] = insert_entry-last nat_list_cmp_total kept p.0 p.1 pairs up in
@@ -98,7 +112,12 @@ pairs_lack_44 (p ∷ pairs) = (lacks-append 44 (encode_lower p.0) (61 ∷ encode
 pub backend-read : (b : Backend) → IsBackend b → backend_of_text (backend_text b) ≡ Some b
 backend-read Cluster h = refl
 backend-read (Local namespace selector) h =
-    rw (pieces-flat 44 (λ (p : List ℕ × List ℕ). encode_lower p.0 ++ 61 ∷ encode_lower p.1) (encode_lower namespace) selector (hex-lacks_44 namespace) (pairs_lack_44 selector), text-read namespace h.0, labels-read [] selector h.1 h.2) refl
+    rw (
+      pieces-flat 44 (λ (p : List ℕ × List ℕ). encode_lower p.0 ++ 61 ∷ encode_lower p.1) (encode_lower namespace) selector (hex-lacks_44 namespace)
+          (pairs_lack_44 selector),
+      text-read namespace h.0,
+      labels-read [] selector h.1 h.2,
+    ) refl
 
 regroup : (a k s p s' b : List ℕ) → ((((a ++ k) ++ s) ++ p) ++ s') ++ b ≡ a ++ (k ++ (s ++ (p ++ (s' ++ b))))
 regroup a k s p s' b = simp append_assoc
@@ -155,10 +174,12 @@ number-small : (digits : List ℕ) (n m : ℕ) → n < 65536 → number_from n d
 number-small [] n m small e = let same : n ≡ m = cc in subst (λ k. k < 65536) same small
 number-small (d ∷ digits) n m small e =
     number_small_by (leb 48 d && leb d 57 && ltb (n * 10 + (d - 48)) 65536) (number_from (n * 10 + (d - 48)) digits) m
-    (λ passes rest. number-small digits (n * 10 + (d - 48)) m (ltb-true (n * 10 + (d - 48)) 65536 (and_parts (leb 48 d && leb d 57) (ltb (n * 10 + (d - 48)) 65536) passes).1) rest)
+    (λ passes rest. number-small digits (n * 10 + (d - 48)) m
+    (ltb-true (n * 10 + (d - 48)) 65536 (and_parts (leb 48 d && leb d 57) (ltb (n * 10 + (d - 48)) 65536) passes).1) rest)
     e
 
-port_small_by : (protocol : Option Protocol) (number : Option ℕ) (p : Port) → ((m : ℕ) → number ≡ Some m → m < 65536) → port_by protocol number ≡ Some p → p.port < 65536
+port_small_by : (protocol : Option Protocol) (number : Option ℕ) (p : Port) → ((m : ℕ) → number ≡ Some m → m < 65536) → port_by protocol number ≡ Some p
+    → p.port < 65536
 port_small_by None number p small e = absurd (cc)
 port_small_by (Some protocol) None p small e = absurd (cc)
 port_small_by (Some protocol) (Some m) p small e =
@@ -169,7 +190,8 @@ port-small : (text : List ℕ) (p : Port) → port_of_text text ≡ Some p → p
 port-small [] p e = absurd (cc)
 port-small (c ∷ digits) p e = port_small_by (protocol_of_letter c) (number_from 0 digits) p (λ m is. number-small digits 0 m (omega arith) is) e
 
-ports_small_by : (port : Option Port) (more : Option (List Port)) (ports : List Port) → ((p : Port) → port ≡ Some p → p.port < 65536) → ((rest : List Port) → more ≡ Some rest → AreSmall rest)
+ports_small_by : (port : Option Port) (more : Option (List Port)) (ports : List Port) → ((p : Port) → port ≡ Some p → p.port < 65536)
+    → ((rest : List Port) → more ≡ Some rest → AreSmall rest)
     → ports_by port more ≡ Some ports → AreSmall ports
 ports_small_by None more ports one all e = absurd (cc)
 ports_small_by (Some p) None ports one all e = absurd (cc)
@@ -187,7 +209,8 @@ ports-small (c ∷ text) ports e = pieces-small (pieces 44 (c ∷ text)) ports e
 
 small-at : (ports : List Port) (p : Port) → AreSmall ports → Contains ports p → p.port < 65536
 small-at [] p all there = absurd (contains-none p there)
-small-at (q ∷ ports) p all there = ⊎_elim (λ first. subst (λ (x : Port). x.port < 65536) first all.0) (λ later. small-at ports p all.1 later) (contains-cons q ports p there)
+small-at (q ∷ ports) p all there =
+    ⊎_elim (λ first. subst (λ (x : Port). x.port < 65536) first all.0) (λ later. small-at ports p all.1 later) (contains-cons q ports p there)
 
 small-from : (ports : List Port) → ((p : Port) → Contains ports p → p.port < 65536) → AreSmall ports
 small-from [] each = tt
@@ -197,7 +220,8 @@ small-from (q ∷ ports) each = (each q (contains-first q ports), small-from por
 set-small : (ports : List Port) → AreSmall ports → AreSmall (ports_in ports)
 set-small ports all = small-from (ports_in ports) (λ p there. small-at ports p all (((ports_in-are ports).1 p).0 there))
 
-pair_texts_by : (name value : Option (List ℕ)) (p : List ℕ × List ℕ) → ((xs : List ℕ) → name ≡ Some xs → IsUtf8 xs) → ((xs : List ℕ) → value ≡ Some xs → IsUtf8 xs)
+pair_texts_by : (name value : Option (List ℕ)) (p : List ℕ × List ℕ) → ((xs : List ℕ) → name ≡ Some xs → IsUtf8 xs)
+    → ((xs : List ℕ) → value ≡ Some xs → IsUtf8 xs)
     → pair_by name value ≡ Some p → IsUtf8 p.0 × IsUtf8 p.1
 pair_texts_by None value p names values e = absurd (cc)
 pair_texts_by (Some name) None p names values e = absurd (cc)
@@ -207,9 +231,11 @@ pair_texts_by (Some name) (Some value) p names values e =
 
 pair-texts : (text : List ℕ) (p : List ℕ × List ℕ) → pair_of_text text ≡ Some p → IsUtf8 p.0 × IsUtf8 p.1
 pair-texts text p e =
-    pair_texts_by (text_of_hex (ahead_of 61 text)) (text_of_hex (behind 61 text)) p (λ xs is. hex-text (ahead_of 61 text) xs is) (λ xs is. hex-text (behind 61 text) xs is) e
+    pair_texts_by (text_of_hex (ahead_of 61 text)) (text_of_hex (behind 61 text)) p (λ xs is. hex-text (ahead_of 61 text) xs is)
+    (λ xs is. hex-text (behind 61 text) xs is) e
 
-texts_by : (r : Ordering) (name value : List ℕ) (p : List ℕ × List ℕ) (pairs : List (List ℕ × List ℕ)) → IsUtf8 name × IsUtf8 value → AreTexts (p ∷ pairs) → AreTexts (with_pair name value pairs)
+texts_by : (r : Ordering) (name value : List ℕ) (p : List ℕ × List ℕ) (pairs : List (List ℕ × List ℕ)) → IsUtf8 name × IsUtf8 value → AreTexts (p ∷ pairs)
+    → AreTexts (with_pair name value pairs)
     → AreTexts (match_ordering r ((name, value) ∷ p ∷ pairs) ((p.0, value) ∷ pairs) (p ∷ with_pair name value pairs))
 texts_by Less name value p pairs new all ih = (new, all)
 texts_by Equal name value p pairs new all ih = ((all.0.0, new.1), all.1)
@@ -219,17 +245,22 @@ texts-with_pair : (pairs : List (List ℕ × List ℕ)) (name value : List ℕ) 
 texts-with_pair [] name value new all = (new, tt)
 texts-with_pair (p ∷ pairs) name value new all = texts_by (slice_cmp nat_cmp name p.0) name value p pairs new all (texts-with_pair pairs name value new all.1)
 
-labels_by : (pair : Option (List ℕ × List ℕ)) (kept : List (List ℕ × List ℕ)) (cut : List (List ℕ)) (found : List (List ℕ × List ℕ)) → ((p : List ℕ × List ℕ) → pair ≡ Some p → IsUtf8 p.0 × IsUtf8 p.1)
+labels_by : (pair : Option (List ℕ × List ℕ)) (kept : List (List ℕ × List ℕ)) (cut : List (List ℕ)) (found : List (List ℕ × List ℕ))
+    → ((p : List ℕ × List ℕ) → pair ≡ Some p → IsUtf8 p.0 × IsUtf8 p.1)
     → ((p : List ℕ × List ℕ) → IsUtf8 p.0 × IsUtf8 p.1 → labels_from (with_pair p.0 p.1 kept) cut ≡ Some found → IsAscending found × AreTexts found)
     → option_and_then (λ p. labels_from (with_pair p.0 p.1 kept) cut) pair ≡ Some found → IsAscending found × AreTexts found
 labels_by None kept cut found one ih e = absurd (cc)
 labels_by (Some p) kept cut found one ih e = ih p (one p refl) e
 
-labels-pairs : (cut : List (List ℕ)) (kept found : List (List ℕ × List ℕ)) → IsAscending kept × AreTexts kept → labels_from kept cut ≡ Some found → IsAscending found × AreTexts found
+labels-pairs : (cut : List (List ℕ)) (kept found : List (List ℕ × List ℕ)) → IsAscending kept × AreTexts kept → labels_from kept cut ≡ Some found
+    → IsAscending found × AreTexts found
 labels-pairs [] kept found are e = let same : kept ≡ found = cc in subst (λ (ps : List (List ℕ × List ℕ)). IsAscending ps × AreTexts ps) same are
 labels-pairs (piece ∷ cut) kept found are e =
     labels_by (pair_of_text piece) kept cut found (pair-texts piece)
-    (λ p texts rest. labels-pairs cut (with_pair p.0 p.1 kept) found (ascending-insert_entry nat_list_cmp_total kept p.0 p.1 are.0, texts-with_pair kept p.0 p.1 texts are.1) rest)
+    (λ p texts rest. labels-pairs cut (with_pair p.0 p.1 kept) found (
+      ascending-insert_entry nat_list_cmp_total kept p.0 p.1 are.0,
+      texts-with_pair kept p.0 p.1 texts are.1,
+    ) rest)
     e
 
 local_terms_by : (namespace : Option (List ℕ)) (selector : Option (List (List ℕ × List ℕ))) (b : Backend) → ((xs : List ℕ) → namespace ≡ Some xs → IsUtf8 xs)
@@ -250,7 +281,8 @@ local-terms [] b e = absurd (cc)
 local-terms (piece ∷ cut) b e =
     local_terms_by (text_of_hex piece) (labels_from [] cut) b (λ xs is. hex-text piece xs is) (λ pairs is. labels-pairs cut [] pairs (nothing-ascends, tt) is) e
 
-backend_terms_by : (cluster local : Bool) (cut : Option Backend) (b : Backend) → (cut ≡ Some b → IsBackend b) → cond cluster (Some Cluster) (cond local cut None) ≡ Some b → IsBackend b
+backend_terms_by : (cluster local : Bool) (cut : Option Backend) (b : Backend) → (cut ≡ Some b → IsBackend b)
+    → cond cluster (Some Cluster) (cond local cut None) ≡ Some b → IsBackend b
 backend_terms_by true local cut b are e = let same : Cluster ≡ b = cc in subst IsBackend same tt
 backend_terms_by false true cut b are e = are e
 backend_terms_by false false cut b are e = absurd (cc)
@@ -267,7 +299,8 @@ terms_by-are (Some key) None backend t texts small are e = absurd (cc)
 terms_by-are (Some key) (Some ports) None t texts small are e = absurd (cc)
 terms_by-are (Some key) (Some ports) (Some backend) t texts small are e =
     let same : record { key = key; ports = ports_in ports; backend = backend } ≡ t = cc in
-    subst AreTerms same (record { key = texts key refl; ports = (ports_in-are ports).0; numbers = set-small ports (small ports refl); backend = are backend refl })
+    subst AreTerms same
+    (record { key = texts key refl; ports = (ports_in-are ports).0; numbers = set-small ports (small ports refl); backend = are backend refl })
 
 spelled-are : (text : List ℕ) (t : Terms) → spelled text ≡ Some t → AreTerms t
 spelled-are text t e =
@@ -304,10 +337,12 @@ pub answer-exact : {E : Type 0} (text : List ℕ) (answer : Result (Option Terms
 answer-exact text (Ok o) is = λ t. (λ e. (recorded-exact text t).0 (sym is ∙ e), λ h. is ∙ (recorded-exact text t).1 h)
 answer-exact text (Err f) is = tt
 
-pub answer-marked : {E : Type 0} (t : Terms) (answer : Result (List ℕ) E) → OnOk answer (AreTerms t) → IfOk answer (λ text. text ≡ mark_of t) → IfOk answer (IsMarkOf t)
+pub answer-marked : {E : Type 0} (t : Terms) (answer : Result (List ℕ) E) → OnOk answer (AreTerms t) → IfOk answer (λ text. text ≡ mark_of t)
+    → IfOk answer (IsMarkOf t)
 answer-marked t (Ok text) are is = record { terms = are; mark = sym is }
 answer-marked t (Err f) are is = tt
 
-pub answer-only : {E : Type 0} (t : Terms) (answer : Result (List ℕ) E) → IfOk answer (IsMarkOf t) → IfOk answer (λ text. (other : Terms) → IsMarkOf other text → other ≡ t)
+pub answer-only : {E : Type 0} (t : Terms) (answer : Result (List ℕ) E) → IfOk answer (IsMarkOf t)
+    → IfOk answer (λ text. (other : Terms) → IsMarkOf other text → other ≡ t)
 answer-only t (Ok text) h = λ other k. marks-apart other t text k h
 answer-only t (Err f) h = tt

@@ -1,5 +1,6 @@
 -- Marks that are read.
-use Rattle.std.proofs.Common.{◌≡◌, ℕ, Bool, true, false, cond, List, [], ◌∷◌, ◌++◌, Some, None, refl, ap, append_assoc, append-nil, eqb, drop, drop-cons, add-one, get_or, length, ◌<◌, ◌+◌, suc}
+use Rattle.std.proofs.Common.{◌≡◌, ℕ, Bool, true, false, cond, List, [], ◌∷◌, ◌++◌, Some, None, refl, ap}
+use Rattle.std.proofs.Common.{append_assoc, append-nil, eqb, drop, drop-cons, add-one, get_or, length, ◌<◌, ◌+◌, suc}
 use Rattle.std.proofs.lemmas.Bool.{false_from_ne_true, eq-eqb}
 use Rattle.std.proofs.lemmas.Str.{IsUtf8-from_is_utf8, is_utf8-from_IsUtf8}
 use Rattle.std.specs.Str.{IsUtf8, is_utf8}
@@ -16,7 +17,8 @@ abbrev pub prefixed : List ℕ → List (List ℕ) → List (List ℕ)
 prefixed front [] = front ∷ []
 prefixed front (piece ∷ pieces) = (front ++ piece) ∷ pieces
 
-prefixed_by : (b : Bool) (c : ℕ) (text : List (List ℕ)) → prefixed [] text ≡ text → prefixed [] (cond b ([] ∷ text) (extended c text)) ≡ cond b ([] ∷ text) (extended c text)
+prefixed_by : (b : Bool) (c : ℕ) (text : List (List ℕ)) → prefixed [] text ≡ text
+    → prefixed [] (cond b ([] ∷ text) (extended c text)) ≡ cond b ([] ∷ text) (extended c text)
 prefixed_by true c text e = refl
 prefixed_by false c [] e = refl
 prefixed_by false c (piece ∷ text) e = refl

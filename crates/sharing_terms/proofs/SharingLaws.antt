@@ -92,13 +92,15 @@ may_share-is a b e =
       same_key = (bytes_eq-Decides a.key b.key).0 one.0;
       has_key = nothing-is a.key one.1;
       apart = λ port here there.
-          true≢false (sym (any-contains (has_port b.ports) a.ports port here (has_port-from b.ports port there)) ∙ not-true (list_any (has_port b.ports) a.ports) two.1);
+          true≢false (sym (any-contains (has_port b.ports) a.ports port here (has_port-from b.ports port there))
+          ∙ not-true (list_any (has_port b.ports) a.ports) two.1);
       alike = alike-is a.backend b.backend three.1;
     }
 
 pub may_share-from : (a b : Terms) → MayShare a b → may_share a b ≡ true
 may_share-from a b h =
-    let none : list_any (has_port b.ports) a.ports ≡ false = false_from_ne_true (list_any (has_port b.ports) a.ports) (λ some. let found = any-found (has_port b.ports) a.ports some in h.apart found.0 found.1 (has_port-is b.ports found.0 found.2)) in
+    let none : list_any (has_port b.ports) a.ports ≡ false = false_from_ne_true (list_any (has_port b.ports) a.ports)
+    (λ some. let found = any-found (has_port b.ports) a.ports some in h.apart found.0 found.1 (has_port-is b.ports found.0 found.2)) in
     and_from (bytes_eq a.key b.key && not (is_nil a.key) && not (list_any (has_port b.ports) a.ports)) (is_alike a.backend b.backend)
     (and_from (bytes_eq a.key b.key && not (is_nil a.key)) (not (list_any (has_port b.ports) a.ports))
     (and_from (bytes_eq a.key b.key) (not (is_nil a.key)) ((bytes_eq-Decides a.key b.key).1 h.same_key) (nothing-from a.key h.has_key))

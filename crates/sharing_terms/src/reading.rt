@@ -1,6 +1,7 @@
 //! Marks that are read: what a text may spell is written again, and compared with the text.
 ghost use Rattle.std.specs.Prelude.{◌≡◌, ◌↔◌, [], IfOk, Some};
-ghost use Rattle.sharing_terms.specs.Spelled.{ahead_of, behind, text_of_bytes, text_of_hex, protocol_of_letter, number_from, port_of_text, pieces, ports_from, ports_of_text, pair_of_text, labels_from, local_from, backend_of_text, spelled, recorded_terms};
+ghost use Rattle.sharing_terms.specs.Spelled.{ahead_of, behind, text_of_bytes, text_of_hex, protocol_of_letter, number_from, port_of_text, pieces};
+ghost use Rattle.sharing_terms.specs.Spelled.{ports_from, ports_of_text, pair_of_text, labels_from, local_from, backend_of_text, spelled, recorded_terms};
 ghost use Rattle.sharing_terms.specs.declared.terms.Terms.{Terms};
 ghost use Rattle.sharing_terms.specs.Marked.{IsMarkOf};
 

@@ -19,7 +19,8 @@ use Rattle.kube_model.specs.Named.{protocol_of}
 use Rattle.kube_model.specs.PortFields.{port_of}
 use Rattle.kube_events.specs.Fields.{Pairs}
 use Rattle.kube_events.specs.Named.{family_of}
-use Rattle.kube_events.specs.ServiceFields.{annotations_field, balancer_field, class_field, address_field, families_from, families_at, families_field, prefer_dual_field, policy_field, selector_field, ports_field, places_field, service_of}
+use Rattle.kube_events.specs.ServiceFields.{annotations_field, balancer_field, class_field, address_field, families_from, families_at}
+use Rattle.kube_events.specs.ServiceFields.{families_field, prefer_dual_field, policy_field, selector_field, ports_field, places_field, service_of}
 use Rattle.line_event_laws.proofs.Keys.{HasText}
 use Rattle.sharing_terms.specs.Marked.{AreSmall, IsBackend, AreTerms}
 use Rattle.sharing_terms.specs.Terms.{backend_by, terms_of}

@@ -22,12 +22,14 @@ ShowsWhole event = ShowsTerms event × ShowsFamilies event
 
 pub reads-body_of : (kind : Kind) → Reads (Makes ShowsWhole) (body_of kind)
 unfolding body_of
-reads-body_of kinds.Service d h = then_ok MakesFields (Makes ShowsWhole) (service_of d) _ (reads-service_of d h) (λ make fields version key labels text. (terms_are (make key labels) (fields key labels text), (fields key labels text).families))
+reads-body_of kinds.Service d h = then_ok MakesFields (Makes ShowsWhole) (service_of d) _ (reads-service_of d h)
+    (λ make fields version key labels text. (terms_are (make key labels) (fields key labels text), (fields key labels text).families))
 reads-body_of kinds.Pool d h = then_ok (λ _. ⊤) (Makes ShowsWhole) (pool_of d) _ (any_ok (pool_of d)) (λ make _ version key labels text. (tt, tt))
 reads-body_of kinds.L2 d h = then_ok (λ _. ⊤) (Makes ShowsWhole) (l2_of d) _ (any_ok (l2_of d)) (λ make _ version key labels text. (tt, tt))
 reads-body_of kinds.Bgp d h = then_ok (λ _. ⊤) (Makes ShowsWhole) (bgp_of d) _ (any_ok (bgp_of d)) (λ make _ version key labels text. (tt, tt))
 reads-body_of kinds.Peer d h = then_ok (λ _. ⊤) (Makes ShowsWhole) (peer_of d) _ (any_ok (peer_of d)) (λ make _ version key labels text. (tt, tt))
-reads-body_of kinds.Community d h = then_ok (λ _. ⊤) (Makes ShowsWhole) (named_values_field d) _ (any_ok (named_values_field d)) (λ values _ version key labels text. (tt, tt))
+reads-body_of kinds.Community d h =
+    then_ok (λ _. ⊤) (Makes ShowsWhole) (named_values_field d) _ (any_ok (named_values_field d)) (λ values _ version key labels text. (tt, tt))
 reads-body_of kinds.Namespace d h = λ version key labels text. (tt, tt)
 reads-body_of kinds.Node d h = λ version key labels text. (tt, tt)
 reads-body_of kinds.Slice d h = then_ok (λ _. ⊤) (Makes ShowsWhole) (slice_of d) _ (any_ok (slice_of d)) (λ make _ version key labels text. (tt, tt))

@@ -6,7 +6,8 @@ use Rattle.json_text_laws.proofs.Values.{chosen}
 use Rattle.kube_model.specs.declared.port.Port.{Port}
 use Rattle.sharing_terms.specs.Ports.{port_cmp, ports_with, ports_in}
 
-all-insert_key : {K : Type 0} (P : K → Type 0) (cmp : K → K → Ordering) (ks : List K) (k : K) → P k → AllByRecursion P ks → AllByRecursion P (insert_key cmp ks k)
+all-insert_key : {K : Type 0} (P : K → Type 0) (cmp : K → K → Ordering) (ks : List K) (k : K) → P k → AllByRecursion P ks
+    → AllByRecursion P (insert_key cmp ks k)
 all-insert_key P cmp [] k new all = (new, tt)
 all-insert_key P cmp (x ∷ ks) k new all =
     chosen (AllByRecursion P) (cmp k x) _ _ _ (new, all) all (all.0, all-insert_key P cmp ks k new all.1)

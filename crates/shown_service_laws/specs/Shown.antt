@@ -11,7 +11,8 @@ use Rattle.core_drive.specs.Sound.{ShowsTerms, ShowsFamilies}
 
 -- The terms of a service that a line shows are terms that there can be.
 abbrev pub ServicesHaveTerms : Type 0
-ServicesHaveTerms = (line : List ℕ) (version : ℕ) (service : Service) → event_of_line line ≡ Ok (Changed version (objects.Service service)) → AreTerms (terms_of service)
+ServicesHaveTerms = (line : List ℕ) (version : ℕ) (service : Service) → event_of_line line ≡ Ok (Changed version (objects.Service service))
+    → AreTerms (terms_of service)
 
 -- Whatever event a line is read as, a service that it shows has such terms.
 abbrev pub EventsShowTerms : Type 0

@@ -17,11 +17,13 @@ module _ (P : ConfigValue → Type 0) where
   abbrev InForce : Option ConfigValue → Type 0
   InForce config = (c : ConfigValue) → config ≡ Some c → P c
 
-  forced-force : (s : ObjectSet) (before : Option ConfigValue) (r : Result ConfigValue ConfigFault) → r ≡ compiled s → ((c : ConfigValue) → compiled s ≡ Ok c → P c) → InForce before → InForce (in_force before r)
+  forced-force : (s : ObjectSet) (before : Option ConfigValue) (r : Result ConfigValue ConfigFault) → r ≡ compiled s
+      → ((c : ConfigValue) → compiled s ≡ Ok c → P c) → InForce before → InForce (in_force before r)
   forced-force s before (Ok config) is made held c e = let same : config ≡ c = cc in subst P same (made config (sym is))
   forced-force s before (Err fault) is made held c e = held c e
 
-  pub kept-force : (b : Bool) (s : ObjectSet) (before : Option ConfigValue) → ((c : ConfigValue) → compiled s ≡ Ok c → P c) → InForce before → InForce (cond b (in_force before (compiled s)) before)
+  pub kept-force : (b : Bool) (s : ObjectSet) (before : Option ConfigValue) → ((c : ConfigValue) → compiled s ≡ Ok c → P c) → InForce before
+      → InForce (cond b (in_force before (compiled s)) before)
   kept-force true s before made held = forced-force s before (compiled s) refl made held
   kept-force false s before made held = held
 

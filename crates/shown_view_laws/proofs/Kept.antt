@@ -1,6 +1,7 @@
 -- Every event that a line is read as keeps the numbers of a view such as their fields hold.
 use Rattle.std.specs.Prelude.{nat_le, option_and_then}
-use Rattle.std.proofs.Common.{◌≡◌, ◌<◌, ◌≤◌, ◌^◌, ℕ, Bool, true, false, cond, not, List, [], ◌∷◌, map, filter, Option, Some, None, Result, Ok, Err, IfSome, Ordering, Less, Equal, Greater, inl, inr, refl, sym, ap, subst, arith}
+use Rattle.std.proofs.Common.{◌≡◌, ◌<◌, ◌≤◌, ◌^◌, ℕ, Bool, true, false, cond, not, List, [], ◌∷◌, map, filter, Option, Some, None}
+use Rattle.std.proofs.Common.{Result, Ok, Err, IfSome, Ordering, Less, Equal, Greater, inl, inr, refl, sym, ap, subst, arith}
 use Rattle.std.specs.Ordering.{match_ordering, nat_cmp}
 use Rattle.std.specs.List.{AllByRecursion, filter_map}
 use Rattle.std.specs.List.Sorted.{IsStrictlySortedBy}
@@ -147,7 +148,8 @@ object-peer (objects.Namespace namespace) h = tt
 object-peer (objects.Node node) h = tt
 object-peer (objects.Slice slice) h = tt
 
-shows-by : {K T : Type 0} (P : T → Type 0) (resource : Resource K T) (each : (object : Object) → HasNumbers object → IfSome (resource.shown object) (λ q. P q.1)) (event : Event) → ShowsNumbers event
+shows-by : {K T : Type 0} (P : T → Type 0) (resource : Resource K T)
+    (each : (object : Object) → HasNumbers object → IfSome (resource.shown object) (λ q. P q.1)) (event : Event) → ShowsNumbers event
     → ShowsSuch P resource event
 shows-by P resource each (Changed version object) h = each object h
 shows-by P resource each (Deleted kind key) h = tt
@@ -179,12 +181,13 @@ module _ (communities : List (List ℕ × CommunityList)) where
   -- what is read of one of the texts holds of each that is listed
   among-all : {K : Type 0} {R : K → K → Ordering} (o : IsTotalOrder R) (exact : CmpEqualImpliesEq R) (P : K → Type 0) (read : List ℕ → Option K)
       → ((text : List ℕ) (k : K) → read text ≡ Some k → P k) → (texts : List (List ℕ)) → AllByRecursion P (keys_with R [] (filter_map read texts))
-  among-all {K} {R} o exact P read each texts = all-from P (keys_with R [] (filter_map read texts)) (λ k there. elim (in_keys o exact [] (filter_map read texts) k there) [
-    | inl none ↦ absurd none
-    | inr among ↦
-        let (i, text, at, e) = in_list (λ x. read x ≡ Some k) texts (in_filter_map read texts k among) in
-        each text k e
-  ])
+  among-all {K} {R} o exact P read each texts =
+      all-from P (keys_with R [] (filter_map read texts)) (λ k there. elim (in_keys o exact [] (filter_map read texts) k there) [
+        | inl none ↦ absurd none
+        | inr among ↦
+            let (i, text, at, e) = in_list (λ x. read x ≡ Some k) texts (in_filter_map read texts k among) in
+            each text k e
+      ])
 
   large-by : (text : List ℕ) (c : LargeCommunity) → IsLargeText text c → IsLarge c
   large-by text c is = record { global = is.global; first = is.first; second = is.second }
@@ -216,7 +219,8 @@ module _ (communities : List (List ℕ × CommunityList)) where
     compiled-numbers entries all.1,
   )
 
-compiled-asns : (entries : List (List ℕ × Versioned BgpPeer)) → AllByRecursion HasAsn (objects_of entries) → AllByRecursion HasCompiledAsn (map compiled_peer (named entries))
+compiled-asns : (entries : List (List ℕ × Versioned BgpPeer)) → AllByRecursion HasAsn (objects_of entries)
+    → AllByRecursion HasCompiledAsn (map compiled_peer (named entries))
 compiled-asns [] all = tt
 compiled-asns (e ∷ entries) all = (all.0, compiled-asns entries all.1)
 
@@ -224,7 +228,8 @@ compiled-names : (entries : List (List ℕ × Versioned BgpPeer)) → map (λ (p
 compiled-names [] = refl
 compiled-names (e ∷ entries) = ap (λ names. e.0 ∷ names) (compiled-names entries)
 
-compiled-numbered : (s : ObjectSet) → AllByRecursion HasRouteNumbers (objects_of s.bgps) → AllByRecursion HasAsn (objects_of s.peers) → IsStrictlySortedBy name_cmp (keys_of s.peers)
+compiled-numbered : (s : ObjectSet) → AllByRecursion HasRouteNumbers (objects_of s.bgps) → AllByRecursion HasAsn (objects_of s.peers)
+    → IsStrictlySortedBy name_cmp (keys_of s.peers)
     → (c : ConfigValue) → compiled s ≡ Ok c → IsNumberedConfig c
 compiled-numbered s bgps peers names c e =
     let is : c ≡ lists_of (objects_in s) = ((accepted_is s c).0 e).1 in
@@ -241,20 +246,26 @@ unfolding IsStrictlySortedBy
 none-sorted = tt
 
 pub fresh-numbered : (class : Option (List ℕ)) → IsNumbered (fresh class)
-fresh-numbered class = record { services = tt; advertisements = tt; peers = tt; names = none-sorted; config = λ c e. absurd (let none : None ≡ Some c = e in cc) }
+fresh-numbered class =
+    record { services = tt; advertisements = tt; peers = tt; names = none-sorted; config = λ c e. absurd (let none : None ≡ Some c = e in cc) }
 
 pub after-numbered : (event : Event) (v : ViewValue) → ShowsNumbers event → IsNumbered v → IsNumbered (view_after event v)
 after-numbered event v shows is =
     let after = objects_after (Watched event) v.held.objects in
-    let bgps : AllByRecursion HasRouteNumbers (objects_of after.bgps) = all-held_after HasRouteNumbers bgp_resource event v.held.objects.bgps (shows-by HasRouteNumbers bgp_resource object-bgp event shows) is.advertisements in
-    let peers : AllByRecursion HasAsn (objects_of after.peers) = all-held_after HasAsn peer_resource event v.held.objects.peers (shows-by HasAsn peer_resource object-peer event shows) is.peers in
-    let names : IsStrictlySortedBy name_cmp (keys_of after.peers) = ascending-held_after peer_resource name_cmp-total (Watched event) v.held.objects.peers is.names in
+    let bgps : AllByRecursion HasRouteNumbers (objects_of after.bgps) = all-held_after HasRouteNumbers bgp_resource event v.held.objects.bgps
+    (shows-by HasRouteNumbers bgp_resource object-bgp event shows) is.advertisements in
+    let peers : AllByRecursion HasAsn (objects_of after.peers) =
+    all-held_after HasAsn peer_resource event v.held.objects.peers (shows-by HasAsn peer_resource object-peer event shows) is.peers in
+    let names : IsStrictlySortedBy name_cmp (keys_of after.peers) =
+    ascending-held_after peer_resource name_cmp-total (Watched event) v.held.objects.peers is.names in
     record {
-      services = all-held_after HasFittingAddresses service_resource event v.held.services (shows-by HasFittingAddresses service_resource object-service event shows) is.services;
+      services = all-held_after HasFittingAddresses service_resource event v.held.services
+          (shows-by HasFittingAddresses service_resource object-service event shows) is.services;
       advertisements = bgps;
       peers = peers;
       names = names;
-      config = kept-force IsNumberedConfig (compiles v.held.objects v.held.config_ended (Watched event)) after v.held.config (compiled-numbered after bgps peers names) is.config;
+      config = kept-force IsNumberedConfig (compiles v.held.objects v.held.config_ended (Watched event)) after v.held.config
+          (compiled-numbered after bgps peers names) is.config;
     }
 
 pub read-numbered : (event : Event) (v : ViewValue) → IsRead event → IsNumbered v → IsNumbered (view_after event v)

@@ -1,5 +1,6 @@
 -- The routes of a peer can be told in messages.
-use Rattle.std.proofs.Common.{◌≡◌, ◌<◌, ◌≤◌, ◌^◌, ◌/◌, ◌*◌, ◌%◌, ◌-◌, ◌+◌, ◌==◌, ℕ, Bool, true, false, cond, max, List, [], ◌∷◌, Option, Some, None, is_some, is_none, IfSome, Ordering, refl, sym, ap, ◌∙◌, subst, inl, inr, arith}
+use Rattle.std.proofs.Common.{◌≡◌, ◌<◌, ◌≤◌, ◌^◌, ◌/◌, ◌*◌, ◌%◌, ◌-◌, ◌+◌, ◌==◌, ℕ, Bool, true, false, cond, max, List, [], ◌∷◌}
+use Rattle.std.proofs.Common.{Option, Some, None, is_some, is_none, IfSome, Ordering, refl, sym, ap, ◌∙◌, subst, inl, inr, arith}
 use Rattle.std.specs.List.{AllByRecursion}
 use Rattle.std.specs.List.Sorted.{IsStrictlySortedBy}
 use Rattle.std.specs.Ordering.{nat_cmp}
@@ -65,7 +66,8 @@ module _ (peering : Peering) where
   greater-small (Some m) (Some n) x y = omega (arith, x, y)
 
   -- what holds of the keys of both holds of the united ones
-  united-all : {K : Type 0} {R : K → K → Ordering} (o : IsTotalOrder R) (exact : CmpEqualImpliesEq R) (P : K → Type 0) (a b : List K) → AllByRecursion P a → AllByRecursion P b
+  united-all : {K : Type 0} {R : K → K → Ordering} (o : IsTotalOrder R) (exact : CmpEqualImpliesEq R) (P : K → Type 0) (a b : List K) → AllByRecursion P a
+      → AllByRecursion P b
       → AllByRecursion P (united R a b)
   united-all {K} {R} o exact P a b x y = all-from P (united R a b) (λ k there. elim (in_united o exact a b k there) [
     | inl one ↦ each-of P a k x one
@@ -89,11 +91,13 @@ module _ (peering : Peering) where
 
   -- ---- tables
 
-  good-with : (routes : List (PrefixValue × Terms)) (c : PrefixValue × Terms) → AllByRecursion IsGood routes → IsGood c → AllByRecursion IsGood (with_contribution routes c)
+  good-with : (routes : List (PrefixValue × Terms)) (c : PrefixValue × Terms) → AllByRecursion IsGood routes → IsGood c
+      → AllByRecursion IsGood (with_contribution routes c)
   good-with [] c all own = (own, tt)
   good-with (route ∷ routes) c all own = by_test (same_prefix c.0 route.0) (before c.0 route.0) (good-with routes c all.1 own) where
     by_test : (same first : Bool) → AllByRecursion IsGood (with_contribution routes c)
-        → AllByRecursion IsGood (cond same ((route.0, united_terms route.1 c.1) ∷ routes) (cond first (c ∷ route ∷ routes) (route ∷ with_contribution routes c)))
+        → AllByRecursion IsGood
+        (cond same ((route.0, united_terms route.1 c.1) ∷ routes) (cond first (c ∷ route ∷ routes) (route ∷ with_contribution routes c)))
     by_test true first rest = (record { prefix = all.0.prefix; terms = united-sayable route.1 c.1 all.0.terms own.terms }, all.1)
     by_test false true rest = (own, all)
     by_test false false rest = (all.0, rest)
@@ -118,7 +122,8 @@ module _ (peering : Peering) where
 
 -- ---- contributions
 
-module _ (v : ViewValue) (node : List ℕ) (peer : CompiledPeer) (both : Bool) (hop : AddressValue) (hop_v6 : Option AddressValue) (numbered : IsNumbered v) (limited : HasFewInForce v)
+module _ (v : ViewValue) (node : List ℕ) (peer : CompiledPeer) (both : Bool) (hop : AddressValue) (hop_v6 : Option AddressValue) (numbered : IsNumbered v)
+    (limited : HasFewInForce v)
     (asn : HasCompiledAsn peer) (hop_small : hop.number < 2 ^ 32) (hop_v6_small : number_of_hop hop_v6 < 2 ^ 128) where
   abbrev peering : Peering
   peering = peering_of peer hop hop_v6
@@ -138,12 +143,15 @@ module _ (v : ViewValue) (node : List ℕ) (peer : CompiledPeer) (both : Bool) (
   contribution-good : (c : PrefixValue × Terms) → IsContribution v node peer both c → IsGood peering c
   contribution-good c by =
       let adv = by.advertised in
-      let numbers : HasCompiledNumbers by.advertisement = each-of HasCompiledNumbers adv.config.bgp by.advertisement (numbered.config adv.config adv.in_force).bgp adv.there in
+      let numbers : HasCompiledNumbers by.advertisement =
+      each-of HasCompiledNumbers adv.config.bgp by.advertisement (numbered.config adv.config adv.in_force).bgp adv.there in
       let announced = by.announced in
-      let addresses : HasFittingAddresses announced.service = each-of HasFittingAddresses (objects_of v.held.services) announced.service numbered.services announced.held in
+      let addresses : HasFittingAddresses announced.service =
+      each-of HasFittingAddresses (objects_of v.held.services) announced.service numbered.services announced.held in
       let fits : IsOfFamily by.address = each-of IsOfFamily announced.service.holding.addresses by.address addresses announced.recorded in
       subst (IsGood peering) (sym by.is) (record {
-        prefix = (masked-is by.address.family by.address.number (length_for by.address.family by.advertisement) (length-fits by.address.family by.advertisement numbers) fits).is;
+        prefix = (masked-is by.address.family by.address.number (length_for by.address.family by.advertisement)
+            (length-fits by.address.family by.advertisement numbers) fits).is;
         terms = record {
           values = record {
             own = own-small (peer.my_asn == peer.peer_asn);
@@ -151,9 +159,11 @@ module _ (v : ViewValue) (node : List ℕ) (peer : CompiledPeer) (both : Bool) (
             next_hop_v6 = hop_v6_small;
             preference = told-small (peer.my_asn == peer.peer_asn) by.advertisement.local_pref numbers.local_pref;
             communities = numbers.communities;
-            ascending = each-of (λ (a : CompiledBgp). IsStrictlySortedBy nat_cmp a.communities) adv.config.bgp by.advertisement (limited adv.config adv.in_force).numbers.ascend adv.there;
+            ascending = each-of (λ (a : CompiledBgp). IsStrictlySortedBy nat_cmp a.communities) adv.config.bgp by.advertisement
+                (limited adv.config adv.in_force).numbers.ascend adv.there;
             large = numbers.large;
-            large_ascending = each-of (λ (a : CompiledBgp). IsStrictlySortedBy large_cmp a.large) adv.config.bgp by.advertisement (limited adv.config adv.in_force).large.ascend adv.there;
+            large_ascending = each-of (λ (a : CompiledBgp). IsStrictlySortedBy large_cmp a.large) adv.config.bgp by.advertisement
+                (limited adv.config adv.in_force).large.ascend adv.there;
           };
           told = told-some (peer.my_asn == peer.peer_asn) by.advertisement.local_pref;
         };

@@ -52,7 +52,8 @@ address_exact a b e =
 
 -- it is the one by which the code compares
 by_families : (f g : Family) (m n : ℕ)
-    → derived.cmp-value.it (record { family = f; number = m }) (record { family = g; number = n }) ≡ address_cmp (record { family = f; number = m }) (record { family = g; number = n })
+    → derived.cmp-value.it (record { family = f; number = m }) (record { family = g; number = n })
+    ≡ address_cmp (record { family = f; number = m }) (record { family = g; number = n })
 by_families V4 V4 m n = refl
 by_families V4 V6 m n = refl
 by_families V6 V4 m n = refl
@@ -64,8 +65,10 @@ address_cmp-is = λ i a b. by_families a.family b.family a.number b.number i
 -- ---- the addresses of a set
 pub same-at : (a b : AddressValue) → is_at (address_cmp a) b ≡ same_address a b
 same-at a b =
-    same_from_decides {P = a ≡ b} (is_at (address_cmp a) b) (same_address a b)
-    (λ e. address_exact a b ((Equal-is (address_cmp a b)).0 e), λ is. subst (λ (x : AddressValue). is_at (address_cmp a) x ≡ true) is (ap is_eq (tied_itself address_total a)))
+    same_from_decides {P = a ≡ b} (is_at (address_cmp a) b) (same_address a b) (
+      λ e. address_exact a b ((Equal-is (address_cmp a b)).0 e),
+      λ is. subst (λ (x : AddressValue). is_at (address_cmp a) x ≡ true) is (ap is_eq (tied_itself address_total a)),
+    )
     (λ e. same_address-is a b e, λ is. subst (λ (x : AddressValue). same_address a x ≡ true) is (same_address-itself a))
 
 -- a look-up finds an address where the list has it
@@ -80,7 +83,8 @@ Finds R old new b address = (a : AddressValue) → list_any (is_at (R a)) new �
 pub has-updated : (old new : List AddressValue) (b : Bool) (address : AddressValue) → Finds derived.cmp-value.it old new b address
     → (a : AddressValue) → has_address new a ≡ cond (same_address a address) b (has_address old a)
 has-updated old new b address finds a =
-    let updates : Finds address_cmp old new b address = subst (λ (R : AddressValue → AddressValue → Ordering). Finds R old new b address) address_cmp-is finds in
+    let updates : Finds address_cmp old new b address =
+    subst (λ (R : AddressValue → AddressValue → Ordering). Finds R old new b address) address_cmp-is finds in
     sym (found-has new a) ∙ updates a ∙ (λ i. cond ((same-at address a ∙ same_address-flip address a) i) b (found-has old a i))
 
 -- two lists that ascend are the same where they have the same addresses
@@ -92,7 +96,8 @@ ascending-same xs ys s t same =
 -- ---- addresses, each once
 in-Decides : (addresses : List AddressValue) (a : AddressValue) → Decides (has_address addresses a) (IsIn addresses a)
 in-Decides addresses a =
-    Decides-has (same_address a) (λ k. k ≡ a) (λ k. (λ e. sym (same_address-is a k e), λ is. subst (λ (x : AddressValue). same_address x k ≡ true) is (same_address-itself k))) addresses
+    Decides-has (same_address a) (λ k. k ≡ a)
+    (λ k. (λ e. sym (same_address-is a k e), λ is. subst (λ (x : AddressValue). same_address x k ≡ true) is (same_address-itself k))) addresses
 
 pub has-distinct : (addresses : List AddressValue) (a : AddressValue) → has_address (keys_with address_cmp [] addresses) a ≡ has_address addresses a
 has-distinct addresses a =

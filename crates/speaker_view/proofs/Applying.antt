@@ -21,7 +21,8 @@ limit kind count = Err (Limit kind count)
 abbrev pub TellsLimit : {T : Type 0} → Result T ApplyFault → Option (Kind × ℕ) → Type 0
 TellsLimit answer passed = (kind : Kind) (count : ℕ) → (answer ≡ Err (Limit kind count)) ↔ (passed ≡ Some (kind, count))
 
-pub limit-ok : (a : Applied) (note : TakeNote) (passed : Option (Kind × ℕ)) → TellsLimit {T = Applied} (Ok a) passed → TellsLimit {T = TakeNote} (Ok note) passed
+pub limit-ok : (a : Applied) (note : TakeNote) (passed : Option (Kind × ℕ)) → TellsLimit {T = Applied} (Ok a) passed
+    → TellsLimit {T = TakeNote} (Ok note) passed
 limit-ok a note passed h kind count = (
   λ e. absurd (cc),
   λ e. let wrong : Ok a ≡ limit kind count = (h kind count).1 e in absurd (cc),
@@ -34,7 +35,8 @@ limit-err {A} {B} fault passed h kind count = (
 )
 
 -- the same of what is seen of a view
-pub limit-seen : (answer : Result TakeNote ApplyFault) (held held' : Cached) (event : Event) → held' ≡ held → TellsLimit answer (limit_of held' event) → TellsLimit answer (limit_of held event)
+pub limit-seen : (answer : Result TakeNote ApplyFault) (held held' : Cached) (event : Event) → held' ≡ held → TellsLimit answer (limit_of held' event)
+    → TellsLimit answer (limit_of held event)
 limit-seen answer held held' event at h kind count =
     let is : limit_of held' event ≡ limit_of held event = ap (λ (x : Cached). limit_of x event) at in
     (λ e. sym is ∙ (h kind count).0 e, λ e. (h kind count).1 (is ∙ e))
@@ -50,15 +52,18 @@ members-stay (Frame interface bytes) members other = refl
 members-stay Ignored members other = refl
 
 applied-view : (v : ViewValue) (class : Option (List ℕ)) (cache cache' : Cached) (members : List (List ℕ)) (event : Event)
-    → record { class = class; held = cache; members = members } ≡ v → ((names : List (List ℕ)) → event ≡ Members names → ⊥) → cache' ≡ cached_after (Watched event) cache
+    → record { class = class; held = cache; members = members } ≡ v → ((names : List (List ℕ)) → event ≡ Members names → ⊥)
+    → cache' ≡ cached_after (Watched event) cache
     → record { class = class; held = cache'; members = members } ≡ view_after event v
 applied-view v class cache cache' members event is other new =
     let with_held : Cached → ViewValue = λ h. record { class = class; held = h; members = members } in
     let with_members : List (List ℕ) → ViewValue = λ m. record { class = class; held = cached_after (Watched event) cache; members = m } in
     ap with_held new ∙ ap with_members (sym (members-stay event members other)) ∙ ap (view_after event) is
 
-pub applied-on_ok : (answer : Result TakeNote ApplyFault) (v : ViewValue) (class : Option (List ℕ)) (cache cache' : Cached) (members : List (List ℕ)) (event : Event)
-    → record { class = class; held = cache; members = members } ≡ v → ((names : List (List ℕ)) → event ≡ Members names → ⊥) → OnOk answer (cache' ≡ cached_after (Watched event) cache)
+pub applied-on_ok : (answer : Result TakeNote ApplyFault) (v : ViewValue) (class : Option (List ℕ)) (cache cache' : Cached) (members : List (List ℕ))
+    (event : Event)
+    → record { class = class; held = cache; members = members } ≡ v → ((names : List (List ℕ)) → event ≡ Members names → ⊥)
+    → OnOk answer (cache' ≡ cached_after (Watched event) cache)
     → OnOk answer (record { class = class; held = cache'; members = members } ≡ view_after event v)
 applied-on_ok (Ok note) v class cache cache' members event is other new = applied-view v class cache cache' members event is other new
 applied-on_ok (Err fault) v class cache cache' members event is other new = tt

@@ -70,22 +70,27 @@ module _ {K T : Type 0} (resource : Resource K T) (o : IsTotalOrder resource.cmp
   removed-by true found object e = absurd (cc)
   removed-by false found object e = e
 
-  deleted-each : (gone : Option K) (entries : List (K × Versioned T)) → IsStrictlySortedBy resource.cmp (keys_of entries) → Each entries → Each (deleted_in resource gone entries)
+  deleted-each : (gone : Option K) (entries : List (K × Versioned T)) → IsStrictlySortedBy resource.cmp (keys_of entries) → Each entries
+      → Each (deleted_in resource gone entries)
   deleted-each None entries s each key object e = each key object e
   deleted-each (Some gone) entries s each key object e =
-      each key object (removed-by (is_eq (resource.cmp gone key)) (held_at resource.cmp entries key) object (sym (ap object_in (held_at-removed o entries gone key s)) ∙ e))
+      each key object
+      (removed-by (is_eq (resource.cmp gone key)) (held_at resource.cmp entries key) object (sym (ap object_in (held_at-removed o entries gone key s)) ∙ e))
 
   kept-by : (b : Bool) (held : Versioned T) (object : T) → object_in (cond b (Some held) None) ≡ Some object → held.object ≡ object
   kept-by true held object e = cc
   kept-by false held object e = absurd (cc)
 
-  listed-by : (test : Versioned T → Bool) (found : Option (Versioned T)) (object : T) → object_in (option_filter test found) ≡ Some object → object_in found ≡ Some object
+  listed-by : (test : Versioned T → Bool) (found : Option (Versioned T)) (object : T) → object_in (option_filter test found) ≡ Some object
+      → object_in found ≡ Some object
   listed-by test None object e = e
   listed-by test (Some held) object e = ap (λ (x : T). Some x) (kept-by (test held) held object e)
 
-  listed-each : (b : Bool) (entries : List (K × Versioned T)) → IsStrictlySortedBy resource.cmp (keys_of entries) → Each entries → Each (cond b (listed entries) entries)
+  listed-each : (b : Bool) (entries : List (K × Versioned T)) → IsStrictlySortedBy resource.cmp (keys_of entries) → Each entries
+      → Each (cond b (listed entries) entries)
   listed-each true entries s each key object e =
-      each key object (listed-by (λ held. not (eqb held.version 0)) (held_at resource.cmp entries key) object (sym (ap object_in (held_at-listed o entries key s)) ∙ e))
+      each key object
+      (listed-by (λ held. not (eqb held.version 0)) (held_at resource.cmp entries key) object (sym (ap object_in (held_at-listed o entries key s)) ∙ e))
   listed-each false entries s each key object e = each key object e
 
   expired-by : (found : Option (Versioned T)) → object_in (option_map (at_version 0) found) ≡ object_in found
@@ -96,7 +101,8 @@ module _ {K T : Type 0} (resource : Resource K T) (o : IsTotalOrder resource.cmp
   expired-each entries each key object e =
       each key object (sym (ap object_in (held_at-expired resource.cmp entries key) ∙ expired-by (held_at resource.cmp entries key)) ∙ e)
 
-  pub each-after : (event : Event) (entries : List (K × Versioned T)) → IsStrictlySortedBy resource.cmp (keys_of entries) → OfShown event → Each entries → Each (held_after_event resource event entries)
+  pub each-after : (event : Event) (entries : List (K × Versioned T)) → IsStrictlySortedBy resource.cmp (keys_of entries) → OfShown event → Each entries
+      → Each (held_after_event resource event entries)
   each-after (Changed version object) entries s new each = shown-each (resource.shown object) version entries new each
   each-after (Deleted kind key) entries s new each = deleted-each (resource.deleted kind key) entries s each
   each-after (ListEnd group) entries s new each = listed-each (same_group group resource.group) entries s each
@@ -173,10 +179,12 @@ module _ (index : Index) where
   shown-own (Frame interface bytes) = tt
   shown-own Ignored = tt
 
-  pub covers-after : (held : Cached) (event : Event) → IsStrictlySortedBy key_cmp (keys_of held.services) → IsStrictlySortedBy key_cmp (keys_of held.slices) → HasShown index event
+  pub covers-after : (held : Cached) (event : Event) → IsStrictlySortedBy key_cmp (keys_of held.services) → IsStrictlySortedBy key_cmp (keys_of held.slices)
+      → HasShown index event
       → Covers index held → Covers index (cached_after (Watched event) held)
   covers-after held event services slices has covers = record {
-    services_by_address = each-after service_resource key_cmp-total key_cmp-exact (IsUnderAll index) event held.services services (shown-service event has) covers.services_by_address;
+    services_by_address = each-after service_resource key_cmp-total key_cmp-exact (IsUnderAll index) event held.services services (shown-service event has)
+        covers.services_by_address;
     slices = each-after slice_resource key_cmp-total key_cmp-exact UnderSlice event held.slices slices (shown-slice event has) covers.slices;
     own = each-after service_resource key_cmp-total key_cmp-exact OwnKey event held.services services (shown-own event) covers.own;
   }

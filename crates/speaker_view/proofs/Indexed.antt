@@ -1,5 +1,6 @@
 -- What stands in the index after a change, and what is found by it.
-use Rattle.std.proofs.Common.{◌≡◌, ℕ, Bool, true, false, cond, not, ◌&&◌, ◌||◌, List, [], ◌∷◌, filter, Option, Some, None, Result, Ok, Err, Contains, Ordering, is_eq, refl, sym, ap, subst, ◌∙◌}
+use Rattle.std.proofs.Common.{◌≡◌, ℕ, Bool, true, false, cond, not, ◌&&◌, ◌||◌, List, [], ◌∷◌, filter, Option}
+use Rattle.std.proofs.Common.{Some, None, Result, Ok, Err, Contains, Ordering, is_eq, refl, sym, ap, subst, ◌∙◌}
 use Rattle.std.proofs.lemmas.Bool.{and_parts, and_from, or_left, or_right, true≢false}
 use Rattle.std.specs.BTreeMap.{is_at}
 use Rattle.std.specs.BTreeSet.{BTreeSet, contains}
@@ -25,7 +26,8 @@ use Rattle.object_history.specs.Cache.{Cached}
 use Rattle.versioned_map.specs.Entries.{object_at}
 use Rattle.speaker_view.specs.declared.index.Index.{Index}
 use Rattle.speaker_view.specs.Addresses.{address_cmp}
-use Rattle.speaker_view.specs.Endpoints.{announced_from, can_announce, has_usable, is_recorded_in, is_served_in, recorded_addresses, is_slice_of, serves_from, slice_serves, some_serves}
+use Rattle.speaker_view.specs.Endpoints.{announced_from, can_announce, has_usable, is_recorded_in, is_served_in}
+use Rattle.speaker_view.specs.Endpoints.{recorded_addresses, is_slice_of, serves_from, slice_serves, some_serves}
 use Rattle.speaker_view.specs.Grouped.{service_of}
 use Rattle.speaker_view.specs.Held.{objects_of}
 use Rattle.speaker_view.specs.Index.{Covers, FoundByIndex, Grows, announces_among, is_recorder, is_slice, passes, records_in}
@@ -50,7 +52,8 @@ module _ {G K : Type 0} (R : G → G → Ordering) (S : K → K → Ordering) (o
   put-keeps : IsPut → (g : G) (k : K) → in_group R S old g k ≡ true → in_group R S new g k ≡ true
   put-keeps is g k e = ap (λ f. f g k) is ∙ or_right (is_at (R group) g && is_at (S key) k) (in_group R S old g k) e
 
-  result-keeps : {A E : Type 0} (r : Result A E) → OnOk r IsPut → OnErr r (new ≡ old) → (g : G) (k : K) → in_group R S old g k ≡ true → in_group R S new g k ≡ true
+  result-keeps : {A E : Type 0} (r : Result A E) → OnOk r IsPut → OnErr r (new ≡ old) → (g : G) (k : K) → in_group R S old g k ≡ true
+      → in_group R S new g k ≡ true
   result-keeps (Ok x) put same g k e = put-keeps put g k e
   result-keeps (Err x) put same g k e = ap (λ entries. in_group R S entries g k) same ∙ e
 
@@ -64,35 +67,43 @@ module _ (index : Index) (services_by_address : List (AddressValue × BTreeSet K
   with_recorders = record { services_by_address = services_by_address; slices = index.slices }
 
   -- by the order that the code compares by
-  put-services_by_address : {A E : Type 0} (r : Result A E) → OnOk r (IsPut derived.cmp-value.it key_cmp index.services_by_address services_by_address at key) → OnOk r (IsPut address_cmp key_cmp index.services_by_address services_by_address at key)
-  put-services_by_address {A} {E} r put = subst (λ (R : AddressValue → AddressValue → Ordering). OnOk r (IsPut R key_cmp index.services_by_address services_by_address at key)) address_cmp-is put
+  put-services_by_address : {A E : Type 0} (r : Result A E) → OnOk r (IsPut derived.cmp-value.it key_cmp index.services_by_address services_by_address at key)
+      → OnOk r (IsPut address_cmp key_cmp index.services_by_address services_by_address at key)
+  put-services_by_address {A} {E} r put =
+      subst (λ (R : AddressValue → AddressValue → Ordering). OnOk r (IsPut R key_cmp index.services_by_address services_by_address at key)) address_cmp-is put
 
-  pub recorder-grows : {A E : Type 0} (r : Result A E) → OnOk r (IsPut derived.cmp-value.it key_cmp index.services_by_address services_by_address at key) → OnErr r (services_by_address ≡ index.services_by_address) → Grows index with_recorders
+  pub recorder-grows : {A E : Type 0} (r : Result A E) → OnOk r (IsPut derived.cmp-value.it key_cmp index.services_by_address services_by_address at key)
+      → OnErr r (services_by_address ≡ index.services_by_address) → Grows index with_recorders
   recorder-grows r put same = record {
     services_by_address = result-keeps address_cmp key_cmp index.services_by_address services_by_address at key r (put-services_by_address r put) same;
     slices = λ service k e. e;
   }
 
-  pub recorder-has : {A E : Type 0} (r : Result A E) → OnOk r (IsPut derived.cmp-value.it key_cmp index.services_by_address services_by_address at key) → OnOk r (is_recorder with_recorders at key ≡ true)
-  recorder-has r put = result-has address_cmp key_cmp index.services_by_address services_by_address at key r address_total key_cmp-total (put-services_by_address r put)
+  pub recorder-has : {A E : Type 0} (r : Result A E) → OnOk r (IsPut derived.cmp-value.it key_cmp index.services_by_address services_by_address at key)
+      → OnOk r (is_recorder with_recorders at key ≡ true)
+  recorder-has r put =
+      result-has address_cmp key_cmp index.services_by_address services_by_address at key r address_total key_cmp-total (put-services_by_address r put)
 
   pub recorder-taken : IsTaken derived.cmp-value.it key_cmp index.services_by_address services_by_address at key
       → (a : AddressValue) (k : Key) → is_recorder with_recorders a k ≡ (not (same_address at a && same_key key k) && is_recorder index a k)
   recorder-taken taken a k =
-      let by : IsTaken address_cmp key_cmp index.services_by_address services_by_address at key = subst (λ (R : AddressValue → AddressValue → Ordering). IsTaken R key_cmp index.services_by_address services_by_address at key) address_cmp-is taken in
+      let by : IsTaken address_cmp key_cmp index.services_by_address services_by_address at key =
+      subst (λ (R : AddressValue → AddressValue → Ordering). IsTaken R key_cmp index.services_by_address services_by_address at key) address_cmp-is taken in
       ap (λ f. f a k) by ∙ (λ i. not (same-at at a i && is_eq-key_cmp key k i) && is_recorder index a k)
 
 module _ (index : Index) (slices : List (Key × BTreeSet Key)) (service key : Key) where
   abbrev with_slices : Index
   with_slices = record { services_by_address = index.services_by_address; slices = slices }
 
-  pub slice-grows : {A E : Type 0} (r : Result A E) → OnOk r (IsPut key_cmp key_cmp index.slices slices service key) → OnErr r (slices ≡ index.slices) → Grows index with_slices
+  pub slice-grows : {A E : Type 0} (r : Result A E) → OnOk r (IsPut key_cmp key_cmp index.slices slices service key) → OnErr r (slices ≡ index.slices)
+      → Grows index with_slices
   slice-grows r put same = record {
     services_by_address = λ a k e. e;
     slices = result-keeps key_cmp key_cmp index.slices slices service key r put same;
   }
 
-  pub slice-has : {A E : Type 0} (r : Result A E) → OnOk r (IsPut key_cmp key_cmp index.slices slices service key) → OnOk r (is_slice with_slices service key ≡ true)
+  pub slice-has : {A E : Type 0} (r : Result A E) → OnOk r (IsPut key_cmp key_cmp index.slices slices service key)
+      → OnOk r (is_slice with_slices service key ≡ true)
   slice-has r put = result-has key_cmp key_cmp index.slices slices service key r key_cmp-total key_cmp-total put
 
   pub slice-taken : IsTaken key_cmp key_cmp index.slices slices service key
@@ -100,12 +111,15 @@ module _ (index : Index) (slices : List (Key × BTreeSet Key)) (service key : Ke
   slice-taken taken s k = ap (λ f. f s k) taken ∙ (λ i. not (is_eq-key_cmp service s i && is_eq-key_cmp key k i) && is_slice index s k)
 
 -- what stands under an address
-pub under-address : (index : Index) (a : AddressValue) (found : Option (BTreeSet Key)) → found ≡ lookup (is_at (derived.cmp-value.it a)) index.services_by_address → (key : Key) → is_in key_cmp found key ≡ is_recorder index a key
+pub under-address : (index : Index) (a : AddressValue) (found : Option (BTreeSet Key))
+    → found ≡ lookup (is_at (derived.cmp-value.it a)) index.services_by_address → (key : Key) → is_in key_cmp found key ≡ is_recorder index a key
 under-address index a found is key =
-    ap (λ keys. is_in key_cmp keys key) (is ∙ ap (λ (R : AddressValue → AddressValue → Ordering). lookup (is_at (R a)) index.services_by_address) address_cmp-is)
+    ap (λ keys. is_in key_cmp keys key)
+    (is ∙ ap (λ (R : AddressValue → AddressValue → Ordering). lookup (is_at (R a)) index.services_by_address) address_cmp-is)
 
 -- ---- whether an endpoint slice of a service serves
-module _ (index : Index) (held : Cached) (covers : Covers index held) (ascend : IsStrictlySortedBy key_cmp (keys_of held.slices)) (key : Key) (policy : Policy) (node : List ℕ) where
+module _ (index : Index) (held : Cached) (covers : Covers index held) (ascend : IsStrictlySortedBy key_cmp (keys_of held.slices)) (key : Key) (policy : Policy)
+    (node : List ℕ) where
   abbrev serves : EndpointSlice → Bool
   serves slice = slice_serves key policy node slice
 
@@ -117,7 +131,8 @@ module _ (index : Index) (held : Cached) (covers : Covers index held) (ascend : 
       let stands : is_slice index key at ≡ true = subst (λ (k : Key). is_slice index k at ≡ true) same (covers.slices at slice there) in
       ap (λ keys. is_in key_cmp keys at) is ∙ stands
 
-  pub serves-some : (answer : Bool) (keys : BTreeSet Key) → answer ≡ list_any (λ at. passes serves (object_at key_cmp held.slices at)) keys.keys → Some keys ≡ lookup (is_at (key_cmp key)) index.slices
+  pub serves-some : (answer : Bool) (keys : BTreeSet Key) → answer ≡ list_any (λ at. passes serves (object_at key_cmp held.slices at)) keys.keys
+      → Some keys ≡ lookup (is_at (key_cmp key)) index.slices
       → answer ≡ some_serves (objects_of held.slices) key policy node
   serves-some answer keys is there = is ∙ any-keys key_cmp-total key_cmp-exact serves held.slices keys.keys ascend (among-slices (Some keys) there)
 
@@ -136,10 +151,12 @@ module _ (index : Index) (v : ViewValue) (covers : Covers index v.held) (ascend 
 
     found-some : (answer : Bool) (keys : BTreeSet Key) → answer ≡ list_any (λ at. passes test (object_at key_cmp v.held.services at)) keys.keys
         → ((key : Key) → contains key_cmp keys key ≡ is_recorder index a key) → answer ≡ list_any test (objects_of v.held.services)
-    found-some answer keys is there = is ∙ any-keys key_cmp-total key_cmp-exact test v.held.services keys.keys ascend (among-services_by_address (Some keys) there)
+    found-some answer keys is there =
+        is ∙ any-keys key_cmp-total key_cmp-exact test v.held.services keys.keys ascend (among-services_by_address (Some keys) there)
 
     found-none : ((key : Key) → false ≡ is_recorder index a key) → false ≡ list_any test (objects_of v.held.services)
-    found-none none = any-keys key_cmp-total key_cmp-exact test v.held.services [] ascend (λ at service there passed. among-services_by_address None none at service there passed)
+    found-none none = any-keys key_cmp-total key_cmp-exact test v.held.services [] ascend
+        (λ at service there passed. among-services_by_address None none at service there passed)
 
   -- whether there is one
   pub recorded-some : (answer : Bool) (keys : BTreeSet Key) → answer ≡ list_any (λ at. records_in (object_at key_cmp v.held.services at) a) keys.keys
@@ -179,20 +196,24 @@ module _ (index : Index) (v : ViewValue) (covers : Covers index v.held) (ascend 
     announces-none = found-none announces announces-records
 
 -- ---- the recorded addresses
-key-by : (b more : Bool) (here there : Option (BTreeSet Key)) (key : Key) → is_in key_cmp (cond b here there) key ≡ true → (is_in key_cmp there key ≡ true → more ≡ true) → (b || more) ≡ true
+key-by : (b more : Bool) (here there : Option (BTreeSet Key)) (key : Key) → is_in key_cmp (cond b here there) key ≡ true
+    → (is_in key_cmp there key ≡ true → more ≡ true) → (b || more) ≡ true
 key-by true more here there key stands later = refl
 key-by false more here there key stands later = later stands
 
-stands-address : (entries : List (AddressValue × BTreeSet Key)) (a : AddressValue) (key : Key) → in_group address_cmp key_cmp entries a key ≡ true → list_any (is_at (address_cmp a)) (keys_of entries) ≡ true
+stands-address : (entries : List (AddressValue × BTreeSet Key)) (a : AddressValue) (key : Key) → in_group address_cmp key_cmp entries a key ≡ true
+    → list_any (is_at (address_cmp a)) (keys_of entries) ≡ true
 stands-address [] a key e = absurd (true≢false (sym e))
 stands-address (d ∷ entries) a key e =
-    key-by (is_at (address_cmp a) d.0) (list_any (is_at (address_cmp a)) (keys_of entries)) (Some d.1) (lookup (is_at (address_cmp a)) entries) key e (stands-address entries a key)
+    key-by (is_at (address_cmp a) d.0) (list_any (is_at (address_cmp a)) (keys_of entries)) (Some d.1) (lookup (is_at (address_cmp a)) entries) key e
+    (stands-address entries a key)
 
 has-recorded : (index : Index) (v : ViewValue) → Covers index v.held → IsStrictlySortedBy key_cmp (keys_of v.held.services)
     → (a : AddressValue) → is_recorded_in v a ≡ true → has_address (keys_of index.services_by_address) a ≡ true
 has-recorded index v covers ascend a e =
     let p = passing key_cmp-total key_cmp-exact (λ (service : Service). has_address service.holding.addresses a) v.held.services ascend e in
-    sym (found-has (keys_of index.services_by_address) a) ∙ stands-address index.services_by_address a p.key (covers.services_by_address p.key p.object p.held a p.passed)
+    sym (found-has (keys_of index.services_by_address) a)
+    ∙ stands-address index.services_by_address a p.key (covers.services_by_address p.key p.object p.held a p.passed)
 
 any-flat_map : {X A : Type 0} (test : A → Bool) (f : X → List A) (xs : List X) → list_any test (flat_map f xs) ≡ list_any (λ x. list_any test (f x)) xs
 any-flat_map test f [] = refl
@@ -212,7 +233,8 @@ pub has-recorded_addresses : (v : ViewValue) (a : AddressValue) → is_recorded_
 has-recorded_addresses v a e = has_address-is (recorded_addresses v) a (has-recorded_in v a ∙ e)
 
 -- those of the addresses of the index that are recorded are all that are
-pub all-recorded : (index : Index) (v : ViewValue) → Covers index v.held → IsStrictlySortedBy key_cmp (keys_of v.held.services) → (addresses : List AddressValue) → addresses ≡ keys_of index.services_by_address
+pub all-recorded : (index : Index) (v : ViewValue) → Covers index v.held → IsStrictlySortedBy key_cmp (keys_of v.held.services)
+    → (addresses : List AddressValue) → addresses ≡ keys_of index.services_by_address
     → keys_with address_cmp [] (filter (is_recorded_in v) addresses) ≡ recorded_addresses v
 all-recorded index v covers ascend addresses are =
     let recorded = flat_map (λ (service : Service). service.holding.addresses) (objects_of v.held.services) in
@@ -222,7 +244,8 @@ all-recorded index v covers ascend addresses are =
     (λ a.
     has-distinct passing a
     ∙ any-filter_same (same_address a) (is_recorded_in v) (is_recorded_in v a) (λ k e. ap (is_recorded_in v) (sym (same_address-is a k e))) addresses
-    ∙ found-where (is_recorded_in v a) (has_address addresses a) (λ e. ap (λ (all : List AddressValue). has_address all a) are ∙ has-recorded index v covers ascend a e)
+    ∙ found-where (is_recorded_in v a) (has_address addresses a)
+    (λ e. ap (λ (all : List AddressValue). has_address all a) are ∙ has-recorded index v covers ascend a e)
     ∙ sym (has-recorded_in v a))
 
 pub found-by : FoundByIndex

@@ -19,7 +19,8 @@ use Rattle.speaker_view.specs.Index.{passes}
 module _ {K T : Type 0} {cmp : K → K → Ordering} (o : IsTotalOrder cmp) (exact : CmpEqualImpliesEq cmp) (test : T → Bool) where
   -- ---- where it passes at the object of a key, it passes at one of the objects
   at-by : (b : Bool) (e : K × Versioned T) (es : List (K × Versioned T)) (found : Option (Versioned T))
-      → passes test (option_map (λ h. h.object) (cond b (Some e.1) found)) ≡ true → (passes test (option_map (λ h. h.object) found) ≡ true → list_any test (objects_of es) ≡ true)
+      → passes test (option_map (λ h. h.object) (cond b (Some e.1) found)) ≡ true
+      → (passes test (option_map (λ h. h.object) found) ≡ true → list_any test (objects_of es) ≡ true)
       → (test e.1.object || list_any test (objects_of es)) ≡ true
   at-by true e es found here later = or_left (test e.1.object) (list_any test (objects_of es)) here
   at-by false e es found here later = or_right (test e.1.object) (list_any test (objects_of es)) (later here)
@@ -36,10 +37,12 @@ module _ {K T : Type 0} {cmp : K → K → Ordering} (o : IsTotalOrder cmp) (exa
     pub held : object_at cmp entries key ≡ Some object
     pub passed : test object ≡ true
 
-  pub past : (e : K × Versioned T) (es : List (K × Versioned T)) (key : K) → IsStrictlySortedBy cmp (keys_of (e ∷ es)) → is_eq (cmp key e.0) ≡ true → held_at cmp es key ≡ None
+  pub past : (e : K × Versioned T) (es : List (K × Versioned T)) (key : K) → IsStrictlySortedBy cmp (keys_of (e ∷ es)) → is_eq (cmp key e.0) ≡ true
+      → held_at cmp es key ≡ None
   past e es key s same = lookup-none (is_at (cmp key)) es (none_past_head (eq_by_cmp_equiv o) key e es (IsDistinct-from_sorted cmp (keys_of (e ∷ es)) s) same)
 
-  pub later-by : (b : Bool) (e : K × Versioned T) (found : Option (Versioned T)) (object : T) → (b ≡ true → found ≡ None) → option_map (λ h. h.object) found ≡ Some object
+  pub later-by : (b : Bool) (e : K × Versioned T) (found : Option (Versioned T)) (object : T) → (b ≡ true → found ≡ None)
+      → option_map (λ h. h.object) found ≡ Some object
       → option_map (λ h. h.object) (cond b (Some e.1) found) ≡ Some object
   later-by true e found object none is =
       let wrong : option_map (λ (h : Versioned T). h.object) None ≡ Some object = ap (option_map (λ h. h.object)) (sym (none refl)) ∙ is in

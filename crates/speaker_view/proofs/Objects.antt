@@ -1,5 +1,6 @@
 -- A test of the held objects answers as before where it fails at the one that was held under the key and at the one that is now.
-use Rattle.std.proofs.Common.{◌≡◌, ℕ, Bool, true, false, cond, ◌||◌, leb, List, [], ◌∷◌, Option, Some, None, Ordering, Less, Equal, Greater, is_eq, refl, ap, ◌∙◌}
+use Rattle.std.proofs.Common.{◌≡◌, ℕ, Bool, true, false, cond, ◌||◌, leb, List, [], ◌∷◌, Option, Some, None}
+use Rattle.std.proofs.Common.{Ordering, Less, Equal, Greater, is_eq, refl, ap, ◌∙◌}
 use Rattle.std.specs.Ordering.{match_ordering}
 use Rattle.std.specs.List.{list_any, Contains}
 use Rattle.mlb_base.proofs.Among.{contains-first, contains-later}
@@ -72,14 +73,17 @@ expired_object : {T : Type 0} (held : Option (Versioned T)) → option_map (λ h
 expired_object None = refl
 expired_object (Some held) = refl
 
-pub object_at-expired : {K T : Type 0} (cmp : K → K → Ordering) (entries : List (K × Versioned T)) (key : K) → object_at cmp (expired entries) key ≡ object_at cmp entries key
+pub object_at-expired : {K T : Type 0} (cmp : K → K → Ordering) (entries : List (K × Versioned T)) (key : K)
+    → object_at cmp (expired entries) key ≡ object_at cmp entries key
 object_at-expired cmp entries key =
     ap (option_map (λ h. h.object)) (held_at-expired cmp entries key) ∙ expired_object (held_at cmp entries key)
 
 -- where a test passes at some object of a list exactly where another does, at each that the list has, they answer the same
-pub any-each : {T : Type 0} (test other : T → Bool) (objects : List T) → ((object : T) → Contains objects object → test object ≡ other object) → list_any test objects ≡ list_any other objects
+pub any-each : {T : Type 0} (test other : T → Bool) (objects : List T) → ((object : T) → Contains objects object → test object ≡ other object)
+    → list_any test objects ≡ list_any other objects
 any-each test other [] each = refl
 any-each test other (x ∷ objects) each =
     let first : test x ≡ other x = each x (contains-first x objects) in
-    let rest : list_any test objects ≡ list_any other objects = any-each test other objects (λ object there. each object (contains-later x objects object there)) in
+    let rest : list_any test objects ≡ list_any other objects =
+    any-each test other objects (λ object there. each object (contains-later x objects object there)) in
     λ i. first i || rest i

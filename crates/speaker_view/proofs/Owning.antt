@@ -32,7 +32,8 @@ own-first e es own = own e.0 e.1.object (rw (tied_itself key_cmp-total e.0) refl
 
 own-rest : (e : Key × Versioned Service) (es : Entries) → IsStrictlySortedBy key_cmp (keys_of (e ∷ es)) → AreOwn (e ∷ es) → AreOwn es
 own-rest e es s own key service found =
-    own key service (later-by key_cmp-total key_cmp-exact (λ (x : Service). true) (is_at (key_cmp key) e.0) e (held_at key_cmp es key) service (past key_cmp-total key_cmp-exact (λ (x : Service). true) e es key s) found)
+    own key service (later-by key_cmp-total key_cmp-exact (λ (x : Service). true) (is_at (key_cmp key) e.0) e (held_at key_cmp es key) service
+    (past key_cmp-total key_cmp-exact (λ (x : Service). true) e es key s) found)
 
 module _ (slice : EndpointSlice) where
   abbrev addresses : Service → List AddressValue
@@ -44,19 +45,22 @@ module _ (slice : EndpointSlice) where
   abbrev recorded : Option (Versioned Service) → List AddressValue
   recorded held = recorded_by (option_map (λ h. h.object) held)
 
-  served-by : (b : Bool) (e : Key × Versioned Service) (rest : List Service) (found : Option (Versioned Service)) → (b ≡ true → found ≡ None) → flat_map addresses rest ≡ recorded found
+  served-by : (b : Bool) (e : Key × Versioned Service) (rest : List Service) (found : Option (Versioned Service)) → (b ≡ true → found ≡ None)
+      → flat_map addresses rest ≡ recorded found
       → flat_map addresses (cond b (e.1.object ∷ rest) rest) ≡ recorded (cond b (Some e.1) found)
   served-by true e rest found none is =
       let nothing : flat_map addresses rest ≡ [] = is ∙ ap recorded (none refl) in
       ap (λ more. e.1.object.holding.addresses ++ more) nothing ∙ append-nil e.1.object.holding.addresses
   served-by false e rest found none is = is
 
-  pub served-own : (entries : Entries) → IsStrictlySortedBy key_cmp (keys_of entries) → AreOwn entries → served entries ≡ recorded (held_at key_cmp entries (service_of slice))
+  pub served-own : (entries : Entries) → IsStrictlySortedBy key_cmp (keys_of entries) → AreOwn entries
+      → served entries ≡ recorded (held_at key_cmp entries (service_of slice))
   served-own [] s own = refl
   served-own (e ∷ es) s own =
       let rest = filter (λ (service : Service). is_slice_of service.key slice) (objects_of es) in
       let same : is_slice_of e.1.object.key slice ≡ is_at (key_cmp (service_of slice)) e.0 =
       ap (λ key. same_key (service_of slice) key) (own-first e es own) ∙ sym (is_eq-key_cmp (service_of slice) e.0) in
       ap (λ b. flat_map addresses (cond b (e.1.object ∷ rest) rest)) same
-      ∙ served-by (is_at (key_cmp (service_of slice)) e.0) e rest (held_at key_cmp es (service_of slice)) (past key_cmp-total key_cmp-exact (λ (x : Service). true) e es (service_of slice) s)
+      ∙ served-by (is_at (key_cmp (service_of slice)) e.0) e rest (held_at key_cmp es (service_of slice))
+      (past key_cmp-total key_cmp-exact (λ (x : Service). true) e es (service_of slice) s)
       (served-own es (sorted_tail key_cmp e.0 (keys_of es) s) (own-rest e es s own))

@@ -10,7 +10,8 @@ use Rattle.kube_model.specs.declared.service.Service.{Service}
 use Rattle.kube_model.specs.declared.slice.Endpoint.{Endpoint}
 use Rattle.kube_model.specs.declared.slice.EndpointSlice.{EndpointSlice}
 use Rattle.kube_model.specs.Service.{is_handled}
-use Rattle.speaker_view.specs.Endpoints.{allows_balancers, announced_from, can_announce, endpoint_for, has_usable, is_served_in, is_slice_of, node_labels, reaches, serves_from, slice_serves}
+use Rattle.speaker_view.specs.Endpoints.{allows_balancers, announced_from, can_announce, endpoint_for, has_usable}
+use Rattle.speaker_view.specs.Endpoints.{is_served_in, is_slice_of, node_labels, reaches, serves_from, slice_serves}
 use Rattle.speaker_view.specs.Held.{objects_of}
 use Rattle.speaker_view.specs.ViewValue.{ViewValue}
 

@@ -14,7 +14,8 @@ use Rattle.kube_model.specs.declared.slice.EndpointSlice.{EndpointSlice}
 use Rattle.kube_model.specs.Service.{is_handled, same_class}
 use Rattle.speaker_view.specs.Held.{objects_of}
 use Rattle.speaker_view.specs.ViewValue.{ViewValue}
-use Rattle.speaker_view.specs.Endpoints.{ServesFrom, HasEndpoint, CanAnnounce, reaches, serves_from, is_slice_of, slice_serves, endpoint_for, node_labels, exclude_label, allows_balancers, can_announce}
+use Rattle.speaker_view.specs.Endpoints.{ServesFrom, HasEndpoint, CanAnnounce, reaches, serves_from, is_slice_of, slice_serves}
+use Rattle.speaker_view.specs.Endpoints.{endpoint_for, node_labels, exclude_label, allows_balancers, can_announce}
 
 reaches-Decides : (policy : Policy) (node : List ℕ) (at : Option (List ℕ)) → Decides (reaches policy node at) (policy ≡ Local → at ≡ Some node)
 reaches-Decides Cluster node at = (λ e local. absurd (cc), λ h. refl)
@@ -52,9 +53,12 @@ module _ (v : ViewValue) (service : Service) (node : List ℕ) where
 
   found-endpoint : HasEndpoint v service node → endpoint_for v service node ≡ true
   found-endpoint h =
-      let names = and_from (bytes_eq h.slice.key.namespace service.key.namespace) (bytes_eq h.slice.service service.key.name) ((bytes_eq-Decides h.slice.key.namespace service.key.namespace).1 h.namespace) ((bytes_eq-Decides h.slice.service service.key.name).1 h.name) in
-      let some = any-contains (serves_from service.policy node) h.slice.endpoints h.endpoint h.there ((serves_from-Decides service.policy node h.endpoint).1 h.serves) in
-      any-contains (slice_serves service.key service.policy node) (objects_of v.held.slices) h.slice h.held (and_from (is_slice_of service.key h.slice) (list_any (serves_from service.policy node) h.slice.endpoints) names some)
+      let names = and_from (bytes_eq h.slice.key.namespace service.key.namespace) (bytes_eq h.slice.service service.key.name)
+      ((bytes_eq-Decides h.slice.key.namespace service.key.namespace).1 h.namespace) ((bytes_eq-Decides h.slice.service service.key.name).1 h.name) in
+      let some = any-contains (serves_from service.policy node) h.slice.endpoints h.endpoint h.there
+      ((serves_from-Decides service.policy node h.endpoint).1 h.serves) in
+      any-contains (slice_serves service.key service.policy node) (objects_of v.held.slices) h.slice h.held
+      (and_from (is_slice_of service.key h.slice) (list_any (serves_from service.policy node) h.slice.endpoints) names some)
 
   -- what a call answers by the test
   pub endpoint-means : (answer : Bool) → answer ≡ endpoint_for v service node → (answer ≡ true) ↔ HasEndpoint v service node

@@ -22,7 +22,8 @@ view_class class (event ∷ earlier) = view_class class earlier
 
 -- an event that doesn't tell the members leaves them
 still : (event : Event) (names : List (List ℕ)) (earlier : List Event) → IsOther event → AreMembers names earlier → AreMembers names (event ∷ earlier)
-still event names earlier other (inl told) = inl (record { later = event ∷ told.later; earlier = told.earlier; split = ap (λ es. event ∷ es) told.split; last = (other, told.last) })
+still event names earlier other (inl told) =
+    inl (record { later = event ∷ told.later; earlier = told.earlier; split = ap (λ es. event ∷ es) told.split; last = (other, told.last) })
 still event names earlier other (inr (none, others)) = inr (none, (other, others))
 
 told_by : (event : Event) (names : List (List ℕ)) (earlier : List Event) → AreMembers names earlier → AreMembers (members_after event names) (event ∷ earlier)

@@ -1,5 +1,6 @@
 -- At an address that an event doesn't list, all stays that decides who may announce it.
-use Rattle.std.proofs.Common.{◌≡◌, ℕ, Bool, true, false, cond, ◌&&◌, leb, not, List, [], ◌∷◌, Option, Some, None, ◌++◌, inl, inr, Contains, filter, Result, Ok, Err, refl, sym, ap, ◌∙◌, subst}
+use Rattle.std.proofs.Common.{◌≡◌, ℕ, Bool, true, false, cond, ◌&&◌, leb, not, List, [], ◌∷◌, Option, Some, None}
+use Rattle.std.proofs.Common.{◌++◌, inl, inr, Contains, filter, Result, Ok, Err, refl, sym, ap, ◌∙◌, subst}
 use Rattle.std.proofs.lemmas.Bool.{or_parts, true≢false, false_from_ne_true}
 use Rattle.std.proofs.lemmas.List.Elements.{Contains-append_left, Contains-append_right}
 use Rattle.std.specs.List.{flat_map, list_any}
@@ -29,7 +30,8 @@ use Rattle.pool_config.specs.declared.object_set.ObjectSet.{ObjectSet}
 use Rattle.versioned_map.specs.declared.map.Versioned.{Versioned}
 use Rattle.versioned_map.specs.Entries.{object_at, version_at}
 use Rattle.speaker_view.specs.declared.change.ViewChange.{ViewChange}
-use Rattle.speaker_view.specs.Change.{changed_addresses, change_of, is_accepted, recorded_at, recorded_by, reaches_all, served_at, served_by, shown_addresses, OthersStay, UnchangedAddressesStay}
+use Rattle.speaker_view.specs.Change.{changed_addresses, change_of, is_accepted, recorded_at, recorded_by, reaches_all}
+use Rattle.speaker_view.specs.Change.{served_at, served_by, shown_addresses, OthersStay, UnchangedAddressesStay}
 use Rattle.speaker_view.specs.Endpoints.{allows_balancers, announced_from, can_announce, endpoint_for, is_slice_of, labels_of, node_labels, slice_serves}
 use Rattle.speaker_view.specs.Held.{objects_of}
 use Rattle.speaker_view.specs.View.{note_by, view_after}
@@ -48,7 +50,8 @@ Contains-flat_map f (z ∷ zs) x y there of_it = elim (contains-cons z zs x ther
 ]
 
 -- a configuration that isn't accepted leaves the one in force
-config-stays : (b : Bool) (objects : ObjectSet) (before : Option ConfigValue) (r : Result ConfigValue ConfigFault) → r ≡ compiled objects → is_accepted (note_of b objects) ≡ false
+config-stays : (b : Bool) (objects : ObjectSet) (before : Option ConfigValue) (r : Result ConfigValue ConfigFault) → r ≡ compiled objects
+    → is_accepted (note_of b objects) ≡ false
     → cond b (in_force before r) before ≡ before
 config-stays true objects before (Ok config) is e =
     let accepted : is_accepted (note_of true objects) ≡ true = ap (λ (x : Result ConfigValue ConfigFault). is_accepted (note_in x)) (sym is) in
@@ -111,8 +114,11 @@ module _ (v : ViewValue) where
     fails_held None none = tt
     fails_held (Some service) none = fails service none
 
-    service-shown : (passed : Bool) (version : ℕ) (service : Service) → ¬ (Contains (cond (not passed) (recorded_at v service.key ++ service.holding.addresses) []) a)
-        → list_any announces (objects_of (cond passed v.held.services (insert_entry key_cmp v.held.services service.key (record { version = version; object = service })))) ≡ announced_from v a node
+    service-shown : (passed : Bool) (version : ℕ) (service : Service)
+        → ¬ (Contains (cond (not passed) (recorded_at v service.key ++ service.holding.addresses) []) a)
+        → list_any announces
+        (objects_of (cond passed v.held.services (insert_entry key_cmp v.held.services service.key (record { version = version; object = service }))))
+        ≡ announced_from v a node
     service-shown true version service none = refl
     service-shown false version service none =
         let before = recorded_at v service.key in
@@ -129,7 +135,8 @@ module _ (v : ViewValue) where
           let of_slice : Service → Bool = λ s. is_slice_of s.key slice in
           let addresses : Service → List AddressValue = λ s. s.holding.addresses in
           false_from_ne_true (is_slice_of service.key slice) (λ e.
-          none (Contains-flat_map addresses (filter of_slice services) service a (filter-keeps of_slice services service held e) (has_address-is service.holding.addresses a recorded)))
+          none (Contains-flat_map addresses (filter of_slice services) service a (filter-keeps of_slice services service held e)
+          (has_address-is service.holding.addresses a recorded)))
 
       serves_not : (slice : EndpointSlice) → ¬ (Contains (served_by v (Some slice)) a) → slice_serves service.key service.policy node slice ≡ false
       serves_not slice none = rw (apart slice none) refl
@@ -139,16 +146,20 @@ module _ (v : ViewValue) where
       held_not (Some slice) none = serves_not slice none
 
     -- the service's endpoints are the same, so it can be announced from the node as before
-    same_where : (w : ViewValue) (service : Service) (has : Bool) → can_announce w service node ≡ ((is_handled v.class service && endpoint_for w service node) && allows_balancers (node_labels v node))
+    same_where : (w : ViewValue) (service : Service) (has : Bool)
+        → can_announce w service node ≡ ((is_handled v.class service && endpoint_for w service node) && allows_balancers (node_labels v node))
         → (has ≡ true → endpoint_for w service node ≡ endpoint_for v service node) → (has && can_announce w service node) ≡ (has && can_announce v service node)
     same_where w service true is same =
         let endpoints = same refl in
         is ∙ (λ i. (is_handled v.class service && endpoints i) && allows_balancers (node_labels v node))
     same_where w service false is same = refl
 
-    slices-shown : (passed : Bool) (version : ℕ) (slice : EndpointSlice) (service : Service) → Contains (objects_of v.held.services) service → has_address service.holding.addresses a ≡ true
+    slices-shown : (passed : Bool) (version : ℕ) (slice : EndpointSlice) (service : Service) → Contains (objects_of v.held.services) service
+        → has_address service.holding.addresses a ≡ true
         → ¬ (Contains (cond (not passed) (served_at v slice.key ++ served_by v (Some slice)) []) a)
-        → list_any (slice_serves service.key service.policy node) (objects_of (cond passed v.held.slices (insert_entry key_cmp v.held.slices slice.key (record { version = version; object = slice })))) ≡ endpoint_for v service node
+        → list_any (slice_serves service.key service.policy node)
+        (objects_of (cond passed v.held.slices (insert_entry key_cmp v.held.slices slice.key (record { version = version; object = slice }))))
+        ≡ endpoint_for v service node
     slices-shown true version slice service held recorded none = refl
     slices-shown false version slice service held recorded none =
         let before = served_at v slice.key in
@@ -170,7 +181,8 @@ module _ (v : ViewValue) where
         let w = view_after (Deleted kinds.Slice key) v in
         any-each (λ (s : Service). has_address s.holding.addresses a && can_announce w s node) announces (objects_of v.held.services) (λ service held.
         same_where w service (has_address service.holding.addresses a) refl (λ recorded.
-        any-removed key_cmp (slice_serves service.key service.policy node) v.held.slices key (held_not service held recorded (object_at key_cmp v.held.slices key) none)))
+        any-removed key_cmp (slice_serves service.key service.policy node) v.held.slices key
+        (held_not service held recorded (object_at key_cmp v.held.slices key) none)))
 
     expired-stays : announced_from (view_after Expired v) a node ≡ announced_from v a node
     expired-stays =
@@ -178,22 +190,27 @@ module _ (v : ViewValue) where
         let services = objects_of-expired v.held.services in
         let slices = objects_of-expired v.held.slices in
         λ i. list_any
-        (λ (s : Service). has_address s.holding.addresses a && ((is_handled v.class s && list_any (slice_serves s.key s.policy node) (slices i)) && allows_balancers (labels i)))
+        (λ (s : Service). has_address s.holding.addresses a
+        && ((is_handled v.class s && list_any (slice_serves s.key s.policy node) (slices i)) && allows_balancers (labels i)))
         (services i)
 
-    announced-stays : (event : Event) → reaches_all v event ≡ false → ¬ (Contains (changed_addresses v event) a) → announced_from (view_after event v) a node ≡ announced_from v a node
-    announced-stays (Changed version (objects.Service service)) e none = service-shown (leb version (version_at key_cmp v.held.services service.key)) version service none
+    announced-stays : (event : Event) → reaches_all v event ≡ false → ¬ (Contains (changed_addresses v event) a)
+        → announced_from (view_after event v) a node ≡ announced_from v a node
+    announced-stays (Changed version (objects.Service service)) e none =
+        service-shown (leb version (version_at key_cmp v.held.services service.key)) version service none
     announced-stays (Changed version (objects.Slice slice)) e none = slice-shown version slice none
     announced-stays (Changed version (objects.Node shown)) e none =
         let labels = labels-stay (Changed version (objects.Node shown)) e node in
-        λ i. list_any (λ (s : Service). has_address s.holding.addresses a && ((is_handled v.class s && endpoint_for v s node) && allows_balancers (labels i))) (objects_of v.held.services)
+        λ i. list_any (λ (s : Service). has_address s.holding.addresses a && ((is_handled v.class s && endpoint_for v s node) && allows_balancers (labels i)))
+        (objects_of v.held.services)
     announced-stays (Changed version (objects.Pool pool)) e none = refl
     announced-stays (Changed version (objects.L2 adv)) e none = refl
     announced-stays (Changed version (objects.Bgp adv)) e none = refl
     announced-stays (Changed version (objects.Peer peer)) e none = refl
     announced-stays (Changed version (objects.Community community)) e none = refl
     announced-stays (Changed version (objects.Namespace namespace)) e none = refl
-    announced-stays (Deleted kinds.Service key) e none = any-removed key_cmp announces v.held.services key (fails_held (object_at key_cmp v.held.services key) none)
+    announced-stays (Deleted kinds.Service key) e none =
+        any-removed key_cmp announces v.held.services key (fails_held (object_at key_cmp v.held.services key) none)
     announced-stays (Deleted kinds.Slice key) e none = slice-deleted key none
     announced-stays (Deleted kinds.Node key) e none = absurd (true≢false e)
     announced-stays (Deleted kinds.Pool key) e none = refl
@@ -213,7 +230,8 @@ unchanged_addresses_stay v event e a unlisted =
     let parts = or_parts (is_accepted (note_by v event)) (reaches_all v event) e in
     let held = objects_after (Watched event) v.held.objects in
     let none : ¬ (Contains (changed_addresses v event) a) = λ there.
-    unlisted (has_address-is (change_of v event).addresses a (has-distinct (changed_addresses v event) a ∙ has_address-from (changed_addresses v event) a there)) in
+    unlisted (has_address-is (change_of v event).addresses a
+    (has-distinct (changed_addresses v event) a ∙ has_address-from (changed_addresses v event) a there)) in
     record {
       class = refl;
       members = members-stay v event parts.1;

@@ -88,8 +88,10 @@ served_at v key = served_by v (object_at key_cmp v.held.slices key)
 
 -- of a service as it was held and as it is shown, and of the services of a slice, where it is newer
 abbrev pub shown_addresses : ViewValue → ℕ → Object → List AddressValue
-shown_addresses v version (objects.Service service) = if is_newer key_cmp v.held.services service.key version then recorded_at v service.key ++ service.holding.addresses else []
-shown_addresses v version (objects.Slice slice) = if is_newer key_cmp v.held.slices slice.key version then served_at v slice.key ++ served_by v (Some slice) else []
+shown_addresses v version (objects.Service service) =
+    if is_newer key_cmp v.held.services service.key version then recorded_at v service.key ++ service.holding.addresses else []
+shown_addresses v version (objects.Slice slice) =
+    if is_newer key_cmp v.held.slices slice.key version then served_at v slice.key ++ served_by v (Some slice) else []
 shown_addresses v version (objects.Pool pool) = []
 shown_addresses v version (objects.L2 adv) = []
 shown_addresses v version (objects.Bgp adv) = []

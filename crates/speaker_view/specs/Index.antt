@@ -86,7 +86,8 @@ is_of_in slice service = passes (is_slice_of service) slice
 -- ---- laws
 -- an event leaves what is held covered by an index that has the object which it shows
 abbrev pub IndexCoversOn : Type 0
-IndexCoversOn = (index : Index) (held : Cached) (event : Event) → IsStrictlySortedBy key_cmp (keys_of held.services) → IsStrictlySortedBy key_cmp (keys_of held.slices)
+IndexCoversOn = (index : Index) (held : Cached) (event : Event) → IsStrictlySortedBy key_cmp (keys_of held.services)
+    → IsStrictlySortedBy key_cmp (keys_of held.slices)
     → HasShown index event → Covers index held → Covers index (cached_after (Watched event) held)
 
 -- some service of these keys passes

@@ -17,7 +17,8 @@ ghost use Rattle.speaker_view.specs.Addresses.{address_cmp};
 ghost use Rattle.speaker_view.specs.Change.{OthersStay, change_of, recorded_at, served_by};
 ghost use Rattle.speaker_view.specs.Grouped.{service_of};
 ghost use Rattle.kube_model.specs.Service.{is_handled};
-ghost use Rattle.speaker_view.specs.Endpoints.{announced_from, endpoint_for, can_announce, node_labels, allows_balancers, has_usable, is_recorded_in, is_served_in, recorded_addresses, HasEndpoint, CanAnnounce};
+ghost use Rattle.speaker_view.specs.Endpoints.{announced_from, endpoint_for, can_announce, node_labels, allows_balancers, has_usable};
+ghost use Rattle.speaker_view.specs.Endpoints.{is_recorded_in, is_served_in, recorded_addresses, HasEndpoint, CanAnnounce};
 ghost use Rattle.speaker_view.specs.Index.{Covers, HasShown, passes};
 ghost use Rattle.speaker_view.specs.View.{fresh, view_after, note_by, limit_by};
 

@@ -31,13 +31,15 @@ fold-adds (value ∷ values) held is table e =
       table = adds.table;
     }
 
-pub adds-fold : (values : List (List ℕ)) (held more : List InterfaceValue) → AllZip IsInterface values more → IsTable (held ++ more) → folded one_more values held ≡ Some (held ++ more)
+pub adds-fold : (values : List (List ℕ)) (held more : List InterfaceValue) → AllZip IsInterface values more → IsTable (held ++ more)
+    → folded one_more values held ≡ Some (held ++ more)
 adds-fold [] held [] say table = ap (λ (l : List InterfaceValue). Some l) (sym (append-nil held))
 adds-fold [] held (i ∷ more) say table = absurd say
 adds-fold (value ∷ values) held [] say table = absurd say
 adds-fold (value ∷ values) held (i ∷ more) say table =
     let joined : (held ++ i ∷ []) ++ more ≡ held ++ i ∷ more = append_assoc held (i ∷ []) more in
     let taken : with_one held i ≡ Some (held ++ i ∷ []) = takes-one held i (room-for held more i table.0) (new-name held more i table.1) in
-    let rest : folded one_more values (held ++ i ∷ []) ≡ Some ((held ++ i ∷ []) ++ more) = adds-fold values (held ++ i ∷ []) more say.1 (subst IsTable (sym joined) table) in
+    let rest : folded one_more values (held ++ i ∷ []) ≡ Some ((held ++ i ∷ []) ++ more) =
+    adds-fold values (held ++ i ∷ []) more say.1 (subst IsTable (sym joined) table) in
     ap (λ (x : Option InterfaceValue). option_and_then (folded one_more values) (option_and_then (with_one held) x)) (interface-read value i say.0)
     ∙ ap (option_and_then (folded one_more values)) taken ∙ rest ∙ ap (λ (l : List InterfaceValue). Some l) joined

@@ -1,5 +1,6 @@
 -- What is read of an interface is what the value says, and which interfaces are taken.
-use Rattle.std.proofs.Common.{◌≡◌, ◌≢◌, ℕ, zero, suc, ◌+◌, ◌<◌, ◌≤◌, Bool, true, false, cond, not, ltb, eqb, eqb-true, List, [], ◌∷◌, ◌++◌, length, map, get_or, Option, Some, None, refl, sym, ap, ◌∙◌, subst, arith, inl, inr}
+use Rattle.std.proofs.Common.{◌≡◌, ◌≢◌, ℕ, zero, suc, ◌+◌, ◌<◌, ◌≤◌, Bool, true, false, cond, not, ltb, eqb, eqb-true, List, []}
+use Rattle.std.proofs.Common.{◌∷◌, ◌++◌, length, map, get_or, Option, Some, None, refl, sym, ap, ◌∙◌, subst, arith, inl, inr}
 use Rattle.std.specs.Prelude.{◌&&◌}
 use Rattle.std.specs.List.{AllByRecursion, list_any, before_first, after_first}
 use Rattle.std.specs.Option.{option_map}
@@ -24,7 +25,8 @@ abbrev text_in : List ℕ → List ℕ
 text_in value = after_first is_equals value
 
 -- a word of its own is read as an option with a value where it has a `=`
-joined-word : (value : List ℕ) → has_equals value ≡ true → is_given (text_in value) ≡ true → options_in (value ∷ []) ≡ Some (record { name = name_in value; value = text_in value } ∷ [])
+joined-word : (value : List ℕ) → has_equals value ≡ true → is_given (text_in value) ≡ true
+    → options_in (value ∷ []) ≡ Some (record { name = name_in value; value = text_in value } ∷ [])
 joined-word value has given = rw (has, given) refl
 
 joins-of : (o : CommandOption) (value : List ℕ) → AreOptions (o ∷ []) (value ∷ []) → (value ≡ o.name ++ 61 ∷ o.value) × AllByRecursion (λ c. c ≢ 61) o.name
@@ -37,7 +39,8 @@ text-given (c ∷ text) mac is = refl
 
 pub read-interface : (value : List ℕ) (i : InterfaceValue) → interface_of value ≡ Some i → IsInterface value i
 read-interface value i e = by (has_equals value) (mac_of (text_in value)) refl refl e where
-  by : (b : Bool) (m : Option (List ℕ)) → has_equals value ≡ b → mac_of (text_in value) ≡ m → cond b (option_map (λ mac. record { name = name_in value; mac = mac }) m) None ≡ Some i → IsInterface value i
+  by : (b : Bool) (m : Option (List ℕ)) → has_equals value ≡ b → mac_of (text_in value) ≡ m
+      → cond b (option_map (λ mac. record { name = name_in value; mac = mac }) m) None ≡ Some i → IsInterface value i
   by false m t u f = absurd (cc)
   by true None t u f = absurd (cc)
   by true (Some mac) t u f =
@@ -59,7 +62,8 @@ interface-read value i is = by (has_equals value) (is_given (text_in value)) ref
   by false g t u f = let none : None ≡ Some (o ∷ []) = rw t at f in absurd (cc)
   by true false t u f = let none : None ≡ Some (o ∷ []) = rw (t, u) at f in absurd (cc)
   by true true t u f =
-      let same : record { name = name_in value; value = text_in value } ≡ o = (let all : Some (record { name = name_in value; value = text_in value } ∷ []) ≡ Some (o ∷ []) = sym (joined-word value t u) ∙ f in cc) in
+      let same : record { name = name_in value; value = text_in value } ≡ o =
+      (let all : Some (record { name = name_in value; value = text_in value } ∷ []) ≡ Some (o ∷ []) = sym (joined-word value t u) ∙ f in cc) in
       let name : name_in value ≡ i.name = ap (λ (x : CommandOption). x.name) same in
       let text : text_in value ≡ is.text = ap (λ (x : CommandOption). x.value) same in
       rw (t, name, ap mac_of text ∙ mac-read is.text i.mac is.mac) refl
@@ -82,7 +86,8 @@ takes-one held i room new = rw (lt-ltb (length held) 16 room, new) refl
 -- what is taken, and that the interfaces stay a table
 pub one-taken : (held is : List InterfaceValue) (i : InterfaceValue) → IsTable held → with_one held i ≡ Some is → (is ≡ held ++ i ∷ []) × IsTable is
 one-taken held is i table e = by (ltb (length held) 16) (is_named i.name held) refl refl e where
-  by : (room named : Bool) → ltb (length held) 16 ≡ room → is_named i.name held ≡ named → cond (room && not named) (Some (held ++ i ∷ [])) None ≡ Some is → (is ≡ held ++ i ∷ []) × IsTable is
+  by : (room named : Bool) → ltb (length held) 16 ≡ room → is_named i.name held ≡ named → cond (room && not named) (Some (held ++ i ∷ [])) None ≡ Some is
+      → (is ≡ held ++ i ∷ []) × IsTable is
   by false named t u f = absurd (cc)
   by true true t u f = absurd (cc)
   by true false t u f =
@@ -134,7 +139,8 @@ module _ {X : Type 0} (seen : X → InterfaceValue) where
   pub none-named : (xs : List X) (x : X) → list_any (λ y. bytes_eq (seen y).name (seen x).name) xs ≡ true → None ≡ with_one (map seen xs) (seen x)
   none-named xs x named =
       let one : is_named (seen x).name (map seen xs) ≡ true = sym (any-seen (λ i. bytes_eq i.name (seen x).name) xs) ∙ named in
-      ap (λ (b : Bool). cond b (Some (map seen xs ++ seen x ∷ [])) None) (sym (and_right (ltb (length (map seen xs)) 16) (not (is_named (seen x).name (map seen xs))) (ap not one)))
+      ap (λ (b : Bool). cond b (Some (map seen xs ++ seen x ∷ [])) None)
+      (sym (and_right (ltb (length (map seen xs)) 16) (not (is_named (seen x).name (map seen xs))) (ap not one)))
 
   pub one-added : (xs : List X) (x : X) → length xs ≤ 16 → eqb (length xs) 16 ≡ false → list_any (λ y. bytes_eq (seen y).name (seen x).name) xs ≡ false
       → Some (map seen (xs ++ x ∷ [])) ≡ with_one (map seen xs) (seen x)

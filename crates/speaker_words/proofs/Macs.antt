@@ -1,5 +1,6 @@
 -- What is read of a hardware address's text is what the text writes.
-use Rattle.std.proofs.Common.{◌≡◌, ℕ, zero, suc, ◌+◌, ◌*◌, ◌<◌, Bool, true, false, ◌&&◌, cond, eqb, eqb-true, List, [], ◌∷◌, length, slice_index, Option, Some, None, Result, Ok, Err, refl, sym, ap, subst, arith}
+use Rattle.std.proofs.Common.{◌≡◌, ℕ, zero, suc, ◌+◌, ◌*◌, ◌<◌, Bool, true, false, ◌&&◌, cond, eqb, eqb-true, List, []}
+use Rattle.std.proofs.Common.{◌∷◌, length, slice_index, Option, Some, None, Result, Ok, Err, refl, sym, ap, subst, arith}
 use Rattle.std.specs.Prelude.{⊤}
 use Rattle.std.specs.Result.{result_ok}
 use Rattle.hex.specs.Hex.{hex_digit_value, digit_or_error, pair_value, decode_pairs, decode_sized, ◌>>=◌}
@@ -9,7 +10,8 @@ use Rattle.speaker_words.specs.Interface.{WriteOctet, IsMac, is_paired, digits_o
 -- ---- pairs of digits
 octet-of : (a b i octet : ℕ) → pair_value a b i ≡ Ok octet → WriteOctet a b octet
 octet-of a b i octet e = by (hex_digit_value a) (hex_digit_value b) refl refl e where
-  by : (h l : Option ℕ) → hex_digit_value a ≡ h → hex_digit_value b ≡ l → (digit_or_error a i h >>= λ high. digit_or_error b (i + 1) l >>= λ low. Ok (high * 16 + low)) ≡ Ok octet → WriteOctet a b octet
+  by : (h l : Option ℕ) → hex_digit_value a ≡ h → hex_digit_value b ≡ l
+      → (digit_or_error a i h >>= λ high. digit_or_error b (i + 1) l >>= λ low. Ok (high * 16 + low)) ≡ Ok octet → WriteOctet a b octet
   by None l t u f = absurd (cc)
   by (Some high) None t u f = absurd (cc)
   by (Some high) (Some low) t u f =
@@ -28,7 +30,8 @@ WriteAll (a ∷ b ∷ digits) [] = ⊥
 WriteAll (a ∷ b ∷ digits) (octet ∷ octets) = WriteOctet a b octet × WriteAll digits octets
 
 -- what both steps of a reading gave
-both-read : (first : Result ℕ FromHexError) (rest : Result (List ℕ) FromHexError) (octets : List ℕ) → (first >>= λ octet. rest >>= λ more. Ok (octet ∷ more)) ≡ Ok octets
+both-read : (first : Result ℕ FromHexError) (rest : Result (List ℕ) FromHexError) (octets : List ℕ)
+    → (first >>= λ octet. rest >>= λ more. Ok (octet ∷ more)) ≡ Ok octets
     → (octet : ℕ) × (more : List ℕ) × (first ≡ Ok octet) × (rest ≡ Ok more) × (octets ≡ octet ∷ more)
 both-read (Err e) rest octets f = absurd (cc)
 both-read (Ok octet) (Err e) octets f = absurd (cc)
@@ -72,15 +75,21 @@ octets-at text (a ∷ b ∷ c ∷ []) w = absurd w.1.1.1
 octets-at text (a ∷ b ∷ c ∷ d ∷ []) w = absurd w.1.1.1.1
 octets-at text (a ∷ b ∷ c ∷ d ∷ e ∷ []) w = absurd w.1.1.1.1.1
 octets-at text (a ∷ b ∷ c ∷ d ∷ e ∷ f ∷ []) w =
-    let mac : List ℕ = a ∷ b ∷ c ∷ d ∷ e ∷ f ∷ [] in
-    (refl, below_six (λ (k : ℕ). WriteOctet (slice_index text (3 * k)) (slice_index text (3 * k + 1)) (slice_index mac k)) w.0 w.1.0 w.1.1.0 w.1.1.1.0 w.1.1.1.1.0 w.1.1.1.1.1.0)
+    let mac : List ℕ = a ∷ b ∷ c ∷ d ∷ e ∷ f ∷ [] in (
+      refl,
+      below_six (λ (k : ℕ). WriteOctet (slice_index text (3 * k)) (slice_index text (3 * k + 1)) (slice_index mac k)) w.0 w.1.0 w.1.1.0 w.1.1.1.0
+          w.1.1.1.1.0 w.1.1.1.1.1.0,
+    )
 octets-at text (a ∷ b ∷ c ∷ d ∷ e ∷ f ∷ g ∷ mac) w = absurd w.1.1.1.1.1.1
 
 all-write : (text mac : List ℕ) → IsMac text mac → WriteAll (digits_of text) mac
 all-write text mac is = of mac is.six is.octets where
-  of : (mac : List ℕ) → length mac ≡ 6 → ((k : ℕ) → k < 6 → WriteOctet (slice_index text (3 * k)) (slice_index text (3 * k + 1)) (slice_index mac k)) → WriteAll (digits_of text) mac
-  of (a ∷ b ∷ c ∷ d ∷ e ∷ f ∷ []) six octets =
-      (octets 0 (omega arith), (octets 1 (omega arith), (octets 2 (omega arith), (octets 3 (omega arith), (octets 4 (omega arith), (octets 5 (omega arith), tt))))))
+  of : (mac : List ℕ) → length mac ≡ 6 → ((k : ℕ) → k < 6 → WriteOctet (slice_index text (3 * k)) (slice_index text (3 * k + 1)) (slice_index mac k))
+      → WriteAll (digits_of text) mac
+  of (a ∷ b ∷ c ∷ d ∷ e ∷ f ∷ []) six octets = (
+    octets 0 (omega arith),
+    (octets 1 (omega arith), (octets 2 (omega arith), (octets 3 (omega arith), (octets 4 (omega arith), (octets 5 (omega arith), tt))))),
+  )
   of [] six octets = absurd (omega (arith, six))
   of (a ∷ []) six octets = absurd (omega (arith, six))
   of (a ∷ b ∷ []) six octets = absurd (omega (arith, six))
@@ -116,12 +125,14 @@ read-mac text mac e = by (is_paired text) refl e where
   by : (b : Bool) → is_paired text ≡ b → cond b (result_ok (decode_sized (digits_of text) 6)) None ≡ Some mac → IsMac text mac
   by false t f = absurd (cc)
   by true t f =
-      let (long, a, b, c, d, e) = six-parts (eqb (length text) 17) (eqb (slice_index text 2) 58) (eqb (slice_index text 5) 58) (eqb (slice_index text 8) 58) (eqb (slice_index text 11) 58) (eqb (slice_index text 14) 58) t in
+      let (long, a, b, c, d, e) = six-parts (eqb (length text) 17) (eqb (slice_index text 2) 58) (eqb (slice_index text 5) 58) (eqb (slice_index text 8) 58)
+      (eqb (slice_index text 11) 58) (eqb (slice_index text 14) 58) t in
       let write = octets-at text mac (read-write 0 (digits_of text) mac (ok-of (decode_sized (digits_of text) 6) f)) in
       record {
         long = eqb-true (length text) 17 long;
         six = write.0;
-        colons = below_five (λ (k : ℕ). slice_index text (3 * k + 2) ≡ 58) (eqb-true _ 58 a) (eqb-true _ 58 b) (eqb-true _ 58 c) (eqb-true _ 58 d) (eqb-true _ 58 e);
+        colons = below_five (λ (k : ℕ). slice_index text (3 * k + 2) ≡ 58) (eqb-true _ 58 a) (eqb-true _ 58 b) (eqb-true _ 58 c) (eqb-true _ 58 d)
+            (eqb-true _ 58 e);
         octets = write.1;
       }
 

@@ -17,7 +17,8 @@ use Rattle.ip_ranges.specs.AddressText.{address_of}
 use Rattle.ip_ranges.proofs.AddressLaws.{same_family-is, same_family-itself}
 use Rattle.ip_ranges.proofs.SpelledLemmas.{address_of-ok}
 use Rattle.speaker_words.specs.Interface.{InterfaceValue}
-use Rattle.speaker_words.specs.Words.{Said, Say, IsKnown, IsNextHop, node_option, class_option, interface_option, next_hop_option, next_hop_v6_option, watch_option, frame_option}
+use Rattle.speaker_words.specs.Words.{Said, Say, IsKnown, IsNextHop, node_option, class_option, interface_option}
+use Rattle.speaker_words.specs.Words.{next_hop_option, next_hop_v6_option, watch_option, frame_option}
 use Rattle.speaker_words.specs.Reading.{Given, nothing_given, one_more, only_of, next_hop_of, hops_stand, with_lanes, with_option, said_by, finished, said_in}
 use Rattle.speaker_words.proofs.Folded.{fold-adds, adds-fold}
 
@@ -90,8 +91,10 @@ part Frame g = g.lanes.second
 
 abbrev with_part : (i : Named) → Value i → Given → Given
 with_part Node node g = record { node = node; class = g.class; interfaces = g.interfaces; next_hop = g.next_hop; next_hop_v6 = g.next_hop_v6; lanes = g.lanes }
-with_part Class class g = record { node = g.node; class = class; interfaces = g.interfaces; next_hop = g.next_hop; next_hop_v6 = g.next_hop_v6; lanes = g.lanes }
-with_part Interfaces interfaces g = record { node = g.node; class = g.class; interfaces = interfaces; next_hop = g.next_hop; next_hop_v6 = g.next_hop_v6; lanes = g.lanes }
+with_part Class class g =
+    record { node = g.node; class = class; interfaces = g.interfaces; next_hop = g.next_hop; next_hop_v6 = g.next_hop_v6; lanes = g.lanes }
+with_part Interfaces interfaces g =
+    record { node = g.node; class = g.class; interfaces = interfaces; next_hop = g.next_hop; next_hop_v6 = g.next_hop_v6; lanes = g.lanes }
 with_part NextHop hop g = record { node = g.node; class = g.class; interfaces = g.interfaces; next_hop = hop; next_hop_v6 = g.next_hop_v6; lanes = g.lanes }
 with_part NextHopV6 hop g = record { node = g.node; class = g.class; interfaces = g.interfaces; next_hop = g.next_hop; next_hop_v6 = hop; lanes = g.lanes }
 with_part Watch file g = with_lanes (record { first = file; second = g.lanes.second }) g
@@ -234,12 +237,14 @@ said-of h said e = stands (hops_stand h.next_hop h.next_hop_v6) refl e where
       let (node, is, more) = through (λ node. option_map (said_by h node) (lanes_of h.lanes)) h.node said f in
       by (lanes_of h.lanes) refl node is more
     where
-      by : (lanes : Option (Option LaneNames)) → lanes_of h.lanes ≡ lanes → (node : List ℕ) → h.node ≡ Some node → option_map (said_by h node) lanes ≡ Some said → Finished h said
+      by : (lanes : Option (Option LaneNames)) → lanes_of h.lanes ≡ lanes → (node : List ℕ) → h.node ≡ Some node → option_map (said_by h node) lanes ≡ Some said
+          → Finished h said
       by None found node is f = absurd (cc)
       by (Some lanes) found node is f =
           let same : said_by h node lanes ≡ said = cc in
           record {
-            are = ap (λ (n : Option (List ℕ)). with_part Node n h) is ∙ ap (λ (l : LanesGiven). with_part Node (Some node) (with_lanes l h)) (given-lanes h.lanes lanes found) ∙ ap given same;
+            are = ap (λ (n : Option (List ℕ)). with_part Node n h) is
+                ∙ ap (λ (l : LanesGiven). with_part Node (Some node) (with_lanes l h)) (given-lanes h.lanes lanes found) ∙ ap given same;
             lanes = lanes;
             found = found;
             stand = subst (λ (s : Said). hops_stand s.next_hop s.next_hop_v6 ≡ true) same t;
@@ -252,8 +257,10 @@ pub read-say : (words : List (List ℕ)) (said : Said) → said_in words ≡ Som
 read-say words said e =
     let (h, found, end) = through finished (taken_in with_option words nothing_given) said e in
     let f = said-of h said end in
-    let (options, spelled, gives) = words-give IsKnown with_option named name part with_part take at table words nothing_given (given said) (found ∙ ap (λ (x : Given). Some x) f.are) in
-    let adds = fold-adds (values_of interface_option options) [] said.interfaces (omega arith, λ i j d lt none. absurd (none-apart i j d lt none)) (gives.parts Interfaces) in
+    let (options, spelled, gives) =
+    words-give IsKnown with_option named name part with_part take at table words nothing_given (given said) (found ∙ ap (λ (x : Given). Some x) f.are) in
+    let adds = fold-adds (values_of interface_option options) [] said.interfaces (omega arith, λ i j d lt none. absurd (none-apart i j d lt none))
+    (gives.parts Interfaces) in
     record {
       options = options;
       spelled = spelled;
@@ -266,5 +273,6 @@ read-say words said e =
       next_hop = read-hops V4 (values_of next_hop_option options) said.next_hop (gives.parts NextHop);
       next_hop_v6 = read-hops V6 (values_of next_hop_v6_option options) said.next_hop_v6 (gives.parts NextHopV6);
       beside = by-stand said.next_hop said.next_hop_v6 f.stand;
-      lanes = give-named watch_option frame_option options said.lanes f.lanes (gives.parts Watch, gives.parts Frame) (ap (λ (x : Given). lanes_of x.lanes) (sym f.are) ∙ f.found);
+      lanes = give-named watch_option frame_option options said.lanes f.lanes (gives.parts Watch, gives.parts Frame)
+          (ap (λ (x : Given). lanes_of x.lanes) (sym f.are) ∙ f.found);
     }

@@ -5,7 +5,8 @@ ghost use Rattle.std.specs.Str.{bytes_eq};
 ghost use Rattle.std.specs.Option.{option_map};
 ghost use Rattle.command_options.specs.Options.{texts_of};
 ghost use Rattle.speaker_words.specs.Words.{Say, AreKnown};
-ghost use Rattle.speaker_words.specs.Reading.{said_in, Given as GivenValue, with_option, with_node, with_class, with_interface, with_one, with_next_hop, with_next_hop_v6, next_hop_of, hops_stand, with_watch, with_frame, finished};
+ghost use Rattle.speaker_words.specs.Reading.{said_in, Given as GivenValue, with_option, with_node, with_class, with_interface, with_one};
+ghost use Rattle.speaker_words.specs.Reading.{with_next_hop, with_next_hop_v6, next_hop_of, hops_stand, with_watch, with_frame, finished};
 ghost use Rattle.speaker_words.specs.Seen.{interface_seen, interfaces_seen, given_seen, said_seen};
 
 use crate::interface::{InterfaceWord, interface_of};

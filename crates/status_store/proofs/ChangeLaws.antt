@@ -1,5 +1,6 @@
 -- What edits and puts make of a store.
-use Rattle.std.proofs.Common.{◌≡◌, ◌≢◌, ℕ, ◌+◌, ◌<◌, Bool, true, false, cond, eqb, List, [], ◌∷◌, length, get_or, set, Option, is_some, refl, ap, subst, ◌∙◌, arith}
+use Rattle.std.proofs.Common.{◌≡◌, ◌≢◌, ℕ, ◌+◌, ◌<◌, Bool, true, false, cond, eqb, List, [], ◌∷◌, length}
+use Rattle.std.proofs.Common.{get_or, set, Option, is_some, refl, ap, subst, ◌∙◌, arith}
 use Rattle.std.specs.List.{insert, remove}
 use Rattle.std.proofs.lemmas.Bool.Decides.{nat_tests}
 use Rattle.kube_model.specs.declared.key.Key.{Key}
@@ -15,7 +16,8 @@ use Rattle.status_store.specs.declared.change.Outcome.TheVariants.{Delivered}
 use Rattle.status_store.specs.declared.stored.Stored.{Stored}
 use Rattle.status_store.specs.Places.{Place, place_of, service_at}
 use Rattle.status_store.specs.Objects.{stored_at, with_stored, without_stored, IsAt, IsGapFor}
-use Rattle.status_store.specs.Changes.{StoreValue, IsWellFormed, record_of, with_record, kept_record, reset_as, edited, recorded, is_at_version, with_put, after_put, delivered_reply, reply_to}
+use Rattle.status_store.specs.Changes.{StoreValue, IsWellFormed, record_of, with_record, kept_record, reset_as, edited}
+use Rattle.status_store.specs.Changes.{recorded, is_at_version, with_put, after_put, delivered_reply, reply_to}
 use Rattle.status_store.proofs.ListLaws.{ascending-with_stored, ascending-without_stored, counted-less, counted-with_stored, counted-without_stored}
 use Rattle.status_store.proofs.Searching.{with_stored-at, without_stored-at, stored_at-at, with_stored-gap, stored_at-gap, without_stored-gap}
 
@@ -77,17 +79,22 @@ stored_as objects counter = record { objects = objects; counter = counter }
 pub set-at : (s : StoreValue) (object : Object) (at : ℕ) (d : Stored) → IsWellFormed s → IsAt s.objects (place_of object) at
     → edited (Set object) s ≡ edited (Reset (with_record (record_of (get_or s.objects at d).object) object)) s
 set-at s object at d kept is_at =
-    ap (λ (found : Option Stored). stored_as (with_stored (set_with s.counter object (kept_record found)) s.objects) (s.counter + 1)) (stored_at-at s.objects (place_of object) at d kept.ascending is_at)
+    ap (λ (found : Option Stored). stored_as (with_stored (set_with s.counter object (kept_record found)) s.objects) (s.counter + 1))
+    (stored_at-at s.objects (place_of object) at d kept.ascending is_at)
 
-pub set-gap : (s : StoreValue) (object : Object) (at : ℕ) → IsGapFor s.objects (place_of object) at → edited (Set object) s ≡ edited (Reset (with_record empty_record object)) s
+pub set-gap : (s : StoreValue) (object : Object) (at : ℕ) → IsGapFor s.objects (place_of object) at
+    → edited (Set object) s ≡ edited (Reset (with_record empty_record object)) s
 set-gap s object at gap =
-    ap (λ (found : Option Stored). stored_as (with_stored (set_with s.counter object (kept_record found)) s.objects) (s.counter + 1)) (stored_at-gap s.objects (place_of object) at gap)
+    ap (λ (found : Option Stored). stored_as (with_stored (set_with s.counter object (kept_record found)) s.objects) (s.counter + 1))
+    (stored_at-gap s.objects (place_of object) at gap)
 
 -- what is stored where an object is set with its own record
-pub reset-at : (s : StoreValue) (object : Object) (at : ℕ) → IsWellFormed s → IsAt s.objects (place_of object) at → with_stored (reset_as s object) s.objects ≡ set s.objects at (reset_as s object)
+pub reset-at : (s : StoreValue) (object : Object) (at : ℕ) → IsWellFormed s → IsAt s.objects (place_of object) at
+    → with_stored (reset_as s object) s.objects ≡ set s.objects at (reset_as s object)
 reset-at s object at kept is_at = with_stored-at s.objects (place_of object) at (reset_as s object) kept.ascending is_at refl
 
-pub reset-gap : (s : StoreValue) (object : Object) (at : ℕ) → IsGapFor s.objects (place_of object) at → with_stored (reset_as s object) s.objects ≡ insert s.objects at (reset_as s object)
+pub reset-gap : (s : StoreValue) (object : Object) (at : ℕ) → IsGapFor s.objects (place_of object) at
+    → with_stored (reset_as s object) s.objects ≡ insert s.objects at (reset_as s object)
 reset-gap s object at gap = with_stored-gap s.objects (place_of object) at (reset_as s object) gap refl
 
 -- something stands there
@@ -98,12 +105,14 @@ one-at (held ∷ more) at lt = held
 pub deleted-at : (s : StoreValue) (kind : Kind) (key : Key) (at : ℕ) (d : Stored) → IsWellFormed s → IsAt s.objects (kind, key) at
     → edited (Delete kind key) s ≡ stored_as (remove s.objects at) (s.counter + 1)
 deleted-at s kind key at d kept is_at =
-    ap (λ (found : Option Stored). stored_as (without_stored (kind, key) s.objects) (cond (is_some found) (s.counter + 1) s.counter)) (stored_at-at s.objects (kind, key) at d kept.ascending is_at)
+    ap (λ (found : Option Stored). stored_as (without_stored (kind, key) s.objects) (cond (is_some found) (s.counter + 1) s.counter))
+    (stored_at-at s.objects (kind, key) at d kept.ascending is_at)
     ∙ ap (λ (l : List Stored). stored_as l (s.counter + 1)) (without_stored-at s.objects (kind, key) at kept.ascending is_at)
 
 pub deleted-gap : (s : StoreValue) (kind : Kind) (key : Key) (at : ℕ) → IsGapFor s.objects (kind, key) at → edited (Delete kind key) s ≡ s
 deleted-gap s kind key at gap =
-    ap (λ (found : Option Stored). stored_as (without_stored (kind, key) s.objects) (cond (is_some found) (s.counter + 1) s.counter)) (stored_at-gap s.objects (kind, key) at gap)
+    ap (λ (found : Option Stored). stored_as (without_stored (kind, key) s.objects) (cond (is_some found) (s.counter + 1) s.counter))
+    (stored_at-gap s.objects (kind, key) at gap)
     ∙ ap (λ (l : List Stored). stored_as l s.counter) (without_stored-gap s.objects (kind, key) at gap)
 
 pub is_there-at : (s : StoreValue) (place : Place) (at : ℕ) (d : Stored) → IsWellFormed s → IsAt s.objects place at → is_some (stored_at s.objects place) ≡ true
@@ -112,14 +121,17 @@ is_there-at s place at d kept is_at = ap is_some (stored_at-at s.objects place a
 pub is_there-gap : (s : StoreValue) (place : Place) (at : ℕ) → IsGapFor s.objects place at → is_some (stored_at s.objects place) ≡ false
 is_there-gap s place at gap = ap is_some (stored_at-gap s.objects place at gap)
 
-pub kept-removed : (s : StoreValue) (place : Place) (at : ℕ) → IsWellFormed s → IsAt s.objects place at → IsWellFormed (stored_as (remove s.objects at) (s.counter + 1))
+pub kept-removed : (s : StoreValue) (place : Place) (at : ℕ) → IsWellFormed s → IsAt s.objects place at
+    → IsWellFormed (stored_as (remove s.objects at) (s.counter + 1))
 kept-removed s place at kept is_at =
-    subst (λ (l : List Stored). IsWellFormed (stored_as l (s.counter + 1))) (without_stored-at s.objects place at kept.ascending is_at) (kept-without_stored s place kept)
+    subst (λ (l : List Stored). IsWellFormed (stored_as l (s.counter + 1))) (without_stored-at s.objects place at kept.ascending is_at)
+    (kept-without_stored s place kept)
 
 pub kept-written : (s : StoreValue) (at : ℕ) (added : Stored) → IsWellFormed s → IsAt s.objects (place_of added.object) at → added.version ≡ s.counter + 1
     → IsWellFormed (stored_as (set s.objects at added) (s.counter + 1))
 kept-written s at added kept is_at next =
-    subst (λ (l : List Stored). IsWellFormed (stored_as l (s.counter + 1))) (with_stored-at s.objects (place_of added.object) at added kept.ascending is_at refl)
+    subst (λ (l : List Stored). IsWellFormed (stored_as l (s.counter + 1)))
+    (with_stored-at s.objects (place_of added.object) at added kept.ascending is_at refl)
     (kept-with_stored s added next kept)
 
 pub kept-inserted : (s : StoreValue) (at : ℕ) (added : Stored) → IsWellFormed s → IsGapFor s.objects (place_of added.object) at → added.version ≡ s.counter + 1

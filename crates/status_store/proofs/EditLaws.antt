@@ -8,9 +8,11 @@ use Rattle.status_store.specs.declared.change.Edit.TheVariants.{Set, Reset, Dele
 use Rattle.status_store.specs.declared.stored.Stored.{Stored}
 use Rattle.status_store.specs.Places.{Place, place_of}
 use Rattle.status_store.specs.Objects.{IsAbsent, SameElsewhere, IsAscending, is_of, stored_at, with_stored, without_stored}
-use Rattle.status_store.specs.Changes.{StoreValue, IsWellFormed, IsKeptRecord, SetsObject, OnSet, ResetsObject, OnReset, OnDelete, DeletesNothing, edited_place, with_record, kept_record, set_as, reset_as, is_change, edited}
+use Rattle.status_store.specs.Changes.{StoreValue, IsWellFormed, IsKeptRecord, SetsObject, OnSet, ResetsObject, OnReset, OnDelete}
+use Rattle.status_store.specs.Changes.{DeletesNothing, edited_place, with_record, kept_record, set_as, reset_as, is_change, edited}
 use Rattle.status_store.proofs.ChangeLaws.{place_of-with_record, stored_as}
-use Rattle.status_store.proofs.StoredLaws.{stored-found, absent-found, found-absent, stored-with_stored, elsewhere-with_stored, absent-without_stored, elsewhere-without_stored}
+use Rattle.status_store.proofs.StoredLaws.{stored-found, absent-found, found-absent, stored-with_stored}
+use Rattle.status_store.proofs.StoredLaws.{elsewhere-with_stored, absent-without_stored, elsewhere-without_stored}
 
 is_none_by : (found : Option Stored) → is_some found ≡ false → found ≡ None
 is_none_by None e = refl

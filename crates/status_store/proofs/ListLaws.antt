@@ -1,6 +1,7 @@
 -- Lists of stored objects as lists of entries by place: what is found where one object was put in or left out, and that they still
 -- ascend.
-use Rattle.std.proofs.Common.{◌≡◌, ℕ, ◌≤◌, Bool, true, false, cond, List, [], ◌∷◌, Option, Some, None, Ordering, Less, Equal, Greater, is_eq, refl, sym, ap, subst, ◌∙◌, arith}
+use Rattle.std.proofs.Common.{◌≡◌, ℕ, ◌≤◌, Bool, true, false, cond, List, [], ◌∷◌, Option, Some, None}
+use Rattle.std.proofs.Common.{Ordering, Less, Equal, Greater, is_eq, refl, sym, ap, subst, ◌∙◌, arith}
 use Rattle.std.specs.BTreeMap.{insert_entry, is_at}
 use Rattle.std.specs.Cmp.{Equal-is, eq_by_cmp_equiv}
 use Rattle.std.specs.List.Sorted.{IsStrictlySortedBy}
@@ -66,7 +67,8 @@ entries-ascended objects s = subst (IsStrictlySortedBy place_cmp) (places-entrie
 pub ascending-with_stored : (objects : List Stored) (added : Stored) → IsAscending objects → IsAscending (with_stored added objects)
 ascending-with_stored objects added s =
     entries-ascended (with_stored added objects)
-    (rw (entries_of-with_stored objects added) (ascending-insert_entry place_cmp-total (entries_of objects) (place_of added.object) added (entries-ascend objects s)))
+    (rw (entries_of-with_stored objects added)
+    (ascending-insert_entry place_cmp-total (entries_of objects) (place_of added.object) added (entries-ascend objects s)))
 
 pub ascending-without_stored : (objects : List Stored) (place : Place) → IsAscending objects → IsAscending (without_stored place objects)
 ascending-without_stored objects place s =
@@ -108,7 +110,8 @@ module _ (P : Stored → Type 0) where
   all-with_stored (held ∷ more) added new all =
       all_with_by (place_cmp (place_of added.object) (place_of held.object)) added held more new all (all-with_stored more added new all.1)
 
-  all_without_by : (b : Bool) (place : Place) (held : Stored) (more : List Stored) → AllByRecursion P (held ∷ more) → AllByRecursion P (without_stored place more)
+  all_without_by : (b : Bool) (place : Place) (held : Stored) (more : List Stored) → AllByRecursion P (held ∷ more)
+      → AllByRecursion P (without_stored place more)
       → AllByRecursion P (cond b more (held ∷ without_stored place more))
   all_without_by true place held more all ih = all.1
   all_without_by false place held more all ih = (all.0, ih)

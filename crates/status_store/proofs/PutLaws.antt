@@ -1,5 +1,6 @@
 -- What a put changes and what it leaves, and when each reply comes, from what it makes of the store.
-use Rattle.std.proofs.Common.{◌≡◌, ◌≢◌, ◌↔◌, ℕ, ◌+◌, Bool, true, false, cond, eqb, List, Option, Some, None, IsTrue, refl, sym, ap, subst, ◌∙◌, inl, inr, ⊎_elim}
+use Rattle.std.proofs.Common.{◌≡◌, ◌≢◌, ◌↔◌, ℕ, ◌+◌, Bool, true, false, cond, eqb, List, Option, Some, None}
+use Rattle.std.proofs.Common.{IsTrue, refl, sym, ap, subst, ◌∙◌, inl, inr, ⊎_elim}
 use Rattle.std.proofs.lemmas.Bool.{true≢false, and_parts, and_from, eqb-true}
 use Rattle.kube_model.specs.declared.put.Put.{Put}
 use Rattle.kube_model.specs.declared.reply.PutReply.TheVariants as replies
@@ -8,7 +9,8 @@ use Rattle.status_store.specs.declared.change.Outcome.TheVariants.{Delivered, Lo
 use Rattle.status_store.specs.declared.stored.Stored.{Stored}
 use Rattle.status_store.specs.Places.{Place, place_of, service_at}
 use Rattle.status_store.specs.Objects.{IsStored, IsAbsent, SameElsewhere, stored_at, with_stored}
-use Rattle.status_store.specs.Changes.{StoreValue, IsWellFormed, IsLost, arrives, IsCurrent, IsOutdated, IsStale, IsMade, RecordsPut, recorded, is_at_version, is_made, with_put, after_put, delivered_reply, reply_to}
+use Rattle.status_store.specs.Changes.{StoreValue, IsWellFormed, IsLost, arrives, IsCurrent, IsOutdated, IsStale, IsMade}
+use Rattle.status_store.specs.Changes.{RecordsPut, recorded, is_at_version, is_made, with_put, after_put, delivered_reply, reply_to}
 use Rattle.status_store.proofs.ChangeLaws.{version-same, other-version, version-other, place_of-with_record, stored_as}
 use Rattle.status_store.proofs.StoredLaws.{stored-found, found-stored, absent-found, found-absent, stored-with_stored, elsewhere-with_stored, elsewhere-itself}
 
@@ -37,7 +39,8 @@ module _ (s : StoreValue) (put : Put) (kept : IsWellFormed s) where
 
   -- ---- what changes
   abbrev put_with : Bool → StoreValue
-  put_with b = stored_as (cond b (with_put (s.counter + 1) put (stored_at s.objects (service_at put.key)) s.objects) s.objects) (cond b (s.counter + 1) s.counter)
+  put_with b =
+      stored_as (cond b (with_put (s.counter + 1) put (stored_at s.objects (service_at put.key)) s.objects) s.objects) (cond b (s.counter + 1) s.counter)
 
   pub put-counter : (outcome : Outcome) → IsMade put outcome s.objects → (after_put put outcome s).counter ≡ s.counter + 1
   put-counter outcome made = ap (λ (b : Bool). cond b (s.counter + 1) s.counter) (made-is outcome made)
@@ -49,7 +52,8 @@ module _ (s : StoreValue) (put : Put) (kept : IsWellFormed s) where
   pub put-unchanged : (outcome : Outcome) → ¬ (IsMade put outcome s.objects) → after_put put outcome s ≡ s
   put-unchanged outcome none = unchanged_by (is_made put outcome s.objects) (λ e. none (is-made outcome e))
 
-  place-recorded : (held : Stored) → IsStored s.objects (service_at put.key) held → place_of (recorded (s.counter + 1) put.holding held).object ≡ service_at put.key
+  place-recorded : (held : Stored) → IsStored s.objects (service_at put.key) held
+      → place_of (recorded (s.counter + 1) put.holding held).object ≡ service_at put.key
   place-recorded held stored = place_of-with_record put.holding held.object ∙ stored.1
 
   recorded-stored : (held : Stored) → IsStored s.objects (service_at put.key) held
@@ -112,7 +116,8 @@ module _ (s : StoreValue) (put : Put) (kept : IsWellFormed s) where
   stale_on true e = absurd (cc)
   stale_on false e = refl
 
-  stale_by : (found : Option Stored) → found ≡ stored_at s.objects (service_at put.key) → delivered_reply s.counter put found ≡ replies.Stale → IsOutdated s.objects put
+  stale_by : (found : Option Stored) → found ≡ stored_at s.objects (service_at put.key) → delivered_reply s.counter put found ≡ replies.Stale
+      → IsOutdated s.objects put
   stale_by None is e = absurd (cc)
   stale_by (Some held) is e =
       (held, found-stored s.objects (service_at put.key) held (sym is), other-version held.version put.version (stale_on (eqb held.version put.version) e))

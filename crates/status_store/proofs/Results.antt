@@ -12,6 +12,7 @@ module _ {T E : Type 0} where
   on_ok-same (Err e) new x P is holds = tt
 
   -- a call that answers x and leaves behind a value
-  pub if_ok-both : {X : Type 0} (r : Result T E) (x : T) (new y : X) (P : T → X → Type 0) → IfOk r (λ z. z ≡ x) → OnOk r (new ≡ y) → P x y → IfOk r (λ z. P z new)
+  pub if_ok-both : {X : Type 0} (r : Result T E) (x : T) (new y : X) (P : T → X → Type 0) → IfOk r (λ z. z ≡ x) → OnOk r (new ≡ y) → P x y
+      → IfOk r (λ z. P z new)
   if_ok-both (Ok z) x new y P is left holds = subst (λ (t : T). P t new) (sym is) (subst (P x) (sym left) holds)
   if_ok-both (Err e) x new y P is left holds = tt

@@ -30,25 +30,30 @@ found-stored [] place held e = absurd (cc)
 found-stored (first ∷ more) place held e = found_by (is_of place first) place first more held refl (found-stored more place held) e
 
 -- what holds of each place holds of that of an object in the list
-at_member : (P : Place → Type 0) (objects : List Stored) (held : Stored) → AllByRecursion P (places_of objects) → Contains objects held → P (place_of held.object)
+at_member : (P : Place → Type 0) (objects : List Stored) (held : Stored) → AllByRecursion P (places_of objects) → Contains objects held
+    → P (place_of held.object)
 at_member P [] held all found = absurd (contains-none held found)
 at_member P (first ∷ more) held all found =
     ⊎_elim (λ same. subst (λ (h : Stored). P (place_of h.object)) same all.0) (λ later. at_member P more held all.1 later) (contains-cons first more held found)
 
-pub stored-found : (objects : List Stored) (place : Place) (held : Stored) → IsAscending objects → IsStored objects place held → stored_at objects place ≡ Some held
+pub stored-found : (objects : List Stored) (place : Place) (held : Stored) → IsAscending objects → IsStored objects place held
+    → stored_at objects place ≡ Some held
 unfolding IsStrictlySortedBy
 stored-found [] place held s stored = absurd (contains-none held stored.0)
 stored-found (first ∷ more) place held s stored =
     ⊎_elim
-    (λ same. let here : is_of place first ≡ true = is_of-by place first (ap (λ (h : Stored). place_of h.object) same ∙ stored.1) in rw here (ap (λ (h : Stored). Some h) same))
+    (λ same. let here : is_of place first ≡ true = is_of-by place first (ap (λ (h : Stored). place_of h.object) same ∙ stored.1) in
+    rw here (ap (λ (h : Stored). Some h) same))
     (λ later.
-    let less : place_cmp (place_of first.object) (place_of held.object) ≡ Less = at_member (λ y. place_cmp (place_of first.object) y ≡ Less) more held s.0 later in
+    let less : place_cmp (place_of first.object) (place_of held.object) ≡ Less =
+    at_member (λ y. place_cmp (place_of first.object) y ≡ Less) more held s.0 later in
     let less' : place_cmp (place_of first.object) place ≡ Less = subst (λ (p : Place). place_cmp (place_of first.object) p ≡ Less) stored.1 less in
     let other : is_of place first ≡ false = ap is_eq (place_cmp-total.antisymm place (place_of first.object) ∙ ap ordering_reverse less') in
     rw other (stored-found more place held s.1 (later, stored.1)))
     (contains-cons first more held stored.0)
 
-absent_by : (found : Option Stored) (objects : List Stored) (place : Place) → IsAscending objects → found ≡ stored_at objects place → IsAbsent objects place → stored_at objects place ≡ None
+absent_by : (found : Option Stored) (objects : List Stored) (place : Place) → IsAscending objects → found ≡ stored_at objects place → IsAbsent objects place
+    → stored_at objects place ≡ None
 absent_by None objects place s is absent = sym is
 absent_by (Some held) objects place s is absent = absurd (absent held (found-stored objects place held (sym is)))
 
@@ -75,7 +80,8 @@ apart_by : (b : Bool) (place other : Place) → other ≢ place → b ≡ is_eq 
 apart_by true place other apart e = absurd (apart (place_cmp-exact other place ((Equal-is (place_cmp other place)).0 (sym e))))
 apart_by false place other apart e = refl
 
-pub elsewhere-with_stored : (objects : List Stored) (added : Stored) → IsAscending objects → SameElsewhere (place_of added.object) objects (with_stored added objects)
+pub elsewhere-with_stored : (objects : List Stored) (added : Stored) → IsAscending objects
+    → SameElsewhere (place_of added.object) objects (with_stored added objects)
 elsewhere-with_stored objects added s =
     elsewhere-by (place_of added.object) objects (with_stored added objects) s (ascending-with_stored objects added s)
     (λ other apart. stored_at-with_stored objects added other

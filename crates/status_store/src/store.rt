@@ -4,7 +4,8 @@ ghost use Rattle.std.specs.List.{slice_index_or};
 ghost use Rattle.std.specs.Option.{option_copied};
 ghost use Rattle.status_store.specs.Places.{place_of, service_at};
 ghost use Rattle.status_store.specs.Objects.{IsStored, IsAbsent, SameElsewhere, IsAscending, AreCounted, IsAt, IsGapFor, stored_at};
-ghost use Rattle.status_store.specs.Changes.{IsWellFormed, empty_store, SetsObject, OnSet, ResetsObject, OnReset, OnDelete, DeletesNothing, edited_place, is_change, edited, IsLost, arrives, IsCurrent, IsStale, IsMade, RecordsPut, after_put, reply_to};
+ghost use Rattle.status_store.specs.Changes.{IsWellFormed, empty_store, SetsObject, OnSet, ResetsObject, OnReset, OnDelete, DeletesNothing, edited_place};
+ghost use Rattle.status_store.specs.Changes.{is_change, edited, IsLost, arrives, IsCurrent, IsStale, IsMade, RecordsPut, after_put, reply_to};
 
 use crate::change::{Edit, Outcome};
 use crate::place::key_parts;

@@ -1,5 +1,6 @@
 -- The attributes that are written, read in general.
-use Rattle.std.proofs.Common.{◌≡◌, ℕ, zero, suc, ◌+◌, ◌<◌, ◌≤◌, Bool, true, false, cond, ◌==◌, nat_le, List, [], ◌∷◌, ◌++◌, length, Option, Some, None, refl, sym, ◌∙◌, ap, subst, arith, append_assoc, length-append, unwrap_or}
+use Rattle.std.proofs.Common.{◌≡◌, ℕ, zero, suc, ◌+◌, ◌<◌, ◌≤◌, Bool, true, false, cond, ◌==◌, nat_le, List, [], ◌∷◌, ◌++◌, length}
+use Rattle.std.proofs.Common.{Option, Some, None, refl, sym, ◌∙◌, ap, subst, arith, append_assoc, length-append, unwrap_or}
 use Rattle.std.proofs.lemmas.Bool.Decides.{nat_tests}
 use Rattle.std.proofs.lemmas.List.{take_at, drop_at, append-nil}
 use Rattle.std.specs.Int.{w16, w32, w128, to_be_bytes}
@@ -11,11 +12,13 @@ use Rattle.large_numbers.specs.declared.numbers.LargeCommunity.{LargeCommunity}
 use Rattle.bgp_updates.specs.declared.route.Terms.{Terms}
 use Rattle.bgp_updates.specs.declared.route.Peering.{Peering}
 use Rattle.bgp_updates.specs.Between.{AreFew}
-use Rattle.bgp_updates.specs.Message.{attribute, communities_attribute, communities_bytes, front_of, hop_attribute, large_attribute, larges_bytes, optional_attribute, path_attribute, preference_attribute, prefixes_bytes, reach_attribute, unreach_attribute}
+use Rattle.bgp_updates.specs.Message.{attribute, communities_attribute, communities_bytes, front_of, hop_attribute, large_attribute, larges_bytes}
+use Rattle.bgp_updates.specs.Message.{optional_attribute, path_attribute, preference_attribute, prefixes_bytes, reach_attribute, unreach_attribute}
 use Rattle.bgp_updates.proofs.ReceivedLaws.{by_bool}
 use Rattle.bgp_updates.proofs.SmallGroups.{length-communities, length-larges}
 use Rattle.update_laws.specs.Attributes.{Attribute, attributes_in, attributes_within, is_extended, value_then}
-use Rattle.update_laws.specs.Laws.{as_path, attributes_told, communities, large_community, local_pref, mp_reach, mp_unreach, next_hop, optional, origin_incomplete}
+use Rattle.update_laws.specs.Laws.{as_path, attributes_told, communities, large_community, local_pref}
+use Rattle.update_laws.specs.Laws.{mp_reach, mp_unreach, next_hop, optional, origin_incomplete}
 use Rattle.update_laws.proofs.Parts.{two}
 
 -- ---- an attribute in front
@@ -52,7 +55,8 @@ reads-short n flags code value rest told short reads zero enough = absurd (omega
 reads-short n flags code value rest told short reads (suc most) enough =
     short-step most flags code value rest short ∙ ap (option_map (with_attribute flags code value)) (reads most (omega (arith, enough)))
 
-reads-attribute : (n flags code : ℕ) (value rest : List ℕ) (told : List Attribute) → is_extended flags ≡ false → is_extended (flags + 0x10) ≡ true → length value < 65536
+reads-attribute : (n flags code : ℕ) (value rest : List ℕ) (told : List Attribute) → is_extended flags ≡ false → is_extended (flags + 0x10) ≡ true
+    → length value < 65536
     → ReadsAs n rest told → ReadsAs (suc n) (attribute flags code value ++ rest) (optional flags code value ∷ told)
 reads-attribute n flags code value rest told one two_octets few reads zero enough = absurd (omega (arith, enough))
 reads-attribute n flags code value rest told one two_octets few reads (suc most) enough =
@@ -111,7 +115,8 @@ reads-hop n hop V6 rest told reads = reads-more n rest told reads
 reads-front : (n : ℕ) (family : Family) (peering : Peering) (terms : Terms) (rest : List ℕ) (told : List Attribute) → length terms.communities ≤ 512
     → ReadsAs n rest told
     → ReadsAs (5 + n) (front_of family peering terms ++ rest)
-    (origin_incomplete ∷ as_path peering.own ∷ (next_hop family peering.next_hop ++ (local_pref peering.own terms.preference ++ (communities terms.communities ++ told))))
+    (origin_incomplete ∷ as_path peering.own
+    ∷ (next_hop family peering.next_hop ++ (local_pref peering.own terms.preference ++ (communities terms.communities ++ told))))
 reads-front n family peering terms rest told few reads =
     let origin : List ℕ = 0x40 ∷ 1 ∷ 1 ∷ 2 ∷ [] in
     let path : List ℕ = path_attribute peering.own in
@@ -125,8 +130,10 @@ reads-front n family peering terms rest told few reads =
     ∙ append_assoc origin path (hop ++ (preference ++ (numbers ++ rest))) in
     let last : ReadsAs (suc n) (numbers ++ rest) (communities terms.communities ++ told) = reads-communities n terms.communities rest told few reads in
     let third = reads-preference (suc n) peering.own terms.preference (numbers ++ rest) (communities terms.communities ++ told) last in
-    let second = reads-hop (suc (suc n)) peering.next_hop family (preference ++ (numbers ++ rest)) (local_pref peering.own terms.preference ++ (communities terms.communities ++ told)) third in
-    let first = reads-behind (suc (suc (suc n))) peering.own (hop ++ (preference ++ (numbers ++ rest))) (next_hop family peering.next_hop ++ (local_pref peering.own terms.preference ++ (communities terms.communities ++ told))) second in
+    let second = reads-hop (suc (suc n)) peering.next_hop family (preference ++ (numbers ++ rest))
+    (local_pref peering.own terms.preference ++ (communities terms.communities ++ told)) third in
+    let first = reads-behind (suc (suc (suc n))) peering.own (hop ++ (preference ++ (numbers ++ rest)))
+    (next_hop family peering.next_hop ++ (local_pref peering.own terms.preference ++ (communities terms.communities ++ told))) second in
     λ most enough. ap (attributes_within most) shape ∙ first most (omega (arith, enough))
 
 -- what is read in so many steps as the octets are is what the octets are
@@ -137,7 +144,8 @@ long-front : (family : Family) (peering : Peering) (terms : Terms) → 7 ≤ len
 long-front family peering terms = by_own peering.own terms.preference family peering.next_hop terms.communities
   where
     by_own : (own preference : Option ℕ) (family : Family) (hop : ℕ) (numbers : List ℕ)
-        → 7 ≤ length ((0x40 ∷ 1 ∷ 1 ∷ 2 ∷ []) ++ path_attribute own ++ hop_attribute family hop ++ preference_attribute own preference ++ communities_attribute numbers)
+        → 7 ≤ length
+        ((0x40 ∷ 1 ∷ 1 ∷ 2 ∷ []) ++ path_attribute own ++ hop_attribute family hop ++ preference_attribute own preference ++ communities_attribute numbers)
     by_own None preference family hop numbers = omega arith
     by_own (Some own) preference family hop numbers = omega arith
 
@@ -166,12 +174,14 @@ read-v6 peering terms withdrawn announced few small =
 -- ---- the attribute of what withdraws
 long-attribute : (flags code : ℕ) (value : List ℕ) → 1 ≤ length (attribute flags code value)
 long-attribute flags code value =
-    elim (nat_le (length value) 255) as (λ v. 1 ≤ length (cond v ((flags ∷ code ∷ length value ∷ []) ++ value) (((flags + 0x10) ∷ code ∷ []) ++ to_be_bytes w16 (length value) ++ value))) [
+    elim (nat_le (length value) 255)
+    as (λ v. 1 ≤ length (cond v ((flags ∷ code ∷ length value ∷ []) ++ value) (((flags + 0x10) ∷ code ∷ []) ++ to_be_bytes w16 (length value) ++ value))) [
       | true ↦ omega arith
       | false ↦ omega arith
     ]
 
-pub read-unreached : (withdrawn : List PrefixValue) → length (prefixes_bytes withdrawn) ≤ 4096 → attributes_in (unreach_attribute (prefixes_bytes withdrawn)) ≡ Some (mp_unreach V6 withdrawn)
+pub read-unreached : (withdrawn : List PrefixValue) → length (prefixes_bytes withdrawn) ≤ 4096
+    → attributes_in (unreach_attribute (prefixes_bytes withdrawn)) ≡ Some (mp_unreach V6 withdrawn)
 read-unreached withdrawn small =
     let value : List ℕ = (0 ∷ 2 ∷ 1 ∷ []) ++ prefixes_bytes withdrawn in
     let octets : List ℕ = unreach_attribute (prefixes_bytes withdrawn) in

@@ -82,7 +82,8 @@ own_octets V6 prefixes = []
 -- The message of what is said, read in general, says it.
 pub record IsReadAs (family : Family) (peering : Peering) (update : Update) : Type 0 where
   pub withdrawn : withdrawn_octets (update_octets family peering update) ≡ own_octets family update.withdrawn
-  pub attributes : attributes_in (attribute_octets (update_octets family peering update)) ≡ Some (attributes_told family peering update.withdrawn update.announced update.terms)
+  pub attributes : attributes_in (attribute_octets (update_octets family peering update))
+      ≡ Some (attributes_told family peering update.withdrawn update.announced update.terms)
   pub announced : announced_octets (update_octets family peering update) ≡ own_octets family update.announced
 
 -- what the messages of a family between two tables say

@@ -1,6 +1,7 @@
 //! What holds of the octets of messages.
 ghost use Rattle.update_laws.specs.Laws.{MessagesAreRead};
-ghost use Rattle.update_laws.specs.Vectors.{AllAttributes, InBothFamilies, InOrder, InsideTheAs, LargeChanged, ManyReached, ManyUnreached, Reached, ToAnotherAs, Unchanged, Unreached, WithCommunity, WithLarge, WithManyLarge, Withdrawn, WithoutPreference};
+ghost use Rattle.update_laws.specs.Vectors.{AllAttributes, InBothFamilies, InOrder, InsideTheAs, LargeChanged, ManyReached, ManyUnreached, Reached};
+ghost use Rattle.update_laws.specs.Vectors.{ToAnotherAs, Unchanged, Unreached, WithCommunity, WithLarge, WithManyLarge, Withdrawn, WithoutPreference};
 
 /// The messages between small tables are those that were written out by hand.
 pub fn messages_are_those_written_out()

@@ -28,7 +28,8 @@ module _ {K T : Type 0} {cmp : K → K → Ordering} (o : IsTotalOrder cmp) wher
   -- an object was shown
   pub held_at-shown : (entries : List (K × Versioned T)) (k key : K) (version : ℕ) (object : T)
       → held_at cmp (shown cmp entries k version object) key
-      ≡ cond (leb version (version_at cmp entries k)) (held_at cmp entries key) (cond (is_eq (cmp key k)) (Some (record { version = version; object = object })) (held_at cmp entries key))
+      ≡ cond (leb version (version_at cmp entries k)) (held_at cmp entries key)
+      (cond (is_eq (cmp key k)) (Some (record { version = version; object = object })) (held_at cmp entries key))
   held_at-shown entries k key version object = shown_by (leb version (version_at cmp entries k)) entries k key version object
 
   -- a key was removed
@@ -51,17 +52,20 @@ module _ {K T : Type 0} {cmp : K → K → Ordering} (o : IsTotalOrder cmp) wher
       let there : IsSome (lookup (is_at (cmp k)) entries) = rw found refl in
       lookup-set_value (eq_by_cmp_equiv o) (is_at (cmp k)) (tied o k) key (record { version = version; object = change held.object }) entries there
 
-  shown_ascend : (old : Bool) (x y : List (K × Versioned T)) → IsStrictlySortedBy cmp (keys_of x) → IsStrictlySortedBy cmp (keys_of y) → IsStrictlySortedBy cmp (keys_of (cond old x y))
+  shown_ascend : (old : Bool) (x y : List (K × Versioned T)) → IsStrictlySortedBy cmp (keys_of x) → IsStrictlySortedBy cmp (keys_of y)
+      → IsStrictlySortedBy cmp (keys_of (cond old x y))
   shown_ascend true x y p q = p
   shown_ascend false x y p q = q
 
-  pub ascending-shown : (entries : List (K × Versioned T)) (k : K) (version : ℕ) (object : T) → IsStrictlySortedBy cmp (keys_of entries) → IsStrictlySortedBy cmp (keys_of (shown cmp entries k version object))
+  pub ascending-shown : (entries : List (K × Versioned T)) (k : K) (version : ℕ) (object : T) → IsStrictlySortedBy cmp (keys_of entries)
+      → IsStrictlySortedBy cmp (keys_of (shown cmp entries k version object))
   ascending-shown entries k version object s =
       shown_ascend (leb version (version_at cmp entries k)) entries (insert_entry cmp entries k (record { version = version; object = object })) s
       (ascending-insert_entry o entries k (record { version = version; object = object }) s)
 
 -- watches have expired
-pub held_at-expired : {K T : Type 0} (cmp : K → K → Ordering) (entries : List (K × Versioned T)) (key : K) → held_at cmp (expired entries) key ≡ option_map (at_version 0) (held_at cmp entries key)
+pub held_at-expired : {K T : Type 0} (cmp : K → K → Ordering) (entries : List (K × Versioned T)) (key : K)
+    → held_at cmp (expired entries) key ≡ option_map (at_version 0) (held_at cmp entries key)
 held_at-expired cmp entries key = lookup-map_values (at_version 0) (is_at (cmp key)) entries
 
 module _ {K T : Type 0} (cmp : K → K → Ordering) (entries : List (K × Versioned T)) where
@@ -71,9 +75,11 @@ module _ {K T : Type 0} (cmp : K → K → Ordering) (entries : List (K × Versi
   pub ascending-listed : IsStrictlySortedBy cmp (keys_of entries) → IsStrictlySortedBy cmp (keys_of (listed entries))
   ascending-listed s = ascending-filter cmp (λ (e : K × Versioned T). not (eqb e.1.version 0)) entries s
 
-  amended_ascend : (found : Option (Versioned T)) (k : K) (version : ℕ) (change : T → T) → IsStrictlySortedBy cmp (keys_of entries) → IsStrictlySortedBy cmp (keys_of (amended_at cmp entries k version change found))
+  amended_ascend : (found : Option (Versioned T)) (k : K) (version : ℕ) (change : T → T) → IsStrictlySortedBy cmp (keys_of entries)
+      → IsStrictlySortedBy cmp (keys_of (amended_at cmp entries k version change found))
   amended_ascend None k version change s = s
   amended_ascend (Some held) k version change s = rw (keys-set_value (is_at (cmp k)) entries (record { version = version; object = change held.object })) s
 
-  pub ascending-amended : (k : K) (version : ℕ) (change : T → T) → IsStrictlySortedBy cmp (keys_of entries) → IsStrictlySortedBy cmp (keys_of (amended cmp entries k version change))
+  pub ascending-amended : (k : K) (version : ℕ) (change : T → T) → IsStrictlySortedBy cmp (keys_of entries)
+      → IsStrictlySortedBy cmp (keys_of (amended cmp entries k version change))
   ascending-amended k version change s = amended_ascend (held_at cmp entries k) k version change s

@@ -1,5 +1,6 @@
 -- How many entries there are after a change.
-use Rattle.std.proofs.Common.{◌≡◌, ℕ, suc, ◌≤◌, Bool, true, false, cond, not, List, [], ◌∷◌, length, Option, Some, None, is_some, Ordering, Less, Equal, Greater, refl, arith}
+use Rattle.std.proofs.Common.{◌≡◌, ℕ, suc, ◌≤◌, Bool, true, false, cond, not, List, [], ◌∷◌, length, Option}
+use Rattle.std.proofs.Common.{Some, None, is_some, Ordering, Less, Equal, Greater, refl, arith}
 use Rattle.std.specs.Ordering.{match_ordering}
 use Rattle.std.specs.List.Sorted.{IsStrictlySortedBy}
 use Rattle.std.specs.Map.{lookup, remove_entry, keys_of}
@@ -52,9 +53,11 @@ module _ {K T : Type 0} where
   pub length-expired : (entries : List (K × Versioned T)) → length (expired entries) ≡ length entries
   length-expired entries = length-map entries (λ (e : K × Versioned T). (e.0, at_version 0 e.1))
 
-  amended_by : (cmp : K → K → Ordering) (found : Option (Versioned T)) (entries : List (K × Versioned T)) (k : K) (version : ℕ) (change : T → T) → length (amended_at cmp entries k version change found) ≡ length entries
+  amended_by : (cmp : K → K → Ordering) (found : Option (Versioned T)) (entries : List (K × Versioned T)) (k : K) (version : ℕ) (change : T → T)
+      → length (amended_at cmp entries k version change found) ≡ length entries
   amended_by cmp None entries k version change = refl
   amended_by cmp (Some held) entries k version change = length-set_value (is_at (cmp k)) entries (record { version = version; object = change held.object })
 
-  pub length-amended : (cmp : K → K → Ordering) (entries : List (K × Versioned T)) (k : K) (version : ℕ) (change : T → T) → length (amended cmp entries k version change) ≡ length entries
+  pub length-amended : (cmp : K → K → Ordering) (entries : List (K × Versioned T)) (k : K) (version : ℕ) (change : T → T)
+      → length (amended cmp entries k version change) ≡ length entries
   length-amended cmp entries k version change = amended_by cmp (held_at cmp entries k) entries k version change

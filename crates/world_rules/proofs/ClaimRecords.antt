@@ -24,7 +24,8 @@ pub records-either : (b : Bool) (xs ys : List ClaimValue) → records_in (cond b
 records-either true xs ys = refl
 records-either false xs ys = refl
 
-records_claim_by : (b : Bool) (key : Key) (r : Record) (t : Terms) → records_in (cond b (record { key = key; holding = r; terms = t } ∷ []) []) ≡ cond b (r ∷ []) []
+records_claim_by : (b : Bool) (key : Key) (r : Record) (t : Terms)
+    → records_in (cond b (record { key = key; holding = r; terms = t } ∷ []) []) ≡ cond b (r ∷ []) []
 records_claim_by true key r t = refl
 records_claim_by false key r t = refl
 
@@ -48,7 +49,8 @@ records-from (d ∷ cs) r there =
 pub records_of-others : (cs : List ClaimValue) (key q : Key) → records_of q (others key cs) ≡ cond (same_key key q) [] (records_of q cs)
 records_of-others cs key q = ap records_in (claims_of-others cs key q) ∙ records-either (same_key key q) [] (claims_of q cs)
 
-pub records_of-settled : (cs : List ClaimValue) (key q : Key) (r : Record) (t : Terms) → records_of q (settled key r t cs) ≡ cond (same_key key q) (claimed_by r) (records_of q cs)
+pub records_of-settled : (cs : List ClaimValue) (key q : Key) (r : Record) (t : Terms)
+    → records_of q (settled key r t cs) ≡ cond (same_key key q) (claimed_by r) (records_of q cs)
 records_of-settled cs key q r t =
     ap records_in (claims_of-settled cs key q r t) ∙ records-either (same_key key q) (claim_of key r t) (claims_of q cs)
     ∙ ap (λ (rs : List Record). cond (same_key key q) rs (records_of q cs)) (records-claim key r t)

@@ -14,7 +14,8 @@ shares_by true t u e clash = may_share-is t u e
 shares_by false t u e clash = absurd (clash (λ shares. true≢false (sym (may_share-from t u shares) ∙ e)))
 
 none : (store : StoreValue) → IsSafe store → (first second : Key) → ¬ (Clash store first second)
-none store safe first second c = c.unshared (safe first second c.apart c.r c.q c.recorded c.recorded_too c.address c.there c.there_too c.terms c.others c.marked c.marked_too)
+none store safe first second c =
+    c.unshared (safe first second c.apart c.r c.q c.recorded c.recorded_too c.address c.there c.there_too c.terms c.others c.marked c.marked_too)
 
 safe : (store : StoreValue) → ((first second : Key) → ¬ (Clash store first second)) → IsSafe store
 safe store clash key other apart r q is is' a there there' t u marked marked' =

@@ -44,9 +44,11 @@ none-edit (Delete kind key) store = none-gone (is_some (stored_at store.objects 
     none-gone false = tt
 
 -- an edit shows no end
-pub ends-edited : (ended : Bool) (lane : List Event) (group : Group) (edit : Edit) (store : StoreValue) → ConfigEnds ended lane → ConfigEnds ended (lane ++ to_lane groups.Config group (shown_edit edit store))
+pub ends-edited : (ended : Bool) (lane : List Event) (group : Group) (edit : Edit) (store : StoreValue) → ConfigEnds ended lane
+    → ConfigEnds ended (lane ++ to_lane groups.Config group (shown_edit edit store))
 ends-edited ended lane group edit store ends =
-    ends-append ended lane (to_lane groups.Config group (shown_edit edit store)) ends (none-lane (same_group group groups.Config) (shown_edit edit store) (none-edit edit store))
+    ends-append ended lane (to_lane groups.Config group (shown_edit edit store)) ends
+    (none-lane (same_group group groups.Config) (shown_edit edit store) (none-edit edit store))
 
 -- ---- an event less
 unless-end : (event : Event) (before : Bool) → IsOfGroup groups.Config event → event ≢ ends_config → ended_after_event groups.Config event before ≡ before
@@ -60,13 +62,15 @@ unless-end (Members names) before of not = absurd of
 unless-end (Frame interface bytes) before of not = absurd of
 unless-end Ignored before of not = absurd of
 
-pub ends-taken : (ended : Bool) (event : Event) (lane : List Event) → IsOfGroup groups.Config event → ConfigEnds ended (event ∷ lane) → ConfigEnds (ended_after_event groups.Config event ended) lane
+pub ends-taken : (ended : Bool) (event : Event) (lane : List Event) → IsOfGroup groups.Config event → ConfigEnds ended (event ∷ lane)
+    → ConfigEnds (ended_after_event groups.Config event ended) lane
 ends-taken true event lane of none = subst (λ (b : Bool). ConfigEnds b lane) (sym (unless-end event true of none.0)) none.1
 ends-taken false event lane of (inl here) = subst (λ (x : Event). ConfigEnds (ended_after_event groups.Config x false) lane) (sym here.0) here.1
 ends-taken false event lane of (inr later) = subst (λ (b : Bool). ConfigEnds b lane) (sym (unless-end event false of later.0)) later.1
 
 -- ---- what the core makes of an event
-pub config-ended : (s : State) (event : Event) → IsOfGroup groups.Config event → (core_take s event).held.config_ended ≡ ended_after_event groups.Config event s.held.config_ended
+pub config-ended : (s : State) (event : Event) → IsOfGroup groups.Config event
+    → (core_take s event).held.config_ended ≡ ended_after_event groups.Config event s.held.config_ended
 config-ended s (Changed version (objects.Service service)) of = absurd (cc)
 config-ended s (Changed version (objects.Pool pool)) of = refl
 config-ended s (Changed version (objects.L2 adv)) of = refl
@@ -133,9 +137,11 @@ one-behind (event ∷ lane) none = inr (none.0, one-behind lane none.1)
 pub ends-listing : (order : ListOrder) (store : StoreValue) → ConfigEnds false (listing order groups.Config store)
 ends-listing order store =
     let shown = map as_shown (filter (is_of_group groups.Config) store.objects) in
-    one-behind (in_order order shown) (all-ordered (λ (event : Event). event ≢ ends_config) order shown (none-shown (filter (is_of_group groups.Config) store.objects)))
+    one-behind (in_order order shown)
+    (all-ordered (λ (event : Event). event ≢ ends_config) order shown (none-shown (filter (is_of_group groups.Config) store.objects)))
 
 -- where the watch of a list has expired, that list is shown anew
-pub ends-expired : (b ended : Bool) (order : ListOrder) (store : StoreValue) (lane : List Event) → ConfigEnds ended lane → ConfigEnds (cond b false ended) (cond b (listing order groups.Config store) lane)
+pub ends-expired : (b ended : Bool) (order : ListOrder) (store : StoreValue) (lane : List Event) → ConfigEnds ended lane
+    → ConfigEnds (cond b false ended) (cond b (listing order groups.Config store) lane)
 ends-expired true ended order store lane ends = ends-listing order store
 ends-expired false ended order store lane ends = ends

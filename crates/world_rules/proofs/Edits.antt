@@ -1,5 +1,6 @@
 -- An edit keeps what holds of a world.
-use Rattle.std.proofs.Common.{◌≡◌, ℕ, ◌+◌, Bool, true, false, cond, List, [], ◌∷◌, ◌++◌, Option, Some, None, option_map, is_some, is_eq, IfSome, refl, sym, ap, subst, ◌∙◌, append-nil}
+use Rattle.std.proofs.Common.{◌≡◌, ℕ, ◌+◌, Bool, true, false, cond, List, [], ◌∷◌, ◌++◌, Option, Some, None}
+use Rattle.std.proofs.Common.{option_map, is_some, is_eq, IfSome, refl, sym, ap, subst, ◌∙◌, append-nil}
 use Rattle.std.proofs.lemmas.Bool.{true≢false}
 use Rattle.std.specs.List.{AllByRecursion}
 use Rattle.kube_model.specs.declared.event.Event.TheVariants.{Changed, Deleted}
@@ -39,12 +40,14 @@ use Rattle.world_rules.proofs.Storing.{set_store, good-set_store, good-delete}
 -- ---- a service is set or deleted, this one or another
 set_by : (b : Bool) (n : ℕ) (ended : Bool) (o : Option Stored) (service : Service) (h : Option Shown) (claims : List Record) (notices : List Notice)
     → (b ≡ true → is_assigned service.holding ≡ true → service.holding ≡ kept_record o) → IsTracked n ended (option_map stored_as o) h claims notices
-    → IsTracked (n + 1) ended (option_map stored_as (cond b (Some (record { version = n + 1; object = objects.Service service })) o)) h claims (notices ++ cond b (Shows (at_next n service.holding) ∷ []) [])
+    → IsTracked (n + 1) ended (option_map stored_as (cond b (Some (record { version = n + 1; object = objects.Service service })) o)) h claims
+    (notices ++ cond b (Shows (at_next n service.holding) ∷ []) [])
 set_by true n ended None service h claims notices keeps t =
     tracked-create n ended service.holding h claims notices (stays-bare service.holding empty_record (keeps refl) refl) t
 set_by true n ended (Some held) service h claims notices keeps t = tracked-set n ended (stored_as held) service.holding h claims notices (keeps refl) t
 set_by false n ended o service h claims notices keeps t =
-    subst (IsTracked (n + 1) ended (option_map stored_as o) h claims) (sym (append-nil notices)) (tracked-other n ended (option_map stored_as o) h claims notices t)
+    subst (IsTracked (n + 1) ended (option_map stored_as o) h claims) (sym (append-nil notices))
+    (tracked-other n ended (option_map stored_as o) h claims notices t)
 
 -- b: something is stored there; z: the key is the one that is deleted
 deleted_by : (b z : Bool) (n : ℕ) (ended : Bool) (o : Option Stored) (h : Option Shown) (claims : List Record) (notices : List Notice)
@@ -52,7 +55,8 @@ deleted_by : (b z : Bool) (n : ℕ) (ended : Bool) (o : Option Stored) (h : Opti
     → IsTracked (cond b (n + 1) n) ended (option_map stored_as (cond z None o)) h claims (notices ++ cond b (cond z (Gone ∷ []) []) [])
 deleted_by true true n ended o h claims notices there t = tracked-delete n ended (option_map stored_as o) h claims notices t
 deleted_by true false n ended o h claims notices there t =
-    subst (IsTracked (n + 1) ended (option_map stored_as o) h claims) (sym (append-nil notices)) (tracked-other n ended (option_map stored_as o) h claims notices t)
+    subst (IsTracked (n + 1) ended (option_map stored_as o) h claims) (sym (append-nil notices))
+    (tracked-other n ended (option_map stored_as o) h claims notices t)
 deleted_by false true n ended None h claims notices there t = subst (IsTracked n ended None h claims) (sym (append-nil notices)) t
 deleted_by false true n ended (Some held) h claims notices there t = absurd (true≢false (there refl))
 deleted_by false false n ended o h claims notices there t = subst (IsTracked n ended (option_map stored_as o) h claims) (sym (append-nil notices)) t
@@ -82,7 +86,8 @@ module _ (w : WorldValue) (s : State) (key : Key) where
   abbrev here : Option Stored
   here = stored_at w.store.objects (service_at key)
 
-  service-set : (service : Service) (holding : Record) → (is_assigned holding ≡ true → holding ≡ kept_record (stored_at w.store.objects (service_at service.key)))
+  service-set : (service : Service) (holding : Record)
+      → (is_assigned holding ≡ true → holding ≡ kept_record (stored_at w.store.objects (service_at service.key)))
       → IsTrackedIn w s key → IsTrackedSet (objects.Service service) holding
   service-set service holding keeps t =
       let kept : Service = with_holding holding service in
@@ -91,20 +96,25 @@ module _ (w : WorldValue) (s : State) (key : Key) where
       (ap (option_map stored_as)
       (stored_at-with_stored w.store.objects new (service_at key) ∙ ap (λ (b : Bool). cond b (Some new) here) (here-same key service.key)))
       refl refl (notices_in-push key w.service_lane (Changed (w.store.counter + 1) (objects.Service kept)))
-      (set_by (same_key service.key key) w.store.counter s.held.services_ended here kept (held_of s key) (records_of key s.claims) (notices_in key w.service_lane)
+      (set_by (same_key service.key key) w.store.counter s.held.services_ended here kept (held_of s key) (records_of key s.claims)
+      (notices_in key w.service_lane)
       (λ same has. keeps has ∙ ap (λ (k : Key). kept_record (stored_at w.store.objects (service_at k))) (same_key-is service.key key same)) t)
 
-  other-set : (object : Object) (holding : Record) → is_of (service_at key) (stored_with w.store object holding) ≡ false → same_group (group_of (kind_of object)) groups.Service ≡ false
+  other-set : (object : Object) (holding : Record) → is_of (service_at key) (stored_with w.store object holding) ≡ false
+      → same_group (group_of (kind_of object)) groups.Service ≡ false
       → IsTrackedIn w s key → IsTrackedSet object holding
   other-set object holding apart lane t =
       tracked-as _ _ _ _
       (ap (option_map stored_as)
-      (stored_at-with_stored w.store.objects (stored_with w.store object holding) (service_at key) ∙ ap (λ (b : Bool). cond b (Some (stored_with w.store object holding)) here) apart))
+      (stored_at-with_stored w.store.objects (stored_with w.store object holding) (service_at key)
+      ∙ ap (λ (b : Bool). cond b (Some (stored_with w.store object holding)) here) apart))
       refl refl
-      (ap (λ (b : Bool). notices_in key (w.service_lane ++ cond b (as_shown (stored_with w.store object holding) ∷ []) [])) lane ∙ ap (notices_in key) (append-nil w.service_lane))
+      (ap (λ (b : Bool). notices_in key (w.service_lane ++ cond b (as_shown (stored_with w.store object holding) ∷ []) [])) lane
+      ∙ ap (notices_in key) (append-nil w.service_lane))
       (tracked-other w.store.counter s.held.services_ended (stored_of w.store key) (held_of s key) (records_of key s.claims) (notices_in key w.service_lane) t)
 
-  set-tracked : (object : Object) (holding : Record) → (is_assigned holding ≡ true → holding ≡ kept_record (stored_at w.store.objects (place_of object))) → IsTrackedIn w s key → IsTrackedSet object holding
+  set-tracked : (object : Object) (holding : Record) → (is_assigned holding ≡ true → holding ≡ kept_record (stored_at w.store.objects (place_of object)))
+      → IsTrackedIn w s key → IsTrackedSet object holding
   set-tracked (objects.Service service) holding keeps t = service-set service holding keeps t
   set-tracked (objects.Pool pool) holding keeps t = other-set (objects.Pool pool) holding refl refl t
   set-tracked (objects.L2 adv) holding keeps t = other-set (objects.L2 adv) holding refl refl t
@@ -115,7 +125,8 @@ module _ (w : WorldValue) (s : State) (key : Key) where
   set-tracked (objects.Node node) holding keeps t = other-set (objects.Node node) holding refl refl t
   set-tracked (objects.Slice slice) holding keeps t = other-set (objects.Slice slice) holding refl refl t
 
-  notices_by : (b : Bool) (gone : Key) → notices_in key (w.service_lane ++ cond b (Deleted kinds.Service gone ∷ []) []) ≡ notices_in key w.service_lane ++ cond b (cond (same_key gone key) (Gone ∷ []) []) []
+  notices_by : (b : Bool) (gone : Key) → notices_in key (w.service_lane ++ cond b (Deleted kinds.Service gone ∷ []) [])
+      ≡ notices_in key w.service_lane ++ cond b (cond (same_key gone key) (Gone ∷ []) []) []
   notices_by true gone = notices_in-push key w.service_lane (Deleted kinds.Service gone)
   notices_by false gone = ap (notices_in key) (append-nil w.service_lane) ∙ sym (append-nil (notices_in key w.service_lane))
 
@@ -129,18 +140,22 @@ module _ (w : WorldValue) (s : State) (key : Key) where
       (deleted_by there (same_key gone key) w.store.counter s.held.services_ended here (held_of s key) (records_of key s.claims) (notices_in key w.service_lane)
       (λ same. ap (λ (k : Key). is_some (stored_at w.store.objects (service_at k))) (sym (same_key-is gone key same))) t)
 
-  counted_by : (b : Bool) → IsTrackedIn w s key → IsTracked (cond b (w.store.counter + 1) w.store.counter) s.held.services_ended (stored_of w.store key) (held_of s key) (records_of key s.claims) (notices_in key w.service_lane)
-  counted_by true t = tracked-other w.store.counter s.held.services_ended (stored_of w.store key) (held_of s key) (records_of key s.claims) (notices_in key w.service_lane) t
+  counted_by : (b : Bool) → IsTrackedIn w s key → IsTracked (cond b (w.store.counter + 1) w.store.counter) s.held.services_ended (stored_of w.store key)
+      (held_of s key) (records_of key s.claims) (notices_in key w.service_lane)
+  counted_by true t =
+      tracked-other w.store.counter s.held.services_ended (stored_of w.store key) (held_of s key) (records_of key s.claims) (notices_in key w.service_lane) t
   counted_by false t = t
 
-  other-deleted : (kind : Kind) (gone : Key) → IsAscending w.store.objects → (let place : Place = (kind, gone) in is_eq (place_cmp place (service_at key)) ≡ false) → same_group (group_of kind) groups.Service ≡ false
+  other-deleted : (kind : Kind) (gone : Key) → IsAscending w.store.objects
+      → (let place : Place = (kind, gone) in is_eq (place_cmp place (service_at key)) ≡ false) → same_group (group_of kind) groups.Service ≡ false
       → IsTrackedIn w s key → IsTrackedAfter (Delete kind gone)
   other-deleted kind gone sorted apart lane t =
       tracked-as _ _ _ _
       (ap (option_map stored_as)
       (stored_at-without_stored w.store.objects (kind, gone) (service_at key) sorted ∙ ap (λ (b : Bool). cond b None here) apart))
       refl refl
-      (ap (λ (b : Bool). notices_in key (w.service_lane ++ cond b (shown_edit (Delete kind gone) w.store) [])) lane ∙ ap (notices_in key) (append-nil w.service_lane))
+      (ap (λ (b : Bool). notices_in key (w.service_lane ++ cond b (shown_edit (Delete kind gone) w.store) [])) lane
+      ∙ ap (notices_in key) (append-nil w.service_lane))
       (counted_by (is_some (stored_at w.store.objects (kind, gone))) t)
 
   deleted-tracked : (kind : Kind) (gone : Key) → IsAscending w.store.objects → IsTrackedIn w s key → IsTrackedAfter (Delete kind gone)
@@ -158,10 +173,12 @@ module _ (w : WorldValue) (s : State) (key : Key) where
 deleted-of : (kind : Kind) (gone : Key) (store : StoreValue) → AllByRecursion (IsOfGroup (group_of kind)) (shown_edit (Delete kind gone) store)
 deleted-of kind gone store = all-either (is_some (stored_at store.objects (kind, gone))) (IsOfGroup (group_of kind)) (Deleted kind gone ∷ []) [] (refl, tt) tt
 
-set-of : (object : Object) (holding : Record) (store : StoreValue) → AllByRecursion (IsOfGroup (group_of (kind_of object))) (as_shown (stored_with store object holding) ∷ [])
+set-of : (object : Object) (holding : Record) (store : StoreValue)
+    → AllByRecursion (IsOfGroup (group_of (kind_of object))) (as_shown (stored_with store object holding) ∷ [])
 set-of object holding store = (ap (λ (p : Place). group_of p.0) (place_of-with_record holding object), tt)
 
-deleted-up : (kind : Kind) (gone : Key) (w : WorldValue) (c : Option State) → IsAscending w.store.objects → IfSome c (IsFollowed w) → IfSome c (IsFollowed (edited_world (Delete kind gone) w c))
+deleted-up : (kind : Kind) (gone : Key) (w : WorldValue) (c : Option State) → IsAscending w.store.objects → IfSome c (IsFollowed w)
+    → IfSome c (IsFollowed (edited_world (Delete kind gone) w c))
 deleted-up kind gone w None sorted up = tt
 deleted-up kind gone w (Some s) sorted up = record {
   run = up.run;
@@ -180,7 +197,8 @@ good-deleted kind gone w good = record {
   up = deleted-up kind gone w w.core good.stored.kept.ascending good.up;
 }
 
-set-up : (object : Object) (holding : Record) (w : WorldValue) (c : Option State) → (is_assigned holding ≡ true → holding ≡ kept_record (stored_at w.store.objects (place_of object)))
+set-up : (object : Object) (holding : Record) (w : WorldValue) (c : Option State)
+    → (is_assigned holding ≡ true → holding ≡ kept_record (stored_at w.store.objects (place_of object)))
     → IfSome c (IsFollowed w) → IfSome c (IsFollowed (set_world object holding w c))
 set-up object holding w None keeps up = tt
 set-up object holding w (Some s) keeps up = record {
@@ -189,12 +207,14 @@ set-up object holding w (Some s) keeps up = record {
   leads = up.leads;
   typed = up.typed;
   none_out = up.none_out;
-  services = all-append (IsOfGroup groups.Service) w.service_lane (to_lane groups.Service (group_of (kind_of object)) (as_shown (stored_with w.store object holding) ∷ [])) up.services
+  services = all-append (IsOfGroup groups.Service) w.service_lane
+      (to_lane groups.Service (group_of (kind_of object)) (as_shown (stored_with w.store object holding) ∷ [])) up.services
       (of-lane groups.Service (group_of (kind_of object)) (as_shown (stored_with w.store object holding) ∷ []) (set-of object holding w.store));
   tracked = λ key. set-tracked w s key object holding keeps (up.tracked key);
 }
 
-pub good-set : (object : Object) (holding : Record) (w : WorldValue) → (is_assigned holding ≡ true → holding ≡ kept_record (stored_at w.store.objects (place_of object)))
+pub good-set : (object : Object) (holding : Record) (w : WorldValue)
+    → (is_assigned holding ≡ true → holding ≡ kept_record (stored_at w.store.objects (place_of object)))
     → IsGood w → IsGood (after_set object holding w)
 good-set object holding w keeps good = record {
   stored = good-set_store object holding w.store keeps good.stored;

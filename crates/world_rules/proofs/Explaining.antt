@@ -25,8 +25,10 @@ use Rattle.core_rules.proofs.Runs.{core_holds_what_was_observed, took-out, heard
 use Rattle.core_laws.proofs.Expired.{expired_is_both}
 use Rattle.core_laws.proofs.Puts.{idle-queue}
 use Rattle.core_laws.specs.Shared.{AllShowTerms}
-use Rattle.world_rules.specs.Moves.{Move, Sets, Deletes, Tells, Takes, Turns, Stops, Starts, ConfigExpires, ServicesExpire, EndsLater, entries_taken, entries_put, entries_turned, entries_of, run_along, after_move, after_moves, begun}
-use Rattle.world_rules.specs.Explaining.{Act, Shown, ListExpired, Decided, Answered, shown_of, acts_of_event, acts_of_turn, acts_of_entry, acts_of, answered, puts_of_entry, puts_of, IsRunning, IsExplained, RunsAreSafeInWorlds}
+use Rattle.world_rules.specs.Moves.{Move, Sets, Deletes, Tells, Takes, Turns, Stops, Starts, ConfigExpires, ServicesExpire, EndsLater}
+use Rattle.world_rules.specs.Moves.{entries_taken, entries_put, entries_turned, entries_of, run_along, after_move, after_moves, begun}
+use Rattle.world_rules.specs.Explaining.{Act, Shown, ListExpired, Decided, Answered, shown_of, acts_of_event, acts_of_turn, acts_of_entry}
+use Rattle.world_rules.specs.Explaining.{acts_of, answered, puts_of_entry, puts_of, IsRunning, IsExplained, RunsAreSafeInWorlds}
 use Rattle.world_rules.specs.Good.{IsGood}
 use Rattle.world_rules.proofs.Worlds.{starts_are_good, good-moves, safe-along}
 use Rattle.world_rules.proofs.Turns.{good-turn}
@@ -246,7 +248,8 @@ module _ (class : Option (List ℕ)) where
   taken-through (event ∷ more) run is none = ((none, is), refl, took-out (core_after class run) event ∙ none)
 
   put-through : (p : Option Put) (outcome : Outcome) (w : WorldValue) (run : List Entry) → p ≡ put_in (core_turn (core_after class run)) → GoesThrough w run
-      → GoesThrough (turned (after_turn (core_after class run)) p outcome w) ((entries_put p outcome w.store ++ Turned (core_turn (core_after class run)) ∷ []) ++ run)
+      → GoesThrough (turned (after_turn (core_after class run)) p outcome w)
+      ((entries_put p outcome w.store ++ Turned (core_turn (core_after class run)) ∷ []) ++ run)
   put-through None outcome w run e g = record { class_is = g.class_is; is = ((g.none, refl), g.is); core = refl; none = sym e }
   put-through (Some put) outcome w run e g =
       let s = core_after class run in
@@ -258,7 +261,8 @@ module _ (class : Option (List ℕ)) where
         none = heard-out (after_turn s).out (reply_to put outcome w.store) (after_turn s) out;
       }
 
-  move-through : (move : Move) (w : WorldValue) (run : List Entry) → IsRunning move → GoesThrough w run → GoesThrough (after_move move w) (entries_of move w ++ run)
+  move-through : (move : Move) (w : WorldValue) (run : List Entry) → IsRunning move → GoesThrough w run
+      → GoesThrough (after_move move w) (entries_of move w ++ run)
   move-through (Sets object holding) w run r g = record { class_is = g.class_is; is = g.is; core = g.core; none = g.none }
   move-through (Deletes kind key) w run r g = record { class_is = g.class_is; is = g.is; core = g.core; none = g.none }
   move-through (Tells event) w run r g =
@@ -278,7 +282,8 @@ module _ (class : Option (List ℕ)) where
       record { class_is = g.class_is; is = rw g.core (g.none, g.is); core = rw g.core refl; none = rw g.core g.none }
   move-through (EndsLater before event behind) w run r g = record { class_is = g.class_is; is = g.is; core = g.core; none = g.none }
 
-  moves-through : (moves : List Move) (w : WorldValue) (run : List Entry) → AllByRecursion IsRunning moves → GoesThrough w run → GoesThrough (after_moves moves w) (run_along moves w run)
+  moves-through : (moves : List Move) (w : WorldValue) (run : List Entry) → AllByRecursion IsRunning moves → GoesThrough w run
+      → GoesThrough (after_moves moves w) (run_along moves w run)
   moves-through [] w run all g = g
   moves-through (move ∷ moves) w run all g = moves-through moves (after_move move w) (entries_of move w ++ run) all.1 (move-through move w run all.0 g)
 
@@ -296,7 +301,8 @@ module _ (class : Option (List ℕ)) where
   none-out run is none = sym (core_holds_what_was_observed class run is).1 ∙ none
 
   -- no put is out
-  quiescent : (w : WorldValue) (along run : List Entry) → w.core ≡ Some (core_after class run) → puts_of along ≡ puts_of run → answered run ≡ run → IsSafe w.store → put_out run ≡ None
+  quiescent : (w : WorldValue) (along run : List Entry) → w.core ≡ Some (core_after class run) → puts_of along ≡ puts_of run → answered run ≡ run
+      → IsSafe w.store → put_out run ≡ None
       → IsExplained class w along run
   quiescent w along run core puts same safe none =
       record {
@@ -308,7 +314,8 @@ module _ (class : Option (List ℕ)) where
       }
 
   -- the store behind a turn that wants a put
-  turned-store : (c : Option State) (s : State) (put : Put) (outcome : Outcome) (w : WorldValue) → c ≡ Some s → put_in (core_turn s) ≡ Some put → (after_turning c outcome w).store ≡ after_put put outcome w.store
+  turned-store : (c : Option State) (s : State) (put : Put) (outcome : Outcome) (w : WorldValue) → c ≡ Some s → put_in (core_turn s) ≡ Some put
+      → (after_turning c outcome w).store ≡ after_put put outcome w.store
   turned-store c s put outcome w up wants = rw (up, wants) refl
 
   -- a put is out
@@ -326,13 +333,17 @@ module _ (class : Option (List ℕ)) where
         last = λ other out outcome. subst IsSafe (turned-store w.core s other outcome w core (turns other out)) (good-turn outcome w good).stored.safe;
       }
 
-  explains : (w : WorldValue) (along run : List Entry) → IsRun class run → w.core ≡ Some (core_after class (answered run)) → puts_of along ≡ puts_of (answered run) → IsGood w
+  explains : (w : WorldValue) (along run : List Entry) → IsRun class run → w.core ≡ Some (core_after class (answered run))
+      → puts_of along ≡ puts_of (answered run) → IsGood w
       → IsExplained class w along run
   explains w along [] is core puts good = quiescent w along [] core puts refl good.stored.safe refl
-  explains w along (Took event ∷ earlier) is core puts good = quiescent w along (Took event ∷ earlier) core puts refl good.stored.safe (none-out earlier is.1 is.0)
-  explains w along (Expired group ∷ earlier) is core puts good = quiescent w along (Expired group ∷ earlier) core puts refl good.stored.safe (none-out earlier is.1 is.0)
+  explains w along (Took event ∷ earlier) is core puts good =
+      quiescent w along (Took event ∷ earlier) core puts refl good.stored.safe (none-out earlier is.1 is.0)
+  explains w along (Expired group ∷ earlier) is core puts good =
+      quiescent w along (Expired group ∷ earlier) core puts refl good.stored.safe (none-out earlier is.1 is.0)
   explains w along (Turned Idle ∷ earlier) is core puts good = quiescent w along (Turned Idle ∷ earlier) core puts refl good.stored.safe refl
-  explains w along (Turned (NoPut key pending) ∷ earlier) is core puts good = quiescent w along (Turned (NoPut key pending) ∷ earlier) core puts refl good.stored.safe refl
+  explains w along (Turned (NoPut key pending) ∷ earlier) is core puts good =
+      quiescent w along (Turned (NoPut key pending) ∷ earlier) core puts refl good.stored.safe refl
   explains w along (Turned (Wants put pending) ∷ earlier) is core puts good = about-put w along earlier put core puts good (Wants put pending) is.0.1 refl refl
   explains w along (Heard reply ∷ earlier) is core puts good = quiescent w along (Heard reply ∷ earlier) core puts refl good.stored.safe refl
 
@@ -424,7 +435,8 @@ pub runs_are_safe_in_worlds : RunsAreSafeInWorlds
 runs_are_safe_in_worlds class run is typed store list moves ex =
     let w0 = begun class store list in
     let along = run_along moves w0 [] in
-    let led : GoesThrough class (after_moves moves w0) along = moves-through class moves w0 [] ex.running (record { class_is = refl; is = tt; core = refl; none = refl }) in
+    let led : GoesThrough class (after_moves moves w0) along =
+    moves-through class moves w0 [] ex.running (record { class_is = refl; is = tt; core = refl; none = refl }) in
     let mine = normal-leads class along led.is in
     let theirs = normal-leads class (answered run) (answered-run class run is) in
     let acts : map act_of (normal along) ≡ map act_of (normal (answered run)) = acts-normal along ∙ ex.same ∙ sym (acts-normal (answered run)) in

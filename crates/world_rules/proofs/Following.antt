@@ -1,10 +1,12 @@
 -- What is pending of a service leads from what is held to what is stored: how each change keeps that.
-use Rattle.std.proofs.Common.{◌≡◌, ℕ, ◌+◌, ◌≤◌, ◌<◌, Bool, true, false, cond, leb, eqb, List, [], ◌∷◌, ◌++◌, Option, Some, None, refl, sym, ap, ◌∙◌, arith, MatchBool}
+use Rattle.std.proofs.Common.{◌≡◌, ℕ, ◌+◌, ◌≤◌, ◌<◌, Bool, true, false, cond, leb, eqb, List, [], ◌∷◌, ◌++◌}
+use Rattle.std.proofs.Common.{Option, Some, None, refl, sym, ap, ◌∙◌, arith, MatchBool}
 use Rattle.std.proofs.lemmas.Bool.{true≢false}
 use Rattle.std.proofs.lemmas.Bool.Decides.{nat_tests}
 use Rattle.kube_model.specs.declared.record.Record.{Record}
 use Rattle.kube_model.specs.Records.{is_assigned}
-use Rattle.world_rules.specs.Tracked.{Shown, Notice, Shows, Gone, End, version_at, IsBare, Agrees, after_shows, after_end, is_unlisted, Follows, has_gone, IsJust, AreGiven, AreOld}
+use Rattle.world_rules.specs.Tracked.{Shown, Notice, Shows, Gone, End, version_at, IsBare, Agrees, after_shows}
+use Rattle.world_rules.specs.Tracked.{after_end, is_unlisted, Follows, has_gone, IsJust, AreGiven, AreOld}
 
 pub leb-newer : (a b : ℕ) → b < a → leb a b ≡ false
 leb-newer a b h = grind (arith, nat_tests)
@@ -45,11 +47,13 @@ bare_by false y x e keeps bare = e
 pub stays-bare : (y x : Record) → (is_assigned y ≡ true → y ≡ x) → is_assigned x ≡ false → is_assigned y ≡ false
 stays-bare y x keeps bare = bare_by (is_assigned y) y x refl keeps bare
 
-carried-same : (b : Bool) (x y : Shown) (r : Record) → (is_assigned y.holding ≡ true → y.holding ≡ x.holding) → MatchBool b (IsBare (Some x)) (IsJust (Some x) r) → MatchBool b (IsBare (Some y)) (IsJust (Some y) r)
+carried-same : (b : Bool) (x y : Shown) (r : Record) → (is_assigned y.holding ≡ true → y.holding ≡ x.holding)
+    → MatchBool b (IsBare (Some x)) (IsJust (Some x) r) → MatchBool b (IsBare (Some y)) (IsJust (Some y) r)
 carried-same true x y r keeps c = stays-bare y.holding x.holding keeps c
 carried-same false x y r keeps c = λ has. c (ap is_assigned (sym (keeps has)) ∙ has) ∙ sym (keeps has)
 
-carried-create : (b : Bool) (y : Shown) (r : Record) → is_assigned y.holding ≡ false → MatchBool b (IsBare None) (IsJust None r) → MatchBool b (IsBare (Some y)) (IsJust (Some y) r)
+carried-create : (b : Bool) (y : Shown) (r : Record) → is_assigned y.holding ≡ false → MatchBool b (IsBare None) (IsJust None r)
+    → MatchBool b (IsBare (Some y)) (IsJust (Some y) r)
 carried-create true y r bare c = bare
 carried-create false y r bare c = absurd c
 
@@ -66,11 +70,17 @@ agrees-carried true s r c = agrees-bare s r c
 agrees-carried false s r c = agrees-just s r c
 
 -- a stored service is changed: where it has an address then, it keeps its record
-pub Follows-set : (n : ℕ) (x : Shown) (r : Record) (notices : List Notice) (h : Option Shown) → x.version ≤ n → (is_assigned r ≡ true → r ≡ x.holding) → Follows (Some x) h notices → Follows (Some (at_next n r)) h (notices ++ Shows (at_next n r) ∷ [])
+pub Follows-set : (n : ℕ) (x : Shown) (r : Record) (notices : List Notice) (h : Option Shown) → x.version ≤ n → (is_assigned r ≡ true → r ≡ x.holding)
+    → Follows (Some x) h notices → Follows (Some (at_next n r)) h (notices ++ Shows (at_next n r) ∷ [])
 Follows-set n x r [] h le keeps f =
     let lt : version_at h < n + 1 = rw f (omega arith) in
     (omega arith, λ _ has. refl, after_shows-newer h _ lt)
-Follows-set n x r (Shows y ∷ more) h le keeps f = (omega (arith, f.0), λ newer. rw (has_gone-more (at_next n r) more) (carried-same (has_gone more) x (at_next n r) y.holding keeps (f.1 newer)), Follows-set n x r more _ le keeps f.2)
+Follows-set n x r (Shows y ∷ more) h le keeps f = (
+  omega (arith, f.0),
+  λ newer.
+      rw (has_gone-more (at_next n r) more) (carried-same (has_gone more) x (at_next n r) y.holding keeps (f.1 newer)),
+  Follows-set n x r more _ le keeps f.2,
+)
 Follows-set n x r (Gone ∷ more) h le keeps f = (stays-bare r x.holding keeps f.0, omega (arith, f.1), Follows-set n x r more _ le keeps f.2)
 Follows-set n x r (End ∷ more) h le keeps f = (λ unlisted. stays-bare r x.holding keeps (f.0 unlisted), Follows-set n x r more _ le keeps f.1)
 
@@ -86,12 +96,16 @@ pub after_end-given : (n : ℕ) (h : Option Shown) → version_at h ≤ n → ve
 after_end-given n h a = pick-given (is_unlisted h) None h n (omega arith) a
 
 -- a service is made where none was stored
-pub Follows-create : (n low : ℕ) (r : Record) (notices : List Notice) (h : Option Shown) → is_assigned r ≡ false → version_at h ≤ n → AreGiven low n notices → Follows None h notices → Follows (Some (at_next n r)) h (notices ++ Shows (at_next n r) ∷ [])
+pub Follows-create : (n low : ℕ) (r : Record) (notices : List Notice) (h : Option Shown) → is_assigned r ≡ false → version_at h ≤ n → AreGiven low n notices
+    → Follows None h notices → Follows (Some (at_next n r)) h (notices ++ Shows (at_next n r) ∷ [])
 Follows-create n low r [] h bare le given f =
     let lt : version_at h < n + 1 = omega arith in
     (omega arith, λ _ has. refl, after_shows-newer h _ lt)
-Follows-create n low r (Shows y ∷ more) h bare le given f =
-    (omega (arith, given.1), λ newer. rw (has_gone-more (at_next n r) more) (carried-create (has_gone more) (at_next n r) y.holding bare (f.1 newer)), Follows-create n y.version r more _ bare (after_shows-given n h y le given.1) given.2 f.2)
+Follows-create n low r (Shows y ∷ more) h bare le given f = (
+  omega (arith, given.1),
+  λ newer. rw (has_gone-more (at_next n r) more) (carried-create (has_gone more) (at_next n r) y.holding bare (f.1 newer)),
+  Follows-create n y.version r more _ bare (after_shows-given n h y le given.1) given.2 f.2,
+)
 Follows-create n low r (Gone ∷ more) h bare le given f = (bare, omega arith, Follows-create n low r more None bare (omega arith) given f.2)
 Follows-create n low r (End ∷ more) h bare le given f = (λ _. bare, Follows-create n low r more _ bare (after_end-given n h le) given f.1)
 
@@ -103,7 +117,8 @@ Follows-delete s (Gone ∷ more) h f = (tt, tt, Follows-delete s more _ f.2)
 Follows-delete s (End ∷ more) h f = (λ _. tt, Follows-delete s more _ f.1)
 
 -- what is held at the stored version is what is stored, and nothing newer comes
-pub Follows-old : (x y : Shown) (notices : List Notice) → y.version ≡ x.version → 0 < x.version → Follows (Some x) (Some y) notices → AreOld x.version notices × (y ≡ x)
+pub Follows-old : (x y : Shown) (notices : List Notice) → y.version ≡ x.version → 0 < x.version → Follows (Some x) (Some y) notices
+    → AreOld x.version notices × (y ≡ x)
 Follows-old x y [] e pos f = (tt, cc)
 Follows-old x y (Shows z ∷ more) e pos f =
     let kept : after_shows (Some y) z ≡ Some y = after_shows-older (Some y) z (omega (arith, f.0)) in
@@ -116,7 +131,8 @@ Follows-old x y (End ∷ more) e pos f =
     Follows-old x y more e pos (rw kept at f.1)
 
 -- a put is accepted, and the reply says so
-pub Follows-accepted : (v : ℕ) (z : Shown) (notices : List Notice) → v < z.version → 0 < v → AreOld v notices → Follows (Some z) (Some z) (notices ++ Shows z ∷ [])
+pub Follows-accepted : (v : ℕ) (z : Shown) (notices : List Notice) → v < z.version → 0 < v → AreOld v notices
+    → Follows (Some z) (Some z) (notices ++ Shows z ∷ [])
 Follows-accepted v z [] lt pos old = (omega arith, λ later. absurd (omega arith), after_shows-older (Some z) z (omega arith))
 Follows-accepted v z (Shows y ∷ more) lt pos old =
     let kept : after_shows (Some z) y ≡ Some z = after_shows-older (Some z) y (omega (arith, old.0)) in
@@ -127,7 +143,8 @@ Follows-accepted v z (End ∷ more) lt pos old =
     (λ unlisted. absurd (cc), rw kept (Follows-accepted v z more lt pos old))
 
 -- a put is accepted, and the reply is lost
-pub Follows-lost : (y z : Shown) (notices : List Notice) → y.version < z.version → 0 < y.version → AreOld y.version notices → Follows (Some z) (Some y) (notices ++ Shows z ∷ [])
+pub Follows-lost : (y z : Shown) (notices : List Notice) → y.version < z.version → 0 < y.version → AreOld y.version notices
+    → Follows (Some z) (Some y) (notices ++ Shows z ∷ [])
 Follows-lost y z [] lt pos old = (omega arith, λ _ has. refl, after_shows-newer (Some y) z lt)
 Follows-lost y z (Shows x ∷ more) lt pos old =
     let kept : after_shows (Some y) x ≡ Some y = after_shows-older (Some y) x old.0 in

@@ -1,5 +1,6 @@
 -- What is pending: what it is for each service, and whose list it is of.
-use Rattle.std.proofs.Common.{◌≡◌, ℕ, ◌≤◌, Bool, true, false, cond, List, [], ◌∷◌, ◌++◌, map, filter, reverse, Option, Some, None, option_map, is_eq, Less, ◌⊎◌, inl, inr, refl, sym, ap, subst, ◌∙◌, append-nil, append_assoc, arith}
+use Rattle.std.proofs.Common.{◌≡◌, ℕ, ◌≤◌, Bool, true, false, cond, List, [], ◌∷◌, ◌++◌, map, filter, reverse, Option, Some, None}
+use Rattle.std.proofs.Common.{option_map, is_eq, Less, ◌⊎◌, inl, inr, refl, sym, ap, subst, ◌∙◌, append-nil, append_assoc, arith}
 use Rattle.std.proofs.lemmas.Grind.{reverse_onto}
 use Rattle.std.specs.List.{AllByRecursion}
 use Rattle.std.specs.List.Sorted.{IsStrictlySortedBy}
@@ -52,14 +53,16 @@ all-either false P xs ys all others = others
 pub notices_in-append : (key : Key) (xs ys : List Event) → notices_in key (xs ++ ys) ≡ notices_in key xs ++ notices_in key ys
 notices_in-append key [] ys = refl
 notices_in-append key (x ∷ xs) ys =
-    ap (λ (ns : List Notice). notices_of key x ++ ns) (notices_in-append key xs ys) ∙ sym (append_assoc (notices_of key x) (notices_in key xs) (notices_in key ys))
+    ap (λ (ns : List Notice). notices_of key x ++ ns) (notices_in-append key xs ys)
+    ∙ sym (append_assoc (notices_of key x) (notices_in key xs) (notices_in key ys))
 
 -- one event more
 pub notices_in-push : (key : Key) (xs : List Event) (x : Event) → notices_in key (xs ++ x ∷ []) ≡ notices_in key xs ++ notices_of key x
 notices_in-push key xs x = notices_in-append key xs (x ∷ []) ∙ ap (λ (ns : List Notice). notices_in key xs ++ ns) (append-nil (notices_of key x))
 
 -- one that is followed is followed in other words
-pub tracked-as : {n : ℕ} {ended : Bool} {s h : Option Shown} {claims : List Record} {notices : List Notice} (s' h' : Option Shown) (claims' : List Record) (notices' : List Notice)
+pub tracked-as : {n : ℕ} {ended : Bool} {s h : Option Shown} {claims : List Record} {notices : List Notice} (s' h' : Option Shown) (claims' : List Record)
+    (notices' : List Notice)
     → s' ≡ s → h' ≡ h → claims' ≡ claims → notices' ≡ notices → IsTracked n ended s h claims notices → IsTracked n ended s' h' claims' notices'
 tracked-as {n} {ended} {s} {h} {claims} {notices} s' h' claims' notices' a b c d t =
     subst (λ (x : Option Shown). IsTracked n ended x h' claims' notices') (sym a)
@@ -109,11 +112,13 @@ here-same key other = is_eq-key_cmp key other ∙ same_key-flip key other
 listed-object : (object : Object) (version : ℕ) (more : List Stored) (key : Key)
     → AllByRecursion (λ other. place_cmp (place_of object) other ≡ Less) (places_of more)
     → notices_in key (shows_each more) ≡ one_notice (stored_at more (service_at key))
-    → (let held : Stored = record { version = version; object = object } in notices_in key (shows_each (held ∷ more)) ≡ one_notice (stored_at (held ∷ more) (service_at key)))
+    → (let held : Stored = record { version = version; object = object } in
+    notices_in key (shows_each (held ∷ more)) ≡ one_notice (stored_at (held ∷ more) (service_at key)))
 listed-object (objects.Service service) version more key below ih =
     let held : Stored = record { version = version; object = objects.Service service } in
     listed_by (same_key service.key key) version service more key refl
-    (λ same. none-later more (service_at key) (subst (λ k. AllByRecursion (λ other. place_cmp (service_at k) other ≡ Less) (places_of more)) (same_key-is service.key key same) below)) ih
+    (λ same. none-later more (service_at key)
+    (subst (λ k. AllByRecursion (λ other. place_cmp (service_at k) other ≡ Less) (places_of more)) (same_key-is service.key key same) below)) ih
     ∙ ap (λ (b : Bool). one_notice (cond b (Some held) (stored_at more (service_at key)))) (sym (here-same key service.key))
 listed-object (objects.Pool pool) version more key below ih = ih
 listed-object (objects.L2 adv) version more key below ih = ih
@@ -172,14 +177,16 @@ of-each group (held ∷ more) = of_by (is_of_group group held) group held (filte
 pub of-listing : (order : ListOrder) (group : Group) (store : StoreValue) → AllByRecursion (IsOfGroup group) (listing order group store)
 of-listing order group store =
     let shown = map as_shown (filter (is_of_group group) store.objects) in
-    all-append (IsOfGroup group) (in_order order shown) (ListEnd group ∷ []) (all-ordered (IsOfGroup group) order shown (of-each group store.objects)) (refl, tt)
+    all-append (IsOfGroup group) (in_order order shown) (ListEnd group ∷ []) (all-ordered (IsOfGroup group) order shown (of-each group store.objects))
+    (refl, tt)
 
 typed_by : (b : Bool) (held : Stored) (rest : List Stored) → HasTerms held.object
     → AllByRecursion ShowsTerms (map as_shown rest) → AllByRecursion ShowsTerms (map as_shown (cond b (held ∷ rest) rest))
 typed_by true held rest t all = (t, all)
 typed_by false held rest t all = all
 
-typed-each : (group : Group) (held : List Stored) → AllByRecursion (λ (x : Stored). HasTerms x.object) held → AllByRecursion ShowsTerms (map as_shown (filter (is_of_group group) held))
+typed-each : (group : Group) (held : List Stored) → AllByRecursion (λ (x : Stored). HasTerms x.object) held
+    → AllByRecursion ShowsTerms (map as_shown (filter (is_of_group group) held))
 typed-each group [] all = tt
 typed-each group (held ∷ more) all = typed_by (is_of_group group held) held (filter (is_of_group group) more) all.0 (typed-each group more all.1)
 
@@ -189,7 +196,8 @@ typed-listing order group store all =
     let shown = map as_shown (filter (is_of_group group) store.objects) in
     all-append ShowsTerms (in_order order shown) (ListEnd group ∷ []) (all-ordered ShowsTerms order shown (typed-each group store.objects all)) (tt, tt)
 
-to_by : (b : Bool) (lane group : Group) (events : List Event) → (b ≡ true → group ≡ lane) → AllByRecursion (IsOfGroup group) events → AllByRecursion (IsOfGroup lane) (cond b events [])
+to_by : (b : Bool) (lane group : Group) (events : List Event) → (b ≡ true → group ≡ lane) → AllByRecursion (IsOfGroup group) events
+    → AllByRecursion (IsOfGroup lane) (cond b events [])
 to_by true lane group events same all = subst (λ g. AllByRecursion (IsOfGroup g) events) (same refl) all
 to_by false lane group events same all = tt
 
@@ -236,12 +244,14 @@ one-at-most None = inl refl
 one-at-most (Some held) = inr (Shows (stored_as held), refl)
 
 -- a list of the services shows each as it is stored, and ends
-pub notices-list : (store : StoreValue) (list : List Event) (key : Key) → IsAscending store.objects → IsListOf store list → notices_in key list ≡ listed_notices (stored_of store key)
+pub notices-list : (store : StoreValue) (list : List Event) (key : Key) → IsAscending store.objects → IsListOf store list
+    → notices_in key list ≡ listed_notices (stored_of store key)
 notices-list store list key s listed =
     ap (notices_in key) listed.1
     ∙ notices_in-push key listed.0 (ListEnd groups.Service)
     ∙ ap (λ (ns : List Notice). ns ++ End ∷ [])
-    (notices-any key (shows_each store.objects) listed.0 listed.2 (subst AtMostOne (sym (notices-shown store.objects key s)) (one-at-most (stored_at store.objects (service_at key))))
+    (notices-any key (shows_each store.objects) listed.0 listed.2
+    (subst AtMostOne (sym (notices-shown store.objects key s)) (one-at-most (stored_at store.objects (service_at key))))
     ∙ notices-shown store.objects key s)
     ∙ ended_list (stored_at store.objects (service_at key))
 

@@ -1,5 +1,6 @@
 -- The end of the list of services comes later than a change: what is followed still is.
-use Rattle.std.proofs.Common.{◌≡◌, ℕ, ◌<◌, Bool, true, false, cond, leb, eqb, List, [], ◌∷◌, ◌++◌, Option, Some, None, IfSome, refl, sym, ap, subst, ◌∙◌, append_assoc, arith, MatchBool}
+use Rattle.std.proofs.Common.{◌≡◌, ℕ, ◌<◌, Bool, true, false, cond, leb, eqb, List, [], ◌∷◌, ◌++◌, Option}
+use Rattle.std.proofs.Common.{Some, None, IfSome, refl, sym, ap, subst, ◌∙◌, append_assoc, arith, MatchBool}
 use Rattle.std.proofs.lemmas.Bool.{true≢false}
 use Rattle.std.specs.List.{AllByRecursion}
 use Rattle.kube_model.specs.declared.event.Event.{Event}
@@ -9,7 +10,8 @@ use Rattle.kube_model.specs.declared.key.Key.{Key}
 use Rattle.kube_model.specs.declared.record.Record.{Record}
 use Rattle.claim_index.specs.Claims.{claimed_by, records_of}
 use Rattle.core_rules.specs.Core.{State}
-use Rattle.world_rules.specs.Tracked.{Shown, Notice, Shows, Gone, End, version_at, IsBare, IsBehind, after_shows, after_end, is_unlisted, has_gone, IsJust, Follows, IsClaimed, WillBeClaimed, AreGiven, EndsOnce, IsTracked}
+use Rattle.world_rules.specs.Tracked.{Shown, Notice, Shows, Gone, End, version_at, IsBare, IsBehind, after_shows, after_end}
+use Rattle.world_rules.specs.Tracked.{is_unlisted, has_gone, IsJust, Follows, IsClaimed, WillBeClaimed, AreGiven, EndsOnce, IsTracked}
 use Rattle.world_rules.specs.Good.{stored_of, held_of, notices_of, notices_in, IsOfGroup, IsTrackedIn, IsFollowed, IsGood}
 use Rattle.world_rules.specs.World.{WorldValue}
 use Rattle.world_rules.proofs.Following.{eqb-apart, after_shows-newer, agrees-carried}
@@ -42,7 +44,8 @@ follows-here s h (Shows x) more once f = (
 follows-here s h Gone more once f = (f.1.0, subst (IsBehind s) (after_end-held h) f.1.1, (λ is. absurd (true≢false (sym is)), f.1.2))
 follows-here s h End more once f = absurd once
 
-claims-here : (c : Bool) (s h : Option Shown) (x : Shown) (claims : List Record) (more : List Notice) → leb x.version (version_at h) ≡ c → Follows s h (End ∷ Shows x ∷ more)
+claims-here : (c : Bool) (s h : Option Shown) (x : Shown) (claims : List Record) (more : List Notice) → leb x.version (version_at h) ≡ c
+    → Follows s h (End ∷ Shows x ∷ more)
     → IsClaimed s claims → IsClaimed s (cond c claims (claimed_by x.holding))
 claims-here true s h x claims more e f claimed = claimed
 claims-here false s h x claims more e f claimed =
@@ -67,7 +70,8 @@ once-here false Gone more once = once
 once-here false End more once = absurd once
 
 -- behind other notices
-once-later : (ended : Bool) (before : List Notice) (n : Notice) (more : List Notice) → EndsOnce ended (before ++ End ∷ n ∷ more) → EndsOnce ended (before ++ n ∷ End ∷ more)
+once-later : (ended : Bool) (before : List Notice) (n : Notice) (more : List Notice) → EndsOnce ended (before ++ End ∷ n ∷ more)
+    → EndsOnce ended (before ++ n ∷ End ∷ more)
 once-later ended [] n more once = once-here ended n more once
 once-later true (Shows x ∷ before) n more once = once-later true before n more once
 once-later false (Shows x ∷ before) n more once = once-later false before n more once
@@ -87,7 +91,8 @@ once-behind false (Gone ∷ before) later once = once-behind false before later 
 once-behind true (End ∷ before) later once = absurd once
 once-behind false (End ∷ before) later once = once-behind true before later once
 
-given-later : (low counter : ℕ) (before : List Notice) (n : Notice) (more : List Notice) → AreGiven low counter (before ++ End ∷ n ∷ more) → AreGiven low counter (before ++ n ∷ End ∷ more)
+given-later : (low counter : ℕ) (before : List Notice) (n : Notice) (more : List Notice) → AreGiven low counter (before ++ End ∷ n ∷ more)
+    → AreGiven low counter (before ++ n ∷ End ∷ more)
 given-later low counter [] n more g = given-here low counter n more g
 given-later low counter (Shows x ∷ before) n more g = (g.0, g.1, given-later x.version counter before n more g.2)
 given-later low counter (Gone ∷ before) n more g = given-later low counter before n more g
@@ -101,7 +106,8 @@ gone-later (Shows x ∷ before) n more = gone-later before n more
 gone-later (Gone ∷ before) n more = refl
 gone-later (End ∷ before) n more = gone-later before n more
 
-follows-later : (s h : Option Shown) (before : List Notice) (n : Notice) (more : List Notice) → EndsOnce true (n ∷ more) → Follows s h (before ++ End ∷ n ∷ more)
+follows-later : (s h : Option Shown) (before : List Notice) (n : Notice) (more : List Notice) → EndsOnce true (n ∷ more)
+    → Follows s h (before ++ End ∷ n ∷ more)
     → Follows s h (before ++ n ∷ End ∷ more)
 follows-later s h [] n more once f = follows-here s h n more once f
 follows-later s h (Shows x ∷ before) n more once f = (
@@ -112,7 +118,8 @@ follows-later s h (Shows x ∷ before) n more once f = (
 follows-later s h (Gone ∷ before) n more once f = (f.0, f.1, follows-later s None before n more once f.2)
 follows-later s h (End ∷ before) n more once f = (f.0, follows-later s (after_end h) before n more once f.1)
 
-claimed-later : (s h : Option Shown) (claims : List Record) (before : List Notice) (n : Notice) (more : List Notice) → EndsOnce true (n ∷ more) → Follows s h (before ++ End ∷ n ∷ more)
+claimed-later : (s h : Option Shown) (claims : List Record) (before : List Notice) (n : Notice) (more : List Notice) → EndsOnce true (n ∷ more)
+    → Follows s h (before ++ End ∷ n ∷ more)
     → WillBeClaimed s h claims (before ++ End ∷ n ∷ more) → WillBeClaimed s h claims (before ++ n ∷ End ∷ more)
 claimed-later s h claims [] n more once f w = claimed-here s h claims n more once f w
 claimed-later s h claims (Shows x ∷ before) n more once f w = claimed-later s (after_shows h x) _ before n more once f.2 w
@@ -147,7 +154,8 @@ tracked-ahead [] counter ended s h claims before more t = t
 tracked-ahead (n ∷ ns) counter ended s h claims before more t =
     let follow : List Notice → Type 0 = λ notices. IsTracked counter ended s h claims notices in
     let once : IsTracked counter ended s h claims (before ++ n ∷ End ∷ (ns ++ more)) = tracked-later counter ended s h claims before n (ns ++ more) t in
-    let ahead = tracked-ahead ns counter ended s h claims (before ++ n ∷ []) more (subst follow (sym (append_assoc before (n ∷ []) (End ∷ (ns ++ more)))) once) in
+    let ahead =
+    tracked-ahead ns counter ended s h claims (before ++ n ∷ []) more (subst follow (sym (append_assoc before (n ∷ []) (End ∷ (ns ++ more)))) once) in
     subst follow (append_assoc before (n ∷ []) (ns ++ End ∷ more)) ahead
 
 -- ---- for a world
@@ -163,16 +171,19 @@ module _ (before : List Event) (event : Event) (behind : List Event) where
       → (let v : WorldValue = record w { service_lane = late } in IsTrackedIn v s key)
   tracked-late w s key is t =
       tracked-as _ _ _ _ refl refl refl (notices_in-append key before (event ∷ ListEnd groups.Service ∷ behind))
-      (tracked-ahead (notices_of key event) w.store.counter s.held.services_ended (stored_of w.store key) (held_of s key) (records_of key s.claims) (notices_in key before) (notices_in key behind)
+      (tracked-ahead (notices_of key event) w.store.counter s.held.services_ended (stored_of w.store key) (held_of s key) (records_of key s.claims)
+      (notices_in key before) (notices_in key behind)
       (tracked-as _ _ _ _ refl refl refl (sym (ap (notices_in key) is ∙ notices_in-append key before (ListEnd groups.Service ∷ event ∷ behind))) t))
 
   of-late : AllByRecursion (IsOfGroup groups.Service) soon → AllByRecursion (IsOfGroup groups.Service) late
   of-late all =
       let rest = all-behind (IsOfGroup groups.Service) before (ListEnd groups.Service ∷ event ∷ behind) all in
-      all-append (IsOfGroup groups.Service) before (event ∷ ListEnd groups.Service ∷ behind) (all-first (IsOfGroup groups.Service) before (ListEnd groups.Service ∷ event ∷ behind) all)
+      all-append (IsOfGroup groups.Service) before (event ∷ ListEnd groups.Service ∷ behind)
+      (all-first (IsOfGroup groups.Service) before (ListEnd groups.Service ∷ event ∷ behind) all)
       (rest.1.0, (rest.0, rest.1.1))
 
-  late-by : (c : Option State) (w : WorldValue) → w.service_lane ≡ soon → IfSome c (IsFollowed w) → (let v : WorldValue = record w { service_lane = late } in IfSome c (IsFollowed v))
+  late-by : (c : Option State) (w : WorldValue) → w.service_lane ≡ soon → IfSome c (IsFollowed w)
+      → (let v : WorldValue = record w { service_lane = late } in IfSome c (IsFollowed v))
   late-by None w is up = tt
   late-by (Some s) w is up = record {
     run = up.run;

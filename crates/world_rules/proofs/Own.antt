@@ -23,7 +23,8 @@ use Rattle.status_store.specs.declared.change.Outcome.TheVariants.{Lost}
 use Rattle.status_store.specs.declared.stored.Stored.{Stored}
 use Rattle.status_store.specs.Places.{Place, place_of, service_at}
 use Rattle.status_store.specs.Objects.{stored_at, with_stored}
-use Rattle.status_store.specs.Changes.{StoreValue, empty_store, kept_record, record_of, with_record, set_as, reset_as, edited_place, edited, recorded, is_made, with_put, after_put, reply_to}
+use Rattle.status_store.specs.Changes.{StoreValue, empty_store, kept_record, record_of, with_record, set_as, reset_as}
+use Rattle.status_store.specs.Changes.{edited_place, edited, recorded, is_made, with_put, after_put, reply_to}
 use Rattle.status_store.proofs.ChangeLaws.{place_of-with_record}
 use Rattle.status_store.proofs.StoredLaws.{found-stored}
 use Rattle.core_rules.specs.Core.{State}
@@ -42,10 +43,13 @@ use Rattle.world_rules.specs.declared.step.ListOrder.TheVariants.{Ascending}
 use Rattle.world_rules.specs.declared.step.Step.TheVariants.{Edit as Edits, Take, Turn as Turns, Crash, Restart, Expire}
 use Rattle.world_rules.specs.Good.{IsOfGroup, ShowsTerms, ConfigEnds, IsFollowed, IsGood, IsOwn}
 use Rattle.world_rules.specs.Laws.{StartsAreOwn, StepsAreMoves, StepsKeepOwn, StoresHaveTerms}
-use Rattle.world_rules.specs.Moves.{Move, Sets, Deletes, Tells, Takes, Stops, Starts, ConfigExpires, ServicesExpire, IsStep, entries_taken, entries_put, entries_turned, entries_expired, after_start, relisted, but_config, begun}
+use Rattle.world_rules.specs.Moves.{Move, Sets, Deletes, Tells, Takes, Stops, Starts, ConfigExpires, ServicesExpire, IsStep}
+use Rattle.world_rules.specs.Moves.{entries_taken, entries_put, entries_turned, entries_expired, after_start, relisted, but_config, begun}
 use Rattle.world_rules.specs.Moves.{Turns as Makes}
 use Rattle.world_rules.specs.Safe.{HasTerms, SetsTerms}
-use Rattle.world_rules.specs.World.{WorldValue, as_shown, listing, shown_edit, shown_stored, shown_put, while_up, to_lane, told, untold, after_edit, after_take, turned, after_turning, next_put, reached, after_crash, restarted, expired_core, listed_anew, after_expiry, store_of, with_object, records_store}
+use Rattle.world_rules.specs.World.{WorldValue, as_shown, listing, shown_edit, shown_stored, shown_put, while_up, to_lane, told}
+use Rattle.world_rules.specs.World.{untold, after_edit, after_take, turned, after_turning, next_put, reached, after_crash}
+use Rattle.world_rules.specs.World.{restarted, expired_core, listed_anew, after_expiry, store_of, with_object, records_store}
 use Rattle.world_rules.proofs.ConfigEnds.{ends-edited, ends-taken, config-ended, config-unended, ends-listing, ends-expired}
 use Rattle.world_rules.proofs.Lanes.{all-append, all-either, of-lane, all-lane, of-listing, typed-listing, listing-list}
 use Rattle.world_rules.proofs.Worlds.{starts_are_good, good-else}
@@ -56,11 +60,13 @@ abbrev Typed : Key → Service → Type 0
 Typed key service = AreTerms (terms_of service)
 
 shown-typed : (event : Event) → ShowsTerms event → OfEffect Typed (effect_of event)
-shown-typed = by_effect (λ event c. ShowsTerms event → OfEffect Typed c) (λ version service t. t) (λ key t. tt) (λ t. tt) (λ event c t. tt) (λ t. tt) (λ event t. tt)
+shown-typed =
+    by_effect (λ event c. ShowsTerms event → OfEffect Typed c) (λ version service t. t) (λ key t. tt) (λ t. tt) (λ event c t. tt) (λ t. tt) (λ event t. tt)
 
 -- no event of the configuration shows a service
 config-typed : (event : Event) → IsOfGroup groups.Config event → OfEffect Typed (effect_of event)
-config-typed = by_effect (λ event c. IsOfGroup groups.Config event → OfEffect Typed c) (λ version service of. absurd (cc)) (λ key of. tt) (λ of. tt) (λ event c of. tt) (λ of. tt) (λ event of. tt)
+config-typed = by_effect (λ event c. IsOfGroup groups.Config event → OfEffect Typed c) (λ version service of. absurd (cc)) (λ key of. tt) (λ of. tt)
+    (λ event c of. tt) (λ of. tt) (λ event of. tt)
 
 taken-typed : (c : Option State) (lane : List Event) → AllByRecursion ShowsTerms lane → AllShowTerms (entries_taken c lane)
 taken-typed None lane all = tt
@@ -80,13 +86,17 @@ expired_core-typed None group = tt
 expired_core-typed (Some s) group = (tt, tt)
 
 -- ---- steps are moves
-config_taken : (class : Option (List ℕ)) (store : StoreValue) (config services : List Event) (c : Option State) → c ≢ None → config ≢ [] → AllByRecursion (IsOfGroup groups.Config) config
-    → (let w : WorldValue = record { class = class; store = store; config_lane = config; service_lane = services; core = c } in (move : Move) × IsStep w move (after_take groups.Config w))
+config_taken : (class : Option (List ℕ)) (store : StoreValue) (config services : List Event) (c : Option State) → c ≢ None → config ≢ []
+    → AllByRecursion (IsOfGroup groups.Config) config
+    → (let w : WorldValue = record { class = class; store = store; config_lane = config; service_lane = services; core = c } in
+    (move : Move) × IsStep w move (after_take groups.Config w))
 config_taken class store [] services c up some all = absurd (some refl)
 config_taken class store (event ∷ lane) services None up some all = absurd (up refl)
-config_taken class store (event ∷ lane) services (Some s) up some all = (Tells event, record { may = all.0; typed = (config-typed event all.0, tt); leads = refl })
+config_taken class store (event ∷ lane) services (Some s) up some all =
+    (Tells event, record { may = all.0; typed = (config-typed event all.0, tt); leads = refl })
 
-restart_leads : (order : ListOrder) (c : Option State) (w : WorldValue) → but_config (restarted order c w) ≡ but_config (after_start c (listing order groups.Service w.store) w)
+restart_leads : (order : ListOrder) (c : Option State) (w : WorldValue)
+    → but_config (restarted order c w) ≡ but_config (after_start c (listing order groups.Service w.store) w)
 restart_leads order None w = refl
 restart_leads order (Some s) w = refl
 
@@ -104,7 +114,9 @@ config_leads order None w = refl
 config_leads order (Some s) w = refl
 
 services_lead : (order : ListOrder) (c : Option State) (w : WorldValue)
-    → (let v : WorldValue = record w { service_lane = relisted c (listing order groups.Service w.store) w.service_lane; core = expired_core groups.Service c } in but_config (expired_by groups.Service order c w) ≡ but_config v)
+    → (let v : WorldValue =
+    record w { service_lane = relisted c (listing order groups.Service w.store) w.service_lane; core = expired_core groups.Service c } in
+    but_config (expired_by groups.Service order c w) ≡ but_config v)
 services_lead order None w = refl
 services_lead order (Some s) w = refl
 
@@ -148,7 +160,8 @@ steps_are_moves w (Turns outcome) enabled own = (Makes outcome, record { may = t
 steps_are_moves w (Crash applied) enabled own = (Stops applied, record { may = tt; typed = tt; leads = refl })
 steps_are_moves w (Restart order) enabled own =
     (Starts (listing order groups.Service w.store), record { may = listing-list order w.store; typed = tt; leads = restart_leads order w.core w })
-steps_are_moves w (Expire groups.Config order) enabled own = (ConfigExpires, record { may = tt; typed = expired_core-typed w.core groups.Config; leads = config_leads order w.core w })
+steps_are_moves w (Expire groups.Config order) enabled own =
+    (ConfigExpires, record { may = tt; typed = expired_core-typed w.core groups.Config; leads = config_leads order w.core w })
 steps_are_moves w (Expire groups.Service order) enabled own = (
   ServicesExpire (listing order groups.Service w.store),
   record { may = listing-list order w.store; typed = expired_core-typed w.core groups.Service; leads = services_lead order w.core w },
@@ -157,14 +170,16 @@ steps_are_moves w (Expire groups.Endpoint order) enabled own = absurd (enabled.1
 
 -- ---- an edit
 typed-edited : (edit : Edit) (store : StoreValue) → SetsTerms edit → AreTyped store.objects → AreTyped (edited edit store).objects
-typed-edited (Set object) store t all = typed-with_stored store.objects (set_as store object) (typed-record (kept_record (stored_at store.objects (place_of object))) object t) all
+typed-edited (Set object) store t all =
+    typed-with_stored store.objects (set_as store object) (typed-record (kept_record (stored_at store.objects (place_of object))) object t) all
 typed-edited (Reset object) store t all = typed-with_stored store.objects (reset_as store object) t all
 typed-edited (Delete kind key) store t all = typed-without_stored store.objects (kind, key) all
 
 edit-of : (edit : Edit) (store : StoreValue) → AllByRecursion (IsOfGroup (group_of (edited_place edit).0)) (shown_edit edit store)
 edit-of (Set object) store = (ap (λ (p : Place). group_of p.0) (place_of-with_record (kept_record (stored_at store.objects (place_of object))) object), tt)
 edit-of (Reset object) store = (refl, tt)
-edit-of (Delete kind gone) store = all-either (is_some (stored_at store.objects (kind, gone))) (IsOfGroup (group_of kind)) (Deleted kind gone ∷ []) [] (refl, tt) tt
+edit-of (Delete kind gone) store =
+    all-either (is_some (stored_at store.objects (kind, gone))) (IsOfGroup (group_of kind)) (Deleted kind gone ∷ []) [] (refl, tt) tt
 
 edit-typed : (edit : Edit) (store : StoreValue) → SetsTerms edit → AllByRecursion ShowsTerms (shown_edit edit store)
 edit-typed (Set object) store t = (typed-record (kept_record (stored_at store.objects (place_of object))) object t, tt)
@@ -203,9 +218,11 @@ config_ends_by : (c : Option State) (lane : List Event) → AllByRecursion (IsOf
     → IfSome (told c lane) (λ s. ConfigEnds s.held.config_ended (untold c lane))
 config_ends_by None lane of ends = tt
 config_ends_by (Some s) [] of ends = ends
-config_ends_by (Some s) (event ∷ lane) of ends = subst (λ (b : Bool). ConfigEnds b lane) (sym (config-ended s event of.0)) (ends-taken s.held.config_ended event lane of.0 ends)
+config_ends_by (Some s) (event ∷ lane) of ends =
+    subst (λ (b : Bool). ConfigEnds b lane) (sym (config-ended s event of.0)) (ends-taken s.held.config_ended event lane of.0 ends)
 
-service_ends_by : (c : Option State) (lane config : List Event) → IfSome c (λ s. AllByRecursion (IsOfGroup groups.Service) lane) → IfSome c (λ s. ConfigEnds s.held.config_ended config)
+service_ends_by : (c : Option State) (lane config : List Event) → IfSome c (λ s. AllByRecursion (IsOfGroup groups.Service) lane)
+    → IfSome c (λ s. ConfigEnds s.held.config_ended config)
     → IfSome (told c lane) (λ s. ConfigEnds s.held.config_ended config)
 service_ends_by None lane config of ends = tt
 service_ends_by (Some s) [] config of ends = ends
@@ -231,13 +248,15 @@ own-take groups.Service w good own = record {
 own-take groups.Endpoint w good own = own
 
 -- ---- a turn, and a crash
-put_typed_by : (b : Bool) (put : Put) (found : Option Stored) (store : StoreValue) → stored_at store.objects (service_at put.key) ≡ found → AreTyped store.objects
+put_typed_by : (b : Bool) (put : Put) (found : Option Stored) (store : StoreValue) → stored_at store.objects (service_at put.key) ≡ found
+    → AreTyped store.objects
     → AreTyped (cond b (with_put (store.counter + 1) put found store.objects) store.objects)
 put_typed_by false put found store is all = all
 put_typed_by true put None store is all = all
 put_typed_by true put (Some held) store is all =
     typed-with_stored store.objects (recorded (store.counter + 1) put.holding held)
-    (typed-record put.holding held.object (all-at (λ (x : Stored). HasTerms x.object) store.objects held all (found-stored store.objects (service_at put.key) held is).0)) all
+    (typed-record put.holding held.object
+    (all-at (λ (x : Stored). HasTerms x.object) store.objects held all (found-stored store.objects (service_at put.key) held is).0)) all
 
 typed-put : (put : Put) (outcome : Outcome) (store : StoreValue) → AreTyped store.objects → AreTyped (after_put put outcome store).objects
 typed-put put outcome store all = put_typed_by (is_made put outcome store.objects) put (stored_at store.objects (service_at put.key)) store refl all
@@ -246,7 +265,8 @@ stored_typed : (found : Option Stored) → ((held : Stored) → found ≡ Some h
 stored_typed None at = tt
 stored_typed (Some held) at = (at held refl, tt)
 
-put-typed : (put : Put) (outcome : Outcome) (store : StoreValue) → AreTyped (after_put put outcome store).objects → AllByRecursion ShowsTerms (shown_put put outcome store)
+put-typed : (put : Put) (outcome : Outcome) (store : StoreValue) → AreTyped (after_put put outcome store).objects
+    → AllByRecursion ShowsTerms (shown_put put outcome store)
 put-typed put outcome store typed =
     let objects = (after_put put outcome store).objects in
     all-either (is_made put outcome store.objects) ShowsTerms (shown_stored (stored_at objects (service_at put.key))) []
@@ -254,14 +274,16 @@ put-typed put outcome store typed =
     (λ held e. all-at (λ (x : Stored). HasTerms x.object) objects held typed (found-stored objects (service_at put.key) held e).0)) tt
 
 -- a reply leaves the list as it was
-reply_ends : (o : Option Put) (s : State) (reply : PutReply) (lane : List Event) → ConfigEnds s.held.config_ended lane → ConfigEnds (replied_to o s reply).held.config_ended lane
+reply_ends : (o : Option Put) (s : State) (reply : PutReply) (lane : List Event) → ConfigEnds s.held.config_ended lane
+    → ConfigEnds (replied_to o s reply).held.config_ended lane
 reply_ends None s reply lane ends = ends
 reply_ends (Some put) s (replies.Ok version) lane ends = ends
 reply_ends (Some put) s replies.Stale lane ends = ends
 reply_ends (Some put) s replies.Missing lane ends = ends
 reply_ends (Some put) s replies.Unknown lane ends = ends
 
-turned_own : (found : Option Put) (w : WorldValue) (s : State) (outcome : Outcome) → ConfigEnds s.held.config_ended w.config_lane → IsOwn w → IsOwn (turned (after_turn s) found outcome w)
+turned_own : (found : Option Put) (w : WorldValue) (s : State) (outcome : Outcome) → ConfigEnds s.held.config_ended w.config_lane → IsOwn w
+    → IsOwn (turned (after_turn s) found outcome w)
 turned_own None w s outcome ends own = record { stored_typed = own.stored_typed; pending_typed = own.pending_typed; config = own.config; config_ends = ends }
 turned_own (Some put) w s outcome ends own =
     let typed : AreTyped (after_put put outcome w.store).objects = typed-put put outcome w.store own.stored_typed in
@@ -272,7 +294,8 @@ turned_own (Some put) w s outcome ends own =
       config_ends = reply_ends (after_turn s).out (after_turn s) (reply_to put outcome w.store) w.config_lane ends;
     }
 
-turning_own : (c : Option State) (w : WorldValue) (outcome : Outcome) → IfSome c (λ s. ConfigEnds s.held.config_ended w.config_lane) → IsOwn w → IsOwn (after_turning c outcome w)
+turning_own : (c : Option State) (w : WorldValue) (outcome : Outcome) → IfSome c (λ s. ConfigEnds s.held.config_ended w.config_lane) → IsOwn w
+    → IsOwn (after_turning c outcome w)
 turning_own None w outcome ends own = own
 turning_own (Some s) w outcome ends own = turned_own (put_in (core_turn s)) w s outcome ends own
 
@@ -281,7 +304,8 @@ reached_typed None applied store all = all
 reached_typed (Some put) applied store all = typed-put put (Lost applied) store all
 
 own-crash : (applied : Bool) (w : WorldValue) → IsOwn w → IsOwn (after_crash applied w)
-own-crash applied w own = record { stored_typed = reached_typed (next_put w.core) applied w.store own.stored_typed; pending_typed = tt; config = tt; config_ends = tt }
+own-crash applied w own =
+    record { stored_typed = reached_typed (next_put w.core) applied w.store own.stored_typed; pending_typed = tt; config = tt; config_ends = tt }
 
 -- ---- lists
 restart_own : (order : ListOrder) (c : Option State) (w : WorldValue) → IsOwn w → IsOwn (restarted order c w)
@@ -293,12 +317,14 @@ restart_own order None w own = record {
 }
 restart_own order (Some s) w own = own
 
-anew-all : (P : Event → Type 0) (order : ListOrder) (lane group : Group) (store : StoreValue) (c : Option State) (pending : List Event) → AllByRecursion P (listing order lane store) → AllByRecursion P pending
+anew-all : (P : Event → Type 0) (order : ListOrder) (lane group : Group) (store : StoreValue) (c : Option State) (pending : List Event)
+    → AllByRecursion P (listing order lane store) → AllByRecursion P pending
     → AllByRecursion P (listed_anew order lane group store c pending)
 anew-all P order lane group store None pending list all = all
 anew-all P order lane group store (Some s) pending list all = all-either (same_group group lane) P (listing order lane store) pending list all
 
-expiry_ends : (order : ListOrder) (c : Option State) (group : Group) (store : StoreValue) (lane : List Event) → IfSome c (λ s. ConfigEnds s.held.config_ended lane)
+expiry_ends : (order : ListOrder) (c : Option State) (group : Group) (store : StoreValue) (lane : List Event)
+    → IfSome c (λ s. ConfigEnds s.held.config_ended lane)
     → IfSome (expired_core group c) (λ s. ConfigEnds s.held.config_ended (listed_anew order groups.Config group store c lane))
 expiry_ends order None group store lane ends = tt
 expiry_ends order (Some s) group store lane ends = ends-expired (same_group group groups.Config) s.held.config_ended order store lane ends
@@ -306,7 +332,8 @@ expiry_ends order (Some s) group store lane ends = ends-expired (same_group grou
 own-expiry : (group : Group) (order : ListOrder) (w : WorldValue) → IsOwn w → IsOwn (after_expiry group order w)
 own-expiry group order w own = record {
   stored_typed = own.stored_typed;
-  pending_typed = anew-all ShowsTerms order groups.Service group w.store w.core w.service_lane (typed-listing order groups.Service w.store own.stored_typed) own.pending_typed;
+  pending_typed = anew-all ShowsTerms order groups.Service group w.store w.core w.service_lane (typed-listing order groups.Service w.store own.stored_typed)
+      own.pending_typed;
   config = anew-all (IsOfGroup groups.Config) order groups.Config group w.store w.core w.config_lane (of-listing order groups.Config w.store) own.config;
   config_ends = expiry_ends order w.core group w.store w.config_lane own.config_ends;
 }

@@ -1,5 +1,6 @@
 -- What holds of a world row by row, from what holds of each service.
-use Rattle.std.proofs.Common.{◌≡◌, ◌≢◌, ℕ, ◌<◌, Bool, true, false, cond, List, [], ◌∷◌, ◌++◌, Option, Some, None, ◌⊎◌, inl, inr, ⊎_elim, option_map, refl, sym, ap, subst, ◌∙◌, arith, MatchBool, IfSome}
+use Rattle.std.proofs.Common.{◌≡◌, ◌≢◌, ℕ, ◌<◌, Bool, true, false, cond, List, [], ◌∷◌, ◌++◌, Option, Some, None}
+use Rattle.std.proofs.Common.{◌⊎◌, inl, inr, ⊎_elim, option_map, refl, sym, ap, subst, ◌∙◌, arith, MatchBool, IfSome}
 use Rattle.std.specs.List.{Contains}
 use Rattle.std.proofs.lemmas.Bool.{true≢false}
 use Rattle.mlb_base.proofs.Among.{contains-none, contains-cons, contains-later, contains-first}
@@ -26,15 +27,20 @@ use Rattle.core_laws.specs.Queue.{IsOrderlyQueue}
 use Rattle.core_laws.specs.Quiet.{IsQuiet}
 use Rattle.core_laws.proofs.Queued.{queues_are_orderly}
 use Rattle.core_laws.proofs.QuietRuns.{runs_are_quiet}
-use Rattle.world_rules.specs.Tracked.{Shown, Notice, Shows, Gone, End, version_at, IsBare, has_gone, IsJust, IsCarried, Follows, IsClaimed, WillBeClaimed, EndsOnce, IsTracked}
-use Rattle.world_rules.specs.Good.{ends_config, NoneEnds, OneEnds, ConfigEnds, stored_as, stored_of, held_as, held_of, notices_of, notices_in, IsFollowed, IsGoodStore}
-use Rattle.world_rules.specs.Invariant.{IsHeld, IsPending, shows_service, deletes_service, ends_services, IsNewer, IsBareIn, IsAsShown, IsLive, AreCounted, StoredAreClaimed, WillBeShown, StoredAreListed, HeldAreCurrent, LiveAreStored, DeletedAreBare, HeldAreClaimed, IsQuiescent, AreInOrder, WillBeShownAt, UnheldAreShown, EndsOnceIn, WillBeListed, UnlistedAreShown, IsInOrder}
+use Rattle.world_rules.specs.Tracked.{Shown, Notice, Shows, Gone, End, version_at, IsBare, has_gone, IsJust}
+use Rattle.world_rules.specs.Tracked.{IsCarried, Follows, IsClaimed, WillBeClaimed, EndsOnce, IsTracked}
+use Rattle.world_rules.specs.Good.{ends_config, NoneEnds, OneEnds, ConfigEnds, stored_as, stored_of, held_as}
+use Rattle.world_rules.specs.Good.{held_of, notices_of, notices_in, IsFollowed, IsGoodStore}
+use Rattle.world_rules.specs.Invariant.{IsHeld, IsPending, shows_service, deletes_service, ends_services, IsNewer, IsBareIn, IsAsShown, IsLive, AreCounted}
+use Rattle.world_rules.specs.Invariant.{StoredAreClaimed, WillBeShown, StoredAreListed, HeldAreCurrent, LiveAreStored, DeletedAreBare, HeldAreClaimed}
+use Rattle.world_rules.specs.Invariant.{IsQuiescent, AreInOrder, WillBeShownAt, UnheldAreShown, EndsOnceIn, WillBeListed, UnlistedAreShown, IsInOrder}
 use Rattle.world_rules.specs.Laws.{WorldsAreInOrder, OwnEndsOnce}
 use Rattle.world_rules.specs.Safe.{IsRecorded}
 use Rattle.world_rules.specs.World.{WorldValue}
 use Rattle.world_rules.proofs.Lanes.{notices_in-append}
 use Rattle.world_rules.proofs.Following.{Follows-old}
-use Rattle.world_rules.proofs.Rows.{has_end, held-up_to, pending-up_to, gone-bare, pending-behind, given-above, old-shows, current-stays, live-carried, IsListed, claimed-or-listed, IsComing, IsHeldAt, held-or-coming, IsBeforeEnd, unlisted-shown}
+use Rattle.world_rules.proofs.Rows.{has_end, held-up_to, pending-up_to, gone-bare, pending-behind, given-above, old-shows, current-stays}
+use Rattle.world_rules.proofs.Rows.{live-carried, IsListed, claimed-or-listed, IsComing, IsHeldAt, held-or-coming, IsBeforeEnd, unlisted-shown}
 use Rattle.world_rules.proofs.ClaimRecords.{records-there}
 use Rattle.core_laws.specs.Claimed.{IsClaimedAs}
 use Rattle.core_laws.proofs.Claimed.{services_are_claimed}
@@ -83,7 +89,8 @@ one-shown false key version service e = nothing key (shows_service version servi
 one-deleted : (b : Bool) (key other : Key) → b ≡ same_key other key → IsOne key (deletes_service other)
 one-deleted true key other e = inr (inl (record { is = ap deletes_service (same_key-is other key (sym e)); notices = rw (← e) refl }))
 one-deleted false key other e =
-    nothing key (deletes_service other) (λ same. let is : other ≡ key = cc same in true≢false (sym (same_key-by other key is) ∙ sym e)) (λ no. absurd (cc no)) (rw (← e) refl)
+    nothing key (deletes_service other) (λ same. let is : other ≡ key = cc same in true≢false (sym (same_key-by other key is) ∙ sym e)) (λ no. absurd (cc no))
+    (rw (← e) refl)
 
 pub one-is : (key : Key) (event : Event) → IsOne key event
 one-is key (Changed version (objects.Service service)) = one-shown (same_key service.key key) key version service refl
@@ -91,8 +98,10 @@ one-is key (Changed version (objects.Pool pool)) = nothing key (Changed version 
 one-is key (Changed version (objects.L2 adv)) = nothing key (Changed version (objects.L2 adv)) (λ no. absurd (cc no)) (λ no. absurd (cc no)) refl
 one-is key (Changed version (objects.Bgp adv)) = nothing key (Changed version (objects.Bgp adv)) (λ no. absurd (cc no)) (λ no. absurd (cc no)) refl
 one-is key (Changed version (objects.Peer peer)) = nothing key (Changed version (objects.Peer peer)) (λ no. absurd (cc no)) (λ no. absurd (cc no)) refl
-one-is key (Changed version (objects.Community community)) = nothing key (Changed version (objects.Community community)) (λ no. absurd (cc no)) (λ no. absurd (cc no)) refl
-one-is key (Changed version (objects.Namespace namespace)) = nothing key (Changed version (objects.Namespace namespace)) (λ no. absurd (cc no)) (λ no. absurd (cc no)) refl
+one-is key (Changed version (objects.Community community)) =
+    nothing key (Changed version (objects.Community community)) (λ no. absurd (cc no)) (λ no. absurd (cc no)) refl
+one-is key (Changed version (objects.Namespace namespace)) =
+    nothing key (Changed version (objects.Namespace namespace)) (λ no. absurd (cc no)) (λ no. absurd (cc no)) refl
 one-is key (Changed version (objects.Node node)) = nothing key (Changed version (objects.Node node)) (λ no. absurd (cc no)) (λ no. absurd (cc no)) refl
 one-is key (Changed version (objects.Slice slice)) = nothing key (Changed version (objects.Slice slice)) (λ no. absurd (cc no)) (λ no. absurd (cc no)) refl
 one-is key (Deleted kinds.Service other) = one-deleted (same_key other key) key other refl
@@ -123,12 +132,14 @@ notices-shows key version service before behind e =
     notices_in-append key before (shows_service version service ∷ behind)
     ∙ ap (λ b. notices_in key before ++ (cond b (Shows (as_notices version service) ∷ []) [] ++ notices_in key behind)) (same_key-by service.key key e)
 
-notices-gone : (key : Key) (before behind : List Event) → notices_in key (before ++ deletes_service key ∷ behind) ≡ notices_in key before ++ Gone ∷ notices_in key behind
+notices-gone : (key : Key) (before behind : List Event)
+    → notices_in key (before ++ deletes_service key ∷ behind) ≡ notices_in key before ++ Gone ∷ notices_in key behind
 notices-gone key before behind =
     notices_in-append key before (deletes_service key ∷ behind)
     ∙ ap (λ b. notices_in key before ++ (cond b (Gone ∷ []) [] ++ notices_in key behind)) (same_key-itself key)
 
-notices-ends : (key : Key) (before behind : List Event) → notices_in key (before ++ ends_services ∷ behind) ≡ notices_in key before ++ End ∷ notices_in key behind
+notices-ends : (key : Key) (before behind : List Event)
+    → notices_in key (before ++ ends_services ∷ behind) ≡ notices_in key before ++ End ∷ notices_in key behind
 notices-ends key before behind = notices_in-append key before (ends_services ∷ behind)
 
 -- Where a notice shows the service, an event does.
@@ -141,7 +152,8 @@ pub record StandsIn (key : Key) (lane : List Event) (x : Shown) (behind : List N
   pub holding : service.holding ≡ x.holding
   pub later_is : notices_in key later ≡ behind
 
-stands-behind : (key : Key) (event : Event) (lane : List Event) (x : Shown) (behind : List Notice) → StandsIn key lane x behind → StandsIn key (event ∷ lane) x behind
+stands-behind : (key : Key) (event : Event) (lane : List Event) (x : Shown) (behind : List Notice) → StandsIn key lane x behind
+    → StandsIn key (event ∷ lane) x behind
 stands-behind key event lane x behind st =
     record {
       earlier = event ∷ st.earlier;
@@ -153,7 +165,8 @@ stands-behind key event lane x behind st =
       later_is = st.later_is;
     }
 
-same-shown : (version : ℕ) (service : Service) (x : Shown) (event : Event) → event ≡ shows_service version service → as_notices version service ≡ x → event ≡ shows_service x.version service
+same-shown : (version : ℕ) (service : Service) (x : Shown) (event : Event) → event ≡ shows_service version service → as_notices version service ≡ x
+    → event ≡ shows_service x.version service
 same-shown version service x event is e = is ∙ ap (λ (y : Shown). shows_service y.version service) e
 
 -- one notice first
@@ -180,17 +193,22 @@ no-shown : (n : Notice) → ((y : Shown) → n ≡ Shows y → ⊥) → (key : K
     → (service : Service) × (event ≡ shows_service y.version service) × (service.key ≡ key) × (service.holding ≡ y.holding)
 no-shown n not key event y e = absurd (not y e)
 
-pub stands-in : (key : Key) (lane : List Event) (before : List Notice) (x : Shown) (behind : List Notice) → notices_in key lane ≡ before ++ Shows x ∷ behind → StandsIn key lane x behind
+pub stands-in : (key : Key) (lane : List Event) (before : List Notice) (x : Shown) (behind : List Notice) → notices_in key lane ≡ before ++ Shows x ∷ behind
+    → StandsIn key lane x behind
 stands-in key [] [] x behind e = absurd (cc)
 stands-in key [] (m ∷ before) x behind e = absurd (cc)
 stands-in key (event ∷ lane) before x behind e =
-    let ih : (rest : List Notice) → notices_in key lane ≡ rest ++ Shows x ∷ behind → StandsIn key lane x behind = λ rest is. stands-in key lane rest x behind is in
+    let ih : (rest : List Notice) → notices_in key lane ≡ rest ++ Shows x ∷ behind → StandsIn key lane x behind =
+    λ rest is. stands-in key lane rest x behind is in
     ⊎_elim
-    (λ s. first-stands key event lane (Shows (as_notices s.version s.service)) before x behind (shown-is key event s) (ap (λ (ns : List Notice). ns ++ notices_in key lane) (sym s.notices) ∙ e) ih)
+    (λ s. first-stands key event lane (Shows (as_notices s.version s.service)) before x behind (shown-is key event s)
+    (ap (λ (ns : List Notice). ns ++ notices_in key lane) (sym s.notices) ∙ e) ih)
     (λ rest. ⊎_elim
-    (λ d. first-stands key event lane Gone before x behind (no-shown Gone (λ y no. absurd (cc no)) key event) (ap (λ (ns : List Notice). ns ++ notices_in key lane) (sym d.notices) ∙ e) ih)
+    (λ d. first-stands key event lane Gone before x behind (no-shown Gone (λ y no. absurd (cc no)) key event)
+    (ap (λ (ns : List Notice). ns ++ notices_in key lane) (sym d.notices) ∙ e) ih)
     (λ more. ⊎_elim
-    (λ d. first-stands key event lane End before x behind (no-shown End (λ y no. absurd (cc no)) key event) (ap (λ (ns : List Notice). ns ++ notices_in key lane) (sym d.notices) ∙ e) ih)
+    (λ d. first-stands key event lane End before x behind (no-shown End (λ y no. absurd (cc no)) key event)
+    (ap (λ (ns : List Notice). ns ++ notices_in key lane) (sym d.notices) ∙ e) ih)
     (λ o. stands-behind key event lane x behind (ih before (ap (λ (ns : List Notice). ns ++ notices_in key lane) (sym o.notices) ∙ e)))
     more)
     rest)
@@ -232,7 +250,8 @@ contains-is event x lane is = subst (λ (y : Event). Contains (event ∷ lane) y
 pub there-gone : (key : Key) (lane : List Event) → has_gone (notices_in key lane) ≡ true → Contains lane (deletes_service key)
 there-gone key [] e = absurd (cc)
 there-gone key (event ∷ lane) e =
-    let later : has_gone (notices_in key lane) ≡ true → Contains (event ∷ lane) (deletes_service key) = λ f. contains-later event lane (deletes_service key) (there-gone key lane f) in
+    let later : has_gone (notices_in key lane) ≡ true → Contains (event ∷ lane) (deletes_service key) =
+    λ f. contains-later event lane (deletes_service key) (there-gone key lane f) in
     ⊎_elim
     (λ s. later (sym (ap (λ (ns : List Notice). has_gone (ns ++ notices_in key lane)) s.notices) ∙ e))
     (λ rest. ⊎_elim
@@ -247,7 +266,8 @@ there-gone key (event ∷ lane) e =
 pub there-end : (key : Key) (lane : List Event) → has_end (notices_in key lane) ≡ true → Contains lane ends_services
 there-end key [] e = absurd (cc)
 there-end key (event ∷ lane) e =
-    let later : has_end (notices_in key lane) ≡ true → Contains (event ∷ lane) ends_services = λ f. contains-later event lane ends_services (there-end key lane f) in
+    let later : has_end (notices_in key lane) ≡ true → Contains (event ∷ lane) ends_services =
+    λ f. contains-later event lane ends_services (there-end key lane f) in
     ⊎_elim
     (λ s. later (sym (ap (λ (ns : List Notice). has_end (ns ++ notices_in key lane)) s.notices) ∙ e))
     (λ rest. ⊎_elim
@@ -364,7 +384,8 @@ module _ (w : WorldValue) (s : State) (stored : IsGoodStore w.store) (up : IsFol
           let same : stored_as held ≡ x = cc in
           (held, found-stored w.store.objects (service_at key) held f, ap (λ (y : Shown). y.holding) same)
 
-  tracked-at : (key : Key) (x : Shown) → stored_of w.store key ≡ Some x → IsTracked w.store.counter s.held.services_ended (Some x) (held_of s key) (records_of key s.claims) (notices_in key w.service_lane)
+  tracked-at : (key : Key) (x : Shown) → stored_of w.store key ≡ Some x
+      → IsTracked w.store.counter s.held.services_ended (Some x) (held_of s key) (records_of key s.claims) (notices_in key w.service_lane)
   tracked-at key x e = rw e at (up.tracked key)
 
   stored_claimed : StoredAreClaimed w s
@@ -393,7 +414,8 @@ module _ (w : WorldValue) (s : State) (stored : IsGoodStore w.store) (up : IsFol
   stored_listed unended key r rec has =
       let x = recorded-at key r rec in
       let t = tracked-at key x.0 x.1 in
-      let will : WillBeClaimed (Some x.0) (held_of s key) (records_of key s.claims) (notices_in key w.service_lane) = match-false _ _ s.held.services_ended unended t.claimed in
+      let will : WillBeClaimed (Some x.0) (held_of s key) (records_of key s.claims) (notices_in key w.service_lane) =
+      match-false _ _ s.held.services_ended unended t.claimed in
       let ends : EndsOnce false (notices_in key w.service_lane) = subst (λ b. EndsOnce b (notices_in key w.service_lane)) unended t.ends in
       ⊎_elim
       (λ there. inl (subst (λ (q : Record). Contains (records_of key s.claims) q) x.2 there))
@@ -412,10 +434,12 @@ module _ (w : WorldValue) (s : State) (stored : IsGoodStore w.store) (up : IsFol
       record {
         same = ap (λ (x : Shown). x.holding) old.1;
         none_newer = λ before behind version service pending of_key.
-            (let le = old-shows (notices_in key before) (notices_in key behind) st.version (as_notices version service) (rw (pending, notices-shows key version service before behind of_key) at old.0) in
+            (let le = old-shows (notices_in key before) (notices_in key behind) st.version (as_notices version service)
+            (rw (pending, notices-shows key version service before behind of_key) at old.0) in
             omega (arith, le, same));
         no_deletion = λ before behind pending.
-            true-false (has_gone (notices_in key w.service_lane)) (ap (λ (lane : List Event). has_gone (notices_in key lane)) pending ∙ ap has_gone (notices-gone key before behind) ∙ gone-over (notices_in key before) (Gone ∷ notices_in key behind) refl) stays;
+            true-false (has_gone (notices_in key w.service_lane)) (ap (λ (lane : List Event). has_gone (notices_in key lane)) pending
+            ∙ ap has_gone (notices-gone key before behind) ∙ gone-over (notices_in key before) (Gone ∷ notices_in key behind) refl) stays;
       }
 
   -- what is pending of a service is in its notices
@@ -423,7 +447,8 @@ module _ (w : WorldValue) (s : State) (stored : IsGoodStore w.store) (up : IsFol
       → notices_in service.key w.service_lane ≡ notices_in service.key before ++ Shows (as_notices version service) ∷ notices_in service.key behind
   split before behind version service pending = ap (notices_in service.key) pending ∙ notices-shows service.key version service before behind refl
 
-  carried-at : (before behind : List Event) (version : ℕ) (service : Service) → IsPending w before (shows_service version service) behind → IsLive s before version service.key
+  carried-at : (before behind : List Event) (version : ℕ) (service : Service) → IsPending w before (shows_service version service) behind
+      → IsLive s before version service.key
       → IsCarried (stored_of w.store service.key) service.holding (notices_in service.key behind)
   carried-at before behind version service pending live =
       let t = up.tracked service.key in
@@ -431,19 +456,24 @@ module _ (w : WorldValue) (s : State) (stored : IsGoodStore w.store) (up : IsFol
       let given = rw is at t.notices_given in
       let follows = rw is at t.follows in
       let above = (given-above (notices_in service.key before) (notices_in service.key behind) 0 w.store.counter (as_notices version service) given).0 in
-      live-carried (notices_in service.key before) (notices_in service.key behind) 0 w.store.counter (stored_of w.store service.key) (held_of s service.key) (as_notices version service) follows given
+      live-carried (notices_in service.key before) (notices_in service.key behind) 0 w.store.counter (stored_of w.store service.key) (held_of s service.key)
+      (as_notices version service) follows given
       (⊎_elim (λ newer. inl (newer-at service.key version newer above)) (λ gone. inr (gone-there service.key before gone)) live)
 
-  just-recorded : (b : Bool) (key : Key) (r : Record) (o : Option Shown) → stored_of w.store key ≡ o → b ≡ false → MatchBool b (IsBare o) (IsJust o r) → IsAsShown w.store key r
+  just-recorded : (b : Bool) (key : Key) (r : Record) (o : Option Shown) → stored_of w.store key ≡ o → b ≡ false → MatchBool b (IsBare o) (IsJust o r)
+      → IsAsShown w.store key r
   just-recorded true key r o e f c = absurd (cc)
   just-recorded false key r None e f c = absurd c
   just-recorded false key r (Some x) e f c = (x.holding, record-stored key x e, c)
 
-  bare-is : (key : Key) (q : Record) (o : Option Shown) → (x : Shown) × (stored_of w.store key ≡ Some x) × (x.holding ≡ q) → stored_of w.store key ≡ o → IsBare o → is_assigned q ≡ false
+  bare-is : (key : Key) (q : Record) (o : Option Shown) → (x : Shown) × (stored_of w.store key ≡ Some x) × (x.holding ≡ q) → stored_of w.store key ≡ o
+      → IsBare o → is_assigned q ≡ false
   bare-is key q None x f bare = let none : Some x.0 ≡ None = sym x.1 ∙ f in absurd (cc none)
-  bare-is key q (Some y) x f bare = let some : Some x.0 ≡ Some y = sym x.1 ∙ f in let same : x.0 ≡ y = cc in ap is_assigned (sym x.2) ∙ ap (λ (z : Shown). is_assigned z.holding) same ∙ bare
+  bare-is key q (Some y) x f bare = let some : Some x.0 ≡ Some y = sym x.1 ∙ f in let same : x.0 ≡ y = cc in
+      ap is_assigned (sym x.2) ∙ ap (λ (z : Shown). is_assigned z.holding) same ∙ bare
 
-  bare-recorded : (b : Bool) (key : Key) (r : Record) (o : Option Shown) → stored_of w.store key ≡ o → b ≡ true → MatchBool b (IsBare o) (IsJust o r) → IsBareIn w.store key
+  bare-recorded : (b : Bool) (key : Key) (r : Record) (o : Option Shown) → stored_of w.store key ≡ o → b ≡ true → MatchBool b (IsBare o) (IsJust o r)
+      → IsBareIn w.store key
   bare-recorded b key r o e f c = λ q rec. bare-is key q o (recorded-at key q rec) e (match-true _ _ b f c)
 
   live : LiveAreStored w s
@@ -454,14 +484,16 @@ module _ (w : WorldValue) (s : State) (stored : IsGoodStore w.store) (up : IsFol
             (not-gone (has_gone (notices_in service.key behind)) (λ e. none (there-gone service.key behind e)))
             (carried-at before behind version service pending is);
         gone = λ before behind version service pending is gone.
-            bare-recorded (has_gone (notices_in service.key behind)) service.key service.holding (stored_of w.store service.key) refl (gone-there service.key behind gone)
+            bare-recorded (has_gone (notices_in service.key behind)) service.key service.holding (stored_of w.store service.key) refl
+            (gone-there service.key behind gone)
             (carried-at before behind version service pending is);
       }
 
   deleted : DeletedAreBare w s
   deleted before behind key pending st there =
       let t = tracked-at key (stored_as st) (stored-at key st there) in
-      let gone : has_gone (notices_in key w.service_lane) ≡ true = ap (λ (lane : List Event). has_gone (notices_in key lane)) pending ∙ ap has_gone (notices-gone key before behind) ∙ gone-over (notices_in key before) (Gone ∷ notices_in key behind) refl in
+      let gone : has_gone (notices_in key w.service_lane) ≡ true = ap (λ (lane : List Event). has_gone (notices_in key lane)) pending
+      ∙ ap has_gone (notices-gone key before behind) ∙ gone-over (notices_in key before) (Gone ∷ notices_in key behind) refl in
       let bare = gone-bare (notices_in key w.service_lane) (Some (stored_as st)) (held_of s key) gone t.follows in
       (at-newer key st.version bare.1, bare.0)
 
@@ -474,7 +506,8 @@ module _ (w : WorldValue) (s : State) (stored : IsGoodStore w.store) (up : IsFol
   claims-held : (key : Key) (c : ClaimValue) → Contains (claims_of key s.claims) c → (held : Versioned Service) × IsHeld s key held
   claims-held key c there = by_held (held_at key_cmp s.held.services key) refl
     where
-      by_held : (o : Option (Versioned Service)) → held_at key_cmp s.held.services key ≡ o → (held : Versioned Service) × (held_at key_cmp s.held.services key ≡ Some held)
+      by_held : (o : Option (Versioned Service)) → held_at key_cmp s.held.services key ≡ o
+          → (held : Versioned Service) × (held_at key_cmp s.held.services key ≡ Some held)
       by_held None e =
           let none : held_of s key ≡ None = ap (option_map held_as) e in
           let kept : records_of key s.claims ≡ [] = rw none at (up.tracked key).kept in
@@ -502,8 +535,10 @@ module _ (w : WorldValue) (s : State) (stored : IsGoodStore w.store) (up : IsFol
             (given-above (notices_in service.key before) (notices_in service.key behind) 0 w.store.counter (as_notices version service) given).1);
       }
 
-  follows-at : (before behind : List Event) (version : ℕ) (service : Service) (st : Stored) → IsPending w before (shows_service version service) behind → IsStored w.store.objects (service_at service.key) st
-      → Follows (Some (stored_as st)) (held_of s service.key) (notices_in service.key before ++ Shows (as_notices version service) ∷ notices_in service.key behind)
+  follows-at : (before behind : List Event) (version : ℕ) (service : Service) (st : Stored) → IsPending w before (shows_service version service) behind
+      → IsStored w.store.objects (service_at service.key) st
+      → Follows (Some (stored_as st)) (held_of s service.key)
+      (notices_in service.key before ++ Shows (as_notices version service) ∷ notices_in service.key behind)
   follows-at before behind version service st pending there =
       let t = tracked-at service.key (stored_as st) (stored-at service.key st there) in
       rw (split before behind version service pending) at t.follows
@@ -512,22 +547,27 @@ module _ (w : WorldValue) (s : State) (stored : IsGoodStore w.store) (up : IsFol
       → w.service_lane ≡ before ++ (shows_service first service ∷ (between ++ (shows_service second other ∷ behind))) → first < second
   ascending before between behind first second service other same is =
       let key = service.key in
-      let one : notices_in key w.service_lane ≡ notices_in key before ++ Shows (as_notices first service) ∷ notices_in key (between ++ shows_service second other ∷ behind) =
+      let one : notices_in key w.service_lane
+      ≡ notices_in key before ++ Shows (as_notices first service) ∷ notices_in key (between ++ shows_service second other ∷ behind) =
       ap (notices_in key) is ∙ notices-shows key first service before (between ++ shows_service second other ∷ behind) refl in
       let given = rw one at (up.tracked key).notices_given in
-      let after = (given-above (notices_in key before) (notices_in key (between ++ shows_service second other ∷ behind)) 0 w.store.counter (as_notices first service) given).2 in
+      let after = (given-above (notices_in key before) (notices_in key (between ++ shows_service second other ∷ behind)) 0 w.store.counter
+      (as_notices first service) given).2 in
       let two = rw (notices-shows key second other between behind (sym same)) at after in
       (given-above (notices_in key between) (notices_in key behind) first w.store.counter (as_notices second other) two).0
 
   ordered : AreInOrder w s
   ordered =
       record {
-        held = λ key st held there is. (let t = both-at key st held there is in held-up_to (notices_in key w.service_lane) (Some (stored_as st)) (Some (held_as held)) t.follows);
+        held = λ key st held there is.
+            (let t = both-at key st held there is in held-up_to (notices_in key w.service_lane) (Some (stored_as st)) (Some (held_as held)) t.follows);
         ascending = ascending;
         stored = λ before behind version service st pending there.
-            pending-up_to (notices_in service.key before) (notices_in service.key behind) (Some (stored_as st)) (held_of s service.key) (as_notices version service) (follows-at before behind version service st pending there);
+            pending-up_to (notices_in service.key before) (notices_in service.key behind) (Some (stored_as st)) (held_of s service.key)
+            (as_notices version service) (follows-at before behind version service st pending there);
         deleted = λ before behind version service st pending there gone.
-            pending-behind (notices_in service.key before) (notices_in service.key behind) (Some (stored_as st)) (held_of s service.key) (as_notices version service) (gone-there service.key behind gone) (follows-at before behind version service st pending there);
+            pending-behind (notices_in service.key before) (notices_in service.key behind) (Some (stored_as st)) (held_of s service.key)
+            (as_notices version service) (gone-there service.key behind gone) (follows-at before behind version service st pending there);
       }
 
   coming-there : (key : Key) (version : ℕ) → IsComing (notices_in key w.service_lane) version → WillBeShownAt w key version
@@ -553,7 +593,8 @@ module _ (w : WorldValue) (s : State) (stored : IsGoodStore w.store) (up : IsFol
   unheld : UnheldAreShown w s
   unheld key st there =
       let t = tracked-at key (stored_as st) (stored-at key st there) in
-      ⊎_elim (λ at. inl (held-there key st.version at)) (λ c. inr (coming-there key st.version c)) (held-or-coming (notices_in key w.service_lane) (stored_as st) (held_of s key) t.stored_later t.follows)
+      ⊎_elim (λ at. inl (held-there key st.version at)) (λ c. inr (coming-there key st.version c))
+      (held-or-coming (notices_in key w.service_lane) (stored_as st) (held_of s key) t.stored_later t.follows)
 
   -- any service tells of the end of the list
   some_key : Key
@@ -562,12 +603,17 @@ module _ (w : WorldValue) (s : State) (stored : IsGoodStore w.store) (up : IsFol
   ends : EndsOnceIn ends_services s.held.services_ended w.service_lane
   ends =
       record {
-        pending = λ unended. (let once : EndsOnce false (notices_in some_key w.service_lane) = subst (λ b. EndsOnce b (notices_in some_key w.service_lane)) unended (up.tracked some_key).ends in there-end some_key w.service_lane (unended-some (notices_in some_key w.service_lane) once));
-        none = λ ended there. (let once : EndsOnce true (notices_in some_key w.service_lane) = subst (λ b. EndsOnce b (notices_in some_key w.service_lane)) ended (up.tracked some_key).ends in
-            true-false (has_end (notices_in some_key w.service_lane)) (end-there some_key w.service_lane there) (ended-none (notices_in some_key w.service_lane) once));
+        pending = λ unended. (let once : EndsOnce false (notices_in some_key w.service_lane) = subst (λ b. EndsOnce b (notices_in some_key w.service_lane))
+            unended (up.tracked some_key).ends in there-end some_key w.service_lane (unended-some (notices_in some_key w.service_lane) once));
+        none = λ ended there. (let once : EndsOnce true (notices_in some_key w.service_lane) =
+            subst (λ b. EndsOnce b (notices_in some_key w.service_lane)) ended (up.tracked some_key).ends in
+            true-false (has_end (notices_in some_key w.service_lane)) (end-there some_key w.service_lane there)
+            (ended-none (notices_in some_key w.service_lane) once));
         once = λ before behind pending there.
-            (let once = subst (λ (ns : List Notice). EndsOnce s.held.services_ended ns) (ap (notices_in some_key) pending ∙ notices-ends some_key before behind) (up.tracked some_key).ends in
-            true-false (has_end (notices_in some_key behind)) (end-there some_key behind there) (end-once (notices_in some_key before) (notices_in some_key behind) s.held.services_ended once));
+            (let once = subst (λ (ns : List Notice). EndsOnce s.held.services_ended ns) (ap (notices_in some_key) pending ∙ notices-ends some_key before behind)
+            (up.tracked some_key).ends in
+            true-false (has_end (notices_in some_key behind)) (end-there some_key behind there)
+            (end-once (notices_in some_key before) (notices_in some_key behind) s.held.services_ended once));
       }
 
   before-there : (key : Key) → IsBeforeEnd (notices_in key w.service_lane) → WillBeListed w key
@@ -631,7 +677,8 @@ pub worlds_are_in_order : WorldsAreInOrder
 worlds_are_in_order w good = up-in-order w w.core good.stored good.up
 
 -- in a world that makes steps the list of the configuration ends once
-ends_by : (c : Option State) (lane : List Event) → IfSome c (λ s. ConfigEnds s.held.config_ended lane) → IfSome c (λ s. EndsOnceIn ends_config s.held.config_ended lane)
+ends_by : (c : Option State) (lane : List Event) → IfSome c (λ s. ConfigEnds s.held.config_ended lane)
+    → IfSome c (λ s. EndsOnceIn ends_config s.held.config_ended lane)
 ends_by None lane once = tt
 ends_by (Some s) lane once = config-ends s.held.config_ended lane once
 

@@ -1,5 +1,6 @@
 -- What holds of each pending notice of a service.
-use Rattle.std.proofs.Common.{◌≡◌, ℕ, ◌≤◌, ◌<◌, Bool, true, false, cond, leb, eqb, List, [], ◌∷◌, ◌++◌, Option, Some, None, ◌⊎◌, inl, inr, ⊎_elim, refl, sym, ap, ◌∙◌, arith}
+use Rattle.std.proofs.Common.{◌≡◌, ℕ, ◌≤◌, ◌<◌, Bool, true, false, cond, leb, eqb, List, [], ◌∷◌, ◌++◌}
+use Rattle.std.proofs.Common.{Option, Some, None, ◌⊎◌, inl, inr, ⊎_elim, refl, sym, ap, ◌∙◌, arith}
 use Rattle.std.specs.List.{Contains}
 use Rattle.std.proofs.lemmas.Bool.{true≢false}
 use Rattle.std.proofs.lemmas.Bool.Decides.{nat_tests}
@@ -8,7 +9,8 @@ use Rattle.kube_model.specs.declared.record.Record.{Record}
 use Rattle.kube_model.specs.Records.{is_assigned}
 use Rattle.claim_index.specs.Claims.{claimed_by}
 use Rattle.world_rules.proofs.Following.{Follows-old}
-use Rattle.world_rules.specs.Tracked.{Shown, Notice, Shows, Gone, End, version_at, IsBare, IsUpTo, IsBehind, after_shows, after_end, is_unlisted, has_gone, IsCarried, Follows, WillBeClaimed, AreGiven, AreOld, EndsOnce}
+use Rattle.world_rules.specs.Tracked.{Shown, Notice, Shows, Gone, End, version_at, IsBare, IsUpTo, IsBehind, after_shows, after_end}
+use Rattle.world_rules.specs.Tracked.{is_unlisted, has_gone, IsCarried, Follows, WillBeClaimed, AreGiven, AreOld, EndsOnce}
 
 -- whether the end of the list is pending
 abbrev pub has_end : List Notice → Bool
@@ -30,7 +32,8 @@ older-kept a b e = grind (arith, nat_tests)
 pub newer-taken : (a b : ℕ) → leb a b ≡ false → b < a
 newer-taken a b e = grind (arith, nat_tests)
 
-shows-held : (b : Bool) (h : Option Shown) (x : Shown) → b ≡ leb x.version (version_at h) → (version_at h ≤ version_at (cond b h (Some x))) × (x.version ≤ version_at (cond b h (Some x)))
+shows-held : (b : Bool) (h : Option Shown) (x : Shown) → b ≡ leb x.version (version_at h)
+    → (version_at h ≤ version_at (cond b h (Some x))) × (x.version ≤ version_at (cond b h (Some x)))
 shows-held true h x e = let older = older-kept x.version (version_at h) (sym e) in (omega arith, older)
 shows-held false h x e = let newer = newer-taken x.version (version_at h) (sym e) in (omega (arith, newer), omega arith)
 
@@ -69,7 +72,8 @@ stored-up_to (Some x) = omega arith
 -- what is held is at most at the stored version
 pub held-up_to : (notices : List Notice) (s h : Option Shown) → Follows s h notices → IsUpTo s (version_at h)
 held-up_to [] s h f = rw f (stored-up_to s)
-held-up_to (Shows x ∷ more) s h f = up_to-less s (version_at h) (version_at (after_shows h x)) (after_shows-held h x).0 (held-up_to more s (after_shows h x) f.2)
+held-up_to (Shows x ∷ more) s h f =
+    up_to-less s (version_at h) (version_at (after_shows h x)) (after_shows-held h x).0 (held-up_to more s (after_shows h x) f.2)
 held-up_to (Gone ∷ more) s h f = behind-up_to s (version_at h) f.1
 held-up_to (End ∷ more) s h f = rw (← after_end-held h) (held-up_to more s (after_end h) f.1)
 
@@ -92,14 +96,17 @@ gone-bare (End ∷ more) s h e f =
     (rest.0, rw (after_end-held h) at rest.1)
 
 -- what is shown before it is at less than the stored version
-pub pending-behind : (before behind : List Notice) (s h : Option Shown) (x : Shown) → has_gone behind ≡ true → Follows s h (before ++ Shows x ∷ behind) → IsBehind s x.version
-pending-behind [] behind s h x e f = behind-less s x.version (version_at (after_shows h x)) (after_shows-held h x).1 (gone-bare behind s (after_shows h x) e f.2).1
+pub pending-behind : (before behind : List Notice) (s h : Option Shown) (x : Shown) → has_gone behind ≡ true → Follows s h (before ++ Shows x ∷ behind)
+    → IsBehind s x.version
+pending-behind [] behind s h x e f =
+    behind-less s x.version (version_at (after_shows h x)) (after_shows-held h x).1 (gone-bare behind s (after_shows h x) e f.2).1
 pending-behind (Shows y ∷ more) behind s h x e f = pending-behind more behind s (after_shows h y) x e f.2
 pending-behind (Gone ∷ more) behind s h x e f = pending-behind more behind s None x e f.2
 pending-behind (End ∷ more) behind s h x e f = pending-behind more behind s (after_end h) x e f.1
 
 -- ---- versions ascend
-pub given-above : (before behind : List Notice) (low n : ℕ) (x : Shown) → AreGiven low n (before ++ Shows x ∷ behind) → (low < x.version) × (x.version ≤ n) × AreGiven x.version n behind
+pub given-above : (before behind : List Notice) (low n : ℕ) (x : Shown) → AreGiven low n (before ++ Shows x ∷ behind)
+    → (low < x.version) × (x.version ≤ n) × AreGiven x.version n behind
 given-above [] behind low n x g = g
 given-above (Shows y ∷ more) behind low n x g =
     let above = given-above more behind y.version n x g.2 in
@@ -132,7 +139,8 @@ below-shown h y v a b = pick (leb y.version (version_at h))
     pick false = b
 
 -- a notice that is newer than what is held, or stands behind a deletion, shows what is stored; or a deletion stands behind it
-pub live-carried : (before behind : List Notice) (low n : ℕ) (s h : Option Shown) (x : Shown) → Follows s h (before ++ Shows x ∷ behind) → AreGiven low n (before ++ Shows x ∷ behind)
+pub live-carried : (before behind : List Notice) (low n : ℕ) (s h : Option Shown) (x : Shown) → Follows s h (before ++ Shows x ∷ behind)
+    → AreGiven low n (before ++ Shows x ∷ behind)
     → (version_at h < x.version) ⊎ (has_gone before ≡ true) → IsCarried s x.holding behind
 live-carried [] behind low n s h x f g (inl newer) = f.1 newer
 live-carried [] behind low n s h x f g (inr gone) = absurd (cc)
@@ -170,7 +178,8 @@ claimed-is : (b : Bool) (h r : Record) → Contains (cond b (h ∷ []) []) r →
 claimed-is true h r there = ⊎_elim (λ same. same) (λ none. absurd (contains-none r none)) (contains-cons h [] r there)
 claimed-is false h r there = absurd (contains-none r there)
 
-listed-shown : (b : Bool) (h : Option Shown) (z : Shown) (claims : List Record) (r : Record) (more : List Notice) → b ≡ leb z.version (version_at h) → EndsOnce false more
+listed-shown : (b : Bool) (h : Option Shown) (z : Shown) (claims : List Record) (r : Record) (more : List Notice) → b ≡ leb z.version (version_at h)
+    → EndsOnce false more
     → Contains (cond b claims (claimed_by z.holding)) r → Contains claims r ⊎ IsListed h (Shows z ∷ more) r
 listed-shown true h z claims r more e ends there = inl there
 listed-shown false h z claims r more e ends there =
@@ -199,7 +208,8 @@ bare-unassigned : (x : Shown) → IsBare (Some x) → is_assigned x.holding ≡ 
 bare-unassigned x bare has = true≢false (sym has ∙ bare)
 
 -- until the list has ended: a stored address is claimed, or listed
-pub claimed-or-listed : (notices : List Notice) (x : Shown) (h : Option Shown) (claims : List Record) → is_assigned x.holding ≡ true → EndsOnce false notices → Follows (Some x) h notices → WillBeClaimed (Some x) h claims notices
+pub claimed-or-listed : (notices : List Notice) (x : Shown) (h : Option Shown) (claims : List Record) → is_assigned x.holding ≡ true → EndsOnce false notices
+    → Follows (Some x) h notices → WillBeClaimed (Some x) h claims notices
     → Contains claims x.holding ⊎ IsListed h notices x.holding
 claimed-or-listed [] x h claims has ends f w = absurd ends
 claimed-or-listed (Shows z ∷ more) x h claims has ends f w =
@@ -230,7 +240,8 @@ IsHeldAt (Some y) version = y.version ≡ version
 held-same : (s h : Option Shown) (x : Shown) → h ≡ Some x → IsHeldAt h x.version
 held-same s h x e = rw e refl
 
-held-or-shown : (b : Bool) (x : Shown) (h : Option Shown) (z : Shown) (more : List Notice) → 0 < x.version → Follows (Some x) (cond b h (Some z)) more → IsHeldAt (cond b h (Some z)) x.version
+held-or-shown : (b : Bool) (x : Shown) (h : Option Shown) (z : Shown) (more : List Notice) → 0 < x.version → Follows (Some x) (cond b h (Some z)) more
+    → IsHeldAt (cond b h (Some z)) x.version
     → IsHeldAt h x.version ⊎ IsComing (Shows z ∷ more) x.version
 held-or-shown true x h z more pos f at = inl at
 held-or-shown false x h z more pos f at =
@@ -240,7 +251,8 @@ held-end : (b : Bool) (h : Option Shown) (v : ℕ) → IsHeldAt (cond b None h) 
 held-end true h v at = absurd at
 held-end false h v at = at
 
-pub held-or-coming : (notices : List Notice) (x : Shown) (h : Option Shown) → 0 < x.version → Follows (Some x) h notices → IsHeldAt h x.version ⊎ IsComing notices x.version
+pub held-or-coming : (notices : List Notice) (x : Shown) (h : Option Shown) → 0 < x.version → Follows (Some x) h notices
+    → IsHeldAt h x.version ⊎ IsComing notices x.version
 held-or-coming [] x h pos f = inl (held-same (Some x) h x f)
 held-or-coming (Shows z ∷ more) x h pos f =
     ⊎_elim
@@ -260,7 +272,8 @@ pub record IsBeforeEnd (notices : List Notice) : Type 0 where
   pub stands : Stands notices x behind
   pub before_end : has_end behind ≡ true
 
-pub unlisted-shown : (notices : List Notice) (x y : Shown) → y.version ≡ 0 → EndsOnce false notices → Follows (Some x) (Some y) notices → IsBeforeEnd notices ⊎ IsBare (Some x)
+pub unlisted-shown : (notices : List Notice) (x y : Shown) → y.version ≡ 0 → EndsOnce false notices → Follows (Some x) (Some y) notices
+    → IsBeforeEnd notices ⊎ IsBare (Some x)
 unlisted-shown [] x y none ends f = absurd ends
 unlisted-shown (Shows z ∷ more) x y none ends f = inl (record { x = z; behind = more; stands = stands-first z more; before_end = ends-has_end more ends })
 unlisted-shown (Gone ∷ more) x y none ends f = inr f.0

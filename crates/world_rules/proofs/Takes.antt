@@ -1,5 +1,6 @@
 -- An event that is taken keeps what holds of a world.
-use Rattle.std.proofs.Common.{◌≡◌, ℕ, Bool, true, false, cond, eqb, leb, not, List, [], ◌∷◌, ◌++◌, Option, Some, None, option_map, IfSome, refl, sym, ap, subst, ◌∙◌, leb-true, leb-false}
+use Rattle.std.proofs.Common.{◌≡◌, ℕ, Bool, true, false, cond, eqb, leb, not, List, [], ◌∷◌, ◌++◌, Option}
+use Rattle.std.proofs.Common.{Some, None, option_map, IfSome, refl, sym, ap, subst, ◌∙◌, leb-true, leb-false}
 use Rattle.std.proofs.lemmas.Map.Entries.{option_filter}
 use Rattle.std.specs.List.{AllByRecursion}
 use Rattle.std.specs.List.Sorted.{IsStrictlySortedBy}
@@ -42,14 +43,18 @@ held-version None = refl
 held-version (Some v) = refl
 
 -- old: the event isn't newer than what is held; b: it is about this service
-shown_by : (old b : Bool) (n : ℕ) (ended : Bool) (st : Option Shown) (o : Option (Versioned Service)) (version : ℕ) (service : Service) (claims : List Record) (notices : List Notice)
+shown_by : (old b : Bool) (n : ℕ) (ended : Bool) (st : Option Shown) (o : Option (Versioned Service)) (version : ℕ) (service : Service) (claims : List Record)
+    (notices : List Notice)
     → (b ≡ true → leb version (version_at (option_map held_as o)) ≡ old)
     → IsTracked n ended st (option_map held_as o) claims (cond b (Shows (record { version = version; holding = service.holding }) ∷ []) [] ++ notices)
-    → IsTracked n ended st (option_map held_as (cond old o (cond b (Some (record { version = version; object = service })) o))) (cond old claims (cond b (claimed_by service.holding) claims)) notices
+    → IsTracked n ended st (option_map held_as (cond old o (cond b (Some (record { version = version; object = service })) o)))
+    (cond old claims (cond b (claimed_by service.holding) claims)) notices
 shown_by true true n ended st o version service claims notices late t =
-    tracked-older n ended st (option_map held_as o) (record { version = version; holding = service.holding }) claims notices (leb-true version (version_at (option_map held_as o)) (late refl)) t
+    tracked-older n ended st (option_map held_as o) (record { version = version; holding = service.holding }) claims notices
+    (leb-true version (version_at (option_map held_as o)) (late refl)) t
 shown_by false true n ended st o version service claims notices late t =
-    tracked-newer n ended st (option_map held_as o) (record { version = version; holding = service.holding }) claims notices (leb-false version (version_at (option_map held_as o)) (late refl)) t
+    tracked-newer n ended st (option_map held_as o) (record { version = version; holding = service.holding }) claims notices
+    (leb-false version (version_at (option_map held_as o)) (late refl)) t
 shown_by true false n ended st o version service claims notices late t = t
 shown_by false false n ended st o version service claims notices late t = t
 
@@ -80,7 +85,8 @@ not-ended true notices e = absurd e
 not-ended false notices e = refl
 
 -- what is unlisted then is what isn't held, or wasn't listed before
-unlisted_at : (b : Bool) (v : Versioned Service) → eqb v.version 0 ≡ b → eqb (option_map_or (λ (x : Versioned Service). x.version) (cond (not b) (Some v) None) 0) 0 ≡ b
+unlisted_at : (b : Bool) (v : Versioned Service) → eqb v.version 0 ≡ b
+    → eqb (option_map_or (λ (x : Versioned Service). x.version) (cond (not b) (Some v) None) 0) 0 ≡ b
 unlisted_at true v e = refl
 unlisted_at false v e = e
 
@@ -90,7 +96,8 @@ unlisted_by None claims none = sym (none refl)
 unlisted_by (Some v) claims none = ap (λ (b : Bool). cond b [] claims) (unlisted_at (eqb v.version 0) v refl)
 
 claimed_by_new : (old : Bool) (key k : Key) (holding : Record) (terms : Terms) (claims : List ClaimValue)
-    → records_of key (cond (not old) (settled k holding terms claims) claims) ≡ cond old (records_of key claims) (cond (same_key k key) (claimed_by holding) (records_of key claims))
+    → records_of key (cond (not old) (settled k holding terms claims) claims)
+    ≡ cond old (records_of key claims) (cond (same_key k key) (claimed_by holding) (records_of key claims))
 claimed_by_new true key k holding terms claims = refl
 claimed_by_new false key k holding terms claims = records_of-settled claims k key holding terms
 
@@ -100,12 +107,14 @@ module _ (w : WorldValue) (s : State) (sorted : IsStrictlySortedBy key_cmp (keys
   here = held_at key_cmp s.held.services key
 
   abbrev WasTracked : Event → Type 0
-  WasTracked event = IsTracked w.store.counter s.held.services_ended (stored_of w.store key) (held_of s key) (records_of key s.claims) (notices_of key event ++ notices_in key lane)
+  WasTracked event = IsTracked w.store.counter s.held.services_ended (stored_of w.store key) (held_of s key) (records_of key s.claims)
+      (notices_of key event ++ notices_in key lane)
 
   abbrev NowTracked : State → Type 0
   NowTracked t = IsTracked w.store.counter t.held.services_ended (stored_of w.store key) (held_of t key) (records_of key t.claims) (notices_in key lane)
 
-  service-shown : (version : ℕ) (service : Service) → WasTracked (Changed version (objects.Service service)) → NowTracked (core_take s (Changed version (objects.Service service)))
+  service-shown : (version : ℕ) (service : Service) → WasTracked (Changed version (objects.Service service))
+      → NowTracked (core_take s (Changed version (objects.Service service)))
   service-shown version service t =
       let old = leb version (version_held key_cmp s.held.services service.key) in
       let new : Versioned Service = record { version = version; object = service } in
@@ -114,8 +123,10 @@ module _ (w : WorldValue) (s : State) (sorted : IsStrictlySortedBy key_cmp (keys
       (held_at-shown key_cmp-total s.held.services service.key key version service
       ∙ ap (λ (b : Bool). cond old here (cond b (Some new) here)) (here-same key service.key)))
       (claimed_by_new old key service.key service.holding (shown_terms service) s.claims) refl
-      (shown_by old (same_key service.key key) w.store.counter s.held.services_ended (stored_of w.store key) here version service (records_of key s.claims) (notices_in key lane)
-      (λ same. ap (leb version) (sym (held-version here)) ∙ ap (λ (k : Key). leb version (version_held key_cmp s.held.services k)) (sym (same_key-is service.key key same))) t)
+      (shown_by old (same_key service.key key) w.store.counter s.held.services_ended (stored_of w.store key) here version service (records_of key s.claims)
+      (notices_in key lane)
+      (λ same. ap (leb version) (sym (held-version here))
+      ∙ ap (λ (k : Key). leb version (version_held key_cmp s.held.services k)) (sym (same_key-is service.key key same))) t)
 
   service-deleted : (gone : Key) → WasTracked (Deleted kinds.Service gone) → NowTracked (core_take s (Deleted kinds.Service gone))
   service-deleted gone t =
@@ -138,7 +149,8 @@ module _ (w : WorldValue) (s : State) (sorted : IsStrictlySortedBy key_cmp (keys
       ∙ ap (λ (o : Option (Versioned Service)). cond (eqb (option_map_or (λ (x : Versioned Service). x.version) o 0) 0) [] (records_of key s.claims)) left
       ∙ unlisted_by here (records_of key s.claims) (none-claimed here refl t)) refl
       (end_by w.store.counter (stored_of w.store key) here (records_of key s.claims) (notices_in key lane)
-      (subst (λ (b : Bool). IsTracked w.store.counter b (stored_of w.store key) (held_of s key) (records_of key s.claims) (End ∷ notices_in key lane)) unended t))
+      (subst (λ (b : Bool). IsTracked w.store.counter b (stored_of w.store key) (held_of s key) (records_of key s.claims) (End ∷ notices_in key lane)) unended
+      t))
 
   -- an event of the list of services
   service-event : (event : Event) → IsOfGroup groups.Service event → WasTracked event → NowTracked (core_take s event)
@@ -188,7 +200,8 @@ pub same-tracked : (counter : ℕ) (st : Option Shown) (notices : List Notice) (
     → IsTracked counter t.held.services_ended st (held_of t key) (records_of key t.claims) notices
 same-tracked counter st notices s t key same k =
     subst (λ (b : Bool). IsTracked counter b st (held_of t key) (records_of key t.claims) notices) (sym same.1)
-    (tracked-as _ _ _ _ refl (ap (λ (es : List (Key × Versioned Service)). option_map held_as (held_at key_cmp es key)) same.0) (ap (records_of key) same.2) refl k)
+    (tracked-as _ _ _ _ refl (ap (λ (es : List (Key × Versioned Service)). option_map held_as (held_at key_cmp es key)) same.0) (ap (records_of key) same.2)
+    refl k)
 
 pub services-sorted : (w : WorldValue) (s : State) → IsFollowed w s → IsStrictlySortedBy key_cmp (keys_of s.held.services)
 services-sorted w s up =
@@ -206,7 +219,8 @@ service-up w s event lane is typed up =
       none_out = took-out s event ∙ up.none_out;
       services = of.1;
       tracked = λ key. service-event w s (services-sorted w s up) lane key event of.0
-          (subst (λ (events : List Event). IsTracked w.store.counter s.held.services_ended (stored_of w.store key) (held_of s key) (records_of key s.claims) (notices_in key events)) is (up.tracked key));
+          (subst (λ (events : List Event). IsTracked w.store.counter s.held.services_ended (stored_of w.store key) (held_of s key) (records_of key s.claims)
+          (notices_in key events)) is (up.tracked key));
     }
 
 service_by : (w : WorldValue) (c : Option State) (lane : List Event) → w.service_lane ≡ lane → AllShowTerms (entries_taken c lane) → IfSome c (IsFollowed w)
@@ -215,7 +229,8 @@ service_by w None lane is typed up = tt
 service_by w (Some s) [] is typed up =
     let none : WorldValue = record w { service_lane = []; core = Some s } in
     let same : (key : Key) → IsTrackedIn none s key = λ key.
-    subst (λ (events : List Event). IsTracked w.store.counter s.held.services_ended (stored_of w.store key) (held_of s key) (records_of key s.claims) (notices_in key events)) is (up.tracked key) in
+    subst (λ (events : List Event). IsTracked w.store.counter s.held.services_ended (stored_of w.store key) (held_of s key) (records_of key s.claims)
+    (notices_in key events)) is (up.tracked key) in
     record {
       run = up.run;
       is = up.is;
@@ -239,14 +254,17 @@ config-up w s event of typed up = record {
   typed = (typed.0, up.typed);
   none_out = took-out s event ∙ up.none_out;
   services = up.services;
-  tracked = λ key. same-tracked w.store.counter (stored_of w.store key) (notices_in key w.service_lane) s (core_take s event) key (config-event s event of) (up.tracked key);
+  tracked = λ key.
+      same-tracked w.store.counter (stored_of w.store key) (notices_in key w.service_lane) s (core_take s event) key (config-event s event of) (up.tracked key);
 }
 
-config_by : (w : WorldValue) (c : Option State) (event : Event) → IsOfGroup groups.Config event → AllShowTerms (entries_taken c (event ∷ [])) → IfSome c (IsFollowed w)
+config_by : (w : WorldValue) (c : Option State) (event : Event) → IsOfGroup groups.Config event → AllShowTerms (entries_taken c (event ∷ []))
+    → IfSome c (IsFollowed w)
     → (let v : WorldValue = record w { core = option_map (λ s. core_take s event) c } in IfSome (option_map (λ s. core_take s event) c) (IsFollowed v))
 config_by w None event of typed up = tt
 config_by w (Some s) event of typed up = config-up w s event of typed up
 
 -- whatever of the configuration is shown
-pub good-tell : (event : Event) (w : WorldValue) → IsOfGroup groups.Config event → AllShowTerms (entries_taken w.core (event ∷ [])) → IsGood w → IsGood (after_move (Tells event) w)
+pub good-tell : (event : Event) (w : WorldValue) → IsOfGroup groups.Config event → AllShowTerms (entries_taken w.core (event ∷ [])) → IsGood w
+    → IsGood (after_move (Tells event) w)
 good-tell event w of typed good = record { stored = good.stored; up = config_by w w.core event of typed good.up }

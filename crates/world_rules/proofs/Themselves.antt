@@ -11,7 +11,8 @@ use Rattle.core_rules.specs.Core.{State}
 use Rattle.core_rules.specs.Turn.{core_turn, put_in}
 use Rattle.core_rules.specs.Run.{Entry, Turned}
 use Rattle.world_rules.specs.Explaining.{WorldsExplainThemselves, acts_of, answered}
-use Rattle.world_rules.specs.Moves.{Move, Sets, Deletes, Tells, Takes, Turns, Stops, Starts, ConfigExpires, ServicesExpire, EndsLater, after_move, entries_taken, entries_put, entries_turned, entries_expired, entries_of, run_along, begun}
+use Rattle.world_rules.specs.Moves.{Move, Sets, Deletes, Tells, Takes, Turns, Stops, Starts, ConfigExpires, ServicesExpire, EndsLater}
+use Rattle.world_rules.specs.Moves.{after_move, entries_taken, entries_put, entries_turned, entries_expired, entries_of, run_along, begun}
 use Rattle.world_rules.specs.World.{WorldValue}
 
 -- each put of the run has its reply
@@ -23,12 +24,14 @@ taken-whole None events earlier whole = whole
 taken-whole (Some s) [] earlier whole = whole
 taken-whole (Some s) (event ∷ more) earlier whole = refl
 
-turn-whole : (turn : Turn) (outcome : Outcome) (store : StoreValue) (earlier : List Entry) → IsWhole ((entries_put (put_in turn) outcome store ++ Turned turn ∷ []) ++ earlier)
+turn-whole : (turn : Turn) (outcome : Outcome) (store : StoreValue) (earlier : List Entry)
+    → IsWhole ((entries_put (put_in turn) outcome store ++ Turned turn ∷ []) ++ earlier)
 turn-whole Idle outcome store earlier = refl
 turn-whole (NoPut key pending) outcome store earlier = refl
 turn-whole (Wants put pending) outcome store earlier = refl
 
-turned-whole : (c : Option State) (outcome : Outcome) (store : StoreValue) (earlier : List Entry) → IsWhole earlier → IsWhole (entries_turned c outcome store ++ earlier)
+turned-whole : (c : Option State) (outcome : Outcome) (store : StoreValue) (earlier : List Entry) → IsWhole earlier
+    → IsWhole (entries_turned c outcome store ++ earlier)
 turned-whole None outcome store earlier whole = whole
 turned-whole (Some s) outcome store earlier whole = turn-whole (core_turn s) outcome store earlier
 

@@ -1,13 +1,16 @@
 -- How each step keeps what holds of one service.
-use Rattle.std.proofs.Common.{◌≡◌, ℕ, ◌+◌, ◌≤◌, ◌<◌, Bool, true, false, cond, eqb, List, [], ◌∷◌, ◌++◌, Option, Some, None, refl, sym, ap, subst, ◌∙◌, arith, MatchBool}
+use Rattle.std.proofs.Common.{◌≡◌, ℕ, ◌+◌, ◌≤◌, ◌<◌, Bool, true, false, cond, eqb, List, [], ◌∷◌, ◌++◌}
+use Rattle.std.proofs.Common.{Option, Some, None, refl, sym, ap, subst, ◌∙◌, arith, MatchBool}
 use Rattle.std.proofs.lemmas.Bool.{true≢false}
 use Rattle.std.specs.List.{Contains}
 use Rattle.mlb_base.proofs.Among.{contains-first}
 use Rattle.kube_model.specs.declared.record.Record.{Record}
 use Rattle.kube_model.specs.Records.{is_assigned}
 use Rattle.claim_index.specs.Claims.{claimed_by}
-use Rattle.world_rules.specs.Tracked.{Shown, Notice, Shows, Gone, End, version_at, IsBare, Agrees, IsBehind, after_end, is_unlisted, has_gone, MatchesClaims, IsClaimed, WillBeClaimed, AreGiven, EndsOnce, IsTracked}
-use Rattle.world_rules.proofs.Following.{leb-newer, leb-older, after_shows-newer, after_shows-older, after_end-given, at_next, Follows-set, Follows-create, Follows-delete, Follows-old, Follows-accepted, Follows-lost, Follows-listed, Follows-unlisted, agrees-carried}
+use Rattle.world_rules.specs.Tracked.{Shown, Notice, Shows, Gone, End, version_at, IsBare, Agrees, IsBehind, after_end, is_unlisted}
+use Rattle.world_rules.specs.Tracked.{has_gone, MatchesClaims, IsClaimed, WillBeClaimed, AreGiven, EndsOnce, IsTracked}
+use Rattle.world_rules.proofs.Following.{leb-newer, leb-older, after_shows-newer, after_shows-older, after_end-given, at_next, Follows-set, Follows-create}
+use Rattle.world_rules.proofs.Following.{Follows-delete, Follows-old, Follows-accepted, Follows-lost, Follows-listed, Follows-unlisted, agrees-carried}
 
 AreGiven-later : (low n : ℕ) (notices : List Notice) → AreGiven low n notices → AreGiven low (n + 1) notices
 AreGiven-later low n [] g = tt
@@ -59,7 +62,8 @@ IsClaimed-bare None claims bare = tt
 IsClaimed-bare (Some x) claims bare = λ has. absurd (true≢false (sym has ∙ bare))
 
 -- what lasts from one record to another, which has an address only where it is the same
-IsClaimed-same : (x y : Shown) (claims : List Record) → (is_assigned y.holding ≡ true → y.holding ≡ x.holding) → IsClaimed (Some x) claims → IsClaimed (Some y) claims
+IsClaimed-same : (x y : Shown) (claims : List Record) → (is_assigned y.holding ≡ true → y.holding ≡ x.holding) → IsClaimed (Some x) claims
+    → IsClaimed (Some y) claims
 IsClaimed-same x y claims keeps c = λ has. subst (Contains claims) (sym (keeps has)) (c (ap is_assigned (sym (keeps has)) ∙ has))
 
 WillBeClaimed-bare : (s : Option Shown) (notices : List Notice) (h : Option Shown) (claims : List Record) → IsBare s → WillBeClaimed s h claims notices
@@ -69,7 +73,8 @@ WillBeClaimed-bare s (Gone ∷ more) h claims bare = WillBeClaimed-bare s more _
 WillBeClaimed-bare s (End ∷ more) h claims bare = IsClaimed-bare s claims bare
 
 -- an event after the end of the list changes nothing here
-WillBeClaimed-more : (x y : Shown) (last : List Notice) (notices : List Notice) (h : Option Shown) (claims : List Record) → (is_assigned y.holding ≡ true → y.holding ≡ x.holding) → EndsOnce false notices → WillBeClaimed (Some x) h claims notices → WillBeClaimed (Some y) h claims (notices ++ last)
+WillBeClaimed-more : (x y : Shown) (last : List Notice) (notices : List Notice) (h : Option Shown) (claims : List Record) → (is_assigned y.holding ≡ true
+    → y.holding ≡ x.holding) → EndsOnce false notices → WillBeClaimed (Some x) h claims notices → WillBeClaimed (Some y) h claims (notices ++ last)
 WillBeClaimed-more x y last [] h claims e ends w = absurd ends
 WillBeClaimed-more x y last (Shows z ∷ more) h claims e ends w = WillBeClaimed-more x y last more _ _ e ends w
 WillBeClaimed-more x y last (Gone ∷ more) h claims e ends w = WillBeClaimed-more x y last more _ _ e ends w
@@ -88,11 +93,14 @@ IsClaimed-more : (s : Option Shown) (claims more : List Record) → Grows claims
 IsClaimed-more None claims more grows c = tt
 IsClaimed-more (Some x) claims more grows c = λ has. grows x.holding (c has)
 
-claimed-set : (ended : Bool) (x y : Shown) (h : Option Shown) (claims : List Record) (notices last : List Notice) → (is_assigned y.holding ≡ true → y.holding ≡ x.holding) → EndsOnce ended notices → MatchBool ended (IsClaimed (Some x) claims) (WillBeClaimed (Some x) h claims notices) → MatchBool ended (IsClaimed (Some y) claims) (WillBeClaimed (Some y) h claims (notices ++ last))
+claimed-set : (ended : Bool) (x y : Shown) (h : Option Shown) (claims : List Record) (notices last : List Notice)
+    → (is_assigned y.holding ≡ true → y.holding ≡ x.holding) → EndsOnce ended notices → MatchBool ended (IsClaimed (Some x) claims)
+    (WillBeClaimed (Some x) h claims notices) → MatchBool ended (IsClaimed (Some y) claims) (WillBeClaimed (Some y) h claims (notices ++ last))
 claimed-set true x y h claims notices last e ends c = IsClaimed-same x y claims e c
 claimed-set false x y h claims notices last e ends c = WillBeClaimed-more x y last notices h claims e ends c
 
-claimed-bare : (ended : Bool) (s h : Option Shown) (claims : List Record) (notices : List Notice) → IsBare s → MatchBool ended (IsClaimed s claims) (WillBeClaimed s h claims notices)
+claimed-bare : (ended : Bool) (s h : Option Shown) (claims : List Record) (notices : List Notice) → IsBare s
+    → MatchBool ended (IsClaimed s claims) (WillBeClaimed s h claims notices)
 claimed-bare true s h claims notices bare = IsClaimed-bare s claims bare
 claimed-bare false s h claims notices bare = WillBeClaimed-bare s notices h claims bare
 
@@ -108,7 +116,8 @@ kept-end None claims k = k
 kept-end (Some x) claims k = unlisted-kept (eqb x.version 0) x claims k
 
 -- an edit of another key
-pub tracked-other : (n : ℕ) (ended : Bool) (s h : Option Shown) (claims : List Record) (notices : List Notice) → IsTracked n ended s h claims notices → IsTracked (n + 1) ended s h claims notices
+pub tracked-other : (n : ℕ) (ended : Bool) (s h : Option Shown) (claims : List Record) (notices : List Notice) → IsTracked n ended s h claims notices
+    → IsTracked (n + 1) ended s h claims notices
 tracked-other n ended s h claims notices t =
     record {
       stored_given = omega (arith, t.stored_given);
@@ -122,7 +131,8 @@ tracked-other n ended s h claims notices t =
     }
 
 -- the service is changed: where it has an address then, it keeps its record
-pub tracked-set : (n : ℕ) (ended : Bool) (x : Shown) (r : Record) (h : Option Shown) (claims : List Record) (notices : List Notice) → (is_assigned r ≡ true → r ≡ x.holding) → IsTracked n ended (Some x) h claims notices → IsTracked (n + 1) ended (Some (at_next n r)) h claims (notices ++ Shows (at_next n r) ∷ [])
+pub tracked-set : (n : ℕ) (ended : Bool) (x : Shown) (r : Record) (h : Option Shown) (claims : List Record) (notices : List Notice) → (is_assigned r ≡ true
+    → r ≡ x.holding) → IsTracked n ended (Some x) h claims notices → IsTracked (n + 1) ended (Some (at_next n r)) h claims (notices ++ Shows (at_next n r) ∷ [])
 tracked-set n ended x r h claims notices keeps t =
     record {
       stored_given = omega arith;
@@ -136,7 +146,8 @@ tracked-set n ended x r h claims notices keeps t =
     }
 
 -- the service is made
-pub tracked-create : (n : ℕ) (ended : Bool) (r : Record) (h : Option Shown) (claims : List Record) (notices : List Notice) → is_assigned r ≡ false → IsTracked n ended None h claims notices → IsTracked (n + 1) ended (Some (at_next n r)) h claims (notices ++ Shows (at_next n r) ∷ [])
+pub tracked-create : (n : ℕ) (ended : Bool) (r : Record) (h : Option Shown) (claims : List Record) (notices : List Notice) → is_assigned r ≡ false
+    → IsTracked n ended None h claims notices → IsTracked (n + 1) ended (Some (at_next n r)) h claims (notices ++ Shows (at_next n r) ∷ [])
 tracked-create n ended r h claims notices bare t =
     record {
       stored_given = omega arith;
@@ -150,7 +161,8 @@ tracked-create n ended r h claims notices bare t =
     }
 
 -- the service is deleted
-pub tracked-delete : (n : ℕ) (ended : Bool) (s h : Option Shown) (claims : List Record) (notices : List Notice) → IsTracked n ended s h claims notices → IsTracked (n + 1) ended None h claims (notices ++ Gone ∷ [])
+pub tracked-delete : (n : ℕ) (ended : Bool) (s h : Option Shown) (claims : List Record) (notices : List Notice) → IsTracked n ended s h claims notices
+    → IsTracked (n + 1) ended None h claims (notices ++ Gone ∷ [])
 tracked-delete n ended s h claims notices t =
     record {
       stored_given = omega arith;
@@ -163,11 +175,14 @@ tracked-delete n ended s h claims notices t =
       claimed = claimed-bare ended None h claims (notices ++ Gone ∷ []) tt;
     }
 
-claimed-shows : (ended : Bool) (s h : Option Shown) (x : Shown) (claims : List Record) (notices : List Notice) → version_at h < x.version → Agrees s x.holding → MatchBool ended (IsClaimed s claims) (WillBeClaimed s h claims (Shows x ∷ notices)) → MatchBool ended (IsClaimed s (claimed_by x.holding)) (WillBeClaimed s (Some x) (claimed_by x.holding) notices)
+claimed-shows : (ended : Bool) (s h : Option Shown) (x : Shown) (claims : List Record) (notices : List Notice)
+    → version_at h < x.version → Agrees s x.holding → MatchBool ended (IsClaimed s claims) (WillBeClaimed s h claims (Shows x ∷ notices))
+    → MatchBool ended (IsClaimed s (claimed_by x.holding)) (WillBeClaimed s (Some x) (claimed_by x.holding) notices)
 claimed-shows true s h x claims notices lt a c = IsClaimed-shown s x.holding a
 claimed-shows false s h x claims notices lt a c = let newer = leb-newer x.version (version_at h) lt in rw newer at c
 
-claimed-older : (ended : Bool) (s h : Option Shown) (x : Shown) (claims : List Record) (notices : List Notice) → x.version ≤ version_at h → MatchBool ended (IsClaimed s claims) (WillBeClaimed s h claims (Shows x ∷ notices)) → MatchBool ended (IsClaimed s claims) (WillBeClaimed s h claims notices)
+claimed-older : (ended : Bool) (s h : Option Shown) (x : Shown) (claims : List Record) (notices : List Notice) → x.version ≤ version_at h → MatchBool ended
+    (IsClaimed s claims) (WillBeClaimed s h claims (Shows x ∷ notices)) → MatchBool ended (IsClaimed s claims) (WillBeClaimed s h claims notices)
 claimed-older true s h x claims notices le c = c
 claimed-older false s h x claims notices le c = let older = leb-older x.version (version_at h) le in rw older at c
 
@@ -180,7 +195,8 @@ ends-gone true notices e = e
 ends-gone false notices e = e
 
 -- a newer event is taken
-pub tracked-newer : (n : ℕ) (ended : Bool) (s h : Option Shown) (x : Shown) (claims : List Record) (notices : List Notice) → version_at h < x.version → IsTracked n ended s h claims (Shows x ∷ notices) → IsTracked n ended s (Some x) (claimed_by x.holding) notices
+pub tracked-newer : (n : ℕ) (ended : Bool) (s h : Option Shown) (x : Shown) (claims : List Record) (notices : List Notice) → version_at h < x.version
+    → IsTracked n ended s h claims (Shows x ∷ notices) → IsTracked n ended s (Some x) (claimed_by x.holding) notices
 tracked-newer n ended s h x claims notices lt t =
     let newer = after_shows-newer h x lt in
     record {
@@ -195,7 +211,8 @@ tracked-newer n ended s h x claims notices lt t =
     }
 
 -- an older event is passed over
-pub tracked-older : (n : ℕ) (ended : Bool) (s h : Option Shown) (x : Shown) (claims : List Record) (notices : List Notice) → x.version ≤ version_at h → IsTracked n ended s h claims (Shows x ∷ notices) → IsTracked n ended s h claims notices
+pub tracked-older : (n : ℕ) (ended : Bool) (s h : Option Shown) (x : Shown) (claims : List Record) (notices : List Notice) → x.version ≤ version_at h
+    → IsTracked n ended s h claims (Shows x ∷ notices) → IsTracked n ended s h claims notices
 tracked-older n ended s h x claims notices le t =
     let older = after_shows-older h x le in
     record {
@@ -209,12 +226,14 @@ tracked-older n ended s h x claims notices le t =
       claimed = claimed-older ended s h x claims notices le t.claimed;
     }
 
-claimed-gone : (ended : Bool) (s h : Option Shown) (claims : List Record) (notices : List Notice) → IsBare s → MatchBool ended (IsClaimed s claims) (WillBeClaimed s h claims (Gone ∷ notices)) → MatchBool ended (IsClaimed s []) (WillBeClaimed s None [] notices)
+claimed-gone : (ended : Bool) (s h : Option Shown) (claims : List Record) (notices : List Notice) → IsBare s
+    → MatchBool ended (IsClaimed s claims) (WillBeClaimed s h claims (Gone ∷ notices)) → MatchBool ended (IsClaimed s []) (WillBeClaimed s None [] notices)
 claimed-gone true s h claims notices bare c = IsClaimed-bare s [] bare
 claimed-gone false s h claims notices bare c = c
 
 -- a deletion is taken
-pub tracked-gone : (n : ℕ) (ended : Bool) (s h : Option Shown) (claims : List Record) (notices : List Notice) → IsTracked n ended s h claims (Gone ∷ notices) → IsTracked n ended s None [] notices
+pub tracked-gone : (n : ℕ) (ended : Bool) (s h : Option Shown) (claims : List Record) (notices : List Notice) → IsTracked n ended s h claims (Gone ∷ notices)
+    → IsTracked n ended s None [] notices
 tracked-gone n ended s h claims notices t =
     record {
       stored_given = t.stored_given;
@@ -232,7 +251,8 @@ dropped true s claims bare c = IsClaimed-bare s [] (bare refl)
 dropped false s claims bare c = c
 
 -- the end of the list is taken
-pub tracked-end : (n : ℕ) (s h : Option Shown) (claims : List Record) (notices : List Notice) → IsTracked n false s h claims (End ∷ notices) → IsTracked n true s (after_end h) (cond (is_unlisted h) [] claims) notices
+pub tracked-end : (n : ℕ) (s h : Option Shown) (claims : List Record) (notices : List Notice) → IsTracked n false s h claims (End ∷ notices)
+    → IsTracked n true s (after_end h) (cond (is_unlisted h) [] claims) notices
 tracked-end n s h claims notices t =
     record {
       stored_given = t.stored_given;
@@ -246,7 +266,8 @@ tracked-end n s h claims notices t =
     }
 
 -- a put is accepted at the held version, and its reply comes
-pub tracked-accepted : (n : ℕ) (x y : Shown) (r : Record) (claims : List Record) (notices : List Notice) → y.version ≡ x.version → IsTracked n true (Some x) (Some y) claims notices → IsTracked (n + 1) true (Some (at_next n r)) (Some (at_next n r)) (claimed_by r) (notices ++ Shows (at_next n r) ∷ [])
+pub tracked-accepted : (n : ℕ) (x y : Shown) (r : Record) (claims : List Record) (notices : List Notice) → y.version ≡ x.version → IsTracked n true (Some x)
+    (Some y) claims notices → IsTracked (n + 1) true (Some (at_next n r)) (Some (at_next n r)) (claimed_by r) (notices ++ Shows (at_next n r) ∷ [])
 tracked-accepted n x y r claims notices e t =
     let old = Follows-old x y notices e t.stored_later t.follows in
     record {
@@ -261,7 +282,8 @@ tracked-accepted n x y r claims notices e t =
     }
 
 -- a put is accepted, and its reply is lost
-pub tracked-lost : (n : ℕ) (x y : Shown) (r : Record) (claims more : List Record) (notices : List Notice) → y.version ≡ x.version → Grows claims more → (is_assigned r ≡ true → Contains more r)
+pub tracked-lost : (n : ℕ) (x y : Shown) (r : Record) (claims more : List Record) (notices : List Notice) → y.version ≡ x.version → Grows claims more
+    → (is_assigned r ≡ true → Contains more r)
     → IsTracked n true (Some x) (Some y) claims notices → IsTracked (n + 1) true (Some (at_next n r)) (Some y) more (notices ++ Shows (at_next n r) ∷ [])
 tracked-lost n x y r claims more notices e grows own t =
     let old = Follows-old x y notices e t.stored_later t.follows in
@@ -277,7 +299,8 @@ tracked-lost n x y r claims more notices e grows own t =
     }
 
 -- a put isn't accepted, and its reply is lost
-pub tracked-doubted : (n : ℕ) (s : Option Shown) (y : Shown) (claims more : List Record) (notices : List Notice) → Grows claims more → IsTracked n true s (Some y) claims notices → IsTracked n true s (Some y) more notices
+pub tracked-doubted : (n : ℕ) (s : Option Shown) (y : Shown) (claims more : List Record) (notices : List Notice) → Grows claims more
+    → IsTracked n true s (Some y) claims notices → IsTracked n true s (Some y) more notices
 tracked-doubted n s y claims more notices grows t =
     record {
       stored_given = t.stored_given;
@@ -334,7 +357,8 @@ unversion-kept None claims k = k
 unversion-kept (Some x) claims k = k
 
 -- the watch expires, and the key is listed anew or isn't stored
-pub tracked-expired : (n : ℕ) (ended : Bool) (s h : Option Shown) (claims : List Record) (notices : List Notice) → IsTracked n ended s h claims notices → IsTracked n false s (unversion h) claims (listed_notices s)
+pub tracked-expired : (n : ℕ) (ended : Bool) (s h : Option Shown) (claims : List Record) (notices : List Notice) → IsTracked n ended s h claims notices
+    → IsTracked n false s (unversion h) claims (listed_notices s)
 tracked-expired n ended None h claims notices t =
     record {
       stored_given = t.stored_given;

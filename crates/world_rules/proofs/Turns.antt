@@ -1,5 +1,6 @@
 -- A turn, its put and the reply keep what holds of a world, and so does a crash.
-use Rattle.std.proofs.Common.{◌≡◌, ℕ, ◌+◌, Bool, true, false, cond, eqb, ◌&&◌, not, List, [], ◌∷◌, ◌++◌, Option, Some, None, option_map, is_some, IfSome, MatchBool, refl, sym, ap, subst, ◌∙◌, append-nil}
+use Rattle.std.proofs.Common.{◌≡◌, ℕ, ◌+◌, Bool, true, false, cond, eqb, ◌&&◌, not, List, [], ◌∷◌, ◌++◌, Option, Some}
+use Rattle.std.proofs.Common.{None, option_map, is_some, IfSome, MatchBool, refl, sym, ap, subst, ◌∙◌, append-nil}
 use Rattle.std.proofs.lemmas.Bool.{true≢false, and_parts}
 use Rattle.std.proofs.lemmas.List.Elements.{Contains-append_left, Contains-append_right}
 use Rattle.std.specs.List.{AllByRecursion, Contains, list_any}
@@ -33,7 +34,8 @@ use Rattle.status_store.specs.declared.change.Outcome.TheVariants.{Delivered, Lo
 use Rattle.status_store.specs.declared.stored.Stored.{Stored}
 use Rattle.status_store.specs.Places.{Place, place_of, service_at}
 use Rattle.status_store.specs.Objects.{stored_at}
-use Rattle.status_store.specs.Changes.{StoreValue, record_of, with_record, kept_record, recorded, is_at_version, is_made, with_put, after_put, delivered_reply, reply_to}
+use Rattle.status_store.specs.Changes.{StoreValue, record_of, with_record, kept_record, recorded, is_at_version}
+use Rattle.status_store.specs.Changes.{is_made, with_put, after_put, delivered_reply, reply_to}
 use Rattle.status_store.proofs.ChangeLaws.{same-version}
 use Rattle.status_store.proofs.StoredLaws.{found-stored}
 use Rattle.core_rules.specs.declared.turn.Turn.{Turn}
@@ -49,7 +51,8 @@ use Rattle.core_laws.proofs.Queued.{queues_are_orderly}
 use Rattle.core_laws.proofs.Shared.{put-shared, alone, none-out}
 use Rattle.world_rules.specs.Tracked.{Shown, Notice, Shows, IsClaimed, WillBeClaimed, IsTracked}
 use Rattle.world_rules.specs.World.{WorldValue, as_shown, shown_stored, shown_put, put_by, turned, after_turning, next_put, reached, after_crash}
-use Rattle.world_rules.specs.Good.{stored_as, stored_of, held_as, held_of, notices_in, notices_of, notices_shown, IsTrackedIn, IsOfGroup, IsFollowed, IsGoodStore, IsGood}
+use Rattle.world_rules.specs.Good.{stored_as, stored_of, held_as, held_of, notices_in, notices_of}
+use Rattle.world_rules.specs.Good.{notices_shown, IsTrackedIn, IsOfGroup, IsFollowed, IsGoodStore, IsGood}
 use Rattle.world_rules.proofs.Following.{at_next}
 use Rattle.world_rules.proofs.Tracking.{Grows, tracked-other, tracked-accepted, tracked-lost, tracked-doubted}
 use Rattle.world_rules.proofs.Lanes.{all-append, all-either, notices_in-push, tracked-as}
@@ -70,7 +73,8 @@ turn-wants (Wants other pending) put e =
     (pending, ap (λ (p : Put). Wants p pending) same)
 
 wanted_by : (b : Bool) (key : Key) (version : ℕ) (r : Record) (pending : Option Reason) (put : Put)
-    → put_in (cond b (NoPut key pending) (Wants (record { key = key; version = version; holding = r }) pending)) ≡ Some put → (put.key ≡ key) × (put.version ≡ version)
+    → put_in (cond b (NoPut key pending) (Wants (record { key = key; version = version; holding = r }) pending)) ≡ Some put
+    → (put.key ≡ key) × (put.version ≡ version)
 wanted_by true key version r pending put e = absurd (cc)
 wanted_by false key version r pending put e =
     let one : Put = record { key = key; version = version; holding = r } in
@@ -88,7 +92,8 @@ held_by (Some h) s key put is e =
     let service = h.object in
     let parts = wanted_by (same_record (wanted_record service.holding (chosen_at s service)) service.holding) key (version_held key_cmp s.held.services key)
     (wanted_record service.holding (chosen_at s service)) (reason_in (chosen_at s service)) put e in
-    let version : version_held key_cmp s.held.services key ≡ h.version = ap (λ (o : Option (Versioned Service)). option_map_or (λ (x : Versioned Service). x.version) o 0) is in
+    let version : version_held key_cmp s.held.services key ≡ h.version =
+    ap (λ (o : Option (Versioned Service)). option_map_or (λ (x : Versioned Service). x.version) o 0) is in
     (h, ap (held_at key_cmp s.held.services) parts.0 ∙ is, sym (parts.1 ∙ version))
 
 held-at : (queue : List Key) (s : State) (put : Put) → put_in (turn_of s queue) ≡ Some put → IsHeldAt s put
@@ -131,20 +136,25 @@ added-own : (key : Key) (r : Record) (terms : Terms) (claims : List ClaimValue) 
 added-own key r terms claims has = own_by (list_any (is_under r terms) claims) key r terms claims refl has
 
 -- the records of a key after a doubt
-records-doubted : (claims : List ClaimValue) (key q : Key) (r : Record) (terms : Terms) → records_of q (doubted key r terms claims) ≡ cond (same_key key q) (records_in (added key r terms (claims_of q claims))) (records_of q claims)
-records-doubted claims key q r terms = ap records_in (claims_of-doubted claims key q r terms) ∙ records-either (same_key key q) (added key r terms (claims_of q claims)) (claims_of q claims)
+records-doubted : (claims : List ClaimValue) (key q : Key) (r : Record) (terms : Terms)
+    → records_of q (doubted key r terms claims) ≡ cond (same_key key q) (records_in (added key r terms (claims_of q claims))) (records_of q claims)
+records-doubted claims key q r terms =
+    ap records_in (claims_of-doubted claims key q r terms) ∙ records-either (same_key key q) (added key r terms (claims_of q claims)) (claims_of q claims)
 
 some-address : (addresses : List AddressValue) → not (is_nil addresses) ≡ true → (a : AddressValue) × Contains addresses a
 some-address [] e = absurd (true≢false (sym e))
 some-address (a ∷ addresses) e = (a, contains-first a addresses)
 
-claimed_at : (found : Option Stored) (claims : List Record) (a : AddressValue) → IsClaimed (option_map stored_as found) claims → Contains (kept_record found).addresses a → Contains claims (kept_record found)
+claimed_at : (found : Option Stored) (claims : List Record) (a : AddressValue) → IsClaimed (option_map stored_as found) claims
+    → Contains (kept_record found).addresses a → Contains claims (kept_record found)
 claimed_at None claims a claimed there = absurd (contains-none a there)
 claimed_at (Some held) claims a claimed there = claimed (assigned_by (record_of held.object).addresses a there)
 
 -- ---- one service, by whether the put is of it
-doubted_by : (z : Bool) (n : ℕ) (st : Option Shown) (o : Option (Versioned Service)) (h : Versioned Service) (claims more : List Record) (notices : List Notice) → Grows claims more
-    → (z ≡ true → o ≡ Some h) → IsTracked n true st (option_map held_as o) claims notices → IsTracked n true st (option_map held_as o) (cond z more claims) notices
+doubted_by : (z : Bool) (n : ℕ) (st : Option Shown) (o : Option (Versioned Service)) (h : Versioned Service) (claims more : List Record) (notices : List Notice)
+    → Grows claims more
+    → (z ≡ true → o ≡ Some h) → IsTracked n true st (option_map held_as o) claims notices
+    → IsTracked n true st (option_map held_as o) (cond z more claims) notices
 doubted_by true n st o h claims more notices grows is t =
     subst (λ (x : Option (Versioned Service)). IsTracked n true st (option_map held_as x) more notices) (sym (is refl))
     (tracked-doubted n st (held_as h) claims more notices grows
@@ -155,35 +165,43 @@ doubted_by false n st o h claims more notices grows is t = t
 abbrev AtOneVersion : Option Stored → Option (Versioned Service) → Stored → Versioned Service → Type 0
 AtOneVersion o p g h = (o ≡ Some g) × (p ≡ Some h)
 
-both-there : (n : ℕ) (o : Option Stored) (p : Option (Versioned Service)) (g : Stored) (h : Versioned Service) (claims : List Record) (notices : List Notice) → AtOneVersion o p g h
+both-there : (n : ℕ) (o : Option Stored) (p : Option (Versioned Service)) (g : Stored) (h : Versioned Service) (claims : List Record) (notices : List Notice)
+    → AtOneVersion o p g h
     → IsTracked n true (option_map stored_as o) (option_map held_as p) claims notices → IsTracked n true (Some (stored_as g)) (Some (held_as h)) claims notices
 both-there n o p g h claims notices is t =
     subst (λ (x : Option Stored). IsTracked n true (option_map stored_as x) (Some (held_as h)) claims notices) is.0
     (subst (λ (x : Option (Versioned Service)). IsTracked n true (option_map stored_as o) (option_map held_as x) claims notices) is.1 t)
 
-accepted_by : (z : Bool) (n : ℕ) (o : Option Stored) (p : Option (Versioned Service)) (g : Stored) (h : Versioned Service) (r : Record) (claims : List Record) (notices : List Notice)
+accepted_by : (z : Bool) (n : ℕ) (o : Option Stored) (p : Option (Versioned Service)) (g : Stored) (h : Versioned Service) (r : Record) (claims : List Record)
+    (notices : List Notice)
     → (z ≡ true → AtOneVersion o p g h) → h.version ≡ g.version → record_of (with_record r g.object) ≡ r
     → IsTracked n true (option_map stored_as o) (option_map held_as p) claims notices
-    → IsTracked (n + 1) true (option_map stored_as (cond z (Some (recorded (n + 1) r g)) o)) (option_map held_as (cond z (Some (record { version = n + 1; object = with_holding r h.object })) p))
+    → IsTracked (n + 1) true (option_map stored_as (cond z (Some (recorded (n + 1) r g)) o))
+    (option_map held_as (cond z (Some (record { version = n + 1; object = with_holding r h.object })) p))
     (cond z (claimed_by r) claims) (notices ++ cond z (Shows (at_next n r) ∷ []) [])
 accepted_by true n o p g h r claims notices is same own t =
     subst (λ (q : Record). IsTracked (n + 1) true (Some (at_next n q)) (Some (at_next n r)) (claimed_by r) (notices ++ Shows (at_next n r) ∷ [])) (sym own)
     (tracked-accepted n (stored_as g) (held_as h) r claims notices same (both-there n o p g h claims notices (is refl) t))
 accepted_by false n o p g h r claims notices is same own t =
-    subst (IsTracked (n + 1) true (option_map stored_as o) (option_map held_as p) claims) (sym (append-nil notices)) (tracked-other n true (option_map stored_as o) (option_map held_as p) claims notices t)
+    subst (IsTracked (n + 1) true (option_map stored_as o) (option_map held_as p) claims) (sym (append-nil notices))
+    (tracked-other n true (option_map stored_as o) (option_map held_as p) claims notices t)
 
-lost_by : (z : Bool) (n : ℕ) (o : Option Stored) (p : Option (Versioned Service)) (g : Stored) (h : Versioned Service) (r : Record) (claims more : List Record) (notices : List Notice)
-    → Grows claims more → (is_assigned r ≡ true → Contains more r) → (z ≡ true → AtOneVersion o p g h) → h.version ≡ g.version → record_of (with_record r g.object) ≡ r
+lost_by : (z : Bool) (n : ℕ) (o : Option Stored) (p : Option (Versioned Service)) (g : Stored) (h : Versioned Service) (r : Record) (claims more : List Record)
+    (notices : List Notice)
+    → Grows claims more → (is_assigned r ≡ true → Contains more r) → (z ≡ true → AtOneVersion o p g h) → h.version ≡ g.version
+    → record_of (with_record r g.object) ≡ r
     → IsTracked n true (option_map stored_as o) (option_map held_as p) claims notices
     → IsTracked (n + 1) true (option_map stored_as (cond z (Some (recorded (n + 1) r g)) o)) (option_map held_as p)
     (cond z more claims) (notices ++ cond z (Shows (at_next n r) ∷ []) [])
 lost_by true n o p g h r claims more notices grows has is same own t =
     let there = is refl in
-    subst (λ (x : Option (Versioned Service)). IsTracked (n + 1) true (Some (stored_as (recorded (n + 1) r g))) (option_map held_as x) more (notices ++ Shows (at_next n r) ∷ [])) (sym there.1)
+    subst (λ (x : Option (Versioned Service)).
+    IsTracked (n + 1) true (Some (stored_as (recorded (n + 1) r g))) (option_map held_as x) more (notices ++ Shows (at_next n r) ∷ [])) (sym there.1)
     (subst (λ (q : Record). IsTracked (n + 1) true (Some (at_next n q)) (Some (held_as h)) more (notices ++ Shows (at_next n r) ∷ [])) (sym own)
     (tracked-lost n (stored_as g) (held_as h) r claims more notices same grows has (both-there n o p g h claims notices there t)))
 lost_by false n o p g h r claims more notices grows has is same own t =
-    subst (IsTracked (n + 1) true (option_map stored_as o) (option_map held_as p) claims) (sym (append-nil notices)) (tracked-other n true (option_map stored_as o) (option_map held_as p) claims notices t)
+    subst (IsTracked (n + 1) true (option_map stored_as o) (option_map held_as p) claims) (sym (append-nil notices))
+    (tracked-other n true (option_map stored_as o) (option_map held_as p) claims notices t)
 
 -- ---- what a put that was made shows
 module _ (store : StoreValue) (put : Put) where
@@ -204,21 +222,24 @@ module _ (store : StoreValue) (put : Put) where
       ap shown_stored (stored_at-recorded store.objects g put.key put.key put.holding next found
       ∙ ap (λ (b : Bool). cond b (Some (recorded next put.holding g)) stored_now) (same_key-itself put.key))
 
-  made-notices : (g : Stored) (key : Key) → stored_now ≡ Some g → notices_of key (as_shown (recorded next put.holding g)) ≡ cond (same_key put.key key) (Shows (at_next store.counter put.holding) ∷ []) []
+  made-notices : (g : Stored) (key : Key) → stored_now ≡ Some g
+      → notices_of key (as_shown (recorded next put.holding g)) ≡ cond (same_key put.key key) (Shows (at_next store.counter put.holding) ∷ []) []
   made-notices g key found =
       let is = service-at g.object put.key (found-stored store.objects (service_at put.key) g found).1 in
       ap (λ (x : Object). notices_shown key next (with_record put.holding x)) is.1
       ∙ ap (λ (k : Key). cond (same_key k key) (Shows (at_next store.counter put.holding) ∷ []) []) is.2
 
   made-lane : (g : Stored) (key : Key) (lane : List Event) → stored_now ≡ Some g
-      → notices_in key (lane ++ put_shown true (Some g)) ≡ notices_in key lane ++ cond (same_key put.key key) (Shows (at_next store.counter put.holding) ∷ []) []
+      → notices_in key (lane ++ put_shown true (Some g))
+      ≡ notices_in key lane ++ cond (same_key put.key key) (Shows (at_next store.counter put.holding) ∷ []) []
   made-lane g key lane found =
       ap (λ (events : List Event). notices_in key (lane ++ events)) (made-shown g found)
       ∙ notices_in-push key lane (as_shown (recorded next put.holding g))
       ∙ ap (λ (ns : List Notice). notices_in key lane ++ ns) (made-notices g key found)
 
 -- what is stored of a service is shown to the services' lane
-stored_of_group : (found : Option Stored) (place : Place) → group_of place.0 ≡ groups.Service → ((held : Stored) → found ≡ Some held → place_of held.object ≡ place) → AllByRecursion (IsOfGroup groups.Service) (shown_stored found)
+stored_of_group : (found : Option Stored) (place : Place) → group_of place.0 ≡ groups.Service
+    → ((held : Stored) → found ≡ Some held → place_of held.object ≡ place) → AllByRecursion (IsOfGroup groups.Service) (shown_stored found)
 stored_of_group None place e at = tt
 stored_of_group (Some held) place e at = (ap (λ (p : Place). group_of p.0) (at held refl) ∙ e, tt)
 
@@ -229,7 +250,8 @@ put-of put outcome store =
     (stored_of_group (stored_at objects (service_at put.key)) (service_at put.key) refl (λ held e. (found-stored objects (service_at put.key) held e).1)) tt
 
 -- ---- one service of the core that has heard the reply
-module _ (w : WorldValue) (s : State) (put : Put) (h : Versioned Service) (held : held_at key_cmp s.held.services put.key ≡ Some h) (at : h.version ≡ put.version)
+module _ (w : WorldValue) (s : State) (put : Put) (h : Versioned Service) (held : held_at key_cmp s.held.services put.key ≡ Some h)
+    (at : h.version ≡ put.version)
     (ended : s.held.services_ended ≡ true) (key : Key) (up : IsTrackedIn w s key)
   where
     abbrev here : Option Stored
@@ -242,11 +264,13 @@ module _ (w : WorldValue) (s : State) (put : Put) (h : Versioned Service) (held 
     abbrev Result : Bool → Option Stored → PutReply → Type 0
     Result b found reply =
         let t = replied (after_turn s) put reply in
-        IsTracked (cond b (w.store.counter + 1) w.store.counter) t.held.services_ended (option_map stored_as (stored_at (objects_with w.store put b found) (service_at key)))
+        IsTracked (cond b (w.store.counter + 1) w.store.counter) t.held.services_ended
+        (option_map stored_as (stored_at (objects_with w.store put b found) (service_at key)))
         (held_of t key) (records_of key t.claims) (notices_in key (w.service_lane ++ put_shown w.store put b found))
 
     ended-up : IsTracked w.store.counter true (stored_of w.store key) (held_of s key) (records_of key s.claims) (notices_in key w.service_lane)
-    ended-up = subst (λ (b : Bool). IsTracked w.store.counter b (stored_of w.store key) (held_of s key) (records_of key s.claims) (notices_in key w.service_lane)) ended up
+    ended-up = subst
+        (λ (b : Bool). IsTracked w.store.counter b (stored_of w.store key) (held_of s key) (records_of key s.claims) (notices_in key w.service_lane)) ended up
 
     none-more : notices_in key (w.service_lane ++ []) ≡ notices_in key w.service_lane
     none-more = ap (notices_in key) (append-nil w.service_lane)
@@ -269,9 +293,11 @@ module _ (w : WorldValue) (s : State) (put : Put) (h : Versioned Service) (held 
 
     doubt-result : (found : Option Stored) → Result false found replies.Unknown
     doubt-result found =
-        subst (λ (b : Bool). IsTracked w.store.counter b (stored_of w.store key) (held_of s key) (records_of key (replied (after_turn s) put replies.Unknown).claims) (notices_in key (w.service_lane ++ []))) (sym ended)
+        subst (λ (b : Bool). IsTracked w.store.counter b (stored_of w.store key) (held_of s key)
+        (records_of key (replied (after_turn s) put replies.Unknown).claims) (notices_in key (w.service_lane ++ []))) (sym ended)
         (tracked-as _ _ _ _ refl refl (records-doubted s.claims put.key key put.holding (put_terms s.held put)) none-more
-        (doubted_by (same_key put.key key) w.store.counter (stored_of w.store key) held_here h (records_of key s.claims) more-records (notices_in key w.service_lane) more-grows same-held ended-up))
+        (doubted_by (same_key put.key key) w.store.counter (stored_of w.store key) held_here h (records_of key s.claims) more-records
+        (notices_in key w.service_lane) more-grows same-held ended-up))
 
     module _ (g : Stored) (found : stored_at w.store.objects (service_at put.key) ≡ Some g) (current : g.version ≡ put.version) where
       both-here : same_key put.key key ≡ true → AtOneVersion here held_here g h
@@ -280,29 +306,38 @@ module _ (w : WorldValue) (s : State) (put : Put) (h : Versioned Service) (held 
       own-record : record_of (with_record put.holding g.object) ≡ put.holding
       own-record = given-record put.holding g.object put.key (found-stored w.store.objects (service_at put.key) g found).1
 
-      stored-now : option_map stored_as (stored_at (objects_with w.store put true (Some g)) (service_at key)) ≡ option_map stored_as (cond (same_key put.key key) (Some (recorded (w.store.counter + 1) put.holding g)) here)
+      stored-now : option_map stored_as (stored_at (objects_with w.store put true (Some g)) (service_at key))
+          ≡ option_map stored_as (cond (same_key put.key key) (Some (recorded (w.store.counter + 1) put.holding g)) here)
       stored-now = ap (option_map stored_as) (stored_at-recorded w.store.objects g put.key key put.holding (w.store.counter + 1) found)
 
       held-now : held_of (replied (after_turn s) put (replies.Ok (w.store.counter + 1))) key
-          ≡ option_map held_as (cond (same_key put.key key) (Some (record { version = w.store.counter + 1; object = with_holding put.holding h.object })) held_here)
+          ≡ option_map held_as
+          (cond (same_key put.key key) (Some (record { version = w.store.counter + 1; object = with_holding put.holding h.object })) held_here)
       held-now =
           ap (option_map held_as)
-          (ap (λ (o : Option (Versioned Service)). held_at key_cmp (amended_at key_cmp s.held.services put.key (w.store.counter + 1) (with_holding put.holding) o) key) held
+          (ap (λ (o : Option (Versioned Service)).
+          held_at key_cmp (amended_at key_cmp s.held.services put.key (w.store.counter + 1) (with_holding put.holding) o) key) held
           ∙ held_at-amended key_cmp-total s.held.services put.key key (w.store.counter + 1) (with_holding put.holding) h held
-          ∙ ap (λ (b : Bool). cond b (Some (record { version = w.store.counter + 1; object = with_holding put.holding h.object })) held_here) (is_eq-key_cmp put.key key))
+          ∙ ap (λ (b : Bool). cond b (Some (record { version = w.store.counter + 1; object = with_holding put.holding h.object })) held_here)
+          (is_eq-key_cmp put.key key))
 
       accepted-result : Result true (Some g) (replies.Ok (w.store.counter + 1))
       accepted-result =
           let t = replied (after_turn s) put (replies.Ok (w.store.counter + 1)) in
-          subst (λ (b : Bool). IsTracked (w.store.counter + 1) b (option_map stored_as (stored_at (objects_with w.store put true (Some g)) (service_at key))) (held_of t key) (records_of key t.claims) (notices_in key (w.service_lane ++ put_shown w.store put true (Some g)))) (sym ended)
-          (tracked-as _ _ _ _ stored-now held-now (records_of-settled s.claims put.key key put.holding (put_terms s.held put)) (made-lane w.store put g key w.service_lane found)
-          (accepted_by (same_key put.key key) w.store.counter here held_here g h put.holding (records_of key s.claims) (notices_in key w.service_lane) both-here (at ∙ sym current) own-record ended-up))
+          subst (λ (b : Bool). IsTracked (w.store.counter + 1) b (option_map stored_as (stored_at (objects_with w.store put true (Some g)) (service_at key)))
+          (held_of t key) (records_of key t.claims) (notices_in key (w.service_lane ++ put_shown w.store put true (Some g)))) (sym ended)
+          (tracked-as _ _ _ _ stored-now held-now (records_of-settled s.claims put.key key put.holding (put_terms s.held put))
+          (made-lane w.store put g key w.service_lane found)
+          (accepted_by (same_key put.key key) w.store.counter here held_here g h put.holding (records_of key s.claims) (notices_in key w.service_lane) both-here
+          (at ∙ sym current) own-record ended-up))
 
       lost-result : Result true (Some g) replies.Unknown
       lost-result =
           let t = replied (after_turn s) put replies.Unknown in
-          subst (λ (b : Bool). IsTracked (w.store.counter + 1) b (option_map stored_as (stored_at (objects_with w.store put true (Some g)) (service_at key))) (held_of t key) (records_of key t.claims) (notices_in key (w.service_lane ++ put_shown w.store put true (Some g)))) (sym ended)
-          (tracked-as _ _ _ _ stored-now refl (records-doubted s.claims put.key key put.holding (put_terms s.held put)) (made-lane w.store put g key w.service_lane found)
+          subst (λ (b : Bool). IsTracked (w.store.counter + 1) b (option_map stored_as (stored_at (objects_with w.store put true (Some g)) (service_at key)))
+          (held_of t key) (records_of key t.claims) (notices_in key (w.service_lane ++ put_shown w.store put true (Some g)))) (sym ended)
+          (tracked-as _ _ _ _ stored-now refl (records-doubted s.claims put.key key put.holding (put_terms s.held put))
+          (made-lane w.store put g key w.service_lane found)
           (lost_by (same_key put.key key) w.store.counter here held_here g h put.holding (records_of key s.claims) more-records (notices_in key w.service_lane)
           more-grows (added-own put.key put.holding (put_terms s.held put) (claims_of key s.claims)) both-here (at ∙ sym current) own-record ended-up))
 
@@ -311,16 +346,19 @@ module _ (w : WorldValue) (s : State) (put : Put) (h : Versioned Service) (held 
     delivered_on true g found e = accepted-result g found (same-version g.version put.version e)
     delivered_on false g found e = stale-result (Some g)
 
-    delivered_by : (found : Option Stored) → stored_at w.store.objects (service_at put.key) ≡ found → Result (is_at_version put.version found) found (delivered_reply w.store.counter put found)
+    delivered_by : (found : Option Stored) → stored_at w.store.objects (service_at put.key) ≡ found
+        → Result (is_at_version put.version found) found (delivered_reply w.store.counter put found)
     delivered_by None is = missing-result None
     delivered_by (Some g) is = delivered_on (eqb g.version put.version) g is refl
 
-    lost_on : (b : Bool) (found : Option Stored) → stored_at w.store.objects (service_at put.key) ≡ found → (b ≡ true → is_at_version put.version found ≡ true) → Result b found replies.Unknown
+    lost_on : (b : Bool) (found : Option Stored) → stored_at w.store.objects (service_at put.key) ≡ found → (b ≡ true → is_at_version put.version found ≡ true)
+        → Result b found replies.Unknown
     lost_on false found is made = doubt-result found
     lost_on true None is made = absurd (true≢false (sym (made refl)))
     lost_on true (Some g) is made = lost-result g is (same-version g.version put.version (made refl))
 
-    put-tracked : (outcome : Outcome) → Result (is_made put outcome w.store.objects) (stored_at w.store.objects (service_at put.key)) (reply_to put outcome w.store)
+    put-tracked : (outcome : Outcome)
+        → Result (is_made put outcome w.store.objects) (stored_at w.store.objects (service_at put.key)) (reply_to put outcome w.store)
     put-tracked Delivered = delivered_by (stored_at w.store.objects (service_at put.key)) refl
     put-tracked Refused = stale-result (stored_at w.store.objects (service_at put.key))
     put-tracked (Lost applied) =
@@ -350,8 +388,10 @@ module _ (w : WorldValue) (s : State) (put : Put) (wanted : put_in (core_turn s)
       let q = record_at w.store other in
       let of_other = up.tracked other in
       let claimed : IsClaimed (stored_of w.store other) (records_of other s.claims) =
-      subst (λ (b : Bool). MatchBool b (IsClaimed (stored_of w.store other) (records_of other s.claims)) (WillBeClaimed (stored_of w.store other) (held_of s other) (records_of other s.claims) (notices_in other w.service_lane))) ended-services of_other.claimed in
-      let has : Contains (records_of other s.claims) q = claimed_at (stored_at w.store.objects (service_at other)) (records_of other s.claims) a claimed in_other in
+      subst (λ (b : Bool). MatchBool b (IsClaimed (stored_of w.store other) (records_of other s.claims)) (WillBeClaimed (stored_of w.store other)
+      (held_of s other) (records_of other s.claims) (notices_in other w.service_lane))) ended-services of_other.claimed in
+      let has : Contains (records_of other s.claims) q =
+      claimed_at (stored_at w.store.objects (service_at other)) (records_of other s.claims) a claimed in_other in
       let found = records-from (claims_of other s.claims) q has in
       let shown : claims_of other s.claims ≡ may_have other up.run =
       ap (λ (x : State). claims_of other x.claims) (sym up.leads) ∙ claims_are_shown w.class up.run up.is other
@@ -359,11 +399,13 @@ module _ (w : WorldValue) (s : State) (put : Put) (wanted : put_in (core_turn s)
       let turn = turn-wants (core_turn s) put wanted in
       let run : IsRun w.class (Turned (Wants put turn.0) ∷ up.run) = ((out-none, sym turn.1 ∙ ap core_turn (sym up.leads)), up.is) in
       let shares = put-shared w.class put turn.0 up.run run up.typed a in_put in
-      let stands : Contains (core_after w.class up.run).claims found.0 = subst (λ (x : State). Contains x.claims found.0) (sym up.leads) (claim-of s.claims other found.0 found.1).0 in
+      let stands : Contains (core_after w.class up.run).claims found.0 =
+      subst (λ (x : State). Contains x.claims found.0) (sym up.leads) (claim-of s.claims other found.0 found.1).0 in
       let theirs : found.0.terms ≡ u = claims_are_by_mark w.class up.run found.0 stands u (subst (λ (r : Record). IsMarkOf u r.mark) (sym found.2) marked') in
       subst (λ (x : Terms). MayShare x u) (mark-once put.holding.mark shares.0 t shares.1 marked)
       (subst (MayShare shares.0) theirs
-      (shares.2 other apart found.0 (subst (λ (cs : List ClaimValue). Contains cs found.0) shown found.1) (subst (λ (r : Record). Contains r.addresses a) (sym found.2) in_other)))
+      (shares.2 other apart found.0 (subst (λ (cs : List ClaimValue). Contains cs found.0) shown found.1)
+      (subst (λ (r : Record). Contains r.addresses a) (sym found.2) in_other)))
 
   -- a put with an address is marked
   pub put-marked : is_assigned put.holding ≡ true → (t : Terms) × IsMarkOf t put.holding.mark
@@ -418,7 +460,8 @@ silent-good w s none up good = record {
   };
 }
 
-turned_by : (found : Option Put) (w : WorldValue) (s : State) (outcome : Outcome) → put_in (core_turn s) ≡ found → IsFollowed w s → IsGood w → IsGood (turned (after_turn s) found outcome w)
+turned_by : (found : Option Put) (w : WorldValue) (s : State) (outcome : Outcome) → put_in (core_turn s) ≡ found → IsFollowed w s → IsGood w
+    → IsGood (turned (after_turn s) found outcome w)
 turned_by None w s outcome e up good = silent-good w s e up good
 turned_by (Some put) w s outcome e up good = put-good w s put e up outcome good
 
@@ -430,7 +473,8 @@ pub good-turn : (outcome : Outcome) (w : WorldValue) → IsGood w → IsGood (af
 good-turn outcome w good = turning_by w.core w outcome good.up good
 
 -- ---- a crash
-reached_by : (found : Option Put) (applied : Bool) (w : WorldValue) (s : State) → put_in (core_turn s) ≡ found → IsFollowed w s → IsGood w → IsGoodStore (reached found applied w.store)
+reached_by : (found : Option Put) (applied : Bool) (w : WorldValue) (s : State) → put_in (core_turn s) ≡ found → IsFollowed w s → IsGood w
+    → IsGoodStore (reached found applied w.store)
 reached_by None applied w s e up good = good.stored
 reached_by (Some put) applied w s e up good = put-stored w s put e up (Lost applied) good.stored
 

@@ -17,7 +17,8 @@ use Rattle.status_store.specs.Changes.{StoreValue, IsWellFormed, edited, empty_s
 use Rattle.status_store.proofs.ChangeLaws.{kept-with_stored}
 use Rattle.core_rules.specs.Core.{State}
 use Rattle.core_rules.specs.Turn.{core_turn, after_turn, put_in}
-use Rattle.world_rules.specs.Moves.{Move, Sets, Deletes, Tells, Takes, Turns, Stops, Starts, ConfigExpires, ServicesExpire, EndsLater, IsMove, after_move, after_start}
+use Rattle.world_rules.specs.Moves.{Move, Sets, Deletes, Tells, Takes, Turns, Stops, Starts, ConfigExpires}
+use Rattle.world_rules.specs.Moves.{ServicesExpire, EndsLater, IsMove, after_move, after_start}
 use Rattle.world_rules.specs.Good.{IsGood, IsFollowed}
 use Rattle.world_rules.specs.Laws.{RecordsAreGood, UnmarkedStay}
 use Rattle.world_rules.specs.World.{WorldValue, with_object, records_store, turned, after_turning, next_put, reached}
@@ -28,7 +29,8 @@ use Rattle.world_rules.proofs.Worlds.{steps_keep_good}
 -- ---- stores of objects
 kept-more : (held : List Object) (store : StoreValue) → IsWellFormed store → IsWellFormed (records_store held store)
 kept-more [] store kept = kept
-kept-more (object ∷ more) store kept = kept-more more (with_object object store) (kept-with_stored store (record { version = store.counter + 1; object = object }) refl kept)
+kept-more (object ∷ more) store kept =
+    kept-more more (with_object object store) (kept-with_stored store (record { version = store.counter + 1; object = object }) refl kept)
 
 kept-empty : IsWellFormed empty_store
 unfolding IsStrictlySortedBy
@@ -48,25 +50,30 @@ same-records f key = inl refl
 less-records : (f g : Key → Record) → ((key : Key) → (f key ≡ g key) ⊎ (is_assigned (g key) ≡ false)) → StayUnmarked f g
 less-records f g less key = ⊎_elim (λ same. inl (sym same)) (λ bare. inr (inl bare)) (less key)
 
-put_by : (put : Put) (outcome : Outcome) (store : StoreValue) → (is_assigned put.holding ≡ true → (t : Terms) × IsMarkOf t put.holding.mark) → StayUnmarked (record_at store) (record_at (after_put put outcome store))
+put_by : (put : Put) (outcome : Outcome) (store : StoreValue) → (is_assigned put.holding ≡ true → (t : Terms) × IsMarkOf t put.holding.mark)
+    → StayUnmarked (record_at store) (record_at (after_put put outcome store))
 put_by put outcome store marked key =
     ⊎_elim (λ same. inl same)
     (λ new. inr (inr (subst (λ (r : Record). is_assigned r ≡ true → (t : Terms) × IsMarkOf t r.mark) (sym new) marked)))
     (put-record put outcome store key)
 
-turned_by : (found : Option Put) (w : WorldValue) (s : State) (outcome : Outcome) → put_in (core_turn s) ≡ found → IsFollowed w s → StayUnmarked (record_at w.store) (record_at (turned (after_turn s) found outcome w).store)
+turned_by : (found : Option Put) (w : WorldValue) (s : State) (outcome : Outcome) → put_in (core_turn s) ≡ found → IsFollowed w s
+    → StayUnmarked (record_at w.store) (record_at (turned (after_turn s) found outcome w).store)
 turned_by None w s outcome e up = same-records (record_at w.store)
 turned_by (Some put) w s outcome e up = put_by put outcome w.store (put-marked w s put e up)
 
-turning_by : (c : Option State) (w : WorldValue) (outcome : Outcome) → IfSome c (IsFollowed w) → StayUnmarked (record_at w.store) (record_at (after_turning c outcome w).store)
+turning_by : (c : Option State) (w : WorldValue) (outcome : Outcome) → IfSome c (IsFollowed w)
+    → StayUnmarked (record_at w.store) (record_at (after_turning c outcome w).store)
 turning_by None w outcome up = same-records (record_at w.store)
 turning_by (Some s) w outcome up = turned_by (put_in (core_turn s)) w s outcome refl up
 
-reached_by : (found : Option Put) (applied : Bool) (w : WorldValue) (s : State) → put_in (core_turn s) ≡ found → IsFollowed w s → StayUnmarked (record_at w.store) (record_at (reached found applied w.store))
+reached_by : (found : Option Put) (applied : Bool) (w : WorldValue) (s : State) → put_in (core_turn s) ≡ found → IsFollowed w s
+    → StayUnmarked (record_at w.store) (record_at (reached found applied w.store))
 reached_by None applied w s e up = same-records (record_at w.store)
 reached_by (Some put) applied w s e up = put_by put (Lost applied) w.store (put-marked w s put e up)
 
-crashed_by : (c : Option State) (applied : Bool) (w : WorldValue) → IfSome c (IsFollowed w) → StayUnmarked (record_at w.store) (record_at (reached (next_put c) applied w.store))
+crashed_by : (c : Option State) (applied : Bool) (w : WorldValue) → IfSome c (IsFollowed w)
+    → StayUnmarked (record_at w.store) (record_at (reached (next_put c) applied w.store))
 crashed_by None applied w up = same-records (record_at w.store)
 crashed_by (Some s) applied w up = reached_by (put_in (core_turn s)) applied w s refl up
 
@@ -75,8 +82,10 @@ start_by None list w = same-records (record_at w.store)
 start_by (Some s) list w = same-records (record_at w.store)
 
 move-unmarked : (move : Move) (w : WorldValue) → IsMove move w → IsGood w → StayUnmarked (record_at w.store) (record_at (after_move move w).store)
-move-unmarked (Sets object holding) w may good = less-records (record_at w.store) (record_at (set_store object holding w.store)) (set-records object holding w.store may)
-move-unmarked (Deletes kind gone) w may good = less-records (record_at w.store) (record_at (edited (Delete kind gone) w.store)) (delete-records kind gone w.store good.stored.kept)
+move-unmarked (Sets object holding) w may good =
+    less-records (record_at w.store) (record_at (set_store object holding w.store)) (set-records object holding w.store may)
+move-unmarked (Deletes kind gone) w may good =
+    less-records (record_at w.store) (record_at (edited (Delete kind gone) w.store)) (delete-records kind gone w.store good.stored.kept)
 move-unmarked (Tells event) w may good = same-records (record_at w.store)
 move-unmarked Takes w may good = same-records (record_at w.store)
 move-unmarked (Turns outcome) w may good = turning_by w.core w outcome good.up

@@ -16,7 +16,8 @@ use Rattle.core_rules.specs.Take.{core_expired}
 use Rattle.core_rules.specs.Run.{Entry, Expired}
 use Rattle.core_laws.specs.Shared.{AllShowTerms}
 use Rattle.world_rules.specs.Tracked.{version_at, IsBehind}
-use Rattle.world_rules.specs.Moves.{Move, Sets, Deletes, Tells, Takes, Turns, Stops, Starts, ConfigExpires, ServicesExpire, EndsLater, IsMove, IsListOf, AreMoves, entries_of, run_along, after_move, after_moves, after_start, relisted, but_config, begun}
+use Rattle.world_rules.specs.Moves.{Move, Sets, Deletes, Tells, Takes, Turns, Stops, Starts, ConfigExpires, ServicesExpire, EndsLater, IsMove}
+use Rattle.world_rules.specs.Moves.{IsListOf, AreMoves, entries_of, run_along, after_move, after_moves, after_start, relisted, but_config, begun}
 use Rattle.world_rules.specs.World.{WorldValue, expired_core}
 use Rattle.world_rules.specs.Good.{held_as, stored_of, held_of, notices_in, IsTrackedIn, IsFollowed, IsGoodStore, IsGood}
 use Rattle.world_rules.specs.Laws.{IsSafeWorld, AreSafeAlong, StartsAreGood, StepsKeepGood, WorldsAreSafe}
@@ -43,7 +44,8 @@ started-followed w list good listed = record {
   where
     fresh-tracked : (key : Key) → (version_at (stored_of w.store key) ≤ w.store.counter) × IsBehind (stored_of w.store key) 0
         → (let v : WorldValue = record w { service_lane = list; core = Some (fresh w.class) } in IsTrackedIn v (fresh w.class) key)
-    fresh-tracked key given = tracked-as _ _ _ _ refl refl refl (notices-list w.store list key good.kept.ascending listed) (tracked-fresh w.store.counter (stored_of w.store key) given.0 given.1)
+    fresh-tracked key given = tracked-as _ _ _ _ refl refl refl (notices-list w.store list key good.kept.ascending listed)
+        (tracked-fresh w.store.counter (stored_of w.store key) given.0 given.1)
 
 -- a world without a controller
 abbrev down : Option (List ℕ) → StoreValue → WorldValue
@@ -74,11 +76,13 @@ services-expired_core w s list good listed up = record {
       tracked-as _ _ _ _ refl
       (ap (option_map held_as) (held_at-expired key_cmp s.held.services key) ∙ unversioned (held_at key_cmp s.held.services key))
       refl (notices-list w.store list key good.kept.ascending listed)
-      (tracked-expired w.store.counter s.held.services_ended (stored_of w.store key) (held_of s key) (records_of key s.claims) (notices_in key w.service_lane) (up.tracked key));
+      (tracked-expired w.store.counter s.held.services_ended (stored_of w.store key) (held_of s key) (records_of key s.claims) (notices_in key w.service_lane)
+      (up.tracked key));
 }
 
 services_by : (c : Option State) (list : List Event) (w : WorldValue) → IsGoodStore w.store → IsListOf w.store list → IfSome c (IsFollowed w)
-    → (let v : WorldValue = record w { service_lane = relisted c list w.service_lane; core = expired_core groups.Service c } in IfSome (expired_core groups.Service c) (IsFollowed v))
+    → (let v : WorldValue = record w { service_lane = relisted c list w.service_lane; core = expired_core groups.Service c } in
+    IfSome (expired_core groups.Service c) (IsFollowed v))
 services_by None list w good listed up = tt
 services_by (Some s) list w good listed up = services-expired_core w s list good listed up
 
@@ -92,7 +96,8 @@ config_by (Some s) w up = record {
   typed = (tt, up.typed);
   none_out = up.none_out;
   services = up.services;
-  tracked = λ key. same-tracked w.store.counter (stored_of w.store key) (notices_in key w.service_lane) s (core_expired s groups.Config) key (refl, refl, refl) (up.tracked key);
+  tracked = λ key. same-tracked w.store.counter (stored_of w.store key) (notices_in key w.service_lane) s (core_expired s groups.Config) key (refl, refl, refl)
+      (up.tracked key);
 }
 
 -- ---- each move, and all of them
@@ -109,7 +114,8 @@ good-move (ServicesExpire list) w may typed good = record { stored = good.stored
 good-move (EndsLater before event behind) w may typed good = good-late before event behind w may good
 
 -- nothing of it is about the lane of the configuration
-followed-else : (w : WorldValue) (lane : List Event) (c : Option State) → IfSome c (IsFollowed w) → (let v : WorldValue = record w { config_lane = lane } in IfSome c (IsFollowed v))
+followed-else : (w : WorldValue) (lane : List Event) (c : Option State) → IfSome c (IsFollowed w)
+    → (let v : WorldValue = record w { config_lane = lane } in IfSome c (IsFollowed v))
 followed-else w lane None up = tt
 followed-else w lane (Some s) up = record {
   run = up.run;
@@ -140,9 +146,11 @@ terms-earlier (entry ∷ now) earlier all = terms-earlier now earlier all.1
 
 terms-before : (moves : List Move) (w : WorldValue) (earlier : List Entry) → AllShowTerms (run_along moves w earlier) → AllShowTerms earlier
 terms-before [] w earlier all = all
-terms-before (move ∷ moves) w earlier all = terms-earlier (entries_of move w) earlier (terms-before moves (after_move move w) (entries_of move w ++ earlier) all)
+terms-before (move ∷ moves) w earlier all =
+    terms-earlier (entries_of move w) earlier (terms-before moves (after_move move w) (entries_of move w ++ earlier) all)
 
-pub good-moves : (moves : List Move) (w : WorldValue) (earlier : List Entry) → AreMoves moves w → AllShowTerms (run_along moves w earlier) → IsGood w → IsGood (after_moves moves w)
+pub good-moves : (moves : List Move) (w : WorldValue) (earlier : List Entry) → AreMoves moves w → AllShowTerms (run_along moves w earlier) → IsGood w
+    → IsGood (after_moves moves w)
 good-moves [] w earlier may typed good = good
 good-moves (move ∷ moves) w earlier may typed good =
     let here = terms-first (entries_of move w) earlier (terms-before moves (after_move move w) (entries_of move w ++ earlier) typed) in
@@ -151,11 +159,13 @@ good-moves (move ∷ moves) w earlier may typed good =
 safe-world : (w : WorldValue) → IsGood w → IsSafeWorld w
 safe-world w good = record { safe = good.stored.safe; kept = good.stored.kept; ordered = worlds_are_in_order w good }
 
-pub safe-along : (moves : List Move) (w : WorldValue) (earlier : List Entry) → AreMoves moves w → AllShowTerms (run_along moves w earlier) → IsGood w → AreSafeAlong moves w
+pub safe-along : (moves : List Move) (w : WorldValue) (earlier : List Entry) → AreMoves moves w → AllShowTerms (run_along moves w earlier) → IsGood w
+    → AreSafeAlong moves w
 safe-along [] w earlier may typed good = safe-world w good
 safe-along (move ∷ moves) w earlier may typed good =
     let here = terms-first (entries_of move w) earlier (terms-before moves (after_move move w) (entries_of move w ++ earlier) typed) in
     (safe-world w good, safe-along moves (after_move move w) (entries_of move w ++ earlier) may.1 typed (good-move move w may.0 here good))
 
 pub worlds_are_safe : WorldsAreSafe
-worlds_are_safe class store list moves good listed may typed = safe-along moves (begun class store list) [] may typed (starts_are_good class store list good listed)
+worlds_are_safe class store list moves good listed may typed =
+    safe-along moves (begun class store list) [] may typed (starts_are_good class store list good listed)

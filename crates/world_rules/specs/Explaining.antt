@@ -17,7 +17,8 @@ use Rattle.core_rules.specs.Turn.{core_turn, after_turn, put_in}
 use Rattle.core_laws.specs.Shared.{AllShowTerms}
 use Rattle.core_rules.specs.Run.{Entry, Took, Expired, Turned, Heard, core_after, put_out, IsRun}
 use Rattle.world_rules.specs.Good.{IsGoodStore}
-use Rattle.world_rules.specs.Moves.{Move, Sets, Deletes, Tells, Takes, Turns, Stops, Starts, ConfigExpires, ServicesExpire, EndsLater, IsListOf, AreMoves, after_moves, run_along, begun}
+use Rattle.world_rules.specs.Moves.{Move, Sets, Deletes, Tells, Takes, Turns, Stops, Starts, ConfigExpires}
+use Rattle.world_rules.specs.Moves.{ServicesExpire, EndsLater, IsListOf, AreMoves, after_moves, run_along, begun}
 use Rattle.world_rules.specs.Safe.{IsSafe}
 use Rattle.world_rules.specs.Laws.{AreSafeAlong}
 use Rattle.world_rules.specs.World.{WorldValue}

@@ -70,7 +70,8 @@ IsLive s before version key = IsNewer s key version ⊎ Contains before (deletes
 pub record AreCounted (w : WorldValue) (s : State) : Type 0 where
   pub stored : IsWellFormed w.store
   pub held : (key : Key) (held : Versioned Service) → IsHeld s key held → held.version ≤ w.store.counter
-  pub pending : (before behind : List Event) (version : ℕ) (service : Service) → IsPending w before (shows_service version service) behind → version ≤ w.store.counter
+  pub pending : (before behind : List Event) (version : ℕ) (service : Service) → IsPending w before (shows_service version service) behind
+      → version ≤ w.store.counter
 
 -- once the list of services has ended: each stored record with an address is claimed for its service
 abbrev pub StoredAreClaimed : WorldValue → State → Type 0
@@ -98,7 +99,8 @@ StoredAreListed w s =
 -- What is held is what is stored, and neither a newer event nor a deletion is pending.
 pub record IsCurrent (w : WorldValue) (s : State) (key : Key) (held : Versioned Service) (r : Record) : Type 0 where
   pub same : held.object.holding ≡ r
-  pub none_newer : (before behind : List Event) (version : ℕ) (service : Service) → IsPending w before (shows_service version service) behind → service.key ≡ key → version ≤ held.version
+  pub none_newer : (before behind : List Event) (version : ℕ) (service : Service) → IsPending w before (shows_service version service) behind
+      → service.key ≡ key → version ≤ held.version
   pub no_deletion : (before behind : List Event) → ¬ (IsPending w before (deletes_service key) behind)
 
 -- what is held at the stored version is current
@@ -135,7 +137,8 @@ pub record IsQuiescent (s : State) : Type 0 where
 -- The versions that are pending of a stored service: they ascend, up to the stored one, which is the last where the service isn't held at
 -- it; those with a deletion behind them are less.
 pub record AreInOrder (w : WorldValue) (s : State) : Type 0 where
-  pub held : (key : Key) (stored : Stored) (held : Versioned Service) → IsStored w.store.objects (service_at key) stored → IsHeld s key held → held.version ≤ stored.version
+  pub held : (key : Key) (stored : Stored) (held : Versioned Service) → IsStored w.store.objects (service_at key) stored → IsHeld s key held
+      → held.version ≤ stored.version
   pub ascending : (before between behind : List Event) (first second : ℕ) (service other : Service) → service.key ≡ other.key
       → w.service_lane ≡ before ++ (shows_service first service ∷ (between ++ (shows_service second other ∷ behind))) → first < second
   pub stored : (before behind : List Event) (version : ℕ) (service : Service) (stored : Stored) → IsPending w before (shows_service version service) behind

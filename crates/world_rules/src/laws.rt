@@ -1,7 +1,8 @@
 //! What holds of every world.
 ghost use Rattle.world_rules.specs.Clash.{SafeWithoutClash};
 ghost use Rattle.world_rules.specs.Explaining.{RunsAreSafeInWorlds, WorldsExplainThemselves};
-ghost use Rattle.world_rules.specs.Laws.{NewStoresAreGood, OwnEndsOnce, RecordsAreGood, StartsAreGood, StartsAreOwn, StepsAreMoves, StepsKeepGood, StepsKeepOwn, StoresHaveTerms, UnmarkedStay, WorldsAreInOrder, WorldsAreSafe};
+ghost use Rattle.world_rules.specs.Laws.{NewStoresAreGood, OwnEndsOnce, RecordsAreGood, StartsAreGood, StartsAreOwn, StepsAreMoves};
+ghost use Rattle.world_rules.specs.Laws.{StepsKeepGood, StepsKeepOwn, StoresHaveTerms, UnmarkedStay, WorldsAreInOrder, WorldsAreSafe};
 
 /// Whatever is edited, shown, put, lost and answered, and whenever the controller stops, is started again, or a watch expires: at no
 /// moment are two services recorded with one address and with marked records, unless the terms of their marks may share it. So it is too

@@ -16,7 +16,8 @@ use Rattle.world_trial.specs.Lines.{line_in, lines_in, keys_in, AreByKey}
 abbrev IsBelow : Key → List (Key × List AddressValue) → Type 0
 IsBelow key records = AllByRecursion (λ other. key_cmp key other ≡ Less) (keys_in records)
 
-below_by : (key : Key) (object : Object) (rest : List (Key × List AddressValue)) → place_cmp (service_at key) (place_of object) ≡ Less → IsBelow key rest → IsBelow key (line_in object ++ rest)
+below_by : (key : Key) (object : Object) (rest : List (Key × List AddressValue)) → place_cmp (service_at key) (place_of object) ≡ Less → IsBelow key rest
+    → IsBelow key (line_in object ++ rest)
 below_by key (objects.Service service) rest first others = (first, others)
 below_by key (objects.Pool pool) rest first others = others
 below_by key (objects.L2 adv) rest first others = others
@@ -27,11 +28,13 @@ below_by key (objects.Namespace namespace) rest first others = others
 below_by key (objects.Node node) rest first others = others
 below_by key (objects.Slice slice) rest first others = others
 
-below : (key : Key) (stored : List Stored) → AllByRecursion (λ place. place_cmp (service_at key) place ≡ Less) (places_of stored) → IsBelow key (lines_in stored)
+below : (key : Key) (stored : List Stored) → AllByRecursion (λ place. place_cmp (service_at key) place ≡ Less) (places_of stored)
+    → IsBelow key (lines_in stored)
 below key [] all = tt
 below key (held ∷ more) all = below_by key held.object (lines_in more) all.0 (below key more all.1)
 
-by_key_by : (object : Object) (more : List Stored) → AllByRecursion (λ place. place_cmp (place_of object) place ≡ Less) (places_of more) → AreByKey (lines_in more) → AreByKey (line_in object ++ lines_in more)
+by_key_by : (object : Object) (more : List Stored) → AllByRecursion (λ place. place_cmp (place_of object) place ≡ Less) (places_of more)
+    → AreByKey (lines_in more) → AreByKey (line_in object ++ lines_in more)
 unfolding IsStrictlySortedBy
 by_key_by (objects.Service service) more all others = (below service.key more all, others)
 by_key_by (objects.Pool pool) more all others = others

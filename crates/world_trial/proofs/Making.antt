@@ -49,7 +49,8 @@ made-by false b E L is isn't l = (λ e. absurd (true≢false (sym e)), λ both. 
 -- a step is made exactly where there is such a step and it passes no limit
 pub made-is : (step : Step) (w : WorldValue) → IsWellFormed w.store → (is_made step w ≡ true) ↔ (IsEnabled step w × ¬ (IsLimited step w))
 unfolding is_made
-made-is step w kept = made-by (is_enabled step w) (is_limited step w) (IsEnabled step w) (IsLimited step w) (enabled step w kept) (disabled step w kept) (limited step w)
+made-is step w kept =
+    made-by (is_enabled step w) (is_limited step w) (IsEnabled step w) (IsLimited step w) (enabled step w kept) (disabled step w kept) (limited step w)
 
 -- ---- what `step` answers
 

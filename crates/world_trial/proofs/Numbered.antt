@@ -82,7 +82,8 @@ ours-at [] place all = tt
 ours-at (held ∷ more) place all =
     cond_both (is_of place held) (Some held) (stored_at more place) (λ o. IfSome o (λ found. IsOurs found.object)) (λ _. all.0) (λ _. ours-at more place all.1)
 
-ours-with_put : (found : Option Stored) (version : ℕ) (put : Put) (stored : List Stored) → IfSome found (λ held. IsOurs held.object) → AreOurs stored → AreOurs (with_put version put found stored)
+ours-with_put : (found : Option Stored) (version : ℕ) (put : Put) (stored : List Stored) → IfSome found (λ held. IsOurs held.object) → AreOurs stored
+    → AreOurs (with_put version put found stored)
 ours-with_put None version put stored is all = all
 ours-with_put (Some held) version put stored is all = ours-with stored (recorded version put.holding held) (ours-record put.holding held.object is) all
 
@@ -93,7 +94,8 @@ ours-put put outcome store all =
     (λ _. all)
 
 ours-edited : (edit : Edit) (store : StoreValue) → EditSets IsOurs edit → AreOurs store.objects → AreOurs (edited edit store).objects
-ours-edited (Set object) store sets all = ours-with store.objects (set_as store object) (ours-record (kept_record (stored_at store.objects (place_of object))) object sets.0) all
+ours-edited (Set object) store sets all =
+    ours-with store.objects (set_as store object) (ours-record (kept_record (stored_at store.objects (place_of object))) object sets.0) all
 ours-edited (Reset object) store sets all = ours-with store.objects (reset_as store object) sets.1 all
 ours-edited (Delete kind key) store sets all = ours-without store.objects (kind, key) all
 
@@ -153,7 +155,8 @@ ours-first = (tt, (tt, tt))
 
 -- ---- lines
 
-numbered_by : (object : Object) (rest : List (Key × List AddressValue)) → IsOurs object → AllByRecursion IsNumbered (keys_in rest) → AllByRecursion IsNumbered (keys_in (line_in object ++ rest))
+numbered_by : (object : Object) (rest : List (Key × List AddressValue)) → IsOurs object → AllByRecursion IsNumbered (keys_in rest)
+    → AllByRecursion IsNumbered (keys_in (line_in object ++ rest))
 numbered_by (objects.Service service) rest is all = (is, all)
 numbered_by (objects.Pool pool) rest is all = all
 numbered_by (objects.L2 adv) rest is all = all

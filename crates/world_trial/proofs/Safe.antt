@@ -55,7 +55,8 @@ selector-ascends z = cond_both (nat_lt z 6) [] ((codes "app", codes "a") ∷ [])
 
 selector-texts : (z : ℕ) → AreTexts (selector_of z)
 selector-texts z =
-    cond_both (nat_lt z 6) [] ((codes "app", codes "a") ∷ []) AreTexts (λ _. tt) (λ _. ((IsUtf8-from_is_utf8 (codes "app") name-text, IsUtf8-from_is_utf8 (codes "a") value-text), tt))
+    cond_both (nat_lt z 6) [] ((codes "app", codes "a") ∷ []) AreTexts (λ _. tt)
+    (λ _. ((IsUtf8-from_is_utf8 (codes "app") name-text, IsUtf8-from_is_utf8 (codes "a") value-text), tt))
 
 small-port : (z : ℕ) → 80 + z % 3 < 65536
 small-port z = omega arith
@@ -63,7 +64,8 @@ small-port z = omega arith
 service-terms : (y z : ℕ) → HasTerms (objects.Service (service_of y z))
 unfolding service_of numbered
 service-terms y z =
-    terms-are (service_of y z) (share_key-text z) (IsUtf8-from_is_utf8 (codes "default") default-text) (small-port z, tt) (selector-ascends z) (selector-texts z)
+    terms-are (service_of y z) (share_key-text z) (IsUtf8-from_is_utf8 (codes "default") default-text) (small-port z, tt) (selector-ascends z)
+    (selector-texts z)
 
 -- ---- steps
 

@@ -10,4 +10,5 @@ pub returns : goal.returns
 returns c =
     let first = first-some c.numbers_of.result.now c.in-Some.number.now c.in-Some.ensures.value in
     c.remove.ensures
-    ∙ all-left c.args.key.now c.in-Some.number.now first.0 c.args.index.now.items c.remove_others.new.index.items c.remove_others.ensures.ascending (sym c.numbers_of.ensures ∙ first.1) c.remove_others.ensures.items
+    ∙ all-left c.args.key.now c.in-Some.number.now first.0 c.args.index.now.items c.remove_others.new.index.items c.remove_others.ensures.ascending
+    (sym c.numbers_of.ensures ∙ first.1) c.remove_others.ensures.items

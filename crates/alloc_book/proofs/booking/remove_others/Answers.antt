@@ -14,7 +14,8 @@ loop-other-smaller c =
 pub loop-other-preserved : goal.loop-other-preserved
 loop-other-preserved c =
     subst (IsThinned c.args.number c.args.index.now.items) (sym c.remove.ensures)
-    (thinned-step c.args.number c.in-Some.other c.args.index.now.items c.loop-other.index.items c.first_other.ensures.ascending (sym c.first_other.ensures.other ∙ c.in-Some.is) c.loop-other.invariant)
+    (thinned-step c.args.number c.in-Some.other c.args.index.now.items c.loop-other.index.items c.first_other.ensures.ascending
+    (sym c.first_other.ensures.other ∙ c.in-Some.is) c.loop-other.invariant)
 
 pub returns-clause-items : goal.returns-clause-items
 returns-clause-items c =

@@ -10,14 +10,17 @@ loop-number-init g c = cleared-start (g.L.Listing.lists c.args.listing.now) c.ar
 pub loop-number-smaller : goal.loop-number-smaller
 loop-number-smaller g c =
     subst (λ (items : List (ℕ × ClaimValue)). length items < length c.loop-number.index.items) (sym c.remove.ensures)
-    (cleared-smaller (g.L.Listing.lists c.args.listing.now) c.loop-number.from c.in-Some.number c.loop-number.index.items (sym c.first_unlisted.ensures.first ∙ c.in-Some.is))
+    (cleared-smaller (g.L.Listing.lists c.args.listing.now) c.loop-number.from c.in-Some.number c.loop-number.index.items
+    (sym c.first_unlisted.ensures.first ∙ c.in-Some.is))
 
 pub loop-number-preserved : goal.loop-number-preserved
 loop-number-preserved g c =
     let lists : Key → Bool = g.L.Listing.lists c.args.listing.now in
     subst (IsCleared lists c.in-Some.number c.args.index.now.items) (sym c.remove.ensures)
-    (cleared-step lists c.loop-number.from c.in-Some.number c.args.index.now.items c.loop-number.index.items c.first_unlisted.ensures.ascending (sym c.first_unlisted.ensures.first ∙ c.in-Some.is) c.loop-number.invariant)
+    (cleared-step lists c.loop-number.from c.in-Some.number c.args.index.now.items c.loop-number.index.items c.first_unlisted.ensures.ascending
+    (sym c.first_unlisted.ensures.first ∙ c.in-Some.is) c.loop-number.invariant)
 
 pub returns : goal.returns
 returns g c =
-    cleared-end (g.L.Listing.lists c.args.listing.now) c.loop-number.from c.args.index.now.items c.loop-number.index.items (sym c.first_unlisted.ensures.first ∙ c.in_default.is) c.loop-number.invariant
+    cleared-end (g.L.Listing.lists c.args.listing.now) c.loop-number.from c.args.index.now.items c.loop-number.index.items
+    (sym c.first_unlisted.ensures.first ∙ c.in_default.is) c.loop-number.invariant

@@ -6,10 +6,13 @@ use Rattle.alloc_book.proofs.choosing.pools_at.Goals as goal
 
 pub loop-place-preserved-in_default : goal.loop-place-preserved-in_default
 loop-place-preserved-in_default c =
-    filter_map-none (slice_get c.args.pools.now) c.args.places.now c.loop-place.place-index _ _ _ c.loop-place-test.true c.in_default.ensures c.loop-place.invariant
+    filter_map-none (slice_get c.args.pools.now) c.args.places.now c.loop-place.place-index _ _ _ c.loop-place-test.true c.in_default.ensures
+    c.loop-place.invariant
 
 pub loop-place-preserved : goal.loop-place-preserved
 loop-place-preserved c =
     let shown : Bor CompiledPool → CompiledPool = λ p. p.now in
-    let grown : map shown c.push.new.self.items ≡ map shown c.loop-place.found.items ++ c.in-Some.pool.now ∷ [] = rw c.in_ok-push.ensures.items (map-append shown c.loop-place.found.items (c.in-Some.pool ∷ [])) in
-    rw grown (filter_map-some (slice_get c.args.pools.now) c.args.places.now c.loop-place.place-index _ _ _ c.in-Some.pool.now c.loop-place-test.true c.in-Some.ensures c.loop-place.invariant)
+    let grown : map shown c.push.new.self.items ≡ map shown c.loop-place.found.items ++ c.in-Some.pool.now ∷ [] =
+    rw c.in_ok-push.ensures.items (map-append shown c.loop-place.found.items (c.in-Some.pool ∷ [])) in
+    rw grown (filter_map-some (slice_get c.args.pools.now) c.args.places.now c.loop-place.place-index _ _ _ c.in-Some.pool.now c.loop-place-test.true
+    c.in-Some.ensures c.loop-place.invariant)

@@ -7,7 +7,8 @@ use Rattle.sharing_terms.specs.Spelled.{recorded_terms}
 use Rattle.sharing_terms.proofs.ReadBack.{recorded-exact}
 use Rattle.alloc_book.proofs.laws.terms_are_recorded.Goals as goal
 
-adopted-is : (r : Record) (adopted : Terms) (found : Option Terms) → recorded_terms r.mark ≡ found → ((t : Terms) → ¬ (IsMarkOf t r.mark)) → unwrap_or found adopted ≡ adopted
+adopted-is : (r : Record) (adopted : Terms) (found : Option Terms) → recorded_terms r.mark ≡ found → ((t : Terms) → ¬ (IsMarkOf t r.mark))
+    → unwrap_or found adopted ≡ adopted
 adopted-is r adopted None is none = refl
 adopted-is r adopted (Some t) is none = absurd (none t ((recorded-exact r.mark t).0 is))
 

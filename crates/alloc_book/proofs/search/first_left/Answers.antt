@@ -10,7 +10,8 @@ loop-port-preserved c =
       begun = omega (arith, c.loop-port.invariant.begun, found.0);
       within = found.1;
       barred =
-          barred-more c.args.ports.now c.loop-port.port-index _ _ (values_of c.args.index.now.items) c.args.family c.args.low c.loop-port.left c.in_ok-left.left c.loop-port-test.true (refl)
+          barred-more c.args.ports.now c.loop-port.port-index _ _ (values_of c.args.index.now.items) c.args.family c.args.low c.loop-port.left c.in_ok-left.left
+          c.loop-port-test.true (refl)
           c.loop-port.invariant.barred found.3;
     }
 

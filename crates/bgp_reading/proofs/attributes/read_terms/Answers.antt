@@ -7,4 +7,5 @@ returns-clause-communities c =
 
 pub returns-clause-large : goal.returns-clause-large
 returns-clause-large c =
-    rw (c.in_ok-large.ensures, c.value_at-2.ensures, c.behind_at-2.ensures, c.behind_at.ensures, c.optional_in-rest.ensures) (few-large c.args.family c.args.attributes.now)
+    rw (c.in_ok-large.ensures, c.value_at-2.ensures, c.behind_at-2.ensures, c.behind_at.ensures, c.optional_in-rest.ensures)
+    (few-large c.args.family c.args.attributes.now)

@@ -9,4 +9,5 @@ returns-clause-value c = search (rules, with_each_flat)
 
 pub returns-clause-few : goal.returns-clause-few
 returns-clause-few c =
-    subst (All HasFew) (sym (returns-clause-value c)) (routes-few c.args.view.now c.args.node.now c.args.peer.now c.args.both (λ config in_force. (c.config.ensures.known config in_force).communities))
+    subst (All HasFew) (sym (returns-clause-value c))
+    (routes-few c.args.view.now c.args.node.now c.args.peer.now c.args.both (λ config in_force. (c.config.ensures.known config in_force).communities))

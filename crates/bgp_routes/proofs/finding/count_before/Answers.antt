@@ -8,4 +8,5 @@ use Rattle.bgp_routes.proofs.finding.count_before.Goals as goal
 pub returns : goal.returns
 returns c =
     let peers = c.args.peers.now in
-    IsPartitionPoint-from_clause (is_before c.args.peer.now) peers c.partition_point.result c.partition_point.ensures.partitioned (has-halves c.args.peer.now peers c.requires) (λ a r q k. search rules)
+    IsPartitionPoint-from_clause (is_before c.args.peer.now) peers c.partition_point.result c.partition_point.ensures.partitioned
+    (has-halves c.args.peer.now peers c.requires) (λ a r q k. search rules)

@@ -6,4 +6,5 @@ use Rattle.bgp_routes.proofs.PoolPlaces.{no-names}
 use Rattle.bgp_routes.proofs.peers.peers_of.Goals as goal
 
 pub returns-in-None-clause-names : goal.returns-in-None-clause-names
-returns-in-None-clause-names c = subst (λ (config : Option ConfigValue). Ascend (map (λ (p : CompiledPeer). p.name) (peers_in config))) c.in-None.ensures.value no-names
+returns-in-None-clause-names c =
+    subst (λ (config : Option ConfigValue). Ascend (map (λ (p : CompiledPeer). p.name) (peers_in config))) c.in-None.ensures.value no-names

@@ -13,7 +13,8 @@ loop-place-preserved c =
     let address = c.args.address.now in
     let l = c.loop-place in
     let adv = c.index-advertisements-place.result in
-    let at : slice_get advertisements l.place ≡ Some adv = slice_get_read advertisements (length advertisements) l.place adv refl c.loop-place-test.true c.index-advertisements-place.is in
+    let at : slice_get advertisements l.place ≡ Some adv =
+    slice_get_read advertisements (length advertisements) l.place adv refl c.loop-place-test.true c.index-advertisements-place.is in
     let put = subst (λ b. IsPutAt c.aggregate-aggregate.result address b l.contributors c.put.new.self) c.is_set.ensures c.in_ok-put.ensures in
     let own : IsPutAt (aggregate_of l.place adv address) address (is_set flags l.place) l.contributors c.put.new.self =
     subst (λ g. IsPutAt g address (is_set flags l.place) l.contributors c.put.new.self) c.aggregate-aggregate.ensures put in

@@ -18,10 +18,13 @@ returns-then-counts c =
     let old = c.args.contributors.now in
     let new = c.put_by_all.new.contributors in
     let choice = c.choice_at-choice.result.now in
-    let own : c.advertisements.result.now ≡ (held_for view node).advertisements = c.advertisements.ensures.advertisements ∙ ap (λ (h : HeldValue). h.advertisements) c.requires.held in
-    let put = subst (λ (advertisements : List Advertisement). OnOk c.put_by_all.result (IsPutByAll advertisements choice address old new)) own c.put_by_all.ensures in
+    let own : c.advertisements.result.now ≡ (held_for view node).advertisements =
+    c.advertisements.ensures.advertisements ∙ ap (λ (h : HeldValue). h.advertisements) c.requires.held in
+    let put =
+    subst (λ (advertisements : List Advertisement). OnOk c.put_by_all.result (IsPutByAll advertisements choice address old new)) own c.put_by_all.ensures in
     let stand = subst (λ (h : HeldValue). StandRight both h.advertisements old) c.requires.held c.requires.stand in
-    ok-then c.put_by_all.result put (touched-counted view node both address choice old new (ap (λ (a : AddressValue). counts both a.family) (sym c.address.view_is) ∙ sym c.counts.ensures ∙ c.if-counts.true) c.choice_at-choice.ensures stand)
+    ok-then c.put_by_all.result put (touched-counted view node both address choice old new
+    (ap (λ (a : AddressValue). counts both a.family) (sym c.address.view_is) ∙ sym c.counts.ensures ∙ c.if-counts.true) c.choice_at-choice.ensures stand)
 
 pub returns-else-counts : goal.returns-else-counts
 returns-else-counts c =
@@ -31,4 +34,5 @@ returns-else-counts c =
     let address = c.args.address.now in
     let old = c.args.contributors.now in
     let stand = subst (λ (h : HeldValue). StandRight both h.advertisements old) c.requires.held c.requires.stand in
-    touched-uncounted view node both address old (ap (λ (a : AddressValue). counts both a.family) (sym c.address.view_is) ∙ sym c.counts.ensures ∙ c.if-counts.false) stand
+    touched-uncounted view node both address old
+    (ap (λ (a : AddressValue). counts both a.family) (sym c.address.view_is) ∙ sym c.counts.ensures ∙ c.if-counts.false) stand

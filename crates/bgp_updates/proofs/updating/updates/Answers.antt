@@ -11,4 +11,5 @@ returns-clause-fit c =
     let old_table : IsTable old = subst IsTable (sym c.as_slice.ensures.routes) c.as_slice.ensures.table in
     let new_table : IsTable new = subst IsTable (sym c.as_slice-2.ensures.routes) c.as_slice-2.ensures.table in
     let few : All HasFew new = subst (All HasFew) (sym c.as_slice-2.ensures.routes) c.requires.few in
-    all-short c.between.result (messages_between c.peering_of-peering.result old new) c.between.ensures (messages-fit c.peering_of-peering.result old new old_table new_table few)
+    all-short c.between.result (messages_between c.peering_of-peering.result old new) c.between.ensures
+    (messages-fit c.peering_of-peering.result old new old_table new_table few)

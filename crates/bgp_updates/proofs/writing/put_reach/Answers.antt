@@ -8,4 +8,5 @@ put_attribute-requires-clause-value c = rw (c.as_slice.ensures.value, c.in_ok-va
 
 pub returns : goal.returns
 returns c =
-    on_ok_weaker c.put_attribute.result (λ e. e ∙ ap (λ value. c.args.out.now.items ++ attribute 0x80 14 value) (c.as_slice.ensures.value ∙ c.in_ok-value.ensures)) c.put_attribute.ensures
+    on_ok_weaker c.put_attribute.result
+    (λ e. e ∙ ap (λ value. c.args.out.now.items ++ attribute 0x80 14 value) (c.as_slice.ensures.value ∙ c.in_ok-value.ensures)) c.put_attribute.ensures

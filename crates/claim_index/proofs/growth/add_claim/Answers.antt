@@ -7,7 +7,8 @@ use Rattle.claim_index.specs.Groups.{group_of}
 use Rattle.claim_index.specs.Holders.{claims_having}
 use Rattle.claim_index.specs.Index.{numbered}
 use Rattle.claim_index.specs.Slots.{ports_of, is_slot_of}
-use Rattle.claim_index.proofs.GrowthLaws.{no_slot, first_slot, slots-start, slots-more, group-apart, not-before, with_more, room-group, room-ports, room-here, room-behind, listed-none, listed-next, listed-each, fresh-next}
+use Rattle.claim_index.proofs.GrowthLaws.{no_slot, first_slot, slots-start, slots-more, group-apart, not-before, with_more, room-group}
+use Rattle.claim_index.proofs.GrowthLaws.{room-ports, room-here, room-behind, listed-none, listed-next, listed-each, fresh-next}
 use Rattle.claim_index.proofs.growth.add_claim.Goals as goal
 
 pub add_each-requires-clause-fresh : goal.add_each-requires-clause-fresh
@@ -36,9 +37,12 @@ loop-port-init c =
     listed-next more c.args.holders.now c.args.holders.now no_slot Any (listed-none more c.args.holders.now) refl c.add_each.new.holders first_slot (λ s. refl)
     (rw (← c.addresses-addresses.ensures) c.add_each.ensures.numbers) c.add_each.ensures.others in
     record {
-      room = room-ports c.args.holders.now c.add_each.new.holders c.add_each-2.new.holders (length c.args.claim.now.holding.addresses) c.args.claim.now.holding.addresses c.args.claim.now
-          c.group.result.now c.ports-port-items.result.now c.group.ensures.slot c.ports-port-items.ensures.listed c.requires.room c.add_each.ensures.others c.add_each-2.ensures.others;
-      numbers = listed-next more c.args.holders.now c.add_each.new.holders first_slot c.group.result.now first (group-apart group c.group.result.now c.group.ensures.slot)
+      room = room-ports c.args.holders.now c.add_each.new.holders c.add_each-2.new.holders (length c.args.claim.now.holding.addresses)
+          c.args.claim.now.holding.addresses c.args.claim.now
+          c.group.result.now c.ports-port-items.result.now c.group.ensures.slot c.ports-port-items.ensures.listed c.requires.room c.add_each.ensures.others
+          c.add_each-2.ensures.others;
+      numbers = listed-next more c.args.holders.now c.add_each.new.holders first_slot c.group.result.now first
+          (group-apart group c.group.result.now c.group.ensures.slot)
           c.add_each-2.new.holders (is_slot_of group []) (slots-start group c.group.result.now c.group.ensures.slot)
           (rw (← c.addresses-addresses.ensures) c.add_each-2.ensures.numbers) c.add_each-2.ensures.others;
     }
@@ -46,7 +50,8 @@ loop-port-init c =
 pub add_each-requires-in-loop-port-clause-room : goal.add_each-requires-in-loop-port-clause-room
 add_each-requires-in-loop-port-clause-room c =
     rw (c.addresses-addresses.ensures)
-    (room-here c.loop-port.holders (length c.args.claim.now.holding.addresses) c.args.claim.now.holding.addresses c.ports-port-items.result.now c.loop-port.port-index _
+    (room-here c.loop-port.holders (length c.args.claim.now.holding.addresses) c.args.claim.now.holding.addresses c.ports-port-items.result.now
+    c.loop-port.port-index _
     c.loop-port-test.true c.loop-port.invariant.room)
 
 pub add_each-requires-in-loop-port-clause-fresh : goal.add_each-requires-in-loop-port-clause-fresh
@@ -54,7 +59,8 @@ add_each-requires-in-loop-port-clause-fresh c =
     let ports = c.ports-port-items.result.now in
     let i = c.loop-port.port-index in
     let none : Port = record { protocol = Tcp; port = 0 } in
-    fresh-next (numbered c.args.number c.args.claim.now.holding.addresses) c.args.holders.now c.loop-port.holders (is_slot_of (group_of c.args.claim.now.terms) (take i ports)) (OfPort (get_or ports i none))
+    fresh-next (numbered c.args.number c.args.claim.now.holding.addresses) c.args.holders.now c.loop-port.holders
+    (is_slot_of (group_of c.args.claim.now.terms) (take i ports)) (OfPort (get_or ports i none))
     c.loop-port.invariant.numbers (not-before [] ports i none c.loop-port-test.true c.ports-port-items.ensures.ascending) c.args.number c.requires.fresh
 
 pub loop-port-preserved : goal.loop-port-preserved
@@ -66,12 +72,15 @@ loop-port-preserved c =
     record {
       room = room-behind c.loop-port.holders c.add_each-in-loop-port.new.holders (length c.args.claim.now.holding.addresses) c.args.claim.now.holding.addresses
           ports i none c.loop-port-test.true c.ports-port-items.ensures.ascending c.loop-port.invariant.room c.add_each-in-loop-port.ensures.others;
-      numbers = listed-next (numbered c.args.number c.args.claim.now.holding.addresses) c.args.holders.now c.loop-port.holders (is_slot_of group (take i ports)) (OfPort (get_or ports i none))
+      numbers = listed-next (numbered c.args.number c.args.claim.now.holding.addresses) c.args.holders.now c.loop-port.holders (is_slot_of group (take i ports))
+          (OfPort (get_or ports i none))
           c.loop-port.invariant.numbers (not-before [] ports i none c.loop-port-test.true c.ports-port-items.ensures.ascending)
           c.add_each-in-loop-port.new.holders _ (slots-more group ports i none c.loop-port-test.true)
           (rw c.addresses-addresses.ensures at c.add_each-in-loop-port.ensures.numbers) c.add_each-in-loop-port.ensures.others;
     }
 
 pub returns-clause-numbers : goal.returns-clause-numbers
-returns-clause-numbers c = listed-each (numbered c.args.number c.args.claim.now.holding.addresses) c.args.holders.now c.loop-port.holders (group_of c.args.claim.now.terms)
-    c.ports-port-items.result.now (ports_of c.args.claim.now) c.loop-port.port-index c.loop-port-test.false c.ports-port-items.ensures.listed c.loop-port.invariant.numbers
+returns-clause-numbers c =
+    listed-each (numbered c.args.number c.args.claim.now.holding.addresses) c.args.holders.now c.loop-port.holders (group_of c.args.claim.now.terms)
+    c.ports-port-items.result.now (ports_of c.args.claim.now) c.loop-port.port-index c.loop-port-test.false c.ports-port-items.ensures.listed
+    c.loop-port.invariant.numbers

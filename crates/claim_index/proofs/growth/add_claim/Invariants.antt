@@ -13,7 +13,8 @@ use Rattle.claim_index.proofs.growth.add_claim.Given as goal
 abbrev pub invariant-loop-port : goal.invariant-loop-port
 invariant-loop-port l =
     record {
-      room : (port : Port) → Contains (drop l.port-index l.port-items) port → HasRoomAt l.holders (length l.claim.holding.addresses) (OfPort port) l.claim.holding.addresses;
+      room : (port : Port) → Contains (drop l.port-index l.port-items) port
+          → HasRoomAt l.holders (length l.claim.holding.addresses) (OfPort port) l.claim.holding.addresses;
       numbers : (slot : Slot) → claims_having l.holders slot
           ≡ with_more (numbered l.number l.claim.holding.addresses) l.fn.holders (is_slot_of (group_of l.claim.terms) (take l.port-index l.port-items)) slot;
     }

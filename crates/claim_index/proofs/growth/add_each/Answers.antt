@@ -21,9 +21,12 @@ loop-address-preserved c =
           let apart = not-ended addresses i x within c.address-item.is c.args.number start before listed c.requires.fresh (ends ∙ w.if-not-ends_with.true) in
           record {
             room = subst (λ (h : AddressHoldersValue). HasRoomFrom h c.args.slot.now addresses (i + 1)) (sym w.holders-is)
-                (room-next addresses i x within c.address-item.is c.args.slot.now c.loop-address.holders c.loop-address.invariant.room w.add.new.self w.add.ensures.claims w.add.ensures.addresses);
-            numbers = subst (λ (h : AddressHoldersValue). (a : AddressValue) → claims_having h c.args.slot.now a ≡ start a ++ numbered c.args.number (take (i + 1) addresses) a) (sym w.holders-is)
-                (listed-next addresses i x within c.address-item.is c.args.number start before listed (claims_having w.add.new.self c.args.slot.now) apart w.add.ensures.numbers);
+                (room-next addresses i x within c.address-item.is c.args.slot.now c.loop-address.holders c.loop-address.invariant.room w.add.new.self
+                w.add.ensures.claims w.add.ensures.addresses);
+            numbers = subst (λ (h : AddressHoldersValue). (a : AddressValue)
+                → claims_having h c.args.slot.now a ≡ start a ++ numbered c.args.number (take (i + 1) addresses) a) (sym w.holders-is)
+                (listed-next addresses i x within c.address-item.is c.args.number start before listed (claims_having w.add.new.self c.args.slot.now) apart
+                w.add.ensures.numbers);
             others = λ s differs. ap (λ h. in_slot h s) w.holders-is ∙ w.add.ensures.others s differs ∙ c.loop-address.invariant.others s differs;
           }
       | else-not-ends_with w ↦
@@ -31,7 +34,8 @@ loop-address-preserved c =
           record {
             room = subst (λ (h : AddressHoldersValue). HasRoomFrom h c.args.slot.now addresses (i + 1)) (sym w.holders-is)
                 (room-still addresses i x within c.address-item.is c.args.slot.now c.loop-address.holders c.loop-address.invariant.room);
-            numbers = subst (λ (h : AddressHoldersValue). (a : AddressValue) → claims_having h c.args.slot.now a ≡ start a ++ numbered c.args.number (take (i + 1) addresses) a) (sym w.holders-is)
+            numbers = subst (λ (h : AddressHoldersValue). (a : AddressValue)
+                → claims_having h c.args.slot.now a ≡ start a ++ numbered c.args.number (take (i + 1) addresses) a) (sym w.holders-is)
                 (listed-still addresses i x within c.address-item.is c.args.number start before listed there);
             others = λ s differs. ap (λ h. in_slot h s) w.holders-is ∙ c.loop-address.invariant.others s differs;
           }
@@ -39,5 +43,6 @@ loop-address-preserved c =
 
 pub returns-clause-numbers : goal.returns-clause-numbers
 returns-clause-numbers c =
-    listed-all c.args.number (claims_having c.args.holders.now c.args.slot.now) (claims_having c.loop-address.holders c.args.slot.now) c.args.addresses.now c.loop-address.address-index
+    listed-all c.args.number (claims_having c.args.holders.now c.args.slot.now) (claims_having c.loop-address.holders c.args.slot.now) c.args.addresses.now
+    c.loop-address.address-index
     c.loop-address-test.false c.loop-address.invariant.numbers

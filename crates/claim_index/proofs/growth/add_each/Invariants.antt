@@ -11,6 +11,7 @@ abbrev pub invariant-loop-address : goal.invariant-loop-address
 invariant-loop-address l =
     record {
       room : HasRoomFrom l.holders l.slot l.addresses l.address-index;
-      numbers : (a : AddressValue) → claims_having l.holders l.slot a ≡ claims_having l.fn.holders l.slot a ++ numbered l.number (take l.address-index l.addresses) a;
+      numbers : (a : AddressValue)
+          → claims_having l.holders l.slot a ≡ claims_having l.fn.holders l.slot a ++ numbered l.number (take l.address-index l.addresses) a;
       others : (s : Slot) → same_slot l.slot s ≡ false → in_slot l.holders s ≡ in_slot l.fn.holders s;
     }

@@ -10,5 +10,6 @@ abbrev pub invariant-loop-port : goal.invariant-loop-port
 invariant-loop-port l =
     record {
       numbers : (s : Slot) → claims_having l.holders s ≡ claims_having l.fn.holders s;
-      room : HasRoomIn l.holders (length l.claim.holding.addresses) l.claim.holding.addresses (is_slot_of (group_of l.claim.terms) (take l.port-index l.port-items));
+      room : HasRoomIn l.holders (length l.claim.holding.addresses) l.claim.holding.addresses
+          (is_slot_of (group_of l.claim.terms) (take l.port-index l.port-items));
     }

@@ -11,12 +11,14 @@ returns-in_err-given g c =
     record {
       taken =
           ap (option_map t.said) c.from_residual-in_err-given.ensures
-          ∙ sym (goes-nowhere t.step (texts_of c.options.rest.now) (seen c.in_ok-option.option) (t.said c.options.given) (sym c.in_ok-option.ensures.first) (sym c.in_err-given.ensures.taken))
+          ∙ sym (goes-nowhere t.step (texts_of c.options.rest.now) (seen c.in_ok-option.option) (t.said c.options.given) (sym c.in_ok-option.ensures.first)
+          (sym c.in_err-given.ensures.taken))
           ∙ c.options.invariant;
     }
 
 pub options-preserved : goal.options-preserved
 options-preserved g c =
     let t = g.G.TakesOptions in
-    sym (goes-on t.step (texts_of c.options.rest.now) (seen c.in_ok-option.option) (t.said c.options.given) (t.said c.in_ok-given.given) (sym c.in_ok-option.ensures.first) (sym c.in_ok-given.ensures.taken))
+    sym (goes-on t.step (texts_of c.options.rest.now) (seen c.in_ok-option.option) (t.said c.options.given) (t.said c.in_ok-given.given)
+    (sym c.in_ok-option.ensures.first) (sym c.in_ok-given.ensures.taken))
     ∙ c.options.invariant

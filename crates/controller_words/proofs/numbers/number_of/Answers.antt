@@ -2,7 +2,8 @@ use Rattle.std.proofs.Common.{◌≡◌, ◌<◌, ◌≤◌, length, get_or, sym
 use Rattle.std.proofs.lemmas.Bool.{true≢false, ltb-true}
 use Rattle.std.proofs.lemmas.Str.Pattern.{starts_char}
 use Rattle.controller_words.proofs.NumberTexts.{signed-none, padded-none, parsed-number}
-use Rattle.controller_words.proofs.numbers.number_of.Goals.{then-starts_with-via-then-starts_with, then-starts_with-via-else-starts_with+then-starts_with-2, then-text-gt1, else-text-gt1}
+use Rattle.controller_words.proofs.numbers.number_of.Goals.{then-starts_with-via-then-starts_with}
+use Rattle.controller_words.proofs.numbers.number_of.Goals.{then-starts_with-via-else-starts_with+then-starts_with-2, then-text-gt1, else-text-gt1}
 use Rattle.controller_words.proofs.numbers.number_of.Goals as goal
 
 pub returns-then-starts_with : goal.returns-then-starts_with

@@ -11,7 +11,8 @@ pub returns-then-is_inside : goal.returns-then-is_inside
 returns-then-is_inside c =
     let apart = read_apart c.args.span.now c.args.bits c.args.base _ _ false c.low_ones.ensures c.is_apart.ensures c.if-is_apart.false in
     let inside = read_inside c.args.span.now c.args.bits c.args.base _ _ true c.low_ones.ensures c.is_inside.ensures c.if-is_inside.true in
-    let made = made_block c.span.inside.family c.span.inside.low c.span.inside.high c.args.bits c.args.base c.width.result c.args.span.now c.span.view_is c.width.ensures in
+    let made = made_block c.span.inside.family c.span.inside.low c.span.inside.high c.args.bits c.args.base c.width.result c.args.span.now c.span.view_is
+    c.width.ensures in
     within-inside c.args.span.now c.args.bits c.args.base apart inside ∙ ap (λ p. p ∷ []) (sym made)
 
 pub overflow_add-result : goal.overflow_add-result

@@ -9,8 +9,10 @@ returns-in-Ok-clause-value c = number_v4 _ c.in-Ok.ip.octets _ (c.from.ensures �
 
 pub returns-in-Ok-parse_ascii-clause-value : goal.returns-in-Ok-parse_ascii-clause-value
 unfolding ipv6_bits
-returns-in-Ok-parse_ascii-clause-value c = number_v6 _ c.in-Ok-parse_ascii.ip.segments _ c.to_bits-in-Ok-parse_ascii.ensures (spelled_v6 _ _ c.in-Ok-parse_ascii.ensures)
+returns-in-Ok-parse_ascii-clause-value c =
+    number_v6 _ c.in-Ok-parse_ascii.ip.segments _ c.to_bits-in-Ok-parse_ascii.ensures (spelled_v6 _ _ c.in-Ok-parse_ascii.ensures)
 
 pub returns-clause-value : goal.returns-clause-value
 returns-clause-value c =
-    sym (spelled_none _ (λ octets h. c.in_default.ensures (record { octets = octets }) h) (λ groups h. c.in_default-parse_ascii.ensures (record { segments = groups }) h))
+    sym (spelled_none _ (λ octets h. c.in_default.ensures (record { octets = octets }) h)
+    (λ groups h. c.in_default-parse_ascii.ensures (record { segments = groups }) h))

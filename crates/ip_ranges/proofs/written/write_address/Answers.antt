@@ -9,7 +9,8 @@ pub returns-in-V4-clause-text : goal.returns-in-V4-clause-text
 returns-in-V4-clause-text c = rw (← text_in-canonical _ _ _ _ c.in-V4.is c.address.view_is) c.write_ipv4.ensures.text
 
 pub returns-in-V4-clause-canonical : goal.returns-in-V4-clause-canonical
-returns-in-V4-clause-canonical c = rw (returns-in-V4-clause-text c) (IsCanonical-canonical_text c.args.address.now (subst IsOfFamily c.address.view_is c.address.invariant))
+returns-in-V4-clause-canonical c =
+    rw (returns-in-V4-clause-text c) (IsCanonical-canonical_text c.args.address.now (subst IsOfFamily c.address.view_is c.address.invariant))
 
 pub returns-in-V4-clause-reads_back : goal.returns-in-V4-clause-reads_back
 returns-in-V4-clause-reads_back c free =
@@ -22,7 +23,8 @@ pub returns-in-V6-clause-text : goal.returns-in-V6-clause-text
 returns-in-V6-clause-text c = rw (← text_in-canonical _ _ _ _ c.in-V6.is c.address.view_is) c.write_ipv6.ensures.text
 
 pub returns-in-V6-clause-canonical : goal.returns-in-V6-clause-canonical
-returns-in-V6-clause-canonical c = rw (returns-in-V6-clause-text c) (IsCanonical-canonical_text c.args.address.now (subst IsOfFamily c.address.view_is c.address.invariant))
+returns-in-V6-clause-canonical c =
+    rw (returns-in-V6-clause-text c) (IsCanonical-canonical_text c.args.address.now (subst IsOfFamily c.address.view_is c.address.invariant))
 
 pub returns-in-V6-clause-reads_back : goal.returns-in-V6-clause-reads_back
 returns-in-V6-clause-reads_back c free =

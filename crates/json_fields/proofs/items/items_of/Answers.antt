@@ -6,11 +6,13 @@ use Rattle.json_fields.proofs.items.items_of.Goals as goal
 pub returns-in-Err : goal.returns-in-Err
 returns-in-Err g c =
     let place : c.as_str.result.now ≡ item_place c.loop-index.index-counter = search rules in
-    ends g.T.FromValue.reading c.in-Err.fault c.within.result c.loop-index.items c.loop-index.index-counter c.args.values.now c.index-values-index.result _ c.loop-index-test.true c.index-values-index.is c.in-Err.ensures (rw place at c.within.ensures) c.loop-index.invariant
+    ends g.T.FromValue.reading c.in-Err.fault c.within.result c.loop-index.items c.loop-index.index-counter c.args.values.now c.index-values-index.result
+    _ c.loop-index-test.true c.index-values-index.is c.in-Err.ensures (rw place at c.within.ensures) c.loop-index.invariant
 
 pub loop-index-preserved : goal.loop-index-preserved
 loop-index-preserved g c =
-    rw c.in_ok-push-in-Ok.ensures.ok (goes_on g.T.FromValue.reading c.loop-index.items c.loop-index.index-counter c.args.values.now c.index-values-index.result c.in-Ok.item _ c.loop-index-test.true c.index-values-index.is c.in-Ok.ensures c.loop-index.invariant)
+    rw c.in_ok-push-in-Ok.ensures.ok (goes_on g.T.FromValue.reading c.loop-index.items c.loop-index.index-counter c.args.values.now c.index-values-index.result
+    c.in-Ok.item _ c.loop-index-test.true c.index-values-index.is c.in-Ok.ensures c.loop-index.invariant)
 
 pub returns : goal.returns
 returns g c = is_done g.T.FromValue.reading c.loop-index.items c.loop-index.index-counter c.args.values.now _ c.loop-index-test.false c.loop-index.invariant

@@ -19,7 +19,8 @@ find-requires t c =
 
 pub returns-in-None : goal.returns-in-None
 returns-in-None t c =
-    let one : behind c.args.path.now (names_of c.args.names.now) (view c.args.value.now) ≡ member_at c.args.path.now c.args.names.now (view c.args.value.now) = one_name c.args.path.now c.args.names.now (view c.args.value.now) c.in-None.ensures.cases in
+    let one : behind c.args.path.now (names_of c.args.names.now) (view c.args.value.now) ≡ member_at c.args.path.now c.args.names.now (view c.args.value.now) =
+    one_name c.args.path.now c.args.names.now (view c.args.value.now) c.in-None.ensures.cases in
     rw one c.member_of.ensures
 
 pub returns-in-None-2 : goal.returns-in-None-2
@@ -31,5 +32,6 @@ returns-in-None-2 t c =
 pub returns-in-Some-2 : goal.returns-in-Some-2
 returns-in-Some-2 t c =
     let more = more_names c.args.path.now c.args.names.now (c.in-Some.name, c.in-Some.rest) (view c.args.value.now) c.in-Some.ensures.cases in
-    let here : member_at c.args.path.now c.in-Some.name.now (view c.args.value.now) ≡ Ok (Some (view c.in-Some-2.inner.now)) = rw c.in-Some-2.is at c.in_ok-member_of-in-Some.ensures in
+    let here : member_at c.args.path.now c.in-Some.name.now (view c.args.value.now) ≡ Ok (Some (view c.in-Some-2.inner.now)) =
+    rw c.in-Some-2.is at c.in_ok-member_of-in-Some.ensures in
     rw (more, here) c.find.ensures

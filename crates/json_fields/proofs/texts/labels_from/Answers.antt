@@ -17,7 +17,8 @@ pub loop-name-preserved : goal.loop-name-preserved
 loop-name-preserved c =
     let so_far = rw c.in-Some.ensures.steps at c.loop-name.invariant in
     let named : c.set.new.self ≡ with_pair (string_bytes c.in-Some.name.now) c.in-Some-as_str.text.now c.loop-name.labels = search rules in
-    rw named (sym (takes c.loop-name.labels c.in-Some.name.now c.in-Some.value.now c.next.new.self c.in-Some-as_str.text.now (search rules) (search rules)) ∙ so_far)
+    rw named (sym (takes c.loop-name.labels c.in-Some.name.now c.in-Some.value.now c.next.new.self c.in-Some-as_str.text.now (search rules) (search rules))
+    ∙ so_far)
 
 pub returns : goal.returns
 returns c = let so_far = rw c.in-None.ensures.steps.0 at c.loop-name.invariant in sym (is_done c.loop-name.labels) ∙ so_far

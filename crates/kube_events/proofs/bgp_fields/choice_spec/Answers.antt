@@ -8,7 +8,8 @@ pub returns-in_err-peers : goal.returns-in_err-peers
 unfolding choice_spec_of
 returns-in_err-peers c =
     let p = err_from_is_err_and c.from_residual-in_err-peers.result c.from_residual-in_err-peers.ensures.1 in
-    rw (p.1, p.2, c.in_ok-pools.ensures, c.in_ok-pool_selectors.ensures, c.in_ok-node_selectors.ensures) (Fails-bind c.in_err-peers.field-0.0 _ _ c.in_err-peers.ensures)
+    rw (p.1, p.2, c.in_ok-pools.ensures, c.in_ok-pool_selectors.ensures, c.in_ok-node_selectors.ensures)
+    (Fails-bind c.in_err-peers.field-0.0 _ _ c.in_err-peers.ensures)
 
 pub returns : goal.returns
 unfolding choice_spec_of

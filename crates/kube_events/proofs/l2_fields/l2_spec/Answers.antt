@@ -8,7 +8,8 @@ pub returns-in_err-interfaces : goal.returns-in_err-interfaces
 unfolding l2_of
 returns-in_err-interfaces c =
     let p = err_from_is_err_and c.from_residual-in_err-interfaces.result c.from_residual-in_err-interfaces.ensures.1 in
-    rw (p.1, p.2, c.in_ok-pools.ensures, c.in_ok-pool_selectors.ensures, c.in_ok-node_selectors.ensures) (Fails-bind c.in_err-interfaces.field-0.0 _ _ c.in_err-interfaces.ensures)
+    rw (p.1, p.2, c.in_ok-pools.ensures, c.in_ok-pool_selectors.ensures, c.in_ok-node_selectors.ensures)
+    (Fails-bind c.in_err-interfaces.field-0.0 _ _ c.in_err-interfaces.ensures)
 
 pub returns : goal.returns
 unfolding l2_of

@@ -18,12 +18,22 @@ returns-in_err-request c =
 pub returns-in_err-traffic : goal.returns-in_err-traffic
 returns-in_err-traffic c =
     let p = err_from_is_err_and c.from_residual-in_err-traffic.result c.from_residual-in_err-traffic.ensures.1 in
-    rw (p.1, p.2, ← service_grouped (view c.args.object.now), c.in_ok-notes.ensures, c.in_ok-request.ensures) (Fails-bind c.in_err-traffic.field-0.0 _ _ c.in_err-traffic.ensures)
+    rw (p.1, p.2, ← service_grouped (view c.args.object.now), c.in_ok-notes.ensures, c.in_ok-request.ensures)
+    (Fails-bind c.in_err-traffic.field-0.0 _ _ c.in_err-traffic.ensures)
 
 pub returns-in_err-addresses : goal.returns-in_err-addresses
 returns-in_err-addresses c =
     let p = err_from_is_err_and c.from_residual-in_err-addresses.result c.from_residual-in_err-addresses.ensures.1 in
-    rw (p.1, p.2, ← service_grouped (view c.args.object.now), c.in_ok-notes.ensures, c.in_ok-request.ensures, c.in_ok-traffic.ensures) (Fails-bind c.in_err-addresses.field-0.0 _ _ c.in_err-addresses.ensures)
+    rw (p.1, p.2, ← service_grouped (view c.args.object.now), c.in_ok-notes.ensures, c.in_ok-request.ensures, c.in_ok-traffic.ensures)
+    (Fails-bind c.in_err-addresses.field-0.0 _ _ c.in_err-addresses.ensures)
 
 pub returns : goal.returns
-returns c = sym (service_grouped (view c.args.object.now)) ∙ rw (c.in_ok-notes.ensures, c.in_ok-request.ensures, c.in_ok-traffic.ensures, c.in_ok-addresses.ensures, c.in_ok-wanted.ensures, c.as_str.ensures, c.as_str-2.ensures) refl
+returns c = sym (service_grouped (view c.args.object.now)) ∙ rw (
+  c.in_ok-notes.ensures,
+  c.in_ok-request.ensures,
+  c.in_ok-traffic.ensures,
+  c.in_ok-addresses.ensures,
+  c.in_ok-wanted.ensures,
+  c.as_str.ensures,
+  c.as_str-2.ensures,
+) refl

@@ -8,4 +8,5 @@ pub written-requires : goal.written-requires
 written-requires c = ap has_float c.in_ok-value.ensures ∙ record_has_float c.args.key.now c.args.addresses.now
 
 pub returns : goal.returns
-returns c = IfOk-weaker c.written.result _ _ (λ line is. is ∙ ap compact_text c.in_ok-value.ensures ∙ record_is c.args.key.now c.args.addresses.now) c.written.ensures
+returns c =
+    IfOk-weaker c.written.result _ _ (λ line is. is ∙ ap compact_text c.in_ok-value.ensures ∙ record_is c.args.key.now c.args.addresses.now) c.written.ensures

@@ -8,4 +8,5 @@ pub written-requires : goal.written-requires
 written-requires c = ap has_float c.in_ok-value.ensures
 
 pub returns : goal.returns
-returns c = IfOk-weaker c.written.result _ _ (λ line is. is ∙ ap compact_text c.in_ok-value.ensures ∙ send_is c.args.interface.now c.args.bytes.now) c.written.ensures
+returns c =
+    IfOk-weaker c.written.result _ _ (λ line is. is ∙ ap compact_text c.in_ok-value.ensures ∙ send_is c.args.interface.now c.args.bytes.now) c.written.ensures

@@ -9,7 +9,12 @@ replies-init g c = record { hears = hears_none g.M.LaneMachine.rules (g.M.LaneMa
 pub next_step-requires : goal.next_step-requires
 next_step-requires g c = record {
   paced = λ none_held. c.requires.live c.replies.input c.replies.reader c.replies.out c.replies.invariant.name
-      (record { state = g.M.LaneMachine.state c.replies.replies.machine; hears = c.replies.invariant.hears; none_held = none_held; waits = sym c.replies-test.ensures });
+      (record {
+        state = g.M.LaneMachine.state c.replies.replies.machine;
+        hears = c.replies.invariant.hears;
+        none_held = none_held;
+        waits = sym c.replies-test.ensures;
+      });
 }
 
 pub replies-preserved : goal.replies-preserved
@@ -27,6 +32,7 @@ replies-preserved g c =
     let state' = g.M.LaneMachine.state new.machine.machine in
     record {
       hears = hears_more g.M.LaneMachine.rules _ state state' _ mid after now.invariant.hears
-          (hears_one g.M.LaneMachine.rules state state' mid after (sym c.replies-test.ensures) c.in_default.ensures.drives c.next_step.ensures.reads c.next_step.ensures.writes);
+          (hears_one g.M.LaneMachine.rules state state' mid after (sym c.replies-test.ensures) c.in_default.ensures.drives c.next_step.ensures.reads
+          c.next_step.ensures.writes);
       name = c.next_step.ensures.name ∙ now.invariant.name;
     }

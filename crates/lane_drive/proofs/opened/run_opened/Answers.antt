@@ -1,7 +1,8 @@
 use Rattle.std.proofs.Common.{inl, ap}
 use Rattle.lane_run.specs.Views.{outside, source_view}
 use Rattle.lane_drive.proofs.Taken.{answers_in, awaits_in, stopped_in}
-use Rattle.lane_drive.proofs.Ways.{asks_behind, ends_undriven, ends_refused, leaves_refused, quiet_then, ends_unknown, ends_behind, ends_as_lanes, leaves_lanes, leaves_unknown}
+use Rattle.lane_drive.proofs.Ways.{asks_behind, ends_undriven, ends_refused, leaves_refused, quiet_then}
+use Rattle.lane_drive.proofs.Ways.{ends_unknown, ends_behind, ends_as_lanes, leaves_lanes, leaves_unknown}
 use Rattle.lane_drive.proofs.opened.run_opened.Goals as goal
 
 pub run_lanes-ran-requires-clause-live : goal.run_lanes-ran-requires-clause-live
@@ -18,59 +19,75 @@ run_lanes-ran-requires-clause-drops g c = λ _ _ items out has.
 
 pub returns-in_default-clause-ended : goal.returns-in_default-clause-ended
 returns-in_default-clause-ended g c =
-    ends_undriven g.M.Lanes.belongs g.M.LaneMachine.rules (g.M.LaneMachine.state c.args.machine) c.requires.quiet _ _ _ _ _ _ (ap g.K.Sink.written c.in_default.ensures.undriven.3)
+    ends_undriven g.M.Lanes.belongs g.M.LaneMachine.rules (g.M.LaneMachine.state c.args.machine) c.requires.quiet
+    _ _ _ _ _ _ (ap g.K.Sink.written c.in_default.ensures.undriven.3)
 
 pub returns-in-Err-clause-ended : goal.returns-in-Err-clause-ended
 returns-in-Err-clause-ended g c =
-    ends_refused g.M.Lanes.belongs g.M.LaneMachine.rules (g.M.LaneMachine.state c.args.machine) c.requires.quiet _ _ _ _ _ _ (g.M.LaneMachine.state c.run_lanes-ran.new.machine.replies.machine) _ c.in-Ok.ensures.ran c.in-Err.status c.in-Err.is
+    ends_refused g.M.Lanes.belongs g.M.LaneMachine.rules (g.M.LaneMachine.state c.args.machine) c.requires.quiet
+    _ _ _ _ _ _ (g.M.LaneMachine.state c.run_lanes-ran.new.machine.replies.machine) _ c.in-Ok.ensures.ran c.in-Err.status c.in-Err.is
     (c.are_known.ensures c.if-not-are_known.false)
 
 pub returns-in-Err-clause-unheard : goal.returns-in-Err-clause-unheard
 returns-in-Err-clause-unheard g c =
-    leaves_refused g.M.Lanes.belongs g.M.LaneMachine.rules (g.M.LaneMachine.state c.args.machine) c.requires.quiet _ _ _ _ _ _ (g.M.LaneMachine.state c.run_lanes-ran.new.machine.replies.machine) _ c.in-Ok.ensures.ran c.in-Err.status c.in-Err.is
+    leaves_refused g.M.Lanes.belongs g.M.LaneMachine.rules (g.M.LaneMachine.state c.args.machine) c.requires.quiet
+    _ _ _ _ _ _ (g.M.LaneMachine.state c.run_lanes-ran.new.machine.replies.machine) _ c.in-Ok.ensures.ran c.in-Err.status c.in-Err.is
     (g.met.M.LaneMachine g.world.𝓛 g.world.𝓜 g.world.𝓡 ((λ s x. x), (λ x. x), (λ x. x), λ x. x)).unheard
 
 pub look_behind-requires : goal.look_behind-requires
 look_behind-requires g c =
     let ran = c.run_lanes-ran.new in
-    let mid = outside ran.reader (source_view (g.I.PacedSource.left ran.input) (g.I.PacedSource.name ran.input) (g.I.PacedSource.faults ran.input)) (g.K.Sink.written ran.out) (g.K.Sink.faults ran.out) in
+    let mid = outside ran.reader (source_view (g.I.PacedSource.left ran.input) (g.I.PacedSource.name ran.input) (g.I.PacedSource.faults ran.input))
+    (g.K.Sink.written ran.out) (g.K.Sink.faults ran.out) in
     record {
-      quiet = quiet_then g.M.Lanes.belongs g.M.LaneMachine.rules (g.M.LaneMachine.state c.args.machine) c.requires.quiet _ _ _ _ _ mid (g.M.LaneMachine.state c.run_lanes-ran.new.machine.replies.machine) _ c.in-Ok.ensures.ran c.in_default-outcome.is;
+      quiet = quiet_then g.M.Lanes.belongs g.M.LaneMachine.rules (g.M.LaneMachine.state c.args.machine) c.requires.quiet _ _ _ _ _ mid
+          (g.M.LaneMachine.state c.run_lanes-ran.new.machine.replies.machine) _ c.in-Ok.ensures.ran c.in_default-outcome.is;
       paced = λ hears none_held. c.requires.live ran.input ran.reader ran.out c.run_lanes-ran.ensures.name
-          (asks_behind g.M.Lanes.belongs g.M.LaneMachine.rules (g.M.LaneMachine.state c.args.machine) c.requires.quiet _ _ _ _ _ mid (g.M.LaneMachine.state c.run_lanes-ran.new.machine.replies.machine) _ c.in-Ok.ensures.ran c.in_default-outcome.is
+          (asks_behind g.M.Lanes.belongs g.M.LaneMachine.rules (g.M.LaneMachine.state c.args.machine) c.requires.quiet _ _ _ _ _ mid
+          (g.M.LaneMachine.state c.run_lanes-ran.new.machine.replies.machine) _ c.in-Ok.ensures.ran c.in_default-outcome.is
           (c.are_known.ensures c.if-not-are_known.false) hears none_held);
     }
 
 pub returns-in-Some-clause-ended : goal.returns-in-Some-clause-ended
 returns-in-Some-clause-ended g c =
     let ran = c.run_lanes-ran.new in
-    let mid = outside ran.reader (source_view (g.I.PacedSource.left ran.input) (g.I.PacedSource.name ran.input) (g.I.PacedSource.faults ran.input)) (g.K.Sink.written ran.out) (g.K.Sink.faults ran.out) in
-    ends_behind g.M.Lanes.belongs g.M.LaneMachine.rules (g.M.LaneMachine.state c.args.machine) c.requires.quiet _ _ _ _ _ mid (g.M.LaneMachine.state c.run_lanes-ran.new.machine.replies.machine) _ c.in-Ok.ensures.ran c.in_default-outcome.is
+    let mid = outside ran.reader (source_view (g.I.PacedSource.left ran.input) (g.I.PacedSource.name ran.input) (g.I.PacedSource.faults ran.input))
+    (g.K.Sink.written ran.out) (g.K.Sink.faults ran.out) in
+    ends_behind g.M.Lanes.belongs g.M.LaneMachine.rules (g.M.LaneMachine.state c.args.machine) c.requires.quiet _ _ _ _ _ mid
+    (g.M.LaneMachine.state c.run_lanes-ran.new.machine.replies.machine) _ c.in-Ok.ensures.ran c.in_default-outcome.is
     (c.are_known.ensures c.if-not-are_known.false) _ c.in-Some.status c.in-Some.ensures.some
 
 pub returns-clause-ended : goal.returns-clause-ended
 returns-clause-ended g c =
     let ran = c.run_lanes-ran.new in
-    let mid = outside ran.reader (source_view (g.I.PacedSource.left ran.input) (g.I.PacedSource.name ran.input) (g.I.PacedSource.faults ran.input)) (g.K.Sink.written ran.out) (g.K.Sink.faults ran.out) in
-    rw c.status_of_lanes.ensures (ends_as_lanes g.M.Lanes.belongs g.M.LaneMachine.rules (g.M.LaneMachine.state c.args.machine) c.requires.quiet _ _ _ _ _ mid (g.M.LaneMachine.state c.run_lanes-ran.new.machine.replies.machine) _ c.in-Ok.ensures.ran
+    let mid = outside ran.reader (source_view (g.I.PacedSource.left ran.input) (g.I.PacedSource.name ran.input) (g.I.PacedSource.faults ran.input))
+    (g.K.Sink.written ran.out) (g.K.Sink.faults ran.out) in
+    rw c.status_of_lanes.ensures (ends_as_lanes g.M.Lanes.belongs g.M.LaneMachine.rules (g.M.LaneMachine.state c.args.machine) c.requires.quiet _ _ _ _ _ mid
+    (g.M.LaneMachine.state c.run_lanes-ran.new.machine.replies.machine) _ c.in-Ok.ensures.ran
     c.in_default-outcome.is (c.are_known.ensures c.if-not-are_known.false) _ c.in_default-look_behind.ensures.none)
 
 pub returns-clause-unheard : goal.returns-clause-unheard
 returns-clause-unheard g c =
     let ran = c.run_lanes-ran.new in
-    let mid = outside ran.reader (source_view (g.I.PacedSource.left ran.input) (g.I.PacedSource.name ran.input) (g.I.PacedSource.faults ran.input)) (g.K.Sink.written ran.out) (g.K.Sink.faults ran.out) in
-    leaves_lanes g.M.Lanes.belongs g.M.LaneMachine.rules (g.M.LaneMachine.state c.args.machine) c.requires.quiet _ _ _ _ _ mid (g.M.LaneMachine.state c.run_lanes-ran.new.machine.replies.machine) _ c.in-Ok.ensures.ran c.in_default-outcome.is
+    let mid = outside ran.reader (source_view (g.I.PacedSource.left ran.input) (g.I.PacedSource.name ran.input) (g.I.PacedSource.faults ran.input))
+    (g.K.Sink.written ran.out) (g.K.Sink.faults ran.out) in
+    leaves_lanes g.M.Lanes.belongs g.M.LaneMachine.rules (g.M.LaneMachine.state c.args.machine) c.requires.quiet _ _ _ _ _ mid
+    (g.M.LaneMachine.state c.run_lanes-ran.new.machine.replies.machine) _ c.in-Ok.ensures.ran c.in_default-outcome.is
     _ (g.met.M.LaneMachine g.world.𝓛 g.world.𝓜 g.world.𝓡 ((λ s x. x), (λ x. x), (λ x. x), λ x. x)).unheard c.in_default-look_behind.ensures.none
 
 pub returns-then-not-are_known-clause-ended : goal.returns-then-not-are_known-clause-ended
 returns-then-not-are_known-clause-ended g c =
     let ran = c.run_lanes-ran.new in
-    let mid = outside ran.reader (source_view (g.I.PacedSource.left ran.input) (g.I.PacedSource.name ran.input) (g.I.PacedSource.faults ran.input)) (g.K.Sink.written ran.out) (g.K.Sink.faults ran.out) in
-    ends_unknown g.M.Lanes.belongs g.M.LaneMachine.rules (g.M.LaneMachine.state c.args.machine) c.requires.quiet _ _ _ _ _ mid (g.M.LaneMachine.state c.run_lanes-ran.new.machine.replies.machine) _ c.in-Ok.ensures.ran
+    let mid = outside ran.reader (source_view (g.I.PacedSource.left ran.input) (g.I.PacedSource.name ran.input) (g.I.PacedSource.faults ran.input))
+    (g.K.Sink.written ran.out) (g.K.Sink.faults ran.out) in
+    ends_unknown g.M.Lanes.belongs g.M.LaneMachine.rules (g.M.LaneMachine.state c.args.machine) c.requires.quiet _ _ _ _ _ mid
+    (g.M.LaneMachine.state c.run_lanes-ran.new.machine.replies.machine) _ c.in-Ok.ensures.ran
 
 pub returns-then-not-are_known-clause-unheard : goal.returns-then-not-are_known-clause-unheard
 returns-then-not-are_known-clause-unheard g c =
     let ran = c.run_lanes-ran.new in
-    let mid = outside ran.reader (source_view (g.I.PacedSource.left ran.input) (g.I.PacedSource.name ran.input) (g.I.PacedSource.faults ran.input)) (g.K.Sink.written ran.out) (g.K.Sink.faults ran.out) in
-    leaves_unknown g.M.Lanes.belongs g.M.LaneMachine.rules (g.M.LaneMachine.state c.args.machine) c.requires.quiet _ _ _ _ _ mid (g.M.LaneMachine.state c.run_lanes-ran.new.machine.replies.machine) _ c.in-Ok.ensures.ran
+    let mid = outside ran.reader (source_view (g.I.PacedSource.left ran.input) (g.I.PacedSource.name ran.input) (g.I.PacedSource.faults ran.input))
+    (g.K.Sink.written ran.out) (g.K.Sink.faults ran.out) in
+    leaves_unknown g.M.Lanes.belongs g.M.LaneMachine.rules (g.M.LaneMachine.state c.args.machine) c.requires.quiet _ _ _ _ _ mid
+    (g.M.LaneMachine.state c.run_lanes-ran.new.machine.replies.machine) _ c.in-Ok.ensures.ran
     (g.met.M.LaneMachine g.world.𝓛 g.world.𝓜 g.world.𝓡 ((λ s x. x), (λ x. x), (λ x. x), λ x. x)).unheard

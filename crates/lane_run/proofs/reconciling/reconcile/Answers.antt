@@ -9,7 +9,8 @@ pub items-preserved : goal.items-preserved
 items-preserved g c = record {
   mail = c.take_next.ensures.mail ∙ c.items.invariant.mail;
   name = c.take.ensures.name ∙ c.items.invariant.name;
-  drove = drives_next g.M.Reconciler.Drives c.items.inbox.taken c.take_next.new.inbox.taken c.in-Item.item (g.M.Reconciler.state c.args.machine.now) (g.M.Reconciler.state c.items.machine) (g.M.Reconciler.state c.take.new.self) _ _ _
+  drove = drives_next g.M.Reconciler.Drives c.items.inbox.taken c.take_next.new.inbox.taken c.in-Item.item (g.M.Reconciler.state c.args.machine.now)
+      (g.M.Reconciler.state c.items.machine) (g.M.Reconciler.state c.take.new.self) _ _ _
       c.items.invariant.drove (c.in-Item.ensures.item c.in-Item.item refl) c.in_default.ensures.ok;
 }
 
@@ -17,8 +18,10 @@ pub returns-in-Err-clause-reconciled : goal.returns-in-Err-clause-reconciled
 returns-in-Err-clause-reconciled g c = record {
   mail_is = c.drop_rest.ensures.mail ∙ (c.take_next.ensures.mail ∙ (c.items.invariant.mail ∙ c.requires.mail));
   ended = c.drop_rest.ensures.ended;
-  drove = drove_up_to g.M.Reconciler.Drives g.M.Reconciler.Refuses c.in-Err.status c.items.inbox.taken c.take_next.new.inbox.taken c.drop_rest.new.inbox.taken c.in-Item.item (g.M.Reconciler.state c.args.machine.now) (g.M.Reconciler.state c.items.machine)
-      (g.M.Reconciler.state c.take.new.self) _ _ _ c.items.invariant.drove (c.in-Item.ensures.item c.in-Item.item refl) c.drop_rest.ensures.taken c.in-Err.ensures.err;
+  drove = drove_up_to g.M.Reconciler.Drives g.M.Reconciler.Refuses c.in-Err.status c.items.inbox.taken c.take_next.new.inbox.taken c.drop_rest.new.inbox.taken
+      c.in-Item.item (g.M.Reconciler.state c.args.machine.now) (g.M.Reconciler.state c.items.machine)
+      (g.M.Reconciler.state c.take.new.self) _ _ _ c.items.invariant.drove (c.in-Item.ensures.item c.in-Item.item refl) c.drop_rest.ensures.taken
+      c.in-Err.ensures.err;
 }
 
 -- one more was taken, and no lane sends more than it may

@@ -8,8 +8,10 @@ invariant-items g l = record {
   mail : l.inbox.mail ≡ l.fn.inbox.mail;
   name : g.I.PacedSource.name l.input ≡ g.I.PacedSource.name l.fn.input;
   drove : AreDriven g.M.Reconciler.Drives l.inbox.taken (g.M.Reconciler.state l.fn.machine) (g.M.Reconciler.state l.machine)
-      (outside l.fn.reader (source_view (g.I.PacedSource.left l.fn.input) (g.I.PacedSource.name l.fn.input) (g.I.PacedSource.faults l.fn.input)) (g.K.Sink.written l.fn.out) (g.K.Sink.faults l.fn.out))
-      (outside l.reader (source_view (g.I.PacedSource.left l.input) (g.I.PacedSource.name l.input) (g.I.PacedSource.faults l.input)) (g.K.Sink.written l.out) (g.K.Sink.faults l.out));
+      (outside l.fn.reader (source_view (g.I.PacedSource.left l.fn.input) (g.I.PacedSource.name l.fn.input) (g.I.PacedSource.faults l.fn.input))
+      (g.K.Sink.written l.fn.out) (g.K.Sink.faults l.fn.out))
+      (outside l.reader (source_view (g.I.PacedSource.left l.input) (g.I.PacedSource.name l.input) (g.I.PacedSource.faults l.input)) (g.K.Sink.written l.out)
+      (g.K.Sink.faults l.out));
 }
 
 abbrev pub decreases-items : goal.decreases-items

@@ -27,9 +27,12 @@ returns-in-Some-clause-ended g c =
     let first = c.args.source.now in
     let now = c.lines.source in
     let after = c.send_next.new.source in
-    ended_so g.L.Lanes.belongs c.args.lane (lane_view (left first) (name first) (faults first) (safe first)) (lane_view (left now) (name now) (faults now) (safe now)) (lane_view (left after) (name after) (faults after) (safe after)) c.lines.reader c.send_next.new.reader
-    c.lines.pass.sent c.send_next.new.pass.sent c.in-Some.end i.watching (Passes-append _ c.lines.reader c.send_next.new.reader _ (left now) _ i.passes c.send_next.ensures.passes)
-    i.later i.named i.safety c.in-Some.ensures.ends (ap (λ (s : Sender). s.sent) c.in-Some.ensures.unsent) c.send_next.ensures.later c.send_next.ensures.name c.send_next.ensures.safe
+    ended_so g.L.Lanes.belongs c.args.lane (lane_view (left first) (name first) (faults first) (safe first)) (lane_view (left now) (name now) (faults now)
+    (safe now)) (lane_view (left after) (name after) (faults after) (safe after)) c.lines.reader c.send_next.new.reader
+    c.lines.pass.sent c.send_next.new.pass.sent c.in-Some.end i.watching
+    (Passes-append _ c.lines.reader c.send_next.new.reader _ (left now) _ i.passes c.send_next.ensures.passes)
+    i.later i.named i.safety c.in-Some.ensures.ends (ap (λ (s : Sender). s.sent) c.in-Some.ensures.unsent) c.send_next.ensures.later c.send_next.ensures.name
+    c.send_next.ensures.safe
 
 pub lines-preserved : goal.lines-preserved
 lines-preserved g c =

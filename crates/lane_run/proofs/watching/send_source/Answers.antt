@@ -5,4 +5,5 @@ use Rattle.lane_run.proofs.watching.send_source.Goals as goal
 pub returns-in_default-clause-ended : goal.returns-in_default-clause-ended
 returns-in_default-clause-ended g c =
     let source = c.args.source.now in
-    ended_unread g.L.Lanes.belongs c.args.lane (lane_view (g.S.Source.left source) (g.S.Source.name source) (g.S.Source.faults source) (g.S.Source.safe source)) c.args.pass.now.sent c.requires.fresh
+    ended_unread g.L.Lanes.belongs c.args.lane (lane_view (g.S.Source.left source) (g.S.Source.name source) (g.S.Source.faults source) (g.S.Source.safe source))
+    c.args.pass.now.sent c.requires.fresh

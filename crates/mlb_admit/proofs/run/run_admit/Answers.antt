@@ -8,8 +8,10 @@ use Rattle.mlb_admit.proofs.run.run_admit.Goals as goal
 pub run_machine-status-requires : goal.run_machine-status-requires
 run_machine-status-requires g c = record {
   live = λ i r o name answered. c.requires.live c.in-Some.ensures.known i r o name
-      (subst (λ s. IsAnswered admit_rules s (g.S.PacedSource.left c.args.input.now) r (g.S.PacedSource.left i) (g.K.Sink.written c.args.out.now) (g.K.Sink.written o)) c.in-Some.ensures.begun answered);
+      (subst (λ s. IsAnswered admit_rules s (g.S.PacedSource.left c.args.input.now) r (g.S.PacedSource.left i) (g.K.Sink.written c.args.out.now)
+      (g.K.Sink.written o)) c.in-Some.ensures.begun answered);
 }
 
 pub returns-clause-stops_at_none : goal.returns-clause-stops_at_none
-returns-clause-stops_at_none g c = explained_stops (texts_of c.args.words.now) c.in-Some.work c.run_machine-status.result _ _ _ c.in-Some.ensures.begun (c.run_machine-status.ensures.run.bad_line)
+returns-clause-stops_at_none g c = explained_stops (texts_of c.args.words.now) c.in-Some.work c.run_machine-status.result _ _ _ c.in-Some.ensures.begun
+    (c.run_machine-status.ensures.run.bad_line)

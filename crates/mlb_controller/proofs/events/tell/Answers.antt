@@ -5,4 +5,5 @@ use Rattle.mlb_controller.proofs.events.tell.Goals as goal
 
 pub returns-clause-err : goal.returns-clause-err
 returns-clause-err g c =
-    err_then c.make_turns.result _ _ _ (note_text c.args.note.now) (output_of (turns_from c.args.core.now).entries) _ _ _ c.in_ok-write_note.ensures.ok c.write_note.ensures.later c.make_turns.ensures.err
+    err_then c.make_turns.result _ _ _ (note_text c.args.note.now) (output_of (turns_from c.args.core.now).entries) _ _ _ c.in_ok-write_note.ensures.ok
+    c.write_note.ensures.later c.make_turns.ensures.err

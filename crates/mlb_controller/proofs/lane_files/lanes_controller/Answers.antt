@@ -29,9 +29,12 @@ run_lane_files-requires-clause-live g c = λ _ _ i r o name more.
     c.requires.live i r o name
     (subst
     (λ s. AsksMore belongs_to lane_rules s
-    (lane_view (g.F.WatchedFiles.bytes c.args.files.now c.args.lanes.first.now) (Some c.args.lanes.first.now) 0 (g.F.WatchedFiles.safe c.args.files.now c.args.lanes.first.now))
-    (lane_view (g.F.WatchedFiles.bytes c.args.files.now c.args.lanes.second.now) (Some c.args.lanes.second.now) 0 (g.F.WatchedFiles.safe c.args.files.now c.args.lanes.second.now))
-    (outside unread (source_view (g.S.PacedSource.left c.args.input.now) (g.S.PacedSource.name c.args.input.now) (g.S.PacedSource.faults c.args.input.now)) (g.K.Sink.written c.args.out.now) (g.K.Sink.faults c.args.out.now))
+    (lane_view (g.F.WatchedFiles.bytes c.args.files.now c.args.lanes.first.now) (Some c.args.lanes.first.now) 0
+    (g.F.WatchedFiles.safe c.args.files.now c.args.lanes.first.now))
+    (lane_view (g.F.WatchedFiles.bytes c.args.files.now c.args.lanes.second.now) (Some c.args.lanes.second.now) 0
+    (g.F.WatchedFiles.safe c.args.files.now c.args.lanes.second.now))
+    (outside unread (source_view (g.S.PacedSource.left c.args.input.now) (g.S.PacedSource.name c.args.input.now) (g.S.PacedSource.faults c.args.input.now))
+    (g.K.Sink.written c.args.out.now) (g.K.Sink.faults c.args.out.now))
     (outside r (source_view (g.S.PacedSource.left i) (g.S.PacedSource.name i) (g.S.PacedSource.faults i)) (g.K.Sink.written o) (g.K.Sink.faults o)))
     c.in-Ok.ensures more)
 
@@ -40,7 +43,8 @@ run_lane_files-requires-clause-waits g c = λ _ _ items out answers.
     c.requires.waits items out
     (subst
     (λ s. AnswersAll lane_rules s
-    (outside unread (source_view (g.S.PacedSource.left c.args.input.now) (g.S.PacedSource.name c.args.input.now) (g.S.PacedSource.faults c.args.input.now)) (g.K.Sink.written c.args.out.now) (g.K.Sink.faults c.args.out.now)) items (g.K.Sink.written out))
+    (outside unread (source_view (g.S.PacedSource.left c.args.input.now) (g.S.PacedSource.name c.args.input.now) (g.S.PacedSource.faults c.args.input.now))
+    (g.K.Sink.written c.args.out.now) (g.K.Sink.faults c.args.out.now)) items (g.K.Sink.written out))
     c.in-Ok.ensures answers)
 
 pub run_lane_files-requires-clause-drops : goal.run_lane_files-requires-clause-drops
@@ -48,22 +52,28 @@ run_lane_files-requires-clause-drops g c = λ _ _ items out stopped.
     c.requires.drops items out
     (subst
     (λ s. HasStopped lane_rules s
-    (outside unread (source_view (g.S.PacedSource.left c.args.input.now) (g.S.PacedSource.name c.args.input.now) (g.S.PacedSource.faults c.args.input.now)) (g.K.Sink.written c.args.out.now) (g.K.Sink.faults c.args.out.now)) items (g.K.Sink.written out))
+    (outside unread (source_view (g.S.PacedSource.left c.args.input.now) (g.S.PacedSource.name c.args.input.now) (g.S.PacedSource.faults c.args.input.now))
+    (g.K.Sink.written c.args.out.now) (g.K.Sink.faults c.args.out.now)) items (g.K.Sink.written out))
     c.in-Ok.ensures stopped)
 
 pub returns-clause-can_end : goal.returns-clause-can_end
-returns-clause-can_end g c = lanes_can_end c.in-Ok.controller.core _ _ _ _ _ _ _ _ _ _ _ _ c.run_lane_files.result c.run_lane_files.ensures.ended c.run_lane_files.ensures.open_fault
+returns-clause-can_end g c =
+    lanes_can_end c.in-Ok.controller.core _ _ _ _ _ _ _ _ _ _ _ _ c.run_lane_files.result c.run_lane_files.ensures.ended c.run_lane_files.ensures.open_fault
 
 pub returns-clause-quiet : goal.returns-clause-quiet
 returns-clause-quiet g c = λ done.
     let class = option_map (λ t. t.now) c.args.class in
-    let whole : TakesWhole belongs_to lane_rules (fresh class) (g.F.WatchedFiles.bytes c.args.files.now c.args.lanes.first.now) (g.F.WatchedFiles.bytes c.args.files.now c.args.lanes.second.now)
-    (g.S.PacedSource.left c.args.input.now) (g.S.PacedSource.left c.run_lane_files.new.input) (g.K.Sink.written c.args.out.now) (g.K.Sink.written c.run_lane_files.new.out) = rw c.in-Ok.ensures at (c.run_lane_files.ensures.done done) in
+    let whole : TakesWhole belongs_to lane_rules (fresh class) (g.F.WatchedFiles.bytes c.args.files.now c.args.lanes.first.now)
+    (g.F.WatchedFiles.bytes c.args.files.now c.args.lanes.second.now)
+    (g.S.PacedSource.left c.args.input.now) (g.S.PacedSource.left c.run_lane_files.new.input) (g.K.Sink.written c.args.out.now)
+    (g.K.Sink.written c.run_lane_files.new.out) = rw c.in-Ok.ensures at (c.run_lane_files.ensures.done done) in
     lanes_quiet class _ _ _ _ _ _ whole
 
 pub returns-clause-sound : goal.returns-clause-sound
 returns-clause-sound g c =
     let class = option_map (λ t. t.now) c.args.class in
-    let only : OnlyWrites belongs_to lane_rules (fresh class) (g.F.WatchedFiles.bytes c.args.files.now c.args.lanes.first.now) (g.F.WatchedFiles.bytes c.args.files.now c.args.lanes.second.now)
-    (g.S.PacedSource.left c.args.input.now) (g.K.Sink.written c.args.out.now) (g.K.Sink.written c.run_lane_files.new.out) = rw c.in-Ok.ensures at c.run_lane_files.ensures.only in
+    let only : OnlyWrites belongs_to lane_rules (fresh class) (g.F.WatchedFiles.bytes c.args.files.now c.args.lanes.first.now)
+    (g.F.WatchedFiles.bytes c.args.files.now c.args.lanes.second.now)
+    (g.S.PacedSource.left c.args.input.now) (g.K.Sink.written c.args.out.now) (g.K.Sink.written c.run_lane_files.new.out) =
+    rw c.in-Ok.ensures at c.run_lane_files.ensures.only in
     lanes_sound class _ _ _ _ _ only

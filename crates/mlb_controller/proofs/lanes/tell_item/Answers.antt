@@ -12,15 +12,18 @@ pub returns-in_err-write_took-clause-err : goal.returns-in_err-write_took-clause
 returns-in_err-write_took-clause-err g c =
     let p = err_from_is_err_and c.from_residual.result c.from_residual.ensures.1 in
     rw (p.1, p.2)
-    (Halts-first c.in_err-write_took.field-0.0 (line_of (took_text (name_of c.args.lane) c.args.number)) (note_text c.args.note.now ++ output_of (turns_from c.args.core.now).entries) _ _ _ _
+    (Halts-first c.in_err-write_took.field-0.0 (line_of (took_text (name_of c.args.lane) c.args.number))
+    (note_text c.args.note.now ++ output_of (turns_from c.args.core.now).entries) _ _ _ _
     (rw c.name_of.ensures at c.in_err-write_took.ensures.err))
 
 pub returns-clause-ok : goal.returns-clause-ok
 returns-clause-ok g c =
-    ok_then c.tell.result _ _ _ (line_of (took_text (name_of c.args.lane) c.args.number)) (note_text c.args.note.now ++ output_of (turns_from c.args.core.now).entries)
+    ok_then c.tell.result _ _ _ (line_of (took_text (name_of c.args.lane) c.args.number))
+    (note_text c.args.note.now ++ output_of (turns_from c.args.core.now).entries)
     (rw c.name_of.ensures at c.in_ok-write_took.ensures.ok) c.tell.ensures.ok
 
 pub returns-clause-err : goal.returns-clause-err
 returns-clause-err g c =
-    err_then c.tell.result _ _ _ (line_of (took_text (name_of c.args.lane) c.args.number)) (note_text c.args.note.now ++ output_of (turns_from c.args.core.now).entries) _ _ _
+    err_then c.tell.result _ _ _ (line_of (took_text (name_of c.args.lane) c.args.number))
+    (note_text c.args.note.now ++ output_of (turns_from c.args.core.now).entries) _ _ _
     (rw c.name_of.ensures at c.in_ok-write_took.ensures.ok) c.write_took.ensures.later c.tell.ensures.err

@@ -5,7 +5,9 @@ use Rattle.mlb_controller.proofs.Asking.{run_no_lanes, trial_no_lanes}
 use Rattle.mlb_controller.proofs.run.lanes_asked.Goals as goal
 
 pub returns-in-Some-Run-clause-none : goal.returns-in-Some-Run-clause-none
-returns-in-Some-Run-clause-none c = run_no_lanes (texts_of c.args.words.now) _ (sym (ap (λ x. Some (asked_seen x)) c.in-Some-Run.field-0-is) ∙ c.in-Some-Run.ensures.value)
+returns-in-Some-Run-clause-none c =
+    run_no_lanes (texts_of c.args.words.now) _ (sym (ap (λ x. Some (asked_seen x)) c.in-Some-Run.field-0-is) ∙ c.in-Some-Run.ensures.value)
 
 pub returns-in-Some-Trial-clause-none : goal.returns-in-Some-Trial-clause-none
-returns-in-Some-Trial-clause-none c = trial_no_lanes (texts_of c.args.words.now) _ _ (sym (ap (λ x. Some (asked_seen x)) c.in-Some-Trial.field-0-is) ∙ c.in-Some-Trial.ensures.value)
+returns-in-Some-Trial-clause-none c =
+    trial_no_lanes (texts_of c.args.words.now) _ _ (sym (ap (λ x. Some (asked_seen x)) c.in-Some-Trial.field-0-is) ∙ c.in-Some-Trial.ensures.value)

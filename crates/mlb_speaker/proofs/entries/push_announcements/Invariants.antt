@@ -4,4 +4,5 @@ use Rattle.mlb_speaker.specs.Sends.{announcement}
 use Rattle.mlb_speaker.proofs.entries.push_announcements.Given as goal
 
 abbrev pub invariant-loop-address : goal.invariant-loop-address
-invariant-loop-address l = l.entries ++ flat_map (announcement l.view l.local) l.address-iterator ≡ l.fn.entries ++ flat_map (announcement l.view l.local) l.addresses.keys
+invariant-loop-address l =
+    l.entries ++ flat_map (announcement l.view l.local) l.address-iterator ≡ l.fn.entries ++ flat_map (announcement l.view l.local) l.addresses.keys

@@ -8,12 +8,15 @@ use Rattle.mlb_speaker.proofs.lanes.write_item.Goals as goal
 
 pub returns-in-Err-clause-err : goal.returns-in-Err-clause-err
 returns-in-Err-clause-err g c =
-    Halts-first c.in-Err.halt (line_of (took_text (name_of c.args.lane) c.args.number)) (text_of speaker_rules c.args.entries.now) _ _ _ _ (rw c.name_of-name.ensures at c.in-Err.ensures.err)
+    Halts-first c.in-Err.halt (line_of (took_text (name_of c.args.lane) c.args.number)) (text_of speaker_rules c.args.entries.now)
+    _ _ _ _ (rw c.name_of-name.ensures at c.in-Err.ensures.err)
 
 pub returns-clause-ok : goal.returns-clause-ok
 returns-clause-ok g c =
-    ok_then c.write_entries.result _ _ _ (line_of (took_text (name_of c.args.lane) c.args.number)) (text_of speaker_rules c.args.entries.now) (rw c.name_of-name.ensures at c.in_default.ensures.ok) c.write_entries.ensures.ok
+    ok_then c.write_entries.result _ _ _ (line_of (took_text (name_of c.args.lane) c.args.number)) (text_of speaker_rules c.args.entries.now)
+    (rw c.name_of-name.ensures at c.in_default.ensures.ok) c.write_entries.ensures.ok
 
 pub returns-clause-err : goal.returns-clause-err
 returns-clause-err g c =
-    err_then c.write_entries.result _ _ _ (line_of (took_text (name_of c.args.lane) c.args.number)) (text_of speaker_rules c.args.entries.now) _ _ _ (rw c.name_of-name.ensures at c.in_default.ensures.ok) c.write_took.ensures.later c.write_entries.ensures.err
+    err_then c.write_entries.result _ _ _ (line_of (took_text (name_of c.args.lane) c.args.number)) (text_of speaker_rules c.args.entries.now)
+    _ _ _ (rw c.name_of-name.ensures at c.in_default.ensures.ok) c.write_took.ensures.later c.write_entries.ensures.err

@@ -6,4 +6,5 @@ use Rattle.mlb_speaker.proofs.peers.parts_kept.Given as goal
 
 abbrev pub invariant-loop-peer : goal.invariant-loop-peer
 invariant-loop-peer l =
-    (v : ViewValue) → AreKeptFor v l.kept → l.parts ++ map (part_at l.change v l.kept.node l.kept.both) (drop l.peer-index l.peers) ≡ map (part_at l.change v l.kept.node l.kept.both) l.peers
+    (v : ViewValue) → AreKeptFor v l.kept
+    → l.parts ++ map (part_at l.change v l.kept.node l.kept.both) (drop l.peer-index l.peers) ≡ map (part_at l.change v l.kept.node l.kept.both) l.peers

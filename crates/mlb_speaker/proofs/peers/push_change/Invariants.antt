@@ -5,4 +5,5 @@ use Rattle.mlb_speaker.proofs.peers.push_change.Given as goal
 
 abbrev pub invariant-loop-message : goal.invariant-loop-message
 invariant-loop-message l =
-    l.entries ++ map (updated l.peer) (drop l.message-index l.message-items) ≡ l.fn.entries ++ map (updated l.peer) (messages_between (peering_of l.peer l.hops.v4 l.hops.v6) l.before l.after)
+    l.entries ++ map (updated l.peer) (drop l.message-index l.message-items)
+    ≡ l.fn.entries ++ map (updated l.peer) (messages_between (peering_of l.peer l.hops.v4 l.hops.v6) l.before l.after)

@@ -12,10 +12,12 @@ loop-place-preserved c =
     let hops = c.args.hops.now in
     let both = c.args.kept.now.both in
     let peer = c.index-peers-place.result in
-    told-next (part_updates change was now node hops) c.loop-place.entries c.push_change.new.entries c.args.peers.now c.loop-place.place peer _ c.loop-place-test.true c.index-peers-place.is
+    told-next (part_updates change was now node hops) c.loop-place.entries c.push_change.new.entries c.args.peers.now c.loop-place.place peer
+    _ c.loop-place-test.true c.index-peers-place.is
     (c.in_ok-push_change.ensures
     ∙ ap₂ (λ (old new : Routes). c.loop-place.entries ++ updates_of old new hops peer)
-    (mapped-at (part_at change was node both) c.args.peers.now c.args.before.now c.loop-place.place peer c.index-before-place.result c.loop-place-test.true c.index-peers-place.is before c.index-before-place.is)
+    (mapped-at (part_at change was node both) c.args.peers.now c.args.before.now c.loop-place.place peer c.index-before-place.result c.loop-place-test.true
+    c.index-peers-place.is before c.index-before-place.is)
     (c.in_ok-after.ensures.part now right)
     ∙ ap (λ (b : Bool). c.loop-place.entries ++ updates_of (part_at change was node b peer) (part_at change now node b peer) hops peer) c.requires.both)
     (c.loop-place.invariant was now before right)

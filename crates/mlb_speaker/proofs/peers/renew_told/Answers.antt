@@ -22,7 +22,8 @@ returns-clause-entries c = elim c.match-renew_kept.branch [
       (on-ok w.push_changes-told.result
       (λ told before were.
       told before view
-      (w.as_slice.ensures ∙ c.in_ok-before.ensures before were.right ∙ ap (λ (n : List ℕ). map (part_at change before n both) peers) (sym c.renew_kept.ensures.node) ∙ ap (λ (b : Bool). map (part_at change before c.renew_kept.new.kept.node b) peers) (sym c.renew_kept.ensures.both))
+      (w.as_slice.ensures ∙ c.in_ok-before.ensures before were.right ∙ ap (λ (n : List ℕ). map (part_at change before n both) peers)
+      (sym c.renew_kept.ensures.node) ∙ ap (λ (b : Bool). map (part_at change before c.renew_kept.new.kept.node b) peers) (sym c.renew_kept.ensures.both))
       w.in-Ok.ensures.right
       ∙ ap (λ (n : List ℕ). c.args.entries.now ++ flat_map (part_updates change before view n hops) peers) c.renew_kept.ensures.node
       ∙ ap (λ (ps : List CompiledPeer). c.args.entries.now ++ flat_map (part_updates change before view node hops) ps) c.peers_of-peers.ensures.peers

@@ -21,14 +21,16 @@ use Rattle.mlb_speaker.proofs.run.run_speaker.Goals as goal
 
 pub run_lane_files-requires-clause-opens : goal.run_lane_files-requires-clause-opens
 run_lane_files-requires-clause-opens g c =
-    λ _ _. c.requires.lanes_open (lane_seen c.in-Some-lanes.lanes) ((named-begun (texts_of c.args.words.now) (said_seen c.in-Some.said) c.in-Some.ensures.said).1 ∙ ap (option_map lane_seen) c.in-Some-lanes.is)
+    λ _ _. c.requires.lanes_open (lane_seen c.in-Some-lanes.lanes)
+    ((named-begun (texts_of c.args.words.now) (said_seen c.in-Some.said) c.in-Some.ensures.said).1 ∙ ap (option_map lane_seen) c.in-Some-lanes.is)
 
 pub run_lane_files-requires-clause-live : goal.run_lane_files-requires-clause-live
 run_lane_files-requires-clause-live g c = λ _ _ i r o name more. absurd (asks_never _ _ _ _ _ more)
 
 pub run_lane_files-requires-clause-waits : goal.run_lane_files-requires-clause-waits
 run_lane_files-requires-clause-waits g c = λ _ _ items out answers.
-    (let before = outside unread (source_view (g.S.PacedSource.left c.args.input.now) (g.S.PacedSource.name c.args.input.now) (g.S.PacedSource.faults c.args.input.now))
+    (let before =
+    outside unread (source_view (g.S.PacedSource.left c.args.input.now) (g.S.PacedSource.name c.args.input.now) (g.S.PacedSource.faults c.args.input.now))
     (g.K.Sink.written c.args.out.now) (g.K.Sink.faults c.args.out.now) in
     let begun = named-begun (texts_of c.args.words.now) (said_seen c.in-Some.said) c.in-Some.ensures.said in
     c.requires.lanes_wait (lane_seen c.in-Some-lanes.lanes) (begun.1 ∙ ap (option_map lane_seen) c.in-Some-lanes.is) items out
@@ -36,7 +38,8 @@ run_lane_files-requires-clause-waits g c = λ _ _ items out answers.
 
 pub run_lane_files-requires-clause-drops : goal.run_lane_files-requires-clause-drops
 run_lane_files-requires-clause-drops g c = λ _ _ items out stopped.
-    (let before = outside unread (source_view (g.S.PacedSource.left c.args.input.now) (g.S.PacedSource.name c.args.input.now) (g.S.PacedSource.faults c.args.input.now))
+    (let before =
+    outside unread (source_view (g.S.PacedSource.left c.args.input.now) (g.S.PacedSource.name c.args.input.now) (g.S.PacedSource.faults c.args.input.now))
     (g.K.Sink.written c.args.out.now) (g.K.Sink.faults c.args.out.now) in
     let begun = named-begun (texts_of c.args.words.now) (said_seen c.in-Some.said) c.in-Some.ensures.said in
     c.requires.lanes_drop (lane_seen c.in-Some-lanes.lanes) (begun.1 ∙ ap (option_map lane_seen) c.in-Some-lanes.is) items out

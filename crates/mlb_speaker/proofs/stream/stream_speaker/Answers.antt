@@ -29,7 +29,8 @@ run_machine-status-requires g c =
     let begun : c.in-Ok.speaker ≡ begun_by c.args.words.now = c.in-Ok.ensures ∙ ap begun_with c.in-Some.ensures.value in
     record {
       live = λ i r o name answered. c.requires.live c.requires.asked i r o name
-          (subst (λ s. IsAnswered speaker_rules s (g.S.PacedSource.left c.args.input.now) r (g.S.PacedSource.left i) (g.K.Sink.written c.args.out.now) (g.K.Sink.written o)) begun answered);
+          (subst (λ s. IsAnswered speaker_rules s (g.S.PacedSource.left c.args.input.now) r (g.S.PacedSource.left i) (g.K.Sink.written c.args.out.now)
+          (g.K.Sink.written o)) begun answered);
     }
 
 pub returns-clause-named : goal.returns-clause-named
@@ -41,7 +42,8 @@ returns-clause-told g c = told_by (texts_of c.args.words.now)
 pub returns-clause-run : goal.returns-clause-run
 returns-clause-run g c =
     let begun : c.in-Ok.speaker ≡ begun_by c.args.words.now = c.in-Ok.ensures ∙ ap begun_with c.in-Some.ensures.value in
-    λ in_stream known. subst (λ s. RunOwes speaker_rules IsCause s c.run_machine-status.result (g.S.PacedSource.left c.args.input.now) (g.S.PacedSource.left c.run_machine-status.new.input)
+    λ in_stream known. subst (λ s. RunOwes speaker_rules IsCause s c.run_machine-status.result (g.S.PacedSource.left c.args.input.now)
+    (g.S.PacedSource.left c.run_machine-status.new.input)
     (g.K.Sink.written c.args.out.now) (g.K.Sink.written c.run_machine-status.new.out)) begun c.run_machine-status.ensures.run
 
 pub returns-in_default-clause-sends : goal.returns-in_default-clause-sends

@@ -11,7 +11,8 @@ returns-in_err-run-clause-none c =
 pub returns-then-high-run-clause-none : goal.returns-then-high-run-clause-none
 returns-then-high-run-clause-none c =
     let here : slice_get c.args.runs.now c.first_from.result ≡ Some c.in_ok-run.run' = sym c.run_at.ensures ∙ c.in_ok-run.was in
-    (λ m from to. none-ahead c.args.low c.args.runs.now c.first_from.result c.first_from.ensures c.in_ok-run.run' here m from (omega (arith, to, c.if-high-run.true)))
+    (λ m from to.
+    none-ahead c.args.low c.args.runs.now c.first_from.result c.first_from.ensures c.in_ok-run.run' here m from (omega (arith, to, c.if-high-run.true)))
 
 pub returns-then-run-low-clause-some : goal.returns-then-run-low-clause-some
 returns-then-run-low-clause-some c =

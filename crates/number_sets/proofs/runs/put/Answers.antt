@@ -9,7 +9,8 @@ use Rattle.number_sets.proofs.runs.put.Goals as goal
 pub returns-in_default-clause-set : goal.returns-in_default-clause-set
 returns-in_default-clause-set c =
     let none : slice_get c.args.runs.now.items c.args.index ≡ None = cc in
-    subst (IsSetTo 0 c.args.number true c.args.runs.now.items) (sym c.place.ensures.items) (put-end c.args.number c.args.runs.now.items c.args.index c.requires.found none)
+    subst (IsSetTo 0 c.args.number true c.args.runs.now.items) (sym c.place.ensures.items)
+    (put-end c.args.number c.args.runs.now.items c.args.index c.requires.found none)
 
 pub returns-in_default-clause-added : goal.returns-in_default-clause-added
 returns-in_default-clause-added c =

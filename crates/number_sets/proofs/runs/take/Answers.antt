@@ -9,7 +9,8 @@ use Rattle.number_sets.proofs.runs.take.Goals as goal
 pub returns-in_default-clause-set : goal.returns-in_default-clause-set
 returns-in_default-clause-set c =
     let none : slice_get c.args.runs.now.items c.args.index ≡ None = cc in
-    set-same c.args.number false c.args.runs.now.items c.requires.found.apart (past-absent c.args.number c.args.runs.now.items c.args.index c.requires.found none)
+    set-same c.args.number false c.args.runs.now.items c.requires.found.apart
+    (past-absent c.args.number c.args.runs.now.items c.args.index c.requires.found none)
 
 pub returns-in_default-clause-taken : goal.returns-in_default-clause-taken
 returns-in_default-clause-taken c =
@@ -19,7 +20,8 @@ returns-in_default-clause-taken c =
 pub returns-then-number-run-clause-set : goal.returns-then-number-run-clause-set
 returns-then-number-run-clause-set c =
     let here : slice_get c.args.runs.now.items c.args.index ≡ Some c.in-Some.run' = cc in
-    set-same c.args.number false c.args.runs.now.items c.requires.found.apart (front-absent c.args.number c.args.runs.now.items c.args.index c.requires.found c.in-Some.run' here c.if-number-run.true)
+    set-same c.args.number false c.args.runs.now.items c.requires.found.apart
+    (front-absent c.args.number c.args.runs.now.items c.args.index c.requires.found c.in-Some.run' here c.if-number-run.true)
 
 pub returns-then-number-run-clause-taken : goal.returns-then-number-run-clause-taken
 returns-then-number-run-clause-taken c =

@@ -8,5 +8,6 @@ use Rattle.pool_choice.proofs.choice.in_order.Goals as goal
 pub returns : goal.returns
 returns c =
     let up : IsSorted derived.cmp-value.it c.sort_unstable.new.self.items = c.sort_unstable.ensures.sorted in
-    entries-sorted c.args.service.now c.args.namespace.now c.args.pools.now c.in_ok-entries.entries.items c.sort_unstable.new.self.items c.in_ok-entries.ensures c.sort_unstable.ensures.permutation
+    entries-sorted c.args.service.now c.args.namespace.now c.args.pools.now c.in_ok-entries.entries.items c.sort_unstable.new.self.items c.in_ok-entries.ensures
+    c.sort_unstable.ensures.permutation
     (subst (λ (cmp : Entry → Entry → Ordering). IsSorted cmp c.sort_unstable.new.self.items) entry_cmp-is up)

@@ -8,6 +8,7 @@ use Rattle.sharing_terms.proofs.mark.push_others.Given as goal
 abbrev pub invariant-loop-port : goal.invariant-loop-port
 invariant-loop-port l =
     record {
-      written : string_bytes l.text ++ flat_map (λ p. 44 ∷ port_text p) (drop l.port-index l.ports) ≡ string_bytes l.fn.text ++ flat_map (λ p. 44 ∷ port_text p) l.ports;
+      written : string_bytes l.text ++ flat_map (λ p. 44 ∷ port_text p) (drop l.port-index l.ports)
+          ≡ string_bytes l.fn.text ++ flat_map (λ p. 44 ∷ port_text p) l.ports;
       small : AreSmall (drop l.port-index l.ports) → AreSmall l.ports;
     }

@@ -14,4 +14,5 @@ returns-in-Err-clause-limit c = limit-err c.in-Err.fault _ c.in-Err.ensures.limi
 pub returns-in-Ok-clause-covers : goal.returns-in-Ok-clause-covers
 returns-in-Ok-clause-covers c =
     subst (λ (held : Cached). Covers c.args.index.now held) (sym c.in-Ok.ensures.ok)
-    (covers-after c.args.index.now c.args.cache.now c.args.event (rw (← c.services.ensures) c.len-ascending.ensures.ascending) (rw (← c.slices.ensures) c.len-ascend.ensures.ascending) c.requires.has c.requires.covers)
+    (covers-after c.args.index.now c.args.cache.now c.args.event (rw (← c.services.ensures) c.len-ascending.ensures.ascending)
+    (rw (← c.slices.ensures) c.len-ascend.ensures.ascending) c.requires.has c.requires.covers)

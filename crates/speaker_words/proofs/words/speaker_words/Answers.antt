@@ -7,7 +7,9 @@ use Rattle.speaker_words.proofs.NamedWords.{say-read, read-say}
 use Rattle.speaker_words.proofs.words.speaker_words.Goals as goal
 
 pub returns-clause-said : goal.returns-clause-said
-returns-clause-said c = let words = texts_of c.args.words.now in answer-said said_seen Say said_in words (read-say words) c.read_words.result c.read_words.ensures
+returns-clause-said c = let words = texts_of c.args.words.now in
+    answer-said said_seen Say said_in words (read-say words) c.read_words.result c.read_words.ensures
 
 pub returns-clause-unknown : goal.returns-clause-unknown
-returns-clause-unknown c = let words = texts_of c.args.words.now in answer-unknown said_seen Say said_in words (say-read words) c.read_words.result c.read_words.ensures
+returns-clause-unknown c = let words = texts_of c.args.words.now in
+    answer-unknown said_seen Say said_in words (say-read words) c.read_words.result c.read_words.ensures

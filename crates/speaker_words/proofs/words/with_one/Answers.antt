@@ -9,7 +9,8 @@ pub returns-then-is_full : goal.returns-then-is_full
 returns-then-is_full c =
     elim c.then-is_full.branch [
       | then-is_full-via-then-is_full w ↦ none-full interface_seen c.args.interfaces.items c.args.interface (sym c.is_full.ensures.value ∙ w.if-is_full.true)
-      | then-is_full-via-else-is_full+then-is_named w ↦ none-named interface_seen c.args.interfaces.items c.args.interface (rw w.as_slice.ensures.value at (sym w.is_named.ensures ∙ w.if-is_named.true))
+      | then-is_full-via-else-is_full+then-is_named w ↦
+          none-named interface_seen c.args.interfaces.items c.args.interface (rw w.as_slice.ensures.value at (sym w.is_named.ensures ∙ w.if-is_named.true))
     ]
 
 pub returns : goal.returns

@@ -14,7 +14,8 @@ use Rattle.world_trial.proofs.trials.trial.Goals as goal
 pub returns-clause-by_key : goal.returns-clause-by_key
 returns-clause-by_key c =
     IfOk-weaker c.report_of.result _ _
-    (λ report is. subst (λ (r : TrialReport). AreByKey r.records) (sym is) (lines-by_key (trial_world c.args.seed c.args.steps).store.objects (good-trial c.args.seed c.args.steps).stored.kept.ascending))
+    (λ report is. subst (λ (r : TrialReport). AreByKey r.records) (sym is)
+    (lines-by_key (trial_world c.args.seed c.args.steps).store.objects (good-trial c.args.seed c.args.steps).stored.kept.ascending))
     c.report_of.ensures
 
 pub returns-clause-numbered : goal.returns-clause-numbered

@@ -7,8 +7,10 @@ returns-clause-chosen c = answer-chosen c.args.self.now.claims _ _ c.args.servic
 
 pub returns-clause-only : goal.returns-clause-only
 returns-clause-only c =
-    answer-only (holders c.args.self.now.claims) _ _ c.args.service.now c.choose.result (answer-chosen c.args.self.now.claims _ _ c.args.service.now c.choose.result c.choose.ensures.value)
+    answer-only (holders c.args.self.now.claims) _ _ c.args.service.now c.choose.result
+    (answer-chosen c.args.self.now.claims _ _ c.args.service.now c.choose.result c.choose.ensures.value)
 
 pub returns-clause-marked : goal.returns-clause-marked
 returns-clause-marked c =
-    answer-marked (holders c.args.self.now.claims) _ _ c.args.service.now c.choose.result (answer-chosen c.args.self.now.claims _ _ c.args.service.now c.choose.result c.choose.ensures.value) c.choose.ensures.terms
+    answer-marked (holders c.args.self.now.claims) _ _ c.args.service.now c.choose.result
+    (answer-chosen c.args.self.now.claims _ _ c.args.service.now c.choose.result c.choose.ensures.value) c.choose.ensures.terms

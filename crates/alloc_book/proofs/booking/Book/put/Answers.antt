@@ -17,7 +17,8 @@ returns-clause-claims c =
     elim c.if-is_assigned.branch [
       | then-is_assigned w ↦
           ap (λ (b : BookValue). b.claims) w.self-is
-          ∙ settled-assigned items w.add-number.new.self.items w.remove_others.new.index.items w.add-number.result claim (is ∙ w.if-is_assigned.true) w.add-number.ensures.fresh w.add-number.ensures.items w.remove_others.ensures.items
+          ∙ settled-assigned items w.add-number.new.self.items w.remove_others.new.index.items w.add-number.result claim (is ∙ w.if-is_assigned.true)
+          w.add-number.ensures.fresh w.add-number.ensures.items w.remove_others.ensures.items
           ∙ before
       | else-is_assigned w ↦
           ap (λ (b : BookValue). b.claims) w.self-is

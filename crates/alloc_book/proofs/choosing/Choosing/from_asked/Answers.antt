@@ -21,5 +21,6 @@ returns-in-None c =
     let claims = c.args.self.now.book.now.claims in
     let q = asking c.args.self.now.service.now c.args.self.now.terms.now in
     let found : Option CompiledPool → Option Record = λ pool. first_option claims q (option_to_list pool) in
-    let none : None ≡ named c.args.self.now.config.now.pools q.pool_asked = c.in-None.ensures ∙ ap (λ (pools : List CompiledPool). named pools q.pool_asked) c.pools.ensures in
+    let none : None ≡ named c.args.self.now.config.now.pools q.pool_asked =
+    c.in-None.ensures ∙ ap (λ (pools : List CompiledPool). named pools q.pool_asked) c.pools.ensures in
     sym (ap (new_or PoolExhausted) (ap found (sym none) ∙ none-gives claims q q.options))

@@ -17,14 +17,18 @@ loop-address-preserved c =
     let number : c.address.inside.number ≡ c.address-item.result.number = ap (λ (a : AddressValue). a.number) c.address.view_is in
     elim c.if-usable_number.branch [
       | then-usable_number w ↦
-          subst (λ found. Ahead (λ m. Contains (take (i + 1) xs) (address_of c.args.self.now.family m)) test c.args.low c.args.high found) (sym (w.least-is ∙ ap (λ (n : ℕ). Some n) number))
-          (met-usable claims c.args.self.now.key.now c.args.self.now.terms.now c.args.self.now.pool.now c.args.self.now.family c.args.low c.args.high _ xs i _ c.address-item.result c.loop-address.least (sym c.address-item.is) c.loop-address-test.true c.unwrap_or-last.ensures
+          subst (λ found. Ahead (λ m. Contains (take (i + 1) xs) (address_of c.args.self.now.family m)) test c.args.low c.args.high found)
+          (sym (w.least-is ∙ ap (λ (n : ℕ). Some n) number))
+          (met-usable claims c.args.self.now.key.now c.args.self.now.terms.now c.args.self.now.pool.now c.args.self.now.family c.args.low c.args.high _ xs i
+          _ c.address-item.result c.loop-address.least (sym c.address-item.is) c.loop-address-test.true c.unwrap_or-last.ensures
           (sym c.usable_number.ensures ∙ w.if-usable_number.true) c.loop-address.invariant)
       | else-usable_number w ↦
           subst (λ found. Ahead (λ m. Contains (take (i + 1) xs) (address_of c.args.self.now.family m)) test c.args.low c.args.high found) (sym w.least-is)
-          (met-not_usable claims c.args.self.now.key.now c.args.self.now.terms.now c.args.self.now.pool.now c.args.self.now.family c.args.low c.args.high _ xs i _ c.address-item.result c.loop-address.least (sym c.address-item.is) c.loop-address-test.true c.unwrap_or-last.ensures
+          (met-not_usable claims c.args.self.now.key.now c.args.self.now.terms.now c.args.self.now.pool.now c.args.self.now.family c.args.low c.args.high _ xs i
+          _ c.address-item.result c.loop-address.least (sym c.address-item.is) c.loop-address-test.true c.unwrap_or-last.ensures
           (sym c.usable_number.ensures ∙ w.if-usable_number.false) c.loop-address.invariant)
     ]
 
 pub returns : goal.returns
-returns c = all-met c.args.addresses.now c.loop-address.address-index c.args.self.now.family _ c.args.low c.args.high c.loop-address.least c.loop-address-test.false c.loop-address.invariant
+returns c = all-met c.args.addresses.now c.loop-address.address-index c.args.self.now.family _ c.args.low c.args.high c.loop-address.least
+    c.loop-address-test.false c.loop-address.invariant

@@ -10,7 +10,8 @@ pub loop-number-preserved-in_default : goal.loop-number-preserved-in_default
 loop-number-preserved-in_default c =
     let items = c.index-index.result.now.items in
     let numbers = c.numbers_of-number-items.result.now in
-    met-none items numbers c.loop-number.number-index 0 _ c.args.self.now.family _ c.args.low c.args.high c.loop-number.least refl c.loop-number-test.true c.claim.ensures.ascending
+    met-none items numbers c.loop-number.number-index 0 _ c.args.self.now.family _ c.args.low c.args.high c.loop-number.least refl c.loop-number-test.true
+    c.claim.ensures.ascending
     c.in_default.ensures.claim c.loop-number.invariant
 
 pub loop-number-preserved : goal.loop-number-preserved
@@ -22,13 +23,17 @@ loop-number-preserved c =
     let i = c.loop-number.number-index in
     let first = c.loop-number.least in
     let lesser = c.least_among-lesser.result in
-    let among = subst (λ (xs : List AddressValue). Covers (numbered (has_address xs) c.args.self.now.family) test c.args.low c.unwrap_or-last.result lesser) c.addresses.ensures c.least_among-lesser.ensures in
-    let here = subst (λ (last : ℕ). Covers (numbered (has_address c.in-Some.claim.now.holding.addresses) c.args.self.now.family) test c.args.low last lesser) c.unwrap_or-last.ensures among in
+    let among = subst (λ (xs : List AddressValue). Covers (numbered (has_address xs) c.args.self.now.family) test c.args.low c.unwrap_or-last.result lesser)
+    c.addresses.ensures c.least_among-lesser.ensures in
+    let here = subst (λ (last : ℕ). Covers (numbered (has_address c.in-Some.claim.now.holding.addresses) c.args.self.now.family) test c.args.low last lesser)
+    c.unwrap_or-last.ensures among in
     subst (λ found. Ahead (IsOneOf items (take (i + 1) numbers) c.args.self.now.family) test c.args.low c.args.high found) (sym c.or-least.ensures)
-    (met-claim items numbers i 0 _ c.in-Some.claim.now c.args.self.now.family test c.args.low c.args.high first lesser refl c.loop-number-test.true c.claim.ensures.ascending
+    (met-claim items numbers i 0 _ c.in-Some.claim.now c.args.self.now.family test c.args.low c.args.high first lesser refl c.loop-number-test.true
+    c.claim.ensures.ascending
     c.in-Some.ensures.claim c.loop-number.invariant here)
 
 pub returns : goal.returns
 returns c =
-    all-claims_met c.index-index.result.now.items c.args.self.now.book.now.claims c.args.self.now.key.now c.numbers_of-number-items.result.now c.loop-number.number-index c.args.self.now.family _ c.args.low c.args.high c.loop-number.least
+    all-claims_met c.index-index.result.now.items c.args.self.now.book.now.claims c.args.self.now.key.now c.numbers_of-number-items.result.now
+    c.loop-number.number-index c.args.self.now.family _ c.args.low c.args.high c.loop-number.least
     (sym c.index-index.ensures.claims) c.numbers_of-number-items.ensures c.loop-number-test.false c.loop-number.invariant

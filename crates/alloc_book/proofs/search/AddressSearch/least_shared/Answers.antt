@@ -9,8 +9,10 @@ use Rattle.alloc_book.proofs.search.AddressSearch.least_shared.Goals as goal
 pub returns-then-is_empty : goal.returns-then-is_empty
 returns-then-is_empty c =
     let empty : eqb (length c.args.self.now.terms.now.key) 0 ≡ true =
-    ap (λ (t : Terms). eqb (length t.key) 0) (sym c.terms.ensures) ∙ ap (λ (key : List ℕ). eqb (length key) 0) (sym c.as_str.ensures) ∙ sym c.is_empty.ensures ∙ c.if-is_empty.true in
-    λ m from upto offered. keyless-unusable c.args.self.now.book.now.claims c.args.self.now.key.now c.args.self.now.terms.now c.args.self.now.pool.now (address_of c.args.self.now.family m) empty offered
+    ap (λ (t : Terms). eqb (length t.key) 0) (sym c.terms.ensures) ∙ ap (λ (key : List ℕ). eqb (length key) 0) (sym c.as_str.ensures) ∙ sym c.is_empty.ensures
+    ∙ c.if-is_empty.true in
+    λ m from upto offered. keyless-unusable c.args.self.now.book.now.claims c.args.self.now.key.now c.args.self.now.terms.now c.args.self.now.pool.now
+    (address_of c.args.self.now.family m) empty offered
 
 pub first_left-requires : goal.first_left-requires
 first_left-requires c = c.in-Some.ensures.some.1
@@ -21,9 +23,12 @@ returns-in_err-number c =
     let claims = claims_for c.args.self.now in
     let found = c.in-Some.ensures.some in
     let none =
-    left-more claims c.args.self.now.key.now c.args.self.now.terms.now c.args.self.now.pool.now c.args.self.now.family c.args.low c.loop-shared.from c.in-Some.shared (c.args.high + 1) c.loop-shared.invariant.before
-    (none-shared_in _ claims c.args.self.now.family (group_of c.args.self.now.terms.now) c.loop-shared.from c.in-Some.shared c.index-index.ensures.claims found.2)
-    (barred-in c.as_slice-ports.result.now c.args.self.now.terms.now.ports _ claims c.args.self.now.family c.in-Some.shared (c.args.high + 1) (c.as_slice-ports.ensures.listed ∙ ap (λ (t : Terms). t.ports) c.terms-2.ensures) c.index-index.ensures.claims c.in_err-number.ensures.none) in
+    left-more claims c.args.self.now.key.now c.args.self.now.terms.now c.args.self.now.pool.now c.args.self.now.family c.args.low c.loop-shared.from
+    c.in-Some.shared (c.args.high + 1) c.loop-shared.invariant.before
+    (none-shared_in _ claims c.args.self.now.family (group_of c.args.self.now.terms.now) c.loop-shared.from c.in-Some.shared c.index-index.ensures.claims
+    found.2)
+    (barred-in c.as_slice-ports.result.now c.args.self.now.terms.now.ports _ claims c.args.self.now.family c.in-Some.shared (c.args.high + 1)
+    (c.as_slice-ports.ensures.listed ∙ ap (λ (t : Terms). t.ports) c.terms-2.ensures) c.index-index.ensures.claims c.in_err-number.ensures.none) in
     rw c.from_residual.ensures (λ m from upto. none m from (omega (arith, upto)))
 
 pub loop-shared-preserved : goal.loop-shared-preserved
@@ -34,9 +39,12 @@ loop-shared-preserved c =
     record {
       begun = omega (arith, c.loop-shared.invariant.begun, found.0, left.0);
       before =
-          left-next claims c.args.self.now.key.now c.args.self.now.terms.now c.args.self.now.pool.now c.args.self.now.family c.args.low c.loop-shared.from c.in-Some.shared c.in_ok-number.number c.loop-shared.invariant.before
-          (none-shared_in _ claims c.args.self.now.family (group_of c.args.self.now.terms.now) c.loop-shared.from c.in-Some.shared c.index-index.ensures.claims found.2)
-          (barred-in c.as_slice-ports.result.now c.args.self.now.terms.now.ports _ claims c.args.self.now.family c.in-Some.shared c.in_ok-number.number (c.as_slice-ports.ensures.listed ∙ ap (λ (t : Terms). t.ports) c.terms-2.ensures) c.index-index.ensures.claims left.2)
+          left-next claims c.args.self.now.key.now c.args.self.now.terms.now c.args.self.now.pool.now c.args.self.now.family c.args.low c.loop-shared.from
+          c.in-Some.shared c.in_ok-number.number c.loop-shared.invariant.before
+          (none-shared_in _ claims c.args.self.now.family (group_of c.args.self.now.terms.now) c.loop-shared.from c.in-Some.shared c.index-index.ensures.claims
+          found.2)
+          (barred-in c.as_slice-ports.result.now c.args.self.now.terms.now.ports _ claims c.args.self.now.family c.in-Some.shared c.in_ok-number.number
+          (c.as_slice-ports.ensures.listed ∙ ap (λ (t : Terms). t.ports) c.terms-2.ensures) c.index-index.ensures.claims left.2)
           (sym c.may_use.ensures ∙ c.if-may_use.false);
     }
 
@@ -48,9 +56,12 @@ returns-then-may_use c =
       omega (arith, c.loop-shared.invariant.begun, found.0, left.0),
       left.1,
       sym c.may_use.ensures ∙ c.if-may_use.true,
-      left-more claims c.args.self.now.key.now c.args.self.now.terms.now c.args.self.now.pool.now c.args.self.now.family c.args.low c.loop-shared.from c.in-Some.shared c.in_ok-number.number c.loop-shared.invariant.before
-          (none-shared_in _ claims c.args.self.now.family (group_of c.args.self.now.terms.now) c.loop-shared.from c.in-Some.shared c.index-index.ensures.claims found.2)
-          (barred-in c.as_slice-ports.result.now c.args.self.now.terms.now.ports _ claims c.args.self.now.family c.in-Some.shared c.in_ok-number.number (c.as_slice-ports.ensures.listed ∙ ap (λ (t : Terms). t.ports) c.terms-2.ensures) c.index-index.ensures.claims left.2),
+      left-more claims c.args.self.now.key.now c.args.self.now.terms.now c.args.self.now.pool.now c.args.self.now.family c.args.low c.loop-shared.from
+          c.in-Some.shared c.in_ok-number.number c.loop-shared.invariant.before
+          (none-shared_in _ claims c.args.self.now.family (group_of c.args.self.now.terms.now) c.loop-shared.from c.in-Some.shared c.index-index.ensures.claims
+          found.2)
+          (barred-in c.as_slice-ports.result.now c.args.self.now.terms.now.ports _ claims c.args.self.now.family c.in-Some.shared c.in_ok-number.number
+          (c.as_slice-ports.ensures.listed ∙ ap (λ (t : Terms). t.ports) c.terms-2.ensures) c.index-index.ensures.claims left.2),
     )
 
 pub returns-then-number-high : goal.returns-then-number-high
@@ -60,15 +71,20 @@ returns-then-number-high c =
     let left = c.in_ok-number.ensures.some in
     let last : c.in_ok-number.number ≡ c.args.high = c.if-number-high.true in
     let none =
-    left-next claims c.args.self.now.key.now c.args.self.now.terms.now c.args.self.now.pool.now c.args.self.now.family c.args.low c.loop-shared.from c.in-Some.shared c.in_ok-number.number c.loop-shared.invariant.before
-    (none-shared_in _ claims c.args.self.now.family (group_of c.args.self.now.terms.now) c.loop-shared.from c.in-Some.shared c.index-index.ensures.claims found.2)
-    (barred-in c.as_slice-ports.result.now c.args.self.now.terms.now.ports _ claims c.args.self.now.family c.in-Some.shared c.in_ok-number.number (c.as_slice-ports.ensures.listed ∙ ap (λ (t : Terms). t.ports) c.terms-2.ensures) c.index-index.ensures.claims left.2)
+    left-next claims c.args.self.now.key.now c.args.self.now.terms.now c.args.self.now.pool.now c.args.self.now.family c.args.low c.loop-shared.from
+    c.in-Some.shared c.in_ok-number.number c.loop-shared.invariant.before
+    (none-shared_in _ claims c.args.self.now.family (group_of c.args.self.now.terms.now) c.loop-shared.from c.in-Some.shared c.index-index.ensures.claims
+    found.2)
+    (barred-in c.as_slice-ports.result.now c.args.self.now.terms.now.ports _ claims c.args.self.now.family c.in-Some.shared c.in_ok-number.number
+    (c.as_slice-ports.ensures.listed ∙ ap (λ (t : Terms). t.ports) c.terms-2.ensures) c.index-index.ensures.claims left.2)
     (sym c.may_use.ensures ∙ c.if-may_use.false) in
     λ m from upto. none m from (omega (arith, upto, last))
 
 pub returns : goal.returns
 returns c =
     let none =
-    shared-more c.args.self.now.book.now.claims c.args.self.now.key.now c.args.self.now.terms.now c.args.self.now.pool.now c.args.self.now.family c.args.low c.loop-shared.from (c.args.high + 1) c.loop-shared.invariant.before
-    (none-shared_in _ c.args.self.now.book.now.claims c.args.self.now.family (group_of c.args.self.now.terms.now) c.loop-shared.from (c.args.high + 1) c.index-index.ensures.claims c.in_default.ensures.none) in
+    shared-more c.args.self.now.book.now.claims c.args.self.now.key.now c.args.self.now.terms.now c.args.self.now.pool.now c.args.self.now.family c.args.low
+    c.loop-shared.from (c.args.high + 1) c.loop-shared.invariant.before
+    (none-shared_in _ c.args.self.now.book.now.claims c.args.self.now.family (group_of c.args.self.now.terms.now) c.loop-shared.from (c.args.high + 1)
+    c.index-index.ensures.claims c.in_default.ensures.none) in
     λ m from upto. none m from (omega (arith, upto))

@@ -9,7 +9,8 @@ use Rattle.bgp_routes.proofs.kept.KeptRoutes.fill.Goals as goal
 
 pub touch_all-requires-clause-stand : goal.touch_all-requires-clause-stand
 touch_all-requires-clause-stand c =
-    cleared-stand c.self.inside.both c.replace.new.dest.advertisements c.self.inside.contributors (ap (λ (k : KeptValue). has k.contributors) c.self.view_is ∙ c.requires.contributors)
+    cleared-stand c.self.inside.both c.replace.new.dest.advertisements c.self.inside.contributors
+    (ap (λ (k : KeptValue). has k.contributors) c.self.view_is ∙ c.requires.contributors)
 
 pub returns-clause-ok : goal.returns-clause-ok
 returns-clause-ok c =
@@ -19,5 +20,6 @@ returns-clause-ok c =
     let old = c.self.inside.contributors in
     let new = c.touch_all.new.contributors in
     let none = ap (λ (k : KeptValue). has k.contributors) c.self.view_is ∙ c.requires.contributors in
-    let touched = subst (λ (addresses : List AddressValue). OnOk c.touch_all.result (AreTouched view node both addresses old new)) (c.as_slice.ensures ∙ c.in_ok-addresses.ensures) c.touch_all.ensures in
+    let touched = subst (λ (addresses : List AddressValue). OnOk c.touch_all.result (AreTouched view node both addresses old new))
+    (c.as_slice.ensures ∙ c.in_ok-addresses.ensures) c.touch_all.ensures in
     ok-then c.touch_all.result touched (filled view node both c.replace.new.dest old new (c.replace.ensures.after ∙ c.in_ok-held.ensures) none)

@@ -8,7 +8,8 @@ pub touch_all-requires-clause-held : goal.touch_all-requires-clause-held
 touch_all-requires-clause-held c =
     let view = c.args.view.now in
     let addresses = c.args.addresses.now in
-    let kept : KeptValue = record { node = c.self.inside.node; both = c.self.inside.both; held = c.self.inside.held; contributors = c.self.inside.contributors } in
+    let kept : KeptValue =
+    record { node = c.self.inside.node; both = c.self.inside.both; held = c.self.inside.held; contributors = c.self.inside.contributors } in
     let but : AreKeptBut view addresses kept = subst (λ (k : KeptValue). AreKeptBut view addresses k) (sym c.self.view_is) c.requires in
     held-but view addresses kept but
 
@@ -16,7 +17,8 @@ pub touch_all-requires-clause-stand : goal.touch_all-requires-clause-stand
 touch_all-requires-clause-stand c =
     let view = c.args.view.now in
     let addresses = c.args.addresses.now in
-    let kept : KeptValue = record { node = c.self.inside.node; both = c.self.inside.both; held = c.self.inside.held; contributors = c.self.inside.contributors } in
+    let kept : KeptValue =
+    record { node = c.self.inside.node; both = c.self.inside.both; held = c.self.inside.held; contributors = c.self.inside.contributors } in
     let but : AreKeptBut view addresses kept = subst (λ (k : KeptValue). AreKeptBut view addresses k) (sym c.self.view_is) c.requires in
     stand-but view addresses kept but
 
@@ -24,6 +26,7 @@ pub returns-clause-ok : goal.returns-clause-ok
 returns-clause-ok c =
     let view = c.args.view.now in
     let addresses = c.args.addresses.now in
-    let kept : KeptValue = record { node = c.self.inside.node; both = c.self.inside.both; held = c.self.inside.held; contributors = c.self.inside.contributors } in
+    let kept : KeptValue =
+    record { node = c.self.inside.node; both = c.self.inside.both; held = c.self.inside.held; contributors = c.self.inside.contributors } in
     let but : AreKeptBut view addresses kept = subst (λ (k : KeptValue). AreKeptBut view addresses k) (sym c.self.view_is) c.requires in
     ok-then c.touch_all.result c.touch_all.ensures (renewed view addresses kept but c.touch_all.new.contributors)

@@ -6,7 +6,8 @@ use Rattle.bgp_routes.proofs.uniting.UnitedRoutes.add.Goals as goal
 
 pub invariant_of-self-2 : goal.invariant_of-self-2
 invariant_of-self-2 c =
-    stays-placed c.self.inside.routes.entries c.insert.new.self.entries c.args.route c.in_ok-joined.joined c.place_of-place.result c.requires c.self.invariant (record {
+    stays-placed c.self.inside.routes.entries c.insert.new.self.entries c.args.route c.in_ok-joined.joined c.place_of-place.result c.requires c.self.invariant
+    (record {
       sorted = c.insert.ensures.was_ordered;
       is_place = c.place_of-place.ensures;
       is_made = c.in_ok-joined.ensures ∙ ap (λ found. united_with found c.args.route) c.get.ensures.value;
@@ -15,7 +16,8 @@ invariant_of-self-2 c =
 
 pub returns : goal.returns
 returns c =
-    contribution-placed c.self.inside.routes.entries c.insert.new.self.entries c.args.route c.in_ok-joined.joined c.place_of-place.result c.requires c.self.invariant (record {
+    contribution-placed c.self.inside.routes.entries c.insert.new.self.entries c.args.route c.in_ok-joined.joined c.place_of-place.result c.requires
+    c.self.invariant (record {
       sorted = c.insert.ensures.was_ordered;
       is_place = c.place_of-place.ensures;
       is_made = c.in_ok-joined.ensures ∙ ap (λ found. united_with found c.args.route) c.get.ensures.value;

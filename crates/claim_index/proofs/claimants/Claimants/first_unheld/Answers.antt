@@ -2,7 +2,9 @@ use Rattle.claim_index.proofs.ClaimantLaws.{least-unheld, none-unheld}
 use Rattle.claim_index.proofs.claimants.Claimants.first_unheld.Goals as goal
 
 pub returns-clause-some : goal.returns-clause-some
-returns-clause-some c = rw (← c.self.view_is) (least-unheld c.args.inside c.self.inside.held c.self.inside.by_number _ _ _ c.self.invariant c.first_absent.ensures.some)
+returns-clause-some c =
+    rw (← c.self.view_is) (least-unheld c.args.inside c.self.inside.held c.self.inside.by_number _ _ _ c.self.invariant c.first_absent.ensures.some)
 
 pub returns-clause-none : goal.returns-clause-none
-returns-clause-none c = rw (← c.self.view_is) (none-unheld c.args.inside c.self.inside.held c.self.inside.by_number _ _ _ c.self.invariant c.first_absent.ensures.none)
+returns-clause-none c =
+    rw (← c.self.view_is) (none-unheld c.args.inside c.self.inside.held c.self.inside.by_number _ _ _ c.self.invariant c.first_absent.ensures.none)

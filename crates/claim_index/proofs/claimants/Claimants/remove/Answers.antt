@@ -15,7 +15,9 @@ invariant_of-self-else-is_empty c =
     (ap (λ ns. length ns == 0) (sym c.numbers.ensures) ∙ sym c.is_empty.ensures ∙ c.if-is_empty.false) c.self.invariant
 
 pub returns-then-is_empty : goal.returns-then-is_empty
-returns-then-is_empty c = rw (← c.self.view_is) (record { numbers = claim-dropped c.args.number c.args.claim (numbers_under nat_cmp c.self.inside.by_number) _ c.remove.ensures.numbers })
+returns-then-is_empty c = rw (← c.self.view_is)
+    (record { numbers = claim-dropped c.args.number c.args.claim (numbers_under nat_cmp c.self.inside.by_number) _ c.remove.ensures.numbers })
 
 pub returns-else-is_empty : goal.returns-else-is_empty
-returns-else-is_empty c = rw (← c.self.view_is) (record { numbers = claim-dropped c.args.number c.args.claim (numbers_under nat_cmp c.self.inside.by_number) _ c.remove.ensures.numbers })
+returns-else-is_empty c = rw (← c.self.view_is)
+    (record { numbers = claim-dropped c.args.number c.args.claim (numbers_under nat_cmp c.self.inside.by_number) _ c.remove.ensures.numbers })

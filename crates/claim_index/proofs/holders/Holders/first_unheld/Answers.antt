@@ -21,11 +21,15 @@ returns-in-Some-clause-none c =
 pub returns-in-None-clause-some : goal.returns-in-None-clause-some
 returns-in-None-clause-some c =
     rw (← c.self.view_is)
-    (subst (λ (f : ℕ → List ℕ). IfSome c.first_unheld-in-None.result (λ n. IsLeastIn (λ m. not (c.args.inside && is_edge m) && is_nil (f m)) c.args.low c.args.high n))
-    (c.new-none.ensures.numbers ∙ sym (ap claims_at (slot-absent c.args.slot.now c.self.inside.by_slot.entries c.in-None.ensures.value))) c.first_unheld-in-None.ensures.some)
+    (subst (λ (f : ℕ → List ℕ).
+    IfSome c.first_unheld-in-None.result (λ n. IsLeastIn (λ m. not (c.args.inside && is_edge m) && is_nil (f m)) c.args.low c.args.high n))
+    (c.new-none.ensures.numbers ∙ sym (ap claims_at (slot-absent c.args.slot.now c.self.inside.by_slot.entries c.in-None.ensures.value)))
+    c.first_unheld-in-None.ensures.some)
 
 pub returns-in-None-clause-none : goal.returns-in-None-clause-none
 returns-in-None-clause-none c =
     rw (← c.self.view_is)
-    (subst (λ (f : ℕ → List ℕ). IfNone c.first_unheld-in-None.result (NonePasses (λ m. not (c.args.inside && is_edge m) && is_nil (f m)) c.args.low c.args.high))
-    (c.new-none.ensures.numbers ∙ sym (ap claims_at (slot-absent c.args.slot.now c.self.inside.by_slot.entries c.in-None.ensures.value))) c.first_unheld-in-None.ensures.none)
+    (subst (λ (f : ℕ → List ℕ).
+    IfNone c.first_unheld-in-None.result (NonePasses (λ m. not (c.args.inside && is_edge m) && is_nil (f m)) c.args.low c.args.high))
+    (c.new-none.ensures.numbers ∙ sym (ap claims_at (slot-absent c.args.slot.now c.self.inside.by_slot.entries c.in-None.ensures.value)))
+    c.first_unheld-in-None.ensures.none)

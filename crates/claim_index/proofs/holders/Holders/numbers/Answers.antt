@@ -6,8 +6,10 @@ use Rattle.claim_index.proofs.holders.Holders.numbers.Goals as goal
 pub returns-in-Some : goal.returns-in-Some
 returns-in-Some c =
     rw (← c.self.view_is)
-    (of-found c.args.slot.now c.self.inside.by_slot.entries c.in-Some.claimants.now c.in-Some.ensures.value (λ claimants. c.numbers.result.now ≡ claims_at claimants c.args.number) c.numbers.ensures)
+    (of-found c.args.slot.now c.self.inside.by_slot.entries c.in-Some.claimants.now c.in-Some.ensures.value
+    (λ claimants. c.numbers.result.now ≡ claims_at claimants c.args.number) c.numbers.ensures)
 
 pub returns-in-None : goal.returns-in-None
 returns-in-None c =
-    rw (← c.self.view_is) (sym (ap (λ claimants. claims_at claimants c.args.number) (slot-absent c.args.slot.now c.self.inside.by_slot.entries c.in-None.ensures.value)))
+    rw (← c.self.view_is)
+    (sym (ap (λ claimants. claims_at claimants c.args.number) (slot-absent c.args.slot.now c.self.inside.by_slot.entries c.in-None.ensures.value)))

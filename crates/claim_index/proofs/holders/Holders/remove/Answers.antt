@@ -9,29 +9,35 @@ returns-in_default-clause-numbers c =
     (absent-filtered c.args.slot.now c.self.inside.by_slot.entries (λ n. not (n == c.args.claim)) c.args.number c.in_default.ensures.value)
 
 pub drop_empty-requires : goal.drop_empty-requires
-drop_empty-requires c = ap claims_at (written-now c.args.slot.now c.self.inside.by_slot (c.get_mut.follows.lender c.remove.new.self) c.in-Some.claimants.now c.remove.new.self c.in-Some.ensures.value (c.get_mut.follows.holds c.remove.new.self)) ∙ c.is_empty.ensures c.if-is_empty.true
+drop_empty-requires c = ap claims_at (written-now c.args.slot.now c.self.inside.by_slot (c.get_mut.follows.lender c.remove.new.self) c.in-Some.claimants.now
+    c.remove.new.self c.in-Some.ensures.value (c.get_mut.follows.holds c.remove.new.self)) ∙ c.is_empty.ensures c.if-is_empty.true
 
 pub returns-then-is_empty-clause-numbers : goal.returns-then-is_empty-clause-numbers
 returns-then-is_empty-clause-numbers c =
     rw (← c.self.view_is)
     (c.drop_empty.ensures.numbers
-    ∙ sym (ap claims_at (written-now c.args.slot.now c.self.inside.by_slot (c.get_mut.follows.lender c.remove.new.self) c.in-Some.claimants.now c.remove.new.self c.in-Some.ensures.value (c.get_mut.follows.holds c.remove.new.self)) ∙ c.is_empty.ensures c.if-is_empty.true)
-    ∙ written-claims c.args.slot.now c.self.inside.by_slot (c.get_mut.follows.lender c.remove.new.self) c.in-Some.claimants.now c.remove.new.self c.in-Some.ensures.value
+    ∙ sym (ap claims_at (written-now c.args.slot.now c.self.inside.by_slot (c.get_mut.follows.lender c.remove.new.self) c.in-Some.claimants.now
+    c.remove.new.self c.in-Some.ensures.value (c.get_mut.follows.holds c.remove.new.self)) ∙ c.is_empty.ensures c.if-is_empty.true)
+    ∙ written-claims c.args.slot.now c.self.inside.by_slot (c.get_mut.follows.lender c.remove.new.self) c.in-Some.claimants.now c.remove.new.self
+    c.in-Some.ensures.value
     (c.get_mut.follows.holds c.remove.new.self) (filter (λ n. not (n == c.args.claim))) c.args.number c.remove.ensures.numbers)
 
 pub returns-then-is_empty-clause-others : goal.returns-then-is_empty-clause-others
 returns-then-is_empty-clause-others c =
     rw (← c.self.view_is)
     (λ s apart. c.drop_empty.ensures.others s apart
-    ∙ written-apart c.args.slot.now c.self.inside.by_slot (c.get_mut.follows.lender c.remove.new.self) c.in-Some.claimants.now c.remove.new.self c.in-Some.ensures.value (c.get_mut.follows.holds c.remove.new.self) s apart)
+    ∙ written-apart c.args.slot.now c.self.inside.by_slot (c.get_mut.follows.lender c.remove.new.self) c.in-Some.claimants.now c.remove.new.self
+    c.in-Some.ensures.value (c.get_mut.follows.holds c.remove.new.self) s apart)
 
 pub returns-else-is_empty-clause-numbers : goal.returns-else-is_empty-clause-numbers
 returns-else-is_empty-clause-numbers c =
     rw (← c.self.view_is)
-    (written-claims c.args.slot.now c.self.inside.by_slot (c.get_mut.follows.lender c.remove.new.self) c.in-Some.claimants.now c.remove.new.self c.in-Some.ensures.value
+    (written-claims c.args.slot.now c.self.inside.by_slot (c.get_mut.follows.lender c.remove.new.self) c.in-Some.claimants.now c.remove.new.self
+    c.in-Some.ensures.value
     (c.get_mut.follows.holds c.remove.new.self) (filter (λ n. not (n == c.args.claim))) c.args.number c.remove.ensures.numbers)
 
 pub returns-else-is_empty-clause-others : goal.returns-else-is_empty-clause-others
 returns-else-is_empty-clause-others c =
     rw (← c.self.view_is)
-    (written-apart c.args.slot.now c.self.inside.by_slot (c.get_mut.follows.lender c.remove.new.self) c.in-Some.claimants.now c.remove.new.self c.in-Some.ensures.value (c.get_mut.follows.holds c.remove.new.self))
+    (written-apart c.args.slot.now c.self.inside.by_slot (c.get_mut.follows.lender c.remove.new.self) c.in-Some.claimants.now c.remove.new.self
+    c.in-Some.ensures.value (c.get_mut.follows.holds c.remove.new.self))

@@ -16,14 +16,17 @@ use Rattle.claim_index.proofs.index.ClaimIndex.add.Goals as goal
 pub add-requires : goal.add-requires
 add-requires c =
     let room = subst (λ (v : ClaimIndexValue). HasRoomFor v.room c.args.claim) (sym c.self.view_is) c.requires.room in
-    let is = found-is c.self.inside.claims.items c.push-number.new.self.items c.push-number.result c.args.claim c.in-Some.claim.now c.push-number.ensures.items c.push-number.ensures.fresh c.in-Some.ensures.item in
+    let is = found-is c.self.inside.claims.items c.push-number.new.self.items c.push-number.result c.args.claim c.in-Some.claim.now c.push-number.ensures.items
+    c.push-number.ensures.fresh c.in-Some.ensures.item in
     subst (λ (k : Key). 0 < room_under key_cmp c.self.inside.by_key k) (sym (c.key.ensures ∙ ap (λ (x : ClaimValue). x.key) is)) room.key
 
 pub add_claim-requires-clause-room : goal.add_claim-requires-clause-room
 add_claim-requires-clause-room c =
     let room = subst (λ (v : ClaimIndexValue). HasRoomFor v.room c.args.claim) (sym c.self.view_is) c.requires.room in
-    let is = found-is c.self.inside.claims.items c.push-number.new.self.items c.push-number.result c.args.claim c.in-Some.claim.now c.push-number.ensures.items c.push-number.ensures.fresh c.in-Some.ensures.item in
-    subst (λ (x : ClaimValue). (slot : Slot) → occupies slot x ≡ true → HasRoomAt c.self.inside.holders (length x.holding.addresses) slot x.holding.addresses) (sym is) room.addresses
+    let is = found-is c.self.inside.claims.items c.push-number.new.self.items c.push-number.result c.args.claim c.in-Some.claim.now c.push-number.ensures.items
+    c.push-number.ensures.fresh c.in-Some.ensures.item in
+    subst (λ (x : ClaimValue). (slot : Slot) → occupies slot x ≡ true → HasRoomAt c.self.inside.holders (length x.holding.addresses) slot x.holding.addresses)
+    (sym is) room.addresses
 
 pub add_claim-requires-clause-fresh : goal.add_claim-requires-clause-fresh
 add_claim-requires-clause-fresh c slot a there =
@@ -32,11 +35,13 @@ add_claim-requires-clause-fresh c slot a there =
 
 pub invariant_of-self : goal.invariant_of-self
 invariant_of-self c =
-    let is = found-is c.self.inside.claims.items c.push-number.new.self.items c.push-number.result c.args.claim c.in-Some.claim.now c.push-number.ensures.items c.push-number.ensures.fresh c.in-Some.ensures.item in
+    let is = found-is c.self.inside.claims.items c.push-number.new.self.items c.push-number.result c.args.claim c.in-Some.claim.now c.push-number.ensures.items
+    c.push-number.ensures.fresh c.in-Some.ensures.item in
     indexed-pushed c.self.inside.claims.items c.push-number.new.self.items c.push-number.result c.args.claim c.in-Some.claim.now c.key.result.now
     c.self.inside.by_key c.add.new.self c.self.inside.holders c.add_claim.new.holders c.self.invariant c.push-number.ensures.items
     (c.key.ensures ∙ ap (λ (x : ClaimValue). x.key) is) is c.requires.assigned c.add.ensures.numbers c.add_claim.ensures.numbers c.add_claim.ensures.grouped
 
 pub invariant_of-self-in_default : goal.invariant_of-self-in_default
 invariant_of-self-in_default c =
-    absurd (not-lost c.self.inside.claims.items c.push-number.new.self.items c.push-number.result c.args.claim c.push-number.ensures.items c.push-number.ensures.fresh c.in_default.ensures.item)
+    absurd (not-lost c.self.inside.claims.items c.push-number.new.self.items c.push-number.result c.args.claim c.push-number.ensures.items
+    c.push-number.ensures.fresh c.in_default.ensures.item)

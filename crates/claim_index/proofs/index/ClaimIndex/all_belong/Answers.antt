@@ -17,13 +17,16 @@ returns c =
     let key = c.args.key.now in
     let terms = c.args.terms.now in
     let a = c.args.address.now in
-    let all : c.numbers-all.result.now ≡ numbers_at Any a items = c.numbers-all.ensures ∙ ap (λ (f : AddressValue → List ℕ). f a) (c.self.invariant.holders Any) in
+    let all : c.numbers-all.result.now ≡ numbers_at Any a items =
+    c.numbers-all.ensures ∙ ap (λ (f : AddressValue → List ℕ). f a) (c.self.invariant.holders Any) in
     let grouped : c.numbers-grouped.result.now ≡ numbers_at (OfGroup (group_of terms)) a items =
-    c.numbers-grouped.ensures ∙ ap (λ (f : AddressValue → List ℕ). f a) (c.self.invariant.holders c.group.result.now) ∙ ap (λ (s : Slot). numbers_at s a items) c.group.ensures.slot in
+    c.numbers-grouped.ensures ∙ ap (λ (f : AddressValue → List ℕ). f a) (c.self.invariant.holders c.group.result.now)
+    ∙ ap (λ (s : Slot). numbers_at s a items) c.group.ensures.slot in
     let own : c.count_odd.result ≡ length (own_odd key terms a items) =
     c.count_odd.ensures.count
     ∙ ap (λ (t : Terms). length (filter (λ n. is_odd t a (under items n)) c.numbers-own.result.now)) c.terms.ensures
-    ∙ count-is items c.numbers-own.result.now c.count_odd.ensures.ascending key (c.numbers-own.ensures ∙ ap (λ (f : Key → List ℕ). f key) c.self.invariant.keys) (is_odd terms a) in
+    ∙ count-is items c.numbers-own.result.now c.count_odd.ensures.ascending key (c.numbers-own.ensures ∙ ap (λ (f : Key → List ℕ). f key) c.self.invariant.keys)
+    (is_odd terms a) in
     rw (← c.self.view_is)
     (ap (λ (n : ℕ). nat_eq n c.count_odd.result) c.saturating_sub.ensures
     ∙ ap (λ (ns : List ℕ). nat_eq (length ns - length c.numbers-grouped.result.now) c.count_odd.result) all

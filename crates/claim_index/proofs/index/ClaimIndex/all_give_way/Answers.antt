@@ -18,9 +18,12 @@ returns c =
     let numbers = c.numbers.result.now in
     let sorted : is_nil numbers ≡ false → IsStrictlySortedBy nat_cmp (keys_of items) =
     asked-all (IsStrictlySortedBy nat_cmp (keys_of items)) c.all.result numbers
-    (cases_from_all _ _ c.all.result (λ _. IsStrictlySortedBy nat_cmp (keys_of items)) (λ _. IsStrictlySortedBy nat_cmp (keys_of items)) c.all.ensures.ran (YieldsList-from_slice numbers cc) (λ x q k. search (rules, tests)) (λ x q k. search (rules, tests)))
+    (cases_from_all _ _ c.all.result (λ _. IsStrictlySortedBy nat_cmp (keys_of items)) (λ _. IsStrictlySortedBy nat_cmp (keys_of items)) c.all.ensures.ran
+    (YieldsList-from_slice numbers cc) (λ x q k. search (rules, tests)) (λ x q k. search (rules, tests)))
     in
     let test : ℕ → Bool = λ n. gives_way c.args.key.now c.args.terms.now (under items n) in
-    let value : c.all.result ≡ list_all test numbers = all_from_yields_List test _ _ c.all.result c.all.ensures.ran (YieldsList-from_slice numbers cc) (λ x b q k. search (rules, tests)) in
+    let value : c.all.result ≡ list_all test numbers =
+    all_from_yields_List test _ _ c.all.result c.all.ensures.ran (YieldsList-from_slice numbers cc) (λ x b q k. search (rules, tests)) in
     rw (← c.self.view_is)
-    (value ∙ all_leave-is items numbers sorted c.args.address.now c.args.key.now c.args.terms.now (c.numbers.ensures ∙ ap (λ (f : AddressValue → List ℕ). f c.args.address.now) (c.self.invariant.holders Any)))
+    (value ∙ all_leave-is items numbers sorted c.args.address.now c.args.key.now c.args.terms.now
+    (c.numbers.ensures ∙ ap (λ (f : AddressValue → List ℕ). f c.args.address.now) (c.self.invariant.holders Any)))

@@ -11,4 +11,5 @@ pub invariant_of-self-2 : goal.invariant_of-self-2
 invariant_of-self-2 c =
     indexed-left c.args.number c.self.inside.claims.items c.remove.new.self.items c.in-Some.claim c.key.result.now c.self.inside.by_key c.remove-2.new.self
     c.self.inside.holders c.remove_claim.new.holders
-    c.remove.ensures.items c.remove.ensures.ascending c.in-Some.ensures.item c.key.ensures c.self.invariant c.remove-2.ensures.numbers c.remove_claim.ensures.numbers
+    c.remove.ensures.items c.remove.ensures.ascending c.in-Some.ensures.item c.key.ensures c.self.invariant c.remove-2.ensures.numbers
+    c.remove_claim.ensures.numbers

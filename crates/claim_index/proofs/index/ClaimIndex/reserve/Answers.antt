@@ -6,12 +6,14 @@ use Rattle.claim_index.proofs.index.ClaimIndex.reserve.Goals as goal
 
 pub invariant_of-self-in_err-reserve-2 : goal.invariant_of-self-in_err-reserve-2
 invariant_of-self-in_err-reserve-2 c =
-    indexed-kept c.self.inside.claims.items c.reserve.new.self.items c.self.inside.by_key c.reserve-2.new.self c.self.inside.holders c.self.inside.holders c.self.invariant
+    indexed-kept c.self.inside.claims.items c.reserve.new.self.items c.self.inside.by_key c.reserve-2.new.self c.self.inside.holders c.self.inside.holders
+    c.self.invariant
     c.reserve.ensures.items c.reserve-2.ensures.numbers (λ slot. refl)
 
 pub invariant_of-self-2 : goal.invariant_of-self-2
 invariant_of-self-2 c =
-    indexed-kept c.self.inside.claims.items c.reserve.new.self.items c.self.inside.by_key c.reserve-2.new.self c.self.inside.holders c.reserve_claim.new.holders c.self.invariant
+    indexed-kept c.self.inside.claims.items c.reserve.new.self.items c.self.inside.by_key c.reserve-2.new.self c.self.inside.holders c.reserve_claim.new.holders
+    c.self.invariant
     c.reserve.ensures.items c.reserve-2.ensures.numbers c.reserve_claim.ensures.numbers
 
 pub returns-clause-room : goal.returns-clause-room

@@ -29,7 +29,9 @@ invariant_of-self-2 c =
     let event = c.args.event in
     let wakes_is : c.wakes-wakes.result ≡ wakes s.held (applied s.held event) (cached_after (Watched event) s.held) =
     rw (c.is_ready.ensures, c.is_ready-was_ready.ensures, c.in_ok-applied.ensures.applied, c.in_ok-applied.ensures.cache) at c.wakes-wakes.ensures in
-    let state_is = woken-configured s event c.queue_and_apply.new.cache c.wakes-wakes.result c.len-queued.result c.in-Ok.woken.items _ _ c.requires.configures wakes_is c.len-queued.ensures
+    let state_is = woken-configured s event c.queue_and_apply.new.cache c.wakes-wakes.result c.len-queued.result c.in-Ok.woken.items _ _ c.requires.configures
+    wakes_is c.len-queued.ensures
     more_is c.in_ok-applied.ensures.cache c.in_ok-applied.ensures.queue c.truncate_unless.ensures in
     subst (λ (t : State). WaitIn t c.clear_where.new.self) (sym state_is)
-    (configured-wait s event c.wakes-wakes.result i.waiting c.clear_where.new.self reached c.requires.configures c.self.invariant wakes_is c.clear_where.ensures)
+    (configured-wait s event c.wakes-wakes.result i.waiting c.clear_where.new.self reached c.requires.configures c.self.invariant wakes_is
+    c.clear_where.ensures)

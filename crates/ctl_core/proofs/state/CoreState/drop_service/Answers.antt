@@ -16,8 +16,10 @@ append_new-requires c =
     let s : State = record { class = i.class; held = i.cache; claims = i.book.claims; queue = i.queue; awaiting = i.awaiting; out = i.out } in
     let reached : IsReached s = rw (← c.self.view_is) at c.requires in
     let lost_is = rw (← c.self.view_is) at c.gives_up-is_lost.ensures in
-    let more_is = c.in_ok-more.ensures.keys ∙ dropped-others s i.waiting reached c.self.invariant c.in_ok-more.ensures.ordered c.gives_up-is_lost.result c.args.key.now lost_is in
-    subst (λ more. GoBehind more s.queue) (sym more_is) (waiting-behind (is_ready s.held && has_claims c.args.key.now s.claims) (same_key c.args.key.now) s reached)
+    let more_is = c.in_ok-more.ensures.keys
+    ∙ dropped-others s i.waiting reached c.self.invariant c.in_ok-more.ensures.ordered c.gives_up-is_lost.result c.args.key.now lost_is in
+    subst (λ more. GoBehind more s.queue) (sym more_is)
+    (waiting-behind (is_ready s.held && has_claims c.args.key.now s.claims) (same_key c.args.key.now) s reached)
 
 pub invariant_of-self-2 : goal.invariant_of-self-2
 invariant_of-self-2 c =
@@ -25,8 +27,10 @@ invariant_of-self-2 c =
     let s : State = record { class = i.class; held = i.cache; claims = i.book.claims; queue = i.queue; awaiting = i.awaiting; out = i.out } in
     let reached : IsReached s = rw (← c.self.view_is) at c.requires in
     let lost_is = rw (← c.self.view_is) at c.gives_up-is_lost.ensures in
-    let more_is = c.in_ok-more.ensures.keys ∙ dropped-others s i.waiting reached c.self.invariant c.in_ok-more.ensures.ordered c.gives_up-is_lost.result c.args.key.now lost_is in
-    let state_is = service-dropped s c.args.key.now _ c.in_ok-more.more.items _ _ _ _ more_is c.delete_service.ensures c.in_ok-append_new.ensures.ok c.drop_name.ensures.claims
+    let more_is = c.in_ok-more.ensures.keys
+    ∙ dropped-others s i.waiting reached c.self.invariant c.in_ok-more.ensures.ordered c.gives_up-is_lost.result c.args.key.now lost_is in
+    let state_is = service-dropped s c.args.key.now _ c.in_ok-more.more.items _ _ _ _ more_is c.delete_service.ensures c.in_ok-append_new.ensures.ok
+    c.drop_name.ensures.claims
     c.stop_awaiting.ensures c.drop_key.ensures in
     subst (λ (t : State). WaitIn t c.release.new.self) (sym state_is)
     (dropped-wait s c.args.key.now c.gives_up-is_lost.result i.waiting c.release.new.self reached c.self.invariant lost_is c.release.ensures)
@@ -37,7 +41,9 @@ returns-clause-ok c =
     let s : State = record { class = i.class; held = i.cache; claims = i.book.claims; queue = i.queue; awaiting = i.awaiting; out = i.out } in
     let reached : IsReached s = rw (← c.self.view_is) at c.requires in
     let lost_is = rw (← c.self.view_is) at c.gives_up-is_lost.ensures in
-    let more_is = c.in_ok-more.ensures.keys ∙ dropped-others s i.waiting reached c.self.invariant c.in_ok-more.ensures.ordered c.gives_up-is_lost.result c.args.key.now lost_is in
-    let state_is = service-dropped s c.args.key.now _ c.in_ok-more.more.items _ _ _ _ more_is c.delete_service.ensures c.in_ok-append_new.ensures.ok c.drop_name.ensures.claims
+    let more_is = c.in_ok-more.ensures.keys
+    ∙ dropped-others s i.waiting reached c.self.invariant c.in_ok-more.ensures.ordered c.gives_up-is_lost.result c.args.key.now lost_is in
+    let state_is = service-dropped s c.args.key.now _ c.in_ok-more.more.items _ _ _ _ more_is c.delete_service.ensures c.in_ok-append_new.ensures.ok
+    c.drop_name.ensures.claims
     c.stop_awaiting.ensures c.drop_key.ensures in
     rw (← c.self.view_is) state_is

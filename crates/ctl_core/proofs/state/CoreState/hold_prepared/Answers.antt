@@ -17,7 +17,8 @@ queue_and_show-requires c =
     let s : State = record { class = i.class; held = i.cache; claims = i.book.claims; queue = i.queue; awaiting = i.awaiting; out = i.out } in
     let reached : IsReached s = rw (← c.self.view_is) at c.requires.reached in
     let prepared : IsPrepared s c.args.service c.args.prepared = rw (← c.self.view_is) at c.requires.prepared in
-    subst (λ more. GoBehind more s.queue) (sym prepared.more_is) (held-behind s c.args.version c.args.service reached (rw (← c.self.view_is) at c.requires.newer))
+    subst (λ more. GoBehind more s.queue) (sym prepared.more_is)
+    (held-behind s c.args.version c.args.service reached (rw (← c.self.view_is) at c.requires.newer))
 
 pub invariant_of-self-2 : goal.invariant_of-self-2
 invariant_of-self-2 c =
@@ -28,7 +29,8 @@ invariant_of-self-2 c =
     let key_is = c.key.ensures ∙ ap (λ (x : ClaimValue). x.key) prepared.claim_is in
     let state_is = prepared-held s c.args.version c.args.service c.args.prepared _ _ _ _ prepared
     c.in-Ok-queue_and_show.ensures.cache c.in-Ok-queue_and_show.ensures.queue
-    (c.settle_prepared.ensures.claims ∙ ap (settled c.args.prepared.claim.key c.args.prepared.claim.holding c.args.prepared.claim.terms) c.reserve.ensures.claims)
+    (c.settle_prepared.ensures.claims
+    ∙ ap (settled c.args.prepared.claim.key c.args.prepared.claim.holding c.args.prepared.claim.terms) c.reserve.ensures.claims)
     (c.stop_awaiting.ensures ∙ ap (λ (k : Key). without k s.awaiting) key_is) in
     subst (λ (t : State). WaitIn t c.release.new.self) (sym state_is)
     (held-wait s c.args.version c.args.service c.key-2.result.now c.args.prepared.is_lost i.waiting c.release.new.self reached c.self.invariant
@@ -43,6 +45,7 @@ returns-clause-ok c =
     let key_is = c.key.ensures ∙ ap (λ (x : ClaimValue). x.key) prepared.claim_is in
     let state_is = prepared-held s c.args.version c.args.service c.args.prepared _ _ _ _ prepared
     c.in-Ok-queue_and_show.ensures.cache c.in-Ok-queue_and_show.ensures.queue
-    (c.settle_prepared.ensures.claims ∙ ap (settled c.args.prepared.claim.key c.args.prepared.claim.holding c.args.prepared.claim.terms) c.reserve.ensures.claims)
+    (c.settle_prepared.ensures.claims
+    ∙ ap (settled c.args.prepared.claim.key c.args.prepared.claim.holding c.args.prepared.claim.terms) c.reserve.ensures.claims)
     (c.stop_awaiting.ensures ∙ ap (λ (k : Key). without k s.awaiting) key_is) in
     rw (← c.self.view_is) state_is

@@ -25,7 +25,8 @@ invariant_of-self-2 c =
     let reached : IsReached s = rw (← c.self.view_is) at c.requires.reached in
     let others = c.in-Ok-others_where.ensures.keys
     ∙ others-out s reached c.args.put refl c.loses-is_lost.result i.waiting c.self.invariant c.in-Ok-others_where.ensures.ordered in
-    stored-waits s reached c.args.put refl c.args.version c.loses-is_lost.result i.waiting c.queue_and_let_wait.new.waiting c.release_others.new.self c.store.new.self
+    stored-waits s reached c.args.put refl c.args.version c.loses-is_lost.result i.waiting c.queue_and_let_wait.new.waiting c.release_others.new.self
+    c.store.new.self
     c.queue_and_let_wait.new.queue c.in-Ok-others_where.more.items c.self.invariant
     (λ k. rw (← c.as_ref.ensures.value, ← c.services-services.ensures) (c.in-Ok-queue_and_let_wait.ensures.waiting k))
     (λ k. c.release_others.ensures k)

@@ -9,4 +9,5 @@ returns c = λ k.
     rw (← c.self.view_is)
     (c.clear_where.ensures k
     ∙ ap (λ b. not c.args.is_lost && b)
-    (contains-kept (λ key. not (is_unlisted c.args.services.now key)) c.self.inside.keys c.retain.new.self (filter_same _ _ _ (λ x b f' t. search rules) _ _ c.retain.ensures.filtered) k))
+    (contains-kept (λ key. not (is_unlisted c.args.services.now key)) c.self.inside.keys c.retain.new.self
+    (filter_same _ _ _ (λ x b f' t. search rules) _ _ c.retain.ensures.filtered) k))

@@ -19,4 +19,5 @@ returns-then-is_used_up-clause-err c = (
 
 pub returns-clause-passed : goal.returns-clause-passed
 returns-clause-passed c =
-    passed-is _ _ c.make.result (enabled c.args.step c.args.self.now c.requires.stored.kept (sym c.is_enabled.ensures ∙ c.if-not-is_enabled.false)) c.make.ensures.passed
+    passed-is _ _ c.make.result (enabled c.args.step c.args.self.now c.requires.stored.kept (sym c.is_enabled.ensures ∙ c.if-not-is_enabled.false))
+    c.make.ensures.passed

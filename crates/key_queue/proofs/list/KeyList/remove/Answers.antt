@@ -12,4 +12,5 @@ invariant_of-self g c = (
 pub returns : goal.returns
 returns g c =
     let same : g.K.PartialEq.eq c.args.key.now ≡ is_at (g.K.Ord.cmp c.args.key.now) = λ i k. g.met.K.Ord.matches_eq c.args.key.now k i in
-    rw (same, c.remove-number.ensures.entries, ← c.self.view_is) (in_turn-taken g.met.K.Ord.total c.args.key.now c.self.inside.numbers.entries c.self.invariant.0)
+    rw (same, c.remove-number.ensures.entries, ← c.self.view_is)
+    (in_turn-taken g.met.K.Ord.total c.args.key.now c.self.inside.numbers.entries c.self.invariant.0)

@@ -8,7 +8,8 @@ pub returns-in_err-serving : goal.returns-in_err-serving
 unfolding endpoint_of
 returns-in_err-serving c =
     let p = err_from_is_err_and c.from_residual-in_err-serving.result c.from_residual-in_err-serving.ensures.1 in
-    rw (p.1, p.2, c.in_ok-require_object.ensures, c.in_ok-node.ensures, c.in_ok-ready.ensures) (Fails-bind c.in_err-serving.field-0.0 _ _ c.in_err-serving.ensures)
+    rw (p.1, p.2, c.in_ok-require_object.ensures, c.in_ok-node.ensures, c.in_ok-ready.ensures)
+    (Fails-bind c.in_err-serving.field-0.0 _ _ c.in_err-serving.ensures)
 
 pub returns : goal.returns
 unfolding endpoint_of

@@ -6,16 +6,19 @@ use Rattle.lane_drive.proofs.driver.DriverReconciler.take.Goals as goal
 
 pub hear_replies-requires : goal.hear_replies-requires
 hear_replies-requires g c = record {
-  live = λ i r o name more. c.requires.live i r o name (asks_not g.M.LaneMachine.rules (g.M.LaneMachine.state c.args.self.now.replies.machine) c.args.item _ _ more);
+  live = λ i r o name more.
+      c.requires.live i r o name (asks_not g.M.LaneMachine.rules (g.M.LaneMachine.state c.args.self.now.replies.machine) c.args.item _ _ more);
 }
 
 pub hear_replies-requires-2 : goal.hear_replies-requires-2
 hear_replies-requires-2 g c =
     let heard = c.hear_replies.new in
-    let mid = outside heard.reader (source_view (g.I.PacedSource.left heard.input) (g.I.PacedSource.name heard.input) (g.I.PacedSource.faults heard.input)) (g.K.Sink.written c.take_item.new.out) (g.K.Sink.faults c.take_item.new.out) in
+    let mid = outside heard.reader (source_view (g.I.PacedSource.left heard.input) (g.I.PacedSource.name heard.input) (g.I.PacedSource.faults heard.input))
+    (g.K.Sink.written c.take_item.new.out) (g.K.Sink.faults c.take_item.new.out) in
     record {
       live = λ i r o name more. c.requires.live i r o (name ∙ c.hear_replies.ensures.name)
-          (awaits_behind g.M.LaneMachine.rules (g.M.LaneMachine.state c.args.self.now.replies.machine) (g.M.LaneMachine.state heard.replies.machine) (g.M.LaneMachine.state c.take_item.new.self) c.args.item _ _ mid c.in_default.ensures.ok.0
+          (awaits_behind g.M.LaneMachine.rules (g.M.LaneMachine.state c.args.self.now.replies.machine) (g.M.LaneMachine.state heard.replies.machine)
+          (g.M.LaneMachine.state c.take_item.new.self) c.args.item _ _ mid c.in_default.ensures.ok.0
           c.in_default-take_item.ensures.ok refl refl c.take_item.ensures.later _ more);
     }
 
@@ -26,22 +29,29 @@ returns-in-Err-clause-err g c =
 pub returns-in-Err-take_item-clause-err : goal.returns-in-Err-take_item-clause-err
 returns-in-Err-take_item-clause-err g c =
     let heard = c.hear_replies.new in
-    let after = outside heard.reader (source_view (g.I.PacedSource.left heard.input) (g.I.PacedSource.name heard.input) (g.I.PacedSource.faults heard.input)) (g.K.Sink.written c.take_item.new.out) (g.K.Sink.faults c.take_item.new.out) in
-    fails_item g.M.LaneMachine.rules (g.M.LaneMachine.state c.args.self.now.replies.machine) (g.M.LaneMachine.state heard.replies.machine) c.args.item _ _ after c.status_of_refusal.result c.in-Err-take_item.refusal c.in_default.ensures.ok.0
+    let after = outside heard.reader (source_view (g.I.PacedSource.left heard.input) (g.I.PacedSource.name heard.input) (g.I.PacedSource.faults heard.input))
+    (g.K.Sink.written c.take_item.new.out) (g.K.Sink.faults c.take_item.new.out) in
+    fails_item g.M.LaneMachine.rules (g.M.LaneMachine.state c.args.self.now.replies.machine) (g.M.LaneMachine.state heard.replies.machine) c.args.item _ _ after
+    c.status_of_refusal.result c.in-Err-take_item.refusal c.in_default.ensures.ok.0
     c.status_of_refusal.ensures c.in-Err-take_item.ensures.err refl refl
 
 pub returns-clause-ok : goal.returns-clause-ok
 returns-clause-ok g c =
     let heard = c.hear_replies.new in
-    let mid = outside heard.reader (source_view (g.I.PacedSource.left heard.input) (g.I.PacedSource.name heard.input) (g.I.PacedSource.faults heard.input)) (g.K.Sink.written c.take_item.new.out) (g.K.Sink.faults c.take_item.new.out) in
+    let mid = outside heard.reader (source_view (g.I.PacedSource.left heard.input) (g.I.PacedSource.name heard.input) (g.I.PacedSource.faults heard.input))
+    (g.K.Sink.written c.take_item.new.out) (g.K.Sink.faults c.take_item.new.out) in
     on_ok_weaker c.hear_replies-2.result
-    (drives_item g.M.LaneMachine.rules (g.M.LaneMachine.state c.args.self.now.replies.machine) (g.M.LaneMachine.state heard.replies.machine) (g.M.LaneMachine.state c.take_item.new.self) c.args.item _ _ mid c.in_default.ensures.ok.0
-    c.in_default-take_item.ensures.ok refl refl c.take_item.ensures.later (g.M.LaneMachine.state c.hear_replies-2.new.replies.machine) _) c.hear_replies-2.ensures.ok
+    (drives_item g.M.LaneMachine.rules (g.M.LaneMachine.state c.args.self.now.replies.machine) (g.M.LaneMachine.state heard.replies.machine)
+    (g.M.LaneMachine.state c.take_item.new.self) c.args.item _ _ mid c.in_default.ensures.ok.0
+    c.in_default-take_item.ensures.ok refl refl c.take_item.ensures.later (g.M.LaneMachine.state c.hear_replies-2.new.replies.machine) _)
+    c.hear_replies-2.ensures.ok
 
 pub returns-clause-err : goal.returns-clause-err
 returns-clause-err g c =
     let heard = c.hear_replies.new in
-    let mid = outside heard.reader (source_view (g.I.PacedSource.left heard.input) (g.I.PacedSource.name heard.input) (g.I.PacedSource.faults heard.input)) (g.K.Sink.written c.take_item.new.out) (g.K.Sink.faults c.take_item.new.out) in
+    let mid = outside heard.reader (source_view (g.I.PacedSource.left heard.input) (g.I.PacedSource.name heard.input) (g.I.PacedSource.faults heard.input))
+    (g.K.Sink.written c.take_item.new.out) (g.K.Sink.faults c.take_item.new.out) in
     IfErr-weaker c.hear_replies-2.result _ _
-    (fails_behind g.M.LaneMachine.rules (g.M.LaneMachine.state c.args.self.now.replies.machine) (g.M.LaneMachine.state heard.replies.machine) (g.M.LaneMachine.state c.take_item.new.self) c.args.item _ _ mid c.in_default.ensures.ok.0
+    (fails_behind g.M.LaneMachine.rules (g.M.LaneMachine.state c.args.self.now.replies.machine) (g.M.LaneMachine.state heard.replies.machine)
+    (g.M.LaneMachine.state c.take_item.new.self) c.args.item _ _ mid c.in_default.ensures.ok.0
     c.in_default-take_item.ensures.ok refl refl c.take_item.ensures.later _) c.hear_replies-2.ensures.err

@@ -33,7 +33,8 @@ invariant_of-pass-in-Second g c =
 pub returns-in-First-clause-ends : goal.returns-in-First-clause-ends
 returns-in-First-clause-ends g c =
     let was = ap (λ (r : Receiver). r.first_end) (sym c.pass.view_is) in
-    let none = none_before First (view c.pass.inside.marks) (view c.pop_as.new.pass) c.in-Some.mark c.pass.inside.first c.in-Some.ensures.rule c.in-First.is c.pass.invariant.first_marked in
+    let none = none_before First (view c.pass.inside.marks) (view c.pop_as.new.pass) c.in-Some.mark c.pass.inside.first c.in-Some.ensures.rule c.in-First.is
+    c.pass.invariant.first_marked in
     record {
       first = stays_none c.args.pass.now.first_end c.in-Some.mark.count (was ∙ none);
       second = λ count e. ap (λ (r : Receiver). r.second_end) c.pass.view_is ∙ e;
@@ -42,7 +43,8 @@ returns-in-First-clause-ends g c =
 pub returns-in-Second-clause-ends : goal.returns-in-Second-clause-ends
 returns-in-Second-clause-ends g c =
     let was = ap (λ (r : Receiver). r.second_end) (sym c.pass.view_is) in
-    let none = none_before Second (view c.pass.inside.marks) (view c.pop_as.new.pass) c.in-Some.mark c.pass.inside.second c.in-Some.ensures.rule c.in-Second.is c.pass.invariant.second_marked in
+    let none = none_before Second (view c.pass.inside.marks) (view c.pop_as.new.pass) c.in-Some.mark c.pass.inside.second c.in-Some.ensures.rule c.in-Second.is
+    c.pass.invariant.second_marked in
     record {
       first = λ count e. ap (λ (r : Receiver). r.first_end) c.pass.view_is ∙ e;
       second = stays_none c.args.pass.now.second_end c.in-Some.mark.count (was ∙ none);

@@ -4,7 +4,8 @@ use Rattle.std.proofs.lemmas.Result.{err_from_is_err_and}
 use Rattle.mlb_edge.specs.Reading.{Reading}
 use Rattle.mlb_edge.specs.Rows.{is_blank}
 use Rattle.mlb_edge.specs.InputLines.{to_come, Follows-refl, Passes-refl}
-use Rattle.mlb_edge.proofs.ReaderSteps.{line_past, ends_too, ends_long, ends_far, ends_open, ends_whole, none_held, going_past, going_read, same_number, falls, passes_past}
+use Rattle.mlb_edge.proofs.ReaderSteps.{line_past, ends_too, ends_long, ends_far, ends_open, ends_whole}
+use Rattle.mlb_edge.proofs.ReaderSteps.{none_held, going_past, going_read, same_number, falls, passes_past}
 use Rattle.mlb_edge.proofs.line_reader.LineReader.next_line.Goals as goal
 
 pub returns-in_err-check-in-Some-clause-line_limit : goal.returns-in_err-check-in-Some-clause-line_limit
@@ -12,14 +13,16 @@ returns-in_err-check-in-Some-clause-line_limit g c =
     let i = c.loop-len.invariant in
     let p = err_from_is_err_and c.from_residual.result c.from_residual.ensures.1 in
     rw (p.1, p.2) (λ number e. let was = rw c.first_row.ensures.same at (c.in_err-check-in-Some.ensures.line_limit number e) in
-    rw was.0 (ends_too _ c.loop-len.self _ _ i.same (ends_long c.loop-len.self c.loop-len.is_last c.in-Some.len c.in-Some.size (g.S.Source.left c.loop-len.source) i.end c.in-Some.ensures.row was.1)))
+    rw was.0 (ends_too _ c.loop-len.self _ _ i.same
+    (ends_long c.loop-len.self c.loop-len.is_last c.in-Some.len c.in-Some.size (g.S.Source.left c.loop-len.source) i.end c.in-Some.ensures.row was.1)))
 
 pub returns-in_err-check-in-Some-clause-input_limit : goal.returns-in_err-check-in-Some-clause-input_limit
 returns-in_err-check-in-Some-clause-input_limit g c =
     let i = c.loop-len.invariant in
     let p = err_from_is_err_and c.from_residual.result c.from_residual.ensures.1 in
     rw (p.1, p.2) (λ e. let was = rw c.first_row.ensures.same at (c.in_err-check-in-Some.ensures.input_limit (cc)) in
-    ends_too _ c.loop-len.self _ _ i.same (ends_far c.loop-len.self c.loop-len.is_last c.in-Some.len c.in-Some.size (g.S.Source.left c.loop-len.source) i.end c.in-Some.ensures.row was.0 was.1))
+    ends_too _ c.loop-len.self _ _ i.same
+    (ends_far c.loop-len.self c.loop-len.is_last c.in-Some.len c.in-Some.size (g.S.Source.left c.loop-len.source) i.end c.in-Some.ensures.row was.0 was.1))
 
 pub returns-then-not-is_blank-clause-line : goal.returns-then-not-is_blank-clause-line
 returns-then-not-is_blank-clause-line g c =
@@ -28,13 +31,15 @@ returns-then-not-is_blank-clause-line g c =
     let held : c.held.result.now ≡ c.loop-len.self.held = c.held.ensures ∙ ap (λ (r : Reading). r.held) c.first_row.ensures.same in
     let text : is_blank (take c.in-Some.len c.loop-len.self.held) ≡ false = rw (← held) (sym c.is_blank.ensures ∙ c.if-not-is_blank.true) in
     rw (c.in_ok-take-in-Some.ensures.line, c.in_ok-take-in-Some.ensures.ok, c.first_row.ensures.same)
-    (line_past _ c.loop-len.self c.loop-len.is_last c.in-Some.len c.in-Some.size (g.S.Source.left c.loop-len.source) i.same i.end c.in-Some.ensures.row near.0 near.1 text)
+    (line_past _ c.loop-len.self c.loop-len.is_last c.in-Some.len c.in-Some.size (g.S.Source.left c.loop-len.source) i.same i.end c.in-Some.ensures.row near.0
+    near.1 text)
 
 pub returns-then-not-is_blank-clause-passes : goal.returns-then-not-is_blank-clause-passes
 returns-then-not-is_blank-clause-passes g c =
     let i = c.loop-len.invariant in
     rw (c.in_ok-take-in-Some.ensures.ok, c.first_row.ensures.same)
-    (passes_past c.args.self.now c.loop-len.self (g.S.Source.left c.args.source.now) (g.S.Source.left c.loop-len.source) c.in-Some.size i.passes c.in-Some.ensures.row.within)
+    (passes_past c.args.self.now c.loop-len.self (g.S.Source.left c.args.source.now) (g.S.Source.left c.loop-len.source) c.in-Some.size i.passes
+    c.in-Some.ensures.row.within)
 
 pub returns-in-None-clause-end : goal.returns-in-None-clause-end
 returns-in-None-clause-end g c =
@@ -49,7 +54,8 @@ loop-len-preserved-in-Some g c =
     let held : c.held.result.now ≡ c.loop-len.self.held = c.held.ensures ∙ ap (λ (r : Reading). r.held) c.first_row.ensures.same in
     let blank : is_blank (take c.in-Some.len c.loop-len.self.held) ≡ true = rw (← held) (sym c.is_blank.ensures ∙ c.if-not-is_blank.false) in
     rw (c.pass.ensures, c.first_row.ensures.same)
-    (going_past g.S.Source.left g.S.Source.name g.S.Source.faults g.S.Source.safe c.args.self.now c.loop-len.self c.args.source.now c.loop-len.source c.loop-len.is_last c.in-Some.len c.in-Some.size
+    (going_past g.S.Source.left g.S.Source.name g.S.Source.faults g.S.Source.safe c.args.self.now c.loop-len.self c.args.source.now c.loop-len.source
+    c.loop-len.is_last c.in-Some.len c.in-Some.size
     i c.in-Some.ensures.row near.0 near.1 blank)
 
 pub returns-in_err-check_open-in-None-2-clause-line_limit : goal.returns-in_err-check_open-in-None-2-clause-line_limit
@@ -70,15 +76,18 @@ loop-len-smaller g c =
     let i = c.loop-len.invariant in
     let read = rw c.first_row.ensures.same at c.in_ok-is_last-in-None-2.ensures.bytes in
     let same = rw c.first_row.ensures.same at c.fill.ensures.same in
-    falls c.loop-len.self c.fill.new.self c.loop-len.is_last c.in_ok-is_last-in-None-2.field-0 read.0 c.first_row.ensures.near (omega (arith, c.first_row.ensures.bounded)) c.if-is_last.false read.1 read.2 same.0
+    falls c.loop-len.self c.fill.new.self c.loop-len.is_last c.in_ok-is_last-in-None-2.field-0 read.0 c.first_row.ensures.near
+    (omega (arith, c.first_row.ensures.bounded)) c.if-is_last.false read.1 read.2 same.0
 
 pub loop-len-preserved : goal.loop-len-preserved
 loop-len-preserved g c =
     let i = c.loop-len.invariant in
     let read = rw c.first_row.ensures.same at c.in_ok-is_last-in-None-2.ensures.bytes in
     let same = rw c.first_row.ensures.same at c.fill.ensures.same in
-    going_read g.S.Source.left g.S.Source.name g.S.Source.faults g.S.Source.safe c.args.self.now c.loop-len.self c.fill.new.self c.args.source.now c.loop-len.source c.fill.new.source c.loop-len.is_last _ read.0
-    i c.in-None.ensures.none read.3 read.1 same.0 same.1 (λ zero. c.in_ok-is_last-in-None-2.ensures.end (eqb-true _ _ zero)) c.fill.ensures.later c.fill.ensures.name c.fill.ensures.safe
+    going_read g.S.Source.left g.S.Source.name g.S.Source.faults g.S.Source.safe c.args.self.now c.loop-len.self c.fill.new.self c.args.source.now
+    c.loop-len.source c.fill.new.source c.loop-len.is_last _ read.0
+    i c.in-None.ensures.none read.3 read.1 same.0 same.1 (λ zero. c.in_ok-is_last-in-None-2.ensures.end (eqb-true _ _ zero)) c.fill.ensures.later
+    c.fill.ensures.name c.fill.ensures.safe
 
 pub loop-len-init : goal.loop-len-init
 loop-len-init g c = record {

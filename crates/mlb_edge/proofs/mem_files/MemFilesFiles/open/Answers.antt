@@ -9,4 +9,5 @@ returns-clause-fails c _ =
 
 pub returns-clause-faults : goal.returns-clause-faults
 returns-clause-faults c =
-    counts_added c.args.name.now _ c.args.self.now.failed_opens c.push.new.self.items refl (rw (c.in_ok-push.ensures.items, ← c.self.view_is, c.in_ok-kept.ensures, c.as_bytes.ensures.value) refl)
+    counts_added c.args.name.now _ c.args.self.now.failed_opens c.push.new.self.items refl
+    (rw (c.in_ok-push.ensures.items, ← c.self.view_is, c.in_ok-kept.ensures, c.as_bytes.ensures.value) refl)

@@ -6,7 +6,8 @@ invariant_of-self c = added c.args.number c.self.inside.numbers _ c.self.inside.
 
 pub invariant_of-self-else-self : goal.invariant_of-self-else-self
 invariant_of-self-else-self c =
-    added c.args.number c.self.inside.numbers _ c.self.inside.closed c.self.inside.closed c.insert.ensures.has (unclosed c.args.number c.self.inside.closed) c.self.invariant
+    added c.args.number c.self.inside.numbers _ c.self.inside.closed c.self.inside.closed c.insert.ensures.has (unclosed c.args.number c.self.inside.closed)
+    c.self.invariant
 
 pub returns-then-self-clause-has : goal.returns-then-self-clause-has
 returns-then-self-clause-has c = rw (← c.self.view_is) c.insert.ensures.has

@@ -13,11 +13,13 @@ push-requires g c =
 pub returns-clause-numbers : goal.returns-clause-numbers
 returns-clause-numbers g c =
     rw (← c.self.view_is)
-    (numbers-written g.met.T.Ord.total c.args.term.now c.self.inside.lists (c.get_mut.follows.lender c.push.new.self) c.in-Some.list.now c.push.new.self c.in-Some.ensures.value
+    (numbers-written g.met.T.Ord.total c.args.term.now c.self.inside.lists (c.get_mut.follows.lender c.push.new.self) c.in-Some.list.now c.push.new.self
+    c.in-Some.ensures.value
     (c.get_mut.follows.holds c.push.new.self) (λ numbers. numbers ++ c.args.number ∷ []) c.push.ensures.numbers)
 
 pub returns-clause-room : goal.returns-clause-room
 returns-clause-room g c =
     rw (← c.self.view_is)
-    (room-written g.met.T.Ord.total c.args.term.now c.self.inside.lists (c.get_mut.follows.lender c.push.new.self) c.in-Some.list.now c.push.new.self c.in-Some.ensures.value
+    (room-written g.met.T.Ord.total c.args.term.now c.self.inside.lists (c.get_mut.follows.lender c.push.new.self) c.in-Some.list.now c.push.new.self
+    c.in-Some.ensures.value
     (c.get_mut.follows.holds c.push.new.self) 1 c.push.ensures.room)

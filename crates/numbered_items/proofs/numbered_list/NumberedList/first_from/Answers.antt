@@ -32,7 +32,8 @@ returns-clause-item g c =
 pub returns-clause-within : goal.returns-clause-within
 returns-clause-within g c =
     let below : c.in_ok-found.found.now < c.self.inside.next =
-    first-given c.self.inside.next c.args.number c.self.inside.slots.entries c.in_ok-found.found.now c.in_ok-found.slot.now c.in_ok-item.item.now _ c.self.invariant.1
+    first-given c.self.inside.next c.args.number c.self.inside.slots.entries c.in_ok-found.found.now c.in_ok-found.slot.now c.in_ok-item.item.now
+    _ c.self.invariant.1
     (sym (c.range.ensures.between tt) ∙ c.in_ok-found.ensures.steps) (sym c.as_ref.ensures.value ∙ ap option_copied c.in_ok-item.was) in
     omega (arith, below, c.self.invariant.2)
 

@@ -3,8 +3,11 @@ use Rattle.numbered_items.proofs.NumberedLaws.{ascending-items, lookup-items, it
 use Rattle.numbered_items.proofs.numbered_list.NumberedList.remove.Goals as goal
 
 pub invariant_of-self : goal.invariant_of-self
-invariant_of-self g c =
-    (c.remove.ensures.ordered, rw c.remove.ensures.entries (slots-removed c.self.inside.next _ c.self.inside.slots.entries c.self.invariant.1), c.self.invariant.2)
+invariant_of-self g c = (
+  c.remove.ensures.ordered,
+  rw c.remove.ensures.entries (slots-removed c.self.inside.next _ c.self.inside.slots.entries c.self.invariant.1),
+  c.self.invariant.2,
+)
 
 pub returns-then-number-self-clause-item : goal.returns-then-number-self-clause-item
 returns-then-number-self-clause-item g c =
@@ -19,7 +22,8 @@ returns-then-number-self-clause-ascending g c = rw (← c.self.view_is) (ascendi
 
 pub returns-clause-item : goal.returns-clause-item
 returns-clause-item g c =
-    rw (c.flatten.ensures, c.remove.ensures.value, ← c.self.view_is) (sym (lookup-items c.self.inside.next c.args.number c.self.inside.slots.entries c.self.invariant.1))
+    rw (c.flatten.ensures, c.remove.ensures.value, ← c.self.view_is)
+    (sym (lookup-items c.self.inside.next c.args.number c.self.inside.slots.entries c.self.invariant.1))
 
 pub returns-clause-items : goal.returns-clause-items
 returns-clause-items g c = rw (c.remove.ensures.entries, ← c.self.view_is) (items-removed c.args.number c.self.inside.slots.entries c.self.invariant.0)

@@ -9,7 +9,8 @@ use Rattle.numbered_items.proofs.term_numbers.TermNumbers.remove.Goals as goal
 
 pub returns-then-not-self : goal.returns-then-not-self
 returns-then-not-self c =
-    rw (← c.self.view_is) (filter_same _ _ _ (λ x b f' k. search rules) _ _ c.retain.ensures.filtered ∙ ap (filter (λ n. not (n == c.args.number))) c.drop_front.ensures)
+    rw (← c.self.view_is)
+    (filter_same _ _ _ (λ x b f' k. search rules) _ _ c.retain.ensures.filtered ∙ ap (filter (λ n. not (n == c.args.number))) c.drop_front.ensures)
 
 pub invariant_of-self-in-Ok : goal.invariant_of-self-in-Ok
 invariant_of-self-in-Ok c =
@@ -21,7 +22,8 @@ invariant_of-self-in-Ok c =
           let position = rw read at c.in-Ok.ensures.position in
           let bound = rw read at c.in-Ok.ensures.bound in
           let taken = found-out c.args.number left c.in-Ok.index (c.self.invariant.ascend up) position bound in
-          subst (IsStrictlySortedBy nat_cmp) (sym (c.remove_behind-self-inside.ensures.numbers ∙ taken)) (IsStrictlySortedBy-filter nat_cmp (λ n. not (n == c.args.number)) left (c.self.invariant.ascend up));
+          subst (IsStrictlySortedBy nat_cmp) (sym (c.remove_behind-self-inside.ensures.numbers ∙ taken))
+          (IsStrictlySortedBy-filter nat_cmp (λ n. not (n == c.args.number)) left (c.self.invariant.ascend up));
     }
 
 pub returns-in-Ok : goal.returns-in-Ok
@@ -30,7 +32,8 @@ returns-in-Ok c =
     let read = c.as_slice.ensures ∙ ap (λ (l : TermList). l.numbers) (sym c.self.view_is) in
     let position = rw read at c.in-Ok.ensures.position in
     let bound = rw read at c.in-Ok.ensures.bound in
-    rw (← c.self.view_is) (c.remove_behind-self-inside.ensures.numbers ∙ found-out c.args.number left c.in-Ok.index (c.self.invariant.ascend c.if-not-self.false) position bound)
+    rw (← c.self.view_is)
+    (c.remove_behind-self-inside.ensures.numbers ∙ found-out c.args.number left c.in-Ok.index (c.self.invariant.ascend c.if-not-self.false) position bound)
 
 pub returns-in_default : goal.returns-in_default
 returns-in_default c =

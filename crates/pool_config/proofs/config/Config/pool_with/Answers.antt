@@ -9,4 +9,5 @@ pub returns-clause-found : goal.returns-clause-found
 returns-clause-found c = rw (returns-clause-value c) (with_found c.args.self.now.pools c.args.address.now)
 
 pub returns-clause-only : goal.returns-clause-only
-returns-clause-only c = λ pool inside has. returns-clause-value c ∙ with_only c.args.self.now.pools c.holder.ensures.config.apart c.args.address.now pool inside has
+returns-clause-only c =
+    λ pool inside has. returns-clause-value c ∙ with_only c.args.self.now.pools c.holder.ensures.config.apart c.args.address.now pool inside has

@@ -10,12 +10,16 @@ loop-advertisement-init c = record {
 
 pub loop-advertisement-preserved : goal.loop-advertisement-preserved
 loop-advertisement-preserved c = record {
-  v4 = knows-more V4 c.args.pool.now c.args.bgp.now c.loop-advertisement.advertisement-index c.advertisement-item.result c.loop-advertisement.v4 c.note.new.v4 c.advertisement-item.is c.in_ok-note.ensures.v4 c.loop-advertisement.invariant.v4;
-  v6 = knows-more V6 c.args.pool.now c.args.bgp.now c.loop-advertisement.advertisement-index c.advertisement-item.result c.loop-advertisement.v6 c.note.new.v6 c.advertisement-item.is c.in_ok-note.ensures.v6 c.loop-advertisement.invariant.v6;
+  v4 = knows-more V4 c.args.pool.now c.args.bgp.now c.loop-advertisement.advertisement-index c.advertisement-item.result c.loop-advertisement.v4 c.note.new.v4
+      c.advertisement-item.is c.in_ok-note.ensures.v4 c.loop-advertisement.invariant.v4;
+  v6 = knows-more V6 c.args.pool.now c.args.bgp.now c.loop-advertisement.advertisement-index c.advertisement-item.result c.loop-advertisement.v6 c.note.new.v6
+      c.advertisement-item.is c.in_ok-note.ensures.v6 c.loop-advertisement.invariant.v6;
 }
 
 pub returns-clause-v4 : goal.returns-clause-v4
-returns-clause-v4 c = knows-each V4 c.args.pool.now c.args.bgp.now c.loop-advertisement.advertisement-index c.loop-advertisement.v4 c.loop-advertisement-test.false c.loop-advertisement.invariant.v4
+returns-clause-v4 c = knows-each V4 c.args.pool.now c.args.bgp.now c.loop-advertisement.advertisement-index c.loop-advertisement.v4
+    c.loop-advertisement-test.false c.loop-advertisement.invariant.v4
 
 pub returns-clause-v6 : goal.returns-clause-v6
-returns-clause-v6 c = knows-each V6 c.args.pool.now c.args.bgp.now c.loop-advertisement.advertisement-index c.loop-advertisement.v6 c.loop-advertisement-test.false c.loop-advertisement.invariant.v6
+returns-clause-v6 c = knows-each V6 c.args.pool.now c.args.bgp.now c.loop-advertisement.advertisement-index c.loop-advertisement.v6
+    c.loop-advertisement-test.false c.loop-advertisement.invariant.v6

@@ -8,4 +8,5 @@ pub returns-clause-parts : goal.returns-clause-parts
 returns-clause-parts c =
     let ascend : IsNonDecreasingBy (λ (span : PlacedSpan). span.low) c.deref.result.now = rw c.deref.ensures.value c.args.self.now.ascend in
     let parted = IsPartitionedBy-leb (λ (span : PlacedSpan). span.low) c.deref.result.now c.args.number ascend in
-    rw c.deref.ensures.value at (IsPartitionPoint-from_clause (λ (span : PlacedSpan). nat_le span.low c.args.number) c.deref.result.now c.partition_point.result c.partition_point.ensures.partitioned parted (λ a r q k. search rules))
+    rw c.deref.ensures.value at (IsPartitionPoint-from_clause (λ (span : PlacedSpan). nat_le span.low c.args.number) c.deref.result.now c.partition_point.result
+    c.partition_point.ensures.partitioned parted (λ a r q k. search rules))

@@ -7,8 +7,10 @@ returns-then-begun-eq0-clause-none c = none-begun c.args.self.now.spans.items c.
 
 pub returns-then-number-last-clause-found : goal.returns-then-number-last-clause-found
 returns-then-number-last-clause-found c =
-    last-holds c.args.self.now.spans.items c.args.number c.begun-begun.result c.begun-begun.ensures.parts c.index-last.result.now (omega arith) c.begun-begun.ensures.bound (sym c.index-last.ensures) c.if-number-last.true
+    last-holds c.args.self.now.spans.items c.args.number c.begun-begun.result c.begun-begun.ensures.parts c.index-last.result.now (omega arith)
+    c.begun-begun.ensures.bound (sym c.index-last.ensures) c.if-number-last.true
 
 pub returns-else-number-last-clause-none : goal.returns-else-number-last-clause-none
 returns-else-number-last-clause-none c =
-    last-cuts c.args.self.now.spans.items c.args.number c.begun-begun.result c.begun-begun.ensures.parts c.index-last.result.now (omega arith) c.begun-begun.ensures.bound (sym c.index-last.ensures) c.args.self.now.ascend c.if-number-last.false
+    last-cuts c.args.self.now.spans.items c.args.number c.begun-begun.result c.begun-begun.ensures.parts c.index-last.result.now (omega arith)
+    c.begun-begun.ensures.bound (sym c.index-last.ensures) c.args.self.now.ascend c.if-number-last.false

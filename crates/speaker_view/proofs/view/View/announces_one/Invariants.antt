@@ -9,5 +9,7 @@ use Rattle.speaker_view.proofs.view.View.announces_one.Given as goal
 
 abbrev pub invariant-loop-key : goal.invariant-loop-key
 invariant-loop-key l =
-    list_any (λ key. passes (λ service. has_address service.holding.addresses l.address && can_announce l.self service l.node) (object_at key_cmp l.self.held.services key)) l.key-iterator
-    ≡ list_any (λ key. passes (λ service. has_address service.holding.addresses l.address && can_announce l.self service l.node) (object_at key_cmp l.self.held.services key)) l.keys.keys
+    list_any (λ key. passes (λ service. has_address service.holding.addresses l.address && can_announce l.self service l.node)
+    (object_at key_cmp l.self.held.services key)) l.key-iterator
+    ≡ list_any (λ key. passes (λ service. has_address service.holding.addresses l.address && can_announce l.self service l.node)
+    (object_at key_cmp l.self.held.services key)) l.keys.keys

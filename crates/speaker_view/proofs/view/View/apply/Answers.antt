@@ -5,7 +5,8 @@ use Rattle.speaker_view.proofs.view.View.apply.Goals as goal
 
 pub returns-in_default-clause-ok : goal.returns-in_default-clause-ok
 returns-in_default-clause-ok c =
-    applied-on_ok c.apply_to.result c.args.self.now c.self.inside.class c.self.inside.cache c.apply_to.new.cache c.self.inside.members c.args.event c.self.view_is c.in_default.not-Members c.apply_to.ensures.ok
+    applied-on_ok c.apply_to.result c.args.self.now c.self.inside.class c.self.inside.cache c.apply_to.new.cache c.self.inside.members c.args.event
+    c.self.view_is c.in_default.not-Members c.apply_to.ensures.ok
 
 pub returns-in_default-clause-limit : goal.returns-in_default-clause-limit
 returns-in_default-clause-limit c =

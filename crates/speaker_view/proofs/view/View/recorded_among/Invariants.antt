@@ -6,4 +6,5 @@ use Rattle.speaker_view.proofs.view.View.recorded_among.Given as goal
 
 abbrev pub invariant-loop-address : goal.invariant-loop-address
 invariant-loop-address l =
-    keys_with address_cmp l.found.keys (filter (is_recorded_in l.self) l.address-iterator) ≡ keys_with address_cmp [] (filter (is_recorded_in l.self) l.fn.addresses)
+    keys_with address_cmp l.found.keys (filter (is_recorded_in l.self) l.address-iterator)
+    ≡ keys_with address_cmp [] (filter (is_recorded_in l.self) l.fn.addresses)

@@ -11,5 +11,6 @@ use Rattle.speaker_view.proofs.view.View.service.Goals as goal
 pub returns-clause-served : goal.returns-clause-served
 returns-clause-served c slice is =
     let covers = subst (λ (v : ViewValue). Covers c.self.inside.index v.held) c.self.view_is c.self.invariant.1 in
-    let ascend = subst (λ (v : ViewValue). IsStrictlySortedBy key_cmp (keys_of v.held.services)) c.self.view_is (rw (← c.services.ensures) c.len-ascending.ensures.ascending) in
+    let ascend = subst (λ (v : ViewValue). IsStrictlySortedBy key_cmp (keys_of v.held.services)) c.self.view_is
+    (rw (← c.services.ensures) c.len-ascending.ensures.ascending) in
     served-own slice c.args.self.now.held.services ascend covers.own ∙ ap (recorded_at c.args.self.now) is

@@ -18,7 +18,8 @@ insert_whole-requires-clause-absent c =
 pub returns-clause-store : goal.returns-clause-store
 returns-clause-store c =
     let s : StoreValue = c.args.self.now in
-    let object : c.set_record.new.object ≡ with_record empty_record c.args.object = c.set_record.ensures ∙ ap (λ (r : Record). with_record r c.args.object) c.empty.ensures in
+    let object : c.set_record.new.object ≡ with_record empty_record c.args.object =
+    c.set_record.ensures ∙ ap (λ (r : Record). with_record r c.args.object) c.empty.ensures in
     let is : edited (Reset c.set_record.new.object) s ≡ edited (Set c.args.object) s =
     ap (λ (o : Object). edited (Reset o) s) object ∙ sym (set-gap s c.args.object c.args.at c.requires.absent) in
     on_ok_weaker c.insert_whole.result (λ (e : c.insert_whole.new.self ≡ edited (Reset c.set_record.new.object) s). e ∙ is) c.insert_whole.ensures.store

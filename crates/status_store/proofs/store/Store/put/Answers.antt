@@ -24,19 +24,23 @@ returns-clause-stored c =
 pub returns-clause-recorded : goal.returns-clause-recorded
 returns-clause-recorded c =
     let facts = put-facts c.args.self.now c.args.put.now c.args.outcome c.put_exactly.ensures.kept in
-    on_ok-same _ _ _ (λ (new : StoreValue). IsMade c.args.put.now c.args.outcome c.args.self.now.objects → RecordsPut c.args.put.now c.args.self.now new) c.put_exactly.ensures.store facts.recorded
+    on_ok-same _ _ _ (λ (new : StoreValue). IsMade c.args.put.now c.args.outcome c.args.self.now.objects → RecordsPut c.args.put.now c.args.self.now new)
+    c.put_exactly.ensures.store facts.recorded
 
 pub returns-clause-counter : goal.returns-clause-counter
 returns-clause-counter c =
     let facts = put-facts c.args.self.now c.args.put.now c.args.outcome c.put_exactly.ensures.kept in
-    on_ok-same _ _ _ (λ (new : StoreValue). IsMade c.args.put.now c.args.outcome c.args.self.now.objects → new.counter ≡ c.args.self.now.counter + 1) c.put_exactly.ensures.store facts.counter
+    on_ok-same _ _ _ (λ (new : StoreValue). IsMade c.args.put.now c.args.outcome c.args.self.now.objects → new.counter ≡ c.args.self.now.counter + 1)
+    c.put_exactly.ensures.store facts.counter
 
 pub returns-clause-others : goal.returns-clause-others
 returns-clause-others c =
     let facts = put-facts c.args.self.now c.args.put.now c.args.outcome c.put_exactly.ensures.kept in
-    on_ok-same _ _ _ (λ (new : StoreValue). SameElsewhere (service_at c.args.put.now.key) c.args.self.now.objects new.objects) c.put_exactly.ensures.store facts.others
+    on_ok-same _ _ _ (λ (new : StoreValue). SameElsewhere (service_at c.args.put.now.key) c.args.self.now.objects new.objects) c.put_exactly.ensures.store
+    facts.others
 
 pub returns-clause-unchanged : goal.returns-clause-unchanged
 returns-clause-unchanged c =
     let facts = put-facts c.args.self.now c.args.put.now c.args.outcome c.put_exactly.ensures.kept in
-    on_ok-same _ _ _ (λ (new : StoreValue). ¬ (IsMade c.args.put.now c.args.outcome c.args.self.now.objects) → new ≡ c.args.self.now) c.put_exactly.ensures.store facts.unchanged
+    on_ok-same _ _ _ (λ (new : StoreValue). ¬ (IsMade c.args.put.now c.args.outcome c.args.self.now.objects) → new ≡ c.args.self.now)
+    c.put_exactly.ensures.store facts.unchanged

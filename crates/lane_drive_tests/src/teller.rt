@@ -1,5 +1,7 @@
 //! A machine that tells of each item, and nothing else.
-ghost use Rattle.std.specs.Prelude.{◌≡◌};
+ghost use Rattle.std.specs.Prelude.{◌≡◌, Err, IfOk};
+ghost use Rattle.kube_model.specs.declared.status.Status.{Status};
+ghost use Rattle.line_run.specs.declared.halt.Refusal.{Refusal};
 ghost use Rattle.lane_drive_tests.specs.Teller.{is_members};
 
 use kube_model::{Event, LaneName, Status};
@@ -70,16 +72,29 @@ impl LaneMachine for Teller {
     ) -> Result<(), Refusal> {
         let (lane, number) = (item.lane, item.number);
         drop(item);
-        Ok(write_took(alloc, out, Self::lane_name(lane), number)?)
+        match write_took(alloc, out, Self::lane_name(lane), number) {
+            Ok(()) => Ok(()),
+            Err(halt) => Err(Refusal::Halted { halt }),
+        }
     }
 
-    // No reply is awaited.
-    fn hear<K: Sink>(&mut self, _alloc: Global, _line: Line, _out: &mut K) -> Result<(), Refusal> {
-        unreachable!()
+    // No reply is awaited, so no line of the input is one.
+    fn hear<K: Sink>(&mut self, _alloc: Global, line: Line, _out: &mut K) -> Result<(), Refusal>
+        ensures refused { result ≡ Err (Refusal.Stopped (Status.BadReply line.number line.bytes)) }
+        ensures kept { (self.new ≡ self.old) × (_out.new ≡ _out.old) }
+    {
+        Err(Refusal::Stopped {
+            status: Status::BadReply {
+                number: line.number,
+                bytes: line.bytes,
+            },
+        })
     }
 
-    fn unanswered(&self) -> Result<Status, NoMemory> {
-        unreachable!()
+    fn unanswered(&self) -> Result<Status, NoMemory>
+        ensures { IfOk result (λ status. status ≡ Status.Done) }
+    {
+        Ok(Status::Done)
     }
 
     ghost items_stop = { no_item_stops };

@@ -26,10 +26,12 @@ const A: &str =
     r#"{"type":"ADDED","object":{"kind":"Service","metadata":{"namespace":"d","name":"a","resourceVersion":"70"},"spec":{"type":"LoadBalancer"}}}"#;
 
 const A_RECORDED: &str =
-    r#"{"type":"ADDED","object":{"kind":"Service","metadata":{"namespace":"d","name":"a","resourceVersion":"70","annotations":{"metallb.io/ip-allocated-from-pool":"q"}},"spec":{"type":"ClusterIP"}}}"#;
+    r#"{"type":"ADDED","object":{"kind":"Service","metadata":{"namespace":"d","name":"a","resourceVersion":"70",
+        "annotations":{"metallb.io/ip-allocated-from-pool":"q"}},"spec":{"type":"ClusterIP"}}}"#;
 
 const B_RECORDED: &str =
-    r#"{"type":"ADDED","object":{"kind":"Service","metadata":{"namespace":"d","name":"b","resourceVersion":"70","annotations":{"metallb.io/ip-allocated-from-pool":"q"}},"spec":{"type":"LoadBalancer"}}}"#;
+    r#"{"type":"ADDED","object":{"kind":"Service","metadata":{"namespace":"d","name":"b","resourceVersion":"70",
+        "annotations":{"metallb.io/ip-allocated-from-pool":"q"}},"spec":{"type":"LoadBalancer"}}}"#;
 
 const B: &str =
     r#"{"type":"ADDED","object":{"kind":"Service","metadata":{"namespace":"d","name":"b","resourceVersion":"70"},"spec":{"type":"ClusterIP"}}}"#;

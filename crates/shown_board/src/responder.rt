@@ -72,32 +72,19 @@ impl<T: Follower<E>, E: Drop, J: Naming> Responder<T, E, J> {
                 None
             }
             Ok(reading) => {
-                let reply = ask_posted(reading.get(), &mut self.seen, &self.told, question);
+                let posted = reading.get();
+                if !self.seen.begins(&posted.front) || !self.told.begins(&posted.front) {
+                    self.reader = Some(reading.leave());
+                    return None;
+                }
+                self.seen = posted.front.again();
+                let reply = Reply {
+                    seen: self.seen.len(),
+                    answer: question.ask(&posted.value),
+                };
                 self.reader = Some(reading.leave());
-                reply
+                Some(reply)
             }
         }
     }
-}
-
-/// The answer by what is posted, where that has all that was seen and told of. Then it is what was seen.
-fn ask_posted<T: Follower<E>, E: Drop, J: Naming, Q: Question<T>>(
-    posted: &Posted<T, E, J>,
-    seen: &mut Beginning<E, J>,
-    told: &Beginning<E, J>,
-    question: &Q,
-) -> Option<Reply<Q::Answer>>
-    ensures none { IfNone result (seen.new ≡ seen.old) }
-    ensures later { IfSome result (λ _. IsPrefix seen.old seen.new × IsPrefix told.now seen.new) }
-    ensures seen { IfSome result (λ reply. reply.seen ≡ length seen.new) }
-    ensures answer { IfSome result (λ reply. Q.answers question.now (fold T.after T.start seen.new) reply.answer) }
-{
-    if !seen.begins(&posted.front) || !told.begins(&posted.front) {
-        return None;
-    }
-    *seen = posted.front.again();
-    Some(Reply {
-        seen: seen.len(),
-        answer: question.ask(&posted.value),
-    })
 }

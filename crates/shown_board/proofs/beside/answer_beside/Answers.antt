@@ -16,4 +16,4 @@ returns g c =
     let all : c.in_ok-written.field-0 ≡ c.args.events.items = some_gives c.join-read.result.1 c.in_ok-written.field-0 (λ l. l ≡ c.args.events.items) c.in_ok-written.was c.join-read.ensures.second in
     let from_none : AreReplies after start answers [] questions replies seen = subst (λ s. AreReplies after start answers s questions replies seen) none done in
     subst (λ l. AreAnswered after start answers l 0 questions replies) all
-        (replies_of_list after start answers c.in_ok-written.field-0 [] questions replies seen from_none c.if-not-begins.ensures)
+    (replies_of_list after start answers c.in_ok-written.field-0 [] questions replies seen from_none c.if-not-begins.ensures)

@@ -2,6 +2,7 @@ pub mod Answering
 pub mod Driven
 pub mod Endings
 pub mod Kept
+pub mod ReadSoFar
 pub mod Refusals
 pub mod Runs
 pub mod Texts

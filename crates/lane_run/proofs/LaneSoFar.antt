@@ -5,22 +5,18 @@ use Rattle.std.proofs.lemmas.List.{append-nil}
 use Rattle.kube_model.specs.declared.event.Event.{Event}
 use Rattle.lane_mail.specs.declared.lane.Lane.{Lane}
 use Rattle.lane_mail.specs.declared.item.Item.{Item}
-use Rattle.lane_mail.specs.Values.{Sender}
 use Rattle.mlb_edge.specs.declared.lines.Line.{Line}
 use Rattle.mlb_edge.specs.Reading.{Reading}
 use Rattle.mlb_edge.specs.Rows.{HasNoNewline}
 use Rattle.mlb_edge.specs.InputLines.{Input, Ending, Whole, LongLine, LongInput, input_of, Follows, Follows-append, EndsAs, to_come, Passes}
 use Rattle.lane_run.specs.declared.lane_end.LaneEnd.{LaneEnd}
 use Rattle.lane_run.specs.declared.lane_end.LaneEnd.TheVariants.{Done, ReadFault, LineLimit, InputLimit, BadLine, NoMemory}
-use Rattle.lane_run.specs.LaneInputs.{AreItems, end_at, LaneInput, with_items, no_items, lane_input_from, lane_input}
-use Rattle.lane_run.specs.Steps.{SendsNext, EndsAt, IsBad}
+use Rattle.lane_run.specs.LaneInputs.{item_in, AreItems, end_at, LaneInput, with_items, no_items, lane_input_from, lane_input}
+use Rattle.lane_run.specs.Steps.{EndsAt, IsBad}
 use Rattle.lane_run.specs.Views.{SourceView}
 use Rattle.lane_run.specs.Watched.{Begins, SendsRead, StopsAs, Sends, Ended}
 use Rattle.lane_run.proofs.Inputs.{items-push, input-behind}
-
--- a reader that has read nothing
-abbrev pub fresh : Reading
-fresh = record { held = []; passed = 0; number = 0 }
+use Rattle.line_run.proofs.ReadSoFar.{fresh, begins_at, stands_at}
 
 -- These lines were read, and their items sent.
 pub record Watching (belongs : Lane → Event → Bool) (lane : Lane) (start : Option (List ℕ)) (now : Option Input) (sent : List Item) : Type 0 where
@@ -28,20 +24,16 @@ pub record Watching (belongs : Lane → Event → Bool) (lane : Lane) (start : O
   pub are : AreItems belongs lane done sent
   pub follows : Follows (option_map input_of start) done now
 
-begins_at : (start : Option (List ℕ)) → Follows (option_map input_of start) [] (to_come fresh start)
-begins_at None = tt
-begins_at (Some bytes) = (refl, refl)
-
 module _ (belongs : Lane → Event → Bool) (lane : Lane) where
   pub begins : (start : Option (List ℕ)) → Watching belongs lane start (to_come fresh start) []
   begins start = record { done = []; are = refl; follows = begins_at start }
 
-  pub goes_on : (start : Option (List ℕ)) (now next : Option Input) (old new : Sender) → Watching belongs lane start now old.sent
-      → SendsNext belongs lane old new now next → Watching belongs lane start next new.sent
-  goes_on start now next old new w s = record {
-    done = w.done ++ s.line ∷ [];
-    are = rw (ap (λ (p : Sender). p.sent) s.sent) (items-push belongs lane w.done old.sent s.line s.item w.are s.is);
-    follows = Follows-append (option_map input_of start) now next w.done (s.line ∷ []) w.follows s.comes;
+  pub goes_on : (start : Option (List ℕ)) (now next : Option Input) (items : List Item) (line : Line) (item : Item) → Watching belongs lane start now items
+      → Follows now (line ∷ []) next → item_in belongs lane line ≡ Some item → Watching belongs lane start next (items ++ item ∷ [])
+  goes_on start now next items line item w comes is = record {
+    done = w.done ++ line ∷ [];
+    are = items-push belongs lane w.done items line item w.are is;
+    follows = Follows-append (option_map input_of start) now next w.done (line ∷ []) w.follows comes;
   }
 
   -- the lane's input, behind what was sent
@@ -101,17 +93,15 @@ module _ (belongs : Lane → Event → Bool) (lane : Lane) where
   sends_read None left r r' now sent w same passes waits = (w.done, w.are)
   sends_read (Some bytes) None r r' now sent w same passes waits = passes.eats
   sends_read (Some bytes) (Some more) r r' now sent w same passes waits =
-      let follows : Follows (Some (input_of bytes)) (w.done ++ []) (to_come r' (Some more)) =
-      Follows-append (Some (input_of bytes)) (to_come r now) (to_come r' (Some more)) w.done [] w.follows same in
-      let counted : r'.passed ≡ length passes.gone = omega (arith, passes.counted) in
+      let at = stands_at bytes more r r' now w.done w.follows same passes waits in
       record {
-        front = passes.gone;
-        rest = r'.held;
-        bytes_are = passes.eats ∙ ap (λ (t : List ℕ). t ++ more) passes.bytes;
-        waits = waits;
-        number = r'.number;
+        front = at.front;
+        rest = at.rest;
+        bytes_are = at.bytes_are;
+        waits = at.waits;
+        number = at.number;
         done = w.done;
-        lines_are = follows.0 ∙ rw (append-nil w.done, counted) refl;
+        lines_are = at.lines_are;
         are = w.are;
       }
 
@@ -130,20 +120,23 @@ module _ (belongs : Lane → Event → Bool) (lane : Lane) where
   ended_by before now after r r' sent NoMemory w passes later safety e = tt
 
   -- where nothing more is sent
-  pub ended_so : (before now after : SourceView) (r r' : Reading) (sent sent' : List Item) (end : LaneEnd)
+  pub ended_so : (before now after : SourceView) (r r' : Reading) (sent : List Item) (end : LaneEnd)
       → Watching belongs lane before.left (to_come r now.left) sent → Passes fresh r' before.left after.left
       → before.faults ≤ now.faults → now.name ≡ before.name → now.safe ≡ before.safe → EndsAt belongs lane (to_come r now.left) (to_come r' after.left) r'.held
-      after.left now.faults after.faults now.safe end → sent' ≡ sent → now.faults ≤ after.faults → after.name ≡ now.name → after.safe ≡ now.safe
-      → Ended belongs lane before after sent' end
-  ended_so before now after r r' sent sent' end w passes later named safety e same later' named' safety' = rw same (record {
+      after.left now.faults after.faults now.safe end → now.faults ≤ after.faults → after.name ≡ now.name → after.safe ≡ now.safe
+      → Ended belongs lane before after sent end
+  ended_so before now after r r' sent end w passes later named safety e later' named' safety' = record {
     sends = ended_by before now after r r' sent end w passes later safety e;
     begins = begins_so before.left (to_come r now.left) sent w;
     later = omega (arith, later, later');
     named = named' ∙ named;
     safety = safety' ∙ safety;
-  })
+  }
+
+  -- no items are a beginning
+  pub begins_none : (start : Option (List ℕ)) → Begins belongs lane start []
+  begins_none start = begins_so start (to_come fresh start) [] (begins start)
 
   -- there was no memory for a reader
-  pub ended_unread : (view : SourceView) (sent : List Item) → sent ≡ [] → Ended belongs lane view view sent NoMemory
-  ended_unread view sent none = rw none
-      (record { sends = tt; begins = begins_so view.left (to_come fresh view.left) [] (begins view.left); later = omega arith; named = refl; safety = refl })
+  pub ended_unread : (view : SourceView) → Ended belongs lane view view [] NoMemory
+  ended_unread view = record { sends = tt; begins = begins_none view.left; later = omega arith; named = refl; safety = refl }

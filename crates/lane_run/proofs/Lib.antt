@@ -1,4 +1,5 @@
 mod Inputs
 mod LaneSoFar
 mod DroveSoFar
+pub mod Turning
 pub mod RanSo

@@ -1,6 +1,8 @@
 -- What follows of a run of two lanes.
-use Rattle.std.proofs.Common.{◌≡◌, ℕ, Bool, List, ◌++◌, Option, ap, ◌∙◌, append_assoc}
+use Rattle.std.specs.Bool.{⊤}
+use Rattle.std.proofs.Common.{◌≡◌, ℕ, Bool, List, [], ◌++◌, Option, Result, Ok, Err, IfOk, refl, ap, ◌∙◌, subst}
 use Rattle.std.proofs.lemmas.List.Elements.{filter-append}
+use Rattle.mlb_base.specs.declared.memory.NoMemory.{NoMemory as MemoryEnd}
 use Rattle.kube_model.specs.declared.event.Event.{Event}
 use Rattle.kube_model.specs.declared.status.Status.{Status}
 use Rattle.lane_mail.specs.declared.lane.Lane.{Lane}
@@ -8,49 +10,88 @@ use Rattle.lane_mail.specs.declared.lane.Lane.TheVariants.{First, Second}
 use Rattle.lane_mail.specs.declared.item.Item.{Item}
 use Rattle.lane_mail.specs.Lanes.{is_lane, item_lane, items_of}
 use Rattle.lane_mail.specs.Merges.{IsMerge}
-use Rattle.lane_mail.specs.Values.{MailId, Sender, Receiver}
+use Rattle.lane_mail.specs.Values.{MailId, Sender}
 use Rattle.lane_run.specs.declared.lane_end.LaneEnd.{LaneEnd}
 use Rattle.lane_run.specs.declared.lane_run.LaneRun.{LaneRun}
-use Rattle.lane_run.specs.Ran.{Ran}
-use Rattle.lane_run.specs.Reconciled.{Reconciled}
+use Rattle.lane_run.specs.Ran.{LanesTurned, Ran, RanBy, TurnedBeginnings}
+use Rattle.lane_run.specs.Turned.{BeginsTurned, EndedTurned, Watched}
 use Rattle.lane_run.specs.Views.{SourceView, Outside}
-use Rattle.lane_run.specs.Watched.{Begins, Ended, Watched}
+use Rattle.lane_run.specs.Watched.{Begins, IsBeginning}
+use Rattle.lane_run.proofs.LaneSoFar.{begins_none}
+use Rattle.lane_run.proofs.Turning.{begins_less, begins_turned, ended_unturned}
 
-module _ (belongs : Lane → Event → Bool) (lane : Lane) where
-  -- a part of what a lane sent
-  pub begins_part : (left : Option (List ℕ)) (taken part rest : List Item) → taken ≡ part ++ rest → Begins belongs lane left (items_of lane taken)
-      → Begins belongs lane left (items_of lane part)
-  begins_part left taken part rest split b =
-      let two : items_of lane taken ≡ items_of lane part ++ items_of lane rest =
-      ap (items_of lane) split ∙ filter-append (λ x. is_lane lane (item_lane x)) part rest in
-      record {
-        input = b.input;
-        is = b.is;
-        begins = (
-          items_of lane rest ++ b.begins.0,
-          b.begins.1 ∙ (ap (λ (l : List Item). l ++ b.begins.0) two ∙ append_assoc (items_of lane part) (items_of lane rest) b.begins.0),
-        );
-      }
+-- the items of a lane among those of a beginning are a beginning of them
+items_begin : (lane : Lane) (taken part : List Item) → IsBeginning part taken → IsBeginning (items_of lane part) (items_of lane taken)
+items_begin lane taken part split =
+    (items_of lane split.0, ap (items_of lane) split.1 ∙ filter-append (λ x. is_lane lane (item_lane x)) part split.0)
 
+-- a part of what a lane sent
+pub begins_part : (belongs : Lane → Event → Bool) (lane : Lane) (left : Option (List ℕ)) (taken part : List Item) → IsBeginning part taken
+    → Begins belongs lane left (items_of lane taken) → Begins belongs lane left (items_of lane part)
+begins_part belongs lane left taken part split =
+    begins_less belongs lane left (items_of lane taken) (items_of lane part) (items_begin lane taken part split)
+
+module _ {U : Type 0} (Turns : U → U → Event → Event → Type 0) (belongs : Lane → Event → Bool) (lane : Lane) where
   -- how the lane of a watcher ended, by the items taken of it
-  ended_of : (mail : MailId) (before after : SourceView) (done : Sender) (end : LaneEnd) (taken : List Item) → Watched belongs mail lane before after done end
-      → items_of lane taken ≡ done.sent → Ended belongs lane before after (items_of lane taken) end
-  ended_of mail before after done end taken w same = rw same w.ended
+  ended_of : (mail : MailId) (before after : SourceView) (u u' : U) (done : Sender) (end : LaneEnd) (taken : List Item)
+      → Watched Turns belongs lane mail before after u u' done end → items_of lane taken ≡ done.sent
+      → EndedTurned Turns belongs lane before after u u' (items_of lane taken) end
+  ended_of mail before after u u' done end taken w same = rw same w.ended
 
-module _ {S : Type 0} (belongs : Lane → Event → Bool) (Drives : S → S → Item → Outside → Outside → Type 0)
-    (Refuses : Status → S → Item → Outside → Outside → Type 0) (first first' second second' : SourceView) (s t : S) (before after : Outside) where
-  -- the threads were joined
-  pub ran_of : (mail mail' mail'' : MailId) (inbox : Receiver) (one two : Sender) (run : LaneRun)
-      → Reconciled Drives Refuses mail inbox s t before after run.outcome → Watched belongs mail' First first first' one run.first
-      → Watched belongs mail'' Second second second' two run.second → items_of First inbox.taken ≡ one.sent → items_of Second inbox.taken ≡ two.sent
-      → IsMerge inbox.taken one.sent two.sent
-      → Ran belongs Drives Refuses first first' second second' s t before after run
-  ran_of mail mail' mail'' inbox one two run r w w' e e' merge = record {
-    taken = inbox.taken;
-    lanes = record {
-      first_ended = ended_of belongs First mail' first first' one run.first inbox.taken w e;
-      second_ended = ended_of belongs Second mail'' second second' two run.second inbox.taken w' e';
-      merge = rw (e, e') merge;
-    };
-    drove = r.drove;
+  -- a part of what was sent for the items of a lane
+  pub part_turned : (before after : SourceView) (u u' : U) (end : LaneEnd) (taken part : List Item) → IsBeginning part taken
+      → EndedTurned Turns belongs lane before after u u' (items_of lane taken) end → BeginsTurned Turns belongs lane before.left u (items_of lane part)
+  part_turned before after u u' end taken part split e =
+      let two = items_begin lane taken part split in
+      begins_turned Turns belongs lane before after u u' (items_of lane part) two.0 end
+      (subst (λ (l : List Item). EndedTurned Turns belongs lane before after u u' l end) two.1 e)
+
+  -- nothing was sent
+  pub none_turned : (left : Option (List ℕ)) (u : U) → BeginsTurned Turns belongs lane left u []
+  none_turned left u = record { items = []; begins = begins_none belongs lane left; state = u; turned = refl }
+
+-- nothing was sent
+pub turned_none : {U V : Type 0} (TurnsFirst : U → U → Event → Event → Type 0) (TurnsSecond : V → V → Event → Event → Type 0)
+    (belongs : Lane → Event → Bool) (first second : Option (List ℕ)) (u : U) (v : V) → TurnedBeginnings TurnsFirst TurnsSecond belongs first second u v []
+turned_none TurnsFirst TurnsSecond belongs first second u v =
+    record { firsts = none_turned TurnsFirst belongs First first u; seconds = none_turned TurnsSecond belongs Second second v }
+
+module _ {U V : Type 0} (TurnsFirst : U → U → Event → Event → Type 0) (TurnsSecond : V → V → Event → Event → Type 0) (belongs : Lane → Event → Bool)
+    (first first' second second' : SourceView) (u u' : U) (v v' : V) where
+  -- a part of what both lanes sent
+  pub turned_part : (sent part : List Item) (end end' : LaneEnd) → IsBeginning part sent
+      → LanesTurned TurnsFirst TurnsSecond belongs first first' second second' u u' v v' sent end end'
+      → TurnedBeginnings TurnsFirst TurnsSecond belongs first.left second.left u v part
+  turned_part sent part end end' split lanes = record {
+    firsts = part_turned TurnsFirst belongs First first first' u u' end sent part split lanes.first_ended;
+    seconds = part_turned TurnsSecond belongs Second second second' v v' end' sent part split lanes.second_ended;
   }
+
+  -- the threads were joined
+  pub sent_of : (mail mail' : MailId) (taken : List Item) (one two : Sender) (end end' : LaneEnd)
+      → Watched TurnsFirst belongs First mail first first' u u' one end → Watched TurnsSecond belongs Second mail' second second' v v' two end'
+      → items_of First taken ≡ one.sent → items_of Second taken ≡ two.sent → IsMerge taken one.sent two.sent
+      → LanesTurned TurnsFirst TurnsSecond belongs first first' second second' u u' v v' taken end end'
+  sent_of mail mail' taken one two end end' w w' e e' merge = record {
+    first_ended = ended_of TurnsFirst belongs First mail first first' u u' one end taken w e;
+    second_ended = ended_of TurnsSecond belongs Second mail' second second' v v' two end' taken w' e';
+    merge = rw (e, e') merge;
+  }
+
+-- where each event is sent as it is, these are the items of both lanes
+pub ran_unturned : {S : Type 0} (belongs : Lane → Event → Bool) (Drives : S → S → Item → Outside → Outside → Type 0)
+    (Refuses : Status → S → Item → Outside → Outside → Type 0) (first first' second second' : SourceView) (s t : S) (before after : Outside)
+    (ran : Result LaneRun MemoryEnd)
+    → IfOk ran (RanBy (LanesTurned (λ (s t : ⊤) (event sent : Event). sent ≡ event) (λ (s t : ⊤) (event sent : Event). sent ≡ event) belongs first first'
+    second second' tt tt tt tt) Drives Refuses s t before after)
+    → IfOk ran (Ran belongs Drives Refuses first first' second second' s t before after)
+ran_unturned belongs Drives Refuses first first' second second' s t before after (Ok run) r = record {
+  taken = r.taken;
+  lanes = record {
+    first_ended = ended_unturned belongs First first first' tt tt (items_of First r.taken) run.first r.lanes.first_ended;
+    second_ended = ended_unturned belongs Second second second' tt tt (items_of Second r.taken) run.second r.lanes.second_ended;
+    merge = r.lanes.merge;
+  };
+  drove = r.drove;
+}
+ran_unturned belongs Drives Refuses first first' second second' s t before after (Err end) r = tt

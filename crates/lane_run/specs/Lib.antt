@@ -1,7 +1,8 @@
 pub mod Views
 pub mod LaneInputs
-pub mod Steps
 pub mod Watched
+pub mod Turned
+pub mod Steps
 pub mod Reconciled
 pub mod Ran
 pub mod Laws

@@ -12,18 +12,22 @@ use Rattle.mlb_edge.specs.Rows.{HasNoNewline}
 use Rattle.lane_run.specs.declared.lane_end.LaneEnd.{LaneEnd}
 use Rattle.lane_run.specs.declared.lane_end.LaneEnd.TheVariants.{Done, ReadFault, LineLimit, InputLimit, BadLine, NoMemory}
 use Rattle.lane_run.specs.LaneInputs.{item_in}
+use Rattle.lane_run.specs.Turned.{TurnsItem}
 
 -- the line is none that the lane carries, or memory is wanting
 abbrev pub IsUnsent : (Lane → Event → Bool) → Lane → Line → LaneEnd → Type 0
 IsUnsent belongs lane line end = (end ≡ NoMemory) ⊎ ((item_in belongs lane line ≡ None) × (end ≡ BadLine line.number line.bytes))
 
--- One line was read, and its event was sent.
-pub record SendsNext (belongs : Lane → Event → Bool) (lane : Lane) (old new : Sender) (now next : Option Input) : Type 0 where
+-- One line was read, its event was turned, and what it was turned into was sent.
+pub record SendsNext {S : Type 0} (Turns : S → S → Event → Event → Type 0) (s t : S) (belongs : Lane → Event → Bool) (lane : Lane) (old new : Sender)
+    (now next : Option Input) : Type 0 where
   pub line : Line
   pub item : Item
   pub comes : Follows now (line ∷ []) next
   pub is : item_in belongs lane line ≡ Some item
-  pub sent : new ≡ sent_more old item
+  pub one : Item
+  pub turned : TurnsItem Turns s t item one
+  pub sent : new ≡ sent_more old one
 
 -- The next line is none that the lane carries.
 pub record IsBad (belongs : Lane → Event → Bool) (lane : Lane) (now next : Option Input) (number : ℕ) (bytes : List ℕ) : Type 0 where

@@ -4,7 +4,6 @@ use Rattle.std.specs.Io.KnownBytes.{IsAtEnd}
 use Rattle.kube_model.specs.declared.event.Event.{Event}
 use Rattle.lane_mail.specs.declared.lane.Lane.{Lane}
 use Rattle.lane_mail.specs.declared.item.Item.{Item}
-use Rattle.lane_mail.specs.Values.{MailId, Sender}
 use Rattle.mlb_edge.specs.Causes.{Rose}
 use Rattle.mlb_edge.specs.declared.lines.Line.{Line}
 use Rattle.mlb_edge.specs.InputLines.{input_of, input_from}
@@ -62,14 +61,3 @@ pub record Ended (belongs : Lane → Event → Bool) (lane : Lane) (before after
   pub later : before.faults ≤ after.faults
   pub named : after.name ≡ before.name
   pub safety : after.safe ≡ before.safe
-
--- the pass of a lane that has sent nothing
-abbrev pub CanWatch : MailId → Lane → Option Sender → Type 0
-CanWatch mail lane None = ⊥
-CanWatch mail lane (Some pass) = (pass.mail ≡ mail) × (pass.lane ≡ lane) × (pass.sent ≡ [])
-
--- The lane ended so, and its end mark is in the mail.
-pub record Watched (belongs : Lane → Event → Bool) (mail : MailId) (lane : Lane) (before after : SourceView) (done : Sender) (end : LaneEnd) : Type 0 where
-  pub mail_is : done.mail ≡ mail
-  pub lane_is : done.lane ≡ lane
-  pub ended : Ended belongs lane before after done.sent end

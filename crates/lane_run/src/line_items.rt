@@ -1,10 +1,12 @@
-//! The item of a line.
-ghost use Rattle.std.specs.Prelude.{◌≡◌, Some, IfOk, IfErr};
+//! The item of a line, and the one that is sent for it.
+ghost use Rattle.std.specs.Prelude.{◌≡◌, Some, IfOk, IfErr, OnErr};
 ghost use Rattle.lane_run.specs.LaneInputs.{item_in};
 ghost use Rattle.lane_run.specs.Steps.{IsUnsent};
+ghost use Rattle.lane_run.specs.Turned.{TurnsItem};
 
 use crate::lane_end::LaneEnd;
 use crate::lanes::Lanes;
+use crate::turner::Turner;
 use kube_events::read_event;
 use kube_model::EventFault;
 use lane_mail::{Item, Lane};
@@ -38,4 +40,29 @@ pub(crate) fn item_of_line<L: Lanes>(alloc: Global, lane: Lane, line: Line) -> R
         number: line.number,
         event,
     })
+}
+
+/// Turns the item into the one that is sent for it.
+pub(crate) fn turn_item<T: Turner>(
+    alloc: Global,
+    turner: &mut T,
+    item: Item,
+) -> Result<Item, LaneEnd>
+    ensures ok { IfOk result (λ sent. TurnsItem T.Turns (T.state turner.old) (T.state turner.new) item sent) }
+    ensures err { IfErr result (λ end. end ≡ LaneEnd.NoMemory) }
+    ensures same { OnErr result (T.state turner.new ≡ T.state turner.old) }
+{
+    let Item {
+        lane,
+        number,
+        event,
+    } = item;
+    match turner.turn(alloc, event) {
+        Ok(event) => Ok(Item {
+            lane,
+            number,
+            event,
+        }),
+        Err(_) => Err(LaneEnd::NoMemory),
+    }
 }

@@ -1,5 +1,5 @@
 //! What is driven by the items of both lanes.
-ghost use Rattle.std.specs.Prelude.{◌≡◌, OnOk, IfErr};
+ghost use Rattle.std.specs.Prelude.{◌≡◌, ⊤, List, [], ◌∷◌, ◌++◌, OnOk, IfErr};
 ghost use Rattle.kube_model.specs.declared.status.Status.{Status};
 ghost use Rattle.lane_mail.specs.declared.item.Item.{Item};
 ghost use Rattle.lane_run.specs.Views.{Outside, outside, source_view};
@@ -28,6 +28,9 @@ pub trait Reconciler {
     /// While it takes the item in this state, and has led what is outside from the one to the other, it may ask for replies.
     ghost Asks: { State → Item → Outside → Outside → Type 0 };
 
+    /// It may stand so behind these items, of which it may have refused the last. Where it says nothing of that, it may stand so behind any.
+    ghost Behind: { Self → List Item → Type 0 } = { λ _ _. ⊤ };
+
     /// Is driven by the item, and writes what comes of it before it returns. `reader` reads the replies of
     /// `input`. `Err` is the status that the run stops with.
     fn take<I: PacedSource<K>, K: Sink>(
@@ -52,5 +55,6 @@ pub trait Reconciler {
             (K.written out.old) (K.faults out.old))
             (outside reader.new (source_view (I.left input.new) (I.name input.new) (I.faults input.new))
             (K.written out.new) (K.faults out.new))) }
+        ensures behind { (items : List Item) → Behind self.old items → Behind self.new (items ++ item ∷ []) }
         ensures name { I.name input.new ≡ I.name input.old };
 }

@@ -1,6 +1,8 @@
 //! The third thread: it takes what the lanes sent, and drives the reconciler.
-ghost use Rattle.std.specs.Prelude.{◌≡◌, []};
+ghost use Rattle.std.specs.Prelude.{◌≡◌, [], List};
+ghost use Rattle.lane_mail.specs.declared.item.Item.{Item};
 ghost use Rattle.lane_run.specs.Reconciled.{MayReconcile, Reconciled};
+ghost use Rattle.lane_run.specs.Watched.{IsBeginning};
 ghost use Rattle.lane_run.specs.Views.{outside, source_view};
 
 use crate::paced::PacedWait;
@@ -29,6 +31,7 @@ pub(crate) fn reconcile<M: Reconciler, R: PacedWait<K>, I: PacedSource<K>, K: Si
         (λ i r o. outside r (source_view (I.left i) (I.name i) (I.faults i)) (K.written o) (K.faults o))
         rt.now input.old reader.old out.old }
     ensures name { I.name input.new ≡ I.name input.old }
+    ensures behind { M.Behind machine.old [] → (items : List Item) × IsBeginning items inbox.new.taken × M.Behind machine.new items }
     ensures reconciled { Reconciled M.Drives M.Refuses mail.now inbox.new (M.state machine.old) (M.state machine.new)
         (outside reader.old (source_view (I.left input.old) (I.name input.old) (I.faults input.old))
         (K.written out.old) (K.faults out.old))

@@ -1,7 +1,8 @@
 //! The run of two lanes: three threads, joined.
-ghost use Rattle.std.specs.Prelude.{◌≡◌, IfOk, OnErr};
-ghost use Rattle.lane_run.specs.Ran.{Ran};
-ghost use Rattle.lane_run.specs.Reconciled.{AsksIn, HasDriven, HasRefused};
+ghost use Rattle.std.specs.Prelude.{◌≡◌, List, [], IfOk, OnErr};
+ghost use Rattle.lane_mail.specs.declared.item.Item.{Item};
+ghost use Rattle.lane_run.specs.Ran.{LanesTurned, Ran, RanBy, TurnedBeginnings};
+ghost use Rattle.lane_run.specs.Reconciled.{AsksIn, HasDriven, HasRefused, MayReconcile};
 ghost use Rattle.lane_run.specs.Views.{lane_view, outside, source_view};
 ghost use Rattle.lane_run.specs.Waiting.{MayBeAwaited};
 ghost use Rattle.line_run.specs.Answered.{MayBeAsked};
@@ -11,6 +12,7 @@ use crate::lanes::Lanes;
 use crate::paced::{MailWait, PacedWait};
 use crate::reconciler::Reconciler;
 use crate::threads::run_threads;
+use crate::turner::{Turner, Unturned};
 use crate::watched::WatchedSource;
 use lane_mail::Mail;
 use line_run::PacedSource;
@@ -78,9 +80,80 @@ pub fn run_lanes<
     ensures undriven { OnErr result ((machine.new ≡ machine.old) × (reader.new ≡ reader.old)
         × (input.new ≡ input.old) × (out.new ≡ out.old)) }
 {
+    run_turned::<L, Unturned, Unturned, M, R, S, I, K>(
+        rt,
+        alloc,
+        first,
+        second,
+        &mut Unturned,
+        &mut Unturned,
+        machine,
+        reader,
+        input,
+        out,
+    )
+}
+
+/// Drives the reconciler as `run_lanes` does, by what the turner of each lane turns the events of its lines into. A lane of which an event
+/// isn't turned ends there for want of memory. Both turners come back as their lanes left them.
+pub fn run_turned<
+    L: Lanes + Send,
+    A: Turner + Send,
+    B: Turner + Send,
+    M: Reconciler + Send,
+    R: Threads + PacedWait<K> + MailWait + Sync,
+    S: WatchedSource + Send,
+    I: PacedSource<K> + Send,
+    K: Sink + Send,
+>(
+    rt: &R,
+    alloc: Global,
+    first: &mut S,
+    second: &mut S,
+    first_turner: &mut A,
+    second_turner: &mut B,
+    machine: &mut M,
+    reader: &mut LineReader,
+    input: &mut I,
+    out: &mut K,
+) -> Result<LaneRun, NoMemory>
+    // It may ask for replies, wait for the next item, and drop what the lanes still send, just where `run_lanes` may.
+    requires may { MayReconcile M.Drives M.Refuses M.Asks (M.state machine.old) I.name I.may_read R.may_wait R.may_drop K.written
+        (λ i r o. outside r (source_view (I.left i) (I.name i) (I.faults i)) (K.written o) (K.faults o))
+        rt.now input.old reader.old out.old }
+
+    // How both lanes ended, and what was sent for the items of their lines. It was driven by all of that, or up to the item that it refused.
+    ensures ran { IfOk result (λ run. RanBy (LanesTurned A.Turns B.Turns L.belongs
+        (lane_view (S.left first.old) (S.name first.old) (S.faults first.old) (S.safe first.old))
+        (lane_view (S.left first.new) (S.name first.new) (S.faults first.new) (S.safe first.new))
+        (lane_view (S.left second.old) (S.name second.old) (S.faults second.old) (S.safe second.old))
+        (lane_view (S.left second.new) (S.name second.new) (S.faults second.new) (S.safe second.new))
+        (A.state first_turner.old) (A.state first_turner.new) (B.state second_turner.old) (B.state second_turner.new))
+        M.Drives M.Refuses (M.state machine.old) (M.state machine.new)
+        (outside reader.old (source_view (I.left input.old) (I.name input.old) (I.faults input.old))
+        (K.written out.old) (K.faults out.old))
+        (outside reader.new (source_view (I.left input.new) (I.name input.new) (I.faults input.new))
+        (K.written out.new) (K.faults out.new)) run) }
+
+    // However the run ends, it stands as it may behind items that were sent for a beginning of what each lane carries.
+    ensures behind { M.Behind machine.old [] → (items : List Item) × M.Behind machine.new items
+        × TurnedBeginnings A.Turns B.Turns L.belongs (S.left first.old) (S.left second.old)
+        (A.state first_turner.old) (B.state second_turner.old) items }
+
+    // The source of the replies keeps its name.
+    ensures name { I.name input.new ≡ I.name input.old }
+
+    // For want of memory nothing was done.
+    ensures unread { OnErr result ((first.new ≡ first.old) × (second.new ≡ second.old)
+        × (first_turner.new ≡ first_turner.old) × (second_turner.new ≡ second_turner.old)) }
+    ensures undriven { OnErr result ((machine.new ≡ machine.old) × (reader.new ≡ reader.old)
+        × (input.new ≡ input.old) × (out.new ≡ out.old)) }
+{
     let (mail, first_pass, second_pass, mut inbox) = Mail::new(alloc)?;
     let (outcome, (first_done, first_end), (second_done, second_end)) = run_threads::<
         L,
+        A,
+        B,
         M,
         R,
         S,
@@ -95,6 +168,8 @@ pub fn run_lanes<
         &mut inbox,
         first,
         second,
+        first_turner,
+        second_turner,
         machine,
         reader,
         input,

@@ -1,16 +1,19 @@
 //! The three threads.
-ghost use Rattle.std.specs.Prelude.{◌≡◌, []};
+ghost use Rattle.std.specs.Prelude.{◌≡◌, [], List};
 ghost use Rattle.std.specs.Thread.{IsSync};
+ghost use Rattle.lane_mail.specs.declared.item.Item.{Item};
 ghost use Rattle.lane_mail.specs.declared.lane.Lane.TheVariants.{First, Second};
 ghost use Rattle.lane_run.specs.Reconciled.{MayReconcile, Reconciled};
+ghost use Rattle.lane_run.specs.Turned.{CanWatch, Watched};
 ghost use Rattle.lane_run.specs.Views.{lane_view, outside, source_view};
-ghost use Rattle.lane_run.specs.Watched.{CanWatch, Watched};
+ghost use Rattle.lane_run.specs.Watched.{IsBeginning};
 
 use crate::lane_end::LaneEnd;
 use crate::lanes::Lanes;
 use crate::paced::{MailWait, PacedWait};
 use crate::reconciler::Reconciler;
 use crate::reconciling::reconcile;
+use crate::turner::Turner;
 use crate::watched::{WatchPass, WatchedSource};
 use kube_model::Status;
 use lane_mail::{InboxPass, Lane, LaneDone, LanePass, Mail};
@@ -26,6 +29,8 @@ pub(crate) type Watch = (LaneDone, LaneEnd);
 /// watchers first.
 pub(crate) fn run_threads<
     L: Lanes + Send,
+    A: Turner + Send,
+    B: Turner + Send,
     M: Reconciler + Send,
     R: Threads + PacedWait<K> + MailWait + Sync,
     S: WatchedSource + Send,
@@ -40,6 +45,8 @@ pub(crate) fn run_threads<
     inbox: &mut InboxPass,
     first: &mut S,
     second: &mut S,
+    first_turner: &mut A,
+    second_turner: &mut B,
     machine: &mut M,
     reader: &mut LineReader,
     input: &mut I,
@@ -52,19 +59,20 @@ pub(crate) fn run_threads<
         (λ i r o. outside r (source_view (I.left i) (I.name i) (I.faults i)) (K.written o) (K.faults o))
         rt.now input.old reader.old out.old }
     ensures name { I.name input.new ≡ I.name input.old }
+    ensures behind { M.Behind machine.old [] → (items : List Item) × IsBeginning items inbox.new.taken × M.Behind machine.new items }
     ensures inbox { Reconciled M.Drives M.Refuses mail.now inbox.new (M.state machine.old) (M.state machine.new)
         (outside reader.old (source_view (I.left input.old) (I.name input.old) (I.faults input.old))
         (K.written out.old) (K.faults out.old))
         (outside reader.new (source_view (I.left input.new) (I.name input.new) (I.faults input.new))
         (K.written out.new) (K.faults out.new)) result.0 }
-    ensures first { Watched L.belongs mail.now First
+    ensures first { Watched A.Turns L.belongs First mail.now
         (lane_view (S.left first.old) (S.name first.old) (S.faults first.old) (S.safe first.old))
         (lane_view (S.left first.new) (S.name first.new) (S.faults first.new) (S.safe first.new))
-        result.1.0 result.1.1 }
-    ensures second { Watched L.belongs mail.now Second
+        (A.state first_turner.old) (A.state first_turner.new) result.1.0 result.1.1 }
+    ensures second { Watched B.Turns L.belongs Second mail.now
         (lane_view (S.left second.old) (S.name second.old) (S.faults second.old) (S.safe second.old))
         (lane_view (S.left second.new) (S.name second.new) (S.faults second.new) (S.safe second.new))
-        result.2.0 result.2.1 }
+        (B.state second_turner.old) (B.state second_turner.new) result.2.0 result.2.1 }
 {
     let mut first_slot = WatchPass {
         pass: Some(first_pass),
@@ -80,6 +88,8 @@ pub(crate) fn run_threads<
                 (λ i r o. outside r (source_view (I.left i) (I.name i) (I.faults i)) (K.written o) (K.faults o))
                 rt.now input.now reader.now out.now }
             ensures name { I.name input.exit.now ≡ I.name input.entry.now }
+            ensures behind { M.Behind machine.entry.now [] → (items : List Item) × IsBeginning items inbox.exit.now.taken
+                × M.Behind machine.exit.now items }
             ensures reconciled { Reconciled M.Drives M.Refuses mail.entry.now inbox.exit.now (M.state machine.entry.now) (M.state machine.exit.now)
                 (outside reader.entry.now (source_view (I.left input.entry.now) (I.name input.entry.now) (I.faults input.entry.now))
                 (K.written out.entry.now) (K.faults out.entry.now))
@@ -88,31 +98,49 @@ pub(crate) fn run_threads<
         { reconcile::<M, R, I, K>(rt, alloc, mail, inbox, machine, reader, input, out) },
         &mut || -> (Watch, Watch)
             requires { IsSync R.row × CanWatch mail.now First first_slot × CanWatch mail.now Second second_slot }
-            ensures { Watched L.belongs mail.entry.now Second
+            ensures { Watched B.Turns L.belongs Second mail.entry.now
                 (lane_view (S.left second.entry.now) (S.name second.entry.now) (S.faults second.entry.now) (S.safe second.entry.now))
                 (lane_view (S.left second.exit.now) (S.name second.exit.now) (S.faults second.exit.now) (S.safe second.exit.now))
-                result.0.0 result.0.1
-                × Watched L.belongs mail.entry.now First
+                (B.state second_turner.entry.now) (B.state second_turner.exit.now) result.0.0 result.0.1
+                × Watched A.Turns L.belongs First mail.entry.now
                 (lane_view (S.left first.entry.now) (S.name first.entry.now) (S.faults first.entry.now) (S.safe first.entry.now))
                 (lane_view (S.left first.exit.now) (S.name first.exit.now) (S.faults first.exit.now) (S.safe first.exit.now))
-                result.1.0 result.1.1 }
+                (A.state first_turner.entry.now) (A.state first_turner.exit.now) result.1.0 result.1.1 }
         {
             join_mut(
                 rt,
                 &mut || -> Watch
                     requires { CanWatch mail.now Second second_slot }
-                    ensures { Watched L.belongs mail.entry.now Second
+                    ensures { Watched B.Turns L.belongs Second mail.entry.now
                         (lane_view (S.left second.entry.now) (S.name second.entry.now) (S.faults second.entry.now) (S.safe second.entry.now))
                         (lane_view (S.left second.exit.now) (S.name second.exit.now) (S.faults second.exit.now) (S.safe second.exit.now))
-                        result.0 result.1 }
-                { second.watch::<L, R>(rt, alloc, Lane::Second, mail, &mut second_slot) },
+                        (B.state second_turner.entry.now) (B.state second_turner.exit.now) result.0 result.1 }
+                {
+                    second.watch::<L, B, R>(
+                        rt,
+                        alloc,
+                        Lane::Second,
+                        mail,
+                        &mut second_slot,
+                        second_turner,
+                    )
+                },
                 &mut || -> Watch
                     requires { CanWatch mail.now First first_slot }
-                    ensures { Watched L.belongs mail.entry.now First
+                    ensures { Watched A.Turns L.belongs First mail.entry.now
                         (lane_view (S.left first.entry.now) (S.name first.entry.now) (S.faults first.entry.now) (S.safe first.entry.now))
                         (lane_view (S.left first.exit.now) (S.name first.exit.now) (S.faults first.exit.now) (S.safe first.exit.now))
-                        result.0 result.1 }
-                { first.watch::<L, R>(rt, alloc, Lane::First, mail, &mut first_slot) },
+                        (A.state first_turner.entry.now) (A.state first_turner.exit.now) result.0 result.1 }
+                {
+                    first.watch::<L, A, R>(
+                        rt,
+                        alloc,
+                        Lane::First,
+                        mail,
+                        &mut first_slot,
+                        first_turner,
+                    )
+                },
             )
         },
     );

@@ -1,12 +1,13 @@
 //! Sources and files that are watched, and read in no other way.
 ghost use Rattle.std.specs.Prelude.{◌≡◌, ◌≢◌, ⊤, ℕ, Bool, List, Option, Some, OnOk, OnErr, IfOk, IsOk, IsErrOf};
 ghost use Rattle.lane_run.specs.Views.{lane_view};
-ghost use Rattle.lane_run.specs.Watched.{CanWatch, Watched};
+ghost use Rattle.lane_run.specs.Turned.{CanWatch, Watched};
 ghost use Rattle.mlb_edge.specs.Failed.{CountsFault, IsOpened, with_failed, with_closed};
 
 use crate::lane_end::LaneEnd;
 use crate::lanes::Lanes;
 use crate::paced::MailWait;
+use crate::turner::Turner;
 use crate::watching::watch;
 use lane_mail::{Lane, LaneDone, LanePass, Mail};
 use mlb_base::NoMemory;
@@ -14,7 +15,7 @@ use mlb_edge::{Files, OpenEnd, Source};
 use std::alloc::Global;
 use std::marker::Model;
 
-/// The right to watch a lane, which contracts see as the lane's pass until it was watched. `run_lanes` alone makes one, so lanes are
+/// The right to watch a lane, which contracts see as the lane's pass until it was watched. `run_turned` alone makes one, so lanes are
 /// watched nowhere but beside their reconciler.
 #[derive(Drop)]
 pub struct WatchPass {
@@ -47,20 +48,21 @@ pub trait WatchedSource {
     /// It is known that no read fails. No read changes this.
     ghost safe: { Self → Bool };
 
-    /// Sends the events of its lines until it ends or something stops it, and then puts the lane's end mark.
-    fn watch<L: Lanes, R: MailWait>(
+    /// Sends what the events of its lines are turned into, until it ends or something stops it, and then puts the lane's end mark.
+    fn watch<L: Lanes, T: Turner, R: MailWait>(
         &mut self,
         rt: &R,
         alloc: Global,
         lane: Lane,
         mail: &Mail,
         pass: &mut WatchPass,
+        turner: &mut T,
     ) -> (LaneDone, LaneEnd)
         requires { CanWatch mail.now lane pass.old }
-        ensures { Watched L.belongs mail.now lane
+        ensures { Watched T.Turns L.belongs lane mail.now
             (lane_view (left self.old) (name self.old) (faults self.old) (safe self.old))
             (lane_view (left self.new) (name self.new) (faults self.new) (safe self.new))
-            result.0 result.1 };
+            (T.state turner.old) (T.state turner.new) result.0 result.1 };
 }
 
 /// Each source can be watched.
@@ -73,15 +75,16 @@ impl<S: Source> WatchedSource for S {
 
     ghost safe = { S.safe };
 
-    fn watch<L: Lanes, R: MailWait>(
+    fn watch<L: Lanes, T: Turner, R: MailWait>(
         &mut self,
         rt: &R,
         alloc: Global,
         lane: Lane,
         mail: &Mail,
         pass: &mut WatchPass,
+        turner: &mut T,
     ) -> (LaneDone, LaneEnd) {
-        watch::<L, R, S>(rt, alloc, lane, mail, pass, self)
+        watch::<L, T, R, S>(rt, alloc, lane, mail, pass, turner, self)
     }
 }
 

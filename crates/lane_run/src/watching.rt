@@ -1,15 +1,16 @@
-//! A watcher: it reads the lines of a source, and sends their events.
+//! A watcher: it reads the lines of a source, and sends what their events are turned into.
 ghost use Rattle.std.specs.Prelude.{◌≡◌, ◌≤◌, ◌<◌, ◌^◌, [], length, IfSome, IfNone, IsTrue, not};
 ghost use Rattle.lane_mail.specs.Values.{sent_more};
 ghost use Rattle.mlb_edge.specs.InputLines.{Passes, to_come};
 ghost use Rattle.lane_run.specs.Steps.{SendsNext, EndsAt};
-ghost use Rattle.lane_run.specs.Watched.{Ended, CanWatch, Watched};
+ghost use Rattle.lane_run.specs.Turned.{CanWatch, EndedTurned, IsLeft, Watched};
 ghost use Rattle.lane_run.specs.Views.{lane_view};
 
 use crate::lane_end::{LaneEnd, end_of};
 use crate::lanes::Lanes;
-use crate::line_items::item_of_line;
+use crate::line_items::{item_of_line, turn_item};
 use crate::paced::MailWait;
+use crate::turner::Turner;
 use crate::watched::WatchPass;
 use lane_mail::{Item, Lane, LaneDone, LanePass, Mail};
 use mlb_edge::{LineReader, Source};
@@ -32,25 +33,27 @@ fn put_item<R: MailWait>(rt: &R, mail: &Mail, pass: &mut LanePass, item: Item) -
     }
 }
 
-/// Reads one line and sends its event. `Some` says how the lane ended, and then nothing was sent.
-fn send_next<L: Lanes, R: MailWait, S: Source>(
+/// Reads one line and sends what its event is turned into. `Some` says how the lane ended, and then nothing was sent.
+fn send_next<L: Lanes, T: Turner, R: MailWait, S: Source>(
     rt: &R,
     alloc: Global,
     lane: Lane,
     mail: &Mail,
     pass: &mut LanePass,
+    turner: &mut T,
     reader: &mut LineReader,
     source: &mut S,
 ) -> Option<LaneEnd>
     requires mail { pass.old.mail ≡ mail.now }
     requires lane { pass.old.lane ≡ lane }
     requires room { length pass.old.sent ≤ reader.old.passed }
-    ensures sends { IfNone result (SendsNext L.belongs lane pass.old pass.new
+    ensures sends { IfNone result (SendsNext T.Turns (T.state turner.old) (T.state turner.new) L.belongs lane pass.old pass.new
         (to_come reader.old (S.left source.old)) (to_come reader.new (S.left source.new))) }
     ensures ends { IfSome result (λ end. EndsAt L.belongs lane
         (to_come reader.old (S.left source.old)) (to_come reader.new (S.left source.new))
         reader.new.held (S.left source.new) (S.faults source.old) (S.faults source.new) (S.safe source.old) end) }
     ensures unsent { IfSome result (λ _. pass.new ≡ pass.old) }
+    ensures left { IfSome result (λ end. IsLeft T.Turns (T.state turner.old) (T.state turner.new) end) }
     ensures passes { Passes reader.old reader.new (S.left source.old) (S.left source.new) }
     ensures near { IfNone result
         ((reader.old.passed < reader.new.passed) × (reader.new.passed ≤ 2 ^ 40)) }
@@ -67,20 +70,25 @@ fn send_next<L: Lanes, R: MailWait, S: Source>(
         Ok(item) => item,
         Err(end) => return Some(end),
     };
-    if put_item(rt, mail, pass, item) {
+    let sent = match turn_item(alloc, turner, item) {
+        Ok(sent) => sent,
+        Err(end) => return Some(end),
+    };
+    if put_item(rt, mail, pass, sent) {
         None
     } else {
         Some(LaneEnd::NoMemory)
     }
 }
 
-/// Sends the events of the lines, one after the other, until the lane ends.
-fn send_lines<L: Lanes, R: MailWait, S: Source>(
+/// Sends what the events of the lines are turned into, one after the other, until the lane ends.
+fn send_lines<L: Lanes, T: Turner, R: MailWait, S: Source>(
     rt: &R,
     alloc: Global,
     lane: Lane,
     mail: &Mail,
     pass: &mut LanePass,
+    turner: &mut T,
     reader: &mut LineReader,
     source: &mut S,
 ) -> LaneEnd
@@ -90,25 +98,28 @@ fn send_lines<L: Lanes, R: MailWait, S: Source>(
     requires reader { reader.old ≡ record { held = []; passed = 0; number = 0 } }
     ensures mail { pass.new.mail ≡ pass.old.mail }
     ensures lane { pass.new.lane ≡ pass.old.lane }
-    ensures ended { Ended L.belongs lane
+    ensures ended { EndedTurned T.Turns L.belongs lane
         (lane_view (S.left source.old) (S.name source.old) (S.faults source.old) (S.safe source.old))
         (lane_view (S.left source.new) (S.name source.new) (S.faults source.new) (S.safe source.new))
-        pass.new.sent result }
+        (T.state turner.old) (T.state turner.new) pass.new.sent result }
 {
     'lines: loop {
-        if let Some(end) = send_next::<L, R, S>(rt, alloc, lane, mail, pass, reader, source) {
+        if let Some(end) = send_next::<L, T, R, S>(
+            rt, alloc, lane, mail, pass, turner, reader, source,
+        ) {
             return end;
         }
     }
 }
 
-/// Sends the events of the source, with a reader of its own.
-fn send_source<L: Lanes, R: MailWait, S: Source>(
+/// Sends what the events of the source are turned into, with a reader of its own.
+fn send_source<L: Lanes, T: Turner, R: MailWait, S: Source>(
     rt: &R,
     alloc: Global,
     lane: Lane,
     mail: &Mail,
     pass: &mut LanePass,
+    turner: &mut T,
     source: &mut S,
 ) -> LaneEnd
     requires mail { pass.old.mail ≡ mail.now }
@@ -116,36 +127,37 @@ fn send_source<L: Lanes, R: MailWait, S: Source>(
     requires fresh { pass.old.sent ≡ [] }
     ensures mail { pass.new.mail ≡ pass.old.mail }
     ensures lane { pass.new.lane ≡ pass.old.lane }
-    ensures ended { Ended L.belongs lane
+    ensures ended { EndedTurned T.Turns L.belongs lane
         (lane_view (S.left source.old) (S.name source.old) (S.faults source.old) (S.safe source.old))
         (lane_view (S.left source.new) (S.name source.new) (S.faults source.new) (S.safe source.new))
-        pass.new.sent result }
+        (T.state turner.old) (T.state turner.new) pass.new.sent result }
 {
     let Ok(mut reader) = LineReader::new(alloc) else {
         return LaneEnd::NoMemory;
     };
-    send_lines::<L, R, S>(rt, alloc, lane, mail, pass, &mut reader, source)
+    send_lines::<L, T, R, S>(rt, alloc, lane, mail, pass, turner, &mut reader, source)
 }
 
-/// Sends the events of the source's lines until the input ends or something stops it, and then puts the
+/// Sends what the events of the source's lines are turned into, until the input ends or something stops it, and then puts the
 /// lane's end mark. The lane's pass is used up.
-pub(crate) fn watch<L: Lanes, R: MailWait, S: Source>(
+pub(crate) fn watch<L: Lanes, T: Turner, R: MailWait, S: Source>(
     rt: &R,
     alloc: Global,
     lane: Lane,
     mail: &Mail,
     pass: &mut WatchPass,
+    turner: &mut T,
     source: &mut S,
 ) -> (LaneDone, LaneEnd)
     requires { CanWatch mail.now lane pass.old }
-    ensures { Watched L.belongs mail.now lane
+    ensures { Watched T.Turns L.belongs lane mail.now
         (lane_view (S.left source.old) (S.name source.old) (S.faults source.old) (S.safe source.old))
         (lane_view (S.left source.new) (S.name source.new) (S.faults source.new) (S.safe source.new))
-        result.0 result.1 }
+        (T.state turner.old) (T.state turner.new) result.0 result.1 }
 {
     let Some(mut pass) = pass.pass.take() else {
         unreachable!();
     };
-    let end = send_source::<L, R, S>(rt, alloc, lane, mail, &mut pass, source);
+    let end = send_source::<L, T, R, S>(rt, alloc, lane, mail, &mut pass, turner, source);
     (rt.end(mail, pass), end)
 }

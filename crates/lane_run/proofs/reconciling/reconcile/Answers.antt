@@ -1,14 +1,16 @@
-use Rattle.std.proofs.Common.{[], ◌∷◌, length, refl, ap, ◌∙◌, arith, length-append}
+use Rattle.std.proofs.Common.{[], ◌∷◌, length, refl, sym, ap, ◌∙◌, arith, length-append}
+use Rattle.std.proofs.lemmas.List.{append-nil}
 use Rattle.lane_run.proofs.DroveSoFar.{drives_next, drove_up_to}
 use Rattle.lane_run.proofs.reconciling.reconcile.Goals as goal
 
 pub items-init : goal.items-init
-items-init g c = record { mail = refl; name = refl; drove = rw c.requires.fresh (refl, refl) }
+items-init g c = record { mail = refl; name = refl; behind = λ fresh. rw c.requires.fresh fresh; drove = rw c.requires.fresh (refl, refl) }
 
 pub items-preserved : goal.items-preserved
 items-preserved g c = record {
   mail = c.take_next.ensures.mail ∙ c.items.invariant.mail;
   name = c.take.ensures.name ∙ c.items.invariant.name;
+  behind = λ fresh. rw (c.in-Item.ensures.item c.in-Item.item refl) (c.take.ensures.behind c.items.inbox.taken (c.items.invariant.behind fresh));
   drove = drives_next g.M.Reconciler.Drives c.items.inbox.taken c.take_next.new.inbox.taken c.in-Item.item (g.M.Reconciler.state c.args.machine.now)
       (g.M.Reconciler.state c.items.machine) (g.M.Reconciler.state c.take.new.self) _ _ _
       c.items.invariant.drove (c.in-Item.ensures.item c.in-Item.item refl) c.in_default.ensures.ok;
@@ -45,3 +47,16 @@ drop_rest-requires-clause-paced g c = c.requires.may.drops c.take_next.new.inbox
   refused = c.in-Err.ensures.err;
   is = refl;
 })
+
+-- all that was taken drove it
+pub returns-in-AllEnded-clause-behind : goal.returns-in-AllEnded-clause-behind
+returns-in-AllEnded-clause-behind g c = λ fresh.
+    (c.items.inbox.taken, ([], (c.in-AllEnded.ensures.ended.0 refl).0 ∙ sym (append-nil c.items.inbox.taken)), c.items.invariant.behind fresh)
+
+-- the last that wasn't dropped was refused
+pub returns-in-Err-clause-behind : goal.returns-in-Err-clause-behind
+returns-in-Err-clause-behind g c = λ fresh. (
+  c.take_next.new.inbox.taken,
+  c.drop_rest.ensures.taken,
+  rw (c.in-Item.ensures.item c.in-Item.item refl) (c.take.ensures.behind c.items.inbox.taken (c.items.invariant.behind fresh)),
+)

@@ -1,4 +1,4 @@
-use Rattle.std.proofs.Common.{◌≡◌, ◌-◌, ◌^◌, length}
+use Rattle.std.proofs.Common.{◌≡◌, ◌-◌, ◌^◌, [], length}
 use Rattle.lane_run.specs.Reconciled.{AreDriven}
 use Rattle.lane_run.specs.Views.{outside, source_view}
 use Rattle.lane_run.proofs.reconciling.reconcile.Given as goal
@@ -7,6 +7,7 @@ abbrev pub invariant-items : goal.invariant-items
 invariant-items g l = record {
   mail : l.inbox.mail ≡ l.fn.inbox.mail;
   name : g.I.PacedSource.name l.input ≡ g.I.PacedSource.name l.fn.input;
+  behind : g.M.Reconciler.Behind l.fn.machine [] → g.M.Reconciler.Behind l.machine l.inbox.taken;
   drove : AreDriven g.M.Reconciler.Drives l.inbox.taken (g.M.Reconciler.state l.fn.machine) (g.M.Reconciler.state l.machine)
       (outside l.fn.reader (source_view (g.I.PacedSource.left l.fn.input) (g.I.PacedSource.name l.fn.input) (g.I.PacedSource.faults l.fn.input))
       (g.K.Sink.written l.fn.out) (g.K.Sink.faults l.fn.out))

@@ -1,13 +1,17 @@
-use Rattle.std.proofs.Common.{◌≡◌, ◌≤◌, ◌-◌, ◌^◌, length}
+use Rattle.std.proofs.Common.{◌≡◌, ◌≤◌, ◌-◌, ◌^◌, List, length}
+use Rattle.lane_mail.specs.declared.item.Item.{Item}
 use Rattle.mlb_edge.specs.InputLines.{to_come, Passes}
-use Rattle.lane_run.proofs.LaneSoFar.{fresh, Watching}
+use Rattle.lane_run.specs.Turned.{AreTurned}
+use Rattle.lane_run.proofs.LaneSoFar.{Watching}
+use Rattle.line_run.proofs.ReadSoFar.{fresh}
 use Rattle.lane_run.proofs.watching.send_lines.Given as goal
 
 abbrev pub invariant-lines : goal.invariant-lines
 invariant-lines g l = record {
   mail : l.pass.mail ≡ l.fn.pass.mail;
   lane : l.pass.lane ≡ l.fn.pass.lane;
-  watching : Watching g.L.Lanes.belongs l.lane (g.S.Source.left l.fn.source) (to_come l.reader (g.S.Source.left l.source)) l.pass.sent;
+  turned : (items : List Item) × Watching g.L.Lanes.belongs l.lane (g.S.Source.left l.fn.source) (to_come l.reader (g.S.Source.left l.source)) items
+      × AreTurned g.T.Turner.Turns (g.T.Turner.state l.fn.turner) (g.T.Turner.state l.turner) items l.pass.sent;
   passes : Passes fresh l.reader (g.S.Source.left l.fn.source) (g.S.Source.left l.source);
   counted : length l.pass.sent ≤ l.reader.passed;
   later : g.S.Source.faults l.fn.source ≤ g.S.Source.faults l.source;

@@ -1,3 +1,4 @@
+use Rattle.std.proofs.Common.{[], inl, refl}
 use Rattle.lane_run.specs.Views.{lane_view}
 use Rattle.lane_run.proofs.LaneSoFar.{ended_unread}
 use Rattle.lane_run.proofs.watching.send_source.Goals as goal
@@ -5,5 +6,11 @@ use Rattle.lane_run.proofs.watching.send_source.Goals as goal
 pub returns-in_default-clause-ended : goal.returns-in_default-clause-ended
 returns-in_default-clause-ended g c =
     let source = c.args.source.now in
-    ended_unread g.L.Lanes.belongs c.args.lane (lane_view (g.S.Source.left source) (g.S.Source.name source) (g.S.Source.faults source) (g.S.Source.safe source))
-    c.args.pass.now.sent c.requires.fresh
+    record {
+      items = [];
+      ended = ended_unread g.L.Lanes.belongs c.args.lane
+          (lane_view (g.S.Source.left source) (g.S.Source.name source) (g.S.Source.faults source) (g.S.Source.safe source));
+      state = _;
+      turned = rw c.requires.fresh refl;
+      left = inl refl;
+    }

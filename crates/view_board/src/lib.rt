@@ -1,0 +1,17 @@
+//! The view of a speaker on a board: one thread applies events to it, while a responder on another thread answers frames by it with no lock and
+//! no wait.
+//!
+//! Each answer is that of the view after a beginning of the appended events. A responder's beginnings never get shorter, and none is shorter
+//! than what it was told of.
+#![tactic(auto)]
+
+mod answer;
+mod elected_view;
+mod responder;
+mod writer;
+
+pub use answer::Answer;
+pub use elected_view::{Classed, ElectedView};
+pub use responder::{Reply, Responder, Told};
+pub use shown_board::{Naming, Opened};
+pub use writer::{AppendBack, BoardWriter, board};

@@ -11,13 +11,11 @@ use Rattle.kube_model.specs.declared.status.Status.TheVariants as statuses
 use Rattle.lane_mail.specs.declared.lane.Lane.{Lane}
 use Rattle.lane_mail.specs.declared.lane.Lane.TheVariants.{First, Second}
 use Rattle.lane_mail.specs.declared.item.Item.{Item}
-use Rattle.lane_mail.specs.Lanes.{is_lane, items_of}
-use Rattle.lane_mail.specs.Merges.{IsMerge}
 use Rattle.lane_run.specs.declared.lane_end.LaneEnd.{LaneEnd}
 use Rattle.lane_run.specs.declared.lane_end.LaneEnd.TheVariants.{Done, ReadFault, LineLimit, InputLimit, BadLine, NoMemory}
 use Rattle.lane_run.specs.LaneInputs.{LaneInput, lane_input, IsInputOf}
 use Rattle.lane_run.specs.Views.{SourceView, Outside, outside}
-use Rattle.lane_run.specs.Watched.{Begins, Sends}
+use Rattle.lane_run.specs.Watched.{Sends}
 use Rattle.line_run.specs.declared.halt.Halt.{Halt}
 use Rattle.line_run.specs.declared.halt.Halt.TheVariants as halts
 use Rattle.line_run.specs.declared.halt.Refusal.{Refusal}
@@ -34,37 +32,17 @@ use Rattle.mlb_edge.specs.declared.lines.LineEnd.{LineEnd}
 use Rattle.mlb_edge.specs.declared.lines.LineEnd.TheVariants as reader
 use Rattle.mlb_edge.specs.InputLines.{Input, Whole, LongLine, LongInput, Follows, EndsAs, input_of, to_come}
 use Rattle.mlb_edge.specs.Written.{Grows}
-use Rattle.lane_drive.specs.Clauses.{AreLinesOf, AtEnd, AtOpenFault, EndsWith, FailsToOpen, unread}
-use Rattle.lane_drive.specs.Complete.{AreReadable, IsComplete}
-use Rattle.lane_drive.specs.Drive.{Told, AreHeard, AreTaken, Drives}
+use Rattle.lane_drive.specs.Clauses.{AreLinesOf, EndOf, AtOpenFault, EndsWith, FailsToOpen, unread}
+use Rattle.lane_drive.specs.Complete.{AreSent, CompleteOf, TakesFirst}
+use Rattle.lane_drive.specs.Drive.{Told, AreHeard, AreTaken, IsTaken, Drives}
 use Rattle.lane_drive.specs.Files.{FilesView}
 use Rattle.lane_drive.specs.LaneRules.{LaneRules, reply_rules, HaltsItem}
-use Rattle.lane_drive.specs.Stops.{AreBeginnings, StopsAtItem, StopsAtReply, StopsBehind, EndsAsLanes, TakesAll, EndsSo, status_of_lanes}
-use Rattle.lane_drive.proofs.Endings.{begins_of}
+use Rattle.lane_drive.specs.Sending.{Sending, turned}
+use Rattle.lane_drive.specs.Stops.{StopsAtItem, StopsAtReply, StopsBehind, EndsAsLanes, TakesAll, EndsBy, status_of_lanes}
+use Rattle.lane_drive.proofs.Sent.{SendsLawfully, turned_lawful}
+use Rattle.lane_drive.proofs.Endings.{begins_all, begins_of}
 use Rattle.lane_drive.proofs.Heard.{hears_line, none_heard}
 use Rattle.lane_drive.proofs.Ways.{silent}
-
--- ---- put together with what is still to come
-
-merge_rest : (a b : List Item) → IsMerge (a ++ b) a b
-merge_rest [] [] = (refl, refl)
-merge_rest [] (y ∷ b) = inr (b, refl, merge_rest [] b)
-merge_rest (x ∷ a) b = inl (a, refl, merge_rest a b)
-
-merge_one : (lane : Lane) (item : Item) (list xs ys a b : List Item) → IsMerge list (xs ++ a) (ys ++ b)
-    → IsMerge (item ∷ list) ((if is_lane First lane then item ∷ xs else xs) ++ a) ((if is_lane Second lane then item ∷ ys else ys) ++ b)
-merge_one First item list xs ys a b m = inl (xs ++ a, refl, m)
-merge_one Second item list xs ys a b m = inr (ys ++ b, refl, m)
-
-merge_more : (items a b : List Item) → IsMerge (items ++ (a ++ b)) (items_of First items ++ a) (items_of Second items ++ b)
-merge_more [] a b = merge_rest a b
-merge_more (item ∷ items) a b = merge_one item.lane item (items ++ (a ++ b)) (items_of First items) (items_of Second items) a b (merge_more items a b)
-
-begins_in : (belongs : Lane → Event → Bool) (lane : Lane) (left : Option (List ℕ)) (bytes : List ℕ) (part : List Item) → left ≡ Some bytes
-    → Begins belongs lane left part → (rest : List Item) × ((lane_input belongs lane bytes).items ≡ part ++ rest)
-begins_in belongs lane left bytes part told b =
-    let b' : Begins belongs lane (Some bytes) part = subst (λ (o : Option (List ℕ)). Begins belongs lane o part) told b in
-    (b'.begins.0, ap (λ (i : LaneInput). i.items) (sym b'.is) ∙ b'.begins.1)
 
 -- ---- what is kept of failed readings
 
@@ -135,39 +113,48 @@ module _ {S E : Type 0} (rules : LaneRules S E) where
       let states : next ≡ next' = goes_same next next' first first' (rules.hear s line) goes theirs in
       hears_on own own' a b next p q rest rest' others (subst (λ (x : S). AreHeard rules own' x q rest') (sym states) others') quiet tails
 
-  quiet_first : (items : List Item) (lines : List Line) (s t : S) (told : List (Told E)) → AreTaken rules items lines s t told → rules.waits t ≡ false
+  pub quiet_first : (items : List Item) (lines : List Line) (s t : S) (told : List (Told E)) → AreTaken rules items lines s t told → rules.waits t ≡ false
       → rules.waits s ≡ false
   quiet_first [] lines s t told taken quiet = ap rules.waits (sym taken.1) ∙ quiet
   quiet_first (item ∷ items) lines s t told (own, behind, next, entries, more, split, taken, others, is) quiet = taken.quiet
 
+  -- of an item that was taken twice, once with all replies to it, those that were heard are the first
+  same_item : (item : Item) (own own' behind behind' xs ys zs after : List Line) (s p q : S) (es fs : List E) → IsTaken rules item own s p es
+      → IsTaken rules item own' s q fs → rules.waits q ≡ false → xs ≡ own ++ behind → zs ≡ own' ++ behind' → zs ++ after ≡ xs ++ ys
+      → (more : List Line) × (gs : List E) × AreHeard rules more p q gs × (behind ++ ys ≡ more ++ (behind' ++ after))
+  same_item item own own' behind behind' xs ys zs after s p q es fs mine theirs quiet split split' same =
+      let states : mine.next ≡ theirs.next = goes_same mine.next theirs.next mine.first theirs.first (rules.take s item) mine.steps theirs.steps in
+      let lines : own ++ (behind ++ ys) ≡ own' ++ (behind' ++ after) = sym (append_assoc own behind ys)
+      ∙ (ap (λ (l : List Line). l ++ ys) (sym split) ∙ (sym same ∙ (ap (λ (l : List Line). l ++ after) split' ∙ append_assoc own' behind' after))) in
+      hears_on own own' (behind ++ ys) (behind' ++ after) mine.next p q mine.rest theirs.rest mine.heard
+      (subst (λ (x : S). AreHeard rules own' x q theirs.rest) (sym states) theirs.heard) quiet lines
+
   -- Behind some items more replies are heard, until none is awaited, and then the others are taken.
-  pub record GoesOn (rest : List Item) (u t : S) (lines : List Line) : Type 0 where
+  pub record GoesOn (rest : List Item) (u t : S) (lines after : List Line) : Type 0 where
     pub more : List Line
     pub entries : List E
     pub state : S
     pub behind : List Line
     pub told : List (Told E)
     pub hears : AreHeard rules more u state entries
-    pub lines_are : lines ≡ more ++ behind
+    pub lines_are : lines ≡ more ++ (behind ++ after)
     pub taken : AreTaken rules rest behind state t told
     pub quiet : rules.waits state ≡ false
 
-  goes_on : (items rest : List Item) (xs ys : List Line) (s u t : S) (told told' : List (Told E)) → AreTaken rules items xs s u told
-      → AreTaken rules (items ++ rest) (xs ++ ys) s t told' → rules.waits t ≡ false → GoesOn rest u t ys
-  goes_on [] rest xs ys s u t told told' mine theirs quiet =
-      let taken : AreTaken rules rest ys s t told' = subst (λ (l : List Line). AreTaken rules rest (l ++ ys) s t told') mine.0 theirs in
-      record {
-        more = [];
-        entries = [];
-        state = s;
-        behind = ys;
-        told = told';
-        hears = (sym mine.1, refl);
-        lines_are = refl;
-        taken = taken;
-        quiet = quiet_first rest ys s t told' taken quiet;
-      }
-  goes_on (item ∷ []) rest xs ys s u t told told' (own, behind, next, entries, more, split, taken, (none, same, nothing), is) (
+  goes_on : (items rest : List Item) (xs ys zs after : List Line) (s u t : S) (told told' : List (Told E)) → AreTaken rules items xs s u told
+      → AreTaken rules (items ++ rest) zs s t told' → rules.waits t ≡ false → zs ++ after ≡ xs ++ ys → GoesOn rest u t ys after
+  goes_on [] rest xs ys zs after s u t told told' mine theirs quiet same = record {
+    more = [];
+    entries = [];
+    state = s;
+    behind = zs;
+    told = told';
+    hears = (sym mine.1, refl);
+    lines_are = sym (same ∙ ap (λ (l : List Line). l ++ ys) mine.0);
+    taken = theirs;
+    quiet = quiet_first rest zs s t told' theirs quiet;
+  }
+  goes_on (item ∷ []) rest xs ys zs after s u t told told' (own, behind, next, entries, more, split, taken, (none, same, nothing), is) (
     own',
     behind',
     next',
@@ -177,12 +164,9 @@ module _ {S E : Type 0} (rules : LaneRules S E) where
     taken',
     others',
     is',
-  ) quiet =
-      let states : taken.next ≡ taken'.next = goes_same taken.next taken'.next taken.first taken'.first (rules.take s item) taken.steps taken'.steps in
+  ) quiet whole =
       let quiet' : rules.waits next' ≡ false = quiet_first rest behind' next' t more' others' quiet in
-      let lines : own ++ (behind ++ ys) ≡ own' ++ behind' = sym (append_assoc own behind ys) ∙ (ap (λ (l : List Line). l ++ ys) (sym split) ∙ split') in
-      let on = hears_on own own' (behind ++ ys) behind' taken.next next next' taken.rest taken'.rest taken.heard
-      (subst (λ (x : S). AreHeard rules own' x next' taken'.rest) (sym states) taken'.heard) quiet' lines in
+      let on = same_item item own own' behind behind' xs ys zs after s next next' entries entries' taken taken' quiet' split split' whole in
       record {
         more = on.0;
         entries = on.1;
@@ -194,7 +178,7 @@ module _ {S E : Type 0} (rules : LaneRules S E) where
         taken = others';
         quiet = quiet';
       }
-  goes_on (item ∷ other ∷ items) rest xs ys s u t told told' (own, behind, next, entries, more, split, taken, others, is) (
+  goes_on (item ∷ other ∷ items) rest xs ys zs after s u t told told' (own, behind, next, entries, more, split, taken, others, is) (
     own',
     behind',
     next',
@@ -204,17 +188,13 @@ module _ {S E : Type 0} (rules : LaneRules S E) where
     taken',
     others',
     is',
-  ) quiet =
-      let states : taken.next ≡ taken'.next = goes_same taken.next taken'.next taken.first taken'.first (rules.take s item) taken.steps taken'.steps in
+  ) quiet whole =
       let quiet' : rules.waits next' ≡ false = quiet_first (other ∷ (items ++ rest)) behind' next' t more' others' quiet in
-      let lines : own ++ (behind ++ ys) ≡ own' ++ behind' = sym (append_assoc own behind ys) ∙ (ap (λ (l : List Line). l ++ ys) (sym split) ∙ split') in
-      let on = hears_on own own' (behind ++ ys) behind' taken.next next next' taken.rest taken'.rest taken.heard
-      (subst (λ (x : S). AreHeard rules own' x next' taken'.rest) (sym states) taken'.heard) quiet' lines in
+      let on = same_item item own own' behind behind' xs ys zs after s next next' entries entries' taken taken' quiet' split split' whole in
       let none = none_heard rules next next' on.0 on.1 others.6.quiet on.2 in
-      let lines' : behind ++ ys ≡ behind' = on.3 ∙ ap (λ (l : List Line). l ++ behind') none.0 in
-      goes_on (other ∷ items) rest behind ys next u t more more' others
-      (subst (λ (x : S). AreTaken rules (other ∷ (items ++ rest)) (behind ++ ys) x t more') none.1
-      (subst (λ (l : List Line). AreTaken rules (other ∷ (items ++ rest)) l next' t more') (sym lines') others')) quiet
+      let tails : behind ++ ys ≡ behind' ++ after = on.3 ∙ ap (λ (l : List Line). l ++ (behind' ++ after)) none.0 in
+      goes_on (other ∷ items) rest behind ys behind' after next u t more more' others
+      (subst (λ (x : S). AreTaken rules (other ∷ (items ++ rest)) behind' x t more') none.1 others') quiet (sym tails)
 
   -- where a reply is awaited, one more is heard
   first_more : (more : List Line) (u v : S) (es : List E) → AreHeard rules more u v es → rules.waits u ≡ true → rules.waits v ≡ false
@@ -288,10 +268,10 @@ module _ {S E : Type 0} (rules : LaneRules S E) where
       let e : u.line ∷ next.lines ≡ [] = sym u.comes.0 ∙ lines in
       absurd (cc)
 
-module _ {S E : Type 0} (belongs : Lane → Event → Bool) (rules : LaneRules S E) (start : S)
-    (never : rules.hears ≡ false → (x : S) → rules.waits x ≡ false) where
+-- ---- where all can be read
+module _ (belongs : Lane → Event → Bool) where
   -- the lane was read to its end
-  stops_told : (lane : Lane) (left : Option (List ℕ)) (bytes : List ℕ) (items : List Item) (end : LaneEnd) → left ≡ Some bytes
+  pub stops_told : (lane : Lane) (left : Option (List ℕ)) (bytes : List ℕ) (items : List Item) (end : LaneEnd) → left ≡ Some bytes
       → IsInputOf belongs lane left (record { items = items; end = end }) → record { items = items; end = end } ≡ lane_input belongs lane bytes
   stops_told lane left bytes items end told is =
       let at_left : Option (List ℕ) → Type 0 = λ o. IsInputOf belongs lane o (record { items = items; end = end }) in
@@ -303,20 +283,24 @@ module _ {S E : Type 0} (belongs : Lane → Event → Bool) (rules : LaneRules S
 
   lane_done : (lane : Lane) (before after : SourceView) (bytes : List ℕ) (items : List Item) (end : LaneEnd) → before.left ≡ Some bytes
       → (lane_input belongs lane bytes).end ≡ Done → end ≢ NoMemory → (Rose before.faults after.faults → ⊥)
-      → Sends belongs lane before after items end → (end ≡ Done) × ((lane_input belongs lane bytes).items ≡ items)
-  lane_done lane before after bytes items Done told done known none sends =
-      (refl, ap (λ (i : LaneInput). i.items) (sym (stops_told lane before.left bytes items Done told sends.0)))
+      → Sends belongs lane before after items end → end ≡ Done
+  lane_done lane before after bytes items Done told done known none sends = refl
   lane_done lane before after bytes items ReadFault told done known none sends = absurd (none sends.1)
   lane_done lane before after bytes items (LineLimit number) told done known none sends =
-      let e : LineLimit number ≡ Done = ends_not lane before.left bytes items (LineLimit number) told done sends in
-      absurd (cc)
-  lane_done lane before after bytes items InputLimit told done known none sends =
-      let e : InputLimit ≡ Done = ends_not lane before.left bytes items InputLimit told done sends in
-      absurd (cc)
+      ends_not lane before.left bytes items (LineLimit number) told done sends
+  lane_done lane before after bytes items InputLimit told done known none sends = ends_not lane before.left bytes items InputLimit told done sends
   lane_done lane before after bytes items (BadLine number wrong) told done known none sends =
-      let e : BadLine number wrong ≡ Done = ends_not lane before.left bytes items (BadLine number wrong) told done sends in
-      absurd (cc)
+      ends_not lane before.left bytes items (BadLine number wrong) told done sends
   lane_done lane before after bytes items NoMemory told done known none sends = absurd (known refl)
+
+module _ {S E U V : Type 0} (TurnsFirst : U → U → Event → Event → Type 0) (TurnsSecond : V → V → Event → Event → Type 0) (belongs : Lane → Event → Bool)
+    (u u' : U) (v v' : V) (rules : LaneRules S E) (start : S) (never : rules.hears ≡ false → (x : S) → rules.waits x ≡ false) where
+  -- what both lanes send
+  abbrev sending : Sending
+  sending = turned TurnsFirst TurnsSecond belongs u u' v v'
+
+  laws : SendsLawfully sending
+  laws = turned_lawful
 
   hears_there : (b : Bool) (s : S) → rules.hears ≡ b → rules.waits s ≡ true → rules.hears ≡ true
   hears_there true s is waits = is
@@ -325,21 +309,8 @@ module _ {S E : Type 0} (belongs : Lane → Event → Bool) (rules : LaneRules S
       absurd (cc)
 
   module _ (first first' second second' : SourceView) (before after : Outside) (fresh : before.reading ≡ unread)
-      (ready : AreReadable belongs rules start first.left second.left before.replies.left)
+      (ready : AreSent belongs rules start sending first.left second.left before.replies.left)
       (unrisen : Rose before.replies.faults after.replies.faults → ⊥) (unrisen' : Rose before.faults after.faults → ⊥) where
-    -- all that is still to come can be taken behind a beginning
-    can_more : (part : List Item) → AreBeginnings belongs first.left second.left part
-        → (rest : List Item) × (t : S) × (told : List (Told E)) × AreTaken rules (part ++ rest) ready.lines start t told × (rules.waits t ≡ false)
-    can_more part begin =
-        let a = begins_in belongs First first.left ready.one (items_of First part) ready.first_is begin.firsts in
-        let b = begins_in belongs Second second.left ready.two (items_of Second part) ready.second_is begin.seconds in
-        let items = part ++ (a.0 ++ b.0) in
-        let merge : IsMerge items (lane_input belongs First ready.one).items (lane_input belongs Second ready.two).items =
-        subst (λ (l : List Item). IsMerge items l (lane_input belongs Second ready.two).items) (sym a.1)
-        (subst (λ (l : List Item). IsMerge items (items_of First part ++ a.0) l) (sym b.1) (merge_more part a.0 b.0)) in
-        let can = ready.taken items merge in
-        (a.0 ++ b.0, can.0, can.1, can.2, can.3)
-
     -- the lines behind those that were heard
     module _ (items : List Item) (state : S) (told : List (Told E)) (mid : Outside) (drove : Drives rules items start state told before mid) where
       comes_told : (bytes : List ℕ) → before.replies.left ≡ Some bytes → Follows (Some (input_of bytes)) drove.replies (to_come mid.reading mid.replies.left)
@@ -351,7 +322,7 @@ module _ {S E : Type 0} (belongs : Lane → Event → Bool) (rules : LaneRules S
       heard_left : rules.hears ≡ true → (input : Input) × (to_come mid.reading mid.replies.left ≡ Some input) × (ready.lines ≡ drove.replies ++ input.lines)
           × (input.ending ≡ Whole)
       heard_left hears =
-          let heard = ready.heard hears in
+          let heard = ready.events.heard hears in
           comes_left heard.0 ready.lines drove.replies (to_come mid.reading mid.replies.left) (comes_told heard.0 heard.1) heard.2
 
       left_by : (b : Bool) → rules.hears ≡ b → (lines : List Line) × (ready.lines ≡ drove.replies ++ lines)
@@ -360,7 +331,7 @@ module _ {S E : Type 0} (belongs : Lane → Event → Bool) (rules : LaneRules S
           (l.0.lines, l.2)
       left_by false is =
           let none : drove.replies ≡ [] = silent rules items drove.replies start state told (never is) drove.taken in
-          ([], ready.unheard is ∙ (sym none ∙ sym (append-nil drove.replies)))
+          ([], ready.events.unheard is ∙ (sym none ∙ sym (append-nil drove.replies)))
 
       unrisen_mid : Rose mid.replies.faults after.replies.faults → ⊥
       unrisen_mid rose = unrisen (omega (arith, rose, drove.reads))
@@ -369,15 +340,23 @@ module _ {S E : Type 0} (belongs : Lane → Event → Bool) (rules : LaneRules S
       unrisen_mid' rose = unrisen' (omega (arith, rose, drove.writes))
 
       -- behind the items the others can be taken
-      then_taken : (rest : List Item) (t : S) (told' : List (Told E)) (lines : List Line) → AreTaken rules (items ++ rest) ready.lines start t told'
-          → rules.waits t ≡ false → ready.lines ≡ drove.replies ++ lines → GoesOn rules rest state t lines
-      then_taken rest t told' lines can quiet are =
-          goes_on rules items rest drove.replies lines start state t told told' drove.taken
-          (subst (λ (l : List Line). AreTaken rules (items ++ rest) l start t told') are can) quiet
+      then_taken : (others : List Item) (heard after : List Line) (t : S) (told' : List (Told E)) → AreTaken rules (items ++ others) heard start t told'
+          → rules.waits t ≡ false → ready.lines ≡ heard ++ after → (lines : List Line) → ready.lines ≡ drove.replies ++ lines
+          → GoesOn rules others state t lines after
+      then_taken others heard after t told' can quiet split lines are =
+          goes_on rules items others drove.replies lines heard after start state t told told' drove.taken can quiet (sym split ∙ are)
 
-    item_goes : (item : Item) (rest : List Item) (u t : S) (lines : List Line) (on : GoesOn rules (item ∷ rest) u t lines) → rules.waits u ≡ false
+      -- and behind them their replies are heard
+      then_heard : (takes : TakesFirst sending rules start first.left second.left ready.lines items) (lines : List Line)
+          → ready.lines ≡ drove.replies ++ lines → GoesOn rules [] state takes.state lines takes.rest
+      then_heard takes lines are =
+          then_taken [] takes.heard takes.rest takes.state takes.told
+          (subst (λ (l : List Item). AreTaken rules l takes.heard start takes.state takes.told) (sym (append-nil items)) takes.taken) takes.quiet takes.split
+          lines are
+
+    item_goes : (item : Item) (u t : S) (lines after : List Line) (on : GoesOn rules (item ∷ []) u t lines after) → rules.waits u ≡ false
         → (next : S) × (es : List E) × (rules.take u item ≡ Goes next es)
-    item_goes item rest u t lines on quiet =
+    item_goes item u t lines after on quiet =
         let none = none_heard rules u on.state on.more on.entries quiet on.hears in
         let taken = on.taken.6 in
         (taken.next, taken.first, ap (λ (x : S). rules.take x item) (sym none.1) ∙ taken.steps)
@@ -392,63 +371,62 @@ module _ {S E : Type 0} (belongs : Lane → Event → Bool) (rules : LaneRules S
     item_memory status item u next es b a writes writes' goes none (inr (halts.WriteFault, is, h)) = absurd (none h.halts.1)
     item_memory status item u next es b a writes writes' goes none (inr (halts.NoMemory, is, h)) = is
 
-    at_item : (status : Status) → StopsAtItem belongs rules start first first' second second' before after status → status ≡ statuses.NoMemory
+    at_item : (status : Status) → StopsAtItem sending rules start first first' second second' before after status → status ≡ statuses.NoMemory
     at_item status s =
-        let part = s.items ++ s.item ∷ [] in
-        let begin = begins_of belongs rules start first first' second second' (s.items ++ s.item ∷ s.dropped) part s.dropped s.end s.end' s.lanes
-        (sym (append_assoc s.items (s.item ∷ []) s.dropped)) in
-        let can = can_more part begin in
-        let all : AreTaken rules (s.items ++ s.item ∷ can.0) ready.lines start can.1 can.2 =
-        subst (λ (l : List Item). AreTaken rules l ready.lines start can.1 can.2) (append_assoc s.items (s.item ∷ []) can.0) can.3 in
+        let begin = begins_of laws rules start first first' second second' (s.items ++ s.item ∷ s.dropped) (s.items ++ s.item ∷ []) s.dropped s.end s.end'
+        s.lanes (sym (append_assoc s.items (s.item ∷ []) s.dropped)) in
+        let takes = ready.taken (s.items ++ s.item ∷ []) begin in
         let l = left_by s.items s.state s.told s.mid s.drove rules.hears refl in
-        let on = then_taken s.items s.state s.told s.mid s.drove (s.item ∷ can.0) can.1 can.2 l.0 all can.4 l.1 in
-        let goes = item_goes s.item can.0 s.state can.1 l.0 on s.quiet in
+        let on = then_taken s.items s.state s.told s.mid s.drove (s.item ∷ []) takes.heard takes.rest takes.state takes.told takes.taken takes.quiet takes.split
+        l.0 l.1 in
+        let goes = item_goes s.item s.state takes.state l.0 takes.rest on s.quiet in
         item_memory status s.item s.state goes.0 goes.1 s.mid.written after.written s.mid.faults after.faults goes.2
         (unrisen_mid' s.items s.state s.told s.mid s.drove) s.stops
 
-    at_reply : (status : Status) → StopsAtReply belongs rules start first first' second second' before after status → status ≡ statuses.NoMemory
+    at_reply : (status : Status) → StopsAtReply sending rules start first first' second second' before after status → status ≡ statuses.NoMemory
     at_reply status s =
-        let begin = begins_of belongs rules start first first' second second' (s.items ++ s.dropped) s.items s.dropped s.end s.end' s.lanes refl in
-        let can = can_more s.items begin in
+        let takes = ready.taken s.items
+        (begins_of laws rules start first first' second second' (s.items ++ s.dropped) s.items s.dropped s.end s.end' s.lanes refl) in
         let l = heard_left s.items s.state s.told s.mid s.drove (hears_there rules.hears s.state refl s.waits) in
-        let on = then_taken s.items s.state s.told s.mid s.drove can.0 can.1 can.2 l.0.lines can.3 can.4 l.2 in
+        let on = then_heard s.items s.state s.told s.mid s.drove takes l.0.lines l.2 in
         let one = first_more rules on.more s.state on.state on.entries on.hears s.waits on.quiet in
-        let lines : l.0.lines ≡ one.0 ∷ (one.1 ++ on.behind) = on.lines_are ∙ ap (λ (m : List Line). m ++ on.behind) one.4 in
+        let lines : l.0.lines ≡ one.0 ∷ (one.1 ++ (on.behind ++ takes.rest)) =
+        on.lines_are ∙ ap (λ (m : List Line). m ++ (on.behind ++ takes.rest)) one.4 in
         let stops : Ends (reply_rules rules) s.state status (Some l.0) (to_come after.reading after.replies.left) after.reading.held after.replies.left
         s.mid.written after.written s.mid.replies.faults after.replies.faults s.mid.faults after.faults =
         subst (λ (o : Option Input). Ends (reply_rules rules) s.state status o (to_come after.reading after.replies.left) after.reading.held after.replies.left
         s.mid.written after.written s.mid.replies.faults after.replies.faults s.mid.faults after.faults) l.1 s.stops in
-        can_hear rules s.state one.2 status l.0 one.0 (one.1 ++ on.behind) one.3 _ _ _ _ _ s.mid.replies.faults after.replies.faults s.mid.faults after.faults
-        lines l.3 s.waits one.5
+        can_hear rules s.state one.2 status l.0 one.0 (one.1 ++ (on.behind ++ takes.rest)) one.3 _ _ _ _ _ s.mid.replies.faults after.replies.faults
+        s.mid.faults after.faults lines l.3 s.waits one.5
         (unrisen_mid s.items s.state s.told s.mid s.drove) (unrisen_mid' s.items s.state s.told s.mid s.drove) stops
 
     -- where no reading of the lanes failed, all that both carry was taken
     module _ (unrisen_first : Rose first.faults first'.faults → ⊥) (unrisen_second : Rose second.faults second'.faults → ⊥) where
-      both_done : (mid : Outside) (end end' : LaneEnd) (all : TakesAll belongs rules start first first' second second' before mid end end')
-          → ((end ≡ Done) × ((lane_input belongs First ready.one).items ≡ items_of First all.items))
-          × ((end' ≡ Done) × ((lane_input belongs Second ready.two).items ≡ items_of Second all.items))
+      both_done : (mid : Outside) (end end' : LaneEnd) (all : TakesAll sending rules start first first' second second' before mid end end')
+          → (end ≡ Done) × (end' ≡ Done)
       both_done mid end end' all = (
-        lane_done First first first' ready.one (items_of First all.items) end ready.first_is ready.first_done all.known.0 unrisen_first
-            all.lanes.first_ended.sends,
-        lane_done Second second second' ready.two (items_of Second all.items) end' ready.second_is ready.second_done all.known.1 unrisen_second
-            all.lanes.second_ended.sends,
+        lane_done belongs First first first' ready.events.one all.lanes.first_ended.items end ready.events.first_is ready.events.first_done all.known.0
+            unrisen_first all.lanes.first_ended.ended.sends,
+        lane_done belongs Second second second' ready.events.two all.lanes.second_ended.items end' ready.events.second_is ready.events.second_done all.known.1
+            unrisen_second all.lanes.second_ended.ended.sends,
       )
 
-      behind_last : (status : Status) → StopsBehind belongs rules start first first' second second' before after status
+      behind_last : (status : Status) → StopsBehind sending rules start first first' second second' before after status
           → (status ≡ statuses.Done) ⊎ (status ≡ statuses.NoMemory)
       behind_last status s =
           let done = both_done s.mid s.end s.end' s.all in
           let items = s.all.items in
-          let merge : IsMerge items (lane_input belongs First ready.one).items (lane_input belongs Second ready.two).items =
-          subst (λ (l : List Item). IsMerge items l (lane_input belongs Second ready.two).items) (sym (done.0).1)
-          (subst (λ (l : List Item). IsMerge items (items_of First items) l) (sym (done.1).1) s.all.lanes.merge) in
-          let can = ready.taken items merge in
-          let all : AreTaken rules (items ++ []) ready.lines start can.0 can.1 =
-          subst (λ (l : List Item). AreTaken rules l ready.lines start can.0 can.1) (sym (append-nil items)) can.2 in
+          let ended : sending.Ended first first' second second' items Done Done =
+          subst (λ (end : LaneEnd). sending.Ended first first' second second' items Done end) done.1
+          (subst (λ (end : LaneEnd). sending.Ended first first' second second' items end s.end') done.0 s.all.lanes) in
+          let whole = laws.whole first first' second second' items ended in
+          let begin = begins_all laws rules start first first' second second' items s.end s.end' s.all.lanes in
+          let takes = ready.taken items begin in
           let l = heard_left items s.all.state s.all.told s.mid s.all.drove s.hears in
-          let on = then_taken items s.all.state s.all.told s.mid s.all.drove [] can.0 can.1 l.0.lines all can.3 l.2 in
+          let on = then_heard items s.all.state s.all.told s.mid s.all.drove takes l.0.lines l.2 in
           let none = none_heard rules s.all.state on.state on.more on.entries s.all.quiet on.hears in
-          let lines : l.0.lines ≡ [] = on.lines_are ∙ (ap (λ (m : List Line). m ++ on.behind) none.0 ∙ on.taken.0) in
+          let lines : l.0.lines ≡ [] = on.lines_are ∙ (ap (λ (m : List Line). m ++ (on.behind ++ takes.rest)) none.0
+          ∙ (ap (λ (m : List Line). m ++ takes.rest) on.taken.0 ∙ takes.all whole.0 whole.1)) in
           let stops : Ends (reply_rules rules) s.all.state status (Some l.0) (to_come after.reading after.replies.left) after.reading.held after.replies.left
           s.mid.written after.written s.mid.replies.faults after.replies.faults s.mid.faults after.faults =
           subst (λ (o : Option Input). Ends (reply_rules rules) s.all.state status o (to_come after.reading after.replies.left) after.reading.held
@@ -456,14 +434,14 @@ module _ {S E : Type 0} (belongs : Lane → Event → Bool) (rules : LaneRules S
           no_line rules s.all.state status l.0 _ _ _ _ _ s.mid.replies.faults after.replies.faults s.mid.faults after.faults lines l.3 s.all.quiet
           (unrisen_mid items s.all.state s.all.told s.mid s.all.drove) stops
 
-      as_lanes : (status : Status) → EndsAsLanes belongs rules start first first' second second' before after status → status ≡ statuses.Done
+      as_lanes : (status : Status) → EndsAsLanes sending rules start first first' second second' before after status → status ≡ statuses.Done
       as_lanes status s =
           let done = both_done s.mid s.end s.end' s.all in
           let ends : status_of_lanes rules.name s.end s.end' ≡ statuses.Done =
-          ap (λ (e : LaneEnd). status_of_lanes rules.name e s.end') (done.0).0 ∙ ap (λ (e : LaneEnd). status_of_lanes rules.name Done e) (done.1).0 in
+          ap (λ (e : LaneEnd). status_of_lanes rules.name e s.end') done.0 ∙ ap (λ (e : LaneEnd). status_of_lanes rules.name Done e) done.1 in
           s.is ∙ ends
 
-      pub ends_done : (status : Status) → EndsSo belongs rules start first first' second second' before after status
+      pub ends_done : (status : Status) → EndsBy sending rules start first first' second second' before after status
           → (status ≡ statuses.Done) ⊎ (status ≡ statuses.NoMemory)
       ends_done status (inl s) = inr (at_item status s)
       ends_done status (inr (inl s)) = inr (at_reply status s)
@@ -486,9 +464,10 @@ module _ {S E : Type 0} (belongs : Lane → Event → Bool) (rules : LaneRules S
         fails (inr two) = grows_not files.failed_opens file' (sym same ∙ two.1)
 
     by_status : (status ≡ statuses.NoMemory) ⊎ (status ≢ statuses.NoMemory)
-        → EndsWith belongs rules start file file' files files' first second replies replies' before after writes writes' status
-        → AreReadable belongs rules start first.left second.left replies.left → files'.failed_reads ≡ files.failed_reads → (Rose replies.faults replies'.faults
-        → ⊥) → (Rose writes writes' → ⊥) → first.faults ≡ 0 → second.faults ≡ 0 → (status ≡ statuses.Done) ⊎ (status ≡ statuses.NoMemory)
+        → EndsWith sending rules start file file' files files' first second replies replies' before after writes writes' status
+        → AreSent belongs rules start sending first.left second.left replies.left → files'.failed_reads ≡ files.failed_reads
+        → (Rose replies.faults replies'.faults → ⊥) → (Rose writes writes' → ⊥)
+        → first.faults ≡ 0 → second.faults ≡ 0 → (status ≡ statuses.Done) ⊎ (status ≡ statuses.NoMemory)
     by_status (inl memory) ends ready same none none' unread' unread'' = inr memory
     by_status (inr known) ends ready same none none' unread' unread'' =
         let kept = none_closed files.failed_reads file file' ends.first'.faults ends.second'.faults (sym same ∙ ends.kept known) in
@@ -498,8 +477,8 @@ module _ {S E : Type 0} (belongs : Lane → Event → Bool) (rules : LaneRules S
         (λ rose. unrisen_from ends.second'.faults kept.1 (subst (λ (n : ℕ). Rose n ends.second'.faults) unread'' rose)) status ends.ends
 
     -- the run is done where all can be taken
-    pub complete : AtEnd belongs rules start file file' files files' first second replies replies' before after writes writes' status
+    pub complete : EndOf sending rules start file file' files files' first second replies replies' before after writes writes' status
         → AtOpenFault rules.name file file' status files files' → first.faults ≡ 0 → second.faults ≡ 0
-        → IsComplete belongs rules start first.left second.left status files files' replies.left replies.faults replies'.faults writes writes'
+        → CompleteOf belongs rules start sending first.left second.left status files files' replies.left replies.faults replies'.faults writes writes'
     complete at_end opens unread' unread'' ready same_opens same_reads none none' =
         by_status (is_memory status) (at_end (opened_not opens same_opens)) ready same_reads none none' unread' unread''

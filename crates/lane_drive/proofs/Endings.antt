@@ -4,7 +4,6 @@ use Rattle.std.proofs.Common.{◌∷◌, ◌++◌, Option, Some, None, refl, sym
 use Rattle.std.specs.Bool.{⊤}
 use Rattle.std.specs.List.{flat_map}
 use Rattle.std.proofs.lemmas.List.{append-nil}
-use Rattle.kube_model.specs.declared.event.Event.{Event}
 use Rattle.kube_model.specs.declared.put.Put.{Put}
 use Rattle.kube_model.specs.declared.status.LaneName.{LaneName}
 use Rattle.kube_model.specs.declared.status.LaneName.TheVariants as lanes
@@ -13,13 +12,9 @@ use Rattle.kube_model.specs.declared.status.Status.TheVariants as statuses
 use Rattle.lane_mail.specs.declared.lane.Lane.{Lane}
 use Rattle.lane_mail.specs.declared.lane.Lane.TheVariants.{First, Second}
 use Rattle.lane_mail.specs.declared.item.Item.{Item}
-use Rattle.lane_mail.specs.Lanes.{items_of}
 use Rattle.lane_run.specs.declared.lane_end.LaneEnd.{LaneEnd}
 use Rattle.lane_run.specs.declared.lane_end.LaneEnd.TheVariants.{Done, ReadFault, LineLimit, InputLimit, BadLine, NoMemory}
 use Rattle.lane_run.specs.Views.{SourceView, Outside}
-use Rattle.lane_run.specs.Ran.{LanesEnded}
-use Rattle.lane_run.specs.Watched.{Sends}
-use Rattle.lane_run.proofs.RanSo.{begins_part}
 use Rattle.line_run.specs.declared.halt.Halt.{Halt}
 use Rattle.line_run.specs.declared.halt.Halt.TheVariants as halts
 use Rattle.line_run.specs.declared.halt.Refusal.{Refusal}
@@ -36,10 +31,12 @@ use Rattle.mlb_edge.specs.Reading.{Reading}
 use Rattle.mlb_edge.specs.InputLines.{Input, Whole, Follows, EndsAs, to_come, Follows-refl, Follows-append}
 use Rattle.mlb_edge.specs.Written.{Grows}
 use Rattle.lane_drive.specs.Causes.{held_status, reply_causes, end_causes}
-use Rattle.lane_drive.specs.Clauses.{AreLinesOf, TakesWhole, unread}
+use Rattle.lane_drive.specs.Clauses.{AreLinesOf, TakesAllOf, unread}
 use Rattle.lane_drive.specs.Drive.{Told, Drives, told_text}
 use Rattle.lane_drive.specs.LaneRules.{LaneRules, IsHeldLimit, reply_rules, item_text, HaltsItem}
-use Rattle.lane_drive.specs.Stops.{status_of_lane, status_of_lanes, AreBeginnings, EndsAsLanes, WritesUpTo, EndsSo}
+use Rattle.lane_drive.specs.Sending.{Sending}
+use Rattle.lane_drive.specs.Stops.{status_of_lane, status_of_lanes, EndsAsLanes, WritesBegun, EndsBy}
+use Rattle.lane_drive.proofs.Sent.{SendsLawfully}
 use Rattle.lane_drive.proofs.Faults.{IsIllBy, line_ill, end_ill, halt_ill, ill_since, ends_ill}
 use Rattle.lane_drive.proofs.Taken.{told_text-append, AreTaken-append, hears_last, one_told, takes_one}
 
@@ -90,26 +87,23 @@ module _ (name : Lane → LaneName) where
   lanes_done (BadLine number bytes) end' e = absurd (cc)
   lanes_done NoMemory end' e = absurd (cc)
 
-  module _ (belongs : Lane → Event → Bool) where
-    lane_read : (lane : Lane) (before after : SourceView) (items : List Item) (own told : LaneName) (end : LaneEnd) → Sends belongs lane before after items end
-        → statuses.ReadFault told ≡ status_of_lane own end → (told ≡ own) × Rose before.faults after.faults
-    lane_read lane before after items own told Done sends e = absurd (cc)
-    lane_read lane before after items own told ReadFault sends e = (cc, sends.1)
-    lane_read lane before after items own told (LineLimit number) sends e = absurd (cc)
-    lane_read lane before after items own told InputLimit sends e = absurd (cc)
-    lane_read lane before after items own told (BadLine number bytes) sends e = absurd (cc)
-    lane_read lane before after items own told NoMemory sends e = absurd (cc)
+  lane_read : (own told : LaneName) (end : LaneEnd) → statuses.ReadFault told ≡ status_of_lane own end → (told ≡ own) × (end ≡ ReadFault)
+  lane_read own told Done e = absurd (cc)
+  lane_read own told ReadFault e = (cc, refl)
+  lane_read own told (LineLimit number) e = absurd (cc)
+  lane_read own told InputLimit e = absurd (cc)
+  lane_read own told (BadLine number bytes) e = absurd (cc)
+  lane_read own told NoMemory e = absurd (cc)
 
-    -- a read fault of a lane is one of its file
-    lanes_read : (first first' second second' : SourceView) (xs ys : List Item) (told : LaneName) (end end' : LaneEnd) → Sends belongs First first first' xs end
-        → Sends belongs Second second second' ys end' → statuses.ReadFault told ≡ status_of_lanes name end end'
-        → ((told ≡ name First) × Rose first.faults first'.faults) ⊎ ((told ≡ name Second) × Rose second.faults second'.faults)
-    lanes_read first first' second second' xs ys told Done end' sends sends' e = inr (lane_read Second second second' ys (name Second) told end' sends' e)
-    lanes_read first first' second second' xs ys told ReadFault end' sends sends' e = inl (lane_read First first first' xs (name First) told ReadFault sends e)
-    lanes_read first first' second second' xs ys told (LineLimit number) end' sends sends' e = absurd (cc)
-    lanes_read first first' second second' xs ys told InputLimit end' sends sends' e = absurd (cc)
-    lanes_read first first' second second' xs ys told (BadLine number bytes) end' sends sends' e = absurd (cc)
-    lanes_read first first' second second' xs ys told NoMemory end' sends sends' e = absurd (cc)
+  -- a read fault is that of a lane
+  lanes_read : (told : LaneName) (end end' : LaneEnd) → statuses.ReadFault told ≡ status_of_lanes name end end'
+      → ((told ≡ name First) × (end ≡ ReadFault)) ⊎ ((told ≡ name Second) × (end' ≡ ReadFault))
+  lanes_read told Done end' e = inr (lane_read (name Second) told end' e)
+  lanes_read told ReadFault end' e = inl (lane_read (name First) told ReadFault e)
+  lanes_read told (LineLimit number) end' e = absurd (cc)
+  lanes_read told InputLimit end' e = absurd (cc)
+  lanes_read told (BadLine number bytes) end' e = absurd (cc)
+  lanes_read told NoMemory end' e = absurd (cc)
 
 -- the replies are all lines of the input
 heard_all : (left : Option (List ℕ)) (reading : Reading) (left' : Option (List ℕ)) (replies : List Line)
@@ -119,12 +113,12 @@ heard_all (Some bytes) reading None replies follows ends = absurd follows
 heard_all (Some bytes) reading (Some more) replies follows ends =
     (follows.0 ∙ (ap (λ (input : Input). replies ++ input.lines) ends ∙ append-nil replies), follows.1 ∙ ap (λ (input : Input). input.ending) ends)
 
-module _ {S E : Type 0} (belongs : Lane → Event → Bool) (rules : LaneRules S E) (start : S) where
+module _ {S E : Type 0} {sending : Sending} (laws : SendsLawfully sending) (rules : LaneRules S E) (start : S) where
   -- A beginning of the text of what was driven, and of the next item or reply, was written.
   module _ (quiet : rules.waits start ≡ false) (first second : Option (List ℕ)) (items : List Item) (state : S) (told : List (Told E)) (before mid : Outside)
       (drove : Drives rules items start state told before mid) (after : Option (List ℕ)) where
-    upto_still : AreBeginnings belongs first second items → Grows mid.written after []
-        → WritesUpTo belongs rules start first second (to_come before.reading before.replies.left) before.written after
+    upto_still : sending.Begins first second items → Grows mid.written after []
+        → WritesBegun sending rules start first second (to_come before.reading before.replies.left) before.written after
     upto_still begin nothing = record {
       items = items;
       replies = drove.replies;
@@ -137,9 +131,9 @@ module _ {S E : Type 0} (belongs : Lane → Event → Bool) (rules : LaneRules S
       wrote = upto_all before.written after (told_text rules told) (nothing_more before.written mid.written after (told_text rules told) drove.wrote nothing);
     }
 
-    upto_item : (item : Item) (next : S) (entries : List E) → AreBeginnings belongs first second (items ++ item ∷ []) → rules.waits state ≡ false
+    upto_item : (item : Item) (next : S) (entries : List E) → sending.Begins first second (items ++ item ∷ []) → rules.waits state ≡ false
         → rules.take state item ≡ Goes next entries → GrowsUpTo mid.written after (item_text rules item entries)
-        → WritesUpTo belongs rules start first second (to_come before.reading before.replies.left) before.written after
+        → WritesBegun sending rules start first second (to_come before.reading before.replies.left) before.written after
     upto_item item next entries begin quiet' steps part =
         let more = one_told item (entries ++ []) in
         let text : told_text rules (told ++ more) ≡ told_text rules told ++ item_text rules item entries =
@@ -160,10 +154,10 @@ module _ {S E : Type 0} (belongs : Lane → Event → Bool) (rules : LaneRules S
         }
 
     upto_reply : (b : Bool) (line : Line) (next : S) (entries : List E) (next' : Option Input)
-        → Follows (to_come mid.reading mid.replies.left) (line ∷ []) next' → rules.waits state ≡ b → AreBeginnings belongs first second items
+        → Follows (to_come mid.reading mid.replies.left) (line ∷ []) next' → rules.waits state ≡ b → sending.Begins first second items
         → (if b then rules.hear state line else Stops (statuses.BadReply line.number line.bytes)) ≡ Goes next entries
         → GrowsUpTo mid.written after (flat_map rules.text entries)
-        → WritesUpTo belongs rules start first second (to_come before.reading before.replies.left) before.written after
+        → WritesBegun sending rules start first second (to_come before.reading before.replies.left) before.written after
     upto_reply false line next entries next' comes waits begin steps part = absurd (cc)
     upto_reply true line next entries next' comes waits begin steps part =
         let last = hears_last rules items drove.replies start state next told line entries quiet drove.taken waits steps in
@@ -181,8 +175,8 @@ module _ {S E : Type 0} (belongs : Lane → Event → Bool) (rules : LaneRules S
         }
 
     upto_halted : (halt : Halt) (line : Line) (writes writes' : ℕ) (next' : Option Input) → Follows (to_come mid.reading mid.replies.left) (line ∷ []) next'
-        → AreBeginnings belongs first second items → HaltsAt halt (reply_rules rules) state line mid.written after writes writes'
-        → WritesUpTo belongs rules start first second (to_come before.reading before.replies.left) before.written after
+        → sending.Begins first second items → HaltsAt halt (reply_rules rules) state line mid.written after writes writes'
+        → WritesBegun sending rules start first second (to_come before.reading before.replies.left) before.written after
     upto_halted halts.WriteFault line writes writes' next' comes begin b = upto_reply (rules.waits state) line b.next b.entries next' comes refl begin b.steps
         (part_upto mid.written after (flat_map rules.text b.entries) b.halts.0)
     upto_halted halts.NoMemory line writes writes' next' comes begin (inl nothing) = upto_still begin nothing
@@ -190,53 +184,51 @@ module _ {S E : Type 0} (belongs : Lane → Event → Bool) (rules : LaneRules S
         upto_reply (rules.waits state) line b.next b.entries next' comes refl begin b.steps b.halts
 
     upto_refused : (refusal : Refusal) (line : Line) (writes writes' : ℕ) (next' : Option Input) → Follows (to_come mid.reading mid.replies.left)
-        (line ∷ []) next' → AreBeginnings belongs first second items → Refuses refusal (reply_rules rules) state line mid.written after writes writes'
-        → WritesUpTo belongs rules start first second (to_come before.reading before.replies.left) before.written after
+        (line ∷ []) next' → sending.Begins first second items → Refuses refusal (reply_rules rules) state line mid.written after writes writes'
+        → WritesBegun sending rules start first second (to_come before.reading before.replies.left) before.written after
     upto_refused (Stopped status) line writes writes' next' comes begin r = upto_still begin r.1
     upto_refused (Halted halt) line writes writes' next' comes begin r = upto_halted halt line writes writes' next' comes begin r
 
     pub upto_read : (status : Status) (next : Option Input) (held' : List ℕ) (left' : Option (List ℕ)) (reads reads' writes writes' : ℕ)
-        → AreBeginnings belongs first second items
+        → sending.Begins first second items
         → Ends (reply_rules rules) state status (to_come mid.reading mid.replies.left) next held' left' mid.written after reads reads' writes writes'
-        → WritesUpTo belongs rules start first second (to_come before.reading before.replies.left) before.written after
+        → WritesBegun sending rules start first second (to_come before.reading before.replies.left) before.written after
     upto_read status next held' left' reads reads' writes writes' begin (inl (last, nothing)) = upto_still begin nothing
     upto_read status next held' left' reads reads' writes writes' begin (inr (inl (u, nothing))) = upto_still begin nothing
     upto_read status next held' left' reads reads' writes writes' begin (inr (inr u)) =
         upto_refused u.refusal u.line writes writes' next u.comes begin u.refuses
 
-    upto_unwritten : (halt : Halt) (item : Item) (writes writes' : ℕ) → AreBeginnings belongs first second items
-        → AreBeginnings belongs first second (items ++ item ∷ []) → rules.waits state ≡ false → HaltsItem halt rules state item mid.written after writes writes'
-        → WritesUpTo belongs rules start first second (to_come before.reading before.replies.left) before.written after
+    upto_unwritten : (halt : Halt) (item : Item) (writes writes' : ℕ) → sending.Begins first second items
+        → sending.Begins first second (items ++ item ∷ []) → rules.waits state ≡ false → HaltsItem halt rules state item mid.written after writes writes'
+        → WritesBegun sending rules start first second (to_come before.reading before.replies.left) before.written after
     upto_unwritten halts.WriteFault item writes writes' begin begin' quiet' b =
         upto_item item b.next b.entries begin' quiet' b.steps (part_upto mid.written after (item_text rules item b.entries) b.halts.0)
     upto_unwritten halts.NoMemory item writes writes' begin begin' quiet' (inl nothing) = upto_still begin nothing
     upto_unwritten halts.NoMemory item writes writes' begin begin' quiet' (inr b) = upto_item item b.next b.entries begin' quiet' b.steps b.halts
 
-    pub upto_stopped : (status : Status) (item : Item) (writes writes' : ℕ) → AreBeginnings belongs first second items
-        → AreBeginnings belongs first second (items ++ item ∷ []) → rules.waits state ≡ false
+    pub upto_stopped : (status : Status) (item : Item) (writes writes' : ℕ) → sending.Begins first second items
+        → sending.Begins first second (items ++ item ∷ []) → rules.waits state ≡ false
         → ((rules.take state item ≡ Stops status) × Grows mid.written after [])
         ⊎ ((halt : Halt) × (status ≡ status_of_halt halt) × HaltsItem halt rules state item mid.written after writes writes')
-        → WritesUpTo belongs rules start first second (to_come before.reading before.replies.left) before.written after
+        → WritesBegun sending rules start first second (to_come before.reading before.replies.left) before.written after
     upto_stopped status item writes writes' begin begin' quiet' (inl stops) = upto_still begin stops.1
     upto_stopped status item writes writes' begin begin' quiet' (inr (halt, is, h)) = upto_unwritten halt item writes writes' begin begin' quiet' h
 
   -- a beginning of what both lanes sent
   pub begins_of : (first first' second second' : SourceView) (sent part rest : List Item) (end end' : LaneEnd)
-      → LanesEnded belongs first first' second second' sent end end' → sent ≡ part ++ rest → AreBeginnings belongs first.left second.left part
-  begins_of first first' second second' sent part rest end end' lanes split = record {
-    firsts = begins_part belongs First first.left sent part rest split lanes.first_ended.begins;
-    seconds = begins_part belongs Second second.left sent part rest split lanes.second_ended.begins;
-  }
+      → sending.Ended first first' second second' sent end end' → sent ≡ part ++ rest → sending.Begins first.left second.left part
+  begins_of first first' second second' sent part rest end end' lanes split = laws.part first first' second second' sent part end end' lanes (rest, split)
 
   -- what both lanes sent
-  begins_all : (first first' second second' : SourceView) (sent : List Item) (end end' : LaneEnd) → LanesEnded belongs first first' second second' sent end end'
-      → AreBeginnings belongs first.left second.left sent
-  begins_all first first' second second' sent end end' lanes = record { firsts = lanes.first_ended.begins; seconds = lanes.second_ended.begins }
+  pub begins_all : (first first' second second' : SourceView) (sent : List Item) (end end' : LaneEnd)
+      → sending.Ended first first' second second' sent end end' → sending.Begins first.left second.left sent
+  begins_all first first' second second' sent end end' lanes =
+      begins_of first first' second second' sent sent [] end end' lanes (sym (append-nil sent))
 
   module _ (first first' second second' : SourceView) (before after : Outside) where
     -- however the run ends, a beginning of the text of some items was written
-    pub writes_upto : (status : Status) → rules.waits start ≡ false → EndsSo belongs rules start first first' second second' before after status
-        → WritesUpTo belongs rules start first.left second.left (to_come before.reading before.replies.left) before.written after.written
+    pub writes_upto : (status : Status) → rules.waits start ≡ false → EndsBy sending rules start first first' second second' before after status
+        → WritesBegun sending rules start first.left second.left (to_come before.reading before.replies.left) before.written after.written
     writes_upto status quiet (inl s) =
         upto_stopped quiet first.left second.left s.items s.state s.told before s.mid s.drove after.written status s.item s.mid.faults after.faults
         (begins_of first first' second second' (s.items ++ s.item ∷ s.dropped) s.items (s.item ∷ s.dropped) s.end s.end' s.lanes refl)
@@ -254,22 +246,22 @@ module _ {S E : Type 0} (belongs : Lane → Event → Bool) (rules : LaneRules S
     writes_upto status quiet (inr (inr (inr (inr s)))) = s.1
 
     -- all was taken
-    takes_whole : before.reading ≡ unread → EndsAsLanes belongs rules start first first' second second' before after statuses.Done
-        → TakesWhole belongs rules start first.left second.left before.replies.left after.replies.left before.written after.written
+    takes_whole : before.reading ≡ unread → EndsAsLanes sending rules start first first' second second' before after statuses.Done
+        → TakesAllOf sending rules start first.left second.left before.replies.left after.replies.left before.written after.written
     takes_whole fresh s =
         let ends = lanes_done rules.name s.end s.end' s.is in
         let all = s.all in
-        let one : Sends belongs First first first' (items_of First all.items) Done =
-        subst (λ (end : LaneEnd). Sends belongs First first first' (items_of First all.items) end) ends.0 all.lanes.first_ended.sends in
-        let two : Sends belongs Second second second' (items_of Second all.items) Done =
-        subst (λ (end : LaneEnd). Sends belongs Second second second' (items_of Second all.items) end) ends.1 all.lanes.second_ended.sends in
+        let ended : sending.Ended first first' second second' all.items Done Done =
+        subst (λ (end : LaneEnd). sending.Ended first first' second second' all.items Done end) ends.1
+        (subst (λ (end : LaneEnd). sending.Ended first first' second second' all.items end s.end') ends.0 all.lanes) in
+        let whole = laws.whole first first' second second' all.items ended in
         let comes : Follows (to_come unread before.replies.left) all.drove.replies (to_come s.mid.reading s.mid.replies.left) =
         subst (λ (r : Reading). Follows (to_come r before.replies.left) all.drove.replies (to_come s.mid.reading s.mid.replies.left)) fresh all.drove.comes in
         record {
           items = all.items;
-          firsts = one.0;
-          seconds = two.0;
-          merge = all.lanes.merge;
+          firsts = whole.0;
+          seconds = whole.1;
+          merge = whole.2;
           heard = all.drove.replies;
           state = all.state;
           told = all.told;
@@ -337,8 +329,8 @@ module _ {S E : Type 0} (belongs : Lane → Event → Bool) (rules : LaneRules S
           rw is ill
 
       -- the run ended as the lanes did, or for another reason
-      pub as_lanes_or_ill : (status : Status) → EndsSo belongs rules start first first' second second' before after status
-          → EndsAsLanes belongs rules start first first' second second' before after status
+      pub as_lanes_or_ill : (status : Status) → EndsBy sending rules start first first' second second' before after status
+          → EndsAsLanes sending rules start first first' second second' before after status
           ⊎ IsIllBy status before.replies.faults after.replies.faults before.faults after.faults
       as_lanes_or_ill status (inl s) =
           inr (ill_since status before.replies.faults s.mid.replies.faults after.replies.faults before.faults s.mid.faults after.faults s.drove.reads
@@ -353,53 +345,60 @@ module _ {S E : Type 0} (belongs : Lane → Event → Bool) (rules : LaneRules S
       as_lanes_or_ill status (inr (inr (inr (inl s)))) = inl s
       as_lanes_or_ill status (inr (inr (inr (inr s)))) = inr (rw s.0 tt)
 
-      done_by : (status : Status) → status ≡ statuses.Done → before.reading ≡ unread → EndsAsLanes belongs rules start first first' second second' before after
+      done_by : (status : Status) → status ≡ statuses.Done → before.reading ≡ unread → EndsAsLanes sending rules start first first' second second' before after
           status ⊎ IsIllBy status before.replies.faults after.replies.faults before.faults after.faults
-          → TakesWhole belongs rules start first.left second.left before.replies.left after.replies.left before.written after.written
+          → TakesAllOf sending rules start first.left second.left before.replies.left after.replies.left before.written after.written
       done_by status done fresh (inl s) =
-          takes_whole fresh (subst (λ (x : Status). EndsAsLanes belongs rules start first first' second second' before after x) done s)
+          takes_whole fresh (subst (λ (x : Status). EndsAsLanes sending rules start first first' second second' before after x) done s)
       done_by status done fresh (inr ill) =
           let none : IsIllBy statuses.Done before.replies.faults after.replies.faults before.faults after.faults =
           subst (λ (x : Status). IsIllBy x before.replies.faults after.replies.faults before.faults after.faults) done ill in
           absurd none
 
       -- the run is done
-      pub done_whole : (status : Status) → before.reading ≡ unread → EndsSo belongs rules start first first' second second' before after status
+      pub done_whole : (status : Status) → before.reading ≡ unread → EndsBy sending rules start first first' second second' before after status
           → status ≡ statuses.Done
-          → TakesWhole belongs rules start first.left second.left before.replies.left after.replies.left before.written after.written
+          → TakesAllOf sending rules start first.left second.left before.replies.left after.replies.left before.written after.written
       done_whole status fresh ends done = done_by status done fresh (as_lanes_or_ill status ends)
 
-      write_by : (status : Status) → status ≡ statuses.WriteFault → EndsAsLanes belongs rules start first first' second second' before after status
+      write_by : (status : Status) → status ≡ statuses.WriteFault → EndsAsLanes sending rules start first first' second second' before after status
           ⊎ IsIllBy status before.replies.faults after.replies.faults before.faults after.faults → Rose before.faults after.faults
       write_by status is (inl s) =
           let none : IsLaneStatus statuses.WriteFault = subst IsLaneStatus (sym s.is ∙ is) (lanes_status rules.name s.end s.end') in
           absurd none
       write_by status is (inr ill) = subst (λ (x : Status). IsIllBy x before.replies.faults after.replies.faults before.faults after.faults) is ill
 
-      pub write_fault : (status : Status) → EndsSo belongs rules start first first' second second' before after status → status ≡ statuses.WriteFault
+      pub write_fault : (status : Status) → EndsBy sending rules start first first' second second' before after status → status ≡ statuses.WriteFault
           → Rose before.faults after.faults
       write_fault status ends is = write_by status is (as_lanes_or_ill status ends)
 
-      opened_by : (status : Status) (lane : LaneName) → status ≡ statuses.OpenFault lane → EndsAsLanes belongs rules start first first' second second' before
+      opened_by : (status : Status) (lane : LaneName) → status ≡ statuses.OpenFault lane → EndsAsLanes sending rules start first first' second second' before
           after status ⊎ IsIllBy status before.replies.faults after.replies.faults before.faults after.faults → ⊥
       opened_by status lane is (inl s) = subst IsLaneStatus (sym s.is ∙ is) (lanes_status rules.name s.end s.end')
       opened_by status lane is (inr ill) = subst (λ (x : Status). IsIllBy x before.replies.faults after.replies.faults before.faults after.faults) is ill
 
       -- both files are open
-      pub no_open_fault : (status : Status) → EndsSo belongs rules start first first' second second' before after status → (lane : LaneName)
+      pub no_open_fault : (status : Status) → EndsBy sending rules start first first' second second' before after status → (lane : LaneName)
           → status ≢ statuses.OpenFault lane
       no_open_fault status ends lane is = opened_by status lane is (as_lanes_or_ill status ends)
 
-      read_by : (status : Status) (lane : LaneName) → status ≡ statuses.ReadFault lane → EndsAsLanes belongs rules start first first' second second' before
+      read_by : (status : Status) (lane : LaneName) → status ≡ statuses.ReadFault lane → EndsAsLanes sending rules start first first' second second' before
           after status ⊎ IsIllBy status before.replies.faults after.replies.faults before.faults after.faults
           → ((lane ≡ lanes.Input) × Rose before.replies.faults after.replies.faults)
           ⊎ (((lane ≡ rules.name First) × Rose first.faults first'.faults) ⊎ ((lane ≡ rules.name Second) × Rose second.faults second'.faults))
-      read_by status lane is (inl s) = inr (lanes_read rules.name belongs first first' second second' (items_of First s.all.items) (items_of Second s.all.items)
-          lane s.end s.end' s.all.lanes.first_ended.sends s.all.lanes.second_ended.sends (sym is ∙ s.is))
+      read_by status lane is (inl s) =
+          let faults = laws.faults first first' second second' s.all.items s.end s.end' s.all.lanes in
+          inr (rise faults (lanes_read rules.name lane s.end s.end' (sym is ∙ s.is)))
+        where
+          rise : (s.end ≡ ReadFault → Rose first.faults first'.faults) × (s.end' ≡ ReadFault → Rose second.faults second'.faults)
+              → ((lane ≡ rules.name First) × (s.end ≡ ReadFault)) ⊎ ((lane ≡ rules.name Second) × (s.end' ≡ ReadFault))
+              → ((lane ≡ rules.name First) × Rose first.faults first'.faults) ⊎ ((lane ≡ rules.name Second) × Rose second.faults second'.faults)
+          rise faults (inl one) = inl (one.0, faults.0 one.1)
+          rise faults (inr two) = inr (two.0, faults.1 two.1)
       read_by status lane is (inr ill) = inl (subst (λ (x : Status). IsIllBy x before.replies.faults after.replies.faults before.faults after.faults) is ill)
 
       -- the input or a file wasn't read
-      pub read_fault : (status : Status) → EndsSo belongs rules start first first' second second' before after status → (lane : LaneName)
+      pub read_fault : (status : Status) → EndsBy sending rules start first first' second second' before after status → (lane : LaneName)
           → status ≡ statuses.ReadFault lane
           → ((lane ≡ lanes.Input) × Rose before.replies.faults after.replies.faults)
           ⊎ (((lane ≡ rules.name First) × Rose first.faults first'.faults) ⊎ ((lane ≡ rules.name Second) × Rose second.faults second'.faults))

@@ -1,5 +1,5 @@
 -- Replies that are heard, and others behind them.
-use Rattle.std.proofs.Common.{◌≡◌, ◌≤◌, Bool, true, false, if◌then◌else◌, List, [], ◌∷◌, ◌++◌, refl, sym, ◌∙◌, subst, arith, append_assoc}
+use Rattle.std.proofs.Common.{◌≡◌, ◌≤◌, Bool, true, false, if◌then◌else◌, List, [], ◌∷◌, ◌++◌, refl, sym, ap, ◌∙◌, subst, arith, append_assoc}
 use Rattle.std.specs.List.{flat_map}
 use Rattle.std.proofs.lemmas.Grind.{flat_map-append}
 use Rattle.std.proofs.lemmas.List.{append-nil}
@@ -93,3 +93,9 @@ module _ {S E : Type 0} (rules : LaneRules S E) where
   hears_not s t before after quiet hears =
       let none = none_heard s t hears.replies hears.entries quiet hears.heard in
       (none.1, hears.still none.0)
+
+  -- none is awaited then either
+  pub never : (s t : S) (before after : Outside) → rules.waits s ≡ false → HearsSome rules s t before after → rules.waits t ≡ true → ⊥
+  never s t before after quiet hears waits =
+      let quiet' : rules.waits t ≡ false = ap rules.waits (hears_not s t before after quiet hears).0 ∙ quiet in
+      absurd (cc)

@@ -1,4 +1,5 @@
-pub mod Endings
+pub mod Sent
+mod Endings
 pub mod Faults
 pub mod Heard
 pub mod OverFiles
@@ -6,3 +7,4 @@ pub mod ReadItems
 pub mod Taken
 pub mod Ways
 pub mod Complete
+pub mod AsTheyAre

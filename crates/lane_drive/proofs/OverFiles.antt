@@ -12,6 +12,7 @@ use Rattle.kube_model.specs.declared.status.Status.TheVariants as statuses
 use Rattle.lane_mail.specs.declared.item.Item.{Item}
 use Rattle.lane_mail.specs.declared.lane.Lane.{Lane}
 use Rattle.lane_mail.specs.declared.lane.Lane.TheVariants.{First, Second}
+use Rattle.lane_run.specs.Ran.{TurnedBeginnings}
 use Rattle.lane_run.specs.Views.{SourceView, Outside, lane_view, outside}
 use Rattle.line_run.specs.Machine.{Stops}
 use Rattle.mlb_edge.specs.Causes.{Rose}
@@ -21,10 +22,12 @@ use Rattle.mlb_edge.specs.declared.files.OpenEnd.TheVariants.{Failed, NoMemory}
 use Rattle.mlb_edge.specs.declared.lines.Line.{Line}
 use Rattle.mlb_edge.specs.InputLines.{to_come}
 use Rattle.mlb_edge.specs.Reading.{Reading}
-use Rattle.lane_drive.specs.Clauses.{AtOpenFault, EndsWith, RoseFor, TakesWhole, status_of_open, unread}
+use Rattle.lane_drive.specs.Clauses.{AtOpenFault, EndsWith, RoseFor, TakesAllOf, status_of_open, unread}
 use Rattle.lane_drive.specs.Files.{FilesView, files_view}
 use Rattle.lane_drive.specs.LaneRules.{LaneRules, IsHeldLimit}
-use Rattle.lane_drive.specs.Stops.{WritesUpTo, EndsSo}
+use Rattle.lane_drive.specs.Sending.{Sending}
+use Rattle.lane_drive.specs.Stops.{WritesBegun, EndsBy}
+use Rattle.lane_drive.proofs.Sent.{SendsLawfully}
 use Rattle.lane_drive.proofs.Endings as endings
 use Rattle.lane_drive.proofs.Ways.{ends_undriven}
 
@@ -104,17 +107,28 @@ of_files own own' bytes bytes' told safe safe' known name left faults is_safe na
     let y = subst (λ (v : SourceView). So (lane_view bytes (Some own) 0 safe) v reader) two x in
     subst (λ (r : Reading). So (lane_view bytes (Some own) 0 safe) (lane_view bytes' (Some own') 0 safe') r) fresh y
 
-module _ {S E : Type 0} (belongs : Lane → Event → Bool) (rules : LaneRules S E) (start : S) (quiet : rules.waits start ≡ false) where
+-- what was sent for a beginning of what both inputs carry was sent for one of what both files do
+pub begins_with : {U V : Type 0} (TurnsFirst : U → U → Event → Event → Type 0) (TurnsSecond : V → V → Event → Event → Type 0)
+    (belongs : Lane → Event → Bool) (u : U) (v : V) (items : List Item) (own own' : List ℕ) (bytes bytes' told : Option (List ℕ)) (safe known : Bool)
+    (name left : Option (List ℕ)) (faults : ℕ) (is_safe : Bool) (name' left' : Option (List ℕ)) (faults' : ℕ) (is_safe' : Bool)
+    → IsOpened name left faults is_safe own bytes safe → IsOpened name' left' faults' is_safe' own' told known → told ≡ bytes'
+    → TurnedBeginnings TurnsFirst TurnsSecond belongs left left' u v items → TurnedBeginnings TurnsFirst TurnsSecond belongs bytes bytes' u v items
+begins_with TurnsFirst TurnsSecond belongs u v items own own' bytes bytes' told safe known name left faults is_safe name' left' faults' is_safe' opened
+    opened' same begins =
+    subst (λ (o : Option (List ℕ)). TurnedBeginnings TurnsFirst TurnsSecond belongs bytes o u v items) (opened'.whole ∙ same)
+    (subst (λ (o : Option (List ℕ)). TurnedBeginnings TurnsFirst TurnsSecond belongs o left' u v items) opened.whole begins)
+
+module _ {S E : Type 0} {sending : Sending} (laws : SendsLawfully sending) (rules : LaneRules S E) (start : S) (quiet : rules.waits start ≡ false) where
   -- nothing was read or written
   pub ends_none : (file file' : List ℕ) (files files' : FilesView) (first second replies : SourceView) (before : Option (List ℕ)) (writes : ℕ) (status : Status)
       → status ≡ statuses.NoMemory
-      → EndsWith belongs rules start file file' files files' first second replies replies before before writes writes status
+      → EndsWith sending rules start file file' files files' first second replies replies before before writes writes status
   ends_none file file' files files' first second replies before writes status is = record {
     first' = first;
     second' = second;
     reading = unread;
     ends = rw is
-        (ends_undriven belongs rules start quiet first first second second (outside unread replies before writes) (outside unread replies before writes) refl);
+        (ends_undriven laws rules start quiet first first second second (outside unread replies before writes) (outside unread replies before writes) refl);
     kept = λ known. absurd (known is);
   }
 
@@ -124,27 +138,27 @@ module _ {S E : Type 0} (belongs : Lane → Event → Bool) (rules : LaneRules S
       (opened' : IsOpened name' left' faults' is_safe' own' told known) (same : told ≡ bytes') (same' : known ≡ safe')
       (reader : Reading) (fresh : reader ≡ unread) (first second replies : SourceView) (before : Option (List ℕ)) (writes : ℕ) (after : Outside)
       (status : Status)
-      (run : EndsSo belongs rules start (lane_view left name faults is_safe) first (lane_view left' name' faults' is_safe') second
+      (run : EndsBy sending rules start (lane_view left name faults is_safe) first (lane_view left' name' faults' is_safe') second
       (outside reader replies before writes) after status) where
-    over_files : EndsSo belongs rules start (lane_view bytes (Some own) 0 safe) first (lane_view bytes' (Some own') 0 safe') second
+    over_files : EndsBy sending rules start (lane_view bytes (Some own) 0 safe) first (lane_view bytes' (Some own') 0 safe') second
         (outside unread replies before writes) after status
     over_files =
         of_files own own' bytes bytes' told safe safe' known name left faults is_safe name' left' faults' is_safe' opened opened' same same' reader fresh
-        (λ v v' r. EndsSo belongs rules start v first v' second (outside r replies before writes) after status) run
+        (λ v v' r. EndsBy sending rules start v first v' second (outside r replies before writes) after status) run
 
     pub ends_with : (files files' : FilesView)
         → files'.failed_reads ≡ with_closed (with_closed files.failed_reads (Some own) first.faults) (Some own') second.faults
-        → EndsWith belongs rules start own own' files files' (lane_view bytes (Some own) 0 safe) (lane_view bytes' (Some own') 0 safe') replies after.replies
+        → EndsWith sending rules start own own' files files' (lane_view bytes (Some own) 0 safe) (lane_view bytes' (Some own') 0 safe') replies after.replies
         before after.written writes after.faults status
     ends_with files files' kept = record { first' = first; second' = second; reading = after.reading; ends = over_files; kept = λ known. kept }
 
-    pub only : WritesUpTo belongs rules start bytes bytes' (to_come unread replies.left) before after.written
-    only = endings.writes_upto belongs rules start (lane_view bytes (Some own) 0 safe) first (lane_view bytes' (Some own') 0 safe') second
+    pub only : WritesBegun sending rules start bytes bytes' (to_come unread replies.left) before after.written
+    only = endings.writes_upto laws rules start (lane_view bytes (Some own) 0 safe) first (lane_view bytes' (Some own') 0 safe') second
         (outside unread replies before writes) after status quiet over_files
 
     -- that a reading failed isn't kept
     pub ends_unkept : (files files' : FilesView)
-        → EndsWith belongs rules start own own' files files' (lane_view bytes (Some own) 0 safe) (lane_view bytes' (Some own') 0 safe') replies after.replies
+        → EndsWith sending rules start own own' files files' (lane_view bytes (Some own) 0 safe) (lane_view bytes' (Some own') 0 safe') replies after.replies
         before after.written writes after.faults statuses.NoMemory
     ends_unkept files files' = record {
       first' = first;
@@ -158,16 +172,16 @@ module _ {S E : Type 0} (belongs : Lane → Event → Bool) (rules : LaneRules S
         (replies_stop : (s : S) (line : Line) (status' : Status) → rules.waits s ≡ true → rules.hear s line ≡ Stops status'
         → (status' ≡ statuses.BadReply line.number line.bytes) ⊎ IsHeldLimit status')
         (puts : (s : S) → rules.waits s ≡ true → (put : Put) × (rules.unanswered s ≡ statuses.NoReply put)) where
-      pub done : status ≡ statuses.Done → TakesWhole belongs rules start bytes bytes' replies.left after.replies.left before after.written
-      done = endings.done_whole belongs rules start (lane_view bytes (Some own) 0 safe) first (lane_view bytes' (Some own') 0 safe') second
+      pub done : status ≡ statuses.Done → TakesAllOf sending rules start bytes bytes' replies.left after.replies.left before after.written
+      done = endings.done_whole laws rules start (lane_view bytes (Some own) 0 safe) first (lane_view bytes' (Some own') 0 safe') second
           (outside unread replies before writes) after items_stop replies_stop puts status refl over_files
 
       pub write_fault : status ≡ statuses.WriteFault → Rose writes after.faults
-      write_fault = endings.write_fault belongs rules start (lane_view bytes (Some own) 0 safe) first (lane_view bytes' (Some own') 0 safe') second
+      write_fault = endings.write_fault laws rules start (lane_view bytes (Some own) 0 safe) first (lane_view bytes' (Some own') 0 safe') second
           (outside unread replies before writes) after items_stop replies_stop puts status over_files
 
       pub no_open_fault : (lane : LaneName) → status ≢ statuses.OpenFault lane
-      no_open_fault = endings.no_open_fault belongs rules start (lane_view bytes (Some own) 0 safe) first (lane_view bytes' (Some own') 0 safe') second
+      no_open_fault = endings.no_open_fault laws rules start (lane_view bytes (Some own) 0 safe) first (lane_view bytes' (Some own') 0 safe') second
           (outside unread replies before writes) after items_stop replies_stop puts status over_files
 
       by_lane : (names names' : List (List ℕ)) → (first.faults ≢ 0 → Rose (times own names) (times own names'))
@@ -186,5 +200,5 @@ module _ {S E : Type 0} (belongs : Lane → Event → Bool) (rules : LaneRules S
           ⊎ (RoseFor lane (rules.name First) own names names' ⊎ RoseFor lane (rules.name Second) own' names names')
       read_fault names names' rise rise' lane is =
           by_lane names names' rise rise' lane
-          (endings.read_fault belongs rules start (lane_view bytes (Some own) 0 safe) first (lane_view bytes' (Some own') 0 safe') second
+          (endings.read_fault laws rules start (lane_view bytes (Some own) 0 safe) first (lane_view bytes' (Some own') 0 safe') second
           (outside unread replies before writes) after items_stop replies_stop puts status over_files lane is)

@@ -2,20 +2,15 @@
 use Rattle.std.proofs.Common.{◌≡◌, ◌≢◌, ◌⊎◌, inl, inr, ℕ, Bool, true, false, List, [], ◌∷◌, ◌++◌, Option}
 use Rattle.std.proofs.Common.{None, Some, Result, Ok, Err, refl, sym, ap, ◌∙◌, subst, append_assoc}
 use Rattle.std.proofs.lemmas.List.{append-nil}
-use Rattle.kube_model.specs.declared.event.Event.{Event}
 use Rattle.kube_model.specs.declared.status.Status.{Status}
 use Rattle.kube_model.specs.declared.status.Status.TheVariants as statuses
-use Rattle.lane_mail.specs.declared.lane.Lane.{Lane}
-use Rattle.lane_mail.specs.declared.lane.Lane.TheVariants.{First, Second}
 use Rattle.lane_mail.specs.declared.item.Item.{Item}
 use Rattle.lane_run.specs.declared.lane_end.LaneEnd.TheVariants.{NoMemory}
 use Rattle.lane_run.specs.declared.lane_run.LaneRun.{LaneRun}
-use Rattle.lane_run.specs.LaneInputs.{lane_input, lane_input_from}
 use Rattle.lane_run.specs.declared.lane_end.LaneEnd.{LaneEnd}
-use Rattle.lane_run.specs.Ran.{LanesEnded, Ran}
+use Rattle.lane_run.specs.Ran.{RanBy}
 use Rattle.lane_run.specs.Reconciled.{AreDriven, Drove, Leaves}
 use Rattle.lane_run.specs.Views.{SourceView, Outside}
-use Rattle.lane_run.specs.Watched.{Begins}
 use Rattle.line_run.specs.declared.halt.Halt.{Halt}
 use Rattle.line_run.specs.declared.halt.Refusal.{Refusal}
 use Rattle.line_run.specs.declared.halt.Refusal.TheVariants.{Stopped, Halted}
@@ -25,19 +20,16 @@ use Rattle.line_run.proofs.Texts.{upto_all, upto_none}
 use Rattle.mlb_edge.specs.declared.lines.Line.{Line}
 use Rattle.mlb_edge.specs.InputLines.{HoldsLine, Input, Whole, to_come, Follows-refl}
 use Rattle.mlb_edge.specs.Written.{Grows}
-use Rattle.lane_drive.specs.Asking.{AsksMore}
+use Rattle.lane_drive.specs.Asking.{AsksOf}
 use Rattle.lane_drive.specs.LaneRules.{LaneRules, RefusesItem, HaltsItem}
 use Rattle.lane_drive.specs.Drive.{Told, AreHeard, AreTaken, Drives, told_text}
 use Rattle.lane_drive.specs.Clauses.{LeavesInput}
 use Rattle.lane_drive.specs.Hearing.{DrivesItem, FailsItem, FailsBehind, RefusesNext, EndsHearing, GoesBehind}
-use Rattle.lane_drive.specs.Stops.{AreBeginnings, TakesAll, WritesUpTo, EndsSo, status_of_lanes}
-use Rattle.lane_drive.proofs.Endings.{begins_of, upto_read, upto_stopped}
+use Rattle.lane_drive.specs.Sending.{Sending}
+use Rattle.lane_drive.specs.Stops.{TakesAll, WritesBegun, EndsBy, status_of_lanes}
+use Rattle.lane_drive.proofs.Sent.{SendsLawfully}
+use Rattle.lane_drive.proofs.Endings.{begins_all, begins_of, upto_read, upto_stopped}
 use Rattle.lane_drive.proofs.Taken.{drives_all, drives_more}
-
--- no items are a beginning of what a lane carries
-begins_none : (belongs : Lane → Event → Bool) (lane : Lane) (left : Option (List ℕ)) → Begins belongs lane left []
-begins_none belongs lane None = record { input = lane_input_from belongs lane [] Whole; is = ([], Whole, refl); begins = ([], refl) }
-begins_none belongs lane (Some bytes) = record { input = lane_input belongs lane bytes; is = refl; begins = ((lane_input belongs lane bytes).items, refl) }
 
 -- where nothing was refused, all that was taken drove the reconciler
 drove_all : {S U : Type 0} (Goes : S → S → Item → Outside → Outside → Type 0) (Refuses : Status → S → Item → Outside → Outside → Type 0) (taken : List Item)
@@ -72,16 +64,16 @@ module _ {S E : Type 0} (rules : LaneRules S E) where
       let none' : behind ≡ [] = silent items behind next t more never others in
       rw (replies_are, none, none') refl
 
-module _ {S E : Type 0} (belongs : Lane → Event → Bool) (rules : LaneRules S E) (start : S) (quiet : rules.waits start ≡ false) where
+module _ {S E : Type 0} {sending : Sending} (laws : SendsLawfully sending) (rules : LaneRules S E) (start : S) (quiet : rules.waits start ≡ false) where
   -- for want of memory nothing was done
   pub writes_none : (first second : Option (List ℕ)) (now : Option Input) (before : Option (List ℕ))
-      → WritesUpTo belongs rules start first second now before before
+      → WritesBegun sending rules start first second now before before
   writes_none first second now before = record {
     items = [];
     replies = [];
     next = now;
     comes = Follows-refl now;
-    begin = record { firsts = begins_none belongs First first; seconds = begins_none belongs Second second };
+    begin = laws.none first second;
     state = start;
     told = [];
     taken = (refl, refl, refl);
@@ -89,11 +81,11 @@ module _ {S E : Type 0} (belongs : Lane → Event → Bool) (rules : LaneRules S
   }
 
   pub ends_undriven : (first first' second second' : SourceView) (before after : Outside) → after.written ≡ before.written
-      → EndsSo belongs rules start first first' second second' before after statuses.NoMemory
+      → EndsBy sending rules start first first' second second' before after statuses.NoMemory
   ends_undriven first first' second second' before after same =
       inr (inr (inr (inr (
         refl,
-        subst (λ (o : Option (List ℕ)). WritesUpTo belongs rules start first.left second.left (to_come before.reading
+        subst (λ (o : Option (List ℕ)). WritesBegun sending rules start first.left second.left (to_come before.reading
             before.replies.left) before.written o) (sym same) (writes_none first.left second.left (to_come before.reading before.replies.left) before.written),
       ))))
 
@@ -111,22 +103,22 @@ module _ {S E : Type 0} (belongs : Lane → Event → Bool) (rules : LaneRules S
     pub fails : FailsItem rules status state item mid after ⊎ FailsBehind rules status state item mid after
 
   module _ (first first' second second' : SourceView) (end end' : LaneEnd) (before after : Outside) (taken : List Item) (status : Status)
-      (r : Refused before after taken status) (lanes : LanesEnded belongs first first' second second' taken end end') where
-    sent : LanesEnded belongs first first' second second' (r.items ++ r.item ∷ r.dropped) end end'
-    sent = subst (λ (l : List Item). LanesEnded belongs first first' second second' l end end') r.split lanes
+      (r : Refused before after taken status) (lanes : sending.Ended first first' second second' taken end end') where
+    sent : sending.Ended first first' second second' (r.items ++ r.item ∷ r.dropped) end end'
+    sent = subst (λ (l : List Item). sending.Ended first first' second second' l end end') r.split lanes
 
     with_item : r.items ++ r.item ∷ r.dropped ≡ (r.items ++ r.item ∷ []) ++ r.dropped
     with_item = sym (append_assoc r.items (r.item ∷ []) r.dropped)
 
-    begin : AreBeginnings belongs first.left second.left r.items
-    begin = begins_of belongs rules start first first' second second' (r.items ++ r.item ∷ r.dropped) r.items (r.item ∷ r.dropped) end end' sent refl
+    begin : sending.Begins first.left second.left r.items
+    begin = begins_of laws rules start first first' second second' (r.items ++ r.item ∷ r.dropped) r.items (r.item ∷ r.dropped) end end' sent refl
 
-    begin' : AreBeginnings belongs first.left second.left (r.items ++ r.item ∷ [])
-    begin' = begins_of belongs rules start first first' second second' (r.items ++ r.item ∷ r.dropped) (r.items ++ r.item ∷ []) r.dropped end end' sent
+    begin' : sending.Begins first.left second.left (r.items ++ r.item ∷ [])
+    begin' = begins_of laws rules start first first' second second' (r.items ++ r.item ∷ r.dropped) (r.items ++ r.item ∷ []) r.dropped end end' sent
         with_item
 
     by_fails : (end ≢ NoMemory) × (end' ≢ NoMemory) → FailsItem rules status r.state r.item r.mid after ⊎ FailsBehind rules status r.state r.item r.mid after
-        → EndsSo belongs rules start first first' second second' before after status
+        → EndsBy sending rules start first first' second second' before after status
     by_fails known (inl fails) = inl (record {
       items = r.items;
       item = r.item;
@@ -148,7 +140,7 @@ module _ {S E : Type 0} (belongs : Lane → Event → Bool) (rules : LaneRules S
       dropped = r.dropped;
       end = end;
       end' = end';
-      lanes = subst (λ (l : List Item). LanesEnded belongs first first' second second' l end end') with_item sent;
+      lanes = subst (λ (l : List Item). sending.Ended first first' second second' l end end') with_item sent;
       state = fails.state;
       told = r.told ++ fails.told;
       mid = fails.mid;
@@ -159,13 +151,13 @@ module _ {S E : Type 0} (belongs : Lane → Event → Bool) (rules : LaneRules S
     }))
 
     upto_fails : FailsItem rules status r.state r.item r.mid after ⊎ FailsBehind rules status r.state r.item r.mid after
-        → WritesUpTo belongs rules start first.left second.left (to_come before.reading before.replies.left) before.written after.written
+        → WritesBegun sending rules start first.left second.left (to_come before.reading before.replies.left) before.written after.written
     upto_fails (inl fails) =
-        upto_stopped belongs rules start quiet first.left second.left r.items r.state r.told before r.mid r.drove after.written status r.item r.mid.faults
+        upto_stopped laws rules start quiet first.left second.left r.items r.state r.told before r.mid r.drove after.written status r.item r.mid.faults
         after.faults begin begin' r.still
         (rw fails.is (why rules fails.refusal r.state r.item r.mid after fails.refuses))
     upto_fails (inr fails) =
-        upto_read belongs rules start quiet first.left second.left (r.items ++ r.item ∷ []) fails.state (r.told ++ fails.told) before fails.mid
+        upto_read laws rules start quiet first.left second.left (r.items ++ r.item ∷ []) fails.state (r.told ++ fails.told) before fails.mid
         (drives_more rules r.items (r.item ∷ []) start r.state fails.state r.told fails.told before r.mid fails.mid r.drove fails.drove) after.written status
         _ _ _ _ _ _ _ begin' fails.stops
 
@@ -179,8 +171,9 @@ module _ {S E : Type 0} (belongs : Lane → Event → Bool) (rules : LaneRules S
         absurd (cc)
 
   -- the reconciler refused an item
-  module _ (first first' second second' : SourceView) (before after : Outside) (t : S) (run : LaneRun) (ran : Ran belongs (DrivesItem rules) (RefusesNext rules)
-      first first' second second' start t before after run) (status : Status) (ill : run.outcome ≡ Err status) where
+  module _ (first first' second second' : SourceView) (before after : Outside) (t : S) (run : LaneRun)
+      (ran : RanBy (sending.Ended first first' second second') (DrivesItem rules) (RefusesNext rules) start t before after run)
+      (status : Status) (ill : run.outcome ≡ Err status) where
     refused : Refused before after ran.taken status
     refused =
         let failed : Result (Unit {0}) Status = Err status in
@@ -200,7 +193,7 @@ module _ {S E : Type 0} (belongs : Lane → Event → Bool) (rules : LaneRules S
           fails = leaves.3 d.2;
         }
 
-    pub ends_refused : (run.first ≢ NoMemory) × (run.second ≢ NoMemory) → EndsSo belongs rules start first first' second second' before after status
+    pub ends_refused : (run.first ≢ NoMemory) × (run.second ≢ NoMemory) → EndsBy sending rules start first first' second second' before after status
     ends_refused known = by_fails first first' second second' run.first run.second before after ran.taken status refused ran.lanes known refused.fails
 
     pub leaves_refused : (rules.hears ≡ false → (x : S) → rules.waits x ≡ false) → rules.hears ≡ false → LeavesInput before.replies after.replies
@@ -208,13 +201,13 @@ module _ {S E : Type 0} (belongs : Lane → Event → Bool) (rules : LaneRules S
         leaves_fails first first' second second' run.first run.second before after ran.taken status refused ran.lanes (never none) refused.fails
 
     -- and a lane ended for want of memory
-    upto_refused : EndsSo belongs rules start first first' second second' before after statuses.NoMemory
+    upto_refused : EndsBy sending rules start first first' second second' before after statuses.NoMemory
     upto_refused =
         inr (inr (inr (inr (refl, upto_fails first first' second second' run.first run.second before after ran.taken status refused ran.lanes refused.fails))))
 
   -- all that both lanes sent was taken
   module _ (first first' second second' : SourceView) (before mid : Outside) (t : S) (run : LaneRun)
-      (ran : Ran belongs (DrivesItem rules) (RefusesNext rules) first first' second second' start t before mid run) (done : run.outcome ≡ Ok tt) where
+      (ran : RanBy (sending.Ended first first' second second') (DrivesItem rules) (RefusesNext rules) start t before mid run) (done : run.outcome ≡ Ok tt) where
     all_driven : AreDriven (DrivesItem rules) ran.taken start t before mid
     all_driven =
         let well : Result (Unit {0}) Status = Ok tt in
@@ -225,7 +218,7 @@ module _ {S E : Type 0} (belongs : Lane → Event → Bool) (rules : LaneRules S
     quiet_then = (drives_all rules ran.taken start t before mid quiet all_driven).2
 
     -- one of them ended for want of memory
-    upto_done : EndsSo belongs rules start first first' second second' before mid statuses.NoMemory
+    upto_done : EndsBy sending rules start first first' second second' before mid statuses.NoMemory
     upto_done =
         let d = drives_all rules ran.taken start t before mid quiet all_driven in
         inr (inr (inr (inr (
@@ -235,7 +228,7 @@ module _ {S E : Type 0} (belongs : Lane → Event → Bool) (rules : LaneRules S
             replies = d.1.replies;
             next = to_come mid.reading mid.replies.left;
             comes = d.1.comes;
-            begin = record { firsts = ran.lanes.first_ended.begins; seconds = ran.lanes.second_ended.begins };
+            begin = begins_all laws rules start first first' second second' ran.taken run.first run.second ran.lanes;
             state = t;
             told = d.0;
             taken = d.1.taken;
@@ -244,7 +237,7 @@ module _ {S E : Type 0} (belongs : Lane → Event → Bool) (rules : LaneRules S
         ))))
 
     abbrev all_taken : (run.first ≢ NoMemory) × (run.second ≢ NoMemory)
-        → TakesAll belongs rules start first first' second second' before mid run.first run.second
+        → TakesAll sending rules start first first' second second' before mid run.first run.second
     all_taken known =
         let d = drives_all rules ran.taken start t before mid quiet all_driven in
         record {
@@ -259,19 +252,19 @@ module _ {S E : Type 0} (belongs : Lane → Event → Bool) (rules : LaneRules S
 
     -- where there are replies, the end of the input may be asked for
     pub asks_behind : (run.first ≢ NoMemory) × (run.second ≢ NoMemory) → rules.hears ≡ true → (HoldsLine mid.reading → ⊥)
-        → AsksMore belongs rules start first second before mid
+        → AsksOf sending rules start first second before mid
     asks_behind known hears none_held =
         inr (record { first' = first'; second' = second'; end = run.first; end' = run.second; all = all_taken known; none_held = none_held; hears = hears })
 
     -- the input isn't at its end
     pub ends_behind : (run.first ≢ NoMemory) × (run.second ≢ NoMemory) → (after : Outside) (status : Status) → GoesBehind rules t status mid after
-        → EndsSo belongs rules start first first' second second' before after status
+        → EndsBy sending rules start first first' second second' before after status
     ends_behind known after status behind = inr (inr
         (inl (record { end = run.first; end' = run.second; mid = mid; all = all_taken known; hears = behind.hears; stops = behind.stops; ill = behind.ill })))
 
     -- it is, or there are no replies
     pub ends_as_lanes : (run.first ≢ NoMemory) × (run.second ≢ NoMemory) → (after : Outside) → EndsHearing rules mid after
-        → EndsSo belongs rules start first first' second second' before after (status_of_lanes rules.name run.first run.second)
+        → EndsBy sending rules start first first' second second' before after (status_of_lanes rules.name run.first run.second)
     ends_as_lanes known after behind = inr (inr (inr (inl (record {
       end = run.first;
       end' = run.second;
@@ -295,13 +288,13 @@ module _ {S E : Type 0} (belongs : Lane → Event → Bool) (rules : LaneRules S
 
   -- One of the lanes ended for want of memory, whatever the reconciler made of what they sent.
   module _ (first first' second second' : SourceView) (before mid : Outside) (t : S) (run : LaneRun)
-      (ran : Ran belongs (DrivesItem rules) (RefusesNext rules) first first' second second' start t before mid run) where
+      (ran : RanBy (sending.Ended first first' second second') (DrivesItem rules) (RefusesNext rules) start t before mid run) where
     unknown_by : (outcome : Result (Unit {0}) Status) → run.outcome ≡ outcome
-        → EndsSo belongs rules start first first' second second' before mid statuses.NoMemory
+        → EndsBy sending rules start first first' second second' before mid statuses.NoMemory
     unknown_by (Ok tt) done = upto_done first first' second second' before mid t run ran done
     unknown_by (Err status) ill = upto_refused first first' second second' before mid t run ran status ill
 
-    pub ends_unknown : EndsSo belongs rules start first first' second second' before mid statuses.NoMemory
+    pub ends_unknown : EndsBy sending rules start first first' second second' before mid statuses.NoMemory
     ends_unknown = unknown_by run.outcome refl
 
     leaves_by : (rules.hears ≡ false → (x : S) → rules.waits x ≡ false) → rules.hears ≡ false → (outcome : Result (Unit {0}) Status) → run.outcome ≡ outcome

@@ -7,10 +7,14 @@ use Rattle.lane_mail.specs.declared.item.Item.{Item}
 use Rattle.lane_mail.specs.declared.lane.Lane.{Lane}
 use Rattle.lane_run.specs.declared.lane_end.LaneEnd.{LaneEnd}
 use Rattle.lane_run.specs.Views.{SourceView, Outside}
+use Rattle.lane_run.specs.Waiting.{MayBeAwaited}
+use Rattle.line_run.specs.Answered.{MayBeAsked}
+use Rattle.mlb_edge.specs.Reading.{Reading}
 use Rattle.lane_drive.specs.LaneRules.{LaneRules}
 use Rattle.lane_drive.specs.Drive.{Told, Drives}
 use Rattle.lane_drive.specs.Hearing.{FailsBehind, FailsItem, HearsSome}
-use Rattle.lane_drive.specs.Stops.{TakesAll}
+use Rattle.lane_drive.specs.Sending.{Sending}
+use Rattle.lane_drive.specs.Stops.{TakesAll, as_they_are}
 use Rattle.mlb_edge.specs.InputLines.{HoldsLine}
 
 -- Some replies were heard, and just their text was written. No other line came whole, and one more reply is awaited.
@@ -57,7 +61,7 @@ pub record HasStopped {S E : Type 0} (rules : LaneRules S E) (start : S) (before
   pub stops : FailsItem rules status state item mid now ⊎ FailsBehind rules status state item mid now
   pub is : written ≡ now.written
 
-module _ {S E : Type 0} (belongs : Lane → Event → Bool) (rules : LaneRules S E) (start : S) where
+module _ {S E : Type 0} (sending : Sending) (rules : LaneRules S E) (start : S) where
   -- All that both lanes sent was taken, and just its text was written. No other line came whole, and where there are replies it is still to
   -- be seen that the input is at its end. That a lane ended because its reading failed is possible only where its source isn't safe.
   pub record LooksBehind (first second : SourceView) (before now : Outside) : Type 0 where
@@ -65,10 +69,23 @@ module _ {S E : Type 0} (belongs : Lane → Event → Bool) (rules : LaneRules S
     pub second' : SourceView
     pub end : LaneEnd
     pub end' : LaneEnd
-    pub all : TakesAll belongs rules start first first' second second' before now end end'
+    pub all : TakesAll sending rules start first first' second second' before now end end'
     pub none_held : HoldsLine now.reading → ⊥
     pub hears : rules.hears ≡ true
 
   -- a reply is awaited, or the end of the input
-  abbrev pub AsksMore : (first second : SourceView) (before now : Outside) → Type 0
-  AsksMore first second before now = ((items : List Item) × AwaitsReply rules items start before now) ⊎ LooksBehind first second before now
+  abbrev pub AsksOf : (first second : SourceView) (before now : Outside) → Type 0
+  AsksOf first second before now = ((items : List Item) × AwaitsReply rules items start before now) ⊎ LooksBehind first second before now
+
+-- it is so where each lane sends its events as they are
+abbrev pub AsksMore : {S E : Type 0} → (Lane → Event → Bool) → LaneRules S E → S → (first second : SourceView) (before now : Outside) → Type 0
+AsksMore belongs = AsksOf (as_they_are belongs)
+
+-- While the machine is driven from this state, more replies may be asked for where it asks for them; the next item may be waited for where all items
+-- taken before are answered, and what the lanes still send may be dropped where it has stopped. `seen` is what is outside.
+pub record MayDrive {S E I K R : Type 0} (rules : LaneRules S E) (start : S) (Asks : Outside → Outside → Type 0) (name : I → Option (List ℕ))
+    (may_read : I → Reading → K → Type 0) (may_wait may_drop : R → List Item → K → Type 0) (written : K → Option (List ℕ)) (seen : I → Reading → K → Outside)
+    (rt : R) (input : I) (reader : Reading) (out : K) : Type 0 where
+  pub live : MayBeAsked name may_read input (λ i r o. Asks (seen input reader out) (seen i r o))
+  pub waits : MayBeAwaited may_wait rt written (AnswersAll rules start (seen input reader out))
+  pub drops : MayBeAwaited may_drop rt written (HasStopped rules start (seen input reader out))

@@ -11,13 +11,12 @@ use Rattle.lane_mail.specs.declared.lane.Lane.TheVariants.{First, Second}
 use Rattle.lane_mail.specs.declared.item.Item.{Item}
 use Rattle.lane_mail.specs.Lanes.{items_of}
 use Rattle.lane_mail.specs.Merges.{IsMerge}
-use Rattle.lane_run.specs.declared.lane_end.LaneEnd.TheVariants.{Done}
 use Rattle.lane_run.specs.Views.{SourceView, outside}
-use Rattle.lane_run.specs.Watched.{StopsAs}
 use Rattle.lane_drive.specs.LaneRules.{LaneRules}
 use Rattle.lane_drive.specs.Drive.{Told, AreTaken, told_text}
 use Rattle.lane_drive.specs.Files.{FilesView}
-use Rattle.lane_drive.specs.Stops.{EndsSo, WritesUpTo}
+use Rattle.lane_drive.specs.Sending.{Sending}
+use Rattle.lane_drive.specs.Stops.{EndsBy, WritesBegun, as_they_are}
 use Rattle.mlb_edge.specs.Causes.{Rose}
 use Rattle.mlb_edge.specs.Failed.{times, with_closed}
 use Rattle.mlb_edge.specs.declared.files.OpenEnd.{OpenEnd}
@@ -36,12 +35,12 @@ AreLinesOf (Some bytes) lines = ((input_of bytes).lines ≡ lines) × ((input_of
 abbrev pub unread : Reading
 unread = record { held = []; passed = 0; number = 0 }
 
-module _ {S E : Type 0} (belongs : Lane → Event → Bool) (rules : LaneRules S E) (start : S) where
+module _ {S E : Type 0} (sending : Sending) (rules : LaneRules S E) (start : S) where
   -- All that both files carry was taken, each file's in its order, with all lines of the input as the replies, and just its text was written.
-  pub record TakesWhole (first second : Option (List ℕ)) (replies left before after : Option (List ℕ)) : Type 0 where
+  pub record TakesAllOf (first second : Option (List ℕ)) (replies left before after : Option (List ℕ)) : Type 0 where
     pub items : List Item
-    pub firsts : StopsAs belongs First first (items_of First items) Done
-    pub seconds : StopsAs belongs Second second (items_of Second items) Done
+    pub firsts : sending.Firsts first (items_of First items)
+    pub seconds : sending.Seconds second (items_of Second items)
     pub merge : IsMerge items (items_of First items) (items_of Second items)
     pub heard : List Line
     pub state : S
@@ -51,8 +50,8 @@ module _ {S E : Type 0} (belongs : Lane → Event → Bool) (rules : LaneRules S
     pub wrote : Grows before after (told_text rules told)
     pub whole : rules.hears ≡ true → AreLinesOf replies heard × IsAtEnd left
 
-  abbrev pub AtDone : (first second : Option (List ℕ)) → Status → (replies left before after : Option (List ℕ)) → Type 0
-  AtDone first second status replies left before after = status ≡ statuses.Done → TakesWhole first second replies left before after
+  abbrev pub DoneOf : (first second : Option (List ℕ)) → Status → (replies left before after : Option (List ℕ)) → Type 0
+  DoneOf first second status replies left before after = status ≡ statuses.Done → TakesAllOf first second replies left before after
 
   -- The run of both lanes ended so. Of each file's input it is kept, when it is handed back, whether its reading failed, unless memory is wanting.
   pub record EndsWith (file file' : List ℕ) (files files' : FilesView) (first second : SourceView) (replies replies' : SourceView)
@@ -60,15 +59,34 @@ module _ {S E : Type 0} (belongs : Lane → Event → Bool) (rules : LaneRules S
     pub first' : SourceView
     pub second' : SourceView
     pub reading : Reading
-    pub ends : EndsSo belongs rules start first first' second second' (outside unread replies before writes) (outside reading replies' after writes') status
+    pub ends : EndsBy sending rules start first first' second second' (outside unread replies before writes) (outside reading replies' after writes') status
     pub kept : status ≢ statuses.NoMemory
         → files'.failed_reads ≡ with_closed (with_closed files.failed_reads (Some file) first'.faults) (Some file') second'.faults
 
   -- so it is where both files were opened
+  abbrev pub EndOf : (file file' : List ℕ) (files files' : FilesView) (first second : SourceView) (replies replies' : SourceView)
+      (before after : Option (List ℕ)) (writes writes' : ℕ) → Status → Type 0
+  EndOf file file' files files' first second replies replies' before after writes writes' status =
+      ((lane : LaneName) → status ≢ statuses.OpenFault lane) → EndsWith file file' files files' first second replies replies' before after writes writes' status
+
+  -- however the run ends
+  abbrev pub WritesOf : (first second replies before after : Option (List ℕ)) → Type 0
+  WritesOf first second replies before after = WritesBegun sending rules start first second (to_come unread replies) before after
+
+module _ {S E : Type 0} (belongs : Lane → Event → Bool) (rules : LaneRules S E) (start : S) where
+  -- the same where each lane sends its events as they are
+  abbrev pub TakesWhole : (first second : Option (List ℕ)) (replies left before after : Option (List ℕ)) → Type 0
+  TakesWhole = TakesAllOf (as_they_are belongs) rules start
+
+  abbrev pub AtDone : (first second : Option (List ℕ)) → Status → (replies left before after : Option (List ℕ)) → Type 0
+  AtDone = DoneOf (as_they_are belongs) rules start
+
   abbrev pub AtEnd : (file file' : List ℕ) (files files' : FilesView) (first second : SourceView) (replies replies' : SourceView)
       (before after : Option (List ℕ)) (writes writes' : ℕ) → Status → Type 0
-  AtEnd file file' files files' first second replies replies' before after writes writes' status =
-      ((lane : LaneName) → status ≢ statuses.OpenFault lane) → EndsWith file file' files files' first second replies replies' before after writes writes' status
+  AtEnd = EndOf (as_they_are belongs) rules start
+
+  abbrev pub OnlyWrites : (first second replies before after : Option (List ℕ)) → Type 0
+  OnlyWrites = WritesOf (as_they_are belongs) rules start
 
 -- the fault is one of the file of this lane, whose count in the list rose
 abbrev pub RoseFor : LaneName → LaneName → List ℕ → (names names' : List (List ℕ)) → Type 0
@@ -99,10 +117,6 @@ LeavesOthers first second files files' = (file : List ℕ) → file ≢ first �
 -- nothing is read of the input
 abbrev pub LeavesInput : (replies replies' : SourceView) → Type 0
 LeavesInput replies replies' = replies' ≡ replies
-
--- however the run ends
-abbrev pub OnlyWrites : {S E : Type 0} → (Lane → Event → Bool) → LaneRules S E → S → (first second replies before after : Option (List ℕ)) → Type 0
-OnlyWrites belongs rules start first second replies before after = WritesUpTo belongs rules start first second (to_come unread replies) before after
 
 -- the status where a lane's file isn't opened
 abbrev pub status_of_open : LaneName → OpenEnd → Status

@@ -5,6 +5,7 @@ pub mod Drive
 pub mod Files
 pub mod Hearing
 pub mod LaneRules
+pub mod Sending
 pub mod Laws
 pub mod Stops
 pub mod Complete

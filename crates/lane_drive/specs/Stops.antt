@@ -14,7 +14,7 @@ use Rattle.lane_run.specs.declared.lane_end.LaneEnd.{LaneEnd}
 use Rattle.lane_run.specs.declared.lane_end.LaneEnd.TheVariants.{Done, ReadFault, LineLimit, InputLimit, BadLine, NoMemory}
 use Rattle.lane_run.specs.Views.{SourceView, Outside}
 use Rattle.lane_run.specs.Ran.{LanesEnded}
-use Rattle.lane_run.specs.Watched.{Begins}
+use Rattle.lane_run.specs.Watched.{Begins, StopsAs}
 use Rattle.line_run.specs.declared.halt.Halt.{Halt}
 use Rattle.line_run.specs.Ended.{status_of_halt}
 use Rattle.line_run.specs.Ends.{Ends}
@@ -22,6 +22,7 @@ use Rattle.line_run.specs.Machine.{Stops}
 use Rattle.line_run.specs.Text.{GrowsUpTo}
 use Rattle.lane_drive.specs.LaneRules.{LaneRules, reply_rules, HaltsItem}
 use Rattle.lane_drive.specs.Drive.{Told, AreTaken, Drives, told_text}
+use Rattle.lane_drive.specs.Sending.{Sending}
 use Rattle.mlb_edge.specs.declared.lines.Line.{Line}
 use Rattle.mlb_edge.specs.InputLines.{Input, Whole, EndsAs, Follows, to_come}
 use Rattle.mlb_edge.specs.Written.{Grows}
@@ -55,7 +56,16 @@ pub record AreBeginnings (belongs : Lane → Event → Bool) (first second : Opt
   pub firsts : Begins belongs First first (items_of First items)
   pub seconds : Begins belongs Second second (items_of Second items)
 
-module _ {S E : Type 0} (belongs : Lane → Event → Bool) (rules : LaneRules S E) (start : S) where
+-- each lane sends its events as they are
+abbrev pub as_they_are : (Lane → Event → Bool) → Sending
+as_they_are belongs = record {
+  Ended = LanesEnded belongs;
+  Begins = AreBeginnings belongs;
+  Firsts = λ first items. StopsAs belongs First first items Done;
+  Seconds = λ second items. StopsAs belongs Second second items Done;
+}
+
+module _ {S E : Type 0} (sending : Sending) (rules : LaneRules S E) (start : S) where
   -- The run stops at an item that isn't taken, or whose text isn't written whole. The lanes were read to their ends, and what they sent behind
   -- that item was dropped.
   pub record StopsAtItem (first first' second second' : SourceView) (before after : Outside) (status : Status) : Type 0 where
@@ -64,7 +74,7 @@ module _ {S E : Type 0} (belongs : Lane → Event → Bool) (rules : LaneRules S
     pub dropped : List Item
     pub end : LaneEnd
     pub end' : LaneEnd
-    pub lanes : LanesEnded belongs first first' second second' (items ++ item ∷ dropped) end end'
+    pub lanes : sending.Ended first first' second second' (items ++ item ∷ dropped) end end'
     pub state : S
     pub told : List (Told E)
     pub mid : Outside
@@ -83,7 +93,7 @@ module _ {S E : Type 0} (belongs : Lane → Event → Bool) (rules : LaneRules S
     pub dropped : List Item
     pub end : LaneEnd
     pub end' : LaneEnd
-    pub lanes : LanesEnded belongs first first' second second' (items ++ dropped) end end'
+    pub lanes : sending.Ended first first' second second' (items ++ dropped) end end'
     pub state : S
     pub told : List (Told E)
     pub mid : Outside
@@ -96,7 +106,7 @@ module _ {S E : Type 0} (belongs : Lane → Event → Bool) (rules : LaneRules S
   -- All that both lanes sent was taken, in an order that is each lane's own, and no reply is awaited. The lanes ended so.
   pub record TakesAll (first first' second second' : SourceView) (before mid : Outside) (end end' : LaneEnd) : Type 0 where
     pub items : List Item
-    pub lanes : LanesEnded belongs first first' second second' items end end'
+    pub lanes : sending.Ended first first' second second' items end end'
     pub state : S
     pub told : List (Told E)
     pub drove : Drives rules items start state told before mid
@@ -127,22 +137,30 @@ module _ {S E : Type 0} (belongs : Lane → Event → Bool) (rules : LaneRules S
 
   -- A beginning of the text of some items was written. These are of each lane a beginning of what it carries, and the replies are the first lines
   -- of the input.
-  pub record WritesUpTo (first second : Option (List ℕ)) (now : Option Input) (before after : Option (List ℕ)) : Type 0 where
+  pub record WritesBegun (first second : Option (List ℕ)) (now : Option Input) (before after : Option (List ℕ)) : Type 0 where
     pub items : List Item
     pub replies : List Line
     pub next : Option Input
     pub comes : Follows now replies next
-    pub begin : AreBeginnings belongs first second items
+    pub begin : sending.Begins first second items
     pub state : S
     pub told : List (Told E)
     pub taken : AreTaken rules items replies start state told
     pub wrote : GrowsUpTo before after (told_text rules told)
 
   -- how the run of two open lanes ends: by the reconciler, behind the last reply, as the lanes did, or for want of memory
-  abbrev pub EndsSo : (first first' second second' : SourceView) (before after : Outside) → Status → Type 0
-  EndsSo first first' second second' before after status =
+  abbrev pub EndsBy : (first first' second second' : SourceView) (before after : Outside) → Status → Type 0
+  EndsBy first first' second second' before after status =
       StopsAtItem first first' second second' before after status
       ⊎ (StopsAtReply first first' second second' before after status
       ⊎ (StopsBehind first first' second second' before after status
       ⊎ (EndsAsLanes first first' second second' before after status
-      ⊎ ((status ≡ statuses.NoMemory) × WritesUpTo first.left second.left (to_come before.reading before.replies.left) before.written after.written))))
+      ⊎ ((status ≡ statuses.NoMemory) × WritesBegun first.left second.left (to_come before.reading before.replies.left) before.written after.written))))
+
+module _ {S E : Type 0} (belongs : Lane → Event → Bool) (rules : LaneRules S E) (start : S) where
+  -- the same where each lane sends its events as they are
+  abbrev pub WritesUpTo : (first second : Option (List ℕ)) (now : Option Input) (before after : Option (List ℕ)) → Type 0
+  WritesUpTo = WritesBegun (as_they_are belongs) rules start
+
+  abbrev pub EndsSo : (first first' second second' : SourceView) (before after : Outside) → Status → Type 0
+  EndsSo = EndsBy (as_they_are belongs) rules start

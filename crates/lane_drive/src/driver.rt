@@ -11,12 +11,12 @@ use mlb_edge::{LineReader, Sink};
 use std::alloc::Global;
 
 /// Drives a machine by items. Behind each item all replies to what it came to are heard.
-#[derive(Drop)]
-pub(crate) struct Driver<M: Drop> {
+pub(crate) struct Driver<M> {
     pub(crate) replies: Replies<M>,
 }
 
-impl<M: LaneMachine + Drop> Reconciler for Driver<M> {
+impl<M: LaneMachine> Reconciler for Driver<M> {
+    ghost use Rattle.std.specs.Prelude.{◌≡◌, false};
     ghost use Rattle.lane_drive.specs.Asking.{AsksFor};
     ghost use Rattle.lane_drive.specs.Hearing.{DrivesItem, RefusesNext};
 
@@ -29,6 +29,8 @@ impl<M: LaneMachine + Drop> Reconciler for Driver<M> {
     ghost Refuses = { RefusesNext M.rules };
 
     ghost Asks = { AsksFor M.rules };
+
+    ghost Behind = { λ driver items. M.rules.hears ≡ false → M.Behind driver.replies.machine items };
 
     fn take<I: PacedSource<K>, K: Sink>(
         &mut self,

@@ -2,7 +2,7 @@
 ghost use Rattle.std.specs.Prelude.{◌≡◌, ℕ, List, Some, false};
 ghost use Rattle.kube_model.specs.declared.status.LaneName.{LaneName as Name};
 ghost use Rattle.lane_drive.specs.Asking.{AnswersAll, AsksMore, HasStopped};
-ghost use Rattle.lane_drive.specs.Clauses.{AtDone, AtEnd, AtOpenFault, AtReadFault, LeavesInput, LeavesOthers, OnlyWrites, status_of_open, unread};
+ghost use Rattle.lane_drive.specs.Clauses.{AtDone, AtEnd, AtOpenFault, AtReadFault, LeavesInput, LeavesOthers, OnlyWrites, unread};
 ghost use Rattle.lane_drive.specs.Complete.{IsComplete};
 ghost use Rattle.lane_drive.specs.Files.{files_view};
 ghost use Rattle.lane_run.specs.Opening.{MayBeOpened};
@@ -12,12 +12,11 @@ ghost use Rattle.line_run.specs.Answered.{MayBeAsked};
 ghost use Rattle.line_run.specs.Clauses.{AtWriteFault};
 
 use crate::lane_machine::LaneMachine;
-use crate::opened::run_opened;
-use kube_model::{LaneName, Status};
-use lane_mail::Lane;
-use lane_run::{Lanes, MailWait, PacedWait, WatchedFiles};
+use crate::turned_files::run_turned_files;
+use kube_model::Status;
+use lane_run::{Lanes, MailWait, PacedWait, Unturned, WatchedFiles};
 use line_run::PacedSource;
-use mlb_edge::{LineReader, OpenEnd, Sink};
+use mlb_edge::Sink;
 use std::alloc::Global;
 use std::thread::Threads;
 
@@ -121,52 +120,18 @@ pub fn run_lane_files<
         (files_view (F.failed_opens files.new) (F.failed_reads files.new)) }
     ensures bytes { (file : List ℕ) → F.bytes files.new file ≡ F.bytes files.old file }
 {
-    let Ok(mut reader) = LineReader::new(alloc) else {
-        drop(machine);
-        return Status::NoMemory;
-    };
-    let mut first_input = match files.open(first) {
-        Ok(opened) => opened,
-        Err(end) => {
-            drop(machine);
-            return status_of_open(M::lane_name(Lane::First), end);
-        }
-    };
-    let mut second_input = match files.open(second) {
-        Ok(opened) => opened,
-        Err(end) => {
-            drop(machine);
-            // The first file wasn't read, so there is nothing to keep of it.
-            let _ = files.close(first_input);
-            return status_of_open(M::lane_name(Lane::Second), end);
-        }
-    };
-    let status = run_opened(
+    let (status, machine) = run_turned_files(
         rt,
         alloc,
-        &mut first_input,
-        &mut second_input,
+        first,
+        second,
+        files,
+        &mut Unturned,
+        &mut Unturned,
         machine,
-        &mut reader,
         input,
         out,
     );
-    match (files.close(first_input), files.close(second_input)) {
-        (Ok(()), Ok(())) => status,
-        // That a reading failed may not be kept.
-        _ => {
-            drop(status);
-            Status::NoMemory
-        }
-    }
-}
-
-/// The status where the lane's file isn't opened.
-fn status_of_open(lane: LaneName, end: OpenEnd) -> Status
-    ensures { result ≡ status_of_open lane end }
-{
-    match end {
-        OpenEnd::Failed => Status::OpenFault { lane },
-        OpenEnd::NoMemory => Status::NoMemory,
-    }
+    drop(machine);
+    status
 }

@@ -14,7 +14,7 @@ use mlb_edge::{LineReader, Sink};
 use std::alloc::Global;
 
 /// Hears a reply, and the replies to what comes of it, until none is awaited. `Err` is the status that the run stops with.
-pub(crate) fn hear_replies<M: LaneMachine + Drop, I: PacedSource<K>, K: Sink>(
+pub(crate) fn hear_replies<M: LaneMachine, I: PacedSource<K>, K: Sink>(
     alloc: Global,
     replies: &mut Replies<M>,
     reader: &mut LineReader,
@@ -26,6 +26,7 @@ pub(crate) fn hear_replies<M: LaneMachine + Drop, I: PacedSource<K>, K: Sink>(
         (K.written out.old) (K.faults out.old))
         (outside r (source_view (I.left i) (I.name i) (I.faults i)) (K.written o) (K.faults o))) }
     ensures name { I.name input.new ≡ I.name input.old }
+    ensures quiet { M.rules.waits (M.state replies.old.machine) ≡ false → replies.new ≡ replies.old }
     ensures ok { OnOk result (Hears M.rules (M.state replies.old.machine) (M.state replies.new.machine)
         (outside reader.old (source_view (I.left input.old) (I.name input.old) (I.faults input.old))
         (K.written out.old) (K.faults out.old))
@@ -47,7 +48,7 @@ pub(crate) fn hear_replies<M: LaneMachine + Drop, I: PacedSource<K>, K: Sink>(
 
 /// Sees that the input is at its end behind the last reply, if there are replies. `Some` is the status that the run stops with where it
 /// isn't.
-pub(crate) fn look_behind<M: LaneMachine + Drop, I: PacedSource<K>, K: Sink>(
+pub(crate) fn look_behind<M: LaneMachine, I: PacedSource<K>, K: Sink>(
     alloc: Global,
     replies: &mut Replies<M>,
     reader: &mut LineReader,
@@ -56,6 +57,7 @@ pub(crate) fn look_behind<M: LaneMachine + Drop, I: PacedSource<K>, K: Sink>(
 ) -> Option<Status>
     requires quiet { M.rules.waits (M.state replies.old.machine) ≡ false }
     requires paced { M.rules.hears ≡ true → (HoldsLine reader.old → ⊥) → I.may_read input.old reader.old out.old }
+    ensures unheard { M.rules.hears ≡ false → replies.new ≡ replies.old }
     ensures none { IfNone result (EndsHearing M.rules
         (outside reader.old (source_view (I.left input.old) (I.name input.old) (I.faults input.old))
         (K.written out.old) (K.faults out.old))

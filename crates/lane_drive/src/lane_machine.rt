@@ -1,5 +1,5 @@
 //! What is driven by the items of two lanes.
-ghost use Rattle.std.specs.Prelude.{◌≡◌, ◌≢◌, ◌⊎◌, ◌≤◌, true, false, OnOk, IfOk, IfErr, IsTrue};
+ghost use Rattle.std.specs.Prelude.{◌≡◌, ◌≢◌, ◌⊎◌, ◌≤◌, ⊤, true, false, List, [], ◌∷◌, ◌++◌, OnOk, IfOk, IfErr, IsTrue};
 ghost use Rattle.kube_lines.specs.OutputLines.{is_taken};
 ghost use Rattle.kube_model.specs.declared.put.Put.{Put};
 ghost use Rattle.kube_model.specs.declared.status.Status.{Status};
@@ -33,6 +33,9 @@ pub trait LaneMachine {
     /// What an item and a reply are to a state, and what is written of an entry.
     ghost rules: { LaneRules State Entry };
 
+    /// It may stand so behind these items, of which it may have refused the last. Where it says nothing of that, it may stand so behind any.
+    ghost Behind: { Self → List Item → Type 0 } = { λ _ _. ⊤ };
+
     /// The name of the lane.
     fn lane_name(lane: Lane) -> LaneName
         ensures { result ≡ rules.name lane };
@@ -52,6 +55,7 @@ pub trait LaneMachine {
             (K.written out.old) (K.written out.new)) }
         ensures err { IfErr result (λ refusal. RefusesItem refusal rules (state self.old) item
             (K.written out.old) (K.written out.new) (K.faults out.old) (K.faults out.new)) }
+        ensures behind { (items : List Item) → Behind self.old items → Behind self.new (items ++ item ∷ []) }
         ensures later { K.faults out.old ≤ K.faults out.new };
 
     /// Takes the line as the reply that is awaited, and writes what comes of it before it returns.

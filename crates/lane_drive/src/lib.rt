@@ -13,8 +13,10 @@ mod opened;
 mod replies;
 mod status;
 mod took;
+mod turned_files;
 
 pub use files::run_lane_files;
 pub use lane_machine::LaneMachine;
 pub use laws::items_are_read;
 pub use took::write_took;
+pub use turned_files::run_turned_files;

@@ -1,28 +1,30 @@
 //! The run over two lanes that are open.
-ghost use Rattle.std.specs.Prelude.{◌≡◌, false};
-ghost use Rattle.lane_drive.specs.Asking.{AnswersAll, AsksMore, HasStopped};
+ghost use Rattle.std.specs.Prelude.{◌≡◌, List, [], false};
+ghost use Rattle.lane_mail.specs.declared.item.Item.{Item};
+ghost use Rattle.lane_drive.specs.Asking.{AsksOf, MayDrive};
 ghost use Rattle.lane_drive.specs.Clauses.{LeavesInput, unread};
-ghost use Rattle.lane_drive.specs.Stops.{EndsSo};
+ghost use Rattle.lane_drive.specs.Sending.{turned};
+ghost use Rattle.lane_drive.specs.Stops.{EndsBy};
+ghost use Rattle.lane_run.specs.Ran.{TurnedBeginnings};
 ghost use Rattle.lane_run.specs.Views.{lane_view, outside, source_view};
-ghost use Rattle.lane_run.specs.Waiting.{MayBeAwaited};
-ghost use Rattle.line_run.specs.Answered.{MayBeAsked};
 
 use crate::driver::Driver;
 use crate::hearing::look_behind;
 use crate::lane_machine::LaneMachine;
-use crate::replies::Replies;
 use crate::status::{are_known, status_of_lanes};
 use kube_model::Status;
-use lane_run::{LaneRun, Lanes, MailWait, PacedWait, WatchedSource, run_lanes};
+use lane_run::{LaneRun, Lanes, MailWait, PacedWait, Turner, WatchedSource, run_turned};
 use line_run::PacedSource;
 use mlb_edge::{LineReader, Sink};
 use std::alloc::Global;
 use std::thread::Threads;
 
-/// Drives the machine by the items of both sources, and by the lines of the input as replies, until both lanes have ended. Where there
-/// are replies, the input is at its end then.
+/// Drives the machine by what is sent for the items of both sources, and by the lines of the input as replies, until both lanes have ended.
+/// Where there are replies, the input is at its end then.
 pub(crate) fn run_opened<
-    M: LaneMachine + Lanes + Drop + Send,
+    M: LaneMachine + Lanes + Send,
+    A: Turner + Send,
+    B: Turner + Send,
     R: Threads + PacedWait<K> + MailWait + Sync,
     S: WatchedSource + Send,
     I: PacedSource<K> + Send,
@@ -32,26 +34,27 @@ pub(crate) fn run_opened<
     alloc: Global,
     first: &mut S,
     second: &mut S,
-    machine: M,
+    first_turner: &mut A,
+    second_turner: &mut B,
+    driver: &mut Driver<M>,
     reader: &mut LineReader,
     input: &mut I,
     out: &mut K,
 ) -> Status
     requires fresh { reader.old ≡ unread }
-    requires quiet { M.rules.waits (M.state machine) ≡ false }
-    requires live { MayBeAsked I.name I.may_read input.old (λ i r o. AsksMore M.belongs M.rules (M.state machine)
+    requires quiet { M.rules.waits (M.state driver.old.replies.machine) ≡ false }
+    requires may { MayDrive M.rules (M.state driver.old.replies.machine)
+        (λ before now. (u : A.State) × (v : B.State)
+        × AsksOf (turned A.Turns B.Turns M.belongs (A.state first_turner.old) u (B.state second_turner.old) v)
+        M.rules (M.state driver.old.replies.machine)
         (lane_view (S.left first.old) (S.name first.old) (S.faults first.old) (S.safe first.old))
-        (lane_view (S.left second.old) (S.name second.old) (S.faults second.old) (S.safe second.old))
-        (outside reader.old (source_view (I.left input.old) (I.name input.old) (I.faults input.old))
-        (K.written out.old) (K.faults out.old))
-        (outside r (source_view (I.left i) (I.name i) (I.faults i)) (K.written o) (K.faults o))) }
-    requires waits { MayBeAwaited R.may_wait rt.now K.written (AnswersAll M.rules (M.state machine)
-        (outside reader.old (source_view (I.left input.old) (I.name input.old) (I.faults input.old))
-        (K.written out.old) (K.faults out.old))) }
-    requires drops { MayBeAwaited R.may_drop rt.now K.written (HasStopped M.rules (M.state machine)
-        (outside reader.old (source_view (I.left input.old) (I.name input.old) (I.faults input.old))
-        (K.written out.old) (K.faults out.old))) }
-    ensures ended { EndsSo M.belongs M.rules (M.state machine)
+        (lane_view (S.left second.old) (S.name second.old) (S.faults second.old) (S.safe second.old)) before now)
+        I.name I.may_read R.may_wait R.may_drop K.written
+        (λ i r o. outside r (source_view (I.left i) (I.name i) (I.faults i)) (K.written o) (K.faults o))
+        rt.now input.old reader.old out.old }
+    ensures ended { EndsBy (turned A.Turns B.Turns M.belongs
+        (A.state first_turner.old) (A.state first_turner.new) (B.state second_turner.old) (B.state second_turner.new))
+        M.rules (M.state driver.old.replies.machine)
         (lane_view (S.left first.old) (S.name first.old) (S.faults first.old) (S.safe first.old))
         (lane_view (S.left first.new) (S.name first.new) (S.faults first.new) (S.safe first.new))
         (lane_view (S.left second.old) (S.name second.old) (S.faults second.old) (S.safe second.old))
@@ -61,21 +64,26 @@ pub(crate) fn run_opened<
         (outside reader.new (source_view (I.left input.new) (I.name input.new) (I.faults input.new))
         (K.written out.new) (K.faults out.new)) result }
 
+    // However it ends, a machine that hears no replies stands as it may behind items that were sent for a beginning of what each lane carries.
+    ensures behind { M.rules.hears ≡ false → M.Behind driver.old.replies.machine []
+        → (items : List Item) × M.Behind driver.new.replies.machine items
+        × TurnedBeginnings A.Turns B.Turns M.belongs (S.left first.old) (S.left second.old)
+        (A.state first_turner.old) (B.state second_turner.old) items }
+
     // Both sources keep their names, and where there are no replies nothing is read of the input.
     ensures names { (S.name first.new ≡ S.name first.old) × (S.name second.new ≡ S.name second.old) }
     ensures unheard { M.rules.hears ≡ false → LeavesInput
         (source_view (I.left input.old) (I.name input.old) (I.faults input.old))
         (source_view (I.left input.new) (I.name input.new) (I.faults input.new)) }
 {
-    let mut driver = Driver {
-        replies: Replies { machine },
-    };
-    let ran = run_lanes::<M, Driver<M>, R, S, I, K>(
+    let ran = run_turned::<M, A, B, Driver<M>, R, S, I, K>(
         rt,
         alloc,
         first,
         second,
-        &mut driver,
+        first_turner,
+        second_turner,
+        driver,
         reader,
         input,
         out,

@@ -8,12 +8,11 @@ use mlb_edge::{Line, Sink};
 use std::alloc::Global;
 
 /// Hears the lines of the input: each is the reply that is awaited, and where none is the input is at its end.
-#[derive(Drop)]
-pub(crate) struct Replies<M: Drop> {
+pub(crate) struct Replies<M> {
     pub(crate) machine: M,
 }
 
-impl<M: LaneMachine + Drop> Machine for Replies<M> {
+impl<M: LaneMachine> Machine for Replies<M> {
     ghost use Rattle.std.specs.Prelude.{⊤};
     ghost use Rattle.lane_drive.specs.LaneRules.{reply_rules};
     ghost use Rattle.lane_drive.specs.Causes.{reply_causes, end_causes};

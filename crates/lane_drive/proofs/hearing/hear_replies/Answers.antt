@@ -1,10 +1,10 @@
 use Rattle.std.proofs.Common.{refl, sym, ◌∙◌}
 use Rattle.lane_run.specs.Views.{outside, source_view}
-use Rattle.lane_drive.proofs.Heard.{hears_none, hears_one, hears_more}
+use Rattle.lane_drive.proofs.Heard.{hears_none, hears_one, hears_more, never}
 use Rattle.lane_drive.proofs.hearing.hear_replies.Goals as goal
 
 pub replies-init : goal.replies-init
-replies-init g c = record { hears = hears_none g.M.LaneMachine.rules (g.M.LaneMachine.state c.args.replies.now.machine) _; name = refl }
+replies-init g c = record { hears = hears_none g.M.LaneMachine.rules (g.M.LaneMachine.state c.args.replies.now.machine) _; name = refl; still = λ quiet. refl }
 
 pub next_step-requires : goal.next_step-requires
 next_step-requires g c = record {
@@ -35,4 +35,12 @@ replies-preserved g c =
           (hears_one g.M.LaneMachine.rules state state' mid after (sym c.replies-test.ensures) c.in_default.ensures.drives c.next_step.ensures.reads
           c.next_step.ensures.writes);
       name = c.next_step.ensures.name ∙ now.invariant.name;
+      still = λ quiet. absurd (never g.M.LaneMachine.rules _ _ _ _ quiet now.invariant.hears (sym c.replies-test.ensures));
     }
+
+-- where no reply was awaited at first, none is
+pub returns-clause-quiet : goal.returns-clause-quiet
+returns-clause-quiet g c = c.replies.invariant.still
+
+pub returns-in-Some-clause-quiet : goal.returns-in-Some-clause-quiet
+returns-in-Some-clause-quiet g c = λ quiet. absurd (never g.M.LaneMachine.rules _ _ _ _ quiet c.replies.invariant.hears (sym c.replies-test.ensures))

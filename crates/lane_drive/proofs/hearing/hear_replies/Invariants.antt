@@ -1,4 +1,4 @@
-use Rattle.std.proofs.Common.{◌≡◌, ◌-◌, ◌^◌}
+use Rattle.std.proofs.Common.{◌≡◌, ◌-◌, ◌^◌, false}
 use Rattle.lane_run.specs.Views.{outside, source_view}
 use Rattle.lane_drive.specs.Hearing.{HearsSome}
 use Rattle.lane_drive.proofs.hearing.hear_replies.Given as goal
@@ -11,6 +11,7 @@ invariant-replies g l = record {
       (outside l.reader (source_view (g.I.PacedSource.left l.input) (g.I.PacedSource.name l.input) (g.I.PacedSource.faults l.input)) (g.K.Sink.written l.out)
       (g.K.Sink.faults l.out));
   name : g.I.PacedSource.name l.input ≡ g.I.PacedSource.name l.fn.input;
+  still : g.M.LaneMachine.rules.waits (g.M.LaneMachine.state l.fn.replies.machine) ≡ false → l.replies ≡ l.fn.replies;
 }
 
 abbrev pub decreases-replies : goal.decreases-replies

@@ -1,4 +1,4 @@
-use Rattle.std.proofs.Common.{refl, ◌∙◌}
+use Rattle.std.proofs.Common.{◌≡◌, true, false, refl, sym, subst, ◌∙◌}
 use Rattle.std.proofs.lemmas.Result.{on_ok_weaker, IfErr-weaker}
 use Rattle.lane_run.specs.Views.{outside, source_view}
 use Rattle.lane_drive.proofs.Taken.{asks_not, awaits_behind, drives_item, fails_behind, fails_item, fails_not}
@@ -55,3 +55,25 @@ returns-clause-err g c =
     (fails_behind g.M.LaneMachine.rules (g.M.LaneMachine.state c.args.self.now.replies.machine) (g.M.LaneMachine.state heard.replies.machine)
     (g.M.LaneMachine.state c.take_item.new.self) c.args.item _ _ mid c.in_default.ensures.ok.0
     c.in_default-take_item.ensures.ok refl refl c.take_item.ensures.later _) c.hear_replies-2.ensures.err
+
+-- where no reply is ever awaited, just the item was offered
+pub returns-in-Err-clause-behind : goal.returns-in-Err-clause-behind
+returns-in-Err-clause-behind g c = λ items behind none.
+    let laws = g.met.M.LaneMachine in
+    let stops = c.in-Err.ensures.err in
+    let waits : g.M.LaneMachine.rules.waits stops.state ≡ true = stops.waits in
+    let quiet : g.M.LaneMachine.rules.waits stops.state ≡ false = laws.unheard none stops.state in
+    absurd (cc)
+
+pub returns-in-Err-take_item-clause-behind : goal.returns-in-Err-take_item-clause-behind
+returns-in-Err-take_item-clause-behind g c = λ items behind none.
+    let laws = g.met.M.LaneMachine in
+    let same = c.hear_replies.ensures.quiet (laws.unheard none (g.M.LaneMachine.state c.args.self.now.replies.machine)) in
+    c.take_item.ensures.behind items (rw same (behind none))
+
+pub returns-clause-behind : goal.returns-clause-behind
+returns-clause-behind g c = λ items behind none.
+    let laws = g.met.M.LaneMachine in
+    let same = c.hear_replies.ensures.quiet (laws.unheard none (g.M.LaneMachine.state c.args.self.now.replies.machine)) in
+    let same' = c.hear_replies-2.ensures.quiet (laws.unheard none (g.M.LaneMachine.state c.take_item.new.self)) in
+    rw same' (c.take_item.ensures.behind items (rw same (behind none)))

@@ -1,3 +1,4 @@
 pub mod BlockLaws
+pub mod CountLaws
 pub mod EditLaws
 pub mod RunLaws

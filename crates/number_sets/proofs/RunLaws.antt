@@ -31,7 +31,7 @@ below_ends low [] j d up within = absurd (omega (arith, within))
 below_ends low (r ∷ rs) zero d up within = omega (arith, up.0, up.1)
 below_ends low (r ∷ rs) (suc j) d up within = below_ends low rs j d (lower (r.last + 2) low rs (omega (arith, up.0, up.1)) up.2) (omega (arith, within))
 
-ends-ascend : (low : ℕ) (runs : List Run) → AreRunsFrom low runs → IsNonDecreasingBy (λ (r : Run). r.last) runs
+pub ends-ascend : (low : ℕ) (runs : List Run) → AreRunsFrom low runs → IsNonDecreasingBy (λ (r : Run). r.last) runs
 ends-ascend low [] up i j d less within = absurd (omega (arith, within))
 ends-ascend low (r ∷ rs) up zero zero d less within = omega arith
 ends-ascend low (r ∷ rs) up zero (suc j) d less within = let later = below_ends (r.last + 2) rs j d up.2 (omega (arith, within)) in omega (arith, later)

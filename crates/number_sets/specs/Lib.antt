@@ -1,4 +1,5 @@
 pub mod Blocks
+pub mod Counts
 pub mod Least
 pub mod RunLists
 pub mod Runs

@@ -1,5 +1,5 @@
 -- Lists of runs of numbers.
-use Rattle.std.specs.Prelude.{◌≡◌, ◌≤◌, ◌<◌, ◌+◌, ◌-◌, ◌==◌, ◌&&◌, ℕ, nat_le, Bool, true, false, if◌then◌else◌, List, [], ◌∷◌, length, ⊤}
+use Rattle.std.specs.Prelude.{◌≡◌, ◌≤◌, ◌<◌, ◌+◌, ◌-◌, ◌==◌, ◌&&◌, ℕ, nat_le, Bool, true, false, if◌then◌else◌, List, [], ◌∷◌, length, take, slice_index, ⊤}
 use Rattle.std.specs.List.{list_any}
 use Rattle.std.specs.List.Sorted.{IsPartitionPoint}
 use Rattle.number_sets.specs.declared.runs.Run.{Run}
@@ -22,11 +22,17 @@ abbrev pub count_numbers : List Run → ℕ
 count_numbers [] = 0
 count_numbers (run ∷ runs) = (run.last + 1 - run.first) + count_numbers runs
 
--- The runs hold so many numbers, and the memory is enough for as many runs.
-pub record AreHeld (runs : List Run) (count capacity : ℕ) : Type 0 where
+-- for each run up to this index there is the count of the numbers in the runs before it
+abbrev pub AreCountedTo : ℕ → List Run → List ℕ → Type 0
+AreCountedTo end runs before = (k : ℕ) → k < end → slice_index before k ≡ count_numbers (take k runs)
+
+-- The runs hold so many numbers, for each there is the count of those before it, and the memory is enough for as many runs.
+pub record AreHeld (runs : List Run) (before : List ℕ) (count capacity : ℕ) : Type 0 where
   pub apart : AreRunsFrom 0 runs
   pub counted : count ≡ count_numbers runs
   pub within : count ≤ capacity
+  pub each : length before ≡ length runs
+  pub ahead : AreCountedTo (length runs) runs before
 
 -- in front of the index the runs end below the number, and from the index on they don't
 abbrev pub IsFirstFrom : ℕ → List Run → ℕ → Type 0

@@ -1,6 +1,7 @@
 //! Sets of numbers in blocks, whose edges a search may pass over.
 ghost use Rattle.std.specs.Prelude.{◌≡◌, ◌≤◌, ◌<◌, ◌+◌, ◌==◌, ◌||◌, ◌&&◌, true, false, not, IsTrue, IfSome, IfNone, OnOk};
 ghost use Rattle.number_sets.specs.Blocks.{is_edge, is_open, IsLeft};
+ghost use Rattle.number_sets.specs.Counts.{is_beyond};
 ghost use Rattle.number_sets.specs.Least.{IsLeastIn, NonePasses};
 ghost use Rattle.number_sets.specs.Runs.{has};
 
@@ -90,6 +91,16 @@ impl BlockSet {
         ensures none { IfNone result (NonePasses (has self.now) low high) }
     {
         self.numbers.first_present(low, high)
+    }
+
+    /// The least number from low to high that is in this set and not in the other, whose numbers are all in this one; in the product
+    /// of the logarithms of the numbers of runs.
+    pub fn first_beyond(&self, fewer: &BlockSet, low: u128, high: u128) -> Option<u128>
+        requires { IsLeft (has self.now) fewer.now }
+        ensures some { IfSome result (λ n. IsLeastIn (is_beyond self.now fewer.now) low high n) }
+        ensures none { IfNone result (NonePasses (is_beyond self.now fewer.now) low high) }
+    {
+        self.numbers.first_beyond(&fewer.numbers, low, high)
     }
 
     /// The least number from low to high that isn't in the set, and no edge where it is sought inside blocks.

@@ -2,6 +2,7 @@
 #![tactic(auto)]
 
 mod blocks;
+mod counts;
 mod runs;
 
 pub use blocks::BlockSet;

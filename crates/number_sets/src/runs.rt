@@ -1,42 +1,48 @@
 //! Sets of numbers as sorted runs.
-ghost use Rattle.std.specs.Prelude.{◌≡◌, ◌≤◌, ◌<◌, ◌+◌, ◌-◌, ◌==◌, ◌||◌, ◌&&◌, true, false, not, length};
-ghost use Rattle.std.specs.Prelude.{slice_get, vec_len, vec_capacity, IsTrue, IfSome, IfNone, IsSomeAnd, OnOk};
+ghost use Rattle.std.specs.Prelude.{◌≡◌, ◌≤◌, ◌<◌, ◌+◌, ◌-◌, ◌==◌, ◌||◌, ◌&&◌, true, false, not, length, take};
+ghost use Rattle.std.specs.Prelude.{slice_get, vec_len, vec_capacity, IsTrue, IsFalse, IfSome, IfNone, IsSomeAnd, OnOk};
+ghost use Rattle.number_sets.specs.Blocks.{IsLeft};
+ghost use Rattle.number_sets.specs.Counts.{count_below, is_beyond};
 ghost use Rattle.std.specs.List.{insert};
+ghost use Rattle.std.specs.List.Sorted.{IsPartitionPoint};
 ghost use Rattle.number_sets.specs.Least.{IsLeastIn, NonePasses};
 ghost use Rattle.number_sets.specs.RunLists.{AreRunsFrom, IsFound, IsRunOf, IsSetTo, count_numbers, has_number};
 ghost use Rattle.number_sets.specs.Runs.{has};
 
+use crate::counts::recount;
 use mlb_base::NoMemory;
 use std::alloc::Global;
 use std::marker::Model;
 
 /// The numbers from the first to the last, both included.
 #[derive(Clone, Copy)]
-struct Run {
-    first: u128,
-    last: u128,
+pub(crate) struct Run {
+    pub(crate) first: u128,
+    pub(crate) last: u128,
 }
 
 /// A set of numbers, held as the runs of numbers that follow one another, ascending.
 ///
 /// There is memory for as many runs as there are numbers, so that taking a number out, which may cut a run in two, takes none.
-/// A look-up takes the logarithm of the number of runs. Where a run comes or goes, those behind it are moved.
+/// A look-up takes the logarithm of the number of runs. Where a number comes or goes, the runs behind it are moved or counted anew.
 #[derive(Drop)]
 pub struct NumberRuns {
     runs: Vec<Run>,
+    /// For each run how many numbers are in those before it.
+    before: Vec<usize>,
     count: usize,
 }
 
 impl Model for NumberRuns {
-    ghost use Rattle.std.specs.Prelude.{◌-◌, vec_capacity};
+    ghost use Rattle.std.specs.Prelude.{◌-◌, min, vec_capacity};
     ghost use Rattle.number_sets.specs.RunLists.{AreHeld};
     ghost use Rattle.number_sets.specs.Runs.{RunsValue};
 
     ghost Value = { RunsValue };
 
-    ghost view = { λ s. record { runs = s.runs.items; room = vec_capacity s.runs - s.count } };
+    ghost view = { λ s. record { runs = s.runs.items; room = min (vec_capacity s.runs) (vec_capacity s.before) - s.count } };
 
-    ghost invariant = { λ s. AreHeld s.runs.items s.count (vec_capacity s.runs) };
+    ghost invariant = { λ s. AreHeld s.runs.items s.before.items s.count (min (vec_capacity s.runs) (vec_capacity s.before)) };
 }
 
 #[tactic(auto, unfolding(crate::specs::Runs::has))]
@@ -47,6 +53,7 @@ impl NumberRuns {
     {
         NumberRuns {
             runs: Vec::new(alloc),
+            before: Vec::new(alloc),
             count: 0,
         }
     }
@@ -61,6 +68,7 @@ impl NumberRuns {
         let Some(wanted) = more.checked_add(self.count - self.runs.len()) else {
             return Err(NoMemory);
         };
+        self.before.reserve(wanted)?;
         self.runs.reserve(wanted)?;
         Ok(())
     }
@@ -69,7 +77,7 @@ impl NumberRuns {
     pub fn has_room(&self) -> bool
         ensures { IsTrue result → 0 < self.now.room }
     {
-        self.count < self.runs.capacity()
+        self.count < self.runs.capacity() && self.count < self.before.capacity()
     }
 
     /// Puts the number in. There is room for it, so it takes no memory.
@@ -82,6 +90,7 @@ impl NumberRuns {
         let index = first_from(&self.runs, number.saturating_sub(1));
         if put(&mut self.runs, index, number) {
             self.count += 1;
+            recount(&self.runs, &mut self.before, index);
         }
     }
 
@@ -93,6 +102,7 @@ impl NumberRuns {
         let index = first_from(&self.runs, number);
         if take(&mut self.runs, index, number) {
             self.count -= 1;
+            recount(&self.runs, &mut self.before, index);
         }
     }
 
@@ -136,6 +146,49 @@ impl NumberRuns {
                     None
                 }
             }
+        }
+    }
+
+    /// The least number from low to high that is in this set and not in the other, whose numbers are all in this one; in the product
+    /// of the logarithms of the numbers of runs.
+    pub fn first_beyond(&self, fewer: &NumberRuns, low: u128, high: u128) -> Option<u128>
+        requires { IsLeft (has self.now) fewer.now }
+        ensures some { IfSome result (λ n. IsLeastIn (is_beyond self.now fewer.now) low high n) }
+        ensures none { IfNone result (NonePasses (is_beyond self.now fewer.now) low high) }
+    {
+        let index = self.runs_up_to(fewer, self.count_beyond(fewer, low));
+        // Behind the run there are more such numbers ahead than at the low end: so this run has the first of them, or none does.
+        let run = run_at(&self.runs, index.checked_sub(1)?)?;
+        fewer.first_absent(low.max(run.first), high.min(run.last))
+    }
+
+    /// How many runs have at most so many numbers below their first that are in this set and not in the other.
+    fn runs_up_to(&self, fewer: &NumberRuns, most: usize) -> usize
+        requires { IsLeft (has self.now) fewer.now }
+        ensures within { result ≤ length self.now.runs }
+        ensures point { IsPartitionPoint (λ run. count_below (is_beyond self.now fewer.now) run.first ≤ most)
+            (λ run. most < count_below (is_beyond self.now fewer.now) run.first) self.now.runs result }
+    {
+        self.runs
+            .partition_point(|run| self.count_beyond(fewer, run.first) <= most)
+    }
+
+    /// How many numbers below this one are in this set and not in the other, whose numbers are all in this one.
+    fn count_beyond(&self, fewer: &NumberRuns, number: u128) -> usize
+        ensures { result ≡ count_below (has self.now) number - count_below (has fewer.now) number }
+    {
+        self.count_below(number)
+            .saturating_sub(fewer.count_below(number))
+    }
+
+    /// How many numbers of the set are below this one; in the logarithm of the number of runs.
+    fn count_below(&self, number: u128) -> usize
+        ensures { result ≡ count_below (has self.now) number }
+    {
+        let index = first_from(&self.runs, number);
+        match run_at(&self.runs, index) {
+            Some(run) => self.before[index] + number.saturating_sub(run.first) as usize,
+            None => self.count,
         }
     }
 }
@@ -190,6 +243,8 @@ fn put(runs: &mut Vec<Run>, index: usize, number: u128) -> bool
     requires room { vec_len runs.old < vec_capacity runs.old }
     ensures set { IsSetTo 0 number true runs.old.items runs.new.items }
     ensures added { result ≡ not (has_number runs.old.items number) }
+    ensures same { IsFalse result → runs.new.items ≡ runs.old.items }
+    ensures kept { take index runs.new.items ≡ take index runs.old.items }
     ensures capacity { vec_capacity runs.new ≡ vec_capacity runs.old }
 {
     let alone = Run {
@@ -234,6 +289,7 @@ fn extend(runs: &mut Vec<Run>, index: usize, number: u128)
     requires found { IsFound (number - 1) runs.old.items index }
     requires ends { IsSomeAnd (slice_get runs.old.items index) (λ run. run.last + 1 ≡ number) }
     ensures set { IsSetTo 0 number true runs.old.items runs.new.items }
+    ensures kept { take index runs.new.items ≡ take index runs.old.items }
     ensures capacity { vec_capacity runs.new ≡ vec_capacity runs.old }
 {
     let first = runs[index].first;
@@ -261,6 +317,8 @@ fn take(runs: &mut Vec<Run>, index: usize, number: u128) -> bool
     requires room { count_numbers runs.old.items ≤ vec_capacity runs.old }
     ensures set { IsSetTo 0 number false runs.old.items runs.new.items }
     ensures taken { result ≡ has_number runs.old.items number }
+    ensures same { IsFalse result → runs.new.items ≡ runs.old.items }
+    ensures kept { take index runs.new.items ≡ take index runs.old.items }
     ensures capacity { vec_capacity runs.new ≡ vec_capacity runs.old }
 {
     let Some(run) = run_at(runs, index) else {

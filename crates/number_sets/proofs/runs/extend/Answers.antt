@@ -1,8 +1,9 @@
-use Rattle.std.proofs.Common.{◌≡◌, ◌<◌, ◌≤◌, ◌-◌, ◌+◌, Some, None, true, sym, subst, arith}
+use Rattle.std.proofs.Common.{◌≡◌, ◌<◌, ◌≤◌, ◌-◌, ◌+◌, Some, None, true, sym, subst, ◌∙◌, arith}
 use Rattle.std.specs.List.{slice_get}
 use Rattle.number_sets.specs.RunLists.{IsSetTo}
 use Rattle.number_sets.proofs.EditLaws.{put-join, put-last, put-last-end}
 use Rattle.number_sets.proofs.RunLaws.{read-at}
+use Rattle.number_sets.proofs.CountLaws.{front-remove, front-set}
 use Rattle.number_sets.proofs.runs.extend.Goals as goal
 use Rattle.number_sets.proofs.runs.extend.Goals.{in_default-via-in-Some+else-saturating_sub-le1, in_default-via-in_default}
 
@@ -26,3 +27,11 @@ returns-in_default-clause-set c =
           let none : slice_get c.args.runs.now.items (c.args.index + 1) ≡ None = cc in
           put-last-end c.args.number c.args.runs.now.items c.args.index c.requires.found c.index.result.now here.0 here.1 none
     ]
+
+pub returns-in-Some-clause-kept : goal.returns-in-Some-clause-kept
+returns-in-Some-clause-kept c =
+    let i = c.args.index in
+    rw c.remove-joined.ensures.items (front-remove _ (i + 1) i (omega arith) ∙ front-set c.args.runs.now.items i i _ (omega arith))
+
+pub returns-in_default-clause-kept : goal.returns-in_default-clause-kept
+returns-in_default-clause-kept c = front-set c.args.runs.now.items c.args.index c.args.index _ (omega arith)

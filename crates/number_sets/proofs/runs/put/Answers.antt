@@ -4,6 +4,7 @@ use Rattle.std.specs.List.{slice_get}
 use Rattle.number_sets.specs.RunLists.{IsSetTo}
 use Rattle.number_sets.proofs.EditLaws.{put-end, put-end-absent, put-new, put-first, put-front-absent, put-same, put-last-ends, put-last-absent}
 use Rattle.number_sets.proofs.RunLaws.{ends-at, has-at}
+use Rattle.number_sets.proofs.CountLaws.{front-insert, front-set}
 use Rattle.number_sets.proofs.runs.put.Goals as goal
 
 pub returns-in_default-clause-set : goal.returns-in_default-clause-set
@@ -64,3 +65,16 @@ pub returns-then-run-number-clause-added : goal.returns-then-run-number-clause-a
 returns-then-run-number-clause-added c =
     let here : slice_get c.args.runs.now.items c.args.index ≡ Some c.in-Some.run' = cc in
     sym (ap not (put-last-absent c.args.number c.args.runs.now.items c.args.index c.requires.found c.in-Some.run' here c.if-run-number.true))
+
+pub returns-in_default-clause-kept : goal.returns-in_default-clause-kept
+returns-in_default-clause-kept c =
+    let i = c.args.index in
+    rw c.place.ensures.items (front-insert c.args.runs.now.items i i _ (omega arith) c.requires.found.within)
+
+pub returns-then-saturating_sub-gt1-clause-kept : goal.returns-then-saturating_sub-gt1-clause-kept
+returns-then-saturating_sub-gt1-clause-kept c =
+    let i = c.args.index in
+    rw c.place-then-saturating_sub-gt1.ensures.items (front-insert c.args.runs.now.items i i _ (omega arith) c.requires.found.within)
+
+pub returns-then-number-run-clause-kept : goal.returns-then-number-run-clause-kept
+returns-then-number-run-clause-kept c = front-set c.args.runs.now.items c.args.index c.args.index _ (omega arith)

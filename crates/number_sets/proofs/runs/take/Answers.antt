@@ -4,6 +4,7 @@ use Rattle.std.specs.List.{slice_get}
 use Rattle.number_sets.specs.RunLists.{IsSetTo}
 use Rattle.number_sets.proofs.EditLaws.{past-absent, front-absent, there, take-single, take-first, take-last, take-middle}
 use Rattle.number_sets.proofs.RunLaws.{set-same, ends-from, fewer-runs}
+use Rattle.number_sets.proofs.CountLaws.{front-cut, front-remove, front-set}
 use Rattle.number_sets.proofs.runs.take.Goals as goal
 
 pub returns-in_default-clause-set : goal.returns-in_default-clause-set
@@ -101,3 +102,19 @@ pub returns-else-number-run-3-clause-taken : goal.returns-else-number-run-3-clau
 returns-else-number-run-3-clause-taken c =
     let here : slice_get c.args.runs.now.items c.args.index ≡ Some c.in-Some.run' = cc in
     sym (there c.args.number c.args.runs.now.items c.args.index c.requires.found c.in-Some.run' here c.if-number-run.false)
+
+pub returns-then-run-clause-kept : goal.returns-then-run-clause-kept
+returns-then-run-clause-kept c =
+    let i = c.args.index in
+    rw c.remove-single.ensures.items (front-remove c.args.runs.now.items i i (omega arith))
+
+pub returns-then-number-run-2-clause-kept : goal.returns-then-number-run-2-clause-kept
+returns-then-number-run-2-clause-kept c = front-set c.args.runs.now.items c.args.index c.args.index _ (omega arith)
+
+pub returns-then-number-run-3-clause-kept : goal.returns-then-number-run-3-clause-kept
+returns-then-number-run-3-clause-kept c =
+    let here : slice_get c.args.runs.now.items c.args.index ≡ Some c.in-Some.run' = cc in
+    rw c.place.ensures.items (front-cut c.args.runs.now.items c.args.index _ _ (slice_get_within c.args.runs.now.items c.args.index c.in-Some.run' here))
+
+pub returns-else-number-run-3-clause-kept : goal.returns-else-number-run-3-clause-kept
+returns-else-number-run-3-clause-kept c = front-set c.args.runs.now.items c.args.index c.args.index _ (omega arith)

@@ -166,3 +166,23 @@ nil-from (n ∷ ns) e = absurd (true≢false (sym e))
 pub none-left : (runs : RunsValue) (claims : IndexValue ℕ) → AreListed runs claims → has runs ≡ (λ n. false) → numbers_under nat_cmp claims ≡ (λ n. [])
 none-left runs claims are none =
     λ i n. nil-from (numbers_under nat_cmp claims n) (ap (λ (f : ℕ → Bool). f n) (sym none) ∙ ap (λ (f : ℕ → Bool). f n) are) i
+
+-- ---- what one list of claims has beyond another
+module _ (runs fewer : RunsValue) (claims others : IndexValue ℕ) (are : AreListed runs claims) (others_are : AreListed fewer others) where
+  abbrev listed : IndexValue ℕ → ℕ → Bool
+  listed c n = not (is_nil (numbers_under nat_cmp c n))
+
+  pub runs-within : ((n : ℕ) → listed others n ≡ true → listed claims n ≡ true) → (n : ℕ) → has fewer n ≡ true → has runs n ≡ true
+  runs-within each n here =
+      ap (λ (f : ℕ → Bool). f n) (held runs claims are) ∙ each n (sym (ap (λ (f : ℕ → Bool). f n) (held fewer others others_are)) ∙ here)
+
+  beyond-is : ◌≡◌ {A = ℕ → Bool} (λ n. has runs n && not (has fewer n)) (λ n. listed claims n && not (listed others n))
+  beyond-is = λ i n. held runs claims are i n && not (held fewer others others_are i n)
+
+  pub least-beyond : (found : Option ℕ) (low high : ℕ) → IfSome found (λ n. IsLeastIn (λ m. has runs m && not (has fewer m)) low high n)
+      → IfSome found (λ n. IsLeastIn (λ m. listed claims m && not (listed others m)) low high n)
+  least-beyond found low high least = subst (λ (test : ℕ → Bool). IfSome found (λ n. IsLeastIn test low high n)) beyond-is least
+
+  pub none-beyond : (found : Option ℕ) (low high : ℕ) → IfNone found (NonePasses (λ m. has runs m && not (has fewer m)) low high)
+      → IfNone found (NonePasses (λ m. listed claims m && not (listed others m)) low high)
+  none-beyond found low high none = subst (λ (test : ℕ → Bool). IfNone found (NonePasses test low high)) beyond-is none

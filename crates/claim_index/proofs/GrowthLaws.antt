@@ -1,13 +1,12 @@
--- A claim gets room in its slots, and is listed there, one port after the other.
-use Rattle.std.proofs.Common.{◌≡◌, ℕ, ◌+◌, ◌<◌, ◌≤◌, Bool, true, false, ◌||◌, if◌then◌else◌, List, [], ◌∷◌, ◌++◌, length, take}
+-- A claim gets room in its slots, and is listed there, one slot after the other.
+use Rattle.std.proofs.Common.{◌≡◌, ℕ, ◌+◌, ◌<◌, ◌≤◌, zero, suc, Bool, true, false, not, ◌&&◌, ◌||◌, if◌then◌else◌, List, [], ◌∷◌, ◌++◌, length, map, take}
 use Rattle.std.proofs.Common.{drop, get_or, Ordering, Less, Greater, refl, sym, ap, subst, ◌∙◌, arith, add-one, append-nil, ⊎_elim}
 use Rattle.std.proofs.lemmas.Bool.{or_cases, or_right, cases_Bool, false_from_ne_true, true≢false}
 use Rattle.std.proofs.lemmas.Bool.Decides.{same_from_decides}
-use Rattle.std.proofs.lemmas.List.{take-append-drop, take_all}
+use Rattle.std.proofs.lemmas.List.{take_all}
 use Rattle.std.proofs.lemmas.List.Folds.{list_any-append}
 use Rattle.std.proofs.Math.Seq.{take-suc, drop-cons}
-use Rattle.std.specs.Cmp.{IsTotalOrder}
-use Rattle.std.specs.List.{AllByRecursion, Contains}
+use Rattle.std.specs.List.{AllByRecursion, Contains, list_any}
 use Rattle.std.specs.List.Sorted.{IsStrictlySortedBy}
 use Rattle.std.specs.Ordering.{ordering_reverse}
 use Rattle.std.specs.Str.{bytes_eq}
@@ -15,7 +14,8 @@ use Rattle.std.proofs.lemmas.Slice.Eq.{bytes_eq-Decides}
 use Rattle.ip_ranges.specs.declared.family.Family.{Family}
 use Rattle.ip_ranges.specs.Values.{AddressValue}
 use Rattle.kube_model.specs.declared.port.Port.{Port}
-use Rattle.mlb_base.proofs.Among.{contains-none, contains-cons, contains-first, contains-later, any-contains, any-found}
+use Rattle.mlb_base.specs.Items.{is_nil}
+use Rattle.mlb_base.proofs.Among.{contains-none, contains-cons, contains-first, contains-later, any-contains}
 use Rattle.sharing_terms.specs.Ports.{port_cmp, AreAscending}
 use Rattle.sharing_terms.specs.Sharing.{same_port, has_port}
 use Rattle.sharing_terms.proofs.PortSets.{port_cmp-total}
@@ -24,113 +24,191 @@ use Rattle.claim_index.specs.declared.slot.Slot.{Slot}
 use Rattle.claim_index.specs.declared.slot.Slot.TheVariants.{Any, OfPort, OfGroup}
 use Rattle.claim_index.specs.Claims.{ClaimValue}
 use Rattle.claim_index.specs.Holders.{AddressHoldersValue, HasRoomAt, in_slot, claims_at, claims_having, claim_room, address_room}
-use Rattle.claim_index.specs.Slots.{same_slot, is_slot_of, ports_of, occupies}
+use Rattle.claim_index.specs.Slots.{same_slot, shared_slots, slots_of, occupies, AreApart}
 use Rattle.claim_index.specs.Groups.{group_of}
 use Rattle.claim_index.proofs.SlotLaws.{same_slot-is, same_slot-itself}
 use Rattle.claim_index.proofs.IndexGrowth.{room-same}
 
--- ---- lists that ascend
-
-module _ {K : Type 0} (R : K → K → Ordering) where
-  at-next : (P : K → Type 0) (kept : List K) (k : K) (rest : List K) → AllByRecursion P (kept ++ k ∷ rest) → P k
-  at-next P [] k rest all = all.0
-  at-next P (x ∷ kept) k rest all = at-next P kept k rest all.1
-
-  at-each : (P : K → Type 0) (ks : List K) (x : K) → AllByRecursion P ks → Contains ks x → P x
-  at-each P [] x all there = absurd (contains-none x there)
-  at-each P (k ∷ ks) x all there = ⊎_elim (λ first. subst P first all.0) (λ later. at-each P ks x all.1 later) (contains-cons k ks x there)
-
-  -- what stands before a key is less
-  less-before : (kept : List K) (k : K) (rest : List K) (x : K) → IsStrictlySortedBy R (kept ++ k ∷ rest) → Contains kept x → R x k ≡ Less
-  unfolding IsStrictlySortedBy
-  less-before [] k rest x up there = absurd (contains-none x there)
-  less-before (y ∷ kept) k rest x up there =
-      ⊎_elim
-      (λ first. subst (λ z. R z k ≡ Less) first (at-next (λ z. R y z ≡ Less) kept k rest up.0))
-      (λ later. less-before kept k rest x up.1 later)
-      (contains-cons y kept x there)
-
-  -- and a key is less than what stands behind it
-  less-behind : (kept : List K) (k : K) (rest : List K) (x : K) → IsStrictlySortedBy R (kept ++ k ∷ rest) → Contains rest x → R k x ≡ Less
-  unfolding IsStrictlySortedBy
-  less-behind [] k rest x up there = at-each (λ z. R k z ≡ Less) rest x up.0 there
-  less-behind (y ∷ kept) k rest x up there = less-behind kept k rest x up.1 there
-
-  never-less : IsTotalOrder R → (k : K) → R k k ≡ Less → ⊥
-  never-less total k less =
-      let both : Less ≡ Greater = sym less ∙ total.antisymm k k ∙ ap ordering_reverse less in cc
-
 -- ---- the slots of a claim, one more at a time
+
+pub or-none : (b : Bool) → (b || false) ≡ b
+or-none true = refl
+or-none false = refl
+
+or-along : (a b c : Bool) → (a || (b || c)) ≡ ((a || b) || c)
+or-along true b c = refl
+or-along false b c = refl
+
+-- no slot yet
+abbrev pub no_slot : Slot → Bool
+no_slot s = false
+
+-- the slot of all claims, and these
+abbrev pub with_first : List Slot → Slot → Bool
+with_first slots s = same_slot Any s || list_any (λ x. same_slot x s) slots
+
+-- the slot of all claims comes first
+pub slots-start : (s : Slot) → with_first [] s ≡ (no_slot s || same_slot Any s)
+slots-start s = or-none (same_slot Any s)
+
+or-none-of : (x y : Bool) → (x || y) ≡ false → (x ≡ false) × (y ≡ false)
+or-none-of true y e = absurd (true≢false e)
+or-none-of false y e = (refl, e)
+
+both-none : (a b c : Bool) → (a || c) ≡ false → b ≡ false → (a || (b || c)) ≡ false
+both-none a b c none other = ap (λ x. a || (x || c)) other ∙ none
+
+not-any : (test : Slot → Bool) (slots : List Slot) (i : ℕ) (d : Slot) → list_any test slots ≡ false → i < length slots → test (get_or slots i d) ≡ false
+not-any test [] i d none within = absurd (omega (arith, within))
+not-any test (x ∷ xs) zero d none within = (or-none-of (test x) (list_any test xs) none).0
+not-any test (x ∷ xs) (suc i) d none within = not-any test xs i d (or-none-of (test x) (list_any test xs) none).1 (omega (arith, within))
+
+module _ (slots : List Slot) (i : ℕ) (d : Slot) (within : i < length slots) where
+  abbrev next : Slot
+  next = get_or slots i d
+
+  slots-rest : drop i slots ≡ next ∷ drop (i + 1) slots
+  slots-rest = drop-cons slots i d within ∙ ap (λ n. next ∷ drop n slots) (sym (add-one i))
+
+  -- the slots up to this one
+  slots-more : (s : Slot) → with_first (take (i + 1) slots) s ≡ (with_first (take i slots) s || same_slot next s)
+  slots-more s =
+      ap (λ (xs : List Slot). with_first xs s) (ap (λ n. take n slots) (add-one i) ∙ take-suc slots i d within)
+      ∙ ap (λ b. same_slot Any s || b)
+      (list_any-append (λ x. same_slot x s) (take i slots) (next ∷ [])
+      ∙ ap (λ b. list_any (λ x. same_slot x s) (take i slots) || b) (or-none (same_slot next s)))
+      ∙ or-along (same_slot Any s) (list_any (λ x. same_slot x s) (take i slots)) (same_slot next s)
+
+-- none of the slots before it is this one
+not-before : (slots : List Slot) (i : ℕ) (d : Slot) → i < length slots → AreApart slots → with_first (take i slots) (get_or slots i d) ≡ false
+not-before [] i d within apart = absurd (omega (arith, within))
+not-before (x ∷ xs) zero d within apart = or-none (same_slot Any x) ∙ apart.0
+not-before (x ∷ xs) (suc i) d within apart =
+    let later : i < length xs = omega (arith, within) in
+    both-none (same_slot Any (get_or xs i d)) (same_slot x (get_or xs i d)) (list_any (λ y. same_slot y (get_or xs i d)) (take i xs))
+    (not-before xs i d later apart.2) (not-any (same_slot x) xs i d apart.1 later)
+
+-- and none of those behind it
+behind-by : (slots : List Slot) (i : ℕ) (d s : Slot) → i < length slots → AreApart slots → Contains (drop (suc i) slots) s
+    → same_slot (get_or slots i d) s ≡ false
+behind-by [] i d s within apart there = absurd (omega (arith, within))
+behind-by (x ∷ xs) zero d s within apart there =
+    false_from_ne_true (same_slot x s) (λ e. true≢false (sym (any-contains (same_slot x) xs s there e) ∙ apart.1))
+behind-by (x ∷ xs) (suc i) d s within apart there = behind-by xs i d s (omega (arith, within)) apart.2 there
+
+not-behind : (slots : List Slot) (i : ℕ) (d s : Slot) → i < length slots → AreApart slots → Contains (drop (i + 1) slots) s
+    → same_slot (get_or slots i d) s ≡ false
+not-behind slots i d s within apart there =
+    behind-by slots i d s within apart (subst (λ n. Contains (drop n slots) s) (add-one i) there)
+
+apart-first : (slots : List Slot) (s : Slot) → AreApart slots → Contains slots s → same_slot Any s ≡ false
+apart-first [] s apart there = absurd (contains-none s there)
+apart-first (x ∷ xs) s apart there =
+    ⊎_elim (λ first. ap (same_slot Any) (sym first) ∙ apart.0) (λ later. apart-first xs s apart.2 later) (contains-cons x xs s there)
+
+-- the same of the slot that a walk comes to
+module _ (slots : List Slot) (i : ℕ) (x : Slot) (within : i < length slots) (is : x ≡ get_or slots i x) where
+  pub slots-next : (s : Slot) → with_first (take (i + 1) slots) s ≡ (with_first (take i slots) s || same_slot x s)
+  slots-next s = slots-more slots i x within s ∙ ap (λ (y : Slot). with_first (take i slots) s || same_slot y s) (sym is)
+
+  pub not-yet : AreApart slots → with_first (take i slots) x ≡ false
+  not-yet apart = ap (λ (y : Slot). with_first (take i slots) y) is ∙ not-before slots i x within apart
+
+-- ---- the slots of terms
 
 same_port-flip : (p q : Port) → same_port p q ≡ same_port q p
 same_port-flip p q =
     same_from_decides (same_port p q) (same_port q p) (same_port-is p q, λ e. subst (λ r. same_port p r ≡ true) e (same_port-itself p))
     (λ e. sym (same_port-is q p e), λ e. subst (λ r. same_port r p ≡ true) e (same_port-itself p))
 
-pub or-none : (b : Bool) → (b || false) ≡ b
-or-none true = refl
-or-none false = refl
+abbrev port_slots : List ℕ → List Port → List Slot
+port_slots group ports = map (λ port. OfPort port group) ports
 
--- no slot yet
-abbrev pub no_slot : Slot → Bool
-no_slot s = false
+no-group : (group other : List ℕ) (ports : List Port) → list_any (λ x. same_slot x (OfGroup other)) (port_slots group ports) ≡ false
+no-group group other [] = refl
+no-group group other (p ∷ ps) = no-group group other ps
 
--- the slot of all claims
-abbrev pub first_slot : Slot → Bool
-first_slot s = same_slot Any s
+and-true : (b : Bool) → (b && true) ≡ b
+and-true true = refl
+and-true false = refl
 
--- with that of the group, the slots where there is no port yet
-pub slots-start : (group : List ℕ) (x : Slot) → x ≡ OfGroup group → (s : Slot) → is_slot_of group [] s ≡ (first_slot s || same_slot x s)
-slots-start group x is s = by s ∙ ap (λ (y : Slot). first_slot s || same_slot y s) (sym is)
+and-false : (b : Bool) → (b && false) ≡ false
+and-false true = refl
+and-false false = refl
+
+port-by : (one : Bool) (ports : List Port) (q : Port) → list_any (λ p. same_port p q && one) ports ≡ (one && list_any (same_port q) ports)
+port-by true [] q = refl
+port-by false [] q = refl
+port-by true (p ∷ ps) q =
+    ap (λ b. b || list_any (λ p. same_port p q && true) ps) (and-true (same_port p q) ∙ same_port-flip p q) ∙ ap (λ b. same_port q p || b) (port-by true ps q)
+port-by false (p ∷ ps) q = ap (λ b. b || list_any (λ p. same_port p q && false) ps) (and-false (same_port p q)) ∙ port-by false ps q
+
+over-ports : (group other : List ℕ) (ports : List Port) (q : Port)
+    → list_any (λ x. same_slot x (OfPort q other)) (port_slots group ports) ≡ list_any (λ p. same_port p q && bytes_eq group other) ports
+over-ports group other [] q = refl
+over-ports group other (p ∷ ps) q = ap (λ b. (same_port p q && bytes_eq group other) || b) (over-ports group other ps q)
+
+-- whether the slot is one of those of terms of this group with these ports
+abbrev is_slot_by : Bool → List ℕ → List Port → Slot → Bool
+is_slot_by keyless group ports Any = true
+is_slot_by keyless group ports (OfGroup other) = not keyless && bytes_eq group other
+is_slot_by keyless group ports (OfPort q other) = (not keyless && bytes_eq group other) && has_port ports q
+
+slots-by : (keyless : Bool) (group : List ℕ) (ports : List Port) (s : Slot)
+    → with_first (if keyless then [] else shared_slots group ports) s ≡ is_slot_by keyless group ports s
+slots-by keyless group ports Any = refl
+slots-by true group ports (OfGroup other) = refl
+slots-by true group ports (OfPort q other) = refl
+slots-by false group ports (OfGroup other) = ap (λ b. bytes_eq group other || b) (no-group group other ports) ∙ or-none (bytes_eq group other)
+slots-by false group ports (OfPort q other) = over-ports group other ports q ∙ port-by (bytes_eq group other) ports q
+
+-- a claim is listed in the slot of all claims and in those of its terms
+pub occupied : (c : ClaimValue) (s : Slot) → with_first (slots_of c.terms) s ≡ occupies s c
+occupied c Any = refl
+occupied c (OfGroup other) = slots-by (is_nil c.terms.key) (group_of c.terms) c.terms.ports (OfGroup other)
+occupied c (OfPort q other) = slots-by (is_nil c.terms.key) (group_of c.terms) c.terms.ports (OfPort q other)
+
+-- it is listed in each of these
+pub occupied-each : (c : ClaimValue) (s : Slot) → Contains (slots_of c.terms) s → occupies s c ≡ true
+occupied-each c s there =
+    sym (occupied c s) ∙ or_right (same_slot Any s) (list_any (λ x. same_slot x s) (slots_of c.terms))
+    (any-contains (λ x. same_slot x s) (slots_of c.terms) s there (same_slot-itself s))
+
+never-less : (port : Port) → port_cmp port port ≡ Less → ⊥
+never-less port less =
+    let both : Less ≡ Greater = sym less ∙ port_cmp-total.antisymm port port ∙ ap ordering_reverse less in cc
+
+other-ports : (group : List ℕ) (port : Port) (ports : List Port) → AllByRecursion (λ q. port_cmp port q ≡ Less) ports
+    → list_any (same_slot (OfPort port group)) (port_slots group ports) ≡ false
+other-ports group port [] less = refl
+other-ports group port (q ∷ qs) less =
+    let apart : same_port port q ≡ false =
+    false_from_ne_true (same_port port q) (λ e. never-less port (subst (λ p. port_cmp port p ≡ Less) (sym (same_port-is port q e)) less.0)) in
+    ap (λ b. (b && bytes_eq group group) || list_any (same_slot (OfPort port group)) (port_slots group qs)) apart ∙ other-ports group port qs less.1
+
+no-ports : (group : List ℕ) (ports : List Port) → list_any (same_slot (OfGroup group)) (port_slots group ports) ≡ false
+no-ports group [] = refl
+no-ports group (p ∷ ps) = no-ports group ps
+
+ports-apart : (group : List ℕ) (ports : List Port) → AreAscending ports → AreApart (port_slots group ports)
+unfolding IsStrictlySortedBy
+ports-apart group [] up = tt
+ports-apart group (p ∷ ps) up = (refl, other-ports group p ps up.0, ports-apart group ps up.1)
+
+-- the slots of ports that ascend are apart
+pub shared-apart : (group : List ℕ) (ports : List Port) → AreAscending ports → AreApart (shared_slots group ports)
+shared-apart group ports up = (refl, no-ports group ports, ports-apart group ports up)
+
+-- the slots of the ports so far
+pub shared-more : (group : List ℕ) (ports : List Port) (i : ℕ) (d : Port) → i < length ports
+    → shared_slots group (take (i + 1) ports) ≡ shared_slots group (take i ports) ++ OfPort (get_or ports i d) group ∷ []
+shared-more group ports i d within =
+    ap (λ (ps : List Port). shared_slots group ps) (ap (λ n. take n ports) (add-one i) ∙ take-suc ports i d within)
+    ∙ ap (λ (xs : List Slot). OfGroup group ∷ xs) (mapped (take i ports) (get_or ports i d))
   where
-    by : (s : Slot) → is_slot_of group [] s ≡ (first_slot s || same_slot (OfGroup group) s)
-    by Any = refl
-    by (OfPort port) = refl
-    by (OfGroup other) = refl
-
--- the slot of the group isn't that of all claims
-pub group-apart : (group : List ℕ) (x : Slot) → x ≡ OfGroup group → first_slot x ≡ false
-group-apart group x is = ap first_slot is
-
--- the claim occupies it
-pub group-occupied : (c : ClaimValue) (x : Slot) → x ≡ OfGroup (group_of c.terms) → occupies x c ≡ true
-group-occupied c x is = ap (λ (y : Slot). occupies y c) is ∙ (bytes_eq-Decides (group_of c.terms) (group_of c.terms)).1 refl
-
-module _ (group : List ℕ) (ports : List Port) (i : ℕ) (d : Port) (within : i < length ports) where
-  abbrev pub next : Port
-  next = get_or ports i d
-
-  ports-more : take (i + 1) ports ≡ take i ports ++ next ∷ []
-  ports-more = ap (λ n. take n ports) (add-one i) ∙ take-suc ports i d within
-
-  ports-rest : drop i ports ≡ next ∷ drop (i + 1) ports
-  ports-rest = drop-cons ports i d within ∙ ap (λ n. next ∷ drop n ports) (sym (add-one i))
-
-  all-ports : take i ports ++ next ∷ drop (i + 1) ports ≡ ports
-  all-ports = ap (λ (rest : List Port). take i ports ++ rest) (sym ports-rest) ∙ take-append-drop i ports
-
-  -- the slots of the ports up to this one
-  pub slots-more : (s : Slot) → is_slot_of group (take (i + 1) ports) s ≡ (is_slot_of group (take i ports) s || same_slot (OfPort next) s)
-  slots-more Any = refl
-  slots-more (OfPort port) =
-      ap (λ (ps : List Port). has_port ps port) ports-more
-      ∙ list_any-append (same_port port) (take i ports) (next ∷ [])
-      ∙ ap (λ b. has_port (take i ports) port || b) (or-none (same_port port next) ∙ same_port-flip port next)
-  slots-more (OfGroup other) = sym (or-none (bytes_eq group other))
-
-  -- none of those before it is this one
-  pub not-before : AreAscending ports → has_port (take i ports) next ≡ false
-  not-before up = false_from_ne_true (has_port (take i ports) next) (λ e.
-      let found = any-found (same_port next) (take i ports) e in
-      let less : port_cmp found.0 next ≡ Less =
-      less-before port_cmp (take i ports) next (drop (i + 1) ports) found.0 (subst AreAscending (sym all-ports) up) found.1 in
-      never-less port_cmp port_cmp-total next (subst (λ p. port_cmp p next ≡ Less) (sym (same_port-is next found.0 found.2)) less))
-
-  -- and none of those behind it
-  not-behind : AreAscending ports → (port : Port) → Contains (drop (i + 1) ports) port → same_port next port ≡ false
-  not-behind up port there = false_from_ne_true (same_port next port) (λ e.
-      let less : port_cmp next port ≡ Less = less-behind port_cmp (take i ports) next (drop (i + 1) ports) port (subst AreAscending (sym all-ports) up) there in
-      never-less port_cmp port_cmp-total next (subst (λ p. port_cmp next p ≡ Less) (sym (same_port-is next port e)) less))
+    mapped : (ps : List Port) (p : Port) → port_slots group (ps ++ p ∷ []) ≡ port_slots group ps ++ OfPort p group ∷ []
+    mapped [] p = refl
+    mapped (q ∷ qs) p = ap (λ (xs : List Slot). OfPort q group ∷ xs) (mapped qs p)
 
 -- ---- room
 
@@ -166,6 +244,12 @@ room-next before after more addresses slots grown x grows room claims families h
 pub room-none : (h : AddressHoldersValue) (more : ℕ) (addresses : List AddressValue) → HasRoomIn h more addresses no_slot
 room-none h more addresses s e = absurd (true≢false (sym e))
 
+-- and where there is room in all slots of the claim, there is in each in which it is listed
+pub room-all : (h : AddressHoldersValue) (more : ℕ) (addresses : List AddressValue) (c : ClaimValue) (slots : List Slot) (i : ℕ) → length slots ≤ i
+    → slots ≡ slots_of c.terms → HasRoomIn h more addresses (with_first (take i slots)) → (s : Slot) → occupies s c ≡ true → HasRoomAt h more s addresses
+room-all h more addresses c slots i passed is room s e =
+    room s (ap (λ (xs : List Slot). with_first xs s) (take_all i slots passed ∙ is) ∙ occupied c s ∙ e)
+
 -- ---- the lists of claims
 
 -- a slot that stays has the same claims
@@ -173,44 +257,34 @@ claims-same : (before after : AddressHoldersValue) (slot : Slot) → in_slot aft
     → claims_having after slot ≡ claims_having before slot
 claims-same before after slot same = λ i a. claims_at (same i a.family) a.number
 
--- room for the group, once the claim is listed in the slot of all claims
-pub room-group : (before after : AddressHoldersValue) (more : ℕ) (addresses : List AddressValue) (c : ClaimValue) (x : Slot) → x ≡ OfGroup (group_of c.terms)
+-- room in the slots of the claim, once it is listed in that of all claims
+pub room-start : (before after : AddressHoldersValue) (more : ℕ) (addresses : List AddressValue) (c : ClaimValue) (slots : List Slot)
+    → slots ≡ slots_of c.terms → AreApart slots
     → ((s : Slot) → occupies s c ≡ true → HasRoomAt before more s addresses)
     → ((s : Slot) → same_slot Any s ≡ false → in_slot after s ≡ in_slot before s)
-    → HasRoomAt after more x addresses
-room-group before after more addresses c x is room others =
-    room-same before after more x addresses (others x (group-apart (group_of c.terms) x is)) (room x (group-occupied c x is))
+    → (s : Slot) → Contains slots s → HasRoomAt after more s addresses
+room-start before after more addresses c slots are apart room others s there =
+    room-same before after more s addresses (others s (apart-first slots s apart there))
+    (room s (occupied-each c s (subst (λ (xs : List Slot). Contains xs s) are there)))
 
--- and for the ports that come, once it is listed in that of the group too
-pub room-ports : (before between after : AddressHoldersValue) (more : ℕ) (addresses : List AddressValue) (c : ClaimValue) (x : Slot) (ports : List Port)
-    → x ≡ OfGroup (group_of c.terms) → ports ≡ ports_of c
-    → ((s : Slot) → occupies s c ≡ true → HasRoomAt before more s addresses)
-    → ((s : Slot) → same_slot Any s ≡ false → in_slot between s ≡ in_slot before s)
-    → ((s : Slot) → same_slot x s ≡ false → in_slot after s ≡ in_slot between s)
-    → (port : Port) → Contains ports port → HasRoomAt after more (OfPort port) addresses
-room-ports before between after more addresses c x ports x_is is room first second port there =
-    let listed : has_port (ports_of c) port ≡ true =
-    ap (λ (ps : List Port). has_port ps port) (sym is) ∙ any-contains (same_port port) ports port there (same_port-itself port) in
-    room-same before after more (OfPort port) addresses (second (OfPort port) (ap (λ (y : Slot). same_slot y (OfPort port)) x_is) ∙ first (OfPort port) refl)
-    (room (OfPort port) listed)
+-- there is room in the slot that comes next
+pub room-here : (h : AddressHoldersValue) (more : ℕ) (addresses : List AddressValue) (slots : List Slot) (i : ℕ) (x : Slot) → i < length slots
+    → x ≡ get_or slots i x → ((s : Slot) → Contains (drop i slots) s → HasRoomAt h more s addresses) → HasRoomAt h more x addresses
+room-here h more addresses slots i x within is room =
+    let next : Slot = get_or slots i x in
+    subst (λ (s : Slot). HasRoomAt h more s addresses) (sym is)
+    (room next (subst (λ (xs : List Slot). Contains xs next) (sym (slots-rest slots i x within)) (contains-first next (drop (i + 1) slots))))
 
--- there is room for the port that comes next
-pub room-here : (h : AddressHoldersValue) (more : ℕ) (addresses : List AddressValue) (ports : List Port) (i : ℕ) (d : Port) → i < length ports
-    → ((port : Port) → Contains (drop i ports) port → HasRoomAt h more (OfPort port) addresses) → HasRoomAt h more (OfPort (get_or ports i d)) addresses
-room-here h more addresses ports i d within room =
-    let next : Port = get_or ports i d in
-    room next (subst (λ (ps : List Port). Contains ps next) (sym (ports-rest [] ports i d within)) (contains-first next (drop (i + 1) ports)))
-
--- and then for those behind it
-pub room-behind : (before after : AddressHoldersValue) (more : ℕ) (addresses : List AddressValue) (ports : List Port) (i : ℕ) (d : Port) → i < length ports
-    → AreAscending ports
-    → ((port : Port) → Contains (drop i ports) port → HasRoomAt before more (OfPort port) addresses)
-    → ((s : Slot) → same_slot (OfPort (get_or ports i d)) s ≡ false → in_slot after s ≡ in_slot before s)
-    → (port : Port) → Contains (drop (i + 1) ports) port → HasRoomAt after more (OfPort port) addresses
-room-behind before after more addresses ports i d within up room others port there =
-    let next : Port = get_or ports i d in
-    room-same before after more (OfPort port) addresses (others (OfPort port) (not-behind [] ports i d within up port there))
-    (room port (subst (λ (ps : List Port). Contains ps port) (sym (ports-rest [] ports i d within)) (contains-later next (drop (i + 1) ports) port there)))
+-- and then in those behind it
+pub room-behind : (before after : AddressHoldersValue) (more : ℕ) (addresses : List AddressValue) (slots : List Slot) (i : ℕ) (x : Slot) → i < length slots
+    → x ≡ get_or slots i x → AreApart slots
+    → ((s : Slot) → Contains (drop i slots) s → HasRoomAt before more s addresses)
+    → ((s : Slot) → same_slot x s ≡ false → in_slot after s ≡ in_slot before s)
+    → (s : Slot) → Contains (drop (i + 1) slots) s → HasRoomAt after more s addresses
+room-behind before after more addresses slots i x within is apart room others s there =
+    let next : Slot = get_or slots i x in
+    room-same before after more s addresses (others s (ap (λ (y : Slot). same_slot y s) is ∙ not-behind slots i x s within apart there))
+    (room s (subst (λ (xs : List Slot). Contains xs s) (sym (slots-rest slots i x within)) (contains-later next (drop (i + 1) slots) s there)))
 
 module _ (more : AddressValue → List ℕ) where
   -- what is listed in the slot, and more where it is one of the slots
@@ -251,9 +325,10 @@ module _ (more : AddressValue → List ℕ) where
             ∙ (λ j a. same-yet j a ++ more a)
             ∙ ap (kept x) (sym (grows x ∙ or_right (slots x) (same_slot x x) (same_slot-itself x)))
 
-  -- once no port is left
-  pub listed-each : (old h : AddressHoldersValue) (group : List ℕ) (ports shown : List Port) (i : ℕ) → length ports ≤ i → ports ≡ shown
-      → ((s : Slot) → claims_having h s ≡ with_more old (is_slot_of group (take i ports)) s) → (s : Slot)
-      → claims_having h s ≡ with_more old (is_slot_of group shown) s
-  listed-each old h group ports shown i passed is listed s =
-      listed s ∙ ap (λ (ps : List Port). with_more old (is_slot_of group ps) s) (take_all i ports passed ∙ is)
+  -- once no slot is left
+  pub listed-each : (old h : AddressHoldersValue) (c : ClaimValue) (slots : List Slot) (i : ℕ) → length slots ≤ i → slots ≡ slots_of c.terms
+      → ((s : Slot) → claims_having h s ≡ with_more old (with_first (take i slots)) s) → (s : Slot)
+      → claims_having h s ≡ with_more old (λ x. occupies x c) s
+  listed-each old h c slots i passed is listed s =
+      listed s ∙ ap (λ (xs : List Slot). with_more old (with_first xs) s) (take_all i slots passed ∙ is)
+      ∙ (λ j a. claims_having old s a ++ (if occupied c s j then more a else []))

@@ -19,11 +19,11 @@ use Rattle.number_sets.specs.Least.{IsLeastIn, NonePasses}
 use Rattle.sharing_terms.specs.declared.terms.Terms.{Terms}
 use Rattle.sharing_terms.specs.Sharing.{may_share}
 use Rattle.claim_index.specs.declared.slot.Slot.{Slot}
-use Rattle.claim_index.specs.declared.slot.Slot.TheVariants.{Any, OfGroup}
+use Rattle.claim_index.specs.declared.slot.Slot.TheVariants.{Any}
 use Rattle.claim_index.specs.Slots.{occupies}
 use Rattle.claim_index.specs.Claims.{ClaimValue, has_claims, loses, claims_it}
-use Rattle.claim_index.specs.Holders.{AddressHoldersValue, claims_having, address_of, is_open_in}
-use Rattle.claim_index.specs.Index.{numbers_of, numbered, numbers_at, is_taken, is_open, is_shared, NoneShared}
+use Rattle.claim_index.specs.Holders.{AddressHoldersValue, claims_having, address_of, is_held_in, is_open_in}
+use Rattle.claim_index.specs.Index.{numbers_of, numbered, numbers_at, is_taken, is_open}
 use Rattle.claim_index.specs.Reading.{is_claim_under, gives_way, is_of, yields, leaves}
 
 -- ---- numbers and tests
@@ -251,27 +251,13 @@ not-not : (b : Bool) → not (not b) ≡ b
 not-not true = refl
 not-not false = refl
 
--- ---- addresses ahead of the first with a claim of a group have none
-module _ (items : List (ℕ × ClaimValue)) (h : AddressHoldersValue) (slot : Slot) (group : List ℕ) (is : slot ≡ OfGroup group)
-    (are : claims_having h slot ≡ (λ a. numbers_at slot a items)) (family : Family) where
-  shared-at : (n : ℕ) → not (is_nil (claims_having h slot (address_of family n))) ≡ is_shared group (values_of items) (address_of family n)
-  shared-at n =
-      ap (λ (f : AddressValue → List ℕ). not (is_nil (f (address_of family n)))) are
-      ∙ ap not (nil-at (address_of family n) slot items)
-      ∙ not-not (is_taken slot (values_of items) (address_of family n))
-      ∙ ap (λ (s : Slot). is_taken s (values_of items) (address_of family n)) is
-
-  pub first_shared-some : (found : Option ℕ) (low high : ℕ)
-      → IfSome found (λ n. IsLeastIn (λ m. not (is_nil (claims_having h slot (address_of family m)))) low high n)
-      → IfSome found (λ n. (low ≤ n) × (n ≤ high) × NoneShared family group (values_of items) low n)
-  first_shared-some None low high least = tt
-  first_shared-some (Some n) low high least = (least.0, least.1, λ m from below. sym (shared-at m) ∙ least.3 m from below)
-
-  pub first_shared-none : (found : Option ℕ) (low high : ℕ)
-      → IfNone found (NonePasses (λ m. not (is_nil (claims_having h slot (address_of family m)))) low high)
-      → IfNone found (NoneShared family group (values_of items) low (high + 1))
-  first_shared-none None low high none = λ m from below. sym (shared-at m) ∙ none m from (omega (arith, below))
-  first_shared-none (Some n) low high none = tt
+-- ---- an address is held in a slot where a claim there has it
+pub held-is : (items : List (ℕ × ClaimValue)) (h : AddressHoldersValue) (slot : Slot) → claims_having h slot ≡ (λ a. numbers_at slot a items)
+    → (a : AddressValue) → is_held_in h slot a ≡ is_taken slot (values_of items) a
+held-is items h slot are a =
+    ap (λ (f : AddressValue → List ℕ). not (is_nil (f a))) are
+    ∙ ap not (nil-at a slot items)
+    ∙ not-not (is_taken slot (values_of items) a)
 
 -- ---- a key has a claim where it has a number
 empty-is : (xs : List ℕ) → (length xs == 0) ≡ is_nil xs

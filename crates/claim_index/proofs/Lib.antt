@@ -7,5 +7,6 @@ pub mod IndexGrowth
 pub mod IndexReading
 pub mod IndexRemoval
 pub mod RemovalLaws
+pub mod ShareLaws
 pub mod SlotLaws
 pub mod TermLaws

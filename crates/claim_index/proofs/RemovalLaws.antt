@@ -8,15 +8,14 @@ use Rattle.std.specs.Ordering.{nat_cmp}
 use Rattle.ip_ranges.specs.Values.{AddressValue, has_address}
 use Rattle.kube_model.specs.declared.key.Key.{Key}
 use Rattle.kube_model.specs.Keys.{key_cmp}
-use Rattle.kube_model.specs.declared.port.Port.{Port}
 use Rattle.numbered_items.specs.Index.{IndexValue, numbers_under}
 use Rattle.claim_index.specs.declared.slot.Slot.{Slot}
 use Rattle.claim_index.specs.Claims.{ClaimValue}
 use Rattle.claim_index.specs.Holders.{AddressHoldersValue, in_slot, claims_at, claims_having}
 use Rattle.claim_index.specs.Index.{IsIndexed}
 use Rattle.claim_index.specs.Removal.{all_but, left_at}
-use Rattle.claim_index.specs.Slots.{occupies, same_slot, is_slot_of}
-use Rattle.claim_index.proofs.GrowthLaws.{or-none}
+use Rattle.claim_index.specs.Slots.{occupies, same_slot, slots_of}
+use Rattle.claim_index.proofs.GrowthLaws.{occupied, or-none, with_first}
 use Rattle.claim_index.proofs.SlotLaws.{same_slot-is, same_slot-itself}
 use Rattle.claim_index.proofs.IndexRemoval.{filter-once, without, removed-assigned, removed-groups, removed-keys, removed-holders}
 
@@ -63,14 +62,15 @@ module _ (n : ℕ) (xs : List AddressValue) where
           ∙ again (slots x)
           ∙ ap (kept x) (sym (grows x ∙ or_right (slots x) (same_slot x x) (same_slot-itself x)))
 
--- and in those of all ports of the claim
-pub left-all : (start : Slot → AddressValue → List ℕ) (after : AddressHoldersValue) (n : ℕ) (xs : List AddressValue) (group : List ℕ) (ports shown : List Port)
+-- and in all of those of the claim
+pub left-all : (start : Slot → AddressValue → List ℕ) (after : AddressHoldersValue) (n : ℕ) (xs : List AddressValue) (c : ClaimValue) (slots : List Slot)
     (i : ℕ)
-    → length shown ≤ i → shown ≡ ports
-    → ((slot : Slot) → claims_having after slot ≡ left_in n xs (is_slot_of group (take i shown)) start slot)
-    → (slot : Slot) → claims_having after slot ≡ left_in n xs (is_slot_of group ports) start slot
-left-all start after n xs group ports shown i passed is each slot =
-    each slot ∙ ap (λ (ps : List Port). left_in n xs (is_slot_of group ps) start slot) (take_all i shown passed ∙ is)
+    → length slots ≤ i → slots ≡ slots_of c.terms
+    → ((slot : Slot) → claims_having after slot ≡ left_in n xs (with_first (take i slots)) start slot)
+    → (slot : Slot) → claims_having after slot ≡ left_in n xs (λ s. occupies s c) start slot
+left-all start after n xs c slots i passed is each slot =
+    each slot ∙ ap (λ (ys : List Slot). left_in n xs (with_first ys) start slot) (take_all i slots passed ∙ is)
+    ∙ ap (λ b. cond b (left_at n xs (start slot)) (start slot)) (occupied c slot)
 
 -- ---- the index without a claim
 pub indexed-left : (n : ℕ) (items less : List (ℕ × ClaimValue)) (c : ClaimValue) (key : Key) (by_key by_key_after : IndexValue Key)

@@ -1,10 +1,14 @@
 -- The claims in each slot where those of one slot were changed.
-use Rattle.std.proofs.Common.{◌≡◌, ℕ, ◌==◌, Bool, true, false, cond, List, [], filter, Option, Some, None, refl, sym, ap, ◌∙◌, subst, arith}
-use Rattle.std.proofs.lemmas.Bool.{true≢false}
+use Rattle.std.proofs.Common.{◌≡◌, ℕ, ◌==◌, Bool, true, false, not, ◌&&◌, cond, List, [], filter, Option, Some, None, Ordering, Less, Equal}
+use Rattle.std.proofs.Common.{Greater, refl, sym, ap, ◌∙◌, subst, arith}
+use Rattle.std.proofs.lemmas.Bool.{and_from, and_parts, true≢false}
 use Rattle.std.proofs.lemmas.Bool.Decides.{nat_tests}
 use Rattle.std.proofs.lemmas.Map.Text.{is_eq-slice_cmp}
 use Rattle.std.proofs.lemmas.Slice.Eq.{bytes_eq-Decides}
 use Rattle.std.specs.Map.{lookup}
+use Rattle.std.specs.Ordering.{is_eq, nat_cmp, ordering_then}
+use Rattle.std.specs.Cmp.Lexicographic.{slice_cmp}
+use Rattle.std.specs.Str.{bytes_eq}
 use Rattle.std.specs.BTreeMap.{BTreeMap, is_at, Updates, WritesThrough}
 use Rattle.std.specs.Option.{IsSome, unwrap_or}
 use Rattle.kube_model.specs.declared.port.Port.{Port}
@@ -15,50 +19,66 @@ use Rattle.sharing_terms.proofs.SharingLaws.{same_port-is, same_port-itself}
 use Rattle.claim_index.specs.contracts.slot.SlotOrd.TheImpl as derived
 use Rattle.claim_index.specs.declared.slot.Slot.{Slot}
 use Rattle.claim_index.specs.declared.slot.Slot.TheVariants.{Any, OfPort, OfGroup}
-use Rattle.claim_index.specs.Holders.{ClaimantsValue, claims_at, no_claimants}
+use Rattle.claim_index.specs.Holders.{ClaimantsValue, claims_at, is_listed, is_listed_but, no_claimants}
 use Rattle.claim_index.specs.Slots.{same_slot}
 
 -- ---- slots that are one
 
-at-port : (p q : Protocol) (m n : ℕ) → is_at (derived.cmp-value.it (OfPort (record { protocol = p; port = m }))) (OfPort (record { protocol = q; port = n }))
-    ≡ same_port (record { protocol = p; port = m }) (record { protocol = q; port = n })
-at-port Tcp Tcp m n = grind (arith, nat_tests)
-at-port Tcp Udp m n = refl
-at-port Tcp Sctp m n = refl
-at-port Udp Tcp m n = refl
-at-port Udp Udp m n = grind (arith, nat_tests)
-at-port Udp Sctp m n = refl
-at-port Sctp Tcp m n = refl
-at-port Sctp Udp m n = refl
-at-port Sctp Sctp m n = grind (arith, nat_tests)
+both-eq : (x y : Ordering) → is_eq (ordering_then x y) ≡ (is_eq x && is_eq y)
+both-eq Less y = refl
+both-eq Equal y = refl
+both-eq Greater y = refl
+
+same-number : (m n : ℕ) → is_eq (nat_cmp m n) ≡ (m == n)
+same-number m n = grind (arith, nat_tests)
+
+number-group : (m n : ℕ) (g h : List ℕ) → is_eq (ordering_then (nat_cmp m n) (slice_cmp nat_cmp g h)) ≡ ((m == n) && bytes_eq g h)
+number-group m n g h = both-eq (nat_cmp m n) (slice_cmp nat_cmp g h) ∙ (λ i. same-number m n i && is_eq-slice_cmp g h i)
+
+at-port : (p q : Protocol) (m n : ℕ) (g h : List ℕ)
+    → is_at (derived.cmp-value.it (OfPort (record { protocol = p; port = m }) g)) (OfPort (record { protocol = q; port = n }) h)
+    ≡ (same_port (record { protocol = p; port = m }) (record { protocol = q; port = n }) && bytes_eq g h)
+at-port Tcp Tcp m n g h = number-group m n g h
+at-port Tcp Udp m n g h = refl
+at-port Tcp Sctp m n g h = refl
+at-port Udp Tcp m n g h = refl
+at-port Udp Udp m n g h = number-group m n g h
+at-port Udp Sctp m n g h = refl
+at-port Sctp Tcp m n g h = refl
+at-port Sctp Udp m n g h = refl
+at-port Sctp Sctp m n g h = number-group m n g h
 
 -- the order that the map goes by finds the slots equal that are one
 at-slot : (slot s : Slot) → is_at (derived.cmp-value.it slot) s ≡ same_slot slot s
 at-slot Any Any = refl
-at-slot Any (OfPort q) = refl
 at-slot Any (OfGroup h) = refl
-at-slot (OfPort p) Any = refl
-at-slot (OfPort p) (OfPort q) = at-port p.protocol q.protocol p.port q.port
-at-slot (OfPort p) (OfGroup h) = refl
+at-slot Any (OfPort q h) = refl
 at-slot (OfGroup g) Any = refl
-at-slot (OfGroup g) (OfPort q) = refl
 at-slot (OfGroup g) (OfGroup h) = is_eq-slice_cmp g h
+at-slot (OfGroup g) (OfPort q h) = refl
+at-slot (OfPort p g) Any = refl
+at-slot (OfPort p g) (OfGroup h) = refl
+at-slot (OfPort p g) (OfPort q h) = at-port p.protocol q.protocol p.port q.port g h
 
 pub same_slot-itself : (slot : Slot) → same_slot slot slot ≡ true
 same_slot-itself Any = refl
-same_slot-itself (OfPort port) = same_port-itself port
 same_slot-itself (OfGroup group) = (bytes_eq-Decides group group).1 refl
+same_slot-itself (OfPort port group) =
+    and_from (same_port port port) (bytes_eq group group) (same_port-itself port) ((bytes_eq-Decides group group).1 refl)
 
 pub same_slot-is : (slot s : Slot) → same_slot slot s ≡ true → slot ≡ s
 same_slot-is Any Any e = refl
-same_slot-is Any (OfPort other) e = absurd (true≢false (sym e))
 same_slot-is Any (OfGroup other) e = absurd (true≢false (sym e))
-same_slot-is (OfPort port) Any e = absurd (true≢false (sym e))
-same_slot-is (OfPort port) (OfPort other) e = ap (λ (p : Port). OfPort p) (same_port-is port other e)
-same_slot-is (OfPort port) (OfGroup other) e = absurd (true≢false (sym e))
+same_slot-is Any (OfPort port other) e = absurd (true≢false (sym e))
 same_slot-is (OfGroup group) Any e = absurd (true≢false (sym e))
-same_slot-is (OfGroup group) (OfPort other) e = absurd (true≢false (sym e))
 same_slot-is (OfGroup group) (OfGroup other) e = ap (λ (g : List ℕ). OfGroup g) ((bytes_eq-Decides group other).0 e)
+same_slot-is (OfGroup group) (OfPort port other) e = absurd (true≢false (sym e))
+same_slot-is (OfPort port group) Any e = absurd (true≢false (sym e))
+same_slot-is (OfPort port group) (OfGroup other) e = absurd (true≢false (sym e))
+same_slot-is (OfPort port group) (OfPort other_port other) e =
+    let parts = and_parts (same_port port other_port) (bytes_eq group other) e in
+    ap (λ (p : Port). OfPort p group) (same_port-is port other_port parts.0)
+    ∙ ap (λ (g : List ℕ). OfPort other_port g) ((bytes_eq-Decides group other).0 parts.1)
 
 -- ---- entries
 
@@ -121,6 +141,18 @@ module _ (slot : Slot) (entries : List (Slot × ClaimantsValue)) (old : Claimant
 pub slot-absent : (slot : Slot) (entries : List (Slot × ClaimantsValue)) → None ≡ lookup (is_at (derived.cmp-value.it slot)) entries
     → slot_of entries slot ≡ no_claimants
 slot-absent slot entries none = ap (λ o. unwrap_or o no_claimants) (sym (none ∙ looked-up slot entries))
+
+-- where the slot has nothing, what is listed elsewhere is listed but there
+pub unlisted : (claimants : ClaimantsValue) (slot : Slot) (entries : List (Slot × ClaimantsValue))
+    → None ≡ lookup (is_at (derived.cmp-value.it slot)) entries
+    → ◌≡◌ {A = ℕ → Bool} (is_listed claimants) (is_listed_but claimants (slot_of entries slot))
+unlisted claimants slot entries none =
+    λ i m. (sym (and-true (is_listed claimants m))
+    ∙ ap (λ (c : ClaimantsValue). is_listed claimants m && not (is_listed c m)) (sym (slot-absent slot entries none))) i
+  where
+    and-true : (b : Bool) → (b && true) ≡ b
+    and-true true = refl
+    and-true false = refl
 
 nil-by : (b : Bool) (test : ℕ → Bool) → ◌≡◌ {A = List ℕ} [] (cond b (filter test []) [])
 nil-by true test = refl

@@ -1,11 +1,10 @@
 -- What services that share an address have in common.
-use Rattle.std.specs.Prelude.{◌≡◌, Bool, List, ℕ, []}
+use Rattle.std.specs.Prelude.{◌≡◌, Bool, false, List, ℕ, []}
 use Rattle.std.specs.Str.{bytes_eq}
+use Rattle.mlb_base.specs.Items.{is_nil}
 use Rattle.sharing_terms.specs.declared.terms.Terms.{Terms}
 use Rattle.sharing_terms.specs.Marked.{AreTerms}
 use Rattle.sharing_terms.specs.Marks.{mark_of}
-use Rattle.claim_index.specs.declared.slot.Slot.{Slot}
-use Rattle.claim_index.specs.declared.slot.Slot.TheVariants.{OfGroup}
 
 -- the terms without their ports
 abbrev pub portless : Terms → Terms
@@ -19,10 +18,6 @@ group_of t = mark_of (portless t)
 abbrev pub is_grouped : List ℕ → Terms → Bool
 is_grouped group t = bytes_eq (group_of t) group
 
--- the texts of the terms are texts, so that no others have their group but those of the same sharing key and backend
+-- the texts of terms with a sharing key are texts, so that no others have their group but those of the same sharing key and backend
 abbrev pub HasGroup : Terms → Type 0
-HasGroup t = AreTerms (portless t)
-
--- the slot is that of the group of the terms
-abbrev pub IsSlotOf : Terms → Slot → Type 0
-IsSlotOf t slot = (slot ≡ OfGroup (group_of t)) × HasGroup t
+HasGroup t = is_nil t.key ≡ false → AreTerms (portless t)

@@ -39,6 +39,14 @@ claim_room_at c n = room_under nat_cmp c.claims n
 abbrev pub is_open_at : Bool → ClaimantsValue → ℕ → Bool
 is_open_at inside c n = not (inside && is_edge n) && is_nil (claims_at c n)
 
+-- a claim is listed at the address
+abbrev pub is_listed : ClaimantsValue → ℕ → Bool
+is_listed c n = not (is_nil (claims_at c n))
+
+-- a claim of the one list is listed at the address, and none of the other
+abbrev pub is_listed_but : ClaimantsValue → ClaimantsValue → ℕ → Bool
+is_listed_but c d n = is_listed c n && not (is_listed d n)
+
 -- no claim is listed, and there is no room for one
 abbrev pub no_claimants : ClaimantsValue
 no_claimants = record { claims = []; room = 0 }
@@ -64,6 +72,10 @@ claims_having h slot a = claims_at (in_slot h slot a.family) a.number
 abbrev pub is_open_in : Bool → AddressHoldersValue → Slot → AddressValue → Bool
 is_open_in avoiding h slot a = not (avoiding && is_buggy a) && is_nil (claims_having h slot a)
 
+-- a claim in the slot has the address
+abbrev pub is_held_in : AddressHoldersValue → Slot → AddressValue → Bool
+is_held_in h slot a = not (is_nil (claims_having h slot a))
+
 -- how many claims more may be listed there without memory
 abbrev pub claim_room : AddressHoldersValue → Slot → AddressValue → ℕ
 claim_room h slot a = claim_room_at (in_slot h slot a.family) a.number
@@ -80,3 +92,7 @@ pub record HasRoomAt (h : AddressHoldersValue) (more : ℕ) (slot : Slot) (addre
 -- the address of the family with this number
 abbrev pub address_of : Family → ℕ → AddressValue
 address_of family n = record { family = family; number = n }
+
+-- a claim in the slot has the address of the family with this number, and none in the other
+abbrev pub is_held_but : AddressHoldersValue → Slot → Slot → Family → ℕ → Bool
+is_held_but h slot fewer family n = is_held_in h slot (address_of family n) && not (is_held_in h fewer (address_of family n))

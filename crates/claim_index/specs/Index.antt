@@ -6,10 +6,13 @@ use Rattle.std.specs.Option.{option_and_then, option_map_or}
 use Rattle.ip_ranges.specs.declared.family.Family.{Family}
 use Rattle.ip_ranges.specs.Values.{AddressValue, has_address, is_buggy}
 use Rattle.kube_model.specs.declared.key.Key.{Key}
+use Rattle.kube_model.specs.declared.port.Port.{Port}
 use Rattle.kube_model.specs.Keys.{key_cmp, same_key}
+use Rattle.sharing_terms.specs.declared.terms.Terms.{Terms}
 use Rattle.numbered_items.specs.Index.{IndexValue, numbers_under}
 use Rattle.claim_index.specs.declared.slot.Slot.{Slot}
-use Rattle.claim_index.specs.Groups.{HasGroup, is_grouped}
+use Rattle.claim_index.specs.declared.slot.Slot.TheVariants.{OfGroup, OfPort}
+use Rattle.claim_index.specs.Groups.{HasGroup, group_of}
 use Rattle.claim_index.specs.Slots.{occupies}
 use Rattle.claim_index.specs.Claims.{AreAssigned, ClaimValue}
 use Rattle.claim_index.specs.Room.{IndexRoom}
@@ -40,13 +43,21 @@ abbrev pub numbers_at : Slot → AddressValue → List (ℕ × ClaimValue) → L
 numbers_at slot a [] = []
 numbers_at slot a (p ∷ items) = numbered_at slot a p ++ numbers_at slot a items
 
--- a claim of this group has the address
-abbrev pub is_shared : List ℕ → List ClaimValue → AddressValue → Bool
-is_shared group claims a = list_any (λ c. is_grouped group c.terms && has_address c.holding.addresses a) claims
-
 -- a claim that is listed in the slot has the address
 abbrev pub is_taken : Slot → List ClaimValue → AddressValue → Bool
 is_taken slot claims a = list_any (λ c. occupies slot c && has_address c.holding.addresses a) claims
+
+-- a claim of this group has the address
+abbrev pub is_shared : List ℕ → List ClaimValue → AddressValue → Bool
+is_shared group claims a = is_taken (OfGroup group) claims a
+
+-- a claim of this group that has one of the ports has the address
+abbrev pub is_barred : List ℕ → List Port → List ClaimValue → AddressValue → Bool
+is_barred group ports claims a = list_any (λ port. is_taken (OfPort port group) claims a) ports
+
+-- claims of the terms' group have the address, and none with a port of theirs does
+abbrev pub is_shareable : Terms → List ClaimValue → AddressValue → Bool
+is_shareable t claims a = is_shared (group_of t) claims a && not (is_barred (group_of t) t.ports claims a)
 
 -- no claim that is listed in the slot has the address, and it isn't a buggy one where those are avoided
 abbrev pub is_open : Bool → Slot → List ClaimValue → AddressValue → Bool
@@ -63,9 +74,9 @@ pub record IsIndexed (items : List (ℕ × ClaimValue)) (by_key : IndexValue Key
   pub holders : (slot : Slot) → claims_having h slot ≡ (λ a. numbers_at slot a items)
   pub groups : HaveGroups (values_of items)
 
--- no address of the family that a claim of the group has has a number from low on, below high
-abbrev pub NoneShared : Family → List ℕ → List ClaimValue → ℕ → ℕ → Type 0
-NoneShared family group claims low high = (n : ℕ) → low ≤ n → n < high → is_shared group claims (address_of family n) ≡ false
+-- no address of the family with a number from low on, below high, is one that terms like these may share by their ports
+abbrev pub NoneShareable : Family → Terms → List ClaimValue → ℕ → ℕ → Type 0
+NoneShareable family t claims low high = (n : ℕ) → low ≤ n → n < high → is_shareable t claims (address_of family n) ≡ false
 
 -- the number stands at the end
 abbrev pub ends_with : ℕ → List ℕ → Bool

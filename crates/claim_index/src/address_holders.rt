@@ -1,10 +1,10 @@
 //! Who has the addresses of both families.
-ghost use Rattle.std.specs.Prelude.{◌≡◌, ◌≤◌, ◌<◌, ◌+◌, ◌==◌, ◌∷◌, ◌++◌, [], false, not, filter, if◌then◌else◌, OnOk, IfSome, IfNone};
+ghost use Rattle.std.specs.Prelude.{◌≡◌, ◌≤◌, ◌<◌, ◌+◌, ◌==◌, ◌∷◌, ◌++◌, [], true, false, not, filter, if◌then◌else◌, OnOk, IfSome, IfNone};
 ghost use Rattle.ip_ranges.specs.declared.family.Family.{Family};
 ghost use Rattle.ip_ranges.specs.Values.{AddressValue, same_address};
 ghost use Rattle.mlb_base.specs.Items.{is_nil};
 ghost use Rattle.claim_index.specs.declared.slot.Slot.{Slot};
-ghost use Rattle.claim_index.specs.Holders.{in_slot, claims_having, claim_room, address_room, address_of, is_open_in};
+ghost use Rattle.claim_index.specs.Holders.{in_slot, claims_having, claim_room, address_room, address_of, is_held_but, is_held_in, is_open_in};
 ghost use Rattle.claim_index.specs.Slots.{same_slot};
 ghost use Rattle.number_sets.specs.Least.{IsLeastIn, NonePasses};
 
@@ -134,6 +134,26 @@ impl AddressHolders {
         match family {
             Family::V4 => self.v4.first_held(slot, low, high),
             Family::V6 => self.v6.first_held(slot, low, high),
+        }
+    }
+
+    /// The least number from low to high of an address of the family that a claim in the slot has and none in the other, where those
+    /// of the other are all in the slot.
+    pub(crate) fn first_beyond(
+        &self,
+        slot: &Slot,
+        fewer: &Slot,
+        family: Family,
+        low: u128,
+        high: u128,
+    ) -> Option<u128>
+        requires { (a : AddressValue) → is_held_in self.now fewer.now a ≡ true → is_held_in self.now slot.now a ≡ true }
+        ensures some { IfSome result (λ n. IsLeastIn (is_held_but self.now slot.now fewer.now family) low high n) }
+        ensures none { IfNone result (NonePasses (is_held_but self.now slot.now fewer.now family) low high) }
+    {
+        match family {
+            Family::V4 => self.v4.first_beyond(slot, fewer, low, high),
+            Family::V6 => self.v6.first_beyond(slot, fewer, low, high),
         }
     }
 }

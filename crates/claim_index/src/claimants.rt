@@ -1,7 +1,7 @@
 //! The claims that are listed at the addresses of one family.
-ghost use Rattle.std.specs.Prelude.{◌≡◌, ◌≤◌, ◌<◌, ◌+◌, ◌==◌, ℕ, ◌∷◌, ◌++◌, [], not, filter, if◌then◌else◌, IsTrue, OnOk, IfSome, IfNone};
+ghost use Rattle.std.specs.Prelude.{◌≡◌, ◌≤◌, ◌<◌, ◌+◌, ◌==◌, ℕ, ◌∷◌, ◌++◌, [], true, not, filter, if◌then◌else◌, IsTrue, OnOk, IfSome, IfNone};
 ghost use Rattle.mlb_base.specs.Items.{is_nil};
-ghost use Rattle.claim_index.specs.Holders.{claims_at, claim_room_at, is_open_at};
+ghost use Rattle.claim_index.specs.Holders.{claims_at, claim_room_at, is_listed, is_listed_but, is_open_at};
 ghost use Rattle.number_sets.specs.Least.{IsLeastIn, NonePasses};
 
 use mlb_base::NoMemory;
@@ -99,6 +99,15 @@ impl Claimants {
         ensures none { IfNone result (NonePasses (λ m. not (is_nil (claims_at self.now m))) low high) }
     {
         self.held.first_present(low, high)
+    }
+
+    /// The least address from low to high at which a claim is listed here and none there, where all these addresses have claims here too.
+    pub(crate) fn first_beyond(&self, fewer: &Claimants, low: u128, high: u128) -> Option<u128>
+        requires { (n : ℕ) → is_listed fewer.now n ≡ true → is_listed self.now n ≡ true }
+        ensures some { IfSome result (λ n. IsLeastIn (is_listed_but self.now fewer.now) low high n) }
+        ensures none { IfNone result (NonePasses (is_listed_but self.now fewer.now) low high) }
+    {
+        self.held.first_beyond(&fewer.held, low, high)
     }
 
     /// Whether no claim is listed at any address.

@@ -2,16 +2,15 @@
 ghost use Rattle.std.specs.Prelude.{◌≡◌, IfOk};
 ghost use Rattle.std.specs.Option.{option_map};
 ghost use Rattle.ip_ranges.specs.Values.{has_address};
-ghost use Rattle.sharing_terms.specs.Ports.{AreAscending};
 ghost use Rattle.sharing_terms.specs.Spelled.{recorded_terms};
 ghost use Rattle.claim_index.specs.Claims.{ClaimValue, terms_under};
-ghost use Rattle.claim_index.specs.declared.slot.Slot.TheVariants.{OfGroup};
-ghost use Rattle.claim_index.specs.Groups.{group_of, HasGroup};
+ghost use Rattle.claim_index.specs.Groups.{HasGroup};
+ghost use Rattle.claim_index.specs.Slots.{slots_of, AreApart};
 
 use crate::grouped::GroupedTerms;
 use crate::slot::Slot;
 use ip_ranges::Address;
-use kube_model::{Key, Port, Record};
+use kube_model::{Key, Record};
 use mlb_base::{NoMemory, TryCopy};
 use sharing_terms::{Terms, read_mark};
 use std::alloc::Global;
@@ -90,20 +89,13 @@ impl Claim {
         self.terms.terms()
     }
 
-    /// The slot of those with which it may share.
-    pub(crate) fn group(&self) -> &Slot
-        ensures slot { result.now ≡ OfGroup (group_of self.now.terms) }
+    /// The slots in which it is listed beside that of all claims.
+    pub(crate) fn slots(&self) -> &[Slot]
+        ensures slots { result.now ≡ slots_of self.now.terms }
+        ensures apart { AreApart result.now }
         ensures grouped { HasGroup self.now.terms }
     {
-        self.terms.group()
-    }
-
-    /// The ports of the terms.
-    pub(crate) fn ports(&self) -> &[Port]
-        ensures listed { result.now ≡ self.now.terms.ports }
-        ensures ascending { AreAscending result.now }
-    {
-        self.terms().ports.as_slice()
+        self.terms.slots()
     }
 
     /// The addresses that it has, or may have.

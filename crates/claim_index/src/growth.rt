@@ -23,9 +23,8 @@ pub(crate) fn reserve_claim(holders: &mut AddressHolders, claim: &Claim) -> Resu
 {
     let addresses = claim.addresses();
     reserve_each(holders, &Slot::Any, addresses)?;
-    reserve_each(holders, claim.group(), addresses)?;
-    for port in claim.ports() {
-        reserve_each(holders, &Slot::OfPort(*port), addresses)?;
+    for slot in claim.slots() {
+        reserve_each(holders, slot, addresses)?;
     }
     Ok(())
 }
@@ -57,9 +56,8 @@ pub(crate) fn add_claim(holders: &mut AddressHolders, claim: &Claim, number: u64
 {
     let addresses = claim.addresses();
     add_each(holders, &Slot::Any, addresses, number);
-    add_each(holders, claim.group(), addresses, number);
-    for port in claim.ports() {
-        add_each(holders, &Slot::OfPort(*port), addresses, number);
+    for slot in claim.slots() {
+        add_each(holders, slot, addresses, number);
     }
 }
 

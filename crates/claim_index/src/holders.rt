@@ -1,8 +1,8 @@
 //! Who has the addresses of one family.
-ghost use Rattle.std.specs.Prelude.{◌≡◌, ◌≤◌, ◌<◌, ◌+◌, ◌==◌, ℕ, ◌∷◌, ◌++◌, [], false, not, filter, if◌then◌else◌, OnOk, IfSome, IfNone};
+ghost use Rattle.std.specs.Prelude.{◌≡◌, ◌≤◌, ◌<◌, ◌+◌, ◌==◌, ℕ, ◌∷◌, ◌++◌, [], true, false, not, filter, if◌then◌else◌, OnOk, IfSome, IfNone};
 ghost use Rattle.mlb_base.specs.Items.{is_nil};
 ghost use Rattle.claim_index.specs.declared.slot.Slot.{Slot};
-ghost use Rattle.claim_index.specs.Holders.{claims_at, claim_room_at, in_slot_at, is_open_at};
+ghost use Rattle.claim_index.specs.Holders.{claims_at, claim_room_at, in_slot_at, is_listed, is_listed_but, is_open_at};
 ghost use Rattle.claim_index.specs.Slots.{same_slot};
 ghost use Rattle.number_sets.specs.Least.{IsLeastIn, NonePasses};
 
@@ -137,5 +137,25 @@ impl Holders {
         ensures none { IfNone result (NonePasses (λ m. not (is_nil (claims_at (in_slot_at self.now slot.now) m))) low high) }
     {
         self.by_slot.get(slot)?.first_held(low, high)
+    }
+
+    /// The least address from low to high at which a claim is listed in the slot and none in the other, where those of the other are
+    /// all listed in the slot.
+    pub(crate) fn first_beyond(
+        &self,
+        slot: &Slot,
+        fewer: &Slot,
+        low: u128,
+        high: u128,
+    ) -> Option<u128>
+        requires { (n : ℕ) → is_listed (in_slot_at self.now fewer.now) n ≡ true → is_listed (in_slot_at self.now slot.now) n ≡ true }
+        ensures some { IfSome result (λ n. IsLeastIn (is_listed_but (in_slot_at self.now slot.now) (in_slot_at self.now fewer.now)) low high n) }
+        ensures none { IfNone result (NonePasses (is_listed_but (in_slot_at self.now slot.now) (in_slot_at self.now fewer.now)) low high) }
+    {
+        let claimants = self.by_slot.get(slot)?;
+        match self.by_slot.get(fewer) {
+            Some(others) => claimants.first_beyond(others, low, high),
+            None => claimants.first_held(low, high),
+        }
     }
 }

@@ -6,12 +6,12 @@ ghost use Rattle.std.specs.Map.{lookup, keys_of, values_of};
 ghost use Rattle.std.specs.Option.{option_copied, option_map};
 ghost use Rattle.std.specs.Ordering.{nat_cmp};
 ghost use Rattle.kube_model.specs.Records.{is_assigned};
-ghost use Rattle.claim_index.specs.declared.slot.Slot.TheVariants.{OfPort};
+ghost use Rattle.claim_index.specs.declared.slot.Slot.TheVariants.{OfGroup};
 ghost use Rattle.mlb_base.specs.Items.{is_nil};
 ghost use Rattle.claim_index.specs.Claims.{AreAssigned, loses, claims_it, has_claims};
 ghost use Rattle.claim_index.specs.Room.{HasRoomFor};
-ghost use Rattle.claim_index.specs.Groups.{group_of};
-ghost use Rattle.claim_index.specs.Index.{numbers_of, first_but, first_other, is_open, NoneShared};
+ghost use Rattle.claim_index.specs.Groups.{group_of, HasGroup};
+ghost use Rattle.claim_index.specs.Index.{numbers_of, first_but, first_other, is_open, NoneShareable};
 ghost use Rattle.claim_index.specs.Reading.{is_claim_under, gives_way, is_of, yields, is_odd, belongs, leaves};
 ghost use Rattle.claim_index.specs.Holders.{address_of};
 ghost use Rattle.number_sets.specs.Least.{IsLeastIn, NonePasses};
@@ -24,7 +24,7 @@ use crate::growth::{add_claim, reserve_claim};
 use crate::removal::remove_claim;
 use crate::slot::Slot;
 use ip_ranges::{Address, Family};
-use kube_model::{Key, Port};
+use kube_model::Key;
 use mlb_base::{NoMemory, TryCopy};
 use numbered_items::{InvertedIndex, NumberedList};
 use sharing_terms::{Terms, may_share};
@@ -170,30 +170,35 @@ impl ClaimIndex {
     pub fn all_leave(&self, key: &Key, terms: &GroupedTerms, address: &Address) -> bool
         ensures { result ≡ list_all (leaves key.now terms.now address.now) (values_of self.now.items) }
     {
-        let asked = terms.terms();
-        if asked.key.as_str().is_empty() {
-            return self.all_give_way(key, asked, address);
+        match terms.slots().split_first() {
+            Some((group, ports)) => {
+                self.all_belong(key, terms, group, address) && self.all_yield(key, ports, address)
+            }
+            None => self.all_give_way(key, terms.terms(), address),
         }
-        self.all_belong(key, terms, address) && self.all_yield(key, asked.ports.as_slice(), address)
     }
 
     /// Whether each claim on the address is of the key, or alike with the terms, which have a sharing key. That is so where as many claims
     /// aren't of their group as there are such of the key.
-    fn all_belong(&self, key: &Key, terms: &GroupedTerms, address: &Address) -> bool
-        requires { is_nil terms.now.key ≡ false }
+    fn all_belong(&self, key: &Key, terms: &GroupedTerms, group: &Slot, address: &Address) -> bool
+        requires given { is_nil terms.now.key ≡ false }
+        requires group { group.now ≡ OfGroup (group_of terms.now) }
+        requires grouped { HasGroup terms.now }
         ensures { result ≡ list_all (belongs key.now terms.now address.now) (values_of self.now.items) }
     {
         let all = self.holders.numbers(&Slot::Any, address).len();
-        let grouped = self.holders.numbers(terms.group(), address).len();
+        let grouped = self.holders.numbers(group, address).len();
         let own = self.by_key.numbers(key);
         all.saturating_sub(grouped) == count_odd(&self.claims, own, terms.terms(), address)
     }
 
-    /// Whether each claim that has the address and one of the ports is of the key.
-    fn all_yield(&self, key: &Key, ports: &[Port], address: &Address) -> bool
-        ensures { result ≡ list_all (λ port. list_all (yields key.now (OfPort port) address.now) (values_of self.now.items)) ports.now }
+    /// Whether each claim that has the address and is in one of the slots is of the key.
+    fn all_yield(&self, key: &Key, slots: &[Slot], address: &Address) -> bool
+        ensures { result ≡ list_all (λ slot. list_all (yields key.now slot address.now) (values_of self.now.items)) slots.now }
     {
-        ports.iter().all(|port| self.yields_slot(key, &Slot::OfPort(*port), address))
+        slots
+            .iter()
+            .all(|slot| self.yields_slot(key, slot, address))
     }
 
     /// Whether each claim in the slot that has the address is of the key.
@@ -234,18 +239,26 @@ impl ClaimIndex {
         self.holders.first_unheld(slot, avoiding, family, low, high)
     }
 
-    /// A number from low to high before which no address of the family has a claim of the terms' group; `None` where none up to high has.
-    pub fn first_shared(
+    /// A number from low to high before which no address of the family is one that claims of the terms' group have and none of these
+    /// with a port of theirs; `None` where none up to high is. For each port it takes the square of the logarithm of
+    /// the number of addresses.
+    pub fn first_shareable(
         &self,
         family: Family,
         terms: &GroupedTerms,
         low: u128,
         high: u128,
     ) -> Option<u128>
-        ensures some { IfSome result (λ n. (low ≤ n) × (n ≤ high) × NoneShared family (group_of terms.now) (values_of self.now.items) low n) }
-        ensures none { IfNone result (NoneShared family (group_of terms.now) (values_of self.now.items) low (high + 1)) }
+        requires { is_nil terms.now.key ≡ false }
+        ensures some { IfSome result (λ n. (low ≤ n) × (n ≤ high) × NoneShareable family terms.now (values_of self.now.items) low n) }
+        ensures none { IfNone result (NoneShareable family terms.now (values_of self.now.items) low (high + 1)) }
     {
-        self.holders.first_held(terms.group(), family, low, high)
+        let (group, ports) = terms.slots().split_first()?;
+        let mut left = self.holders.first_held(group, family, low, high)?;
+        for port in ports {
+            left = self.holders.first_beyond(group, port, family, left, high)?;
+        }
+        Some(left)
     }
 }
 

@@ -17,9 +17,8 @@ pub(crate) fn remove_claim(holders: &mut AddressHolders, claim: &Claim, number: 
 {
     let addresses = claim.addresses();
     remove_each(holders, &Slot::Any, addresses, number);
-    remove_each(holders, claim.group(), addresses, number);
-    for port in claim.ports() {
-        remove_each(holders, &Slot::OfPort(*port), addresses, number);
+    for slot in claim.slots() {
+        remove_each(holders, slot, addresses, number);
     }
 }
 

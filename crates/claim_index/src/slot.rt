@@ -12,10 +12,10 @@ use mlb_base::{NoMemory, TryCopy};
 pub enum Slot {
     /// The list of all claims on the address.
     Any,
-    /// The list of those with this port.
-    OfPort(Port),
     /// The list of those of this group.
     OfGroup(Text),
+    /// The list of those of this group that have this port.
+    OfPort { port: Port, group: Text },
 }
 
 impl Slot {
@@ -31,8 +31,11 @@ impl TryCopy for Slot {
     fn copy(&self) -> Result<Slot, NoMemory> {
         Ok(match self {
             Slot::Any => Slot::Any,
-            Slot::OfPort(port) => Slot::OfPort(*port),
             Slot::OfGroup(group) => Slot::OfGroup(group.copy()?),
+            Slot::OfPort { port, group } => Slot::OfPort {
+                port: *port,
+                group: group.copy()?,
+            },
         })
     }
 }

@@ -20,8 +20,8 @@ returns c =
     let all : c.numbers-all.result.now ≡ numbers_at Any a items =
     c.numbers-all.ensures ∙ ap (λ (f : AddressValue → List ℕ). f a) (c.self.invariant.holders Any) in
     let grouped : c.numbers-grouped.result.now ≡ numbers_at (OfGroup (group_of terms)) a items =
-    c.numbers-grouped.ensures ∙ ap (λ (f : AddressValue → List ℕ). f a) (c.self.invariant.holders c.group.result.now)
-    ∙ ap (λ (s : Slot). numbers_at s a items) c.group.ensures.slot in
+    c.numbers-grouped.ensures ∙ ap (λ (f : AddressValue → List ℕ). f a) (c.self.invariant.holders c.args.group.now)
+    ∙ ap (λ (s : Slot). numbers_at s a items) c.requires.group in
     let own : c.count_odd.result ≡ length (own_odd key terms a items) =
     c.count_odd.ensures.count
     ∙ ap (λ (t : Terms). length (filter (λ n. is_odd t a (under items n)) c.numbers-own.result.now)) c.terms.ensures
@@ -32,4 +32,4 @@ returns c =
     ∙ ap (λ (ns : List ℕ). nat_eq (length ns - length c.numbers-grouped.result.now) c.count_odd.result) all
     ∙ ap (λ (ns : List ℕ). nat_eq (length (numbers_at Any a items) - length ns) c.count_odd.result) grouped
     ∙ ap (λ (n : ℕ). nat_eq (length (numbers_at Any a items) - length (numbers_at (OfGroup (group_of terms)) a items)) n) own
-    ∙ belong-is key terms a items c.self.invariant.groups c.group.ensures.grouped c.requires)
+    ∙ belong-is key terms a items c.self.invariant.groups c.requires.grouped c.requires.given)

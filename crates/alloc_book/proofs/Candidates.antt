@@ -30,13 +30,13 @@ use Rattle.sharing_terms.proofs.SharingLaws.{may_share-is}
 use Rattle.claim_index.specs.declared.slot.Slot.TheVariants.{OfPort}
 use Rattle.claim_index.specs.Claims.{ClaimValue}
 use Rattle.claim_index.specs.Groups.{group_of, is_grouped}
-use Rattle.claim_index.specs.Index.{numbers_of, is_shared, is_taken, NoneShared}
-use Rattle.alloc_book.specs.Candidates.{is_held, is_own, is_offered, is_barred, is_free, Covers, AreBarred}
+use Rattle.claim_index.specs.Index.{numbers_of, is_barred, is_shared, is_shareable, is_taken, NoneShareable}
+use Rattle.alloc_book.specs.Candidates.{is_held, is_own, is_offered, is_free, Covers}
 use Rattle.claim_index.specs.Reading.{leaves}
 use Rattle.alloc_book.specs.Search.{usable, numbered, least_between}
 use Rattle.claim_index.specs.Holders.{address_of}
 use Rattle.alloc_book.specs.Usable.{is_in}
-use Rattle.claim_index.specs.Slots.{occupies}
+use Rattle.claim_index.specs.Slots.{is_member, occupies}
 use Rattle.alloc_book.proofs.LeastLaws.{numbered-is}
 use Rattle.claim_index.proofs.TermLaws.{backend-same}
 use Rattle.claim_index.proofs.IndexReading.{found-of}
@@ -147,13 +147,17 @@ free-usable claims key terms pool span family n listed same from upto free =
     (and_from (is_in pool a) (not (pool.avoid_buggy && is_buggy a)) within parts.1) left
 
 -- terms that share with those are of their group
-grouped_by : (terms t : Terms) → may_share terms t ≡ true → is_grouped (group_of terms) t ≡ true
-grouped_by terms t e =
+member_by : (terms t : Terms) → may_share terms t ≡ true → is_member (group_of terms) t ≡ true
+member_by terms t e =
     let most =
     and_parts (bytes_eq terms.key t.key && not (is_nil terms.key) && not (list_any (has_port t.ports) terms.ports)) (is_alike terms.backend t.backend) e in
+    let keys = and_parts (bytes_eq terms.key t.key && not (is_nil terms.key)) (not (list_any (has_port t.ports) terms.ports)) most.0 in
     let key : terms.key ≡ t.key = (may_share-is terms t e).same_key in
     let backend : terms.backend ≡ t.backend = backend-same terms.backend t.backend most.1 in
-    (bytes_eq-Decides (group_of t) (group_of terms)).1 (sym (group-same terms t key backend))
+    let given : not (is_nil t.key) ≡ true =
+    subst (λ (k : List ℕ). not (is_nil k) ≡ true) key (and_parts (bytes_eq terms.key t.key) (not (is_nil terms.key)) keys.0).1 in
+    and_from (not (is_nil t.key)) (is_grouped (group_of terms) t) given
+    ((bytes_eq-Decides (group_of t) (group_of terms)).1 (sym (group-same terms t key backend)))
 
 -- an address that the asker may use is free, its own or offered to it by its group
 abbrev pub IsCandidate : List ClaimValue → Key → Terms → CompiledPool → AddressValue → Type 0
@@ -169,8 +173,8 @@ held_candidate claims key terms pool a c there has left =
     (λ gone. absurd (true≢false (sym has ∙ not-true (has_address c.holding.addresses a) gone)))
     (or_cases (same_key c.key key) (not (has_address c.holding.addresses a)) first))
     (λ shared. own-or_offered (is_own key claims a) refl
-    (any-contains (λ (d : ClaimValue). is_grouped (group_of terms) d.terms && has_address d.holding.addresses a) claims c there
-    (and_from (is_grouped (group_of terms) c.terms) (has_address c.holding.addresses a) (grouped_by terms c.terms shared) has)))
+    (any-contains (λ (d : ClaimValue). is_member (group_of terms) d.terms && has_address d.holding.addresses a) claims c there
+    (and_from (is_member (group_of terms) c.terms) (has_address c.holding.addresses a) (member_by terms c.terms shared) has)))
     (or_cases (same_key c.key key || not (has_address c.holding.addresses a)) (may_share terms c.terms) left)
   where
     own-or_offered : (own : Bool) → is_own key claims a ≡ own → is_shared (group_of terms) claims a ≡ true → IsCandidate claims key terms pool a
@@ -448,9 +452,9 @@ pub keyless-unusable : (claims : List ClaimValue) (key : Key) (terms : Terms) (p
     → is_offered key (group_of terms) claims a ≡ true → usable claims key terms pool a ≡ false
 keyless-unusable claims key terms pool a e offered =
     let parts = and_parts (is_shared (group_of terms) claims a) (not (is_own key claims a)) offered in
-    let found = any-found (λ (c : ClaimValue). is_grouped (group_of terms) c.terms && has_address c.holding.addresses a) claims parts.0 in
+    let found = any-found (λ (c : ClaimValue). is_member (group_of terms) c.terms && has_address c.holding.addresses a) claims parts.0 in
     let c = found.0 in
-    let has = (and_parts (is_grouped (group_of terms) c.terms) (has_address c.holding.addresses a) found.2).1 in
+    let has = (and_parts (is_member (group_of terms) c.terms) (has_address c.holding.addresses a) found.2).1 in
     false_from_ne_true (usable claims key terms pool a) (λ passes.
     let left = all-contains (leaves key terms a) claims c
     (and_parts (is_in pool a && not (pool.avoid_buggy && is_buggy a)) (list_all (leaves key terms a) claims) passes).1 found.1 in
@@ -491,21 +495,16 @@ abbrev pub NoneUsable : List ClaimValue → Key → Terms → CompiledPool → F
 NoneUsable claims key terms pool family m =
     numbered (is_offered key (group_of terms) claims) family m ≡ true → numbered (usable claims key terms pool) family m ≡ false
 
-none_shared : (claims : List ClaimValue) (key : Key) (terms : Terms) (pool : CompiledPool) (family : Family) (m : ℕ)
-    → is_shared (group_of terms) claims (address_of family m) ≡ false → NoneUsable claims key terms pool family m
-none_shared claims key terms pool family m e =
-    λ offered. absurd
-    (true≢false (sym (and_parts (is_shared (group_of terms) claims (address_of family m)) (not (is_own key claims (address_of family m))) offered).0 ∙ e))
-
 -- where a claim of another key has one of the ports at the address, it doesn't share it
-pub barred-unusable : (claims : List ClaimValue) (key : Key) (terms : Terms) (pool : CompiledPool) (a : AddressValue)
-    → is_barred terms.ports claims a ≡ true → is_own key claims a ≡ false → usable claims key terms pool a ≡ false
+barred-unusable : (claims : List ClaimValue) (key : Key) (terms : Terms) (pool : CompiledPool) (a : AddressValue)
+    → is_barred (group_of terms) terms.ports claims a ≡ true → is_own key claims a ≡ false → usable claims key terms pool a ≡ false
 barred-unusable claims key terms pool a barred others =
     false_from_ne_true (usable claims key terms pool a) (λ passes.
-    let port = any-found (λ port. is_taken (OfPort port) claims a) terms.ports barred in
-    let held = any-found (λ (c : ClaimValue). occupies (OfPort port.0) c && has_address c.holding.addresses a) claims port.2 in
+    let port = any-found (λ port. is_taken (OfPort port (group_of terms)) claims a) terms.ports barred in
+    let slot = OfPort port.0 (group_of terms) in
+    let held = any-found (λ (c : ClaimValue). occupies slot c && has_address c.holding.addresses a) claims port.2 in
     let c = held.0 in
-    let parts = and_parts (occupies (OfPort port.0) c) (has_address c.holding.addresses a) held.2 in
+    let parts = and_parts (occupies slot c) (has_address c.holding.addresses a) held.2 in
     let left = all-contains (leaves key terms a) claims c
     (and_parts (is_in pool a && not (pool.avoid_buggy && is_buggy a)) (list_all (leaves key terms a) claims) passes).1 held.1 in
     let given = yields-left (same_key c.key key) (has_address c.holding.addresses a) terms c.terms port.0 port.1 left in
@@ -513,74 +512,39 @@ barred-unusable claims key terms pool a barred others =
     true≢false (sym (any-contains (λ (d : ClaimValue). same_key d.key key && has_address d.holding.addresses a) claims c held.1
     (and_from (same_key c.key key) (has_address c.holding.addresses a) own parts.1)) ∙ others))
 
--- each number ahead has a claim with one of the ports met so far
-any-step : {X : Type 0} (test : X → Bool) (xs : List X) (i : ℕ) (d : X) → i < length xs
-    → list_any test (take (i + 1) xs) ≡ (list_any test (take i xs) || (test (get_or xs i d) || false))
-any-step test xs i d within = ap (list_any test) (take_more xs i d within) ∙ list_any-append test (take i xs) (get_or xs i d ∷ [])
-
-pub barred-more : (ports : List Port) (i : ℕ) (d port : Port) (claims : List ClaimValue) (family : Family) (low from n : ℕ) → i < length ports
-    → get_or ports i d ≡ port
-    → AreBarred (take i ports) claims family low from → ((m : ℕ) → from ≤ m → m < n → not (is_taken (OfPort port) claims (address_of family m)) ≡ false)
-    → AreBarred (take (i + 1) ports) claims family low n
-barred-more ports i d port claims family low from n within at before here =
-    before-more (λ m. is_barred (take (i + 1) ports) claims (address_of family m) ≡ true) low from n
-    (λ m first below. any-step (taken_at m) ports i d within
-    ∙ or_left (is_barred (take i ports) claims (address_of family m)) (taken_at m (get_or ports i d) || false) (before m first below))
-    (λ m first below. any-step (taken_at m) ports i d within
-    ∙ or_right (is_barred (take i ports) claims (address_of family m)) (taken_at m (get_or ports i d) || false)
-    (or_left (taken_at m (get_or ports i d)) false (ap (taken_at m) at ∙ not-false (taken_at m port) (here m first below))))
+-- an offered address that isn't shareable by the ports isn't usable
+unshareable : (claims : List ClaimValue) (key : Key) (terms : Terms) (pool : CompiledPool) (family : Family) (m : ℕ)
+    → is_shareable terms claims (address_of family m) ≡ false → NoneUsable claims key terms pool family m
+unshareable claims key terms pool family m none offered =
+    let a = address_of family m in
+    let parts = and_parts (is_shared (group_of terms) claims a) (not (is_own key claims a)) offered in
+    barred-unusable claims key terms pool a (barred (is_shared (group_of terms) claims a) (is_barred (group_of terms) terms.ports claims a) parts.0 none)
+    (not-true (is_own key claims a) parts.1)
   where
-    taken_at : ℕ → Port → Bool
-    taken_at m q = is_taken (OfPort q) claims (address_of family m)
+    barred : (shared barred : Bool) → shared ≡ true → (shared && not barred) ≡ false → barred ≡ true
+    barred true true here none = refl
+    barred true false here none = absurd (true≢false none)
+    barred false b here none = absurd (true≢false (sym here))
 
--- those met so far are ports of the list
-pub barred-all : (ports : List Port) (i : ℕ) (claims : List ClaimValue) (family : Family) (low n : ℕ) → AreBarred (take i ports) claims family low n
-    → AreBarred ports claims family low n
-barred-all ports i claims family low n barred m from below =
-    let port = any-found (λ port. is_taken (OfPort port) claims (address_of family m)) (take i ports) (barred m from below) in
-    any-contains (λ port. is_taken (OfPort port) claims (address_of family m)) ports port.0
-    (subst (λ (qs : List Port). Contains qs port.0) (take-append-drop i ports) (Contains-append_left (take i ports) (drop i ports) port.0 port.1)) port.2
+-- the same of the claims of a walk
+pub shareable-in : (found_in claims : List ClaimValue) (family : Family) (terms : Terms) (low high : ℕ) → found_in ≡ claims
+    → NoneShareable family terms found_in low high → NoneShareable family terms claims low high
+shareable-in found_in claims family terms low high is none = subst (λ (cs : List ClaimValue). NoneShareable family terms cs low high) is none
 
-none_left : (claims : List ClaimValue) (key : Key) (terms : Terms) (pool : CompiledPool) (family : Family) (m : ℕ)
-    → is_barred terms.ports claims (address_of family m) ≡ true → NoneUsable claims key terms pool family m
-none_left claims key terms pool family m barred = λ offered.
-    barred-unusable claims key terms pool (address_of family m) barred
-    (not-true (is_own key claims (address_of family m))
-    (and_parts (is_shared (group_of terms) claims (address_of family m)) (not (is_own key claims (address_of family m))) offered).1)
-
--- the same of the claims and the ports of a walk
-pub none-shared_in : (found_in claims : List ClaimValue) (family : Family) (group : List ℕ) (low high : ℕ) → found_in ≡ claims
-    → NoneShared family group found_in low high → NoneShared family group claims low high
-none-shared_in found_in claims family group low high is none = subst (λ (cs : List ClaimValue). NoneShared family group cs low high) is none
-
-pub barred-in : (ports_in ports : List Port) (found_in claims : List ClaimValue) (family : Family) (low high : ℕ) → ports_in ≡ ports → found_in ≡ claims
-    → AreBarred ports_in found_in family low high → AreBarred ports claims family low high
-barred-in ports_in ports found_in claims family low high are is barred =
-    subst (λ (qs : List Port). AreBarred qs claims family low high) are (subst (λ (cs : List ClaimValue). AreBarred ports_in cs family low high) is barred)
-
--- none up to the next shared one, and from there none up to the next one that is left for the ports
-pub shared-more : (claims : List ClaimValue) (key : Key) (terms : Terms) (pool : CompiledPool) (family : Family) (low from n : ℕ)
+-- none up to the next one that is left for the ports
+pub shareable-more : (claims : List ClaimValue) (key : Key) (terms : Terms) (pool : CompiledPool) (family : Family) (low from n : ℕ)
     → ((m : ℕ) → low ≤ m → m < from → NoneUsable claims key terms pool family m)
-    → NoneShared family (group_of terms) claims from n → (m : ℕ) → low ≤ m → m < n → NoneUsable claims key terms pool family m
-shared-more claims key terms pool family low from n before here =
-    before-more (NoneUsable claims key terms pool family) low from n before (λ m first below. none_shared claims key terms pool family m (here m first below))
+    → NoneShareable family terms claims from n → (m : ℕ) → low ≤ m → m < n → NoneUsable claims key terms pool family m
+shareable-more claims key terms pool family low from n before here =
+    before-more (NoneUsable claims key terms pool family) low from n before (λ m first below. unshareable claims key terms pool family m (here m first below))
 
-pub left-more : (claims : List ClaimValue) (key : Key) (terms : Terms) (pool : CompiledPool) (family : Family) (low from shared n : ℕ)
+pub shareable-next : (claims : List ClaimValue) (key : Key) (terms : Terms) (pool : CompiledPool) (family : Family) (low from n : ℕ)
     → ((m : ℕ) → low ≤ m → m < from → NoneUsable claims key terms pool family m)
-    → NoneShared family (group_of terms) claims from shared → AreBarred terms.ports claims family shared n → (m : ℕ) → low ≤ m → m < n
-    → NoneUsable claims key terms pool family m
-left-more claims key terms pool family low from shared n before here barred =
-    before-more (NoneUsable claims key terms pool family) low shared n (shared-more claims key terms pool family low from shared before here)
-    (λ m first below. none_left claims key terms pool family m (barred m first below))
-
-pub left-next : (claims : List ClaimValue) (key : Key) (terms : Terms) (pool : CompiledPool) (family : Family) (low from shared n : ℕ)
-    → ((m : ℕ) → low ≤ m → m < from → NoneUsable claims key terms pool family m)
-    → NoneShared family (group_of terms) claims from shared → AreBarred terms.ports claims family shared n
-    → usable claims key terms pool (address_of family n) ≡ false
+    → NoneShareable family terms claims from n → usable claims key terms pool (address_of family n) ≡ false
     → (m : ℕ) → low ≤ m → m < n + 1 → NoneUsable claims key terms pool family m
-left-next claims key terms pool family low from shared n before here barred fails =
-    before-next (NoneUsable claims key terms pool family) low shared n (shared-more claims key terms pool family low from shared before here)
-    (λ m first below. none_left claims key terms pool family m (barred m first below)) (λ offered. fails)
+shareable-next claims key terms pool family low from n before here fails =
+    before-next (NoneUsable claims key terms pool family) low from n before (λ m first below. unshareable claims key terms pool family m (here m first below))
+    (λ offered. fails)
 
 -- the same over the values of a walk
 pub least-number : (found_in claims : List ClaimValue) (key : Key) (terms : Terms) (pool : CompiledPool) (span : SpanValue) (family : Family)

@@ -1,16 +1,12 @@
 -- Where the least usable address is looked for, and which addresses a search may pass over.
 use Rattle.std.specs.Prelude.{◌≡◌, ◌≤◌, ◌<◌, ℕ, Bool, true, false, ◌&&◌, not, List, Option, Some, None}
 use Rattle.std.specs.List.{list_any}
-use Rattle.ip_ranges.specs.declared.family.Family.{Family}
 use Rattle.ip_ranges.specs.Values.{AddressValue, has_address, is_buggy}
 use Rattle.kube_model.specs.declared.key.Key.{Key}
-use Rattle.kube_model.specs.declared.port.Port.{Port}
 use Rattle.kube_model.specs.Keys.{same_key}
 use Rattle.pool_config.specs.declared.compiled.CompiledPool.{CompiledPool}
-use Rattle.claim_index.specs.declared.slot.Slot.TheVariants.{OfPort}
 use Rattle.claim_index.specs.Claims.{ClaimValue}
-use Rattle.claim_index.specs.Holders.{address_of}
-use Rattle.claim_index.specs.Index.{is_shared, is_taken}
+use Rattle.claim_index.specs.Index.{is_shared}
 
 -- a claim has the address
 abbrev pub is_held : List ClaimValue → AddressValue → Bool
@@ -19,10 +15,6 @@ is_held claims a = list_any (λ c. has_address c.holding.addresses a) claims
 -- a claim of the key has the address
 abbrev pub is_own : Key → List ClaimValue → AddressValue → Bool
 is_own key claims a = list_any (λ c. same_key c.key key && has_address c.holding.addresses a) claims
-
--- a claim that has one of the ports has the address
-abbrev pub is_barred : List Port → List ClaimValue → AddressValue → Bool
-is_barred ports claims a = list_any (λ port. is_taken (OfPort port) claims a) ports
 
 -- a claim of this group has the address, and none of the key does
 abbrev pub is_offered : Key → List ℕ → List ClaimValue → AddressValue → Bool
@@ -36,7 +28,3 @@ is_free claims pool a = not (pool.avoid_buggy && is_buggy a) && not (is_held cla
 abbrev pub Covers : (ℕ → Bool) → (ℕ → Bool) → ℕ → ℕ → Option ℕ → Type 0
 Covers candidate test low high (Some n) = (low ≤ n) × (n ≤ high) × (test n ≡ true) × ((m : ℕ) → low ≤ m → m < n → candidate m ≡ true → test m ≡ false)
 Covers candidate test low high None = (m : ℕ) → low ≤ m → m ≤ high → candidate m ≡ true → test m ≡ false
-
--- each address of the family with a number from low on, below high, has a claim with one of the ports
-abbrev pub AreBarred : List Port → List ClaimValue → Family → ℕ → ℕ → Type 0
-AreBarred ports claims family low high = (n : ℕ) → low ≤ n → n < high → is_barred ports claims (address_of family n) ≡ true

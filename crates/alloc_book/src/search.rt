@@ -8,7 +8,7 @@ ghost use Rattle.sharing_terms.specs.declared.terms.Terms.{Terms};
 ghost use Rattle.sharing_terms.specs.Marks.{mark_of};
 ghost use Rattle.alloc_book.specs.Asking.{asking};
 ghost use Rattle.claim_index.specs.Groups.{group_of};
-ghost use Rattle.alloc_book.specs.Candidates.{is_own, is_offered, is_free, AreBarred, Covers};
+ghost use Rattle.alloc_book.specs.Candidates.{is_own, is_offered, is_free, Covers};
 ghost use Rattle.number_sets.specs.Least.{IsLeastIn, NonePasses};
 ghost use Rattle.alloc_book.specs.Searching.{claims_for, usable_by};
 ghost use Rattle.alloc_book.specs.Search.{usable, numbered, least_between, least_in, least_usable, least_each, first_pool, first_of, first_option};
@@ -22,7 +22,7 @@ use crate::marked::MarkedTerms;
 use crate::requests::alone_of;
 use claim_index::{ClaimIndex, GroupedTerms, Slot};
 use ip_ranges::{Address, AddressList, Family, Span, is_buggy};
-use kube_model::{Key, Port, Record, Service};
+use kube_model::{Key, Record, Service};
 use mlb_base::{NoMemory, TryCopy};
 use pool_config::CompiledPool;
 use std::alloc::Global;
@@ -85,26 +85,6 @@ fn first_free(
     index.first_unheld(&Slot::Any, pool.avoid_buggy, family, low, high)
 }
 
-/// A number from low to high before which each address of the family has a claim with one of the ports; `None` where each up to
-/// high has. It takes the logarithm of the number of addresses for each port.
-fn first_left(
-    index: &ClaimIndex,
-    ports: &[Port],
-    family: Family,
-    low: u128,
-    high: u128,
-) -> Option<u128>
-    requires { low ≤ high }
-    ensures some { IfSome result (λ n. (low ≤ n) × (n ≤ high) × AreBarred ports.now (values_of index.now.items) family low n) }
-    ensures none { IfNone result (AreBarred ports.now (values_of index.now.items) family low (high + 1)) }
-{
-    let mut left = low;
-    for port in ports {
-        left = index.first_unheld(&Slot::OfPort(*port), false, family, left, high)?;
-    }
-    Some(left)
-}
-
 /// A search for an address that a service may use.
 #[derive(Drop)]
 struct AddressSearch<'a> {
@@ -165,8 +145,8 @@ impl<'a> AddressSearch<'a> {
     }
 
     /// A number from low to high of an address that may be used, before which there is none that may be used, that a claim of the terms'
-    /// group has, and that the key doesn't have. Runs of addresses with a claim on one port of the terms are passed over at once, port by
-    /// port; what is left is tested one by one.
+    /// group has, and that the key doesn't have. Addresses on which a claim of the group has a port of the terms are passed over by halves,
+    /// port by port; what is left is tested one by one.
     fn least_shared(&self, low: u128, high: u128) -> Option<u128>
         requires { high < 2 ^ width_of self.now.family }
         ensures { Covers (numbered (is_offered self.now.key.now (group_of self.now.terms.now) (claims_for self.now)) self.now.family)
@@ -177,10 +157,8 @@ impl<'a> AddressSearch<'a> {
         }
         let family = self.family;
         let index = self.book.index();
-        let ports = self.terms.terms().ports.as_slice();
         let mut from = low;
-        while let Some(shared) = index.first_shared(family, self.terms, from, high) {
-            let number = first_left(index, ports, family, shared, high)?;
+        while let Some(number) = index.first_shareable(family, self.terms, from, high) {
             let address = Address { family, number };
             if may_use(self.book, self.pool, self.key, self.terms, &address) {
                 return Some(number);

@@ -3,11 +3,11 @@ use Rattle.std.specs.Option.{option_map}
 use Rattle.command_options.specs.Lanes.{lane_seen, given_seen as lanes_seen}
 use Rattle.controller_words.specs.declared.words.Asked.{Asked}
 use Rattle.controller_words.specs.declared.words.Asked.TheVariants.{Run as RunWords, Trial as TrialWords, Lanes as LanesWords}
-use Rattle.controller_words.specs.declared.words.Given.{Given as GivenWords}
+use Rattle.controller_words.specs.declared.words.AskedSoFar.{AskedSoFar}
 use Rattle.controller_words.specs.Reading.{Given}
 use Rattle.controller_words.specs.Words.{AskedValue, Run, Trial, Lanes}
 
-abbrev pub given_seen : GivenWords → Given
+abbrev pub given_seen : AskedSoFar → Given
 given_seen g = record { class = option_map (λ t. t.now) g.class; seed = g.seed; steps = g.steps; lanes = lanes_seen g.lanes }
 
 abbrev pub asked_seen : Asked → AskedValue

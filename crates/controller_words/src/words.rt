@@ -3,7 +3,7 @@ ghost use Rattle.std.specs.Prelude.{◌≡◌, IfSome, IfNone};
 ghost use Rattle.std.specs.Option.{option_map};
 ghost use Rattle.command_options.specs.Options.{texts_of};
 ghost use Rattle.controller_words.specs.Words.{Say, AreKnown};
-ghost use Rattle.controller_words.specs.Reading.{asked_in, Given as GivenValue, with_option, with_class, with_seed};
+ghost use Rattle.controller_words.specs.Reading.{asked_in, Given, with_option, with_class, with_seed};
 ghost use Rattle.controller_words.specs.Reading.{with_steps, with_config, with_service, finished};
 ghost use Rattle.controller_words.specs.Seen.{asked_seen, given_seen};
 
@@ -41,7 +41,7 @@ pub enum Asked<'a> {
 
 /// What options said so far.
 #[derive(Clone, Copy)]
-struct Given<'a> {
+struct AskedSoFar<'a> {
     class: Option<&'a str>,
     seed: Option<u64>,
     steps: Option<u32>,
@@ -67,7 +67,7 @@ pub fn controller_words(words: &[String]) -> Option<Asked<'_>>
 fn read_words(words: &[String]) -> Option<Asked<'_>>
     ensures { option_map asked_seen result ≡ asked_in (texts_of words.now) }
 {
-    let nothing = Given {
+    let nothing = AskedSoFar {
         class: None,
         seed: None,
         steps: None,
@@ -76,8 +76,8 @@ fn read_words(words: &[String]) -> Option<Asked<'_>>
     finished(taken_options(words, nothing)?)
 }
 
-impl<'a> TakesOptions<'a> for Given<'a> {
-    ghost Said = { GivenValue };
+impl<'a> TakesOptions<'a> for AskedSoFar<'a> {
+    ghost Said = { Given };
 
     ghost said = { given_seen };
 
@@ -96,58 +96,58 @@ impl<'a> TakesOptions<'a> for Given<'a> {
     }
 }
 
-fn with_class<'a>(given: Given<'a>, value: &'a str) -> Option<Given<'a>>
+fn with_class<'a>(given: AskedSoFar<'a>, value: &'a str) -> Option<AskedSoFar<'a>>
     ensures { option_map given_seen result ≡ with_class value.now (given_seen given.entry) }
 {
-    Some(Given {
+    Some(AskedSoFar {
         class: Some(once_text(given.class, value)?),
         ..given
     })
 }
 
-fn with_seed<'a>(given: Given<'a>, value: &str) -> Option<Given<'a>>
+fn with_seed<'a>(given: AskedSoFar<'a>, value: &str) -> Option<AskedSoFar<'a>>
     ensures { option_map given_seen result ≡ with_seed value.now (given_seen given.entry) }
 {
     match given.seed {
         Some(_) => None,
-        None => Some(Given {
+        None => Some(AskedSoFar {
             seed: Some(number_of(value)?),
             ..given
         }),
     }
 }
 
-fn with_steps<'a>(given: Given<'a>, value: &str) -> Option<Given<'a>>
+fn with_steps<'a>(given: AskedSoFar<'a>, value: &str) -> Option<AskedSoFar<'a>>
     ensures { option_map given_seen result ≡ with_steps value.now (given_seen given.entry) }
 {
     match given.steps {
         Some(_) => None,
-        None => Some(Given {
+        None => Some(AskedSoFar {
             steps: Some(steps_of(value)?),
             ..given
         }),
     }
 }
 
-fn with_config<'a>(given: Given<'a>, value: &'a str) -> Option<Given<'a>>
+fn with_config<'a>(given: AskedSoFar<'a>, value: &'a str) -> Option<AskedSoFar<'a>>
     ensures { option_map given_seen result ≡ with_config value.now (given_seen given.entry) }
 {
-    Some(Given {
+    Some(AskedSoFar {
         lanes: given.lanes.with_first(value)?,
         ..given
     })
 }
 
-fn with_service<'a>(given: Given<'a>, value: &'a str) -> Option<Given<'a>>
+fn with_service<'a>(given: AskedSoFar<'a>, value: &'a str) -> Option<AskedSoFar<'a>>
     ensures { option_map given_seen result ≡ with_service value.now (given_seen given.entry) }
 {
-    Some(Given {
+    Some(AskedSoFar {
         lanes: given.lanes.with_second(value)?,
         ..given
     })
 }
 
-fn finished(given: Given<'_>) -> Option<Asked<'_>>
+fn finished(given: AskedSoFar<'_>) -> Option<Asked<'_>>
     ensures { option_map asked_seen result ≡ finished (given_seen given.entry) }
 {
     let lanes = lane_files(given.lanes.first, given.lanes.second)?;

@@ -4,7 +4,7 @@ use Rattle.std.specs.Option.{option_map}
 use Rattle.arrayvec.specs.ArrayVec.{ArrayVec}
 use Rattle.command_options.specs.Lanes.{lane_seen, given_seen as lanes_seen}
 use Rattle.speaker_words.specs.declared.interface.InterfaceWord.{InterfaceWord}
-use Rattle.speaker_words.specs.declared.words.Given.{Given as GivenWords}
+use Rattle.speaker_words.specs.declared.words.SaidSoFar.{SaidSoFar}
 use Rattle.speaker_words.specs.declared.words.SpeakerWords.{SpeakerWords}
 use Rattle.speaker_words.specs.Interface.{InterfaceValue}
 use Rattle.speaker_words.specs.Reading.{Given}
@@ -16,7 +16,7 @@ interface_seen i = record { name = i.name.now; mac = i.mac }
 abbrev pub interfaces_seen : ArrayVec InterfaceWord → List InterfaceValue
 interfaces_seen v = map interface_seen v.items
 
-abbrev pub given_seen : GivenWords → Given
+abbrev pub given_seen : SaidSoFar → Given
 given_seen g = record {
   node = option_map (λ t. t.now) g.node;
   class = option_map (λ t. t.now) g.class;

@@ -5,7 +5,7 @@ ghost use Rattle.std.specs.Str.{bytes_eq};
 ghost use Rattle.std.specs.Option.{option_map};
 ghost use Rattle.command_options.specs.Options.{texts_of};
 ghost use Rattle.speaker_words.specs.Words.{Say, AreKnown};
-ghost use Rattle.speaker_words.specs.Reading.{said_in, Given as GivenValue, with_option, with_node, with_class, with_interface, with_one};
+ghost use Rattle.speaker_words.specs.Reading.{said_in, Given, with_option, with_node, with_class, with_interface, with_one};
 ghost use Rattle.speaker_words.specs.Reading.{with_next_hop, with_next_hop_v6, next_hop_of, hops_stand, with_watch, with_frame, finished};
 ghost use Rattle.speaker_words.specs.Seen.{interface_seen, interfaces_seen, given_seen, said_seen};
 
@@ -50,7 +50,7 @@ pub struct SpeakerWords<'a> {
 
 /// What options said so far.
 #[derive(Drop)]
-struct Given<'a> {
+struct SaidSoFar<'a> {
     node: Option<&'a str>,
     class: Option<&'a str>,
     interfaces: InterfaceWords<'a>,
@@ -79,7 +79,7 @@ pub fn speaker_words(words: &[String]) -> Option<SpeakerWords<'_>>
 fn read_words(words: &[String]) -> Option<SpeakerWords<'_>>
     ensures { option_map said_seen result ≡ said_in (texts_of words.now) }
 {
-    let nothing = Given {
+    let nothing = SaidSoFar {
         node: None,
         class: None,
         interfaces: ArrayVec::new(),
@@ -90,8 +90,8 @@ fn read_words(words: &[String]) -> Option<SpeakerWords<'_>>
     finished(taken_options(words, nothing)?)
 }
 
-impl<'a> TakesOptions<'a> for Given<'a> {
-    ghost Said = { GivenValue };
+impl<'a> TakesOptions<'a> for SaidSoFar<'a> {
+    ghost Said = { Given };
 
     ghost said = { given_seen };
 
@@ -112,30 +112,30 @@ impl<'a> TakesOptions<'a> for Given<'a> {
     }
 }
 
-fn with_node<'a>(given: Given<'a>, value: &'a str) -> Option<Given<'a>>
+fn with_node<'a>(given: SaidSoFar<'a>, value: &'a str) -> Option<SaidSoFar<'a>>
     ensures { option_map given_seen result ≡ with_node value.now (given_seen given.entry) }
 {
-    Some(Given {
+    Some(SaidSoFar {
         node: Some(once_text(given.node, value)?),
         ..given
     })
 }
 
-fn with_class<'a>(given: Given<'a>, value: &'a str) -> Option<Given<'a>>
+fn with_class<'a>(given: SaidSoFar<'a>, value: &'a str) -> Option<SaidSoFar<'a>>
     ensures { option_map given_seen result ≡ with_class value.now (given_seen given.entry) }
 {
-    Some(Given {
+    Some(SaidSoFar {
         class: Some(once_text(given.class, value)?),
         ..given
     })
 }
 
-fn with_interface<'a>(given: Given<'a>, value: &'a str) -> Option<Given<'a>>
+fn with_interface<'a>(given: SaidSoFar<'a>, value: &'a str) -> Option<SaidSoFar<'a>>
     ensures { option_map given_seen result ≡ with_interface value.now (given_seen given.entry) }
 {
     let interface = interface_of(value)?;
     let interfaces = with_one(given.interfaces, interface)?;
-    Some(Given {
+    Some(SaidSoFar {
         node: given.node,
         class: given.class,
         interfaces,
@@ -167,24 +167,24 @@ fn is_named(interfaces: &[InterfaceWord<'_>], name: &str) -> bool
     interfaces.iter().any(|interface| interface.name == name)
 }
 
-fn with_next_hop<'a>(given: Given<'a>, value: &str) -> Option<Given<'a>>
+fn with_next_hop<'a>(given: SaidSoFar<'a>, value: &str) -> Option<SaidSoFar<'a>>
     ensures { option_map given_seen result ≡ with_next_hop value.now (given_seen given.entry) }
 {
     match given.next_hop {
         Some(_) => None,
-        None => Some(Given {
+        None => Some(SaidSoFar {
             next_hop: Some(next_hop_of(Family::V4, value)?),
             ..given
         }),
     }
 }
 
-fn with_next_hop_v6<'a>(given: Given<'a>, value: &'a str) -> Option<Given<'a>>
+fn with_next_hop_v6<'a>(given: SaidSoFar<'a>, value: &'a str) -> Option<SaidSoFar<'a>>
     ensures { option_map given_seen result ≡ with_next_hop_v6 value.now (given_seen given.entry) }
 {
     match given.next_hop_v6 {
         Some(_) => None,
-        None => Some(Given {
+        None => Some(SaidSoFar {
             next_hop_v6: Some(next_hop_of(Family::V6, value)?),
             ..given
         }),
@@ -201,19 +201,19 @@ fn next_hop_of(family: Family, text: &str) -> Option<Address>
     }
 }
 
-fn with_watch<'a>(given: Given<'a>, value: &'a str) -> Option<Given<'a>>
+fn with_watch<'a>(given: SaidSoFar<'a>, value: &'a str) -> Option<SaidSoFar<'a>>
     ensures { option_map given_seen result ≡ with_watch value.now (given_seen given.entry) }
 {
-    Some(Given {
+    Some(SaidSoFar {
         lanes: given.lanes.with_first(value)?,
         ..given
     })
 }
 
-fn with_frame<'a>(given: Given<'a>, value: &'a str) -> Option<Given<'a>>
+fn with_frame<'a>(given: SaidSoFar<'a>, value: &'a str) -> Option<SaidSoFar<'a>>
     ensures { option_map given_seen result ≡ with_frame value.now (given_seen given.entry) }
 {
-    Some(Given {
+    Some(SaidSoFar {
         lanes: given.lanes.with_second(value)?,
         ..given
     })
@@ -226,7 +226,7 @@ fn hops_stand(next_hop: Option<Address>, next_hop_v6: Option<Address>) -> bool
     next_hop.is_some() || next_hop_v6.is_none()
 }
 
-fn finished(given: Given<'_>) -> Option<SpeakerWords<'_>>
+fn finished(given: SaidSoFar<'_>) -> Option<SpeakerWords<'_>>
     ensures { option_map said_seen result ≡ finished (given_seen given.entry) }
 {
     if !hops_stand(given.next_hop, given.next_hop_v6) {

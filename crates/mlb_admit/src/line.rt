@@ -10,12 +10,12 @@ use crate::work::Work;
 use admission_judge::{hold, judge};
 use admission_reviews::{Review, read_review, response_line};
 use explained_lines::{explain, explained_line};
-use kube_events::read_event;
-use kube_model::{EventFault, LaneName, Status};
+use kube_model::EventFault;
 use line_run::{Halt, Refusal, write_line};
 use mlb_base::NoMemory;
 use mlb_edge::{Line, Sink};
 use pool_config::ObjectSet;
+use program_lines::event_of_line;
 use std::alloc::Global;
 
 /// The review that the line asks for, if it is a readable one.
@@ -95,26 +95,7 @@ fn hold_line<K: Sink>(
         (K.written out.old) (K.written out.new) (K.faults out.old) (K.faults out.new)) }
     ensures later { K.faults out.old ≤ K.faults out.new }
 {
-    let event = match read_event(alloc, line.bytes.as_slice()) {
-        Ok(event) => event,
-        Err(EventFault::NoMemory) => {
-            drop(line);
-            return Err(Refusal::Halted {
-                halt: Halt::NoMemory,
-            });
-        }
-        Err(fault) => {
-            drop(fault);
-            return Err(Refusal::Stopped {
-                status: Status::BadLine {
-                    lane: LaneName::Input,
-                    number: line.number,
-                    bytes: line.bytes,
-                },
-            });
-        }
-    };
-    drop(line);
+    let event = event_of_line(alloc, line)?;
     match hold(objects, event) {
         Ok(()) => Ok(()),
         Err(_) => Err(Refusal::Halted {

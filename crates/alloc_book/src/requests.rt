@@ -1,11 +1,11 @@
 //! What a service asks for, and which pools could meet it.
-ghost use Rattle.std.specs.Prelude.{◌≡◌, ◌+◌, ◌∷◌, [], map, find};
+ghost use Rattle.std.specs.Prelude.{◌≡◌, ◌&&◌, ◌||◌, ◌+◌, ◌∷◌, not, [], map, find};
 ghost use Rattle.std.specs.Option.{option_copied};
 ghost use Rattle.std.specs.List.{list_all, list_any};
 ghost use Rattle.ip_ranges.specs.Values.{has_address};
 ghost use Rattle.alloc_book.specs.Asking.{alone_of, asked_in, is_asked, is_unreadable, is_given, asking, offering, options_of};
 ghost use Rattle.alloc_book.specs.Chosen.{named};
-ghost use Rattle.alloc_book.specs.Choose.{addresses_of, wanted_of, one_of_each, is_open, all_usable, same_addresses, is_kept, is_home, kept_in, home_of};
+ghost use Rattle.alloc_book.specs.Choose.{addresses_of, wanted_of, one_of_each, is_open, fits_option, all_usable, same_addresses, is_kept, is_home};
 ghost use Rattle.alloc_book.specs.Usable.{is_in};
 
 use crate::booking::Book;
@@ -166,11 +166,51 @@ fn is_kept(
 ) -> bool
     ensures { result ≡ is_kept book.now.claims (offering [] [] service.now namespace.now) (asking service.now terms.now) pool.now }
 {
-    let recorded = service.holding.addresses.as_slice();
+    is_usable(book, service, terms, namespace, pool)
+        && is_as_asked(&service.wanted, service.holding.addresses.as_slice())
+}
+
+/// Whether the service may use the pool, its recorded addresses fit it, and all of them may be used.
+fn is_usable(
+    book: &Book,
+    service: &Service,
+    terms: &MarkedTerms,
+    namespace: &Labels,
+    pool: &CompiledPool,
+) -> bool
+    ensures { result ≡ (is_open (offering [] [] service.now namespace.now) (asking service.now terms.now) pool.now
+        && fits_option (asking service.now terms.now) service.now.holding.addresses
+        && all_usable book.now.claims (asking service.now terms.now) pool.now service.now.holding.addresses) }
+{
+    is_fitting(service, terms, namespace, pool)
+        && all_usable(
+            book,
+            service,
+            terms,
+            pool,
+            service.holding.addresses.as_slice(),
+        )
+}
+
+/// Whether the service may use the pool, and its recorded addresses fit it.
+fn is_fitting(
+    service: &Service,
+    terms: &MarkedTerms,
+    namespace: &Labels,
+    pool: &CompiledPool,
+) -> bool
+    ensures { result ≡ (is_open (offering [] [] service.now namespace.now) (asking service.now terms.now) pool.now
+        && fits_option (asking service.now terms.now) service.now.holding.addresses) }
+{
     is_open(service, terms, namespace, pool)
-        && fits_option(service, recorded)
-        && all_usable(book, service, terms, pool, recorded)
-        && (!is_asked(&service.wanted) || same_addresses(recorded, asked_in(&service.wanted)))
+        && fits_option(service, service.holding.addresses.as_slice())
+}
+
+/// Whether these are the addresses asked for, where some are.
+fn is_as_asked(wanted: &Wanted, addresses: &[Address]) -> bool
+    ensures { result ≡ (not (is_asked wanted.now) || same_addresses addresses.now (asked_in wanted.now)) }
+{
+    !is_asked(wanted) || same_addresses(addresses, asked_in(wanted))
 }
 
 /// Whether the addresses asked for lie in the pool, which the service may use.

@@ -2,6 +2,7 @@
 use Rattle.std.proofs.Common.{ℕ, zero, suc, ◌+◌, ◌<◌, ◌^◌, true, false, cond, List, [], ◌∷◌, get_or, take, drop, slice_index, arith}
 use Rattle.std.specs.List.{AllByRecursion}
 use Rattle.std.specs.Int.{w32, from_be_bytes}
+use Rattle.mlb_base.proofs.Lists.{all-take, all-drop}
 use Rattle.ip_ranges.specs.declared.family.Family.{Family}
 use Rattle.ip_ranges.specs.declared.family.Family.TheVariants.{V4, V6}
 use Rattle.ip_ranges.specs.Values.{width_of}
@@ -15,14 +16,10 @@ octets-from [] each = tt
 octets-from (b ∷ rest) each = (each 0, octets-from rest (λ i. each (suc i)))
 
 pub octets-take : (count : ℕ) (bytes : List ℕ) → AreOctets bytes → AreOctets (take count bytes)
-octets-take zero bytes all = tt
-octets-take (suc count) [] all = tt
-octets-take (suc count) (b ∷ rest) all = (all.0, octets-take count rest all.1)
+octets-take = all-take (λ (b : ℕ). b < 256)
 
 pub octets-drop : (count : ℕ) (bytes : List ℕ) → AreOctets bytes → AreOctets (drop count bytes)
-octets-drop zero bytes all = all
-octets-drop (suc count) [] all = tt
-octets-drop (suc count) (b ∷ rest) all = octets-drop count rest all.1
+octets-drop = all-drop (λ (b : ℕ). b < 256)
 
 octet-at : (place : ℕ) (bytes : List ℕ) → AreOctets bytes → slice_index bytes place < 256
 octet-at place [] all = omega arith

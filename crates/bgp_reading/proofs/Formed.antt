@@ -17,6 +17,7 @@ use Rattle.bgp_updates.specs.Tables.{Ascend, HasFew, IsTable, before, of_family}
 use Rattle.bgp_updates.proofs.Packing.{small_octets}
 use Rattle.bgp_updates.proofs.SmallGroups.{size-announced, size-withdrawn}
 use Rattle.bgp_updates.proofs.Spelling.{group_updates}
+use Rattle.bgp_updates.proofs.Families.{kept-ascend}
 use Rattle.bgp_reading.specs.Laws.{AreOfPeer, AreTyped}
 use Rattle.bgp_reading.specs.Update.{ArePrefixes, AreValues, IsOf, IsTold}
 
@@ -173,12 +174,6 @@ list_all-filter keep test (route ∷ routes) all =
     cond_both (keep route) (route ∷ filter keep routes) (filter keep routes) (λ rs. list_all test (keys_of rs) ≡ true)
     (λ kept. and_from (test route.0) (list_all test (keys_of (filter keep routes))) both.0 rest) (λ left. rest)
 
-ascend-filter : (keep : PrefixValue × Terms → Bool) (routes : List (PrefixValue × Terms)) → Ascend (keys_of routes) → Ascend (keys_of (filter keep routes))
-ascend-filter keep [] ascend = tt
-ascend-filter keep (route ∷ routes) ascend =
-    cond_both (keep route) (route ∷ filter keep routes) (filter keep routes) (λ rs. Ascend (keys_of rs))
-    (λ kept. (list_all-filter keep (before route.0) routes ascend.0, ascend-filter keep routes ascend.1)) (λ left. ascend-filter keep routes ascend.1)
-
 keys-filter : (P : PrefixValue → Type 0) (keep : PrefixValue × Terms → Bool) (routes : List (PrefixValue × Terms)) → AllByRecursion P (keys_of routes)
     → AllByRecursion P (keys_of (filter keep routes))
 keys-filter P keep [] all = tt
@@ -255,18 +250,18 @@ formed-for family peering old new own old_ascend new_ascend told =
     let left = in_messages room (keys_of (gone old new)) in
     let groups = groups_from same_terms [] (changed same_terms old new) in
     formed-append family peering (withdrawals left) (flat_map (group_updates family peering) groups)
-    (formed-withdrawals family peering left (parts-formed family room (keys_of (gone old new)) (omega (arith, size)) (keys-filter (IsOf family) there old own)
-    (ascend-filter there old old_ascend)))
+    (formed-withdrawals family peering left
+    (parts-formed family room (keys_of (gone old new)) (omega (arith, size)) (keys-filter (IsOf family) there old own) (kept-ascend there old old_ascend)))
     (formed-groups family peering groups (groups-formed family peering [] (changed same_terms old new) (all-filter (Tells family peering) differs new told)
-    (ascend-filter differs new new_ascend) tt))
+    (kept-ascend differs new new_ascend) tt))
 
 pub updates-formed : (family : Family) (peering : Peering) (old new : List (PrefixValue × Terms)) → IsTable old → IsTable new → AllByRecursion HasFew new
     → AreOfPeer peering new → AreTyped peering new
     → AllByRecursion (Formed family peering) (updates_for family peering (of_family family old) (of_family family new))
 updates-formed family peering old new old_table new_table few told fits =
     let keep : PrefixValue × Terms → Bool = λ route. same_family route.0.family family in
-    formed-for family peering (of_family family old) (of_family family new) (family-own family old old_table.0) (ascend-filter keep old old_table.1)
-    (ascend-filter keep new new_table.1)
+    formed-for family peering (of_family family old) (of_family family new) (family-own family old old_table.0) (kept-ascend keep old old_table.1)
+    (kept-ascend keep new new_table.1)
     (tells family peering (of_family family new) (family-own family new new_table.0) (all-filter HasFew keep new few)
     (all-filter (λ route. IsTold peering route.1) keep new told)
     (all-filter (λ route. AreValues peering route.1) keep new fits))

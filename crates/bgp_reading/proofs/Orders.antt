@@ -4,20 +4,14 @@ use Rattle.std.proofs.lemmas.Bool.{and_parts, and_from}
 use Rattle.std.specs.List.{list_all}
 use Rattle.ip_ranges.specs.Values.{PrefixValue}
 use Rattle.bgp_updates.specs.Tables.{Ascend, before}
-use Rattle.bgp_updates.proofs.Halves.{before-before}
+use Rattle.bgp_updates.proofs.Halves.{before-rest}
 use Rattle.bgp_reading.specs.Reading.{comes_behind, follow}
-
-all-through : (p q : PrefixValue) (rest : List PrefixValue) → before p q ≡ true → list_all (before q) rest ≡ true → list_all (before p) rest ≡ true
-all-through p q [] first all = refl
-all-through p q (r ∷ rest) first all =
-    let both = and_parts (before q r) (list_all (before q) rest) all in
-    and_from (before p r) (list_all (before p) rest) (before-before p q r first both.0) (all-through p q rest first both.1)
 
 follow-all : (p : PrefixValue) (prefixes : List PrefixValue) → follow (Some p) prefixes ≡ true → list_all (before p) prefixes ≡ true
 follow-all p [] h = refl
 follow-all p (q ∷ rest) h =
     let both = and_parts (before p q) (follow (Some q) rest) h in
-    and_from (before p q) (list_all (before p) rest) both.0 (all-through p q rest both.0 (follow-all q rest both.1))
+    and_from (before p q) (list_all (before p) rest) both.0 (before-rest p q rest both.0 (follow-all q rest both.1))
 
 pub follow-ascend : (last : Option PrefixValue) (prefixes : List PrefixValue) → follow last prefixes ≡ true → Ascend prefixes
 follow-ascend last [] h = tt

@@ -5,6 +5,7 @@ use Rattle.std.proofs.lemmas.List.{append-nil}
 use Rattle.std.proofs.lemmas.List.Elements.{recursion_from_All}
 use Rattle.std.specs.List.{AllByRecursion}
 use Rattle.std.specs.Option.{option_and_then, option_map}
+use Rattle.mlb_base.proofs.Lists.{all-front, all-behind}
 use Rattle.ip_ranges.specs.declared.family.Family.{Family}
 use Rattle.ip_ranges.specs.declared.family.Family.TheVariants.{V4, V6}
 use Rattle.ip_ranges.specs.Values.{PrefixValue}
@@ -114,14 +115,6 @@ sent-octets family peering [] are short = tt
 sent-octets family peering (update ∷ updates) are short =
     (sent-by family peering update.withdrawn update.announced update.terms are.0 short.0, sent-octets family peering updates are.1 short.1)
 
-all-first : {X : Type 0} (P : X → Type 0) (xs ys : List X) → AllByRecursion P (xs ++ ys) → AllByRecursion P xs
-all-first P [] ys all = tt
-all-first P (x ∷ xs) ys all = (all.0, all-first P xs ys all.1)
-
-all-second : {X : Type 0} (P : X → Type 0) (xs ys : List X) → AllByRecursion P (xs ++ ys) → AllByRecursion P ys
-all-second P [] ys all = all
-all-second P (x ∷ xs) ys all = all-second P xs ys all.1
-
 -- the messages of a family
 sent-for : (family : Family) (peering : Peering) (old new : List (PrefixValue × Terms))
     → AllByRecursion (Formed family peering) (updates_for family peering old new) → AllByRecursion IsShort (messages_for family peering old new)
@@ -145,9 +138,9 @@ sent-between peering old new old_table is =
     sent-append peering first (updates_for V4 peering (of_family V4 old) (of_family V4 new)) second
     (updates_for V6 peering (of_family V6 old) (of_family V6 new))
     (sent-for V4 peering (of_family V4 old) (of_family V4 new) (updates-formed V4 peering old new old_table is.table few is.of_peer is.typed)
-    (all-first IsShort first second short))
+    (all-front IsShort first second short))
     (sent-for V6 peering (of_family V6 old) (of_family V6 new) (updates-formed V6 peering old new old_table is.table few is.of_peer is.typed)
-    (all-second IsShort first second short))
+    (all-behind IsShort first second short))
 
 -- the first message, cut off and read
 received-first : (most : ℕ) (table : PrefixValue → Option Terms) (message rest : List ℕ) (parts : UpdateParts) → 0 < length message

@@ -21,7 +21,7 @@ pub struct UpdateParts {
 }
 
 /// Why no message was read.
-#[derive(Clone, Copy, Debug, PartialEq, Eq, Error)]
+#[derive(Clone, Copy, Debug, Error)]
 pub enum UpdateFault {
     #[error("not an UPDATE message")]
     NotUpdate,

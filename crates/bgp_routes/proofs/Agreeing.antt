@@ -11,12 +11,12 @@ use Rattle.pool_config.specs.declared.compiled.CompiledPeer.{CompiledPeer}
 use Rattle.speaker_view.specs.ViewValue.{ViewValue}
 use Rattle.bgp_updates.specs.declared.route.Terms.{Terms}
 use Rattle.bgp_updates.specs.Received.{same_prefix}
+use Rattle.bgp_updates.proofs.ReceivedLaws.{same_prefix-itself}
 use Rattle.bgp_routes.specs.Contribution.{IsAnnounced, IsContribution}
 use Rattle.bgp_routes.specs.Differ.{DiffersAt}
 use Rattle.bgp_routes.specs.Few.{HasFewInForce}
 use Rattle.bgp_routes.specs.Parts.{OthersAgree, bgp_in, bgp_of, is_touched, prefix_under}
 use Rattle.bgp_routes.specs.Routes.{contributions}
-use Rattle.bgp_routes.proofs.Elements.{same_prefix-itself}
 use Rattle.bgp_routes.proofs.Few.{contributions-ascend}
 use Rattle.bgp_routes.proofs.Listing.{contributions-listed}
 use Rattle.bgp_routes.proofs.Sets.{stated-same}

@@ -7,6 +7,7 @@ use Rattle.std.specs.List.{AllByRecursion, list_all}
 use Rattle.std.specs.List.Sorted.{IsStrictlySortedBy}
 use Rattle.std.specs.Map.{keys_of}
 use Rattle.std.specs.Ordering.{ordering_reverse}
+use Rattle.std.proofs.lemmas.Bool.{and_parts}
 use Rattle.ip_ranges.specs.Values.{PrefixValue}
 use Rattle.large_numbers.specs.declared.numbers.LargeCommunity.{LargeCommunity}
 use Rattle.mlb_base.specs.Items.{IsIn}
@@ -16,10 +17,9 @@ use Rattle.speaker_view.specs.ViewValue.{ViewValue}
 use Rattle.bgp_updates.specs.declared.route.Terms.{Terms}
 use Rattle.bgp_updates.specs.Tables.{Ascend, before}
 use Rattle.bgp_updates.proofs.Halves.{before-before}
-use Rattle.bgp_updates.proofs.ReceivedLaws.{before-other, both_true}
+use Rattle.bgp_updates.proofs.ReceivedLaws.{before-other, same_prefix-itself}
 use Rattle.bgp_routes.specs.Determined.{Ascends, IsTableOf, TablesAreDetermined}
 use Rattle.bgp_routes.specs.Laws.{Contributes, HasCommunity, IsGreatest, IsRoute}
-use Rattle.bgp_routes.proofs.Elements.{same_prefix-itself}
 
 -- ---- lists that ascend, with the same items
 module _ {A : Type 0} (Before : A → A → Type 0) (apart : (x y : A) → Before x y → Before y x → ⊥) where
@@ -83,7 +83,7 @@ all-earlier : (r : PrefixValue × Terms) (routes : List (PrefixValue × Terms)) 
     → AllByRecursion (Earlier r) routes
 all-earlier r [] all = tt
 all-earlier r (s ∷ routes) all =
-    let parts = both_true (before r.0 s.0) (list_all (before r.0) (keys_of routes)) all in
+    let parts = and_parts (before r.0 s.0) (list_all (before r.0) (keys_of routes)) all in
     (parts.0, all-earlier r routes parts.1)
 
 pub routes-ascend : (routes : List (PrefixValue × Terms)) → Ascend (keys_of routes) → Ascending Earlier earlier-apart routes

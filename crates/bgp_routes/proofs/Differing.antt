@@ -1,6 +1,6 @@
 -- Where a change leaves all at the addresses that it doesn't list, the views before and after differ at those that it lists at most.
-use Rattle.std.proofs.Common.{◌≡◌, ℕ, ◌+◌, ◌<◌, ◌==◌, suc, Bool, true, false, ◌&&◌, ◌||◌, List, [], ◌∷◌, Contains, refl, sym, ◌∙◌, arith}
-use Rattle.std.proofs.lemmas.Bool.{false≢true}
+use Rattle.std.proofs.Common.{◌≡◌, ℕ, ◌+◌, ◌<◌, ◌==◌, suc, false, List, [], ◌∷◌, Contains, refl, sym, ◌∙◌, arith}
+use Rattle.std.proofs.lemmas.Bool.{false≢true, and_right, or_from}
 use Rattle.std.proofs.lemmas.Bool.Decides.{nat_tests}
 use Rattle.ip_ranges.specs.declared.family.Family.TheVariants.{V4}
 use Rattle.ip_ranges.specs.Values.{AddressValue, has_address, same_address, same_family}
@@ -15,21 +15,14 @@ total (a ∷ addresses) = a.number + total addresses
 abbrev numbered : ℕ → AddressValue
 numbered n = record { family = V4; number = n }
 
-and-false : (b c : Bool) → c ≡ false → (b && c) ≡ false
-and-false true c e = e
-and-false false c e = refl
-
-or-false : (b c : Bool) → b ≡ false → c ≡ false → (b || c) ≡ false
-or-false b c x y = rw (x, y) refl
-
 other-number : (n m : ℕ) → m < n → (n == m) ≡ false
 other-number n m h = grind (arith, nat_tests)
 
 above : (addresses : List AddressValue) (n : ℕ) → total addresses < n → has_address addresses (numbered n) ≡ false
 above [] n h = refl
 above (a ∷ addresses) n h =
-    or-false (same_address (numbered n) a) (has_address addresses (numbered n))
-    (and-false (same_family V4 a.family) (n == a.number) (other-number n a.number (omega (arith, h)))) (above addresses n (omega (arith, h)))
+    or_from (same_address (numbered n) a) (has_address addresses (numbered n))
+    (and_right (same_family V4 a.family) (n == a.number) (other-number n a.number (omega (arith, h)))) (above addresses n (omega (arith, h)))
 
 abbrev fresh : List AddressValue → AddressValue
 fresh addresses = numbered (suc (total addresses))

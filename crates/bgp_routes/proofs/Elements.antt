@@ -1,19 +1,18 @@
 -- What the terms of a route tell: the communities and the greatest preference of all contributions of its prefix.
-use Rattle.std.proofs.Common.{◌≡◌, ℕ, ◌≤◌, ◌==◌, Bool, true, false, cond, List, [], ◌∷◌, ◌⊎◌, inl, inr}
-use Rattle.std.proofs.Common.{Option, Some, None, Ordering, refl, sym, ◌∙◌, ap, subst, arith}
+use Rattle.std.proofs.Common.{◌≡◌, ℕ, ◌≤◌, Bool, true, false, cond, List, [], ◌∷◌, ◌⊎◌, inl, inr, Option}
+use Rattle.std.proofs.Common.{Some, None, Ordering, refl, sym, ◌∙◌, ap, subst, arith}
 use Rattle.std.specs.Cmp.{IsTotalOrder}
 use Rattle.std.specs.List.{list_any}
 use Rattle.std.specs.Bool.{⊤}
 use Rattle.std.specs.Map.{keys_of}
 use Rattle.std.proofs.lemmas.Bool.{or_left, or_right, true≢false}
-use Rattle.std.proofs.lemmas.Bool.Decides.{nat_tests}
 use Rattle.std.proofs.lemmas.Cmp.{nat_cmp_total}
 use Rattle.std.proofs.lemmas.Map.Lookups.{CmpEqualImpliesEq, exact_unsigned}
-use Rattle.ip_ranges.specs.declared.family.Family.{Family}
-use Rattle.ip_ranges.specs.declared.family.Family.TheVariants.{V4, V6}
-use Rattle.ip_ranges.specs.Values.{PrefixValue, same_family}
+use Rattle.std.proofs.lemmas.Option.{same_Some}
+use Rattle.ip_ranges.specs.Values.{PrefixValue}
 use Rattle.large_numbers.specs.declared.numbers.LargeCommunity.{LargeCommunity}
 use Rattle.mlb_base.specs.Items.{IsIn}
+use Rattle.mlb_base.proofs.Bools.{by_bool}
 use Rattle.pool_config.specs.declared.compiled.CompiledPeer.{CompiledPeer}
 use Rattle.pool_config.specs.KeySets.{keys_with}
 use Rattle.pool_config.proofs.CommunitySets.{large_cmp-exact, large_cmp-total}
@@ -23,7 +22,7 @@ use Rattle.bgp_updates.specs.declared.route.Terms.{Terms}
 use Rattle.bgp_updates.specs.Received.{AreDistinct, same_prefix, terms_at}
 use Rattle.bgp_updates.specs.Tables.{Ascend}
 use Rattle.bgp_updates.proofs.Packing.{by_test}
-use Rattle.bgp_updates.proofs.ReceivedLaws.{by_bool, distinct, same_prefix-is}
+use Rattle.bgp_updates.proofs.ReceivedLaws.{distinct, same_prefix-is, same_prefix-itself}
 use Rattle.bgp_routes.specs.Contribution.{IsContribution}
 use Rattle.bgp_routes.specs.Laws.{HasCommunity, IsGreatest, IsRoute, RoutesUniteContributions, joined, stated}
 use Rattle.bgp_routes.specs.Routes.{contributions, routes_of}
@@ -76,16 +75,6 @@ pub record Told (P : Terms → Type 0) (p : PrefixValue) (cs : List (PrefixValue
 
 told-later : (P : Terms → Type 0) (p : PrefixValue) (c : PrefixValue × Terms) (cs : List (PrefixValue × Terms)) → Told P p cs → Told P p (c ∷ cs)
 told-later P p c cs told = record { terms = told.terms; there = inr told.there; tells = told.tells }
-
-family-itself : (f : Family) → same_family f f ≡ true
-family-itself V4 = refl
-family-itself V6 = refl
-
-number-itself : (n : ℕ) → (n == n) ≡ true
-number-itself n = grind (arith, nat_tests)
-
-pub same_prefix-itself : (p : PrefixValue) → same_prefix p p ≡ true
-same_prefix-itself p = rw (family-itself p.family, number-itself p.number, number-itself p.length) refl
 
 module _ (P : Terms → Type 0) (split : (s t : Terms) → P (united_terms s t) → P s ⊎ P t) (join : (s t : Terms) → P s ⊎ P t → P (united_terms s t))
     (p : PrefixValue) where
@@ -164,15 +153,12 @@ at-route (x ∷ routes) route apart (inr later) =
     (λ own. absurd (true≢false (sym (any-key x.0 routes route later (sym (same_prefix-is route.0 x.0 own))) ∙ apart.0)))
     (λ other. rw other (at-route routes route apart.1 later))
 
-some-is : (s t : Terms) → Some s ≡ Some t → s ≡ t
-some-is s t e = cc
-
 pub at-in : (routes : List (PrefixValue × Terms)) (p : PrefixValue) (terms : Terms) → terms_at routes p ≡ Some terms → IsIn routes (p, terms)
 at-in [] p terms e = absurd (cc)
 at-in (x ∷ routes) p terms e =
     by_bool (IsIn (x ∷ routes) (p, terms)) (same_prefix p x.0)
     (λ own.
-    let one : x.1 ≡ terms = some-is x.1 terms (subst (λ b. cond b (Some x.1) (terms_at routes p) ≡ Some terms) own e) in
+    let one : x.1 ≡ terms = same_Some x.1 terms (subst (λ b. cond b (Some x.1) (terms_at routes p) ≡ Some terms) own e) in
     inl (ap (λ (q : PrefixValue). (q, x.1)) (sym (same_prefix-is p x.0 own)) ∙ ap (λ (t : Terms). (p, t)) one))
     (λ other. inr (at-in routes p terms (subst (λ b. cond b (Some x.1) (terms_at routes p) ≡ Some terms) other e)))
 

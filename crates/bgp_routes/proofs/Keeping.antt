@@ -5,6 +5,7 @@ use Rattle.std.specs.Map.{keys_of}
 use Rattle.std.specs.Option.{option_map}
 use Rattle.std.specs.Str.{bytes_eq}
 use Rattle.std.proofs.lemmas.Bool.{and_parts, false≢true}
+use Rattle.std.proofs.Math.Bool.{and-false}
 use Rattle.ip_ranges.specs.Values.{AddressValue, PrefixValue}
 use Rattle.pool_config.specs.ConfigValue.{ConfigValue}
 use Rattle.pool_config.specs.declared.compiled.CompiledPeer.{CompiledPeer}
@@ -25,10 +26,6 @@ use Rattle.bgp_routes.proofs.Renewing.{same-elsewhere, same-held, touched-all, u
 use Rattle.bgp_routes.proofs.Telling.{part-is, whole-is}
 
 -- ---- nothing is held
-and-none : (b : Bool) → (b && false) ≡ false
-and-none true = refl
-and-none false = refl
-
 no-config : (v : ViewValue) (node : List ℕ) → v.held.config ≡ None → record { advertisements = []; choices = []; peers = [] } ≡ held_for v node
 no-config v node none = λ i. record {
   advertisements = map advertisement_of (bgp_in (sym none i));
@@ -40,7 +37,7 @@ nothing-contributes : (v : ViewValue) (node : List ℕ) (both : Bool) → v.held
     → false ≡ contributes v node both g a
 nothing-contributes v node both none g a =
     sym (ap (λ (config : Option ConfigValue). may_stand both (map advertisement_of (bgp_in config)) g a && is_set (choice_at v node a) g.advertisement) none
-    ∙ ap (λ b. b && is_set (choice_at v node a) g.advertisement) (and-none (counts both a.family)))
+    ∙ ap (λ b. b && is_set (choice_at v node a) g.advertisement) (and-false (counts both a.family)))
 
 pub cleared-none : (kept : KeptValue) → IsCleared kept → HoldsNone kept
 cleared-none kept cleared v none = record {

@@ -1,7 +1,7 @@
 -- Where the halves of peers by ascending name meet, there a peer stands, if it is among them.
 use Rattle.std.proofs.Common.{◌≡◌, ℕ, zero, suc, ◌<◌, Bool, true, false, cond, ◌&&◌, ◌==◌, List, [], ◌∷◌, map, find, length}
 use Rattle.std.proofs.Common.{get_or, Option, Some, None, Ordering, Less, Equal, Greater, refl, sym, ap, subst, ◌∙◌, arith}
-use Rattle.std.proofs.lemmas.Bool.{and_parts, true≢false}
+use Rattle.std.proofs.lemmas.Bool.{and_parts, true≢false, false_from_ne_true}
 use Rattle.std.proofs.lemmas.Slice.Eq.{bytes_eq-Decides}
 use Rattle.std.specs.Cmp.{tied_itself}
 use Rattle.std.specs.List.{AllByRecursion, slice_get}
@@ -15,7 +15,6 @@ use Rattle.pool_config.specs.ConfigValue.{Ascend}
 use Rattle.pool_config.specs.declared.compiled.CompiledBgp.{CompiledBgp}
 use Rattle.pool_config.specs.declared.compiled.CompiledPeer.{CompiledPeer}
 use Rattle.speaker_view.specs.ViewValue.{ViewValue}
-use Rattle.bgp_updates.proofs.ReceivedLaws.{not_true}
 use Rattle.bgp_routes.specs.declared.held.HeldPeer.{HeldPeer}
 use Rattle.bgp_routes.specs.Held.{is_before, is_held_of, peer_by}
 use Rattle.bgp_routes.specs.Peers.{peers_of}
@@ -81,7 +80,7 @@ module _ (peer : CompiledPeer) where
 
   before-other : (held : HeldPeer) → is_before peer held ≡ true → is_held_of peer held ≡ false
   before-other held before =
-      not_true (is_held_of peer held) (λ own.
+      false_from_ne_true (is_held_of peer held) (λ own.
       let same : name_cmp held.name peer.name ≡ Equal = ap (λ n. name_cmp n peer.name) (own-name held own) ∙ tied_itself name_cmp-total peer.name in
       true≢false (sym before ∙ ap is_lt same))
 
@@ -90,7 +89,7 @@ module _ (peer : CompiledPeer) where
   none-behind head [] late all = refl
   none-behind head (held ∷ peers) late all =
       let other : is_held_of peer held ≡ false =
-      not_true (is_held_of peer held) (λ own.
+      false_from_ne_true (is_held_of peer held) (λ own.
       let less : name_cmp head.name peer.name ≡ Less = ap (name_cmp head.name) (sym (own-name held own)) ∙ all.0 in
       true≢false (sym (ap is_lt less) ∙ late)) in
       rw other (none-behind head peers late all.1)

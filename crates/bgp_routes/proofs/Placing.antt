@@ -1,9 +1,10 @@
 -- A table stays one with a contribution, and contributions are united one after the other.
-use Rattle.std.proofs.Common.{◌≡◌, ℕ, Bool, true, false, cond, ◌&&◌, ◌==◌, List, [], ◌∷◌, ◌++◌, refl, sym, ◌∙◌, arith}
+use Rattle.std.proofs.Common.{◌≡◌, ℕ, true, false, cond, ◌&&◌, ◌==◌, List, [], ◌∷◌, ◌++◌, refl, sym, ◌∙◌, arith}
 use Rattle.std.specs.List.{list_all, AllByRecursion, flat_map}
 use Rattle.std.specs.Map.{keys_of}
-use Rattle.std.proofs.lemmas.Bool.{true≢false}
+use Rattle.std.proofs.lemmas.Bool.{true≢false, and_parts, and_from}
 use Rattle.std.proofs.lemmas.Bool.Decides.{nat_tests}
+use Rattle.mlb_base.proofs.Bools.{by_bool}
 use Rattle.ip_ranges.specs.declared.family.Family.{Family}
 use Rattle.ip_ranges.specs.declared.family.Family.TheVariants.{V4, V6}
 use Rattle.ip_ranges.specs.Values.{PrefixValue, IsPrefix, same_family}
@@ -11,8 +12,7 @@ use Rattle.bgp_updates.specs.declared.route.Terms.{Terms}
 use Rattle.bgp_updates.specs.Received.{same_prefix}
 use Rattle.bgp_routes.specs.Uniting.{united_terms, with_contribution, with_contributions, with_each}
 use Rattle.bgp_updates.specs.Tables.{Ascend, IsTable, before, families_before, numbers_before}
-use Rattle.bgp_updates.proofs.Halves.{before-before}
-use Rattle.bgp_updates.proofs.ReceivedLaws.{both_true, by_bool}
+use Rattle.bgp_updates.proofs.Halves.{before-rest}
 
 -- ---- a table stays a table
 
@@ -29,30 +29,20 @@ all-keys P (route ∷ routes) c all is =
       ]
     ]
 
-and_true : (a b : Bool) → a ≡ true → b ≡ true → (a && b) ≡ true
-and_true a b x y = rw (x, y) refl
-
 before-all : (p : PrefixValue) (routes : List (PrefixValue × Terms)) (c : PrefixValue × Terms) → list_all (before p) (keys_of routes) ≡ true
     → before p c.0 ≡ true
     → list_all (before p) (keys_of (with_contribution routes c)) ≡ true
-before-all p [] c all is = and_true (before p c.0) true is refl
+before-all p [] c all is = and_from (before p c.0) true is refl
 before-all p (route ∷ routes) c all is =
-    let parts = both_true (before p route.0) (list_all (before p) (keys_of routes)) all in
+    let parts = and_parts (before p route.0) (list_all (before p) (keys_of routes)) all in
     elim (same_prefix c.0 route.0) as (λ u. list_all (before p) (keys_of
     (cond u ((route.0, united_terms route.1 c.1) ∷ routes) (cond (before c.0 route.0) (c ∷ route ∷ routes) (route ∷ with_contribution routes c)))) ≡ true) [
       | true ↦ all
       | false ↦ elim (before c.0 route.0) as (λ v. list_all (before p) (keys_of (cond v (c ∷ route ∷ routes) (route ∷ with_contribution routes c))) ≡ true) [
-        | true ↦ and_true (before p c.0) (list_all (before p) (keys_of (route ∷ routes))) is all
-        | false ↦ and_true (before p route.0) (list_all (before p) (keys_of (with_contribution routes c))) parts.0 (before-all p routes c parts.1 is)
+        | true ↦ and_from (before p c.0) (list_all (before p) (keys_of (route ∷ routes))) is all
+        | false ↦ and_from (before p route.0) (list_all (before p) (keys_of (with_contribution routes c))) parts.0 (before-all p routes c parts.1 is)
       ]
     ]
-
-pub before-rest : (p q : PrefixValue) (prefixes : List PrefixValue) → before p q ≡ true → list_all (before q) prefixes ≡ true
-    → list_all (before p) prefixes ≡ true
-before-rest p q [] first all = refl
-before-rest p q (r ∷ prefixes) first all =
-    let parts = both_true (before q r) (list_all (before q) prefixes) all in
-    and_true (before p r) (list_all (before p) prefixes) (before-before p q r first parts.0) (before-rest p q prefixes first parts.1)
 
 numbers-other : (a b l m : ℕ) → ((a == b) && (l == m)) ≡ false → numbers_before a b l m ≡ false → numbers_before b a m l ≡ true
 numbers-other a b l m other late = grind (arith, nat_tests)
@@ -75,7 +65,7 @@ ascend-with (route ∷ routes) c ascend =
     (λ own. rw own ascend)
     (λ other. by_bool (Ascend (keys_of (with_contribution (route ∷ routes) c))) (before c.0 route.0)
     (λ first. rw (other, first)
-    (and_true (before c.0 route.0) (list_all (before c.0) (keys_of routes)) first (before-rest c.0 route.0 (keys_of routes) first ascend.0), ascend))
+    (and_from (before c.0 route.0) (list_all (before c.0) (keys_of routes)) first (before-rest c.0 route.0 (keys_of routes) first ascend.0), ascend))
     (λ late. rw (other, late) (before-all route.0 routes c ascend.0 (other-way c.0 route.0 other late), ascend-with routes c ascend.1)))
 
 pub stays : (routes : List (PrefixValue × Terms)) (c : PrefixValue × Terms) → IsTable routes → IsPrefix c.0 → IsTable (with_contribution routes c)

@@ -1,12 +1,13 @@
 -- What stands after an address, or some, were touched.
 use Rattle.std.proofs.Common.{◌≡◌, ℕ, ◌<◌, ◌+◌, ◌==◌, nat_lt, Bool, true, false, cond, ◌&&◌, ◌||◌, List, [], map}
 use Rattle.std.proofs.Common.{Option, Some, None, take, length, get_or, Contains, refl, sym, ap, subst, ◌∙◌, arith}
-use Rattle.std.proofs.lemmas.Bool.{and_from, and_parts, false≢true}
+use Rattle.std.proofs.lemmas.Bool.{and_from, and_parts, false≢true, false_from_ne_true, eqb-true, eq-eqb}
 use Rattle.std.proofs.lemmas.Bool.Decides.{nat_tests, same_from_decides}
 use Rattle.std.proofs.lemmas.List.Folds.{list_any_more}
 use Rattle.std.proofs.lemmas.Option.{slice_get_within}
 use Rattle.std.specs.BTreeMap.{is_at}
 use Rattle.std.specs.List.{slice_get}
+use Rattle.mlb_base.proofs.Bools.{by_bool}
 use Rattle.ip_ranges.specs.Values.{AddressValue, has_address, same_address}
 use Rattle.ip_ranges.proofs.AddressLaws.{has_address-from, same_address-is, same_address-flip}
 use Rattle.kube_model.specs.declared.service.Service.{Service}
@@ -15,7 +16,6 @@ use Rattle.speaker_view.specs.Endpoints.{announced_from, can_announce, node_labe
 use Rattle.speaker_view.specs.Held.{objects_of}
 use Rattle.speaker_view.specs.ViewValue.{ViewValue}
 use Rattle.speaker_view.proofs.Indexed.{has-recorded_addresses}
-use Rattle.bgp_updates.proofs.ReceivedLaws.{by_bool, not_true}
 use Rattle.bgp_routes.specs.declared.contributors.Aggregate.{Aggregate}
 use Rattle.bgp_routes.specs.declared.held.Advertisement.{Advertisement}
 use Rattle.bgp_routes.specs.Contributors.{AreTouched, Entries, IsPutAt, IsPutByAll, IsTouched, StandRight}
@@ -56,12 +56,6 @@ module _ (advertisements : List Advertisement) (flags : List Bool) (a : AddressV
   one-more : (m n : ℕ) → nat_lt m (n + 1) ≡ (nat_lt m n || (m == n))
   one-more m n = grind (arith, nat_tests)
 
-  number-is : (m n : ℕ) → (m == n) ≡ true → m ≡ n
-  number-is m n e = grind (arith, nat_tests)
-
-  number-itself : (n : ℕ) → (n == n) ≡ true
-  number-itself n = grind (arith, nat_tests)
-
   steps : (m e l : Bool) (x y w : Bool) → (e ≡ true → x ≡ y) → cond ((m && e) && true) x (cond (m && l) y w) ≡ cond (m && (l || e)) y w
   steps true true true x y w same = same refl
   steps true true false x y w same = same refl
@@ -88,12 +82,12 @@ module _ (advertisements : List Advertisement) (flags : List Bool) (a : AddressV
         own-stands =
             and_from (own_at (aggregate_of n adv a) a) (n == n)
             (ap (is_own (aggregate_of n adv a) a) at ∙ at-itself place_cmp place_cmp-total (place_of (prefix_of adv a)))
-            (number-itself n)
+            (eq-eqb n n refl)
 
         by-parts : (own_at g a && (g.advertisement == n)) ≡ true → aggregate_of n adv a ≡ g
         by-parts e =
             let both = and_parts (own_at g a) (g.advertisement == n) e in
-            let number : g.advertisement ≡ n = number-is g.advertisement n both.1 in
+            let number : g.advertisement ≡ n = eqb-true g.advertisement n both.1 in
             let here : slice_get advertisements g.advertisement ≡ Some adv = ap (slice_get advertisements) number ∙ at in
             let place : g.place ≡ place_of (prefix_of adv a) =
             at-same place_cmp place_cmp-exact g.place (place_of (prefix_of adv a)) (subst (λ (o : Option Advertisement). is_own g a o ≡ true) here both.0) in
@@ -113,7 +107,7 @@ module _ (advertisements : List Advertisement) (flags : List Bool) (a : AddressV
         ∙ (λ i. cond ((own_at g b && (g.advertisement == n)) && own i) (is_set flags n)
         (cond (own i && (own_at g b && nat_lt g.advertisement n)) (is_set flags g.advertisement) (has old g b)))
         ∙ steps (own_at g b) (g.advertisement == n) (nat_lt g.advertisement n) (is_set flags n) (is_set flags g.advertisement) (has old g b)
-        (λ e. ap (is_set flags) (sym (number-is g.advertisement n e)))
+        (λ e. ap (is_set flags) (sym (eqb-true g.advertisement n e)))
         ∙ ap (λ l. cond (own_at g b && l) (is_set flags g.advertisement) (has old g b)) (sym (one-more g.advertisement n))
         ∙ (λ i. cond (sym own i && (own_at g b && nat_lt g.advertisement (n + 1))) (is_set flags g.advertisement) (has old g b)))
         (λ other.
@@ -152,7 +146,7 @@ module _ (v : ViewValue) (node : List ℕ) (both : Bool) where
   -- what doesn't stand where it may doesn't stand
   stands-not : (entries : Entries) → StandRight both advertisements entries → (g : Aggregate) (b : AddressValue) → may_stand both advertisements g b ≡ false
       → has entries g b ≡ false
-  stands-not entries right g b none = not_true (has entries g b) (λ stands. false≢true (sym none ∙ right g b stands))
+  stands-not entries right g b none = false_from_ne_true (has entries g b) (λ stands. false≢true (sym none ∙ right g b stands))
 
   by-choice : (m flag was : Bool) → (m ≡ false → was ≡ false) → cond m flag was ≡ (m && flag)
   by-choice true flag was none = refl
@@ -249,7 +243,7 @@ module _ (v : ViewValue) (node : List ℕ) (both : Bool) where
 
   pub unrecorded-none : (g : Aggregate) (a : AddressValue) → ¬ (Contains (recorded_addresses v) a) → false ≡ contributes v node both g a
   unrecorded-none g a none =
-      let silent : announced_from v a node ≡ false = not_true (announced_from v a node) (λ e. none (announced-recorded a e)) in
+      let silent : announced_from v a node ≡ false = false_from_ne_true (announced_from v a node) (λ e. none (announced-recorded a e)) in
       let flag : is_set (choice_at v node a) g.advertisement ≡ false =
       ap (λ b. is_set (cond b (choice_of (node_labels v node) (bgp_of v) (pool_with (pools_of v) a)) []) g.advertisement) silent in
       sym (ap (λ f. may_stand both advertisements g a && f) flag ∙ and-none (may_stand both advertisements g a))

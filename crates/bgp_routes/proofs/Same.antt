@@ -1,6 +1,5 @@
 -- Equal lists that ascend are united already.
-use Rattle.std.proofs.Common.{◌≡◌, ℕ, ◌+◌, ◌≤◌, Bool, true, false, ◌&&◌, ◌==◌, nat_le, List, [], ◌∷◌, Less}
-use Rattle.std.proofs.Common.{Ordering, Result, Ok, Err, inr, ⊎_elim, refl, sym, ◌∙◌, ap, arith}
+use Rattle.std.proofs.Common.{◌≡◌, ℕ, ◌+◌, ◌≤◌, Bool, true, ◌==◌, nat_le, List, [], ◌∷◌, Less, Ordering, Result, Ok, Err, inr, ⊎_elim, sym, ◌∙◌, ap, arith}
 use Rattle.std.proofs.lemmas.Bool.Decides.{nat_tests}
 use Rattle.std.proofs.lemmas.Cmp.{nat_cmp_total}
 use Rattle.std.proofs.lemmas.Map.Lookups.{CmpEqualImpliesEq, exact_unsigned}
@@ -12,13 +11,15 @@ use Rattle.std.specs.List.{AllByRecursion}
 use Rattle.std.specs.List.Sorted.{IsStrictlySortedBy}
 use Rattle.std.specs.Ordering.{nat_cmp}
 use Rattle.std.specs.Str.{bytes_eq}
+use Rattle.std.proofs.lemmas.Bool.{and_parts}
+use Rattle.std.proofs.Math.Bool.{and_assoc}
 use Rattle.large_numbers.specs.Large.{large_cmp}
 use Rattle.large_numbers.specs.contracts.numbers.LargeCommunityPartialEq.TheImpl as derived
 use Rattle.large_numbers.specs.declared.numbers.LargeCommunity.{LargeCommunity}
 use Rattle.mlb_base.specs.Items.{IsIn}
 use Rattle.pool_config.proofs.CommunitySets.{large_cmp-exact, large_cmp-total}
 use Rattle.bgp_updates.specs.Received.{same_large}
-use Rattle.bgp_updates.proofs.ReceivedLaws.{both_true, same_larges-Decides}
+use Rattle.bgp_updates.proofs.ReceivedLaws.{same_larges-Decides}
 use Rattle.bgp_routes.specs.Uniting.{are_same, ascend_from, united}
 use Rattle.bgp_routes.proofs.Determined.{same-keys-ascending}
 use Rattle.bgp_routes.proofs.Elements.{in_united, united_in}
@@ -44,7 +45,7 @@ at-least low n le = grind (arith, nat_tests)
 from : (low : ℕ) (numbers : List ℕ) → ascend_from low numbers ≡ true → AreFrom low numbers
 from low [] ascend = tt
 from low (n ∷ numbers) ascend =
-    let parts = both_true (nat_le low n) (ascend_from (n + 1) numbers) ascend in
+    let parts = and_parts (nat_le low n) (ascend_from (n + 1) numbers) ascend in
     let first = at-least low n parts.0 in
     (first, higher low (n + 1) numbers (omega (arith, first)) (from (n + 1) numbers parts.1))
 
@@ -52,7 +53,7 @@ sorted : (low : ℕ) (numbers : List ℕ) → ascend_from low numbers ≡ true �
 unfolding IsStrictlySortedBy
 sorted low [] ascend = tt
 sorted low (n ∷ numbers) ascend =
-    let parts = both_true (nat_le low n) (ascend_from (n + 1) numbers) ascend in
+    let parts = and_parts (nat_le low n) (ascend_from (n + 1) numbers) ascend in
     (below n numbers (from (n + 1) numbers parts.1), sorted (n + 1) numbers parts.1)
 
 -- ---- united with itself
@@ -66,17 +67,13 @@ module _ {K : Type 0} {R : K → K → Ordering} (o : IsTotalOrder R) (exact : C
 
 pub united_same : (a b : List ℕ) → are_same a b ≡ true → united nat_cmp a b ≡ a
 united_same a b same =
-    let parts = both_true (bytes_eq a b) (ascend_from 0 a) same in
+    let parts = and_parts (bytes_eq a b) (ascend_from 0 a) same in
     let one : a ≡ b = (bytes_eq-Decides a b).0 parts.0 in
     ap (united nat_cmp a) (sym one) ∙ united-self nat_cmp_total exact_unsigned a (sorted 0 a parts.1)
 
 -- ---- large communities that the code finds equal
-assoc : (a b c : Bool) → (a && (b && c)) ≡ ((a && b) && c)
-assoc true b c = refl
-assoc false b c = refl
-
 large-eq : (c d : LargeCommunity) → derived.eq-value.it c d ≡ same_large c d
-large-eq c d = assoc (c.global == d.global) (c.first == d.first) (c.second == d.second)
+large-eq c d = sym (and_assoc (c.global == d.global) (c.first == d.first) (c.second == d.second))
 
 larges-eq : (a b : List LargeCommunity) → pointwise derived.eq-value.it a b ≡ pointwise same_large a b
 larges-eq a b = ap (λ (E : LargeCommunity → LargeCommunity → Bool). pointwise E a b) (λ i c d. large-eq c d i)

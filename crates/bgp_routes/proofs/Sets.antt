@@ -4,15 +4,16 @@ use Rattle.std.specs.Bool.{⊤}
 use Rattle.std.specs.List.{list_all, AllByRecursion}
 use Rattle.std.specs.Map.{keys_of}
 use Rattle.std.proofs.lemmas.Cmp.{nat_cmp_total}
-use Rattle.std.proofs.lemmas.Bool.{and_from}
+use Rattle.std.proofs.lemmas.Bool.{and_from, and_parts}
 use Rattle.std.proofs.lemmas.Map.Entries.{lookup-filter-keys}
 use Rattle.ip_ranges.specs.Values.{PrefixValue}
 use Rattle.mlb_base.specs.Items.{IsIn}
+use Rattle.mlb_base.proofs.Bools.{by_bool}
 use Rattle.pool_config.proofs.CommunitySets.{large_cmp-total}
 use Rattle.bgp_updates.specs.declared.route.Terms.{Terms}
 use Rattle.bgp_updates.specs.Received.{same_prefix, terms_at}
 use Rattle.bgp_updates.specs.Tables.{Ascend, before}
-use Rattle.bgp_updates.proofs.ReceivedLaws.{both_true, by_bool, distinct, same_prefix-is}
+use Rattle.bgp_updates.proofs.ReceivedLaws.{distinct, same_prefix-is}
 use Rattle.bgp_routes.specs.Determined.{Ascends}
 use Rattle.bgp_routes.specs.Laws.{joined, stated}
 use Rattle.bgp_routes.specs.Uniting.{united_terms, with_contributions}
@@ -150,7 +151,7 @@ module _ (keep : PrefixValue → Bool) where
   before-part : (p : PrefixValue) (routes : Contributions) → list_all (before p) (keys_of routes) ≡ true → list_all (before p) (keys_of (part routes)) ≡ true
   before-part p [] all = refl
   before-part p (route ∷ routes) all =
-      let parts = both_true (before p route.0) (list_all (before p) (keys_of routes)) all in
+      let parts = and_parts (before p route.0) (list_all (before p) (keys_of routes)) all in
       by_test (keep route.0) parts.0 (before-part p routes parts.1)
     where
       by_test : (b : Bool) → before p route.0 ≡ true → list_all (before p) (keys_of (part routes)) ≡ true

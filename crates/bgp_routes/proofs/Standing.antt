@@ -1,6 +1,6 @@
 -- Which addresses stand with which aggregates.
-use Rattle.std.proofs.Common.{◌≡◌, ℕ, Bool, true, false, cond, not, ◌&&◌, ◌||◌, is_some, List, [], ◌∷◌, Option, Some}
-use Rattle.std.proofs.Common.{None, Result, Ok, Err, Ordering, Less, Equal, Greater, is_eq, refl, sym, ap, subst, ◌∙◌}
+use Rattle.std.proofs.Common.{◌≡◌, ℕ, Bool, true, false, cond, not, ◌&&◌, ◌||◌, is_some, List, [], ◌∷◌}
+use Rattle.std.proofs.Common.{Option, Some, None, Result, Ok, Err, Ordering, is_eq, refl, sym, ap, subst, ◌∙◌}
 use Rattle.std.proofs.lemmas.Bool.{false≢true, or_left}
 use Rattle.std.proofs.lemmas.Map.Lookups.{CmpEqualImpliesEq, exact_unsigned}
 use Rattle.std.specs.BTreeMap.{is_at}
@@ -8,7 +8,7 @@ use Rattle.std.specs.BTreeSet.{BTreeSet}
 use Rattle.std.specs.Cmp.{IsTotalOrder, Equal-is, nat_cmp_total, on_total, then_total, tied_itself}
 use Rattle.std.specs.List.{list_any}
 use Rattle.std.specs.Map.{keys_of, lookup}
-use Rattle.std.specs.Ordering.{nat_cmp, ordering_then}
+use Rattle.std.specs.Ordering.{nat_cmp}
 use Rattle.std.specs.Result.{OnOk}
 use Rattle.grouped_keys.specs.Grouped.{in_group, is_in}
 use Rattle.ip_ranges.specs.contracts.address.AddressOrd.TheImpl as derived
@@ -16,6 +16,8 @@ use Rattle.ip_ranges.specs.declared.family.Family.{Family}
 use Rattle.ip_ranges.specs.declared.family.Family.TheVariants.{V4, V6}
 use Rattle.ip_ranges.specs.Values.{AddressValue}
 use Rattle.mlb_base.specs.Items.{IsIn}
+use Rattle.mlb_base.proofs.Orders.{both_equal}
+use Rattle.mlb_base.proofs.Bools.{or-cond, and_not-cond}
 use Rattle.speaker_view.specs.Addresses.{address_cmp}
 use Rattle.speaker_view.proofs.AddressOrder.{address_cmp-is, address_total, same-at}
 use Rattle.bgp_routes.specs.contracts.contributors.AggregateOrd.TheImpl as derived_aggregates
@@ -28,11 +30,6 @@ use Rattle.bgp_routes.proofs.Stays.{in-any}
 -- ---- the order of aggregates
 pub aggregate_cmp-total : IsTotalOrder aggregate_cmp
 aggregate_cmp-total = then_total (on_total (λ (g : Aggregate). g.place) place_cmp-total) (on_total (λ (g : Aggregate). g.advertisement) nat_cmp_total)
-
-both_equal : (r s : Ordering) → ordering_then r s ≡ Equal → (r ≡ Equal) × (s ≡ Equal)
-both_equal Less s e = absurd (cc)
-both_equal Equal s e = (refl, e)
-both_equal Greater s e = absurd (cc)
 
 pub aggregate_cmp-exact : CmpEqualImpliesEq aggregate_cmp
 aggregate_cmp-exact g h e =
@@ -71,14 +68,6 @@ pub at-itself : {K : Type 0} (R : K → K → Ordering) → IsTotalOrder R → (
 at-itself R total k = ap is_eq (tied_itself total k)
 
 -- ---- an address was put in, or taken out
-in-by : (b c : Bool) → (b || c) ≡ cond b true c
-in-by true c = refl
-in-by false c = refl
-
-out-by : (b c : Bool) → (not b && c) ≡ cond b false c
-out-by true c = refl
-out-by false c = refl
-
 module _ (old new : Entries) (g : Aggregate) (a : AddressValue) where
   abbrev IsIn-by : (Aggregate → Aggregate → Ordering) → (AddressValue → AddressValue → Ordering) → Type 0
   IsIn-by Q R = in_group Q R new ≡ (λ h b. is_at (Q g) h && is_at (R a) b || in_group Q R old h b)
@@ -88,12 +77,12 @@ module _ (old new : Entries) (g : Aggregate) (a : AddressValue) where
 
   pub put-in : IsIn-by derived_aggregates.cmp-value.it derived.cmp-value.it → IsPutAt g a true old new
   put-in is h b =
-      ap (λ f. f h b) (by-orders IsIn-by is) ∙ in-by (is_at (aggregate_cmp g) h && is_at (address_cmp a) b) (has old h b)
+      ap (λ f. f h b) (by-orders IsIn-by is) ∙ or-cond (is_at (aggregate_cmp g) h && is_at (address_cmp a) b) (has old h b)
       ∙ ap (λ t. cond (is_at (aggregate_cmp g) h && t) true (has old h b)) (same-at a b)
 
   pub put-out : IsOut-by derived_aggregates.cmp-value.it derived.cmp-value.it → IsPutAt g a false old new
   put-out is h b =
-      ap (λ f. f h b) (by-orders IsOut-by is) ∙ out-by (is_at (aggregate_cmp g) h && is_at (address_cmp a) b) (has old h b)
+      ap (λ f. f h b) (by-orders IsOut-by is) ∙ and_not-cond (is_at (aggregate_cmp g) h && is_at (address_cmp a) b) (has old h b)
       ∙ ap (λ t. cond (is_at (aggregate_cmp g) h && t) false (has old h b)) (same-at a b)
 
   pub put-in_ok : {A E : Type 0} (r : Result A E) → OnOk r (IsIn-by derived_aggregates.cmp-value.it derived.cmp-value.it) → OnOk r (IsPutAt g a true old new)

@@ -1,15 +1,17 @@
 -- The table says of a prefix what its contributions do.
 use Rattle.std.proofs.Common.{◌≡◌, Bool, true, false, cond, List, [], ◌∷◌, Option, Some, None, refl, sym, ◌∙◌, ap}
 use Rattle.std.specs.Map.{keys_of}
+use Rattle.mlb_base.proofs.Bools.{by_bool}
 use Rattle.ip_ranges.specs.Values.{PrefixValue}
 use Rattle.bgp_updates.specs.declared.route.Terms.{Terms}
 use Rattle.bgp_updates.specs.Received.{same_prefix, terms_at}
 use Rattle.bgp_updates.specs.Tables.{Ascend, before}
-use Rattle.bgp_updates.proofs.ReceivedLaws.{by_bool, lookup-absent, none-same, same_prefix-is}
+use Rattle.bgp_updates.proofs.ReceivedLaws.{lookup-absent, none-same, same_prefix-is}
+use Rattle.bgp_updates.proofs.Halves.{before-rest}
 use Rattle.bgp_routes.specs.Laws.{RoutesAreStated, joined, stated}
 use Rattle.bgp_routes.specs.Routes.{contributions}
 use Rattle.bgp_routes.specs.Uniting.{with_contribution, with_contributions}
-use Rattle.bgp_routes.proofs.Placing.{ascend-with, before-rest}
+use Rattle.bgp_routes.proofs.Placing.{ascend-with}
 
 abbrev after : PrefixValue → Option Terms → PrefixValue × Terms → Option Terms
 after p found c = cond (same_prefix p c.0) (Some (joined found c.1)) found

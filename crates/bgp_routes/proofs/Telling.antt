@@ -14,7 +14,7 @@ use Rattle.speaker_view.specs.Endpoints.{node_labels}
 use Rattle.speaker_view.specs.ViewValue.{ViewValue}
 use Rattle.bgp_updates.specs.declared.route.Terms.{Terms}
 use Rattle.bgp_updates.specs.Received.{same_prefix}
-use Rattle.bgp_updates.proofs.ReceivedLaws.{same_prefix-is}
+use Rattle.bgp_updates.proofs.ReceivedLaws.{same_prefix-is, same_prefix-itself}
 use Rattle.bgp_routes.specs.declared.contributors.Aggregate.{Aggregate}
 use Rattle.bgp_routes.specs.declared.held.Advertisement.{Advertisement}
 use Rattle.bgp_routes.specs.declared.held.HeldPeer.{HeldPeer}
@@ -29,7 +29,6 @@ use Rattle.bgp_routes.specs.Routes.{contributions, routes_of}
 use Rattle.bgp_routes.specs.Uniting.{with_contributions}
 use Rattle.bgp_routes.proofs.Contributing.{Contributing, at-in, at-map, contributes-listed, receives-at}
 use Rattle.bgp_routes.proofs.Contributing.{listed-contributes, map-at, same-prefix-at, standing-place}
-use Rattle.bgp_routes.proofs.Elements.{same_prefix-itself}
 use Rattle.bgp_routes.proofs.Few.{all-from, each-of}
 use Rattle.bgp_routes.proofs.Listing.{contributions-listed, flat-from, flat-in, keep, kept, passed, pass}
 use Rattle.bgp_routes.proofs.Sets.{united-part, united-same}

@@ -104,12 +104,8 @@ impl KeptRoutes {
         let Some(peer) = self.held.peer(peer) else {
             return Ok(None);
         };
-        let table = all_told(
-            self.alloc,
-            &self.contributors,
-            self.held.advertisements(),
-            peer,
-        )?;
+        let advertisements = self.held.advertisements();
+        let table = all_told(self.alloc, &self.contributors, advertisements, peer)?;
         Ok(Some(table))
     }
 

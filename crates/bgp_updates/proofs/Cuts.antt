@@ -3,12 +3,14 @@ use Rattle.std.proofs.Common.{◌≡◌, Bool, true, false, cond, not, is_none, 
 use Rattle.std.proofs.lemmas.Map.Entries.{lookup-filter-keys}
 use Rattle.std.specs.List.{list_any, AllByRecursion}
 use Rattle.std.specs.Map.{keys_of}
+use Rattle.std.proofs.lemmas.Bool.{false_from_ne_true, or_parts}
+use Rattle.mlb_base.proofs.Bools.{by_bool}
 use Rattle.ip_ranges.specs.Values.{PrefixValue}
 use Rattle.bgp_updates.specs.declared.route.Terms.{Terms}
 use Rattle.bgp_updates.specs.Laws.{AgreeBeside, cut}
 use Rattle.bgp_updates.specs.Received.{AreDistinct, changed, gone, same_prefix, same_terms, stands_as, terms_at}
 use Rattle.bgp_updates.proofs.Once.{same_terms-itself}
-use Rattle.bgp_updates.proofs.ReceivedLaws.{by_bool, not_true, or_parts, same_prefix-is, same_prefix-itself}
+use Rattle.bgp_updates.proofs.ReceivedLaws.{same_prefix-is, same_prefix-itself}
 
 -- ---- a filter of a filter
 -- a test of what another test takes tells as much as a third one
@@ -34,7 +36,7 @@ own-behind first table [] apart own = tt
 own-behind first table (route ∷ routes) apart own =
     let parts = or_parts (same_prefix first.0 route.0) (list_any (same_prefix first.0) (keys_of routes)) apart in
     let other : same_prefix route.0 first.0 ≡ false =
-    not_true (same_prefix route.0 first.0)
+    false_from_ne_true (same_prefix route.0 first.0)
     (λ same. let there : same_prefix first.0 route.0 ≡ true = rw (same_prefix-is route.0 first.0 same) (same_prefix-itself first.0) in cc) in
     (rw other own.0, own-behind first table routes parts.1 own.1)
 

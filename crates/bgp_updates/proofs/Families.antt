@@ -1,10 +1,11 @@
 -- The routes of a family.
-use Rattle.std.proofs.Common.{◌≡◌, ℕ, zero, suc, ◌<◌, ◌≤◌, Bool, true, false, cond, List, [], ◌∷◌, length, get_or, take, drop, filter, All, refl, ap, arith}
+use Rattle.std.proofs.Common.{◌≡◌, ℕ, zero, suc, ◌≤◌, Bool, true, false, cond, List, [], ◌∷◌, length, get_or, take, drop, filter, All, refl, ap, arith}
 use Rattle.std.proofs.lemmas.List.{append-nil}
 use Rattle.std.proofs.lemmas.List.Elements.{All-filter, All-tail}
 use Rattle.std.specs.List.{list_all, AllByRecursion}
 use Rattle.std.specs.List.Sorted.{IsPartitionPoint, IsPartitionedBy}
 use Rattle.std.specs.Map.{keys_of}
+use Rattle.std.proofs.lemmas.Bool.{and_parts}
 use Rattle.ip_ranges.specs.declared.family.Family.{Family}
 use Rattle.ip_ranges.specs.declared.family.Family.TheVariants.{V4, V6}
 use Rattle.ip_ranges.specs.Values.{PrefixValue, IsPrefix, same_family}
@@ -14,7 +15,7 @@ use Rattle.bgp_updates.specs.Between.{messages_between, messages_for}
 use Rattle.bgp_updates.specs.Laws.{HopsAreOfRoutes}
 use Rattle.bgp_updates.specs.Message.{in_messages}
 use Rattle.bgp_updates.specs.Tables.{AreV4, Ascend, HasFew, IsTable, before, families_before, numbers_before, of_family}
-use Rattle.bgp_updates.proofs.ReceivedLaws.{both_true}
+use Rattle.bgp_updates.proofs.Halves.{before-at}
 
 -- ---- the routes of a family are a table
 kept-prefixes : (keep : PrefixValue × Terms → Bool) (routes : List (PrefixValue × Terms)) → AllByRecursion IsPrefix (keys_of routes)
@@ -30,13 +31,13 @@ kept-all : (p : PrefixValue) (keep : PrefixValue × Terms → Bool) (routes : Li
     → list_all (before p) (keys_of (filter keep routes)) ≡ true
 kept-all p keep [] all = refl
 kept-all p keep (route ∷ routes) all =
-    let parts = both_true (before p route.0) (list_all (before p) (keys_of routes)) all in
+    let parts = and_parts (before p route.0) (list_all (before p) (keys_of routes)) all in
     elim (keep route) as (λ v. list_all (before p) (keys_of (cond v (route ∷ filter keep routes) (filter keep routes))) ≡ true) [
       | true ↦ rw parts.0 (kept-all p keep routes parts.1)
       | false ↦ kept-all p keep routes parts.1
     ]
 
-kept-ascend : (keep : PrefixValue × Terms → Bool) (routes : List (PrefixValue × Terms)) → Ascend (keys_of routes) → Ascend (keys_of (filter keep routes))
+pub kept-ascend : (keep : PrefixValue × Terms → Bool) (routes : List (PrefixValue × Terms)) → Ascend (keys_of routes) → Ascend (keys_of (filter keep routes))
 kept-ascend keep [] ascend = tt
 kept-ascend keep (route ∷ routes) ascend =
     elim (keep route) as (λ v. Ascend (keys_of (cond v (route ∷ filter keep routes) (filter keep routes)))) [
@@ -60,12 +61,6 @@ first-before : (f g : Family) (b : Bool) → families_before f g b ≡ true → 
 first-before V4 g b e is = refl
 first-before V6 V4 b e is = absurd (let h : false ≡ true = e in cc)
 first-before V6 V6 b e is = absurd (let h : false ≡ true = is in cc)
-
-before-at : (p : PrefixValue) (table : List (PrefixValue × Terms)) (at : ℕ) (d : PrefixValue × Terms) → list_all (before p) (keys_of table) ≡ true
-    → at < length table → before p (get_or table at d).0 ≡ true
-before-at p [] at d all lt = absurd (omega arith)
-before-at p (route ∷ table) zero d all lt = (both_true (before p route.0) (list_all (before p) (keys_of table)) all).0
-before-at p (route ∷ table) (suc at) d all lt = before-at p table at d (both_true (before p route.0) (list_all (before p) (keys_of table)) all).1 (omega arith)
 
 pub families-apart : (table : List (PrefixValue × Terms)) → Ascend (keys_of table) → IsPartitionedBy is_first table
 families-apart [] ascend i j d le lt first = absurd (omega arith)
@@ -92,7 +87,7 @@ other-family : (f : Family) → same_family f V4 ≡ false → same_family f V6 
 other-family V4 e = absurd (let h : true ≡ false = e in cc)
 other-family V6 e = refl
 
-not-other : (f : Family) → same_family f V4 ≡ true → same_family f V6 ≡ false
+pub not-other : (f : Family) → same_family f V4 ≡ true → same_family f V6 ≡ false
 not-other V4 e = refl
 not-other V6 e = absurd (let h : false ≡ true = e in cc)
 

@@ -1,17 +1,18 @@
 -- Where the halves of a table meet, there the prefix's route stands, if it has one.
 use Rattle.std.proofs.Common.{◌≡◌, ℕ, zero, suc, ◌<◌, Bool, true, false, cond, List, [], ◌∷◌, length, get_or, Option, Some, None, refl, sym, ap, ◌∙◌, arith}
-use Rattle.std.specs.List.{list_all, list_any, slice_get}
+use Rattle.std.specs.List.{list_all, slice_get}
 use Rattle.std.specs.List.Sorted.{IsPartitionPoint, IsPartitionedBy}
 use Rattle.std.specs.Map.{keys_of}
 use Rattle.std.specs.Option.{option_and_then}
 use Rattle.std.proofs.lemmas.Bool.Decides.{nat_tests}
+use Rattle.std.proofs.lemmas.Bool.{and_parts, false_from_ne_true, and_from}
 use Rattle.ip_ranges.specs.Values.{PrefixValue}
 use Rattle.bgp_updates.specs.declared.route.Terms.{Terms}
 use Rattle.bgp_updates.specs.Received.{same_prefix, terms_at}
 use Rattle.ip_ranges.specs.declared.family.Family.{Family}
 use Rattle.ip_ranges.specs.declared.family.Family.TheVariants.{V4, V6}
 use Rattle.bgp_updates.specs.Tables.{Ascend, before, families_before, numbers_before}
-use Rattle.bgp_updates.proofs.ReceivedLaws.{before-other, both_true, none-same, not_true, or_parts, same_prefix-is}
+use Rattle.bgp_updates.proofs.ReceivedLaws.{before-other, none-same, same_prefix-is, lookup-absent}
 
 -- whether the route's prefix comes before this one
 abbrev pub is_below : PrefixValue → PrefixValue × Terms → Bool
@@ -63,17 +64,25 @@ not_before p q r first other =
     (numbers_before r.number q.number r.length q.length)
     (numbers-not_before p.number q.number r.number p.length q.length r.length) first other
 
+-- what stands before the first of prefixes that ascend stands before all of them
+pub before-rest : (p q : PrefixValue) (prefixes : List PrefixValue) → before p q ≡ true → list_all (before q) prefixes ≡ true
+    → list_all (before p) prefixes ≡ true
+before-rest p q [] first all = refl
+before-rest p q (r ∷ prefixes) first all =
+    let parts = and_parts (before q r) (list_all (before q) prefixes) all in
+    and_from (before p r) (list_all (before p) prefixes) (before-before p q r first parts.0) (before-rest p q prefixes first parts.1)
+
 before-each : (p r : PrefixValue) (prefixes : List PrefixValue) → before p r ≡ false → list_all (before p) prefixes ≡ true → list_all (before r) prefixes ≡ true
 before-each p r [] other all = refl
 before-each p r (q ∷ prefixes) other all =
-    let parts = both_true (before p q) (list_all (before p) prefixes) all in
+    let parts = and_parts (before p q) (list_all (before p) prefixes) all in
     rw (not_before p q r parts.0 other) (before-each p r prefixes other parts.1)
 
-before-at : (p : PrefixValue) (table : List (PrefixValue × Terms)) (at : ℕ) (d : PrefixValue × Terms) → list_all (before p) (keys_of table) ≡ true
+pub before-at : (p : PrefixValue) (table : List (PrefixValue × Terms)) (at : ℕ) (d : PrefixValue × Terms) → list_all (before p) (keys_of table) ≡ true
     → at < length table → before p (get_or table at d).0 ≡ true
 before-at p [] at d all lt = absurd (omega arith)
-before-at p (route ∷ table) zero d all lt = (both_true (before p route.0) (list_all (before p) (keys_of table)) all).0
-before-at p (route ∷ table) (suc at) d all lt = before-at p table at d (both_true (before p route.0) (list_all (before p) (keys_of table)) all).1 (omega arith)
+before-at p (route ∷ table) zero d all lt = (and_parts (before p route.0) (list_all (before p) (keys_of table)) all).0
+before-at p (route ∷ table) (suc at) d all lt = before-at p table at d (and_parts (before p route.0) (list_all (before p) (keys_of table)) all).1 (omega arith)
 
 pub has-halves : (p : PrefixValue) (table : List (PrefixValue × Terms)) → Ascend (keys_of table) → IsPartitionedBy (is_below p) table
 has-halves p [] ascend i j d le lt below = absurd (omega arith)
@@ -83,12 +92,6 @@ has-halves p (route ∷ table) ascend zero (suc j) d le lt below =
 has-halves p (route ∷ table) ascend (suc i) zero d le lt below = absurd (omega arith)
 has-halves p (route ∷ table) ascend (suc i) (suc j) d le lt below = has-halves p table ascend.1 i j d (omega arith) (omega arith) below
 
-terms_at-none : (p : PrefixValue) (table : List (PrefixValue × Terms)) → list_any (same_prefix p) (keys_of table) ≡ false → terms_at table p ≡ None
-terms_at-none p [] none = refl
-terms_at-none p (route ∷ table) none =
-    let parts = or_parts (same_prefix p route.0) (list_any (same_prefix p) (keys_of table)) none in
-    rw parts.0 (terms_at-none p table parts.1)
-
 halves-tail : (p : PrefixValue) (route : PrefixValue × Terms) (table : List (PrefixValue × Terms)) (at : ℕ) → AreHalves p (route ∷ table) (suc at)
     → AreHalves p table at
 halves-tail p route table at halves =
@@ -96,7 +99,7 @@ halves-tail p route table at halves =
 
 below-other : (p : PrefixValue) (route : PrefixValue × Terms) → is_below p route ≡ true → same_prefix p route.0 ≡ false
 below-other p route below =
-    not_true (same_prefix p route.0) (λ same.
+    false_from_ne_true (same_prefix p route.0) (λ same.
     let is = same_prefix-is p route.0 same in
     before-other route.0 p below (ap (λ q. same_prefix q p) (sym is) ∙ ap (same_prefix p) is ∙ same))
 
@@ -105,7 +108,7 @@ pub terms_at-halves : (p : PrefixValue) (table : List (PrefixValue × Terms)) (a
 terms_at-halves p [] at ascend halves = refl
 terms_at-halves p (route ∷ table) zero ascend halves =
     let all = before-each route.0 p (keys_of table) (halves.1 zero route (omega arith) (omega arith)) ascend.0 in
-    ap (cond (same_prefix p route.0) (Some route.1)) (terms_at-none p table (none-same p (keys_of table) all))
+    ap (cond (same_prefix p route.0) (Some route.1)) (lookup-absent p table (none-same p (keys_of table) all))
 terms_at-halves p (route ∷ table) (suc at) ascend halves =
     rw (below-other p route (halves.0 zero route (omega arith) (omega arith))) (terms_at-halves p table at ascend.1 (halves-tail p route table at halves))
 

@@ -1,6 +1,6 @@
 -- A route joins its group, which stands at its place.
-use Rattle.std.proofs.Common.{◌≡◌, ℕ, zero, suc, Bool, true, false, cond, ◌&&◌, ◌==◌, ◌<◌, List, [], ◌∷◌, ◌++◌, length, get_or, set}
-use Rattle.std.proofs.Common.{Option, Some, None, Result, Ordering, Less, Equal, Greater, is_eq, refl, sym, ◌∙◌, ap, subst, arith}
+use Rattle.std.proofs.Common.{◌≡◌, ℕ, zero, suc, Bool, true, false, cond, ◌&&◌, ◌==◌, ◌<◌, List, [], ◌∷◌, ◌++◌, length}
+use Rattle.std.proofs.Common.{get_or, set, Option, Some, None, Result, is_eq, refl, sym, ◌∙◌, ap, subst, arith}
 use Rattle.std.proofs.lemmas.Bool.Decides.{nat_tests}
 use Rattle.std.proofs.lemmas.Map.Text.{is_eq-slice_cmp}
 use Rattle.std.proofs.lemmas.Result.{on_ok_weaker}
@@ -11,6 +11,8 @@ use Rattle.std.specs.Option.{option_cmp, option_map, option_or}
 use Rattle.std.specs.Ordering.{nat_cmp, ordering_then}
 use Rattle.std.specs.Result.{OnOk}
 use Rattle.std.specs.Str.{bytes_eq}
+use Rattle.std.specs.Cmp.{tied_then}
+use Rattle.std.proofs.Math.Bool.{and_assoc}
 use Rattle.ip_ranges.specs.Values.{PrefixValue}
 use Rattle.large_numbers.specs.Large.{large_cmp}
 use Rattle.large_numbers.specs.declared.numbers.LargeCommunity.{LargeCommunity}
@@ -107,11 +109,6 @@ or-none None = refl
 or-none (Some n) = refl
 
 -- ---- keys are equal where their terms are
-eq-then : (r s : Ordering) → is_eq (ordering_then r s) ≡ is_eq r && is_eq s
-eq-then Less s = refl
-eq-then Equal s = refl
-eq-then Greater s = refl
-
 eq-numbers : (a b : ℕ) → is_eq (nat_cmp a b) ≡ (a == b)
 eq-numbers a b = grind (arith, nat_tests)
 
@@ -121,14 +118,10 @@ eq-preferences None (Some b) = refl
 eq-preferences (Some a) None = refl
 eq-preferences (Some a) (Some b) = eq-numbers a b
 
-and_assoc : (a b c : Bool) → (a && b) && c ≡ a && (b && c)
-and_assoc true b c = refl
-and_assoc false b c = refl
-
 eq-larges : (c d : LargeCommunity) → is_eq (large_cmp c d) ≡ same_large c d
 eq-larges c d =
-    eq-then (nat_cmp c.global d.global) (ordering_then (nat_cmp c.first d.first) (nat_cmp c.second d.second))
-    ∙ ap (λ s. is_eq (nat_cmp c.global d.global) && s) (eq-then (nat_cmp c.first d.first) (nat_cmp c.second d.second))
+    sym (tied_then (nat_cmp c.global d.global) (ordering_then (nat_cmp c.first d.first) (nat_cmp c.second d.second)))
+    ∙ ap (λ s. is_eq (nat_cmp c.global d.global) && s) (sym (tied_then (nat_cmp c.first d.first) (nat_cmp c.second d.second)))
     ∙ rw (eq-numbers c.global d.global, eq-numbers c.first d.first, eq-numbers c.second d.second)
     (sym (and_assoc (c.global == d.global) (c.first == d.first) (c.second == d.second)))
 
@@ -137,14 +130,14 @@ eq-large_lists [] [] = refl
 eq-large_lists [] (d ∷ ys) = refl
 eq-large_lists (c ∷ xs) [] = refl
 eq-large_lists (c ∷ xs) (d ∷ ys) =
-    eq-then (large_cmp c d) (slice_cmp large_cmp xs ys) ∙ rw (eq-larges c d, eq-large_lists xs ys) refl
+    sym (tied_then (large_cmp c d) (slice_cmp large_cmp xs ys)) ∙ rw (eq-larges c d, eq-large_lists xs ys) refl
 
 same-keys : (a b : TermsKey) → is_eq (key_cmp a b) ≡ same_terms (terms_in a) (terms_in b)
 same-keys a b =
     let preferences = option_cmp nat_cmp a.preference b.preference in
     let communities = slice_cmp nat_cmp a.communities.items b.communities.items in
     let larges = slice_cmp large_cmp a.large.items b.large.items in
-    eq-then preferences (ordering_then communities larges) ∙ ap (λ s. is_eq preferences && s) (eq-then communities larges)
+    sym (tied_then preferences (ordering_then communities larges)) ∙ ap (λ s. is_eq preferences && s) (sym (tied_then communities larges))
     ∙ rw (eq-preferences a.preference b.preference, is_eq-slice_cmp a.communities.items b.communities.items, eq-large_lists a.large.items b.large.items)
     (sym (and_assoc (same_preference a.preference b.preference) (bytes_eq a.communities.items b.communities.items)
     (pointwise same_large a.large.items b.large.items)))

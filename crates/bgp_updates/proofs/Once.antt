@@ -6,6 +6,9 @@ use Rattle.std.specs.Map.{keys_of}
 use Rattle.std.proofs.lemmas.Map.Made.{is_some-lookup}
 use Rattle.std.proofs.lemmas.Slice.Eq.{bytes_eq-Decides}
 use Rattle.std.proofs.lemmas.Bool.Decides.{nat_tests}
+use Rattle.std.proofs.lemmas.Option.{same_Some}
+use Rattle.std.proofs.lemmas.Bool.{or_parts}
+use Rattle.mlb_base.proofs.Bools.{by_bool}
 use Rattle.ip_ranges.specs.Values.{PrefixValue, same_family}
 use Rattle.bgp_updates.specs.declared.route.Terms.{Terms}
 use Rattle.bgp_updates.specs.declared.route.Group.{Group}
@@ -17,8 +20,9 @@ use Rattle.bgp_updates.specs.Received.{Update, AreDistinct, announcements, chang
 use Rattle.bgp_updates.specs.Received.{same_preference, same_terms, stands_as, terms_at, withdrawals, with_route}
 use Rattle.bgp_updates.specs.Laws.{NamedPrefixesDiffer, PrefixesStandOnce, count, names_prefix, prefixes_of, updates_between, updates_for}
 use Rattle.bgp_updates.specs.Tables.{of_family}
-use Rattle.bgp_updates.proofs.ReceivedLaws.{by_bool, changed-at, distinct, family-at, family-distinct, filter-absent, filter-distinct}
-use Rattle.bgp_updates.proofs.ReceivedLaws.{gone-at, same_larges-Decides, in_parts, or_parts, same_prefix-is, unless_same}
+use Rattle.bgp_updates.proofs.ReceivedLaws.{changed-at, distinct, family-at, family-distinct, filter-absent, filter-distinct}
+use Rattle.bgp_updates.proofs.ReceivedLaws.{gone-at, same_larges-Decides, in_parts, same_prefix-is, unless_same}
+use Rattle.bgp_updates.proofs.Families.{not-other}
 
 abbrev pub one : PrefixValue → PrefixValue → ℕ
 one p q = cond (same_prefix p q) 1 0
@@ -173,10 +177,6 @@ none-for family old new p other =
     (absent-for family new p other)) in
     omega (arith, no_gone, no_changed)
 
-pub either : (f : Family) → same_family f V4 ≡ true → same_family f V6 ≡ false
-either V4 e = refl
-either V6 e = absurd (cc)
-
 pub stand-once : PrefixesStandOnce
 stand-once peering old new old_table new_table p =
     let old_are = distinct old old_table.1 in
@@ -184,7 +184,7 @@ stand-once peering old new old_table new_table p =
     let first = once-for (of_family V4 old) (of_family V4 new) p (family-distinct V4 old old_are) (family-distinct V4 new are) in
     let second = once-for (of_family V6 old) (of_family V6 new) p (family-distinct V6 old old_are) (family-distinct V6 new are) in
     by_bool (count p (prefixes_of (updates_between peering old new)) ≤ 1) (same_family p.family V4)
-    (λ v4. omega (arith, counted peering old new p, first, none-for V6 old new p (either p.family v4)))
+    (λ v4. omega (arith, counted peering old new p, first, none-for V6 old new p (not-other p.family v4)))
     (λ v6. omega (arith, counted peering old new p, second, none-for V4 old new p v6))
 
 -- ---- only where the routes differ
@@ -224,14 +224,11 @@ pub same_terms-itself : (t : Terms) → same_terms t t ≡ true
 same_terms-itself t =
     rw (same_preference-itself t.preference, (bytes_eq-Decides t.communities t.communities).1 refl) ((same_larges-Decides t.large t.large).1 refl)
 
-some-is : (s t : Terms) → Some s ≡ Some t → s ≡ t
-some-is s t e = cc
-
 differ-changed : (there wanted : Option Terms) → is_some (unless_same same_terms there wanted) ≡ true → there ≡ wanted → ⊥
 differ-changed there None h e = cc
 differ-changed None (Some t) h e = cc
 differ-changed (Some s) (Some t) h e =
-    let alike : same_terms s t ≡ true = ap (λ r. same_terms r t) (some-is s t e) ∙ same_terms-itself t in
+    let alike : same_terms s t ≡ true = ap (λ r. same_terms r t) (same_Some s t e) ∙ same_terms-itself t in
     let none : is_some (unless_same same_terms (Some s) (Some t)) ≡ false = rw alike refl in
     cc
 
@@ -254,6 +251,6 @@ named-differ peering old new table p there equal =
     let some = named-counted p (updates_between peering old new) there in
     by_bool ⊥ (same_family p.family V4)
     (λ v4. differ-for (of_family V4 old) (of_family V4 new) p (family-distinct V4 new are)
-    (omega (arith, some, counted peering old new p, none-for V6 old new p (either p.family v4))) (equal-for V4 old new p equal))
+    (omega (arith, some, counted peering old new p, none-for V6 old new p (not-other p.family v4))) (equal-for V4 old new p equal))
     (λ v6. differ-for (of_family V6 old) (of_family V6 new) p (family-distinct V6 new are)
     (omega (arith, some, counted peering old new p, none-for V4 old new p v6)) (equal-for V6 old new p equal))

@@ -4,9 +4,8 @@ use Rattle.std.proofs.Common.{take, drop, All, refl, sym, ◌∙◌, ap, arith, 
 use Rattle.std.proofs.lemmas.Bool.{leb-true, leb-false, le-leb, lt-leb}
 use Rattle.std.proofs.lemmas.List.{append-nil}
 use Rattle.std.proofs.lemmas.List.Elements.{All-tail, All-drop}
-use Rattle.ip_ranges.specs.declared.family.Family.{Family}
-use Rattle.ip_ranges.specs.declared.family.Family.TheVariants.{V4, V6}
 use Rattle.ip_ranges.specs.Values.{PrefixValue, width_of}
+use Rattle.ip_ranges.proofs.BlockLemmas.{widest}
 use Rattle.bgp_updates.specs.declared.part.Part.{Part}
 use Rattle.bgp_updates.specs.Message.{Fits, address_bytes, octets, prefix_bytes, prefixes_bytes, fitting}
 use Rattle.bgp_updates.specs.Message.{packed, in_messages, part_message, part_messages, part_size, room_of}
@@ -53,10 +52,6 @@ fitting-octets left (p ∷ rest) = by_test (length (prefixes_bytes (take (fittin
       length-append (prefix_bytes p) (prefixes_bytes (take (fitting (left - (1 + octets p)) rest) rest)),
     )))
     (λ full. rw (fitting-full left p rest full) (omega arith))
-
-pub widest : (family : Family) → width_of family ≤ 128
-widest V4 = omega arith
-widest V6 = omega arith
 
 pub small_octets : (p : PrefixValue) → p.length ≤ width_of p.family → octets p ≤ 16
 small_octets p small = omega (arith, widest p.family)

@@ -2,6 +2,7 @@
 use Rattle.std.proofs.Common.{◌≡◌, Bool, cond, List, [], ◌∷◌, ◌++◌, filter, None, refl, sym, ◌∙◌, ap}
 use Rattle.std.specs.Map.{keys_of}
 use Rattle.std.specs.List.{flat_map}
+use Rattle.mlb_base.proofs.Bools.{by_bool}
 use Rattle.ip_ranges.specs.declared.family.Family.{Family}
 use Rattle.ip_ranges.specs.declared.family.Family.TheVariants.{V4, V6}
 use Rattle.ip_ranges.specs.Values.{PrefixValue, same_family}
@@ -13,7 +14,7 @@ use Rattle.bgp_updates.specs.Message.{part_messages, withdrawn_part}
 use Rattle.bgp_updates.specs.Received.{AreDistinct, changed, gone, groups_from, same_terms}
 use Rattle.bgp_updates.specs.Tables.{of_family}
 use Rattle.bgp_updates.proofs.Cuts.{changed-inside, gone-inside}
-use Rattle.bgp_updates.proofs.ReceivedLaws.{by_bool, family-at, family-distinct}
+use Rattle.bgp_updates.proofs.ReceivedLaws.{family-at, family-distinct}
 
 filters-swap : {A : Type 0} (p q : A → Bool) (xs : List A) → filter p (filter q xs) ≡ filter q (filter p xs)
 filters-swap p q [] = refl

@@ -6,10 +6,11 @@ use Rattle.std.specs.List.{list_any, flat_map}
 use Rattle.std.specs.Map.{keys_of}
 use Rattle.std.proofs.lemmas.Map.Made.{is_some-lookup}
 use Rattle.std.proofs.lemmas.Map.Entries.{lookup-filter-keys}
-use Rattle.std.proofs.lemmas.Bool.{eqb-true}
+use Rattle.std.proofs.lemmas.Bool.{eqb-true, and_parts, false_from_ne_true, or_parts}
 use Rattle.ip_ranges.specs.Values.{PrefixValue, same_family}
 use Rattle.ip_ranges.specs.declared.family.Family.{Family}
 use Rattle.ip_ranges.specs.declared.family.Family.TheVariants.{V4, V6}
+use Rattle.ip_ranges.proofs.AddressLaws.{same_family-is, same_family-itself}
 use Rattle.bgp_updates.specs.declared.route.Terms.{Terms}
 use Rattle.bgp_updates.specs.declared.route.Group.{Group}
 use Rattle.std.specs.Str.{bytes_eq}
@@ -19,34 +20,18 @@ use Rattle.large_numbers.specs.declared.numbers.LargeCommunity.{LargeCommunity}
 use Rattle.std.proofs.Common.{arith, eq-eqb, Decides}
 use Rattle.std.proofs.lemmas.Bool.Decides.{nat_tests}
 use Rattle.std.specs.List.{list_all}
+use Rattle.std.proofs.Math.Bool.{or-true, or_assoc, or-false}
+use Rattle.mlb_base.proofs.Bools.{by_bool}
 use Rattle.bgp_updates.specs.Tables.{Ascend, before, families_before, numbers_before, of_family}
 use Rattle.bgp_updates.specs.Laws.{MessagesGiveTheTable, updates_for}
 use Rattle.bgp_updates.specs.Message.{announced_part, octets, in_messages, packed, room_of, with_first, withdrawn_part}
 use Rattle.bgp_updates.specs.Received.{same_large, same_preference, same_terms, updates_of, same_prefix, Update, after, received, terms_at, with_route}
 use Rattle.bgp_updates.specs.Received.{groups_from, gone, changed, stands_as, withdrawals, announcements, AreDistinct, UpdatesGiveTheTable}
 
-pub both_true : (a b : Bool) → (a && b) ≡ true → (a ≡ true) × (b ≡ true)
-both_true true b h = (refl, h)
-both_true false b h = cc
-
-pub or_assoc : (a b c : Bool) → (a || b) || c ≡ a || (b || c)
-or_assoc true b c = refl
-or_assoc false b c = refl
-
-pub or_false : (a : Bool) → a || false ≡ a
-or_false true = refl
-or_false false = refl
-
-same_family-is : (a b : Family) → same_family a b ≡ true → a ≡ b
-same_family-is V4 V4 e = refl
-same_family-is V4 V6 e = absurd (cc)
-same_family-is V6 V4 e = absurd (cc)
-same_family-is V6 V6 e = refl
-
 pub same_prefix-is : (p q : PrefixValue) → same_prefix p q ≡ true → p ≡ q
 same_prefix-is p q h =
-    let parts = both_true (same_family p.family q.family && (p.number == q.number)) (p.length == q.length) h in
-    let first = both_true (same_family p.family q.family) (p.number == q.number) parts.0 in
+    let parts = and_parts (same_family p.family q.family && (p.number == q.number)) (p.length == q.length) h in
+    let first = and_parts (same_family p.family q.family) (p.number == q.number) parts.0 in
     let families : p.family ≡ q.family = same_family-is p.family q.family first.0 in
     let numbers : p.number ≡ q.number = eqb-true p.number q.number first.1 in
     let lengths : p.length ≡ q.length = eqb-true p.length q.length parts.1 in
@@ -54,10 +39,6 @@ same_prefix-is p q h =
     let with_number : ℕ → PrefixValue = λ n. record { family = q.family; number = n; length = p.length } in
     let with_length : ℕ → PrefixValue = λ n. record { family = q.family; number = q.number; length = n } in
     ap with_family families ∙ ap with_number numbers ∙ ap with_length lengths
-
-same_family-itself : (f : Family) → same_family f f ≡ true
-same_family-itself V4 = refl
-same_family-itself V6 = refl
 
 pub same_prefix-itself : (p : PrefixValue) → same_prefix p p ≡ true
 same_prefix-itself p = rw (same_family-itself p.family, eq-eqb p.number p.number refl, eq-eqb p.length p.length refl) refl
@@ -69,7 +50,7 @@ abbrev pub any_part : PrefixValue → List (List PrefixValue) → Bool
 any_part p parts = list_any (λ prefixes. list_any (same_prefix p) prefixes) parts
 
 any_part-with_first : (p q : PrefixValue) (parts : List (List PrefixValue)) → any_part p (with_first q parts) ≡ same_prefix p q || any_part p parts
-any_part-with_first p q [] = or_false (same_prefix p q || false) ∙ refl
+any_part-with_first p q [] = or-false (same_prefix p q || false) ∙ refl
 any_part-with_first p q (first ∷ more) = or_assoc (same_prefix p q) (list_any (same_prefix p) first) (any_part p more)
 
 any_part-packed : (p : PrefixValue) (room left : ℕ) (prefixes : List PrefixValue) → any_part p (packed room left prefixes) ≡ list_any (same_prefix p) prefixes
@@ -144,13 +125,9 @@ received-groups room table (group ∷ groups) p =
 
 pub list_any-push : (p q : PrefixValue) (prefixes : List PrefixValue)
     → list_any (same_prefix p) (prefixes ++ q ∷ []) ≡ list_any (same_prefix p) prefixes || same_prefix p q
-list_any-push p q [] = or_false (same_prefix p q)
+list_any-push p q [] = or-false (same_prefix p q)
 list_any-push p q (first ∷ rest) =
     ap (λ b. same_prefix p first || b) (list_any-push p q rest) ∙ sym (or_assoc (same_prefix p first) (list_any (same_prefix p) rest) (same_prefix p q))
-
-pub or_parts : (a b : Bool) → a || b ≡ false → (a ≡ false) × (b ≡ false)
-or_parts true b h = cc
-or_parts false b h = (refl, h)
 
 found-absent : (p : PrefixValue) (groups : List Group) (t : Option Terms) → any_group p groups ≡ false → found p groups t ≡ t
 found-absent p [] t absent = refl
@@ -158,23 +135,10 @@ found-absent p (group ∷ groups) t absent =
     let parts = or_parts (list_any (same_prefix p) group.prefixes) (any_group p groups) absent in
     rw parts.0 (found-absent p groups t parts.1)
 
-pub or_true : (a : Bool) → a || true ≡ true
-or_true true = refl
-or_true false = refl
-
-pub not_true : (b : Bool) → (b ≡ true → ⊥) → b ≡ false
-not_true true h = absurd (h refl)
-not_true false h = refl
-
--- A goal by what a test says.
-pub by_bool : (P : Type 0) (b : Bool) → (b ≡ true → P) → (b ≡ false → P) → P
-by_bool P true holds fails = holds refl
-by_bool P false holds fails = fails refl
-
 push-other : (p : PrefixValue) (route : PrefixValue × Terms) (prefixes : List PrefixValue) → same_prefix p route.0 ≡ false
     → list_any (same_prefix p) (prefixes ++ route.0 ∷ []) ≡ list_any (same_prefix p) prefixes
 push-other p route prefixes other =
-    list_any-push p route.0 prefixes ∙ ap (λ v. list_any (same_prefix p) prefixes || v) other ∙ or_false (list_any (same_prefix p) prefixes)
+    list_any-push p route.0 prefixes ∙ ap (λ v. list_any (same_prefix p) prefixes || v) other ∙ or-false (list_any (same_prefix p) prefixes)
 
 found-other : (same : Terms → Terms → Bool) (groups : List Group) (route : PrefixValue × Terms) (p : PrefixValue) (t : Option Terms)
     → same_prefix p route.0 ≡ false
@@ -200,7 +164,7 @@ found-own same sound [] route p t own absent = rw own refl
 found-own same sound (group ∷ groups) route p t own absent =
     let parts = or_parts (list_any (same_prefix p) group.prefixes) (any_group p groups) absent in
     let there : list_any (same_prefix p) (group.prefixes ++ route.0 ∷ []) ≡ true =
-    list_any-push p route.0 group.prefixes ∙ ap (λ v. list_any (same_prefix p) group.prefixes || v) own ∙ or_true (list_any (same_prefix p) group.prefixes) in
+    list_any-push p route.0 group.prefixes ∙ ap (λ v. list_any (same_prefix p) group.prefixes || v) own ∙ or-true (list_any (same_prefix p) group.prefixes) in
     by_bool (found p (with_route same (group ∷ groups) route) t ≡ Some route.1) (same group.terms route.1)
     (λ e. rw e (ap (λ b. found p groups (cond b (Some group.terms) t)) there ∙ found-absent p groups (Some group.terms) parts.1
     ∙ ap Some (sound group.terms route.1 e)))
@@ -223,7 +187,7 @@ found-groups same sound groups (route ∷ routes) p t distinct apart =
     (λ own.
     let here = same_prefix-is p route.0 own in
     let absent : list_any (same_prefix p) (keys_of routes) ≡ false = rw here distinct.0 in
-    let fresh : any_group p groups ≡ false = not_true (any_group p groups)
+    let fresh : any_group p groups ≡ false = false_from_ne_true (any_group p groups)
     (λ there. let no = (or_parts (same_prefix p route.0) (list_any (same_prefix p) (keys_of routes)) (apart there)).0 in cc) in
     found-no_route same (with_route same groups route) routes p t absent ∙ found-own same sound groups route p t own fresh ∙ rw own refl)
     (λ other.
@@ -332,8 +296,8 @@ same_preference-is (Some x) (Some y) h = ap Some (eqb-true x y h)
 
 same_large-is : (c d : LargeCommunity) → same_large c d ≡ true → c ≡ d
 same_large-is c d h =
-    let parts = both_true ((c.global == d.global) && (c.first == d.first)) (c.second == d.second) h in
-    let front = both_true (c.global == d.global) (c.first == d.first) parts.0 in
+    let parts = and_parts ((c.global == d.global) && (c.first == d.first)) (c.second == d.second) h in
+    let front = and_parts (c.global == d.global) (c.first == d.first) parts.0 in
     let with_global : ℕ → LargeCommunity = λ n. record { global = n; first = c.first; second = c.second } in
     let with_first : ℕ → LargeCommunity = λ n. record { global = d.global; first = n; second = c.second } in
     let with_second : ℕ → LargeCommunity = λ n. record { global = d.global; first = d.first; second = n } in
@@ -349,8 +313,8 @@ same_larges-Decides xs ys =
 -- Terms that are found the same are the same.
 pub same_terms-is : (s t : Terms) → same_terms s t ≡ true → s ≡ t
 same_terms-is s t h =
-    let parts = both_true (same_preference s.preference t.preference && bytes_eq s.communities t.communities) (pointwise same_large s.large t.large) h in
-    let front = both_true (same_preference s.preference t.preference) (bytes_eq s.communities t.communities) parts.0 in
+    let parts = and_parts (same_preference s.preference t.preference && bytes_eq s.communities t.communities) (pointwise same_large s.large t.large) h in
+    let front = and_parts (same_preference s.preference t.preference) (bytes_eq s.communities t.communities) parts.0 in
     let with_preference : Option ℕ → Terms = λ p. record { preference = p; communities = s.communities; large = s.large } in
     let with_communities : List ℕ → Terms = λ c. record { preference = t.preference; communities = c; large = s.large } in
     let with_large : List LargeCommunity → Terms = λ l. record { preference = t.preference; communities = t.communities; large = l } in
@@ -376,8 +340,8 @@ before-other p q first same =
 pub none-same : (p : PrefixValue) (prefixes : List PrefixValue) → list_all (before p) prefixes ≡ true → list_any (same_prefix p) prefixes ≡ false
 none-same p [] all = refl
 none-same p (q ∷ prefixes) all =
-    let parts = both_true (before p q) (list_all (before p) prefixes) all in
-    let other : same_prefix p q ≡ false = not_true (same_prefix p q) (before-other p q parts.0) in
+    let parts = and_parts (before p q) (list_all (before p) prefixes) all in
+    let other : same_prefix p q ≡ false = false_from_ne_true (same_prefix p q) (before-other p q parts.0) in
     rw other (none-same p prefixes parts.1)
 
 pub distinct : (routes : List (PrefixValue × Terms)) → Ascend (keys_of routes) → AreDistinct routes

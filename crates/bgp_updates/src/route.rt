@@ -97,7 +97,7 @@ pub struct Group {
 }
 
 /// What a message tells of its sender.
-#[derive(Clone, Copy, Debug)]
+#[derive(Clone, Copy)]
 pub struct Peering {
     /// The own AS number where the peer has another, and `None` inside one AS.
     pub own: Option<u32>,

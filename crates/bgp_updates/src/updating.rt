@@ -97,7 +97,8 @@ fn between(
     Ok(messages)
 }
 
-/// Appends the messages of a family between its routes.
+/// Appends the messages of a family between its routes: those that withdraw, and then those that announce what the old table doesn't
+/// have equally.
 fn put_family(
     alloc: Global,
     messages: &mut MessageList,
@@ -112,7 +113,8 @@ fn put_family(
     ensures { OnOk result (messages.new ≡ messages.old ++ messages_for family peering.now old.now new.now) }
 {
     put_withdrawals(alloc, messages, family, old, new)?;
-    put_announcements(alloc, messages, family, old, new, peering)
+    let groups = changed_groups(alloc, old, new)?;
+    put_groups(alloc, messages, family, peering, groups.as_slice())
 }
 
 /// Appends the messages that withdraw what has a route in the old table alone.
@@ -149,25 +151,6 @@ fn is_there(table: &[Route], prefix: &Prefix) -> bool
     ensures { result ≡ is_some (terms_at table.now prefix.now) }
 {
     route_at(table, prefix).is_some()
-}
-
-/// Appends the messages that announce what the old table doesn't have equally.
-fn put_announcements(
-    alloc: Global,
-    messages: &mut MessageList,
-    family: Family,
-    old: &[Route],
-    new: &[Route],
-    peering: &Peering,
-) -> Result<(), NoMemory>
-    requires old { IsTable old.now }
-    requires new { IsTable new.now }
-    requires few { All HasFew new.now }
-    ensures { OnOk result
-        (messages.new ≡ messages.old ++ flat_map (group_messages family peering.now) (groups_from same_terms [] (changed same_terms old.now new.now))) }
-{
-    let groups = changed_groups(alloc, old, new)?;
-    put_groups(alloc, messages, family, peering, groups.as_slice())
 }
 
 fn put_groups(

@@ -5,6 +5,7 @@ use Rattle.std.proofs.lemmas.Bool.Decides.{nat_tests}
 use Rattle.std.proofs.lemmas.List.{take_at, drop_at, append-nil}
 use Rattle.std.specs.Int.{w16, w32, w128, to_be_bytes}
 use Rattle.std.specs.Option.{option_map}
+use Rattle.mlb_base.proofs.Bools.{by_bool}
 use Rattle.ip_ranges.specs.declared.family.Family.{Family}
 use Rattle.ip_ranges.specs.declared.family.Family.TheVariants.{V4, V6}
 use Rattle.ip_ranges.specs.Values.{PrefixValue}
@@ -14,7 +15,6 @@ use Rattle.bgp_updates.specs.declared.route.Peering.{Peering}
 use Rattle.bgp_updates.specs.Between.{AreFew}
 use Rattle.bgp_updates.specs.Message.{attribute, communities_attribute, communities_bytes, front_of, hop_attribute, large_attribute, larges_bytes}
 use Rattle.bgp_updates.specs.Message.{optional_attribute, path_attribute, preference_attribute, prefixes_bytes, reach_attribute, unreach_attribute}
-use Rattle.bgp_updates.proofs.ReceivedLaws.{by_bool}
 use Rattle.bgp_updates.proofs.SmallGroups.{length-communities, length-larges}
 use Rattle.update_laws.specs.Attributes.{Attribute, attributes_in, attributes_within, is_extended, value_then}
 use Rattle.update_laws.specs.Laws.{as_path, attributes_told, communities, large_community, local_pref}

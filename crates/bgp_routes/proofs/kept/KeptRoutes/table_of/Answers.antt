@@ -22,15 +22,22 @@ returns-clause-table c = λ v right.
     let peer = c.args.peer.now in
     let kept : KeptValue =
     record { node = c.self.inside.node; both = c.self.inside.both; held = c.self.inside.held; contributors = c.self.inside.contributors } in
-    let is = c.in_ok-table.ensures ∙ ap (λ (advertisements : List Advertisement). with_contributions [] (flat_map (of_aggregate c.self.inside.contributors
-    advertisements c.in-Some.peer.now) (keys_of c.self.inside.contributors))) c.advertisements.ensures.advertisements in
+    let is =
+    c.in_ok-table.ensures
+    ∙ ap (λ (advertisements : List Advertisement). with_contributions []
+    (flat_map (of_aggregate c.self.inside.contributors advertisements c.in-Some.peer.now) (keys_of c.self.inside.contributors)))
+    c.advertisements-advertisements.ensures.advertisements in
     ap Some is
-    ∙ whole-told v kept (subst (λ (k : KeptValue). AreKeptFor v k) (sym c.self.view_is) right) peer c.advertisements.ensures.few c.in-Some.peer.now
-    c.in-Some.ensures
+    ∙ whole-told v kept (subst (λ (k : KeptValue). AreKeptFor v k) (sym c.self.view_is) right) peer c.advertisements-advertisements.ensures.few
+    c.in-Some.peer.now c.in-Some.ensures
     ∙ ap (λ (k : KeptValue). table_found peer (tables_of v k.node k.both)) c.self.view_is
 
 pub returns-clause-few : goal.returns-clause-few
 returns-clause-few c =
-    let is = c.in_ok-table.ensures ∙ ap (λ (advertisements : List Advertisement). with_contributions [] (flat_map (of_aggregate c.self.inside.contributors
-    advertisements c.in-Some.peer.now) (keys_of c.self.inside.contributors))) c.advertisements.ensures.advertisements in
-    subst (All HasFew) (sym is) (whole-few c.self.inside.held.advertisements c.advertisements.ensures.few c.self.inside.contributors c.in-Some.peer.now)
+    let is =
+    c.in_ok-table.ensures
+    ∙ ap (λ (advertisements : List Advertisement). with_contributions []
+    (flat_map (of_aggregate c.self.inside.contributors advertisements c.in-Some.peer.now) (keys_of c.self.inside.contributors)))
+    c.advertisements-advertisements.ensures.advertisements in
+    subst (All HasFew) (sym is)
+    (whole-few c.self.inside.held.advertisements c.advertisements-advertisements.ensures.few c.self.inside.contributors c.in-Some.peer.now)

@@ -1,5 +1,5 @@
 use Rattle.bgp_updates.proofs.SmallGroups.{small-changed}
-use Rattle.bgp_updates.proofs.updating.put_announcements.Goals as goal
+use Rattle.bgp_updates.proofs.updating.put_family.Goals as goal
 
 pub put_groups-requires : goal.put_groups-requires
 put_groups-requires c =

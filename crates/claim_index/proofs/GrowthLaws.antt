@@ -1,6 +1,6 @@
 -- A claim gets room in its slots, and is listed there, one slot after the other.
 use Rattle.std.proofs.Common.{◌≡◌, ℕ, ◌+◌, ◌<◌, ◌≤◌, zero, suc, Bool, true, false, not, ◌&&◌, ◌||◌, if◌then◌else◌, List, [], ◌∷◌, ◌++◌, length, map, take}
-use Rattle.std.proofs.Common.{drop, get_or, Ordering, Less, Greater, refl, sym, ap, subst, ◌∙◌, arith, add-one, append-nil, ⊎_elim}
+use Rattle.std.proofs.Common.{drop, get_or, Less, Greater, refl, sym, ap, subst, ◌∙◌, arith, add-one, append-nil, ⊎_elim}
 use Rattle.std.proofs.lemmas.Bool.{or_cases, or_right, cases_Bool, false_from_ne_true, true≢false}
 use Rattle.std.proofs.lemmas.Bool.Decides.{same_from_decides}
 use Rattle.std.proofs.lemmas.List.{take_all}
@@ -10,7 +10,6 @@ use Rattle.std.specs.List.{AllByRecursion, Contains, list_any}
 use Rattle.std.specs.List.Sorted.{IsStrictlySortedBy}
 use Rattle.std.specs.Ordering.{ordering_reverse}
 use Rattle.std.specs.Str.{bytes_eq}
-use Rattle.std.proofs.lemmas.Slice.Eq.{bytes_eq-Decides}
 use Rattle.ip_ranges.specs.declared.family.Family.{Family}
 use Rattle.ip_ranges.specs.Values.{AddressValue}
 use Rattle.kube_model.specs.declared.port.Port.{Port}

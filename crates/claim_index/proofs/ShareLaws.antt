@@ -1,6 +1,6 @@
 -- Addresses that claims of a group have, and none of these with a port of the terms.
-use Rattle.std.proofs.Common.{◌≡◌, ℕ, ◌+◌, ◌<◌, ◌≤◌, suc, zero, Bool, true, false, not, ◌&&◌, ◌||◌, ◌==◌, cond, List, [], ◌∷◌, ◌++◌, length, map, take, drop, get_or}
-use Rattle.std.proofs.Common.{refl, sym, ap, ◌∙◌, subst, arith, add-one, ⊎_elim, take_all}
+use Rattle.std.proofs.Common.{◌≡◌, ℕ, ◌+◌, ◌<◌, ◌≤◌, suc, zero, Bool, true, false, not, ◌&&◌, ◌||◌, ◌==◌, cond, List, [], ◌∷◌, length, map}
+use Rattle.std.proofs.Common.{take, drop, get_or, refl, sym, ap, ◌∙◌, subst, arith, add-one, ⊎_elim, take_all}
 use Rattle.std.proofs.lemmas.Bool.{cases_lt, and_parts, and_from, true≢false}
 use Rattle.std.proofs.lemmas.Bool.Decides.{nat_tests}
 use Rattle.std.proofs.lemmas.List.{take-append-drop}
@@ -22,7 +22,7 @@ use Rattle.claim_index.specs.declared.slot.Slot.TheVariants.{OfGroup, OfPort}
 use Rattle.claim_index.specs.Claims.{ClaimValue}
 use Rattle.claim_index.specs.Groups.{group_of, HasGroup}
 use Rattle.claim_index.specs.Holders.{AddressHoldersValue, claims_having, address_of, is_held_but, is_held_in}
-use Rattle.claim_index.specs.Index.{numbers_at, is_taken, is_shared, is_barred, NoneShareable}
+use Rattle.claim_index.specs.Index.{numbers_at, is_taken, is_barred, NoneShareable}
 use Rattle.claim_index.specs.Slots.{is_member, occupies, slots_of, shared_slots, AreApart, HasSlots}
 use Rattle.claim_index.proofs.GrowthLaws.{or-none, shared-apart}
 use Rattle.claim_index.proofs.IndexReading.{held-is}
@@ -100,7 +100,8 @@ module _ (claims : List ClaimValue) (group : Slot) (family : Family) where
       ap (λ (xs : List Slot). list_any (λ slot. is_taken slot claims (address_of family n)) xs)
       (ap (λ k. take k slots) (add-one i) ∙ take-suc slots i x within)
       ∙ list_any-append (λ slot. is_taken slot claims (address_of family n)) (take i slots) (get_or slots i x ∷ [])
-      ∙ ap (λ b. earlier || b) (or-none (is_taken (get_or slots i x) claims (address_of family n)) ∙ ap (λ (s : Slot). is_taken s claims (address_of family n)) (sym is)) in
+      ∙ ap (λ b. earlier || b)
+      (or-none (is_taken (get_or slots i x) claims (address_of family n)) ∙ ap (λ (s : Slot). is_taken s claims (address_of family n)) (sym is)) in
       ap (λ b. shared && not b) grown
       ∙ ⊎_elim
       (λ (old : n < from). more-by shared earlier now (before n first old))
@@ -134,7 +135,8 @@ module _ (claims : List ClaimValue) (group : Slot) (family : Family) where
       ∙ fewer-by (is_taken group claims a) (list_any test (take i slots)) (list_any test slots) (any-more test slots i) (none n first below)
 
 -- ---- the same by what is listed
-module _ (items : List (ℕ × ClaimValue)) (h : AddressHoldersValue) (slot : Slot) (are : claims_having h slot ≡ (λ a. numbers_at slot a items)) (family : Family) where
+module _ (items : List (ℕ × ClaimValue)) (h : AddressHoldersValue) (slot : Slot) (are : claims_having h slot ≡ (λ a. numbers_at slot a items))
+    (family : Family) where
   pub none-taken : (low high : ℕ) → ((m : ℕ) → low ≤ m → m < high → is_held_in h slot (address_of family m) ≡ false) → (m : ℕ) → low ≤ m → m < high
       → is_taken slot (values_of items) (address_of family m) ≡ false
   none-taken low high none m first below = sym (held-is items h slot are (address_of family m)) ∙ none m first below

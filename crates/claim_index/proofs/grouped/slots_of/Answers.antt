@@ -1,4 +1,4 @@
-use Rattle.std.proofs.Common.{◌≡◌, ◌++◌, ◌∷◌, [], ◌==◌, List, ℕ, length, take, get_or, sym, ap, ◌∙◌}
+use Rattle.std.proofs.Common.{◌++◌, ◌∷◌, [], ◌==◌, List, ℕ, length, take, get_or, sym, ap, ◌∙◌}
 use Rattle.kube_model.specs.declared.port.Port.{Port}
 use Rattle.kube_model.specs.declared.port.Protocol.TheVariants.{Tcp}
 use Rattle.claim_index.specs.declared.slot.Slot.{Slot}

@@ -1,5 +1,4 @@
-use Rattle.std.proofs.Common.{◌≡◌, [], ◌+◌, length, take, refl}
-use Rattle.claim_index.specs.declared.slot.Slot.{Slot}
+use Rattle.std.proofs.Common.{[], length, take, refl}
 use Rattle.claim_index.specs.declared.slot.Slot.TheVariants.{Any}
 use Rattle.claim_index.specs.Index.{numbered}
 use Rattle.claim_index.proofs.GrowthLaws.{no_slot, with_first, slots-next, slots-start, not-yet, room-start, room-here, room-behind}

@@ -1,4 +1,4 @@
-use Rattle.std.proofs.Common.{◌≡◌, ℕ, Bool, true, false, not, ◌&&◌, ap, IfSome, IfNone, sym, ◌∙◌, subst, refl}
+use Rattle.std.proofs.Common.{◌≡◌, ℕ, Bool, true, ap, IfSome, IfNone, subst}
 use Rattle.number_sets.specs.Least.{IsLeastIn, NonePasses}
 use Rattle.claim_index.specs.Holders.{ClaimantsValue, in_slot_at, is_listed, is_listed_but}
 use Rattle.claim_index.proofs.SlotLaws.{slot-absent, of-found, to-found, unlisted}

@@ -1,8 +1,8 @@
-//! Programs that answer the lines of their input, one by one.
+//! Programs that answer the lines of their input, one by one, and lists in these answers.
 #![tactic(auto)]
 
 use anyhow::Result;
-use std::alloc::Global;
+use std::alloc::{AllocError, Global};
 use std::io::{self, Input};
 
 /// What answers lines, and keeps what it needs from line to line.
@@ -33,4 +33,12 @@ pub fn answer_lines<A: Answering>(
         answer_line(rt, alloc, answering, line?.as_str())?;
     }
     Ok(())
+}
+
+/// Appends an item to a list that has commas between its items.
+pub fn push_item(list: &mut String, item: &str) -> std::result::Result<(), AllocError> {
+    if !list.is_empty() {
+        list.push(',')?;
+    }
+    list.push_str(item)
 }

@@ -2,6 +2,7 @@
 
 use crate::written::choice_line;
 use alloc_book::{Book, Choice};
+use answer_lines::Answering;
 use kube_events::read_event;
 use kube_labels::{Labels, Text};
 use kube_model::{Event, EventFault, Group, Namespace, Object, Pool, Record, Service};
@@ -9,6 +10,7 @@ use mlb_base::NoMemory;
 use pool_config::{CompileFault, Config, ObjectSet, compile};
 use sharing_terms::terms_of;
 use std::alloc::Global;
+use std::mem;
 
 /// The objects of a case, and the records that its services have.
 #[derive(Drop)]
@@ -194,7 +196,7 @@ impl Case {
     }
 
     /// What is written at the line.
-    pub fn take(&mut self, alloc: Global, line: &str) -> Result<String, NoMemory> {
+    fn take(&mut self, alloc: Global, line: &str) -> Result<String, NoMemory> {
         match read_event(alloc, line.as_bytes()) {
             Ok(event) => self.happen(alloc, event),
             Err(fault) => {
@@ -203,5 +205,15 @@ impl Case {
                 text
             }
         }
+    }
+}
+
+impl Answering for Case {
+    fn answer(&mut self, alloc: Global, line: &str) -> anyhow::Result<String> {
+        if line.as_bytes().starts_with(b"#") {
+            drop(mem::replace(self, Case::new(alloc)));
+            return Ok(format!(in alloc; "{line}\n")?);
+        }
+        Ok(self.take(alloc, line)?)
     }
 }

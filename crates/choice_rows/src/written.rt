@@ -1,6 +1,7 @@
 //! What is chosen, as a line.
 
 use alloc_book::Choice;
+use answer_lines::push_item;
 use ip_ranges::{Address, print_address};
 use kube_model::{Key, Record};
 use mlb_base::NoMemory;
@@ -10,11 +11,7 @@ use std::alloc::Global;
 fn addresses(alloc: Global, addresses: &[Address]) -> Result<String, NoMemory> {
     let mut text = String::new(alloc);
     for address in addresses {
-        if !text.is_empty() {
-            text.push(',')?;
-        }
-        let printed = print_address(alloc, address)?;
-        text.push_str(printed.as_str())?;
+        push_item(&mut text, print_address(alloc, address)?.as_str())?;
     }
     Ok(text)
 }

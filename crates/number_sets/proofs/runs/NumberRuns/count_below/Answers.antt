@@ -62,5 +62,13 @@ overflow_cast-result c =
     let found = rw c.deref.ensures.value at c.first_from-index.ensures in
     let here : slice_get runs i ≡ Some c.in-Some.run' = cc in
     let ends = ends-from c.args.number runs i c.in-Some.run' found.point here in
-    omega (arith, run-held runs i c.in-Some.run' here, ends, c.saturating_sub.ensures, c.self.invariant.counted, c.self.invariant.within,
-    min-le_left (vec_capacity c.self.inside.runs) (vec_capacity c.self.inside.before), c.self.inside.runs.ok)
+    omega (
+      arith,
+      run-held runs i c.in-Some.run' here,
+      ends,
+      c.saturating_sub.ensures,
+      c.self.invariant.counted,
+      c.self.invariant.within,
+      min-le_left (vec_capacity c.self.inside.runs) (vec_capacity c.self.inside.before),
+      c.self.inside.runs.ok,
+    )

@@ -1,5 +1,5 @@
 -- What a frame is answered with.
-use Rattle.std.specs.Prelude.{◌≡◌, ℕ, List, Option, Some, None, fold, ⊤}
+use Rattle.std.specs.Prelude.{ℕ, List, Option, Some, None, fold, ⊤}
 use Rattle.ip_ranges.specs.Values.{AddressValue}
 use Rattle.kube_model.specs.declared.event.Event.{Event}
 use Rattle.speaker_view.specs.declared.change.ViewChange.{ViewChange}

@@ -15,7 +15,7 @@ use Rattle.sharing_terms.specs.declared.terms.Terms.{Terms}
 use Rattle.kube_model.specs.Records.{is_assigned}
 use Rattle.alloc_book.specs.Granted.{HaveMore}
 use Rattle.kube_model.specs.Keys.{same_key}
-use Rattle.pool_choice.proofs.Filters.{filter-contains, filter-keeps}
+use Rattle.mlb_base.proofs.Lists.{filter-contains, filter-keeps}
 use Rattle.claim_index.proofs.TermLaws.{made, under-made, under-is}
 use Rattle.claim_index.proofs.ClaimLaws.{claim-of, record-of}
 

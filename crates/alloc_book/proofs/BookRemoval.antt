@@ -15,7 +15,7 @@ use Rattle.kube_model.specs.Keys.{same_key}
 use Rattle.kube_model.specs.Records.{is_assigned}
 use Rattle.kube_model.proofs.KeyLaws.{same_key-is, same_key-itself}
 use Rattle.mlb_base.proofs.Among.{contains-none, contains-cons, contains-first, contains-later}
-use Rattle.pool_choice.proofs.Filters.{filter-contains, filter-keeps}
+use Rattle.mlb_base.proofs.Lists.{filter-contains, filter-keeps}
 use Rattle.sharing_terms.specs.declared.terms.Terms.{Terms}
 use Rattle.claim_index.specs.Claims.{ClaimValue, others, settled}
 use Rattle.claim_index.specs.Index.{numbers_of, first_but, first_other}

@@ -1,12 +1,9 @@
 -- The least of several candidates is the least usable number, and each usable number is a candidate.
 use Rattle.std.proofs.Common.{◌≡◌, ℕ, ◌+◌, ◌-◌, ◌<◌, ◌≤◌, suc, zero, Bool, true, false, cond, not, ◌&&◌, ◌||◌, leb, eqb}
-use Rattle.std.proofs.Common.{add-one, get_or, IfSome, IfNone, List, [], ◌∷◌, take, drop, filter, length, Option, Some, None}
+use Rattle.std.proofs.Common.{add-one, get_or, IfSome, IfNone, List, [], ◌∷◌, take, filter, length, Option, Some, None}
 use Rattle.std.proofs.Common.{◌⊎◌, inl, inr, refl, sym, ap, ◌∙◌, subst, arith, ⊎_elim, eq-or-lt_of_le, leb-true, true≢false}
-use Rattle.std.proofs.lemmas.Bool.{cases_lt, and_parts, and_from, or_left, or_right, or_cases, le-leb, not-true, not-false, false_from_ne_true}
+use Rattle.std.proofs.lemmas.Bool.{cases_lt, and_parts, and_from, or_cases, le-leb, not-true, false_from_ne_true}
 use Rattle.std.proofs.lemmas.Bool.Decides.{nat_tests}
-use Rattle.std.proofs.lemmas.List.{take_more, take-append-drop}
-use Rattle.std.proofs.lemmas.List.Elements.{Contains-append_left}
-use Rattle.std.proofs.lemmas.List.Folds.{list_any-append}
 use Rattle.std.proofs.lemmas.Slice.Eq.{bytes_eq-Decides}
 use Rattle.std.specs.List.{Contains, list_any, list_all}
 use Rattle.std.specs.List.Sorted.{IsStrictlySortedBy}
@@ -18,7 +15,6 @@ use Rattle.ip_ranges.specs.declared.family.Family.{Family}
 use Rattle.ip_ranges.specs.Values.{AddressValue, SpanValue, same_family, has_address, is_buggy, holds}
 use Rattle.ip_ranges.proofs.AddressLaws.{same_family-is, same_family-itself, has_address-is, has_address-from}
 use Rattle.kube_model.specs.declared.key.Key.{Key}
-use Rattle.kube_model.specs.declared.port.Port.{Port}
 use Rattle.kube_model.specs.Keys.{same_key}
 use Rattle.mlb_base.specs.Items.{is_nil}
 use Rattle.mlb_base.proofs.Among.{contains-none, contains-cons, contains-later, contains-first, any-contains, any-found, all-contains, all-from}
@@ -27,16 +23,15 @@ use Rattle.pool_config.specs.declared.compiled.CompiledPool.{CompiledPool}
 use Rattle.sharing_terms.specs.declared.terms.Terms.{Terms}
 use Rattle.sharing_terms.specs.Sharing.{has_port, is_alike, may_share}
 use Rattle.sharing_terms.proofs.SharingLaws.{may_share-is}
-use Rattle.claim_index.specs.declared.slot.Slot.TheVariants.{OfPort}
-use Rattle.claim_index.specs.Claims.{ClaimValue}
-use Rattle.claim_index.specs.Groups.{group_of, is_grouped}
+use Rattle.claim_index.specs.Claims.{ClaimValue, has_claims}
+use Rattle.claim_index.specs.SharingGroups.{sharing_group_of, is_grouped}
 use Rattle.claim_index.specs.Index.{numbers_of, is_barred, is_shared, is_shareable, is_taken, NoneShareable}
-use Rattle.alloc_book.specs.Candidates.{is_held, is_own, is_offered, is_free, Covers}
+use Rattle.alloc_book.specs.Candidates.{is_claimed, is_own, is_offered, is_free, Covers}
 use Rattle.claim_index.specs.Reading.{leaves}
 use Rattle.alloc_book.specs.Search.{usable, numbered, least_between}
 use Rattle.claim_index.specs.Holders.{address_of}
 use Rattle.alloc_book.specs.Usable.{is_in}
-use Rattle.claim_index.specs.Slots.{is_member, occupies}
+use Rattle.claim_index.specs.Slots.{OfPort, is_member, occupies}
 use Rattle.alloc_book.proofs.LeastLaws.{numbered-is}
 use Rattle.claim_index.proofs.TermLaws.{backend-same}
 use Rattle.claim_index.proofs.IndexReading.{found-of}
@@ -130,7 +125,7 @@ pub free-usable : (claims : List ClaimValue) (key : Key) (terms : Terms) (pool :
     → numbered (is_free claims pool) family n ≡ true → numbered (usable claims key terms pool) family n ≡ true
 free-usable claims key terms pool span family n listed same from upto free =
     let a = address_of family n in
-    let parts = free_by (is_held claims a) (pool.avoid_buggy && is_buggy a) free in
+    let parts = free_by (is_claimed claims a) (pool.avoid_buggy && is_buggy a) free in
     let families : same_family span.family family ≡ true = subst (λ f. same_family span.family f ≡ true) same (same_family-itself span.family) in
     let lower : leb span.low n ≡ true = le-leb span.low n from in
     let upper : leb n span.high ≡ true = le-leb n span.high upto in
@@ -147,7 +142,7 @@ free-usable claims key terms pool span family n listed same from upto free =
     (and_from (is_in pool a) (not (pool.avoid_buggy && is_buggy a)) within parts.1) left
 
 -- terms that share with those are of their group
-member_by : (terms t : Terms) → may_share terms t ≡ true → is_member (group_of terms) t ≡ true
+member_by : (terms t : Terms) → may_share terms t ≡ true → is_member (sharing_group_of terms) t ≡ true
 member_by terms t e =
     let most =
     and_parts (bytes_eq terms.key t.key && not (is_nil terms.key) && not (list_any (has_port t.ports) terms.ports)) (is_alike terms.backend t.backend) e in
@@ -156,16 +151,17 @@ member_by terms t e =
     let backend : terms.backend ≡ t.backend = backend-same terms.backend t.backend most.1 in
     let given : not (is_nil t.key) ≡ true =
     subst (λ (k : List ℕ). not (is_nil k) ≡ true) key (and_parts (bytes_eq terms.key t.key) (not (is_nil terms.key)) keys.0).1 in
-    and_from (not (is_nil t.key)) (is_grouped (group_of terms) t) given
-    ((bytes_eq-Decides (group_of t) (group_of terms)).1 (sym (group-same terms t key backend)))
+    and_from (not (is_nil t.key)) (is_grouped (sharing_group_of terms) t) given
+    ((bytes_eq-Decides (sharing_group_of t) (sharing_group_of terms)).1 (sym (group-same terms t key backend)))
 
 -- an address that the asker may use is free, its own or offered to it by its group
 abbrev pub IsCandidate : List ClaimValue → Key → Terms → CompiledPool → AddressValue → Type 0
-IsCandidate claims key terms pool a = ((is_free claims pool a ≡ true) ⊎ (is_own key claims a ≡ true)) ⊎ (is_offered key (group_of terms) claims a ≡ true)
+IsCandidate claims key terms pool a = ((is_free claims pool a ≡ true) ⊎ (is_own key claims a ≡ true))
+    ⊎ (is_offered key (sharing_group_of terms) claims a ≡ true)
 
-held_candidate : (claims : List ClaimValue) (key : Key) (terms : Terms) (pool : CompiledPool) (a : AddressValue) (c : ClaimValue)
+claimed_candidate : (claims : List ClaimValue) (key : Key) (terms : Terms) (pool : CompiledPool) (a : AddressValue) (c : ClaimValue)
     → Contains claims c → has_address c.holding.addresses a ≡ true → leaves key terms a c ≡ true → IsCandidate claims key terms pool a
-held_candidate claims key terms pool a c there has left =
+claimed_candidate claims key terms pool a c there has left =
     ⊎_elim
     (λ first. ⊎_elim
     (λ own. inl (inr (any-contains (λ (d : ClaimValue). same_key d.key key && has_address d.holding.addresses a) claims c there
@@ -173,28 +169,29 @@ held_candidate claims key terms pool a c there has left =
     (λ gone. absurd (true≢false (sym has ∙ not-true (has_address c.holding.addresses a) gone)))
     (or_cases (same_key c.key key) (not (has_address c.holding.addresses a)) first))
     (λ shared. own-or_offered (is_own key claims a) refl
-    (any-contains (λ (d : ClaimValue). is_member (group_of terms) d.terms && has_address d.holding.addresses a) claims c there
-    (and_from (is_member (group_of terms) c.terms) (has_address c.holding.addresses a) (member_by terms c.terms shared) has)))
+    (any-contains (λ (d : ClaimValue). is_member (sharing_group_of terms) d.terms && has_address d.holding.addresses a) claims c there
+    (and_from (is_member (sharing_group_of terms) c.terms) (has_address c.holding.addresses a) (member_by terms c.terms shared) has)))
     (or_cases (same_key c.key key || not (has_address c.holding.addresses a)) (may_share terms c.terms) left)
   where
-    own-or_offered : (own : Bool) → is_own key claims a ≡ own → is_shared (group_of terms) claims a ≡ true → IsCandidate claims key terms pool a
+    own-or_offered : (own : Bool) → is_own key claims a ≡ own → is_shared (sharing_group_of terms) claims a ≡ true → IsCandidate claims key terms pool a
     own-or_offered true e shared = inl (inr e)
-    own-or_offered false e shared = inr (and_from (is_shared (group_of terms) claims a) (not (is_own key claims a)) shared (ap not e))
+    own-or_offered false e shared = inr (and_from (is_shared (sharing_group_of terms) claims a) (not (is_own key claims a)) shared (ap not e))
 
 candidate_by : (held : Bool) (claims : List ClaimValue) (key : Key) (terms : Terms) (pool : CompiledPool) (a : AddressValue)
-    → held ≡ is_held claims a → not (pool.avoid_buggy && is_buggy a) ≡ true → list_all (leaves key terms a) claims ≡ true → IsCandidate claims key terms pool a
+    → held ≡ is_claimed claims a → not (pool.avoid_buggy && is_buggy a) ≡ true → list_all (leaves key terms a) claims ≡ true
+    → IsCandidate claims key terms pool a
 candidate_by false claims key terms pool a s kept left =
-    inl (inl (and_from (not (pool.avoid_buggy && is_buggy a)) (not (is_held claims a)) kept (ap not (sym s))))
+    inl (inl (and_from (not (pool.avoid_buggy && is_buggy a)) (not (is_claimed claims a)) kept (ap not (sym s))))
 candidate_by true claims key terms pool a s kept left =
     let found = any-found (λ (d : ClaimValue). has_address d.holding.addresses a) claims (sym s) in
-    held_candidate claims key terms pool a found.0 found.1 found.2 (all-contains (leaves key terms a) claims found.0 left found.1)
+    claimed_candidate claims key terms pool a found.0 found.1 found.2 (all-contains (leaves key terms a) claims found.0 left found.1)
 
 pub usable-candidate : (claims : List ClaimValue) (key : Key) (terms : Terms) (pool : CompiledPool) (a : AddressValue) → usable claims key terms pool a ≡ true
     → IsCandidate claims key terms pool a
 usable-candidate claims key terms pool a e =
     let two = and_parts (is_in pool a && not (pool.avoid_buggy && is_buggy a)) (list_all (leaves key terms a) claims) e in
     let one = and_parts (is_in pool a) (not (pool.avoid_buggy && is_buggy a)) two.0 in
-    candidate_by (is_held claims a) claims key terms pool a refl one.1 two.1
+    candidate_by (is_claimed claims a) claims key terms pool a refl one.1 two.1
 
 -- the least free number is ahead of the free ones
 pub free-ahead : (claims : List ClaimValue) (key : Key) (terms : Terms) (pool : CompiledPool) (span : SpanValue) (family : Family) (found : Option ℕ)
@@ -217,17 +214,18 @@ pub least-of_three : (claims : List ClaimValue) (key : Key) (terms : Terms) (poo
     → IfSome free (IsLeastIn (numbered (is_free claims pool) family) span.low span.high)
     → IfNone free (NonePasses (numbered (is_free claims pool) family) span.low span.high)
     → Covers (numbered (is_own key claims) family) (numbered (usable claims key terms pool) family) span.low (unwrap_or free span.high) own
-    → Covers (numbered (is_offered key (group_of terms) claims) family) (numbered (usable claims key terms pool) family) span.low
+    → Covers (numbered (is_offered key (sharing_group_of terms) claims) family) (numbered (usable claims key terms pool) family) span.low
     (unwrap_or own (unwrap_or free span.high)) shared
     → least_between (numbered (usable claims key terms pool) family) span.low (span.high + 1 - span.low) ≡ option_or (option_or shared own) free
 least-of_three claims key terms pool span family free own shared listed same some none owned others =
     let test = numbered (usable claims key terms pool) family in
     let F : ℕ → Type 0 = λ m. numbered (is_free claims pool) family m ≡ true in
     let O : ℕ → Type 0 = λ m. numbered (is_own key claims) family m ≡ true in
-    let S : ℕ → Type 0 = λ m. numbered (is_offered key (group_of terms) claims) family m ≡ true in
+    let S : ℕ → Type 0 = λ m. numbered (is_offered key (sharing_group_of terms) claims) family m ≡ true in
     let first = free-ahead claims key terms pool span family free listed same some none in
     let second = covers-is (numbered (is_own key claims) family) test span.low (unwrap_or free span.high) own owned in
-    let third = covers-is (numbered (is_offered key (group_of terms) claims) family) test span.low (unwrap_or own (unwrap_or free span.high)) shared others in
+    let third = covers-is (numbered (is_offered key (sharing_group_of terms) claims) family) test span.low
+    (unwrap_or own (unwrap_or free span.high)) shared others in
     let two = ahead-both O S test span.low (unwrap_or free span.high) own shared second third in
     let all = ahead-both F (λ m. O m ⊎ S m) test span.low span.high free (option_or shared own) first two in
     ahead-least (λ m. F m ⊎ (O m ⊎ S m)) test span.low span.high (option_or (option_or shared own) free)
@@ -236,7 +234,7 @@ least-of_three claims key terms pool span family free own shared listed same som
   where
     three_from : (m : ℕ) → IsCandidate claims key terms pool (address_of family m)
         → (numbered (is_free claims pool) family m ≡ true)
-        ⊎ ((numbered (is_own key claims) family m ≡ true) ⊎ (numbered (is_offered key (group_of terms) claims) family m ≡ true))
+        ⊎ ((numbered (is_own key claims) family m ≡ true) ⊎ (numbered (is_offered key (sharing_group_of terms) claims) family m ≡ true))
     three_from m (inl (inl free_one)) = inl free_one
     three_from m (inl (inr own_one)) = inr (inl own_one)
     three_from m (inr shared_one) = inr (inr shared_one)
@@ -356,6 +354,15 @@ keyed_here : (b : Bool) (n : ℕ) (c : ClaimValue) (rest : List (ℕ × ClaimVal
 keyed_here true n c rest e = contains-first n (keys_of rest)
 keyed_here false n c rest e = absurd (true≢false (sym e))
 
+-- a key without claims has no address
+pub none-own : (claims : List ClaimValue) (key : Key) (family : Family) (test : ℕ → Bool) (low high : ℕ) (holder : Bool)
+    → holder ≡ has_claims key claims → holder ≡ false → Covers (numbered (is_own key claims) family) test low high None
+none-own claims key family test low high holder known none m from to own =
+    let a = address_of family m in
+    let found = any-found (λ (c : ClaimValue). same_key c.key key && has_address c.holding.addresses a) claims own in
+    let here = (and_parts (same_key found.0.key key) (has_address found.0.holding.addresses a) found.2).0 in
+    absurd (true≢false (sym (any-contains (λ (c : ClaimValue). same_key c.key key) claims found.0 found.1 here) ∙ sym known ∙ none))
+
 -- an own address is that of a claim with one of the key's numbers
 pub own-one : (items : List (ℕ × ClaimValue)) (key : Key) (family : Family) (m : ℕ) → is_own key (values_of items) (address_of family m) ≡ true
     → IsOneOf items (numbers_of key items) family m
@@ -449,12 +456,12 @@ keyless terms t e = by terms.key refl
         grind (arith, nat_tests, none)
 
 pub keyless-unusable : (claims : List ClaimValue) (key : Key) (terms : Terms) (pool : CompiledPool) (a : AddressValue) → eqb (length terms.key) 0 ≡ true
-    → is_offered key (group_of terms) claims a ≡ true → usable claims key terms pool a ≡ false
+    → is_offered key (sharing_group_of terms) claims a ≡ true → usable claims key terms pool a ≡ false
 keyless-unusable claims key terms pool a e offered =
-    let parts = and_parts (is_shared (group_of terms) claims a) (not (is_own key claims a)) offered in
-    let found = any-found (λ (c : ClaimValue). is_member (group_of terms) c.terms && has_address c.holding.addresses a) claims parts.0 in
+    let parts = and_parts (is_shared (sharing_group_of terms) claims a) (not (is_own key claims a)) offered in
+    let found = any-found (λ (c : ClaimValue). is_member (sharing_group_of terms) c.terms && has_address c.holding.addresses a) claims parts.0 in
     let c = found.0 in
-    let has = (and_parts (is_member (group_of terms) c.terms) (has_address c.holding.addresses a) found.2).1 in
+    let has = (and_parts (is_member (sharing_group_of terms) c.terms) (has_address c.holding.addresses a) found.2).1 in
     false_from_ne_true (usable claims key terms pool a) (λ passes.
     let left = all-contains (leaves key terms a) claims c
     (and_parts (is_in pool a && not (pool.avoid_buggy && is_buggy a)) (list_all (leaves key terms a) claims) passes).1 found.1 in
@@ -493,15 +500,15 @@ all-claims_met items claims key numbers i family test low high found are listed 
 
 abbrev pub NoneUsable : List ClaimValue → Key → Terms → CompiledPool → Family → ℕ → Type 0
 NoneUsable claims key terms pool family m =
-    numbered (is_offered key (group_of terms) claims) family m ≡ true → numbered (usable claims key terms pool) family m ≡ false
+    numbered (is_offered key (sharing_group_of terms) claims) family m ≡ true → numbered (usable claims key terms pool) family m ≡ false
 
 -- where a claim of another key has one of the ports at the address, it doesn't share it
 barred-unusable : (claims : List ClaimValue) (key : Key) (terms : Terms) (pool : CompiledPool) (a : AddressValue)
-    → is_barred (group_of terms) terms.ports claims a ≡ true → is_own key claims a ≡ false → usable claims key terms pool a ≡ false
+    → is_barred (sharing_group_of terms) terms.ports claims a ≡ true → is_own key claims a ≡ false → usable claims key terms pool a ≡ false
 barred-unusable claims key terms pool a barred others =
     false_from_ne_true (usable claims key terms pool a) (λ passes.
-    let port = any-found (λ port. is_taken (OfPort port (group_of terms)) claims a) terms.ports barred in
-    let slot = OfPort port.0 (group_of terms) in
+    let port = any-found (λ port. is_taken (OfPort port (sharing_group_of terms)) claims a) terms.ports barred in
+    let slot = OfPort port.0 (sharing_group_of terms) in
     let held = any-found (λ (c : ClaimValue). occupies slot c && has_address c.holding.addresses a) claims port.2 in
     let c = held.0 in
     let parts = and_parts (occupies slot c) (has_address c.holding.addresses a) held.2 in
@@ -517,8 +524,9 @@ unshareable : (claims : List ClaimValue) (key : Key) (terms : Terms) (pool : Com
     → is_shareable terms claims (address_of family m) ≡ false → NoneUsable claims key terms pool family m
 unshareable claims key terms pool family m none offered =
     let a = address_of family m in
-    let parts = and_parts (is_shared (group_of terms) claims a) (not (is_own key claims a)) offered in
-    barred-unusable claims key terms pool a (barred (is_shared (group_of terms) claims a) (is_barred (group_of terms) terms.ports claims a) parts.0 none)
+    let parts = and_parts (is_shared (sharing_group_of terms) claims a) (not (is_own key claims a)) offered in
+    barred-unusable claims key terms pool a (barred (is_shared (sharing_group_of terms) claims a)
+    (is_barred (sharing_group_of terms) terms.ports claims a) parts.0 none)
     (not-true (is_own key claims a) parts.1)
   where
     barred : (shared barred : Bool) → shared ≡ true → (shared && not barred) ≡ false → barred ≡ true
@@ -555,13 +563,13 @@ pub least-number : (found_in claims : List ClaimValue) (key : Key) (terms : Term
     → IfSome free (IsLeastIn (numbered (is_free found_in pool) family) low high)
     → IfNone free (NonePasses (numbered (is_free found_in pool) family) low high)
     → Covers (numbered (is_own key claims) family) (numbered (usable claims key terms pool) family) low last own
-    → Covers (numbered (is_offered key (group_of terms) claims) family) (numbered (usable claims key terms pool) family) low later shared
+    → Covers (numbered (is_offered key (sharing_group_of terms) claims) family) (numbered (usable claims key terms pool) family) low later shared
     → least_between (numbered (usable claims key terms pool) family) span.low (span.high + 1 - span.low) ≡ found
 least-number found_in claims key terms pool span family low high last later free own shared either found are low_is high_is last_is later_is either_is found_is
     listed same some none owned others =
     let test = numbered (usable claims key terms pool) family in
     let O = numbered (is_own key claims) family in
-    let S = numbered (is_offered key (group_of terms) claims) family in
+    let S = numbered (is_offered key (sharing_group_of terms) claims) family in
     let some_here =
     subst (λ (h : ℕ). IfSome free (IsLeastIn (numbered (is_free claims pool) family) span.low h)) high_is
     (subst (λ (l : ℕ). IfSome free (IsLeastIn (numbered (is_free claims pool) family) l high)) low_is

@@ -9,8 +9,8 @@ use Rattle.claim_index.specs.Claims.{ClaimValue}
 use Rattle.claim_index.specs.Index.{is_shared}
 
 -- a claim has the address
-abbrev pub is_held : List ClaimValue → AddressValue → Bool
-is_held claims a = list_any (λ c. has_address c.holding.addresses a) claims
+abbrev pub is_claimed : List ClaimValue → AddressValue → Bool
+is_claimed claims a = list_any (λ c. has_address c.holding.addresses a) claims
 
 -- a claim of the key has the address
 abbrev pub is_own : Key → List ClaimValue → AddressValue → Bool
@@ -22,7 +22,7 @@ is_offered key group claims a = is_shared group claims a && not (is_own key clai
 
 -- no claim has the address, and the pool doesn't avoid it
 abbrev pub is_free : List ClaimValue → CompiledPool → AddressValue → Bool
-is_free claims pool a = not (pool.avoid_buggy && is_buggy a) && not (is_held claims a)
+is_free claims pool a = not (pool.avoid_buggy && is_buggy a) && not (is_claimed claims a)
 
 -- of the numbers from low to high that are candidates this is the least that passes, or one that passes ahead of each of them
 abbrev pub Covers : (ℕ → Bool) → (ℕ → Bool) → ℕ → ℕ → Option ℕ → Type 0

@@ -7,10 +7,10 @@ ghost use Rattle.ip_ranges.specs.Values.{AddressValue, has_address, is_buggy, sa
 ghost use Rattle.sharing_terms.specs.declared.terms.Terms.{Terms};
 ghost use Rattle.sharing_terms.specs.Marks.{mark_of};
 ghost use Rattle.alloc_book.specs.Asking.{asking};
-ghost use Rattle.claim_index.specs.Groups.{group_of};
+ghost use Rattle.claim_index.specs.SharingGroups.{sharing_group_of};
 ghost use Rattle.alloc_book.specs.Candidates.{is_own, is_offered, is_free, Covers};
 ghost use Rattle.number_sets.specs.Least.{IsLeastIn, NonePasses};
-ghost use Rattle.alloc_book.specs.Searching.{claims_for, usable_by};
+ghost use Rattle.alloc_book.specs.Searching.{KnowsHolder, claims_for, usable_by};
 ghost use Rattle.alloc_book.specs.Search.{usable, numbered, least_between, least_in, least_usable, least_each, first_pool, first_of, first_option};
 ghost use Rattle.claim_index.specs.Holders.{address_of};
 ghost use Rattle.claim_index.specs.Claims.{holders};
@@ -20,7 +20,7 @@ ghost use Rattle.alloc_book.specs.Usable.{is_in, IsUsable, IsUsableOf};
 use crate::booking::Book;
 use crate::marked::MarkedTerms;
 use crate::requests::alone_of;
-use claim_index::{ClaimIndex, GroupedTerms, Slot};
+use claim_index::{ClaimIndex, GroupedTerms};
 use ip_ranges::{Address, AddressList, Family, Span, is_buggy};
 use kube_model::{Key, Record, Service};
 use mlb_base::{NoMemory, TryCopy};
@@ -82,7 +82,7 @@ fn first_free(
     ensures some { IfSome result (λ n. IsLeastIn (numbered (is_free (values_of index.now.items) pool.now) family) low high n) }
     ensures none { IfNone result (NonePasses (numbered (is_free (values_of index.now.items) pool.now) family) low high) }
 {
-    index.first_unheld(&Slot::Any, pool.avoid_buggy, family, low, high)
+    index.first_unclaimed(pool.avoid_buggy, family, low, high)
 }
 
 /// A search for an address that a service may use.
@@ -98,6 +98,8 @@ struct AddressSearch<'a> {
     terms: &'a GroupedTerms,
     /// The family that the address is to be of.
     family: Family,
+    /// Whether the key has a claim.
+    is_holder: bool,
 }
 
 impl<'a> AddressSearch<'a> {
@@ -128,9 +130,13 @@ impl<'a> AddressSearch<'a> {
 
     /// The least number from low to high of an address that the key has already and may use.
     fn least_own(&self, low: u128, high: u128) -> Option<u128>
+        requires { KnowsHolder self.now }
         ensures { Covers (numbered (is_own self.now.key.now (claims_for self.now)) self.now.family) (numbered (usable_by self.now) self.now.family) low high
             result }
     {
+        if !self.is_holder {
+            return None;
+        }
         let index = self.book.index();
         let mut least = None;
         for number in index.numbers_of(self.key) {
@@ -149,7 +155,7 @@ impl<'a> AddressSearch<'a> {
     /// port by port; what is left is tested one by one.
     fn least_shared(&self, low: u128, high: u128) -> Option<u128>
         requires { high < 2 ^ width_of self.now.family }
-        ensures { Covers (numbered (is_offered self.now.key.now (group_of self.now.terms.now) (claims_for self.now)) self.now.family)
+        ensures { Covers (numbered (is_offered self.now.key.now (sharing_group_of self.now.terms.now) (claims_for self.now)) self.now.family)
             (numbered (usable_by self.now) self.now.family) low high result }
     {
         if self.terms.terms().key.as_str().is_empty() {
@@ -176,6 +182,7 @@ impl<'a> AddressSearch<'a> {
     fn least_number(&self, span: &Span) -> Option<Address>
         requires family { span.now.family ≡ self.now.family }
         requires listed { Contains self.now.pool.now.spans span.now }
+        requires holder { KnowsHolder self.now }
         ensures { result ≡ option_map (address_of self.now.family)
             (least_between (numbered (usable_by self.now) self.now.family) span.now.low (span.now.high + 1 - span.now.low)) }
     {
@@ -191,7 +198,8 @@ impl<'a> AddressSearch<'a> {
 
     /// The least address of one range of the pool that may be used.
     fn least_in(&self, span: &Span) -> Option<Address>
-        requires { Contains self.now.pool.now.spans span.now }
+        requires listed { Contains self.now.pool.now.spans span.now }
+        requires holder { KnowsHolder self.now }
         ensures { result ≡ least_in (usable_by self.now) self.now.family span.now }
     {
         if span.family != self.family {
@@ -202,6 +210,7 @@ impl<'a> AddressSearch<'a> {
 
     /// The first address of the family that may be used, entry by entry.
     fn least_listed(&self) -> Option<Address>
+        requires { KnowsHolder self.now }
         ensures { result ≡ least_usable (claims_for self.now) self.now.key.now self.now.terms.now self.now.pool.now self.now.family }
     {
         for span in self.pool.spans.as_slice() {
@@ -233,6 +242,7 @@ pub fn least_usable(
         key,
         terms,
         family,
+        is_holder: book.has_claims(key),
     };
     search.least_listed()
 }

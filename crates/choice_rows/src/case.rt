@@ -5,7 +5,7 @@ use alloc_book::{Book, Choice};
 use answer_lines::Answering;
 use kube_events::read_event;
 use kube_labels::{Labels, Text};
-use kube_model::{Event, EventFault, Group, Namespace, Object, Pool, Record, Service};
+use kube_model::{Event, EventFault, ListGroup, Namespace, Object, Pool, Record, Service};
 use mlb_base::NoMemory;
 use pool_config::{CompileFault, Config, ObjectSet, compile};
 use sharing_terms::terms_of;
@@ -173,11 +173,11 @@ impl Case {
     }
 
     /// What is written at the end of the list.
-    fn end(&mut self, alloc: Global, group: Group) -> Result<String, NoMemory> {
+    fn end(&mut self, alloc: Global, group: ListGroup) -> Result<String, NoMemory> {
         match group {
-            Group::Config => self.compile(alloc),
-            Group::Service => self.choose_all(alloc),
-            Group::Endpoint => Ok(String::new(alloc)),
+            ListGroup::Config => self.compile(alloc),
+            ListGroup::Service => self.choose_all(alloc),
+            ListGroup::Endpoint => Ok(String::new(alloc)),
         }
     }
 

@@ -130,21 +130,21 @@ twice : (b : Bool) → not (not b) ≡ b
 twice true = refl
 twice false = refl
 
-unheld : (inside : Bool) (runs : RunsValue) (claims : IndexValue ℕ) → AreListed runs claims
+unclaimed : (inside : Bool) (runs : RunsValue) (claims : IndexValue ℕ) → AreListed runs claims
     → ◌≡◌ {A = ℕ → Bool} (is_open inside runs) (λ n. not (inside && is_edge n) && is_nil (numbers_under nat_cmp claims n))
-unheld inside runs claims are = λ i n. not (inside && is_edge n) && (ap (λ f. not (f n)) are ∙ twice (is_nil (numbers_under nat_cmp claims n))) i
+unclaimed inside runs claims are = λ i n. not (inside && is_edge n) && (ap (λ f. not (f n)) are ∙ twice (is_nil (numbers_under nat_cmp claims n))) i
 
-pub least-unheld : (inside : Bool) (runs : RunsValue) (claims : IndexValue ℕ) (found : Option ℕ) (low high : ℕ) → AreListed runs claims
+pub least-unclaimed : (inside : Bool) (runs : RunsValue) (claims : IndexValue ℕ) (found : Option ℕ) (low high : ℕ) → AreListed runs claims
     → IfSome found (λ n. IsLeastIn (is_open inside runs) low high n)
     → IfSome found (λ n. IsLeastIn (λ m. not (inside && is_edge m) && is_nil (numbers_under nat_cmp claims m)) low high n)
-least-unheld inside runs claims found low high are least =
-    subst (λ (test : ℕ → Bool). IfSome found (λ n. IsLeastIn test low high n)) (unheld inside runs claims are) least
+least-unclaimed inside runs claims found low high are least =
+    subst (λ (test : ℕ → Bool). IfSome found (λ n. IsLeastIn test low high n)) (unclaimed inside runs claims are) least
 
-pub none-unheld : (inside : Bool) (runs : RunsValue) (claims : IndexValue ℕ) (found : Option ℕ) (low high : ℕ) → AreListed runs claims
+pub none-unclaimed : (inside : Bool) (runs : RunsValue) (claims : IndexValue ℕ) (found : Option ℕ) (low high : ℕ) → AreListed runs claims
     → IfNone found (NonePasses (is_open inside runs) low high)
     → IfNone found (NonePasses (λ m. not (inside && is_edge m) && is_nil (numbers_under nat_cmp claims m)) low high)
-none-unheld inside runs claims found low high are none =
-    subst (λ (test : ℕ → Bool). IfNone found (NonePasses test low high)) (unheld inside runs claims are) none
+none-unclaimed inside runs claims found low high are none =
+    subst (λ (test : ℕ → Bool). IfNone found (NonePasses test low high)) (unclaimed inside runs claims are) none
 
 -- ---- the least number that a claim has
 held : (runs : RunsValue) (claims : IndexValue ℕ) → AreListed runs claims → ◌≡◌ {A = ℕ → Bool} (has runs) (λ n. not (is_nil (numbers_under nat_cmp claims n)))

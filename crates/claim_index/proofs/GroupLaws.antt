@@ -1,6 +1,6 @@
 -- Claims on one address that are alike in sharing key and backend: they are told by their group, and counted.
 use Rattle.std.proofs.Common.{◌≡◌, ℕ, ◌+◌, ◌-◌, ◌==◌, Bool, true, false, cond, not, ◌&&◌, ◌||◌, List, []}
-use Rattle.std.proofs.Common.{◌∷◌, ◌++◌, length, filter, map, Some, refl, sym, ap, ◌∙◌, subst, arith}
+use Rattle.std.proofs.Common.{◌∷◌, ◌++◌, length, filter, Some, refl, sym, ap, ◌∙◌, subst, arith}
 use Rattle.std.proofs.lemmas.Bool.{and_parts, and_from, not-true, false_from_ne_true, true≢false}
 use Rattle.std.proofs.lemmas.Bool.Decides.{nat_tests, same_from_decides}
 use Rattle.std.proofs.lemmas.Map.Made.{Contains-values_of}
@@ -21,13 +21,11 @@ use Rattle.sharing_terms.specs.Marks.{mark_of}
 use Rattle.sharing_terms.specs.Sharing.{has_port, is_alike, may_share}
 use Rattle.sharing_terms.specs.Spelled.{recorded_terms}
 use Rattle.sharing_terms.proofs.ReadBack.{mark-read}
-use Rattle.claim_index.specs.declared.slot.Slot.{Slot}
-use Rattle.claim_index.specs.declared.slot.Slot.TheVariants.{Any, OfPort, OfGroup}
-use Rattle.claim_index.specs.Slots.{is_member}
+use Rattle.claim_index.specs.Slots.{Any, OfPort, OfSharingGroup, is_member}
 use Rattle.claim_index.specs.Alike.{are_alike}
 use Rattle.claim_index.specs.Claims.{ClaimValue}
-use Rattle.claim_index.specs.Groups.{group_of, portless, is_grouped, HasGroup}
-use Rattle.claim_index.specs.Index.{numbers_at, HaveGroups}
+use Rattle.claim_index.specs.SharingGroups.{sharing_group_of, portless, is_grouped, HasSharingGroup}
+use Rattle.claim_index.specs.Index.{numbers_at, HaveSharingGroups}
 use Rattle.claim_index.specs.Reading.{yields, belongs, is_odd, leaves}
 use Rattle.claim_index.proofs.TermLaws.{backend-same, backend-itself}
 use Rattle.claim_index.proofs.IndexReading.{or-true}
@@ -58,8 +56,8 @@ alike-flip a b e =
 
 -- ---- groups
 -- terms of one sharing key and one backend are of one group
-pub group-same : (a b : Terms) → a.key ≡ b.key → a.backend ≡ b.backend → group_of a ≡ group_of b
-unfolding group_of
+pub group-same : (a b : Terms) → a.key ≡ b.key → a.backend ≡ b.backend → sharing_group_of a ≡ sharing_group_of b
+unfolding sharing_group_of
 group-same a b key backend =
     ap (λ (k : List ℕ). mark_of (record { key = k; ports = []; backend = a.backend })) key
     ∙ ap (λ (x : Backend). mark_of (record { key = b.key; ports = []; backend = x })) backend
@@ -68,27 +66,27 @@ some-is : {X : Type 0} (x y : X) → Some x ≡ Some y → x ≡ y
 some-is x y e = cc
 
 -- and those of one group have one sharing key and one backend
-group-is : (a b : Terms) → AreTerms (portless a) → AreTerms (portless b) → group_of a ≡ group_of b → portless a ≡ portless b
-unfolding group_of
+group-is : (a b : Terms) → AreTerms (portless a) → AreTerms (portless b) → sharing_group_of a ≡ sharing_group_of b → portless a ≡ portless b
+unfolding sharing_group_of
 group-is a b has_a has_b same =
     some-is (portless a) (portless b) (sym (mark-read (portless a) has_a) ∙ ap recorded_terms same ∙ mark-read (portless b) has_b)
 
 -- terms that are alike with others are of their group
-member-from_alike : (a b : Terms) → are_alike a b ≡ true → is_member (group_of b) a ≡ true
+member-from_alike : (a b : Terms) → are_alike a b ≡ true → is_member (sharing_group_of b) a ≡ true
 member-from_alike a b e =
     let one = one-from_alike a b e in
-    and_from (not (is_nil a.key)) (is_grouped (group_of b) a) one.given
-    ((bytes_eq-Decides (group_of a) (group_of b)).1 (group-same a b one.key one.backend))
+    and_from (not (is_nil a.key)) (is_grouped (sharing_group_of b) a) one.given
+    ((bytes_eq-Decides (sharing_group_of a) (sharing_group_of b)).1 (group-same a b one.key one.backend))
 
-member-alike : (a b : Terms) → HasGroup a → HasGroup b → is_nil b.key ≡ false → is_member (group_of b) a ≡ are_alike a b
+member-alike : (a b : Terms) → HasSharingGroup a → HasSharingGroup b → is_nil b.key ≡ false → is_member (sharing_group_of b) a ≡ are_alike a b
 member-alike a b has_a has_b given =
-    same_from_decides (is_member (group_of b) a) (are_alike a b) (to, member-from_alike a b) (λ e. e, λ e. e)
+    same_from_decides (is_member (sharing_group_of b) a) (are_alike a b) (to, member-from_alike a b) (λ e. e, λ e. e)
   where
-    to : is_member (group_of b) a ≡ true → are_alike a b ≡ true
+    to : is_member (sharing_group_of b) a ≡ true → are_alike a b ≡ true
     to e =
-        let parts = and_parts (not (is_nil a.key)) (is_grouped (group_of b) a) e in
+        let parts = and_parts (not (is_nil a.key)) (is_grouped (sharing_group_of b) a) e in
         let one : portless a ≡ portless b =
-        group-is a b (has_a (not-true (is_nil a.key) parts.0)) (has_b given) ((bytes_eq-Decides (group_of a) (group_of b)).0 parts.1) in
+        group-is a b (has_a (not-true (is_nil a.key) parts.0)) (has_b given) ((bytes_eq-Decides (sharing_group_of a) (sharing_group_of b)).0 parts.1) in
         alike-from_one a b (record { key = ap (λ (t : Terms). t.key) one; given = parts.0; backend = ap (λ (t : Terms). t.backend) one })
 
 -- ---- how many claims on an address aren't alike with the terms
@@ -125,23 +123,26 @@ module _ (key : Key) (terms : Terms) (a : AddressValue) where
   count-by false false true p all grouped odd rest ih = ih
   count-by false false false p all grouped odd rest ih = ih
 
-  counted : (items : List (ℕ × ClaimValue)) → ((p : ℕ × ClaimValue) → Contains items p → is_member (group_of terms) p.1.terms ≡ are_alike p.1.terms terms)
-      → length (numbers_at Any a items) ≡ length (numbers_at (OfGroup (group_of terms)) a items) + (length (own_odd items) + length (others_odd items))
+  counted : (items : List (ℕ × ClaimValue))
+      → ((p : ℕ × ClaimValue) → Contains items p → is_member (sharing_group_of terms) p.1.terms ≡ are_alike p.1.terms terms)
+      → length (numbers_at Any a items) ≡ length (numbers_at (OfSharingGroup (sharing_group_of terms)) a items) +
+      (length (own_odd items) + length (others_odd items))
   counted [] alike = refl
   counted (p ∷ items) alike =
       let has = has_address p.1.holding.addresses a in
-      let grouped = numbers_at (OfGroup (group_of terms)) a items in
+      let grouped = numbers_at (OfSharingGroup (sharing_group_of terms)) a items in
       let rest = length (own_odd (p ∷ items)) + length (others_odd (p ∷ items)) in
       count-by (same_key p.1.key key) has (are_alike p.1.terms terms) p (numbers_at Any a items) grouped (own_odd items) (others_odd items)
       (counted items (λ q there. alike q (contains-later p items q there)))
       ∙ ap (λ (b : Bool). length (cond b (cond has (p.0 ∷ []) []) [] ++ grouped) + rest) (sym (alike p (contains-first p items)))
 
   -- where as many aren't of the group as there are of the key that aren't alike, all others are alike
-  pub belong-is : (items : List (ℕ × ClaimValue)) → HaveGroups (values_of items) → HasGroup terms → is_nil terms.key ≡ false
-      → (length (numbers_at Any a items) - length (numbers_at (OfGroup (group_of terms)) a items) == length (own_odd items))
+  pub belong-is : (items : List (ℕ × ClaimValue)) → HaveSharingGroups (values_of items) → HasSharingGroup terms → is_nil terms.key ≡ false
+      → (length (numbers_at Any a items) - length (numbers_at (OfSharingGroup (sharing_group_of terms)) a items) == length (own_odd items))
       ≡ list_all (belongs key terms a) (values_of items)
   belong-is items have has given =
-      subtracted (length (numbers_at Any a items)) (length (numbers_at (OfGroup (group_of terms)) a items)) (length (own_odd items)) (length (others_odd items))
+      subtracted (length (numbers_at Any a items)) (length (numbers_at (OfSharingGroup (sharing_group_of terms)) a items)) (length (own_odd items))
+      (length (others_odd items))
       (counted items (λ p there. member-alike p.1.terms terms (have p.1 (Contains-values_of items p.0 p.1 there)) has given))
       ∙ none-left (belongs key terms a) (values_of items)
 
@@ -151,7 +152,7 @@ not-neither true = refl
 not-neither false = refl
 
 shares-alike : (terms t : Terms) → are_alike t terms ≡ true
-    → ((port : Port) → Contains terms.ports port → (not ((is_member (group_of terms) t && has_port t.ports port) && true) || false) ≡ true)
+    → ((port : Port) → Contains terms.ports port → (not ((is_member (sharing_group_of terms) t && has_port t.ports port) && true) || false) ≡ true)
     → may_share terms t ≡ true
 shares-alike terms t alike each =
     let parts = and_parts (bytes_eq terms.key t.key && not (is_nil terms.key)) (is_alike terms.backend t.backend) (alike-flip t terms alike) in
@@ -160,14 +161,14 @@ shares-alike terms t alike each =
     let found = any-found (has_port t.ports) terms.ports some in
     let member = member-from_alike t terms alike in
     true≢false (sym (subst (λ (b : Bool). (not ((b && true) && true) || false) ≡ true) member
-    (subst (λ (b : Bool). (not ((is_member (group_of terms) t && b) && true) || false) ≡ true) found.2 (each found.0 found.1))))) in
+    (subst (λ (b : Bool). (not ((is_member (sharing_group_of terms) t && b) && true) || false) ≡ true) found.2 (each found.0 found.1))))) in
     and_from (bytes_eq terms.key t.key && not (is_nil terms.key) && not (list_any (has_port t.ports) terms.ports)) (is_alike terms.backend t.backend)
     (and_from (bytes_eq terms.key t.key && not (is_nil terms.key)) (not (list_any (has_port t.ports) terms.ports)) parts.0 (ap not none))
     parts.1
 
 -- a claim whose terms are alike leaves the address where it yields each port
 leaves-each : (own has : Bool) (terms held : Terms) → (not has || (own || are_alike held terms)) ≡ true
-    → ((port : Port) → Contains terms.ports port → (not ((is_member (group_of terms) held && has_port held.ports port) && has) || own) ≡ true)
+    → ((port : Port) → Contains terms.ports port → (not ((is_member (sharing_group_of terms) held && has_port held.ports port) && has) || own) ≡ true)
     → (own || not has || may_share terms held) ≡ true
 leaves-each true has terms held alike each = refl
 leaves-each false false terms held alike each = refl
@@ -186,8 +187,8 @@ alike-left false true terms held left =
 
 -- and where it leaves the address it yields each port
 pub yields-left : (own has : Bool) (terms held : Terms) (port : Port) → Contains terms.ports port
-    → (own || not has || may_share terms held) ≡ true → (not ((is_member (group_of terms) held && has_port held.ports port) && has) || own) ≡ true
-yields-left true has terms held port there left = or-true (not ((is_member (group_of terms) held && has_port held.ports port) && has))
+    → (own || not has || may_share terms held) ≡ true → (not ((is_member (sharing_group_of terms) held && has_port held.ports port) && has) || own) ≡ true
+yields-left true has terms held port there left = or-true (not ((is_member (sharing_group_of terms) held && has_port held.ports port) && has))
 yields-left false false terms held port there left = rw not-neither refl
 yields-left false true terms held port there left =
     let most = and_parts (bytes_eq terms.key held.key && not (is_nil terms.key) && not (list_any (has_port held.ports) terms.ports))
@@ -197,7 +198,7 @@ yields-left false true terms held port there left =
     false_from_ne_true (has_port held.ports port)
     (λ some. true≢false
     (sym (any-contains (has_port held.ports) terms.ports port there some) ∙ not-true (list_any (has_port held.ports) terms.ports) keys.1)) in
-    ap (λ (b : Bool). not ((is_member (group_of terms) held && b) && true) || false) apart ∙ without (is_member (group_of terms) held)
+    ap (λ (b : Bool). not ((is_member (sharing_group_of terms) held && b) && true) || false) apart ∙ without (is_member (sharing_group_of terms) held)
   where
     without : (b : Bool) → (not ((b && false) && true) || false) ≡ true
     without true = refl
@@ -206,7 +207,7 @@ yields-left false true terms held port there left =
 module _ (claims : List ClaimValue) (key : Key) (terms : Terms) (a : AddressValue) where
   -- each claim in the slot of the port is of the key
   abbrev yields_port : Port → Bool
-  yields_port port = list_all (yields key (OfPort port (group_of terms)) a) claims
+  yields_port port = list_all (yields key (OfPort port (sharing_group_of terms)) a) claims
 
   leave-to : (list_all (belongs key terms a) claims && list_all yields_port terms.ports) ≡ true → list_all (leaves key terms a) claims ≡ true
   leave-to both =
@@ -214,7 +215,7 @@ module _ (claims : List ClaimValue) (key : Key) (terms : Terms) (a : AddressValu
       all-from (leaves key terms a) claims (λ c there.
       leaves-each (same_key c.key key) (has_address c.holding.addresses a) terms c.terms
       (all-contains (belongs key terms a) claims c parts.0 there)
-      (λ port at. all-contains (yields key (OfPort port (group_of terms)) a) claims c (all-contains yields_port terms.ports port parts.1 at) there))
+      (λ port at. all-contains (yields key (OfPort port (sharing_group_of terms)) a) claims c (all-contains yields_port terms.ports port parts.1 at) there))
 
   leave-back : list_all (leaves key terms a) claims ≡ true → (list_all (belongs key terms a) claims && list_all yields_port terms.ports) ≡ true
   leave-back left =
@@ -222,22 +223,10 @@ module _ (claims : List ClaimValue) (key : Key) (terms : Terms) (a : AddressValu
       (all-from (belongs key terms a) claims (λ c there.
       alike-left (same_key c.key key) (has_address c.holding.addresses a) terms c.terms (all-contains (leaves key terms a) claims c left there)))
       (all-from yields_port terms.ports (λ port at.
-      all-from (yields key (OfPort port (group_of terms)) a) claims (λ c there.
+      all-from (yields key (OfPort port (sharing_group_of terms)) a) claims (λ c there.
       yields-left (same_key c.key key) (has_address c.holding.addresses a) terms c.terms port at (all-contains (leaves key terms a) claims c left there))))
 
-  leave-is : (list_all (belongs key terms a) claims && list_all yields_port terms.ports) ≡ list_all (leaves key terms a) claims
+  pub leave-is : (list_all (belongs key terms a) claims && list_all yields_port terms.ports) ≡ list_all (leaves key terms a) claims
   leave-is =
       same_from_decides (list_all (belongs key terms a) claims && list_all yields_port terms.ports) (list_all (leaves key terms a) claims)
       (leave-to, leave-back) (λ e. e, λ e. e)
-
-  -- the same over the slots of the terms
-  pub slots-leave : (slots : List Slot) → slots ≡ map (λ port. OfPort port (group_of terms)) terms.ports
-      → (list_all (belongs key terms a) claims && list_all (λ slot. list_all (yields key slot a) claims) slots) ≡ list_all (leaves key terms a) claims
-  slots-leave slots are =
-      ap (λ (b : Bool). list_all (belongs key terms a) claims && b)
-      (ap (list_all (λ slot. list_all (yields key slot a) claims)) are ∙ over terms.ports) ∙ leave-is
-    where
-      over : (ports : List Port) → list_all (λ slot. list_all (yields key slot a) claims) (map (λ port. OfPort port (group_of terms)) ports)
-          ≡ list_all yields_port ports
-      over [] = refl
-      over (port ∷ ports) = ap (λ (b : Bool). yields_port port && b) (over ports)

@@ -1,30 +1,28 @@
 -- A claim gets room in its slots, and is listed there, one slot after the other.
-use Rattle.std.proofs.Common.{◌≡◌, ℕ, ◌+◌, ◌<◌, ◌≤◌, zero, suc, Bool, true, false, not, ◌&&◌, ◌||◌, if◌then◌else◌, List, [], ◌∷◌, ◌++◌, length, map, take}
-use Rattle.std.proofs.Common.{drop, get_or, Less, Greater, refl, sym, ap, subst, ◌∙◌, arith, add-one, append-nil, ⊎_elim}
-use Rattle.std.proofs.lemmas.Bool.{or_cases, or_right, cases_Bool, false_from_ne_true, true≢false}
+use Rattle.std.proofs.Common.{◌≡◌, ℕ, ◌+◌, ◌<◌, ◌≤◌, zero, suc, Bool, true, false, ◌&&◌, ◌||◌, ◌==◌, if◌then◌else◌, List, [], ◌∷◌, ◌++◌, length, map, take}
+use Rattle.std.proofs.Common.{drop, get_or, Option, Some, None, Less, Greater, refl, sym, ap, subst, ◌∙◌, arith, add-one, append-nil, ⊎_elim}
+use Rattle.std.proofs.lemmas.Bool.{and_from, eq-eqb, or_cases, or_right, cases_Bool, false_from_ne_true, true≢false}
 use Rattle.std.proofs.lemmas.Bool.Decides.{same_from_decides}
 use Rattle.std.proofs.lemmas.List.{take_all}
+use Rattle.std.proofs.lemmas.List.Elements.{Contains-get_or}
 use Rattle.std.proofs.lemmas.List.Folds.{list_any-append}
 use Rattle.std.proofs.Math.Seq.{take-suc, drop-cons}
 use Rattle.std.specs.List.{AllByRecursion, Contains, list_any}
 use Rattle.std.specs.List.Sorted.{IsStrictlySortedBy}
 use Rattle.std.specs.Ordering.{ordering_reverse}
-use Rattle.std.specs.Str.{bytes_eq}
 use Rattle.ip_ranges.specs.declared.family.Family.{Family}
 use Rattle.ip_ranges.specs.Values.{AddressValue}
 use Rattle.kube_model.specs.declared.port.Port.{Port}
-use Rattle.mlb_base.specs.Items.{is_nil}
+use Rattle.kube_model.specs.declared.port.Protocol.TheVariants.{Tcp}
 use Rattle.mlb_base.proofs.Among.{contains-none, contains-cons, contains-first, contains-later, any-contains}
 use Rattle.sharing_terms.specs.Ports.{port_cmp, AreAscending}
 use Rattle.sharing_terms.specs.Sharing.{same_port, has_port}
 use Rattle.sharing_terms.proofs.PortSets.{port_cmp-total}
 use Rattle.sharing_terms.proofs.SharingLaws.{same_port-is, same_port-itself}
-use Rattle.claim_index.specs.declared.slot.Slot.{Slot}
-use Rattle.claim_index.specs.declared.slot.Slot.TheVariants.{Any, OfPort, OfGroup}
-use Rattle.claim_index.specs.Claims.{ClaimValue}
+use Rattle.claim_index.specs.declared.slot.NumberedSlot.{NumberedSlot}
+use Rattle.claim_index.specs.declared.slot.NumberedSlot.TheVariants.{Any, OfPort, OfSharingGroup}
 use Rattle.claim_index.specs.Holders.{AddressHoldersValue, HasRoomAt, in_slot, claims_at, claims_having, claim_room, address_room}
-use Rattle.claim_index.specs.Slots.{same_slot, shared_slots, slots_of, occupies, AreApart}
-use Rattle.claim_index.specs.Groups.{group_of}
+use Rattle.claim_index.specs.NumberedSlots.{same_slot, shared_slots, is_slot_by, AreApart}
 use Rattle.claim_index.proofs.SlotLaws.{same_slot-is, same_slot-itself}
 use Rattle.claim_index.proofs.IndexGrowth.{room-same}
 
@@ -39,15 +37,15 @@ or-along true b c = refl
 or-along false b c = refl
 
 -- no slot yet
-abbrev pub no_slot : Slot → Bool
+abbrev pub no_slot : NumberedSlot → Bool
 no_slot s = false
 
 -- the slot of all claims, and these
-abbrev pub with_first : List Slot → Slot → Bool
+abbrev pub with_first : List NumberedSlot → NumberedSlot → Bool
 with_first slots s = same_slot Any s || list_any (λ x. same_slot x s) slots
 
 -- the slot of all claims comes first
-pub slots-start : (s : Slot) → with_first [] s ≡ (no_slot s || same_slot Any s)
+pub slots-start : (s : NumberedSlot) → with_first [] s ≡ (no_slot s || same_slot Any s)
 slots-start s = or-none (same_slot Any s)
 
 or-none-of : (x y : Bool) → (x || y) ≡ false → (x ≡ false) × (y ≡ false)
@@ -57,29 +55,30 @@ or-none-of false y e = (refl, e)
 both-none : (a b c : Bool) → (a || c) ≡ false → b ≡ false → (a || (b || c)) ≡ false
 both-none a b c none other = ap (λ x. a || (x || c)) other ∙ none
 
-not-any : (test : Slot → Bool) (slots : List Slot) (i : ℕ) (d : Slot) → list_any test slots ≡ false → i < length slots → test (get_or slots i d) ≡ false
+not-any : (test : NumberedSlot → Bool) (slots : List NumberedSlot) (i : ℕ) (d : NumberedSlot) → list_any test slots ≡ false → i < length slots
+    → test (get_or slots i d) ≡ false
 not-any test [] i d none within = absurd (omega (arith, within))
 not-any test (x ∷ xs) zero d none within = (or-none-of (test x) (list_any test xs) none).0
 not-any test (x ∷ xs) (suc i) d none within = not-any test xs i d (or-none-of (test x) (list_any test xs) none).1 (omega (arith, within))
 
-module _ (slots : List Slot) (i : ℕ) (d : Slot) (within : i < length slots) where
-  abbrev next : Slot
+module _ (slots : List NumberedSlot) (i : ℕ) (d : NumberedSlot) (within : i < length slots) where
+  abbrev next : NumberedSlot
   next = get_or slots i d
 
   slots-rest : drop i slots ≡ next ∷ drop (i + 1) slots
   slots-rest = drop-cons slots i d within ∙ ap (λ n. next ∷ drop n slots) (sym (add-one i))
 
   -- the slots up to this one
-  slots-more : (s : Slot) → with_first (take (i + 1) slots) s ≡ (with_first (take i slots) s || same_slot next s)
+  slots-more : (s : NumberedSlot) → with_first (take (i + 1) slots) s ≡ (with_first (take i slots) s || same_slot next s)
   slots-more s =
-      ap (λ (xs : List Slot). with_first xs s) (ap (λ n. take n slots) (add-one i) ∙ take-suc slots i d within)
+      ap (λ (xs : List NumberedSlot). with_first xs s) (ap (λ n. take n slots) (add-one i) ∙ take-suc slots i d within)
       ∙ ap (λ b. same_slot Any s || b)
       (list_any-append (λ x. same_slot x s) (take i slots) (next ∷ [])
       ∙ ap (λ b. list_any (λ x. same_slot x s) (take i slots) || b) (or-none (same_slot next s)))
       ∙ or-along (same_slot Any s) (list_any (λ x. same_slot x s) (take i slots)) (same_slot next s)
 
 -- none of the slots before it is this one
-not-before : (slots : List Slot) (i : ℕ) (d : Slot) → i < length slots → AreApart slots → with_first (take i slots) (get_or slots i d) ≡ false
+not-before : (slots : List NumberedSlot) (i : ℕ) (d : NumberedSlot) → i < length slots → AreApart slots → with_first (take i slots) (get_or slots i d) ≡ false
 not-before [] i d within apart = absurd (omega (arith, within))
 not-before (x ∷ xs) zero d within apart = or-none (same_slot Any x) ∙ apart.0
 not-before (x ∷ xs) (suc i) d within apart =
@@ -88,30 +87,30 @@ not-before (x ∷ xs) (suc i) d within apart =
     (not-before xs i d later apart.2) (not-any (same_slot x) xs i d apart.1 later)
 
 -- and none of those behind it
-behind-by : (slots : List Slot) (i : ℕ) (d s : Slot) → i < length slots → AreApart slots → Contains (drop (suc i) slots) s
+behind-by : (slots : List NumberedSlot) (i : ℕ) (d s : NumberedSlot) → i < length slots → AreApart slots → Contains (drop (suc i) slots) s
     → same_slot (get_or slots i d) s ≡ false
 behind-by [] i d s within apart there = absurd (omega (arith, within))
 behind-by (x ∷ xs) zero d s within apart there =
     false_from_ne_true (same_slot x s) (λ e. true≢false (sym (any-contains (same_slot x) xs s there e) ∙ apart.1))
 behind-by (x ∷ xs) (suc i) d s within apart there = behind-by xs i d s (omega (arith, within)) apart.2 there
 
-not-behind : (slots : List Slot) (i : ℕ) (d s : Slot) → i < length slots → AreApart slots → Contains (drop (i + 1) slots) s
+not-behind : (slots : List NumberedSlot) (i : ℕ) (d s : NumberedSlot) → i < length slots → AreApart slots → Contains (drop (i + 1) slots) s
     → same_slot (get_or slots i d) s ≡ false
 not-behind slots i d s within apart there =
     behind-by slots i d s within apart (subst (λ n. Contains (drop n slots) s) (add-one i) there)
 
-apart-first : (slots : List Slot) (s : Slot) → AreApart slots → Contains slots s → same_slot Any s ≡ false
+apart-first : (slots : List NumberedSlot) (s : NumberedSlot) → AreApart slots → Contains slots s → same_slot Any s ≡ false
 apart-first [] s apart there = absurd (contains-none s there)
 apart-first (x ∷ xs) s apart there =
     ⊎_elim (λ first. ap (same_slot Any) (sym first) ∙ apart.0) (λ later. apart-first xs s apart.2 later) (contains-cons x xs s there)
 
 -- the same of the slot that a walk comes to
-module _ (slots : List Slot) (i : ℕ) (x : Slot) (within : i < length slots) (is : x ≡ get_or slots i x) where
-  pub slots-next : (s : Slot) → with_first (take (i + 1) slots) s ≡ (with_first (take i slots) s || same_slot x s)
-  slots-next s = slots-more slots i x within s ∙ ap (λ (y : Slot). with_first (take i slots) s || same_slot y s) (sym is)
+module _ (slots : List NumberedSlot) (i : ℕ) (x : NumberedSlot) (within : i < length slots) (is : x ≡ get_or slots i x) where
+  pub slots-next : (s : NumberedSlot) → with_first (take (i + 1) slots) s ≡ (with_first (take i slots) s || same_slot x s)
+  slots-next s = slots-more slots i x within s ∙ ap (λ (y : NumberedSlot). with_first (take i slots) s || same_slot y s) (sym is)
 
   pub not-yet : AreApart slots → with_first (take i slots) x ≡ false
-  not-yet apart = ap (λ (y : Slot). with_first (take i slots) y) is ∙ not-before slots i x within apart
+  not-yet apart = ap (λ (y : NumberedSlot). with_first (take i slots) y) is ∙ not-before slots i x within apart
 
 -- ---- the slots of terms
 
@@ -120,10 +119,10 @@ same_port-flip p q =
     same_from_decides (same_port p q) (same_port q p) (same_port-is p q, λ e. subst (λ r. same_port p r ≡ true) e (same_port-itself p))
     (λ e. sym (same_port-is q p e), λ e. subst (λ r. same_port r p ≡ true) e (same_port-itself p))
 
-abbrev port_slots : List ℕ → List Port → List Slot
+abbrev port_slots : ℕ → List Port → List NumberedSlot
 port_slots group ports = map (λ port. OfPort port group) ports
 
-no-group : (group other : List ℕ) (ports : List Port) → list_any (λ x. same_slot x (OfGroup other)) (port_slots group ports) ≡ false
+no-group : (group other : ℕ) (ports : List Port) → list_any (λ x. same_slot x (OfSharingGroup other)) (port_slots group ports) ≡ false
 no-group group other [] = refl
 no-group group other (p ∷ ps) = no-group group other ps
 
@@ -142,77 +141,97 @@ port-by true (p ∷ ps) q =
     ap (λ b. b || list_any (λ p. same_port p q && true) ps) (and-true (same_port p q) ∙ same_port-flip p q) ∙ ap (λ b. same_port q p || b) (port-by true ps q)
 port-by false (p ∷ ps) q = ap (λ b. b || list_any (λ p. same_port p q && false) ps) (and-false (same_port p q)) ∙ port-by false ps q
 
-over-ports : (group other : List ℕ) (ports : List Port) (q : Port)
-    → list_any (λ x. same_slot x (OfPort q other)) (port_slots group ports) ≡ list_any (λ p. same_port p q && bytes_eq group other) ports
+over-ports : (group other : ℕ) (ports : List Port) (q : Port)
+    → list_any (λ x. same_slot x (OfPort q other)) (port_slots group ports) ≡ list_any (λ p. same_port p q && (group == other)) ports
 over-ports group other [] q = refl
-over-ports group other (p ∷ ps) q = ap (λ b. (same_port p q && bytes_eq group other) || b) (over-ports group other ps q)
+over-ports group other (p ∷ ps) q = ap (λ b. (same_port p q && (group == other)) || b) (over-ports group other ps q)
 
--- whether the slot is one of those of terms of this group with these ports
-abbrev is_slot_by : Bool → List ℕ → List Port → Slot → Bool
-is_slot_by keyless group ports Any = true
-is_slot_by keyless group ports (OfGroup other) = not keyless && bytes_eq group other
-is_slot_by keyless group ports (OfPort q other) = (not keyless && bytes_eq group other) && has_port ports q
+-- the slots of the group of this number
+abbrev pub slots_by : Option ℕ → List Port → List NumberedSlot
+slots_by None ports = []
+slots_by (Some group) ports = shared_slots group ports
 
-slots-by : (keyless : Bool) (group : List ℕ) (ports : List Port) (s : Slot)
-    → with_first (if keyless then [] else shared_slots group ports) s ≡ is_slot_by keyless group ports s
-slots-by keyless group ports Any = refl
-slots-by true group ports (OfGroup other) = refl
-slots-by true group ports (OfPort q other) = refl
-slots-by false group ports (OfGroup other) = ap (λ b. bytes_eq group other || b) (no-group group other ports) ∙ or-none (bytes_eq group other)
-slots-by false group ports (OfPort q other) = over-ports group other ports q ∙ port-by (bytes_eq group other) ports q
-
--- a claim is listed in the slot of all claims and in those of its terms
-pub occupied : (c : ClaimValue) (s : Slot) → with_first (slots_of c.terms) s ≡ occupies s c
-occupied c Any = refl
-occupied c (OfGroup other) = slots-by (is_nil c.terms.key) (group_of c.terms) c.terms.ports (OfGroup other)
-occupied c (OfPort q other) = slots-by (is_nil c.terms.key) (group_of c.terms) c.terms.ports (OfPort q other)
+-- a claim is listed in the slot of all claims and in those of its group
+pub occupied : (group : Option ℕ) (ports : List Port) (s : NumberedSlot) → with_first (slots_by group ports) s ≡ is_slot_by group ports s
+occupied None ports Any = refl
+occupied (Some group) ports Any = refl
+occupied None ports (OfSharingGroup other) = refl
+occupied None ports (OfPort q other) = refl
+occupied (Some group) ports (OfSharingGroup other) = ap (λ b. (group == other) || b) (no-group group other ports) ∙ or-none (group == other)
+occupied (Some group) ports (OfPort q other) = over-ports group other ports q ∙ port-by (group == other) ports q
 
 -- it is listed in each of these
-pub occupied-each : (c : ClaimValue) (s : Slot) → Contains (slots_of c.terms) s → occupies s c ≡ true
-occupied-each c s there =
-    sym (occupied c s) ∙ or_right (same_slot Any s) (list_any (λ x. same_slot x s) (slots_of c.terms))
-    (any-contains (λ x. same_slot x s) (slots_of c.terms) s there (same_slot-itself s))
+pub occupied-each : (group : Option ℕ) (ports : List Port) (s : NumberedSlot) → Contains (slots_by group ports) s → is_slot_by group ports s ≡ true
+occupied-each group ports s there =
+    sym (occupied group ports s) ∙ or_right (same_slot Any s) (list_any (λ x. same_slot x s) (slots_by group ports))
+    (any-contains (λ x. same_slot x s) (slots_by group ports) s there (same_slot-itself s))
 
 never-less : (port : Port) → port_cmp port port ≡ Less → ⊥
 never-less port less =
     let both : Less ≡ Greater = sym less ∙ port_cmp-total.antisymm port port ∙ ap ordering_reverse less in cc
 
-other-ports : (group : List ℕ) (port : Port) (ports : List Port) → AllByRecursion (λ q. port_cmp port q ≡ Less) ports
+other-ports : (group : ℕ) (port : Port) (ports : List Port) → AllByRecursion (λ q. port_cmp port q ≡ Less) ports
     → list_any (same_slot (OfPort port group)) (port_slots group ports) ≡ false
 other-ports group port [] less = refl
 other-ports group port (q ∷ qs) less =
     let apart : same_port port q ≡ false =
     false_from_ne_true (same_port port q) (λ e. never-less port (subst (λ p. port_cmp port p ≡ Less) (sym (same_port-is port q e)) less.0)) in
-    ap (λ b. (b && bytes_eq group group) || list_any (same_slot (OfPort port group)) (port_slots group qs)) apart ∙ other-ports group port qs less.1
+    ap (λ b. (b && (group == group)) || list_any (same_slot (OfPort port group)) (port_slots group qs)) apart ∙ other-ports group port qs less.1
 
-no-ports : (group : List ℕ) (ports : List Port) → list_any (same_slot (OfGroup group)) (port_slots group ports) ≡ false
+no-ports : (group : ℕ) (ports : List Port) → list_any (same_slot (OfSharingGroup group)) (port_slots group ports) ≡ false
 no-ports group [] = refl
 no-ports group (p ∷ ps) = no-ports group ps
 
-ports-apart : (group : List ℕ) (ports : List Port) → AreAscending ports → AreApart (port_slots group ports)
+ports-apart : (group : ℕ) (ports : List Port) → AreAscending ports → AreApart (port_slots group ports)
 unfolding IsStrictlySortedBy
 ports-apart group [] up = tt
 ports-apart group (p ∷ ps) up = (refl, other-ports group p ps up.0, ports-apart group ps up.1)
 
 -- the slots of ports that ascend are apart
-pub shared-apart : (group : List ℕ) (ports : List Port) → AreAscending ports → AreApart (shared_slots group ports)
+pub shared-apart : (group : ℕ) (ports : List Port) → AreAscending ports → AreApart (shared_slots group ports)
 shared-apart group ports up = (refl, no-ports group ports, ports-apart group ports up)
 
--- the slots of the ports so far
-pub shared-more : (group : List ℕ) (ports : List Port) (i : ℕ) (d : Port) → i < length ports
-    → shared_slots group (take (i + 1) ports) ≡ shared_slots group (take i ports) ++ OfPort (get_or ports i d) group ∷ []
-shared-more group ports i d within =
-    ap (λ (ps : List Port). shared_slots group ps) (ap (λ n. take n ports) (add-one i) ∙ take-suc ports i d within)
-    ∙ ap (λ (xs : List Slot). OfGroup group ∷ xs) (mapped (take i ports) (get_or ports i d))
+-- the slots as a walk over the ports comes to them
+map-at : (group : ℕ) (ports : List Port) (i : ℕ) (port : Port) → get_or (port_slots group ports) i (OfPort port group) ≡ OfPort (get_or ports i port) group
+map-at group [] zero port = refl
+map-at group [] (suc i) port = refl
+map-at group (q ∷ ports) zero port = refl
+map-at group (q ∷ ports) (suc i) port = map-at group ports i port
+
+pub slot-at : (group : ℕ) (ports : List Port) (i : ℕ) (port : Port) → port ≡ get_or ports i port
+    → OfPort port group ≡ get_or (shared_slots group ports) (i + 1) (OfPort port group)
+slot-at group ports i port is =
+    ap (λ (p : Port). OfPort p group) is ∙ sym (map-at group ports i port)
+    ∙ ap (λ n. get_or (shared_slots group ports) n (OfPort port group)) (sym (add-one i))
+
+-- the port that a walk comes to
+abbrev pub no_port : Port
+no_port = record { protocol = Tcp; port = 0 }
+
+pub port-there : (ports : List Port) (i : ℕ) (d e : Port) → i < length ports → get_or ports i d ≡ get_or ports i e
+port-there [] i d e within = absurd (omega (arith, within))
+port-there (p ∷ ps) zero d e within = refl
+port-there (p ∷ ps) (suc i) d e within = port-there ps i d e (omega (arith, within))
+
+pub slots-many : (group : ℕ) (ports : List Port) → length (shared_slots group ports) ≡ length ports + 1
+slots-many group ports = omega (arith, many ports)
   where
-    mapped : (ps : List Port) (p : Port) → port_slots group (ps ++ p ∷ []) ≡ port_slots group ps ++ OfPort p group ∷ []
-    mapped [] p = refl
-    mapped (q ∷ qs) p = ap (λ (xs : List Slot). OfPort q group ∷ xs) (mapped qs p)
+    many : (ps : List Port) → length (port_slots group ps) ≡ length ps
+    many [] = refl
+    many (p ∷ ps) = ap (λ n. suc n) (many ps)
+
+-- a port of the walk is one of the ports, and its slot one of those of the group
+pub contains-at : (ports : List Port) (i : ℕ) (port : Port) → i < length ports → port ≡ get_or ports i port → Contains ports port
+contains-at ports i port within is = subst (λ (p : Port). Contains ports p) (sym is) (Contains-get_or ports i port within)
+
+pub occupied-port : (group : ℕ) (ports : List Port) (port : Port) → Contains ports port → is_slot_by (Some group) ports (OfPort port group) ≡ true
+occupied-port group ports port there =
+    and_from (group == group) (has_port ports port) (eq-eqb group group refl) (any-contains (same_port port) ports port there (same_port-itself port))
 
 -- ---- room
 
 -- as much room or more
-room-kept : (before after : AddressHoldersValue) (more : ℕ) (slot : Slot) (addresses : List AddressValue)
+room-kept : (before after : AddressHoldersValue) (more : ℕ) (slot : NumberedSlot) (addresses : List AddressValue)
     → ((a : AddressValue) → claim_room before slot a ≤ claim_room after slot a)
     → ((family : Family) → address_room before slot family ≤ address_room after slot family)
     → HasRoomAt before more slot addresses → HasRoomAt after more slot addresses
@@ -222,21 +241,21 @@ room-kept before after more slot addresses claims families room = record {
 }
 
 -- There is room in each of the slots.
-abbrev pub HasRoomIn : AddressHoldersValue → ℕ → List AddressValue → (Slot → Bool) → Type 0
-HasRoomIn h more addresses slots = (s : Slot) → slots s ≡ true → HasRoomAt h more s addresses
+abbrev pub HasRoomIn : AddressHoldersValue → ℕ → List AddressValue → (NumberedSlot → Bool) → Type 0
+HasRoomIn h more addresses slots = (s : NumberedSlot) → slots s ≡ true → HasRoomAt h more s addresses
 
 -- there is room in one slot more, and those before keep theirs
-pub room-next : (before after : AddressHoldersValue) (more : ℕ) (addresses : List AddressValue) (slots grown : Slot → Bool) (x : Slot)
-    → ((s : Slot) → grown s ≡ (slots s || same_slot x s))
+pub room-next : (before after : AddressHoldersValue) (more : ℕ) (addresses : List AddressValue) (slots grown : NumberedSlot → Bool) (x : NumberedSlot)
+    → ((s : NumberedSlot) → grown s ≡ (slots s || same_slot x s))
     → HasRoomIn before more addresses slots
-    → ((s : Slot) (a : AddressValue) → claim_room before s a ≤ claim_room after s a)
-    → ((s : Slot) (family : Family) → address_room before s family ≤ address_room after s family)
+    → ((s : NumberedSlot) (a : AddressValue) → claim_room before s a ≤ claim_room after s a)
+    → ((s : NumberedSlot) (family : Family) → address_room before s family ≤ address_room after s family)
     → HasRoomAt after more x addresses
     → HasRoomIn after more addresses grown
 room-next before after more addresses slots grown x grows room claims families here s e =
     ⊎_elim
     (λ old. room-kept before after more s addresses (claims s) (families s) (room s old))
-    (λ new. subst (λ (t : Slot). HasRoomAt after more t addresses) (same_slot-is x s new) here)
+    (λ new. subst (λ (t : NumberedSlot). HasRoomAt after more t addresses) (same_slot-is x s new) here)
     (or_cases (slots s) (same_slot x s) (sym (grows s) ∙ e))
 
 -- there is no slot yet
@@ -244,77 +263,78 @@ pub room-none : (h : AddressHoldersValue) (more : ℕ) (addresses : List Address
 room-none h more addresses s e = absurd (true≢false (sym e))
 
 -- and where there is room in all slots of the claim, there is in each in which it is listed
-pub room-all : (h : AddressHoldersValue) (more : ℕ) (addresses : List AddressValue) (c : ClaimValue) (slots : List Slot) (i : ℕ) → length slots ≤ i
-    → slots ≡ slots_of c.terms → HasRoomIn h more addresses (with_first (take i slots)) → (s : Slot) → occupies s c ≡ true → HasRoomAt h more s addresses
-room-all h more addresses c slots i passed is room s e =
-    room s (ap (λ (xs : List Slot). with_first xs s) (take_all i slots passed ∙ is) ∙ occupied c s ∙ e)
+pub room-all : (h : AddressHoldersValue) (more : ℕ) (addresses : List AddressValue) (group : Option ℕ) (ports : List Port) (slots : List NumberedSlot)
+    → slots ≡ slots_by group ports → HasRoomIn h more addresses (with_first slots) → (s : NumberedSlot) → is_slot_by group ports s ≡ true
+    → HasRoomAt h more s addresses
+room-all h more addresses group ports slots is room s e =
+    room s (ap (λ (xs : List NumberedSlot). with_first xs s) is ∙ occupied group ports s ∙ e)
 
 -- ---- the lists of claims
 
 -- a slot that stays has the same claims
-claims-same : (before after : AddressHoldersValue) (slot : Slot) → in_slot after slot ≡ in_slot before slot
+claims-same : (before after : AddressHoldersValue) (slot : NumberedSlot) → in_slot after slot ≡ in_slot before slot
     → claims_having after slot ≡ claims_having before slot
 claims-same before after slot same = λ i a. claims_at (same i a.family) a.number
 
 -- room in the slots of the claim, once it is listed in that of all claims
-pub room-start : (before after : AddressHoldersValue) (more : ℕ) (addresses : List AddressValue) (c : ClaimValue) (slots : List Slot)
-    → slots ≡ slots_of c.terms → AreApart slots
-    → ((s : Slot) → occupies s c ≡ true → HasRoomAt before more s addresses)
-    → ((s : Slot) → same_slot Any s ≡ false → in_slot after s ≡ in_slot before s)
-    → (s : Slot) → Contains slots s → HasRoomAt after more s addresses
-room-start before after more addresses c slots are apart room others s there =
-    room-same before after more s addresses (others s (apart-first slots s apart there))
-    (room s (occupied-each c s (subst (λ (xs : List Slot). Contains xs s) are there)))
+pub room-start : (before after : AddressHoldersValue) (more : ℕ) (addresses : List AddressValue) (group : Option ℕ) (ports : List Port)
+    → AreApart (slots_by group ports)
+    → ((s : NumberedSlot) → is_slot_by group ports s ≡ true → HasRoomAt before more s addresses)
+    → ((s : NumberedSlot) → same_slot Any s ≡ false → in_slot after s ≡ in_slot before s)
+    → (s : NumberedSlot) → Contains (slots_by group ports) s → HasRoomAt after more s addresses
+room-start before after more addresses group ports apart room others s there =
+    room-same before after more s addresses (others s (apart-first (slots_by group ports) s apart there)) (room s (occupied-each group ports s there))
 
 -- there is room in the slot that comes next
-pub room-here : (h : AddressHoldersValue) (more : ℕ) (addresses : List AddressValue) (slots : List Slot) (i : ℕ) (x : Slot) → i < length slots
-    → x ≡ get_or slots i x → ((s : Slot) → Contains (drop i slots) s → HasRoomAt h more s addresses) → HasRoomAt h more x addresses
+pub room-here : (h : AddressHoldersValue) (more : ℕ) (addresses : List AddressValue) (slots : List NumberedSlot) (i : ℕ) (x : NumberedSlot) → i < length slots
+    → x ≡ get_or slots i x → ((s : NumberedSlot) → Contains (drop i slots) s → HasRoomAt h more s addresses) → HasRoomAt h more x addresses
 room-here h more addresses slots i x within is room =
-    let next : Slot = get_or slots i x in
-    subst (λ (s : Slot). HasRoomAt h more s addresses) (sym is)
-    (room next (subst (λ (xs : List Slot). Contains xs next) (sym (slots-rest slots i x within)) (contains-first next (drop (i + 1) slots))))
+    let next : NumberedSlot = get_or slots i x in
+    subst (λ (s : NumberedSlot). HasRoomAt h more s addresses) (sym is)
+    (room next (subst (λ (xs : List NumberedSlot). Contains xs next) (sym (slots-rest slots i x within)) (contains-first next (drop (i + 1) slots))))
 
 -- and then in those behind it
-pub room-behind : (before after : AddressHoldersValue) (more : ℕ) (addresses : List AddressValue) (slots : List Slot) (i : ℕ) (x : Slot) → i < length slots
-    → x ≡ get_or slots i x → AreApart slots
-    → ((s : Slot) → Contains (drop i slots) s → HasRoomAt before more s addresses)
-    → ((s : Slot) → same_slot x s ≡ false → in_slot after s ≡ in_slot before s)
-    → (s : Slot) → Contains (drop (i + 1) slots) s → HasRoomAt after more s addresses
+pub room-behind : (before after : AddressHoldersValue) (more : ℕ) (addresses : List AddressValue) (slots : List NumberedSlot) (i : ℕ) (x : NumberedSlot)
+    → i < length slots → x ≡ get_or slots i x → AreApart slots
+    → ((s : NumberedSlot) → Contains (drop i slots) s → HasRoomAt before more s addresses)
+    → ((s : NumberedSlot) → same_slot x s ≡ false → in_slot after s ≡ in_slot before s)
+    → (s : NumberedSlot) → Contains (drop (i + 1) slots) s → HasRoomAt after more s addresses
 room-behind before after more addresses slots i x within is apart room others s there =
-    let next : Slot = get_or slots i x in
-    room-same before after more s addresses (others s (ap (λ (y : Slot). same_slot y s) is ∙ not-behind slots i x s within apart there))
-    (room s (subst (λ (xs : List Slot). Contains xs s) (sym (slots-rest slots i x within)) (contains-later next (drop (i + 1) slots) s there)))
+    let next : NumberedSlot = get_or slots i x in
+    room-same before after more s addresses (others s (ap (λ (y : NumberedSlot). same_slot y s) is ∙ not-behind slots i x s within apart there))
+    (room s (subst (λ (xs : List NumberedSlot). Contains xs s) (sym (slots-rest slots i x within)) (contains-later next (drop (i + 1) slots) s there)))
 
 module _ (more : AddressValue → List ℕ) where
   -- what is listed in the slot, and more where it is one of the slots
-  abbrev pub with_more : AddressHoldersValue → (Slot → Bool) → Slot → AddressValue → List ℕ
+  abbrev pub with_more : AddressHoldersValue → (NumberedSlot → Bool) → NumberedSlot → AddressValue → List ℕ
   with_more h slots s a = claims_having h s a ++ (if slots s then more a else [])
 
   -- nothing more yet
-  pub listed-none : (h : AddressHoldersValue) (s : Slot) → claims_having h s ≡ with_more h no_slot s
+  pub listed-none : (h : AddressHoldersValue) (s : NumberedSlot) → claims_having h s ≡ with_more h no_slot s
   listed-none h s = λ j a. sym (append-nil (claims_having h s a)) j
 
   -- the claim is listed in one slot more
-  module _ (old before : AddressHoldersValue) (slots : Slot → Bool) (x : Slot) (listed : (s : Slot) → claims_having before s ≡ with_more old slots s)
+  module _ (old before : AddressHoldersValue) (slots : NumberedSlot → Bool) (x : NumberedSlot)
+      (listed : (s : NumberedSlot) → claims_having before s ≡ with_more old slots s)
       (apart : slots x ≡ false) where
-    abbrev kept : Slot → Bool → AddressValue → List ℕ
+    abbrev kept : NumberedSlot → Bool → AddressValue → List ℕ
     kept t b a = claims_having old t a ++ (if b then more a else [])
 
     same-yet : claims_having before x ≡ claims_having old x
     same-yet = listed x ∙ ap (kept x) apart ∙ (λ j a. append-nil (claims_having old x a) j)
 
     -- it isn't listed there yet
-    pub fresh-next : (n : ℕ) → ((s : Slot) (a : AddressValue) → Contains (claims_having old s a) n → ⊥) → (a : AddressValue)
+    pub fresh-next : (n : ℕ) → ((a : AddressValue) → Contains (claims_having old x a) n → ⊥) → (a : AddressValue)
         → Contains (claims_having before x a) n → ⊥
-    fresh-next n fresh a there = fresh x a (subst (λ (f : AddressValue → List ℕ). Contains (f a) n) same-yet there)
+    fresh-next n fresh a there = fresh a (subst (λ (f : AddressValue → List ℕ). Contains (f a) n) same-yet there)
 
-    pub listed-next : (after : AddressHoldersValue) (grown : Slot → Bool) → ((s : Slot) → grown s ≡ (slots s || same_slot x s))
+    pub listed-next : (after : AddressHoldersValue) (grown : NumberedSlot → Bool) → ((s : NumberedSlot) → grown s ≡ (slots s || same_slot x s))
         → claims_having after x ≡ (λ a. claims_having before x a ++ more a)
-        → ((s : Slot) → same_slot x s ≡ false → in_slot after s ≡ in_slot before s)
-        → (s : Slot) → claims_having after s ≡ with_more old grown s
+        → ((s : NumberedSlot) → same_slot x s ≡ false → in_slot after s ≡ in_slot before s)
+        → (s : NumberedSlot) → claims_having after s ≡ with_more old grown s
     listed-next after grown grows here others s =
         ⊎_elim
-        (λ same. subst (λ (t : Slot). claims_having after t ≡ with_more old grown t) (same_slot-is x s same) at-next)
+        (λ same. subst (λ (t : NumberedSlot). claims_having after t ≡ with_more old grown t) (same_slot-is x s same) at-next)
         (λ differs. claims-same before after s (others s differs) ∙ listed s ∙ ap (kept s) (sym (grows s ∙ ap (λ b. slots s || b) differs ∙ or-none (slots s))))
         (cases_Bool (same_slot x s))
       where
@@ -325,9 +345,15 @@ module _ (more : AddressValue → List ℕ) where
             ∙ ap (kept x) (sym (grows x ∙ or_right (slots x) (same_slot x x) (same_slot-itself x)))
 
   -- once no slot is left
-  pub listed-each : (old h : AddressHoldersValue) (c : ClaimValue) (slots : List Slot) (i : ℕ) → length slots ≤ i → slots ≡ slots_of c.terms
-      → ((s : Slot) → claims_having h s ≡ with_more old (with_first (take i slots)) s) → (s : Slot)
-      → claims_having h s ≡ with_more old (λ x. occupies x c) s
-  listed-each old h c slots i passed is listed s =
-      listed s ∙ ap (λ (xs : List Slot). with_more old (with_first xs) s) (take_all i slots passed ∙ is)
-      ∙ (λ j a. claims_having old s a ++ (if occupied c s j then more a else []))
+  pub listed-each : (old h : AddressHoldersValue) (group : Option ℕ) (ports : List Port) (slots : List NumberedSlot) → slots ≡ slots_by group ports
+      → ((s : NumberedSlot) → claims_having h s ≡ with_more old (with_first slots) s) → (s : NumberedSlot)
+      → claims_having h s ≡ with_more old (is_slot_by group ports) s
+  listed-each old h group ports slots is listed s =
+      listed s ∙ ap (λ (xs : List NumberedSlot). with_more old (with_first xs) s) is
+      ∙ (λ j a. claims_having old s a ++ (if occupied group ports s j then more a else []))
+
+-- the slots of the group and of all ports, once none of these is left
+pub slots-all : (group : ℕ) (ports shown : List Port) (i : ℕ) → shown ≡ ports → length shown ≤ i
+    → take (i + 1) (shared_slots group shown) ≡ slots_by (Some group) ports
+slots-all group ports shown i are passed =
+    take_all (i + 1) (shared_slots group shown) (omega (arith, slots-many group shown)) ∙ ap (λ (ps : List Port). shared_slots group ps) are

@@ -1,6 +1,6 @@
 -- An index of claims that gets room, or one claim more.
 use Rattle.std.proofs.Common.{◌≡◌, ℕ, ◌+◌, ◌-◌, ◌<◌, ◌≤◌, Bool, true, false, cond, if◌then◌else◌, ◌==◌, ◌||◌, List, [], ◌∷◌, ◌++◌, length, filter, take}
-use Rattle.std.proofs.Common.{drop, get_or, suc, Option, Some, None, refl, sym, ap, subst, ◌∙◌, arith, append_assoc, add-one, ⊎_elim, eqb-true, take_all}
+use Rattle.std.proofs.Common.{drop, get_or, suc, Option, Some, None, refl, sym, ap, subst, ◌∙◌, arith, append_assoc, add-one, ⊎_elim, inl, eqb-true, take_all}
 use Rattle.std.proofs.lemmas.Bool.{eq-eqb, true≢false}
 use Rattle.std.proofs.lemmas.Bool.Decides.{nat_tests, same_from_decides}
 use Rattle.std.proofs.lemmas.List.{map-append, append-nil, length-append}
@@ -23,11 +23,16 @@ use Rattle.mlb_base.proofs.Among.{contains-none, contains-cons, contains-first, 
 use Rattle.numbered_items.specs.Index.{IndexValue, numbers_under, room_under}
 use Rattle.claim_index.specs.Claims.{AreAssigned, ClaimValue}
 use Rattle.claim_index.specs.Room.{HasRoomFor}
-use Rattle.claim_index.specs.declared.slot.Slot.{Slot}
-use Rattle.claim_index.specs.Slots.{occupies}
-use Rattle.claim_index.specs.Groups.{HasGroup}
-use Rattle.claim_index.specs.Holders.{AddressHoldersValue, ClaimantsValue, HasRoomAt, in_slot, claim_room_at, claims_having, claim_room, address_room}
-use Rattle.claim_index.specs.Index.{IsIndexed, HaveGroups, numbers_of, numbers_at, numbered, numbered_at, ends_with}
+use Rattle.claim_index.specs.declared.slot.NumberedSlot.{NumberedSlot}
+use Rattle.claim_index.specs.declared.slot.NumberedSlot.TheVariants.{OfSharingGroup, OfPort}
+use Rattle.claim_index.specs.GroupNumbers.{GroupsValue, AreNumbered, AreMore, HasNumber, number_for}
+use Rattle.claim_index.specs.NumberedSlots.{is_slot_by, numbered_slot}
+use Rattle.claim_index.specs.Slots.{Slot, occupies}
+use Rattle.claim_index.specs.SharingGroups.{HasSharingGroup}
+use Rattle.claim_index.specs.Holders.{AddressHoldersValue, ClaimantsValue, HasRoomAt, IsUnused, in_slot, claim_room_at, claims_having, claims_in, listed_in}
+use Rattle.claim_index.specs.Holders.{claim_room, address_room}
+use Rattle.claim_index.proofs.NumberLaws.{added-in, added-unused, more-in, more-unused}
+use Rattle.claim_index.specs.Index.{IsIndexed, HaveSharingGroups, numbers_of, numbers_at, numbered, numbered_at, ends_with}
 
 same_address-flip : (a b : AddressValue) → same_address a b ≡ same_address b a
 same_address-flip a b =
@@ -58,7 +63,7 @@ ends-put n before =
     ∙ eq-eqb n n refl
 
 -- ---- room at addresses
-pub room-none : (h : AddressHoldersValue) (more : ℕ) (slot : Slot) → HasRoomAt h more slot []
+pub room-none : (h : AddressHoldersValue) (more : ℕ) (slot : NumberedSlot) → HasRoomAt h more slot []
 room-none h more slot = record { by_claims = λ a none. absurd (contains-none a none); by_family = λ a none. absurd (contains-none a none) }
 
 pub taken-more : (addresses : List AddressValue) (i : ℕ) (x : AddressValue) → i < length addresses → x ≡ get_or addresses i x
@@ -71,7 +76,7 @@ rest-of addresses i x within is =
     drop-cons addresses i x within ∙ ap (λ y. y ∷ drop (suc i) addresses) (sym is) ∙ ap (λ n. x ∷ drop n addresses) (sym (add-one i))
 
 -- one address more has room, and those before keep theirs
-pub room-more : (before after : AddressHoldersValue) (more : ℕ) (slot : Slot) (addresses : List AddressValue) (i : ℕ) (x : AddressValue)
+pub room-more : (before after : AddressHoldersValue) (more : ℕ) (slot : NumberedSlot) (addresses : List AddressValue) (i : ℕ) (x : AddressValue)
     → i < length addresses → x ≡ get_or addresses i x → HasRoomAt before more slot (take i addresses)
     → ((a : AddressValue) → claim_room before slot a ≤ claim_room after slot a)
     → ((family : Family) → address_room before slot family ≤ address_room after slot family)
@@ -89,7 +94,7 @@ room-more before after more slot addresses i x within is room claims families cl
     })
 
 -- the same room
-pub room-same : (before after : AddressHoldersValue) (more : ℕ) (slot : Slot) (addresses : List AddressValue) → in_slot after slot ≡ in_slot before slot
+pub room-same : (before after : AddressHoldersValue) (more : ℕ) (slot : NumberedSlot) (addresses : List AddressValue) → in_slot after slot ≡ in_slot before slot
     → HasRoomAt before more slot addresses → HasRoomAt after more slot addresses
 room-same before after more slot addresses same room = record {
   by_claims = λ a there. subst (λ (f : Family → ClaimantsValue). 0 < claim_room_at (f a.family) a.number) (sym same) (room.by_claims a there);
@@ -97,18 +102,20 @@ room-same before after more slot addresses same room = record {
 }
 
 -- there is room for the claim
-pub room-claim : (room : ℕ) (keys : IndexValue Key) (h : AddressHoldersValue) (c : ClaimValue) (key : Key)
-    → 0 < room → 1 ≤ room_under key_cmp keys key → key ≡ c.key
-    → ((slot : Slot) → occupies slot c ≡ true → HasRoomAt h (length c.holding.addresses) slot c.holding.addresses)
-    → HasRoomFor (record { claims = room; keys = keys; holders = h }) c
-room-claim room keys h c key claim under same at = record {
+pub room-claim : (room : ℕ) (keys : IndexValue Key) (groups : GroupsValue) (h : AddressHoldersValue) (c : ClaimValue) (key : Key) (group : Option ℕ)
+    → 0 < room → 1 ≤ room_under key_cmp keys key → key ≡ c.key → HasNumber groups c.terms → group ≡ number_for groups c.terms
+    → ((slot : NumberedSlot) → is_slot_by group c.terms.ports slot ≡ true → HasRoomAt h (length c.holding.addresses) slot c.holding.addresses)
+    → HasRoomFor (record { claims = room; keys = keys; groups = groups; holders = h }) c
+room-claim room keys groups h c key group claim under same has is at = record {
   claim = claim;
   key = subst (λ (k : Key). 0 < room_under key_cmp keys k) same (omega (arith, under));
-  addresses = at;
+  group = has;
+  addresses = subst (λ (g : Option ℕ). (slot : NumberedSlot) → is_slot_by g c.terms.ports slot ≡ true
+      → HasRoomAt h (length c.holding.addresses) slot c.holding.addresses) is at;
 }
 
 -- There is room at the addresses from the index on: for a claim at each of them that doesn't stand ahead of the index, and for so many addresses.
-pub record HasRoomFrom (h : AddressHoldersValue) (slot : Slot) (addresses : List AddressValue) (i : ℕ) : Type 0 where
+pub record HasRoomFrom (h : AddressHoldersValue) (slot : NumberedSlot) (addresses : List AddressValue) (i : ℕ) : Type 0 where
   pub by_claims : (a : AddressValue) → Contains (drop i addresses) a → has_address (take i addresses) a ≡ false → 0 < claim_room h slot a
   pub by_family : (a : AddressValue) → Contains (drop i addresses) a → length (drop i addresses) ≤ address_room h slot a.family
 
@@ -138,7 +145,7 @@ module _ (addresses : List AddressValue) (i : ℕ) (x : AddressValue) (within : 
       parts false true e = absurd (true≢false e)
       parts false false e = (refl, refl)
 
-  module _ (slot : Slot) (before : AddressHoldersValue) (room : HasRoomFrom before slot addresses i) where
+  module _ (slot : NumberedSlot) (before : AddressHoldersValue) (room : HasRoomFrom before slot addresses i) where
     pub room-here : has_address (take i addresses) x ≡ false → (0 < claim_room before slot x) × (0 < address_room before slot x.family)
     room-here apart = (room.by_claims x here-first apart, omega (arith, shorter, room.by_family x here-first))
 
@@ -224,29 +231,41 @@ listed-all number start after addresses i passed each =
     λ j a. (each a ∙ ap (λ (taken : List AddressValue). start a ++ numbered number taken a) (take_all i addresses passed)) j
 
 -- ---- the index
-pub indexed-none : (items : List (ℕ × ClaimValue)) (keys : IndexValue Key) (h : AddressHoldersValue)
-    → items ≡ [] → numbers_under key_cmp keys ≡ (λ key. []) → ((slot : Slot) → claims_having h slot ≡ (λ a. [])) → IsIndexed items keys h
-indexed-none items keys h none no_keys no_holders =
-    let empty : IsIndexed [] keys h = record {
+listed-none : (h : AddressHoldersValue) → ((slot : NumberedSlot) → claims_having h slot ≡ (λ a. [])) → (o : Option NumberedSlot)
+    → ◌≡◌ {A = AddressValue → List ℕ} (λ a. listed_in h o a) (λ a. [])
+listed-none h no_holders None = refl
+listed-none h no_holders (Some slot) = no_holders slot
+
+pub indexed-none : (items : List (ℕ × ClaimValue)) (keys : IndexValue Key) (groups : GroupsValue) (h : AddressHoldersValue)
+    → items ≡ [] → numbers_under key_cmp keys ≡ (λ key. []) → ((slot : NumberedSlot) → claims_having h slot ≡ (λ a. [])) → IsIndexed items keys groups h
+indexed-none items keys groups h none no_keys no_holders =
+    let empty : IsIndexed [] keys groups h = record {
       assigned = λ c there. absurd (contains-none c there);
       keys = no_keys;
-      holders = no_holders;
+      holders = λ slot. listed-none h no_holders (numbered_slot groups slot);
+      unused = λ n from. record { group = no_holders (OfSharingGroup n); ports = λ port. no_holders (OfPort port n) };
       groups = λ c there. absurd (contains-none c there);
     } in
-    subst (λ (list : List (ℕ × ClaimValue)). IsIndexed list keys h) (sym none) empty
+    subst (λ (list : List (ℕ × ClaimValue)). IsIndexed list keys groups h) (sym none) empty
 
-pub indexed-kept : (items more : List (ℕ × ClaimValue)) (keys keys_after : IndexValue Key) (h h_after : AddressHoldersValue)
-    → IsIndexed items keys h → more ≡ items → numbers_under key_cmp keys_after ≡ numbers_under key_cmp keys
-    → ((slot : Slot) → claims_having h_after slot ≡ claims_having h slot)
-    → IsIndexed more keys_after h_after
-indexed-kept items more keys keys_after h h_after indexed same same_keys same_holders =
-    let kept : IsIndexed items keys_after h_after = record {
+pub indexed-kept : (items more : List (ℕ × ClaimValue)) (keys keys_after : IndexValue Key) (groups groups_after : GroupsValue)
+    (h h_after : AddressHoldersValue)
+    → IsIndexed items keys groups h → more ≡ items → numbers_under key_cmp keys_after ≡ numbers_under key_cmp keys → AreMore groups groups_after
+    → ((slot : NumberedSlot) → claims_having h_after slot ≡ claims_having h slot)
+    → IsIndexed more keys_after groups_after h_after
+indexed-kept items more keys keys_after groups groups_after h h_after indexed same same_keys grown same_holders =
+    let kept : IsIndexed items keys_after groups_after h_after = record {
       assigned = indexed.assigned;
       keys = same_keys ∙ indexed.keys;
-      holders = λ slot. same_holders slot ∙ indexed.holders slot;
+      holders = λ slot. more-in groups groups_after h h_after same_holders grown indexed.unused slot ∙ indexed.holders slot;
+      unused = more-unused groups groups_after h h_after same_holders grown indexed.unused;
       groups = indexed.groups;
     } in
-    subst (λ (list : List (ℕ × ClaimValue)). IsIndexed list keys_after h_after) (sym same) kept
+    subst (λ (list : List (ℕ × ClaimValue)). IsIndexed list keys_after groups_after h_after) (sym same) kept
+
+-- the same numbers
+pub same-numbers : (groups : GroupsValue) → AreMore groups groups
+same-numbers groups = record { each = λ group. inl refl; next = omega arith }
 
 pub found-added : (items : List (ℕ × ClaimValue)) (number : ℕ) (c : ClaimValue) → All (λ p. p.0 < number) items
     → lookup (λ n. n == number) (items ++ (number, c) ∷ []) ≡ Some c
@@ -277,18 +296,21 @@ numbers_at-added slot (p ∷ items) number c a =
     ap (λ ns. numbered_at slot a p ++ ns) (numbers_at-added slot items number c a)
     ∙ sym (append_assoc (numbered_at slot a p) (numbers_at slot a items) (numbered_at slot a (number, c)))
 
-pub indexed-added : (items more : List (ℕ × ClaimValue)) (number : ℕ) (c : ClaimValue) (keys keys_after : IndexValue Key) (h h_after : AddressHoldersValue)
-    → IsIndexed items keys h → more ≡ items ++ (number, c) ∷ [] → is_assigned c.holding ≡ true
+pub indexed-added : (items more : List (ℕ × ClaimValue)) (number : ℕ) (c : ClaimValue) (keys keys_after : IndexValue Key) (groups : GroupsValue)
+    (h h_after : AddressHoldersValue)
+    → IsIndexed items keys groups h → more ≡ items ++ (number, c) ∷ [] → is_assigned c.holding ≡ true
     → numbers_under key_cmp keys_after
     ≡ (λ key. cond (is_at (key_cmp c.key) key) (numbers_under key_cmp keys key ++ number ∷ []) (numbers_under key_cmp keys key))
-    → ((slot : Slot) → claims_having h_after slot ≡ (λ a. claims_having h slot a ++ numbered_at slot a (number, c)))
-    → HasGroup c.terms
-    → IsIndexed more keys_after h_after
-indexed-added items more number c keys keys_after h h_after indexed is assigned adds_key adds_holders grouped =
-    subst (λ (list : List (ℕ × ClaimValue)). IsIndexed list keys_after h_after) (sym is) (record {
+    → ((slot : Slot) → claims_in groups h_after slot ≡ (λ a. claims_in groups h slot a ++ numbered_at slot a (number, c)))
+    → ((n : ℕ) → groups.next ≤ n → IsUnused h_after n)
+    → HasSharingGroup c.terms
+    → IsIndexed more keys_after groups h_after
+indexed-added items more number c keys keys_after groups h h_after indexed is assigned adds_key adds_holders unused grouped =
+    subst (λ (list : List (ℕ × ClaimValue)). IsIndexed list keys_after groups h_after) (sym is) (record {
       assigned = assigned_all;
       keys = adds_key ∙ (λ i key. key-at key i);
       holders = λ slot. adds_holders slot ∙ (λ i a. address-at slot a i);
+      unused = unused;
       groups = groups_all;
     })
   where
@@ -307,14 +329,14 @@ indexed-added items more number c keys keys_after h h_after indexed is assigned 
         ∙ ap (λ (f : Key → List ℕ). cond (same_key c.key key) (f key ++ number ∷ []) (f key)) indexed.keys
         ∙ sym (numbers_of-added items number c key)
 
-    address-at : (slot : Slot) (a : AddressValue) → claims_having h slot a ++ numbered_at slot a (number, c) ≡ numbers_at slot a (items ++ (number, c) ∷ [])
+    address-at : (slot : Slot) (a : AddressValue) → claims_in groups h slot a ++ numbered_at slot a (number, c) ≡ numbers_at slot a (items ++ (number, c) ∷ [])
     address-at slot a =
         ap (λ (f : AddressValue → List ℕ). f a ++ numbered_at slot a (number, c)) (indexed.holders slot)
         ∙ sym (numbers_at-added slot items number c a)
 
-    groups_all : HaveGroups (values_of (items ++ (number, c) ∷ []))
+    groups_all : HaveSharingGroups (values_of (items ++ (number, c) ∷ []))
     groups_all x there =
-        ⊎_elim (λ old. indexed.groups x old) (λ new. subst (λ (y : ClaimValue). HasGroup y.terms) new grouped)
+        ⊎_elim (λ old. indexed.groups x old) (λ new. subst (λ (y : ClaimValue). HasSharingGroup y.terms) new grouped)
         (Contains-push_cases (values_of items) c x (subst (λ (claims : List ClaimValue). Contains claims x) values there))
 
 -- a number that is greater than all isn't listed yet
@@ -350,14 +372,23 @@ not-lost items more number c is fresh none =
 
 -- the same, of a key and a claim that are found
 pub indexed-pushed : (items more : List (ℕ × ClaimValue)) (number : ℕ) (c found : ClaimValue) (key : Key) (keys keys_after : IndexValue Key)
-    (h h_after : AddressHoldersValue)
-    → IsIndexed items keys h → more ≡ items ++ (number, c) ∷ [] → key ≡ c.key → found ≡ c → is_assigned c.holding ≡ true
+    (groups : GroupsValue) (h h_after : AddressHoldersValue) (group : Option ℕ)
+    → IsIndexed items keys groups h → AreNumbered groups → HasNumber groups c.terms → group ≡ number_for groups found.terms
+    → more ≡ items ++ (number, c) ∷ [] → key ≡ c.key → found ≡ c → is_assigned c.holding ≡ true
     → numbers_under key_cmp keys_after ≡ (λ k. cond (is_at (key_cmp key) k) (numbers_under key_cmp keys k ++ number ∷ []) (numbers_under key_cmp keys k))
-    → ((slot : Slot) → claims_having h_after slot ≡ (λ a. claims_having h slot a ++ numbered_at slot a (number, found)))
-    → HasGroup found.terms
-    → IsIndexed more keys_after h_after
-indexed-pushed items more number c found key keys keys_after h h_after indexed is key_is found_is assigned adds_key adds_holders grouped =
+    → ((slot : NumberedSlot) → claims_having h_after slot
+    ≡ (λ a. claims_having h slot a ++ (if is_slot_by group found.terms.ports slot then numbered number found.holding.addresses a else [])))
+    → HasSharingGroup found.terms
+    → IsIndexed more keys_after groups h_after
+indexed-pushed items more number c found key keys keys_after groups h h_after group indexed are has group_is is key_is found_is assigned adds_key adds_holders
+    grouped =
     let list_by : Key → Key → List ℕ = λ term k. cond (is_at (key_cmp term) k) (numbers_under key_cmp keys k ++ number ∷ []) (numbers_under key_cmp keys k) in
-    indexed-added items more number c keys keys_after h h_after indexed is assigned (adds_key ∙ ap list_by key_is)
-    (λ slot. adds_holders slot ∙ ap (λ (x : ClaimValue). λ (a : AddressValue). claims_having h slot a ++ numbered_at slot a (number, x)) found_is)
-    (subst (λ (x : ClaimValue). HasGroup x.terms) found_is grouped)
+    let listing : Option ℕ → ClaimValue → NumberedSlot → AddressValue → List ℕ =
+    λ g x slot a. claims_having h slot a ++ (if is_slot_by g x.terms.ports slot then numbered number x.holding.addresses a else []) in
+    let adds : (slot : NumberedSlot) → claims_having h_after slot ≡ listing (number_for groups c.terms) c slot =
+    λ slot. adds_holders slot ∙ ap (λ (g : Option ℕ). listing g found slot) group_is
+    ∙ ap (λ (x : ClaimValue). listing (number_for groups x.terms) x slot) found_is in
+    indexed-added items more number c keys keys_after groups h h_after indexed is assigned (adds_key ∙ ap list_by key_is)
+    (added-in groups are h h_after c (numbered number c.holding.addresses) adds has)
+    (λ n from. added-unused groups are h h_after c (numbered number c.holding.addresses) adds n from (indexed.unused n from))
+    (subst (λ (x : ClaimValue). HasSharingGroup x.terms) found_is grouped)

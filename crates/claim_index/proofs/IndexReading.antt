@@ -17,9 +17,8 @@ use Rattle.mlb_base.specs.Items.{is_nil}
 use Rattle.mlb_base.proofs.Among.{contains-none, contains-cons}
 use Rattle.sharing_terms.specs.declared.terms.Terms.{Terms}
 use Rattle.sharing_terms.specs.Sharing.{may_share}
-use Rattle.claim_index.specs.declared.slot.Slot.{Slot}
-use Rattle.claim_index.specs.declared.slot.Slot.TheVariants.{Any}
-use Rattle.claim_index.specs.Slots.{occupies}
+use Rattle.claim_index.specs.declared.slot.NumberedSlot.{NumberedSlot}
+use Rattle.claim_index.specs.Slots.{Slot, Any, occupies}
 use Rattle.claim_index.specs.Claims.{ClaimValue, has_claims, loses, claims_it}
 use Rattle.claim_index.specs.Holders.{AddressHoldersValue, claims_having, address_of, is_held_in, is_open_in}
 use Rattle.claim_index.specs.Index.{numbers_of, numbered, numbers_at, is_taken, is_open}
@@ -251,9 +250,9 @@ not-not true = refl
 not-not false = refl
 
 -- ---- an address is held in a slot where a claim there has it
-pub held-is : (items : List (ℕ × ClaimValue)) (h : AddressHoldersValue) (slot : Slot) → claims_having h slot ≡ (λ a. numbers_at slot a items)
-    → (a : AddressValue) → is_held_in h slot a ≡ is_taken slot (values_of items) a
-held-is items h slot are a =
+pub held-is : (items : List (ℕ × ClaimValue)) (h : AddressHoldersValue) (listed : NumberedSlot) (slot : Slot)
+    → claims_having h listed ≡ (λ a. numbers_at slot a items) → (a : AddressValue) → is_held_in h listed a ≡ is_taken slot (values_of items) a
+held-is items h listed slot are a =
     ap (λ (f : AddressValue → List ℕ). not (is_nil (f a))) are
     ∙ ap not (nil-at a slot items)
     ∙ not-not (is_taken slot (values_of items) a)
@@ -268,9 +267,9 @@ pub has_claims-is : (key : Key) (items : List (ℕ × ClaimValue)) (numbers : Li
 has_claims-is key items numbers are = ap not (empty-is numbers ∙ ap is_nil are ∙ nil-of key items) ∙ not-not (has_claims key (values_of items))
 
 -- ---- an address has no claim where it has no number
-pub unheld-is : (avoiding : Bool) (items : List (ℕ × ClaimValue)) (h : AddressHoldersValue) (slot : Slot)
-    → claims_having h slot ≡ (λ a. numbers_at slot a items) → (family : Family)
-    → ◌≡◌ {A = ℕ → Bool} (λ m. is_open_in avoiding h slot (address_of family m)) (λ m. is_open avoiding slot (values_of items) (address_of family m))
-unheld-is avoiding items h slot are family =
+pub unclaimed-is : (avoiding : Bool) (items : List (ℕ × ClaimValue)) (h : AddressHoldersValue) (listed : NumberedSlot) (slot : Slot)
+    → claims_having h listed ≡ (λ a. numbers_at slot a items) → (family : Family)
+    → ◌≡◌ {A = ℕ → Bool} (λ m. is_open_in avoiding h listed (address_of family m)) (λ m. is_open avoiding slot (values_of items) (address_of family m))
+unclaimed-is avoiding items h listed slot are family =
     λ i m. not (avoiding && is_buggy (address_of family m))
     && (ap (λ (f : AddressValue → List ℕ). is_nil (f (address_of family m))) are ∙ nil-at (address_of family m) slot items) i

@@ -21,9 +21,10 @@ use Rattle.kube_model.proofs.KeyLaws.{is_eq-key_cmp}
 use Rattle.mlb_base.proofs.Among.{contains-none, contains-cons, contains-first, contains-later}
 use Rattle.numbered_items.specs.Index.{IndexValue, numbers_under}
 use Rattle.claim_index.specs.Claims.{AreAssigned, ClaimValue}
-use Rattle.claim_index.specs.Holders.{AddressHoldersValue, claims_having}
-use Rattle.claim_index.specs.Index.{numbers_of, numbered, numbered_at, numbers_at, HaveGroups, IsIndexed}
-use Rattle.claim_index.specs.declared.slot.Slot.{Slot}
+use Rattle.claim_index.specs.GroupNumbers.{GroupsValue}
+use Rattle.claim_index.specs.Holders.{AddressHoldersValue, claims_in}
+use Rattle.claim_index.specs.Index.{numbers_of, numbered, numbered_at, numbers_at, HaveSharingGroups, IsIndexed}
+use Rattle.claim_index.specs.Slots.{Slot}
 use Rattle.claim_index.specs.Slots.{occupies}
 use Rattle.claim_index.specs.Removal.{all_but, left_at}
 
@@ -151,7 +152,7 @@ among n (p ∷ items) c there =
 assigned-without : (n : ℕ) (items : List (ℕ × ClaimValue)) → AreAssigned (values_of items) → AreAssigned (values_of (without n items))
 assigned-without n items all c there = all c (among n items c there)
 
-groups-without : (n : ℕ) (items : List (ℕ × ClaimValue)) → HaveGroups (values_of items) → HaveGroups (values_of (without n items))
+groups-without : (n : ℕ) (items : List (ℕ × ClaimValue)) → HaveSharingGroups (values_of items) → HaveSharingGroups (values_of (without n items))
 groups-without n items all c there = all c (among n items c there)
 
 -- ---- the numbers of each key
@@ -276,12 +277,12 @@ slot-left true n slot c items only e = λ i a. at-left (has_address c.holding.ad
 slot-left false n slot c items only e =
     λ i a. sym (at-without n slot items a ∙ at-others n slot c items a only (λ occupied. absurd (true≢false (sym occupied ∙ e)))) i
 
-holders-left : (n : ℕ) (c : ClaimValue) (items : List (ℕ × ClaimValue)) (before after : AddressHoldersValue) → IsOnly n c items
-    → ((slot : Slot) → claims_having before slot ≡ (λ a. numbers_at slot a items))
+holders-left : (groups : GroupsValue) (n : ℕ) (c : ClaimValue) (items : List (ℕ × ClaimValue)) (before after : AddressHoldersValue) → IsOnly n c items
+    → ((slot : Slot) → claims_in groups before slot ≡ (λ a. numbers_at slot a items))
     → ((slot : Slot)
-    → claims_having after slot ≡ cond (occupies slot c) (left_at n c.holding.addresses (claims_having before slot)) (claims_having before slot))
-    → (slot : Slot) → claims_having after slot ≡ (λ a. numbers_at slot a (without n items))
-holders-left n c items before after only e change slot =
+    → claims_in groups after slot ≡ cond (occupies slot c) (left_at n c.holding.addresses (claims_in groups before slot)) (claims_in groups before slot))
+    → (slot : Slot) → claims_in groups after slot ≡ (λ a. numbers_at slot a (without n items))
+holders-left groups n c items before after only e change slot =
     change slot
     ∙ ap (λ (f : AddressValue → List ℕ). cond (occupies slot c) (left_at n c.holding.addresses f) f) (e slot)
     ∙ slot-left (occupies slot c) n slot c items only refl
@@ -306,8 +307,8 @@ module _ (n : ℕ) (items less : List (ℕ × ClaimValue)) (is : less ≡ withou
   pub removed-assigned : AreAssigned (values_of items) → AreAssigned (values_of less)
   removed-assigned all = subst (λ (l : List (ℕ × ClaimValue)). AreAssigned (values_of l)) (sym is) (assigned-without n items all)
 
-  pub removed-groups : HaveGroups (values_of items) → HaveGroups (values_of less)
-  removed-groups all = subst (λ (l : List (ℕ × ClaimValue)). HaveGroups (values_of l)) (sym is) (groups-without n items all)
+  pub removed-groups : HaveSharingGroups (values_of items) → HaveSharingGroups (values_of less)
+  removed-groups all = subst (λ (l : List (ℕ × ClaimValue)). HaveSharingGroups (values_of l)) (sym is) (groups-without n items all)
 
   module _ (c : ClaimValue) (found : Some c ≡ lookup (λ m. m == n) items) where
     only : IsOnly n c items
@@ -323,17 +324,17 @@ module _ (n : ℕ) (items less : List (ℕ × ClaimValue)) (is : less ≡ withou
         (subst (λ (q : Key). numbers_under key_cmp after
         ≡ (λ k. cond (is_at (key_cmp q) k) (all_but n (numbers_under key_cmp before k)) (numbers_under key_cmp before k))) same change))
 
-    pub removed-holders : (before after : AddressHoldersValue)
-        → ((slot : Slot) → claims_having before slot ≡ (λ a. numbers_at slot a items))
+    pub removed-holders : (groups : GroupsValue) (before after : AddressHoldersValue)
+        → ((slot : Slot) → claims_in groups before slot ≡ (λ a. numbers_at slot a items))
         → ((slot : Slot)
-        → claims_having after slot ≡ cond (occupies slot c) (left_at n c.holding.addresses (claims_having before slot)) (claims_having before slot))
-        → (slot : Slot) → claims_having after slot ≡ (λ a. numbers_at slot a less)
-    removed-holders before after e change =
-        subst (λ (l : List (ℕ × ClaimValue)). (slot : Slot) → claims_having after slot ≡ (λ a. numbers_at slot a l)) (sym is)
-        (holders-left n c items before after only e change)
+        → claims_in groups after slot ≡ cond (occupies slot c) (left_at n c.holding.addresses (claims_in groups before slot)) (claims_in groups before slot))
+        → (slot : Slot) → claims_in groups after slot ≡ (λ a. numbers_at slot a less)
+    removed-holders groups before after e change =
+        subst (λ (l : List (ℕ × ClaimValue)). (slot : Slot) → claims_in groups after slot ≡ (λ a. numbers_at slot a l)) (sym is)
+        (holders-left groups n c items before after only e change)
 
 -- where no claim has the number all stays
-pub indexed-still : (n : ℕ) (items less : List (ℕ × ClaimValue)) (by_key : IndexValue Key) (h : AddressHoldersValue) → less ≡ without n items
-    → None ≡ lookup (λ m. m == n) items → IsIndexed items by_key h → IsIndexed less by_key h
-indexed-still n items less by_key h is none indexed =
-    subst (λ (l : List (ℕ × ClaimValue)). IsIndexed l by_key h) (sym (is ∙ without-none n items (sym none))) indexed
+pub indexed-still : (n : ℕ) (items less : List (ℕ × ClaimValue)) (by_key : IndexValue Key) (groups : GroupsValue) (h : AddressHoldersValue)
+    → less ≡ without n items → None ≡ lookup (λ m. m == n) items → IsIndexed items by_key groups h → IsIndexed less by_key groups h
+indexed-still n items less by_key groups h is none indexed =
+    subst (λ (l : List (ℕ × ClaimValue)). IsIndexed l by_key groups h) (sym (is ∙ without-none n items (sym none))) indexed

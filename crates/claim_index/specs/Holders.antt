@@ -1,5 +1,5 @@
 -- Who has the addresses: by each address the numbers of the claims that have it.
-use Rattle.std.specs.Prelude.{◌≤◌, ◌<◌, ◌&&◌, not, ℕ, Bool, List, []}
+use Rattle.std.specs.Prelude.{◌≡◌, ◌≤◌, ◌<◌, ◌⊎◌, ◌&&◌, not, ℕ, Bool, List, [], Option, Some, None}
 use Rattle.std.specs.List.{Contains}
 use Rattle.std.specs.Map.{lookup}
 use Rattle.std.specs.Option.{unwrap_or}
@@ -10,8 +10,13 @@ use Rattle.ip_ranges.specs.Values.{AddressValue, is_buggy}
 use Rattle.mlb_base.specs.Items.{is_nil}
 use Rattle.number_sets.specs.Blocks.{is_edge}
 use Rattle.numbered_items.specs.Index.{IndexValue, numbers_under, room_under}
-use Rattle.claim_index.specs.declared.slot.Slot.{Slot}
-use Rattle.claim_index.specs.Slots.{same_slot}
+use Rattle.claim_index.specs.declared.slot.NumberedSlot.{NumberedSlot}
+use Rattle.claim_index.specs.declared.slot.NumberedSlot.TheVariants.{OfSharingGroup, OfPort}
+use Rattle.claim_index.specs.GroupNumbers.{GroupsValue, number_of}
+use Rattle.claim_index.specs.NumberedSlots.{same_slot, numbered_slot}
+use Rattle.claim_index.specs.Slots.{Slot}
+use Rattle.claim_index.specs.Slots as texts
+use Rattle.kube_model.specs.declared.port.Port.{Port}
 
 -- The claims that are listed in one slot at the addresses of one family, by their numbers.
 pub record ClaimantsValue : Type 0 where
@@ -20,7 +25,7 @@ pub record ClaimantsValue : Type 0 where
 
 -- Who has the addresses of one family, by their numbers: the claims in each slot.
 abbrev pub HoldersValue : Type 0
-HoldersValue = List (Slot × ClaimantsValue)
+HoldersValue = List (NumberedSlot × ClaimantsValue)
 
 -- Who has the addresses of both families.
 pub record AddressHoldersValue : Type 0 where
@@ -52,7 +57,7 @@ abbrev pub no_claimants : ClaimantsValue
 no_claimants = record { claims = []; room = 0 }
 
 -- the claims in the slot
-abbrev pub in_slot_at : HoldersValue → Slot → ClaimantsValue
+abbrev pub in_slot_at : HoldersValue → NumberedSlot → ClaimantsValue
 in_slot_at h slot = unwrap_or (lookup (same_slot slot) h) no_claimants
 
 -- the one of the family
@@ -61,31 +66,31 @@ of_family h V4 = h.v4
 of_family h V6 = h.v6
 
 -- the claims in the slot at addresses of the family
-abbrev pub in_slot : AddressHoldersValue → Slot → Family → ClaimantsValue
+abbrev pub in_slot : AddressHoldersValue → NumberedSlot → Family → ClaimantsValue
 in_slot h slot family = in_slot_at (of_family h family) slot
 
 -- the numbers of the claims in the slot that have the address
-abbrev pub claims_having : AddressHoldersValue → Slot → AddressValue → List ℕ
+abbrev pub claims_having : AddressHoldersValue → NumberedSlot → AddressValue → List ℕ
 claims_having h slot a = claims_at (in_slot h slot a.family) a.number
 
 -- no claim in the slot has the address, and it isn't a buggy one where those are avoided
-abbrev pub is_open_in : Bool → AddressHoldersValue → Slot → AddressValue → Bool
+abbrev pub is_open_in : Bool → AddressHoldersValue → NumberedSlot → AddressValue → Bool
 is_open_in avoiding h slot a = not (avoiding && is_buggy a) && is_nil (claims_having h slot a)
 
 -- a claim in the slot has the address
-abbrev pub is_held_in : AddressHoldersValue → Slot → AddressValue → Bool
+abbrev pub is_held_in : AddressHoldersValue → NumberedSlot → AddressValue → Bool
 is_held_in h slot a = not (is_nil (claims_having h slot a))
 
 -- how many claims more may be listed there without memory
-abbrev pub claim_room : AddressHoldersValue → Slot → AddressValue → ℕ
+abbrev pub claim_room : AddressHoldersValue → NumberedSlot → AddressValue → ℕ
 claim_room h slot a = claim_room_at (in_slot h slot a.family) a.number
 
 -- at how many addresses more of the family claims can be listed in the slot without memory
-abbrev pub address_room : AddressHoldersValue → Slot → Family → ℕ
+abbrev pub address_room : AddressHoldersValue → NumberedSlot → Family → ℕ
 address_room h slot family = (in_slot h slot family).room
 
 -- There is room in the slot for a claim more on each of the addresses, and for so many addresses.
-pub record HasRoomAt (h : AddressHoldersValue) (more : ℕ) (slot : Slot) (addresses : List AddressValue) : Type 0 where
+pub record HasRoomAt (h : AddressHoldersValue) (more : ℕ) (slot : NumberedSlot) (addresses : List AddressValue) : Type 0 where
   pub by_claims : (a : AddressValue) → Contains addresses a → 0 < claim_room h slot a
   pub by_family : (a : AddressValue) → Contains addresses a → more ≤ address_room h slot a.family
 
@@ -94,5 +99,25 @@ abbrev pub address_of : Family → ℕ → AddressValue
 address_of family n = record { family = family; number = n }
 
 -- a claim in the slot has the address of the family with this number, and none in the other
-abbrev pub is_held_but : AddressHoldersValue → Slot → Slot → Family → ℕ → Bool
+abbrev pub is_held_but : AddressHoldersValue → NumberedSlot → NumberedSlot → Family → ℕ → Bool
 is_held_but h slot fewer family n = is_held_in h slot (address_of family n) && not (is_held_in h fewer (address_of family n))
+
+-- the claims that are listed in the slot, by its number, and none where it has none
+abbrev pub listed_in : AddressHoldersValue → Option NumberedSlot → AddressValue → List ℕ
+listed_in h None a = []
+listed_in h (Some slot) a = claims_having h slot a
+
+-- the claims that are listed in the slot, under the number of its group
+abbrev pub claims_in : GroupsValue → AddressHoldersValue → Slot → AddressValue → List ℕ
+claims_in groups h slot a = listed_in h (numbered_slot groups slot) a
+
+-- No claim is listed in the slots of this number.
+pub record IsUnused (h : AddressHoldersValue) (n : ℕ) : Type 0 where
+  pub group : claims_having h (OfSharingGroup n) ≡ (λ a. [])
+  pub ports : (port : Port) → claims_having h (OfPort port n) ≡ (λ a. [])
+
+-- each group has the number that it had, or none where no claim was listed in its slot
+abbrev pub AreFewer : AddressHoldersValue → GroupsValue → GroupsValue → Type 0
+AreFewer h before after =
+    (group : List ℕ)
+    → (number_of after group ≡ number_of before group) ⊎ ((number_of after group ≡ None) × (claims_in before h (texts.OfSharingGroup group) ≡ (λ a. [])))

@@ -10,13 +10,13 @@ use Rattle.kube_model.specs.declared.port.Port.{Port}
 use Rattle.kube_model.specs.Keys.{key_cmp, same_key}
 use Rattle.sharing_terms.specs.declared.terms.Terms.{Terms}
 use Rattle.numbered_items.specs.Index.{IndexValue, numbers_under}
-use Rattle.claim_index.specs.declared.slot.Slot.{Slot}
-use Rattle.claim_index.specs.declared.slot.Slot.TheVariants.{OfGroup, OfPort}
-use Rattle.claim_index.specs.Groups.{HasGroup, group_of}
+use Rattle.claim_index.specs.Slots.{Slot, OfSharingGroup, OfPort}
+use Rattle.claim_index.specs.SharingGroups.{HasSharingGroup, sharing_group_of}
 use Rattle.claim_index.specs.Slots.{occupies}
 use Rattle.claim_index.specs.Claims.{AreAssigned, ClaimValue}
 use Rattle.claim_index.specs.Room.{IndexRoom}
-use Rattle.claim_index.specs.Holders.{AddressHoldersValue, claims_having, address_of}
+use Rattle.claim_index.specs.GroupNumbers.{GroupsValue}
+use Rattle.claim_index.specs.Holders.{AddressHoldersValue, IsUnused, claims_in, address_of}
 
 -- the numbers of the claims of the key
 abbrev pub numbers_of : Key → List (ℕ × ClaimValue) → List ℕ
@@ -49,7 +49,7 @@ is_taken slot claims a = list_any (λ c. occupies slot c && has_address c.holdin
 
 -- a claim of this group has the address
 abbrev pub is_shared : List ℕ → List ClaimValue → AddressValue → Bool
-is_shared group claims a = is_taken (OfGroup group) claims a
+is_shared group claims a = is_taken (OfSharingGroup group) claims a
 
 -- a claim of this group that has one of the ports has the address
 abbrev pub is_barred : List ℕ → List Port → List ClaimValue → AddressValue → Bool
@@ -57,22 +57,23 @@ is_barred group ports claims a = list_any (λ port. is_taken (OfPort port group)
 
 -- claims of the terms' group have the address, and none with a port of theirs does
 abbrev pub is_shareable : Terms → List ClaimValue → AddressValue → Bool
-is_shareable t claims a = is_shared (group_of t) claims a && not (is_barred (group_of t) t.ports claims a)
+is_shareable t claims a = is_shared (sharing_group_of t) claims a && not (is_barred (sharing_group_of t) t.ports claims a)
 
 -- no claim that is listed in the slot has the address, and it isn't a buggy one where those are avoided
 abbrev pub is_open : Bool → Slot → List ClaimValue → AddressValue → Bool
 is_open avoiding slot claims a = not (avoiding && is_buggy a) && not (is_taken slot claims a)
 
 -- the terms of each claim have a group
-abbrev pub HaveGroups : List ClaimValue → Type 0
-HaveGroups claims = (c : ClaimValue) → Contains claims c → HasGroup c.terms
+abbrev pub HaveSharingGroups : List ClaimValue → Type 0
+HaveSharingGroups claims = (c : ClaimValue) → Contains claims c → HasSharingGroup c.terms
 
--- The claims have addresses and groups, and these are what each is found by.
-pub record IsIndexed (items : List (ℕ × ClaimValue)) (by_key : IndexValue Key) (h : AddressHoldersValue) : Type 0 where
+-- The claims have addresses and groups, and these are what each is found by. Under numbers that no group had nothing is listed.
+pub record IsIndexed (items : List (ℕ × ClaimValue)) (by_key : IndexValue Key) (numbers : GroupsValue) (h : AddressHoldersValue) : Type 0 where
   pub assigned : AreAssigned (values_of items)
   pub keys : numbers_under key_cmp by_key ≡ (λ key. numbers_of key items)
-  pub holders : (slot : Slot) → claims_having h slot ≡ (λ a. numbers_at slot a items)
-  pub groups : HaveGroups (values_of items)
+  pub holders : (slot : Slot) → claims_in numbers h slot ≡ (λ a. numbers_at slot a items)
+  pub unused : (n : ℕ) → numbers.next ≤ n → IsUnused h n
+  pub groups : HaveSharingGroups (values_of items)
 
 -- no address of the family with a number from low on, below high, is one that terms like these may share by their ports
 abbrev pub NoneShareable : Family → Terms → List ClaimValue → ℕ → ℕ → Type 0

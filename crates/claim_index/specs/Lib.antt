@@ -1,6 +1,8 @@
 pub mod Alike
 pub mod Claims
-pub mod Groups
+pub mod GroupNumbers
+pub mod NumberedSlots
+pub mod SharingGroups
 pub mod Holders
 pub mod Index
 pub mod Reading

@@ -1,12 +1,15 @@
 -- What is asked of the claim under a number.
-use Rattle.std.specs.Prelude.{Bool, true, false, not, ◌&&◌, ◌||◌, Option, Some, None}
+use Rattle.std.specs.Prelude.{Bool, true, false, not, ◌&&◌, ◌||◌, List, Option, Some, None}
+use Rattle.std.specs.List.{list_all}
 use Rattle.ip_ranges.specs.Values.{AddressValue, has_address}
 use Rattle.kube_model.specs.declared.key.Key.{Key}
+use Rattle.kube_model.specs.declared.port.Port.{Port}
 use Rattle.kube_model.specs.declared.record.Record.{Record}
 use Rattle.kube_model.specs.Keys.{same_key}
 use Rattle.sharing_terms.specs.Sharing.{may_share}
 use Rattle.sharing_terms.specs.declared.terms.Terms.{Terms}
-use Rattle.claim_index.specs.declared.slot.Slot.{Slot}
+use Rattle.claim_index.specs.SharingGroups.{sharing_group_of}
+use Rattle.claim_index.specs.Slots.{Slot, OfPort}
 use Rattle.claim_index.specs.Alike.{are_alike}
 use Rattle.claim_index.specs.Slots.{occupies}
 use Rattle.claim_index.specs.Claims.{ClaimValue, is_under}
@@ -42,3 +45,7 @@ belongs key terms a c = not (has_address c.holding.addresses a) || (same_key c.k
 -- the claim leaves the address to a service of this key and these terms
 abbrev pub leaves : Key → Terms → AddressValue → ClaimValue → Bool
 leaves key terms a c = same_key c.key key || not (has_address c.holding.addresses a) || may_share terms c.terms
+
+-- each claim of the terms' group that has the port leaves the address, or is of the key
+abbrev pub yields_port : List ClaimValue → Key → Terms → AddressValue → Port → Bool
+yields_port claims key terms a port = list_all (yields key (OfPort port (sharing_group_of terms)) a) claims

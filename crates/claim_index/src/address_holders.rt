@@ -1,15 +1,15 @@
 //! Who has the addresses of both families.
-ghost use Rattle.std.specs.Prelude.{◌≡◌, ◌≤◌, ◌<◌, ◌+◌, ◌==◌, ◌∷◌, ◌++◌, [], true, false, not, filter, if◌then◌else◌, OnOk, IfSome, IfNone};
+ghost use Rattle.std.specs.Prelude.{◌≡◌, ◌≤◌, ◌<◌, ◌+◌, ◌==◌, ◌∷◌, ◌++◌, [], true, false, not, filter, if◌then◌else◌, IsTrue, OnOk, IfSome, IfNone};
 ghost use Rattle.ip_ranges.specs.declared.family.Family.{Family};
 ghost use Rattle.ip_ranges.specs.Values.{AddressValue, same_address};
 ghost use Rattle.mlb_base.specs.Items.{is_nil};
-ghost use Rattle.claim_index.specs.declared.slot.Slot.{Slot};
+ghost use Rattle.claim_index.specs.declared.slot.NumberedSlot.{NumberedSlot};
 ghost use Rattle.claim_index.specs.Holders.{in_slot, claims_having, claim_room, address_room, address_of, is_held_but, is_held_in, is_open_in};
-ghost use Rattle.claim_index.specs.Slots.{same_slot};
+ghost use Rattle.claim_index.specs.NumberedSlots.{same_slot};
 ghost use Rattle.number_sets.specs.Least.{IsLeastIn, NonePasses};
 
 use crate::holders::Holders;
-use crate::slot::Slot;
+use crate::slot::NumberedSlot;
 use ip_ranges::{Address, Family};
 use mlb_base::NoMemory;
 use std::alloc::Global;
@@ -33,7 +33,7 @@ impl Model for AddressHolders {
 impl AddressHolders {
     /// Nobody has an address. It takes no memory.
     pub(crate) fn new(alloc: Global) -> AddressHolders
-        ensures numbers { (slot : Slot) → claims_having result slot ≡ (λ a. []) }
+        ensures numbers { (slot : NumberedSlot) → claims_having result slot ≡ (λ a. []) }
     {
         AddressHolders {
             v4: Holders::new(alloc),
@@ -45,15 +45,15 @@ impl AddressHolders {
     /// memory the claims stay.
     pub(crate) fn reserve(
         &mut self,
-        slot: &Slot,
+        slot: &NumberedSlot,
         address: &Address,
         more: usize,
     ) -> Result<(), NoMemory>
-        ensures numbers { (s : Slot) → claims_having self.new s ≡ claims_having self.old s }
+        ensures numbers { (s : NumberedSlot) → claims_having self.new s ≡ claims_having self.old s }
         ensures claims { OnOk result (0 < claim_room self.new slot.now address.now) }
         ensures addresses { OnOk result (more ≤ address_room self.new slot.now address.now.family) }
-        ensures claims_kept { (s : Slot) (a : AddressValue) → claim_room self.old s a ≤ claim_room self.new s a }
-        ensures addresses_kept { (s : Slot) (family : Family) → address_room self.old s family ≤ address_room self.new s family }
+        ensures claims_kept { (s : NumberedSlot) (a : AddressValue) → claim_room self.old s a ≤ claim_room self.new s a }
+        ensures addresses_kept { (s : NumberedSlot) (family : Family) → address_room self.old s family ≤ address_room self.new s family }
     {
         match address.family {
             Family::V4 => self.v4.reserve(slot, address.number, more),
@@ -62,14 +62,14 @@ impl AddressHolders {
     }
 
     /// The claim is listed in the slot at the address. There is room for it, so it takes no memory.
-    pub(crate) fn add(&mut self, slot: &Slot, address: &Address, claim: u64)
+    pub(crate) fn add(&mut self, slot: &NumberedSlot, address: &Address, claim: u64)
         requires claims { 0 < claim_room self.old slot.now address.now }
         requires addresses { 0 < address_room self.old slot.now address.now.family }
         ensures numbers { claims_having self.new slot.now
             ≡ (λ a. if same_address address.now a then claims_having self.old slot.now a ++ claim ∷ [] else claims_having self.old slot.now a) }
         ensures claims { (a : AddressValue) → claim_room self.old slot.now a ≤ claim_room self.new slot.now a + (if same_address address.now a then 1 else 0) }
         ensures addresses { (family : Family) → address_room self.old slot.now family ≤ address_room self.new slot.now family + 1 }
-        ensures others { (s : Slot) → same_slot slot.now s ≡ false → in_slot self.new s ≡ in_slot self.old s }
+        ensures others { (s : NumberedSlot) → same_slot slot.now s ≡ false → in_slot self.new s ≡ in_slot self.old s }
     {
         match address.family {
             Family::V4 => self.v4.add(slot, address.number, claim),
@@ -78,11 +78,11 @@ impl AddressHolders {
     }
 
     /// The claim isn't listed in the slot at the address. It takes no memory.
-    pub(crate) fn remove(&mut self, slot: &Slot, address: &Address, claim: u64)
+    pub(crate) fn remove(&mut self, slot: &NumberedSlot, address: &Address, claim: u64)
         ensures numbers { claims_having self.new slot.now
             ≡ (λ a. if same_address address.now a then filter (λ c. not (c == claim)) (claims_having self.old slot.now a)
             else claims_having self.old slot.now a) }
-        ensures others { (s : Slot) → same_slot slot.now s ≡ false → in_slot self.new s ≡ in_slot self.old s }
+        ensures others { (s : NumberedSlot) → same_slot slot.now s ≡ false → in_slot self.new s ≡ in_slot self.old s }
     {
         match address.family {
             Family::V4 => self.v4.remove(slot, address.number, claim),
@@ -90,8 +90,15 @@ impl AddressHolders {
         }
     }
 
+    /// Whether no claim is listed in the slot, as is so where it has no list.
+    pub(crate) fn is_unused(&self, slot: &NumberedSlot) -> bool
+        ensures { IsTrue result → claims_having self.now slot.now ≡ (λ a. []) }
+    {
+        self.v4.is_unused(slot) && self.v6.is_unused(slot)
+    }
+
     /// The numbers of the claims in the slot that have the address.
-    pub(crate) fn numbers(&self, slot: &Slot, address: &Address) -> &[u64]
+    pub(crate) fn numbers(&self, slot: &NumberedSlot, address: &Address) -> &[u64]
         ensures { result.now ≡ claims_having self.now slot.now address.now }
     {
         match address.family {
@@ -102,9 +109,9 @@ impl AddressHolders {
 
     /// The least number from low to high of an address of the family that no claim in the slot has, and that isn't a buggy one where
     /// those are avoided.
-    pub(crate) fn first_unheld(
+    pub(crate) fn first_unclaimed(
         &self,
-        slot: &Slot,
+        slot: &NumberedSlot,
         avoiding: bool,
         family: Family,
         low: u128,
@@ -115,15 +122,15 @@ impl AddressHolders {
     {
         match family {
             // An IPv4 address is buggy at an edge of its block of 256.
-            Family::V4 => self.v4.first_unheld(slot, avoiding, low, high),
-            Family::V6 => self.v6.first_unheld(slot, false, low, high),
+            Family::V4 => self.v4.first_unclaimed(slot, avoiding, low, high),
+            Family::V6 => self.v6.first_unclaimed(slot, false, low, high),
         }
     }
 
     /// The least number from low to high of an address of the family that a claim in the slot has.
-    pub(crate) fn first_held(
+    pub(crate) fn first_claimed(
         &self,
-        slot: &Slot,
+        slot: &NumberedSlot,
         family: Family,
         low: u128,
         high: u128,
@@ -132,8 +139,8 @@ impl AddressHolders {
         ensures none { IfNone result (NonePasses (λ m. not (is_nil (claims_having self.now slot.now (address_of family m)))) low high) }
     {
         match family {
-            Family::V4 => self.v4.first_held(slot, low, high),
-            Family::V6 => self.v6.first_held(slot, low, high),
+            Family::V4 => self.v4.first_claimed(slot, low, high),
+            Family::V6 => self.v6.first_claimed(slot, low, high),
         }
     }
 
@@ -141,8 +148,8 @@ impl AddressHolders {
     /// of the other are all in the slot.
     pub(crate) fn first_beyond(
         &self,
-        slot: &Slot,
-        fewer: &Slot,
+        slot: &NumberedSlot,
+        fewer: &NumberedSlot,
         family: Family,
         low: u128,
         high: u128,

@@ -86,7 +86,7 @@ impl Claimants {
     }
 
     /// The least address from low to high at which no claim is listed, and that is no edge where it is sought inside blocks.
-    pub(crate) fn first_unheld(&self, inside: bool, low: u128, high: u128) -> Option<u128>
+    pub(crate) fn first_unclaimed(&self, inside: bool, low: u128, high: u128) -> Option<u128>
         ensures some { IfSome result (λ n. IsLeastIn (is_open_at inside self.now) low high n) }
         ensures none { IfNone result (NonePasses (is_open_at inside self.now) low high) }
     {
@@ -94,7 +94,7 @@ impl Claimants {
     }
 
     /// The least address from low to high at which a claim is listed.
-    pub(crate) fn first_held(&self, low: u128, high: u128) -> Option<u128>
+    pub(crate) fn first_claimed(&self, low: u128, high: u128) -> Option<u128>
         ensures some { IfSome result (λ n. IsLeastIn (λ m. not (is_nil (claims_at self.now m))) low high n) }
         ensures none { IfNone result (NonePasses (λ m. not (is_nil (claims_at self.now m))) low high) }
     {

@@ -4,11 +4,8 @@ ghost use Rattle.std.specs.Option.{option_map};
 ghost use Rattle.ip_ranges.specs.Values.{has_address};
 ghost use Rattle.sharing_terms.specs.Spelled.{recorded_terms};
 ghost use Rattle.claim_index.specs.Claims.{ClaimValue, terms_under};
-ghost use Rattle.claim_index.specs.Groups.{HasGroup};
-ghost use Rattle.claim_index.specs.Slots.{slots_of, AreApart};
 
 use crate::grouped::GroupedTerms;
-use crate::slot::Slot;
 use ip_ranges::Address;
 use kube_model::{Key, Record};
 use mlb_base::{NoMemory, TryCopy};
@@ -89,13 +86,11 @@ impl Claim {
         self.terms.terms()
     }
 
-    /// The slots in which it is listed beside that of all claims.
-    pub(crate) fn slots(&self) -> &[Slot]
-        ensures slots { result.now ≡ slots_of self.now.terms }
-        ensures apart { AreApart result.now }
-        ensures grouped { HasGroup self.now.terms }
+    /// These terms, with their group.
+    pub(crate) fn grouped(&self) -> &GroupedTerms
+        ensures { result.now ≡ self.now.terms }
     {
-        self.terms.slots()
+        &self.terms
     }
 
     /// The addresses that it has, or may have.

@@ -1,30 +1,38 @@
 //! A claim gets room at its addresses, and is listed there.
-ghost use Rattle.std.specs.Prelude.{◌≡◌, ◌≤◌, ℕ, List, ◌++◌, true, false, length, OnOk};
+ghost use Rattle.std.specs.Prelude.{◌≡◌, ◌≤◌, ℕ, List, ◌++◌, [], true, false, length, if◌then◌else◌, OnOk};
 ghost use Rattle.std.specs.List.{Contains};
 ghost use Rattle.ip_ranges.specs.declared.family.Family.{Family};
 ghost use Rattle.ip_ranges.specs.Values.{AddressValue};
-ghost use Rattle.claim_index.specs.declared.slot.Slot.{Slot};
-ghost use Rattle.claim_index.specs.Groups.{HasGroup};
+ghost use Rattle.claim_index.specs.declared.slot.NumberedSlot.{NumberedSlot};
 ghost use Rattle.claim_index.specs.Holders.{HasRoomAt, in_slot, claims_having, claim_room, address_room};
-ghost use Rattle.claim_index.specs.Index.{numbered, ends_with, numbered_at};
-ghost use Rattle.claim_index.specs.Slots.{occupies, same_slot};
+ghost use Rattle.claim_index.specs.Index.{numbered, ends_with};
+ghost use Rattle.claim_index.specs.NumberedSlots.{is_slot_by, same_slot};
 
 use crate::address_holders::AddressHolders;
 use crate::claims::Claim;
-use crate::slot::Slot;
+use crate::slot::NumberedSlot;
 use ip_ranges::Address;
 use mlb_base::NoMemory;
 
-/// Makes room for the claim at its addresses, in each slot that it occupies.
-pub(crate) fn reserve_claim(holders: &mut AddressHolders, claim: &Claim) -> Result<(), NoMemory>
-    ensures numbers { (s : Slot) → claims_having holders.new s ≡ claims_having holders.old s }
-    ensures room { OnOk result ((slot : Slot) → occupies slot claim.now ≡ true
+/// Makes room for the claim at its addresses, in each slot that it occupies, where its group has this number.
+pub(crate) fn reserve_claim(
+    holders: &mut AddressHolders,
+    claim: &Claim,
+    group: Option<u64>,
+) -> Result<(), NoMemory>
+    ensures numbers { (s : NumberedSlot) → claims_having holders.new s ≡ claims_having holders.old s }
+    ensures room { OnOk result ((slot : NumberedSlot) → is_slot_by group claim.now.terms.ports slot ≡ true
         → HasRoomAt holders.new (length claim.now.holding.addresses) slot claim.now.holding.addresses) }
 {
     let addresses = claim.addresses();
-    reserve_each(holders, &Slot::Any, addresses)?;
-    for slot in claim.slots() {
-        reserve_each(holders, slot, addresses)?;
+    reserve_each(holders, &NumberedSlot::Any, addresses)?;
+    let Some(group) = group else {
+        return Ok(());
+    };
+    reserve_each(holders, &NumberedSlot::OfSharingGroup(group), addresses)?;
+    for port in claim.terms().ports.as_slice() {
+        let slot = NumberedSlot::OfPort { port: *port, group };
+        reserve_each(holders, &slot, addresses)?;
     }
     Ok(())
 }
@@ -32,13 +40,13 @@ pub(crate) fn reserve_claim(holders: &mut AddressHolders, claim: &Claim) -> Resu
 /// Makes room in the slot for a claim that has the addresses.
 fn reserve_each(
     holders: &mut AddressHolders,
-    slot: &Slot,
+    slot: &NumberedSlot,
     addresses: &[Address],
 ) -> Result<(), NoMemory>
-    ensures numbers { (s : Slot) → claims_having holders.new s ≡ claims_having holders.old s }
+    ensures numbers { (s : NumberedSlot) → claims_having holders.new s ≡ claims_having holders.old s }
     ensures room { OnOk result (HasRoomAt holders.new (length addresses.now) slot.now addresses.now) }
-    ensures claims_kept { (s : Slot) (a : AddressValue) → claim_room holders.old s a ≤ claim_room holders.new s a }
-    ensures addresses_kept { (s : Slot) (family : Family) → address_room holders.old s family ≤ address_room holders.new s family }
+    ensures claims_kept { (s : NumberedSlot) (a : AddressValue) → claim_room holders.old s a ≤ claim_room holders.new s a }
+    ensures addresses_kept { (s : NumberedSlot) (family : Family) → address_room holders.old s family ≤ address_room holders.new s family }
 {
     for address in addresses {
         holders.reserve(slot, address, addresses.len())?;
@@ -46,28 +54,45 @@ fn reserve_each(
     Ok(())
 }
 
-/// The claim is listed under its number at its addresses, in each slot that it occupies. There is room for it, so it takes no memory.
-pub(crate) fn add_claim(holders: &mut AddressHolders, claim: &Claim, number: u64)
-    requires room { (slot : Slot) → occupies slot claim.now ≡ true
+/// The claim is listed under its number at its addresses, in each slot that it occupies, where its group has this number. There is
+/// room for it, so it takes no memory.
+pub(crate) fn add_claim(
+    holders: &mut AddressHolders,
+    claim: &Claim,
+    group: Option<u64>,
+    number: u64,
+)
+    requires room { (slot : NumberedSlot) → is_slot_by group claim.now.terms.ports slot ≡ true
         → HasRoomAt holders.old (length claim.now.holding.addresses) slot claim.now.holding.addresses }
-    requires fresh { (slot : Slot) (a : AddressValue) → ¬ (Contains (claims_having holders.old slot a) number) }
-    ensures numbers { (slot : Slot) → claims_having holders.new slot ≡ (λ a. claims_having holders.old slot a ++ numbered_at slot a (number, claim.now)) }
-    ensures grouped { HasGroup claim.now.terms }
+    requires fresh { (slot : NumberedSlot) → is_slot_by group claim.now.terms.ports slot ≡ true
+        → (a : AddressValue) → ¬ (Contains (claims_having holders.old slot a) number) }
+    ensures { (slot : NumberedSlot) → claims_having holders.new slot ≡ (λ a. claims_having holders.old slot a
+        ++ (if is_slot_by group claim.now.terms.ports slot then numbered number claim.now.holding.addresses a else [])) }
 {
     let addresses = claim.addresses();
-    add_each(holders, &Slot::Any, addresses, number);
-    for slot in claim.slots() {
-        add_each(holders, slot, addresses, number);
+    add_each(holders, &NumberedSlot::Any, addresses, number);
+    let Some(group) = group else {
+        return;
+    };
+    add_each(
+        holders,
+        &NumberedSlot::OfSharingGroup(group),
+        addresses,
+        number,
+    );
+    for port in claim.terms().ports.as_slice() {
+        let slot = NumberedSlot::OfPort { port: *port, group };
+        add_each(holders, &slot, addresses, number);
     }
 }
 
 /// The claim is listed in the slot at the addresses, once at each, however often it stands among them. There is room for it, so it
 /// takes no memory.
-fn add_each(holders: &mut AddressHolders, slot: &Slot, addresses: &[Address], number: u64)
+fn add_each(holders: &mut AddressHolders, slot: &NumberedSlot, addresses: &[Address], number: u64)
     requires room { HasRoomAt holders.old (length addresses.now) slot.now addresses.now }
     requires fresh { (a : AddressValue) → ¬ (Contains (claims_having holders.old slot.now a) number) }
     ensures numbers { claims_having holders.new slot.now ≡ (λ a. claims_having holders.old slot.now a ++ numbered number addresses.now a) }
-    ensures others { (s : Slot) → same_slot slot.now s ≡ false → in_slot holders.new s ≡ in_slot holders.old s }
+    ensures others { (s : NumberedSlot) → same_slot slot.now s ≡ false → in_slot holders.new s ≡ in_slot holders.old s }
 {
     for address in addresses {
         if !ends_with(holders.numbers(slot, address), number) {

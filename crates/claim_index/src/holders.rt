@@ -1,14 +1,14 @@
 //! Who has the addresses of one family.
-ghost use Rattle.std.specs.Prelude.{◌≡◌, ◌≤◌, ◌<◌, ◌+◌, ◌==◌, ℕ, ◌∷◌, ◌++◌, [], true, false, not, filter, if◌then◌else◌, OnOk, IfSome, IfNone};
+ghost use Rattle.std.specs.Prelude.{◌≡◌, ◌≤◌, ◌<◌, ◌+◌, ◌==◌, ℕ, ◌∷◌, ◌++◌, [], true, false, not, filter, if◌then◌else◌, IsTrue, OnOk, IfSome, IfNone};
 ghost use Rattle.mlb_base.specs.Items.{is_nil};
-ghost use Rattle.claim_index.specs.declared.slot.Slot.{Slot};
+ghost use Rattle.claim_index.specs.declared.slot.NumberedSlot.{NumberedSlot};
 ghost use Rattle.claim_index.specs.Holders.{claims_at, claim_room_at, in_slot_at, is_listed, is_listed_but, is_open_at};
-ghost use Rattle.claim_index.specs.Slots.{same_slot};
+ghost use Rattle.claim_index.specs.NumberedSlots.{same_slot};
 ghost use Rattle.number_sets.specs.Least.{IsLeastIn, NonePasses};
 
 use crate::claimants::Claimants;
-use crate::slot::Slot;
-use mlb_base::{NoMemory, TryCopy};
+use crate::slot::NumberedSlot;
+use mlb_base::NoMemory;
 use std::alloc::Global;
 use std::collections::BTreeMap;
 use std::marker::Model;
@@ -18,7 +18,7 @@ use std::marker::Model;
 #[derive(Drop)]
 pub(crate) struct Holders {
     alloc: Global,
-    by_slot: BTreeMap<Slot, Claimants>,
+    by_slot: BTreeMap<NumberedSlot, Claimants>,
 }
 
 impl Model for Holders {
@@ -32,7 +32,7 @@ impl Model for Holders {
 impl Holders {
     /// Nobody has an address. It takes no memory.
     pub(crate) fn new(alloc: Global) -> Holders
-        ensures numbers { (slot : Slot) → claims_at (in_slot_at result slot) ≡ (λ n. []) }
+        ensures numbers { (slot : NumberedSlot) → claims_at (in_slot_at result slot) ≡ (λ n. []) }
     {
         Holders {
             alloc,
@@ -41,25 +41,29 @@ impl Holders {
     }
 
     /// Makes room in the slot for a claim more on the address, and for so many addresses more.
-    pub(crate) fn reserve(&mut self, slot: &Slot, number: u128, more: usize) -> Result<(), NoMemory>
-        ensures numbers { (s : Slot) → claims_at (in_slot_at self.new s) ≡ claims_at (in_slot_at self.old s) }
+    pub(crate) fn reserve(
+        &mut self,
+        slot: &NumberedSlot,
+        number: u128,
+        more: usize,
+    ) -> Result<(), NoMemory>
+        ensures numbers { (s : NumberedSlot) → claims_at (in_slot_at self.new s) ≡ claims_at (in_slot_at self.old s) }
         ensures claims { OnOk result (0 < claim_room_at (in_slot_at self.new slot.now) number) }
         ensures addresses { OnOk result (more ≤ (in_slot_at self.new slot.now).room) }
-        ensures claims_kept { (s : Slot) (n : ℕ) → claim_room_at (in_slot_at self.old s) n ≤ claim_room_at (in_slot_at self.new s) n }
-        ensures addresses_kept { (s : Slot) → (in_slot_at self.old s).room ≤ (in_slot_at self.new s).room }
+        ensures claims_kept { (s : NumberedSlot) (n : ℕ) → claim_room_at (in_slot_at self.old s) n ≤ claim_room_at (in_slot_at self.new s) n }
+        ensures addresses_kept { (s : NumberedSlot) → (in_slot_at self.old s).room ≤ (in_slot_at self.new s).room }
     {
         if let Some(claimants) = self.by_slot.get_mut(slot) {
             return claimants.reserve(number, more);
         }
-        let made = slot.copy()?;
         let mut claimants = Claimants::new(self.alloc, slot.is_any());
         claimants.reserve(number, more)?;
-        let _none = self.by_slot.insert(made, claimants)?;
+        let _none = self.by_slot.insert(*slot, claimants)?;
         Ok(())
     }
 
     /// The claim is listed in the slot at the address. There is room for it, so it takes no memory.
-    pub(crate) fn add(&mut self, slot: &Slot, number: u128, claim: u64)
+    pub(crate) fn add(&mut self, slot: &NumberedSlot, number: u128, claim: u64)
         requires claims { 0 < claim_room_at (in_slot_at self.old slot.now) number }
         requires addresses { 0 < (in_slot_at self.old slot.now).room }
         ensures numbers { claims_at (in_slot_at self.new slot.now)
@@ -67,7 +71,7 @@ impl Holders {
         ensures claims { (n : ℕ)
             → claim_room_at (in_slot_at self.old slot.now) n ≤ claim_room_at (in_slot_at self.new slot.now) n + (if number == n then 1 else 0) }
         ensures addresses { (in_slot_at self.old slot.now).room ≤ (in_slot_at self.new slot.now).room + 1 }
-        ensures others { (s : Slot) → same_slot slot.now s ≡ false → in_slot_at self.new s ≡ in_slot_at self.old s }
+        ensures others { (s : NumberedSlot) → same_slot slot.now s ≡ false → in_slot_at self.new s ≡ in_slot_at self.old s }
     {
         let Some(claimants) = self.by_slot.get_mut(slot) else {
             return;
@@ -76,11 +80,11 @@ impl Holders {
     }
 
     /// The claim isn't listed in the slot at the address. It takes no memory.
-    pub(crate) fn remove(&mut self, slot: &Slot, number: u128, claim: u64)
+    pub(crate) fn remove(&mut self, slot: &NumberedSlot, number: u128, claim: u64)
         ensures numbers { claims_at (in_slot_at self.new slot.now)
             ≡ (λ n. if number == n then filter (λ c. not (c == claim)) (claims_at (in_slot_at self.old slot.now) n)
             else claims_at (in_slot_at self.old slot.now) n) }
-        ensures others { (s : Slot) → same_slot slot.now s ≡ false → in_slot_at self.new s ≡ in_slot_at self.old s }
+        ensures others { (s : NumberedSlot) → same_slot slot.now s ≡ false → in_slot_at self.new s ≡ in_slot_at self.old s }
     {
         let Some(claimants) = self.by_slot.get_mut(slot) else {
             return;
@@ -92,16 +96,23 @@ impl Holders {
     }
 
     /// Drops the slot, in which no claim is listed.
-    fn drop_empty(&mut self, slot: &Slot)
+    fn drop_empty(&mut self, slot: &NumberedSlot)
         requires { claims_at (in_slot_at self.old slot.now) ≡ (λ n. []) }
         ensures numbers { claims_at (in_slot_at self.new slot.now) ≡ (λ n. []) }
-        ensures others { (s : Slot) → same_slot slot.now s ≡ false → in_slot_at self.new s ≡ in_slot_at self.old s }
+        ensures others { (s : NumberedSlot) → same_slot slot.now s ≡ false → in_slot_at self.new s ≡ in_slot_at self.old s }
     {
         let _empty = self.by_slot.remove(slot);
     }
 
+    /// Whether no claim is listed in the slot, as is so where there is none.
+    pub(crate) fn is_unused(&self, slot: &NumberedSlot) -> bool
+        ensures { IsTrue result → claims_at (in_slot_at self.now slot.now) ≡ (λ n. []) }
+    {
+        self.by_slot.get(slot).is_none()
+    }
+
     /// The numbers of the claims that are listed in the slot at the address.
-    pub(crate) fn numbers(&self, slot: &Slot, number: u128) -> &[u64]
+    pub(crate) fn numbers(&self, slot: &NumberedSlot, number: u128) -> &[u64]
         ensures { result.now ≡ claims_at (in_slot_at self.now slot.now) number }
     {
         match self.by_slot.get(slot) {
@@ -112,9 +123,9 @@ impl Holders {
 
     /// The least address from low to high at which no claim is listed in the slot, and that is no edge where it is sought inside
     /// blocks.
-    pub(crate) fn first_unheld(
+    pub(crate) fn first_unclaimed(
         &self,
-        slot: &Slot,
+        slot: &NumberedSlot,
         inside: bool,
         low: u128,
         high: u128,
@@ -123,28 +134,28 @@ impl Holders {
         ensures none { IfNone result (NonePasses (is_open_at inside (in_slot_at self.now slot.now)) low high) }
     {
         match self.by_slot.get(slot) {
-            Some(claimants) => claimants.first_unheld(inside, low, high),
+            Some(claimants) => claimants.first_unclaimed(inside, low, high),
             None => {
                 let none = Claimants::new(self.alloc, false);
-                none.first_unheld(inside, low, high)
+                none.first_unclaimed(inside, low, high)
             }
         }
     }
 
     /// The least address from low to high at which a claim is listed in the slot.
-    pub(crate) fn first_held(&self, slot: &Slot, low: u128, high: u128) -> Option<u128>
+    pub(crate) fn first_claimed(&self, slot: &NumberedSlot, low: u128, high: u128) -> Option<u128>
         ensures some { IfSome result (λ n. IsLeastIn (λ m. not (is_nil (claims_at (in_slot_at self.now slot.now) m))) low high n) }
         ensures none { IfNone result (NonePasses (λ m. not (is_nil (claims_at (in_slot_at self.now slot.now) m))) low high) }
     {
-        self.by_slot.get(slot)?.first_held(low, high)
+        self.by_slot.get(slot)?.first_claimed(low, high)
     }
 
     /// The least address from low to high at which a claim is listed in the slot and none in the other, where those of the other are
     /// all listed in the slot.
     pub(crate) fn first_beyond(
         &self,
-        slot: &Slot,
-        fewer: &Slot,
+        slot: &NumberedSlot,
+        fewer: &NumberedSlot,
         low: u128,
         high: u128,
     ) -> Option<u128>
@@ -155,7 +166,7 @@ impl Holders {
         let claimants = self.by_slot.get(slot)?;
         match self.by_slot.get(fewer) {
             Some(others) => claimants.first_beyond(others, low, high),
-            None => claimants.first_held(low, high),
+            None => claimants.first_claimed(low, high),
         }
     }
 }

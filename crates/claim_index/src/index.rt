@@ -1,30 +1,32 @@
 //! The claims under their numbers, and by what each is found.
-ghost use Rattle.std.specs.Prelude.{◌≡◌, ◌≤◌, ◌<◌, ◌+◌, ◌^◌, ◌==◌, ◌∷◌, ◌++◌, [], true, false, not, nat_lt, length, filter, find, OnOk, IfSome, IfNone};
+ghost use Rattle.std.specs.Prelude.{◌≡◌, ◌≤◌, ◌<◌, ◌+◌, ◌^◌, ◌==◌, ◌∷◌, ◌++◌, [], true, false, not, nat_lt, length, filter, find, Some, OnOk, IfSome, IfNone};
 ghost use Rattle.std.specs.List.{All, list_all};
 ghost use Rattle.std.specs.List.Sorted.{IsStrictlySortedBy};
 ghost use Rattle.std.specs.Map.{lookup, keys_of, values_of};
 ghost use Rattle.std.specs.Option.{option_copied, option_map};
 ghost use Rattle.std.specs.Ordering.{nat_cmp};
 ghost use Rattle.kube_model.specs.Records.{is_assigned};
-ghost use Rattle.claim_index.specs.declared.slot.Slot.TheVariants.{OfGroup};
 ghost use Rattle.mlb_base.specs.Items.{is_nil};
 ghost use Rattle.claim_index.specs.Claims.{AreAssigned, loses, claims_it, has_claims};
 ghost use Rattle.claim_index.specs.Room.{HasRoomFor};
-ghost use Rattle.claim_index.specs.Groups.{group_of, HasGroup};
+ghost use Rattle.claim_index.specs.GroupNumbers.{number_for};
+ghost use Rattle.claim_index.specs.SharingGroups.{HasSharingGroup};
+ghost use Rattle.claim_index.specs.Slots.{Any};
 ghost use Rattle.claim_index.specs.Index.{numbers_of, first_but, first_other, is_open, NoneShareable};
-ghost use Rattle.claim_index.specs.Reading.{is_claim_under, gives_way, is_of, yields, is_odd, belongs, leaves};
+ghost use Rattle.claim_index.specs.Reading.{is_claim_under, gives_way, is_of, yields_port, is_odd, belongs, leaves};
 ghost use Rattle.claim_index.specs.Holders.{address_of};
 ghost use Rattle.number_sets.specs.Least.{IsLeastIn, NonePasses};
 
 use crate::address_holders::AddressHolders;
 use crate::alike::{are_alike, same_terms};
 use crate::claims::{Claim, has_address};
+use crate::group_numbers::GroupNumbers;
 use crate::grouped::GroupedTerms;
 use crate::growth::{add_claim, reserve_claim};
 use crate::removal::remove_claim;
-use crate::slot::Slot;
+use crate::slot::NumberedSlot;
 use ip_ranges::{Address, Family};
-use kube_model::Key;
+use kube_model::{Key, Port};
 use mlb_base::{NoMemory, TryCopy};
 use numbered_items::{InvertedIndex, NumberedList};
 use sharing_terms::{Terms, may_share};
@@ -36,6 +38,7 @@ use std::marker::Model;
 pub struct ClaimIndex {
     claims: NumberedList<Claim>,
     by_key: InvertedIndex<Key>,
+    groups: GroupNumbers,
     holders: AddressHolders,
 }
 
@@ -46,10 +49,10 @@ impl Model for ClaimIndex {
 
     ghost view = { λ c. record {
       items = c.claims.items;
-      room = record { claims = c.claims.room; keys = c.by_key; holders = c.holders };
+      room = record { claims = c.claims.room; keys = c.by_key; groups = c.groups; holders = c.holders };
     } };
 
-    ghost invariant = { λ c. IsIndexed c.claims.items c.by_key c.holders };
+    ghost invariant = { λ c. IsIndexed c.claims.items c.by_key c.groups c.holders };
 }
 
 impl ClaimIndex {
@@ -60,6 +63,7 @@ impl ClaimIndex {
         ClaimIndex {
             claims: NumberedList::new(alloc),
             by_key: InvertedIndex::new(alloc),
+            groups: GroupNumbers::new(alloc),
             holders: AddressHolders::new(alloc),
         }
     }
@@ -71,7 +75,8 @@ impl ClaimIndex {
     {
         self.claims.reserve()?;
         self.by_key.reserve(claim.key().copy()?, 1)?;
-        reserve_claim(&mut self.holders, claim)
+        let group = self.groups.give(claim.grouped())?;
+        reserve_claim(&mut self.holders, claim, group)
     }
 
     /// The claim is added at the end, and its number is answered. There is room for it, so it takes no memory.
@@ -84,7 +89,8 @@ impl ClaimIndex {
         let number = self.claims.push(claim);
         if let Some(claim) = self.claims.get(number) {
             self.by_key.add(claim.key(), number);
-            add_claim(&mut self.holders, claim, number);
+            let group = self.groups.number(claim.grouped());
+            add_claim(&mut self.holders, claim, group, number);
         }
         number
     }
@@ -97,7 +103,9 @@ impl ClaimIndex {
             return;
         };
         self.by_key.remove(claim.key(), number);
-        remove_claim(&mut self.holders, &claim, number);
+        let group = self.groups.number(claim.grouped());
+        remove_claim(&mut self.holders, &claim, group, number);
+        self.groups.forget_unused(claim.grouped(), &self.holders);
         drop(claim);
     }
 
@@ -170,44 +178,59 @@ impl ClaimIndex {
     pub fn all_leave(&self, key: &Key, terms: &GroupedTerms, address: &Address) -> bool
         ensures { result ≡ list_all (leaves key.now terms.now address.now) (values_of self.now.items) }
     {
-        match terms.slots().split_first() {
-            Some((group, ports)) => {
-                self.all_belong(key, terms, group, address) && self.all_yield(key, ports, address)
+        match self.groups.number(terms) {
+            Some(group) => {
+                self.all_belong(key, terms, group, address)
+                    && self.all_yield(key, terms, group, address)
             }
+            // No claim has a sharing key and backend in common with the terms.
             None => self.all_give_way(key, terms.terms(), address),
         }
     }
 
-    /// Whether each claim on the address is of the key, or alike with the terms, which have a sharing key. That is so where as many claims
-    /// aren't of their group as there are such of the key.
-    fn all_belong(&self, key: &Key, terms: &GroupedTerms, group: &Slot, address: &Address) -> bool
-        requires given { is_nil terms.now.key ≡ false }
-        requires group { group.now ≡ OfGroup (group_of terms.now) }
-        requires grouped { HasGroup terms.now }
+    /// Whether each claim on the address is of the key, or alike with the terms, whose group has this number. That is so where as many
+    /// claims aren't of their group as there are such of the key.
+    fn all_belong(&self, key: &Key, terms: &GroupedTerms, group: u64, address: &Address) -> bool
+        requires grouped { HasSharingGroup terms.now }
+        requires number { number_for self.now.room.groups terms.now ≡ Some group }
         ensures { result ≡ list_all (belongs key.now terms.now address.now) (values_of self.now.items) }
     {
-        let all = self.holders.numbers(&Slot::Any, address).len();
-        let grouped = self.holders.numbers(group, address).len();
+        let slot = NumberedSlot::OfSharingGroup(group);
+        let all = self.holders.numbers(&NumberedSlot::Any, address).len();
+        let grouped = self.holders.numbers(&slot, address).len();
         let own = self.by_key.numbers(key);
         all.saturating_sub(grouped) == count_odd(&self.claims, own, terms.terms(), address)
     }
 
-    /// Whether each claim that has the address and is in one of the slots is of the key.
-    fn all_yield(&self, key: &Key, slots: &[Slot], address: &Address) -> bool
-        ensures { result ≡ list_all (λ slot. list_all (yields key.now slot address.now) (values_of self.now.items)) slots.now }
+    /// Whether each claim of the terms' group, which has this number, that has the address and a port of theirs is of the key.
+    fn all_yield(&self, key: &Key, terms: &GroupedTerms, group: u64, address: &Address) -> bool
+        requires { number_for self.now.room.groups terms.now ≡ Some group }
+        ensures { result ≡ list_all (yields_port (values_of self.now.items) key.now terms.now address.now) terms.now.ports }
     {
-        slots
+        terms
+            .terms()
+            .ports
+            .as_slice()
             .iter()
-            .all(|slot| self.yields_slot(key, slot, address))
+            .all(|port| self.yields_slot(key, terms, *port, group, address))
     }
 
-    /// Whether each claim in the slot that has the address is of the key.
-    fn yields_slot(&self, key: &Key, slot: &Slot, address: &Address) -> bool
-        ensures { result ≡ list_all (yields key.now slot.now address.now) (values_of self.now.items) }
+    /// Whether each claim of the terms' group, which has this number, that has the address and the port is of the key.
+    fn yields_slot(
+        &self,
+        key: &Key,
+        terms: &GroupedTerms,
+        port: Port,
+        group: u64,
+        address: &Address,
+    ) -> bool
+        requires { number_for self.now.room.groups terms.now ≡ Some group }
+        ensures { result ≡ yields_port (values_of self.now.items) key.now terms.now address.now port }
     {
+        let slot = NumberedSlot::OfPort { port, group };
         let claims = &self.claims;
         self.holders
-            .numbers(slot, address)
+            .numbers(&slot, address)
             .iter()
             .all(|number| is_of(claims, *number, key))
     }
@@ -218,25 +241,25 @@ impl ClaimIndex {
     {
         let claims = &self.claims;
         self.holders
-            .numbers(&Slot::Any, address)
+            .numbers(&NumberedSlot::Any, address)
             .iter()
             .all(|number| gives_way(claims, *number, key, terms))
     }
 
-    /// The least number from low to high of an address of the family that no claim in the slot has, and that isn't a buggy one where
-    /// those are avoided; in the logarithm of the number of addresses.
-    pub fn first_unheld(
+    /// The least number from low to high of an address of the family that no claim has, and that isn't a buggy one where those are
+    /// avoided; in the logarithm of the number of addresses.
+    pub fn first_unclaimed(
         &self,
-        slot: &Slot,
         avoiding: bool,
         family: Family,
         low: u128,
         high: u128,
     ) -> Option<u128>
-        ensures some { IfSome result (λ n. IsLeastIn (λ m. is_open avoiding slot.now (values_of self.now.items) (address_of family m)) low high n) }
-        ensures none { IfNone result (NonePasses (λ m. is_open avoiding slot.now (values_of self.now.items) (address_of family m)) low high) }
+        ensures some { IfSome result (λ n. IsLeastIn (λ m. is_open avoiding Any (values_of self.now.items) (address_of family m)) low high n) }
+        ensures none { IfNone result (NonePasses (λ m. is_open avoiding Any (values_of self.now.items) (address_of family m)) low high) }
     {
-        self.holders.first_unheld(slot, avoiding, family, low, high)
+        self.holders
+            .first_unclaimed(&NumberedSlot::Any, avoiding, family, low, high)
     }
 
     /// A number from low to high before which no address of the family is one that claims of the terms' group have and none of these
@@ -253,10 +276,12 @@ impl ClaimIndex {
         ensures some { IfSome result (λ n. (low ≤ n) × (n ≤ high) × NoneShareable family terms.now (values_of self.now.items) low n) }
         ensures none { IfNone result (NoneShareable family terms.now (values_of self.now.items) low (high + 1)) }
     {
-        let (group, ports) = terms.slots().split_first()?;
-        let mut left = self.holders.first_held(group, family, low, high)?;
-        for port in ports {
-            left = self.holders.first_beyond(group, port, family, left, high)?;
+        let group = self.groups.number(terms)?;
+        let all = NumberedSlot::OfSharingGroup(group);
+        let mut left = self.holders.first_claimed(&all, family, low, high)?;
+        for port in terms.terms().ports.as_slice() {
+            let slot = NumberedSlot::OfPort { port: *port, group };
+            left = self.holders.first_beyond(&all, &slot, family, left, high)?;
         }
         Some(left)
     }

@@ -1,41 +1,26 @@
 //! In what claims are listed at an address.
 ghost use Rattle.std.specs.Prelude.{◌≡◌};
-ghost use Rattle.claim_index.specs.declared.slot.Slot.TheVariants.{Any};
-ghost use Rattle.claim_index.specs.Slots.{same_slot};
+ghost use Rattle.claim_index.specs.declared.slot.NumberedSlot.TheVariants.{Any};
+ghost use Rattle.claim_index.specs.NumberedSlots.{same_slot};
 
-use kube_labels::Text;
 use kube_model::Port;
-use mlb_base::{NoMemory, TryCopy};
 
-/// A list of claims that there is at each address.
-#[derive(Drop, PartialEq, Eq, PartialOrd, Ord)]
-pub enum Slot {
+/// A list of claims that there is at each address, by the number of their group.
+#[derive(Clone, Copy, PartialEq, Eq, PartialOrd, Ord)]
+pub(crate) enum NumberedSlot {
     /// The list of all claims on the address.
     Any,
     /// The list of those of this group.
-    OfGroup(Text),
+    OfSharingGroup(u64),
     /// The list of those of this group that have this port.
-    OfPort { port: Port, group: Text },
+    OfPort { port: Port, group: u64 },
 }
 
-impl Slot {
+impl NumberedSlot {
     /// Whether it is the list of all claims.
     pub(crate) fn is_any(&self) -> bool
         ensures { result ≡ same_slot self.now Any }
     {
-        matches!(self, Slot::Any)
-    }
-}
-
-impl TryCopy for Slot {
-    fn copy(&self) -> Result<Slot, NoMemory> {
-        Ok(match self {
-            Slot::Any => Slot::Any,
-            Slot::OfGroup(group) => Slot::OfGroup(group.copy()?),
-            Slot::OfPort { port, group } => Slot::OfPort {
-                port: *port,
-                group: group.copy()?,
-            },
-        })
+        matches!(self, NumberedSlot::Any)
     }
 }

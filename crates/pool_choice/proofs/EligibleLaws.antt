@@ -7,13 +7,13 @@ use Rattle.mlb_base.proofs.Orders.{both_equal}
 use Rattle.kube_labels.specs.Names.{name_cmp}
 use Rattle.kube_model.specs.declared.service.Service.{Service}
 use Rattle.pool_config.specs.declared.compiled.CompiledPool.{CompiledPool}
-use Rattle.pool_choice.specs.declared.choice.Entry.{Entry}
-use Rattle.pool_choice.specs.Eligible.{StandsBefore, IsOffered, AreEligible, is_offered, eligible, entries_from, entry_cmp}
+use Rattle.pool_choice.specs.declared.choice.RankedPool.{RankedPool}
+use Rattle.pool_choice.specs.Eligible.{StandsBefore, IsOffered, AreEligible, is_offered, eligible, ranked_from, ranked_cmp}
 use Rattle.pool_choice.specs.Rank.{rank_of, rank_cmp, pool_cmp}
 use Rattle.pool_choice.specs.Serving.{serves}
 use Rattle.pool_choice.specs.Sorted.{sorted}
-use Rattle.pool_choice.proofs.Filters.{filter-contains, filter-keeps}
-use Rattle.pool_choice.proofs.EntryLaws.{NamesAscend, names-ascend, offered-ascend, entries-apart, places-got}
+use Rattle.mlb_base.proofs.Lists.{filter-contains, filter-keeps}
+use Rattle.pool_choice.proofs.RankedLaws.{NamesAscend, names-ascend, offered-ascend, ranked-apart, places-got}
 use Rattle.pool_choice.proofs.RankLaws.{entry-total, entry-exact, pool-total, less-stands}
 use Rattle.pool_choice.proofs.ServingLaws.{serves-Decides}
 use Rattle.pool_choice.proofs.SortLaws.{AreApart, all-map, pairs-map, pairs-ascend, sorted-found, sorted-has, sorted-ascends, sort-is}
@@ -48,16 +48,16 @@ eligible-are service labels pools up =
     }
 
 -- ---- what the code sorts
-pub entries-sorted : (service : Service) (labels : List (List ℕ × List ℕ)) (pools : List CompiledPool) (entries ordered : List Entry)
-    → entries ≡ entries_from service labels 0 pools
-    → IsPermutation entries ordered → IsSorted entry_cmp ordered → ordered ≡ sorted entry_cmp (entries_from service labels 0 pools)
-entries-sorted service labels pools entries ordered is moved up =
-    sort-is entry_cmp entry-total entry-exact (entries_from service labels 0 pools) ordered (entries-apart service labels pools 0)
-    (subst (λ (es : List Entry). IsPermutation es ordered) is moved) up
+pub ranked-sorted : (service : Service) (labels : List (List ℕ × List ℕ)) (pools : List CompiledPool) (ranked ordered : List RankedPool)
+    → ranked ≡ ranked_from service labels 0 pools
+    → IsPermutation ranked ordered → IsSorted ranked_cmp ordered → ordered ≡ sorted ranked_cmp (ranked_from service labels 0 pools)
+ranked-sorted service labels pools ranked ordered is moved up =
+    sort-is ranked_cmp entry-total entry-exact (ranked_from service labels 0 pools) ordered (ranked-apart service labels pools 0)
+    (subst (λ (es : List RankedPool). IsPermutation es ordered) is moved) up
 
 pub answer-got : {E : Type 0} (service : Service) (labels : List (List ℕ × List ℕ)) (pools : List CompiledPool) (answer : Result (List ℕ) E)
     → IsStrictlySortedBy name_cmp (map (λ p. p.name) pools)
-    → IfOk answer (λ places. places ≡ map (λ e. e.place) (sorted entry_cmp (entries_from service labels 0 pools)))
+    → IfOk answer (λ places. places ≡ map (λ e. e.place) (sorted ranked_cmp (ranked_from service labels 0 pools)))
     → IfOk answer (λ places. map (slice_get pools) places ≡ map (λ p. Some p) (eligible service labels pools))
 answer-got service labels pools (Ok places) up is = ap (map (slice_get pools)) is ∙ places-got pools service labels up
 answer-got service labels pools (Err f) up is = tt

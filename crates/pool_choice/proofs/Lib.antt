@@ -1,6 +1,5 @@
 pub mod EligibleLaws
-pub mod EntryLaws
-pub mod Filters
+pub mod RankedLaws
 pub mod RankLaws
 pub mod ServingLaws
 pub mod SortLaws

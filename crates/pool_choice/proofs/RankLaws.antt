@@ -12,26 +12,26 @@ use Rattle.pool_config.specs.declared.compiled.CompiledAllocation.{CompiledAlloc
 use Rattle.pool_config.specs.declared.compiled.CompiledPool.{CompiledPool}
 use Rattle.pool_choice.specs.declared.choice.Rank.{Rank}
 use Rattle.pool_choice.specs.declared.choice.Rank.TheVariants.{At, Last, Unallocated}
-use Rattle.pool_choice.specs.declared.choice.Entry.{Entry}
-use Rattle.pool_choice.specs.contracts.choice.EntryOrd.TheImpl as derived
-use Rattle.pool_choice.specs.Eligible.{IsSooner, IsNameBefore, StandsBy, StandsBefore, entry_cmp}
+use Rattle.pool_choice.specs.declared.choice.RankedPool.{RankedPool}
+use Rattle.pool_choice.specs.contracts.choice.RankedPoolOrd.TheImpl as derived
+use Rattle.pool_choice.specs.Eligible.{IsSooner, IsNameBefore, StandsBy, StandsBefore, ranked_cmp}
 use Rattle.pool_choice.specs.Rank.{rank_by, rank_of, rank_cmp, pool_cmp}
 
-entry_by : (r s : Rank) (m n : ℕ) → derived.cmp-value.it (record { rank = r; place = m }) (record { rank = s; place = n })
-    ≡ entry_cmp (record { rank = r; place = m }) (record { rank = s; place = n })
-entry_by (At p) (At q) m n = refl
-entry_by (At p) Last m n = refl
-entry_by (At p) Unallocated m n = refl
-entry_by Last (At q) m n = refl
-entry_by Last Last m n = refl
-entry_by Last Unallocated m n = refl
-entry_by Unallocated (At q) m n = refl
-entry_by Unallocated Last m n = refl
-entry_by Unallocated Unallocated m n = refl
+ranked_by : (r s : Rank) (m n : ℕ) → derived.cmp-value.it (record { rank = r; place = m }) (record { rank = s; place = n })
+    ≡ ranked_cmp (record { rank = r; place = m }) (record { rank = s; place = n })
+ranked_by (At p) (At q) m n = refl
+ranked_by (At p) Last m n = refl
+ranked_by (At p) Unallocated m n = refl
+ranked_by Last (At q) m n = refl
+ranked_by Last Last m n = refl
+ranked_by Last Unallocated m n = refl
+ranked_by Unallocated (At q) m n = refl
+ranked_by Unallocated Last m n = refl
+ranked_by Unallocated Unallocated m n = refl
 
 -- the order that the code sorts by
-pub entry_cmp-is : derived.cmp-value.it ≡ entry_cmp
-entry_cmp-is = λ i e f. entry_by e.rank f.rank e.place f.place i
+pub ranked_cmp-is : derived.cmp-value.it ≡ ranked_cmp
+ranked_cmp-is = λ i e f. ranked_by e.rank f.rank e.place f.place i
 
 rank-antisymm : (r s : Rank) → rank_cmp r s ≡ ordering_reverse (rank_cmp s r)
 rank-antisymm (At m) (At n) = nat_cmp_total.antisymm m n
@@ -81,17 +81,17 @@ rank-total = record {
   congr = λ r s t e. ap (λ (x : Rank). rank_cmp x t) (rank-exact r s e);
 }
 
-pub entry-total : IsTotalOrder entry_cmp
-entry-total = then_total (on_total (λ (e : Entry). e.rank) rank-total) (on_total (λ (e : Entry). e.place) nat_cmp_total)
+pub entry-total : IsTotalOrder ranked_cmp
+entry-total = then_total (on_total (λ (e : RankedPool). e.rank) rank-total) (on_total (λ (e : RankedPool). e.place) nat_cmp_total)
 
 pub pool-total : IsTotalOrder pool_cmp
 pool-total = then_total (on_total rank_of rank-total) (on_total (λ (p : CompiledPool). p.name) name_cmp-total)
 
-pub entry-exact : CmpEqualImpliesEq entry_cmp
+pub entry-exact : CmpEqualImpliesEq ranked_cmp
 entry-exact e f h =
     let parts = both_equal (rank_cmp e.rank f.rank) (nat_cmp e.place f.place) h in
-    let rank : Rank → Entry = λ r. record { rank = r; place = e.place } in
-    let place : ℕ → Entry = λ n. record { rank = f.rank; place = n } in
+    let rank : Rank → RankedPool = λ r. record { rank = r; place = e.place } in
+    let place : ℕ → RankedPool = λ n. record { rank = f.rank; place = n } in
     ap rank (rank-exact e.rank f.rank parts.0) ∙ ap place (exact_unsigned e.place f.place parts.1)
 
 -- ---- ranks and the relation

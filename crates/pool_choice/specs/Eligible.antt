@@ -8,7 +8,7 @@ use Rattle.kube_labels.specs.Names.{name_cmp}
 use Rattle.kube_model.specs.declared.service.Service.{Service}
 use Rattle.pool_config.specs.declared.compiled.CompiledAllocation.{CompiledAllocation}
 use Rattle.pool_config.specs.declared.compiled.CompiledPool.{CompiledPool}
-use Rattle.pool_choice.specs.declared.choice.Entry.{Entry}
+use Rattle.pool_choice.specs.declared.choice.RankedPool.{RankedPool}
 use Rattle.pool_choice.specs.Rank.{rank_of, rank_cmp, pool_cmp}
 use Rattle.pool_choice.specs.Serving.{Serves, serves}
 use Rattle.pool_choice.specs.Sorted.{sorted}
@@ -49,13 +49,13 @@ abbrev pub eligible : Service → List (List ℕ × List ℕ) → List CompiledP
 eligible service labels pools = sorted pool_cmp (filter (is_offered service labels) pools)
 
 -- The same by the places of the pools, of which the first is that of the head.
-abbrev pub entries_from : Service → List (List ℕ × List ℕ) → ℕ → List CompiledPool → List Entry
-entries_from service labels place [] = []
-entries_from service labels place (pool ∷ pools) =
+abbrev pub ranked_from : Service → List (List ℕ × List ℕ) → ℕ → List CompiledPool → List RankedPool
+ranked_from service labels place [] = []
+ranked_from service labels place (pool ∷ pools) =
     if is_offered service labels pool
-    then record { rank = rank_of pool; place = place } ∷ entries_from service labels (place + 1) pools
-    else entries_from service labels (place + 1) pools
+    then record { rank = rank_of pool; place = place } ∷ ranked_from service labels (place + 1) pools
+    else ranked_from service labels (place + 1) pools
 
 -- by rank, then by place
-abbrev pub entry_cmp : Entry → Entry → Ordering
-entry_cmp e f = ordering_then (rank_cmp e.rank f.rank) (nat_cmp e.place f.place)
+abbrev pub ranked_cmp : RankedPool → RankedPool → Ordering
+ranked_cmp e f = ordering_then (rank_cmp e.rank f.rank) (nat_cmp e.place f.place)

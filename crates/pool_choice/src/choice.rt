@@ -1,7 +1,7 @@
 //! The pools that serve a service unasked, in their order.
 ghost use Rattle.std.specs.Prelude.{◌≡◌, map, slice_get, IfOk, Some};
 ghost use Rattle.std.specs.Option.{option_copied};
-ghost use Rattle.pool_choice.specs.Eligible.{AreEligible, is_offered, eligible, entries_from, entry_cmp};
+ghost use Rattle.pool_choice.specs.Eligible.{AreEligible, is_offered, eligible, ranked_from, ranked_cmp};
 ghost use Rattle.pool_choice.specs.Rank.{rank_by, rank_of};
 ghost use Rattle.pool_choice.specs.Sorted.{sorted};
 
@@ -26,9 +26,9 @@ enum Rank {
     Unallocated,
 }
 
-/// A pool of a configuration: entries are ordered by rank, then by place, which is the order of the names.
+/// A pool of a configuration: ranked pools are ordered by rank, then by place, which is the order of the names.
 #[derive(Clone, Copy, PartialEq, Eq, PartialOrd, Ord)]
-struct Entry {
+struct RankedPool {
     rank: Rank,
     place: usize,
 }
@@ -66,20 +66,20 @@ fn offered(
     pools: &[CompiledPool],
     service: &Service,
     namespace: &Labels,
-) -> Result<Vec<Entry>, NoMemory>
-    ensures { IfOk result (λ entries. entries.items ≡ entries_from service.now namespace.now 0 pools.now) }
+) -> Result<Vec<RankedPool>, NoMemory>
+    ensures { IfOk result (λ ranked. ranked.items ≡ ranked_from service.now namespace.now 0 pools.now) }
 {
-    let mut entries = Vec::new(alloc);
+    let mut ranked = Vec::new(alloc);
     for (place, pool) in pools.iter().enumerate() {
         if !is_offered(pool, service, namespace) {
             continue;
         }
-        entries.push(Entry {
+        ranked.push(RankedPool {
             rank: rank_of(pool),
             place,
         })?;
     }
-    Ok(entries)
+    Ok(ranked)
 }
 
 /// The same in their order.
@@ -88,20 +88,20 @@ fn in_order(
     pools: &[CompiledPool],
     service: &Service,
     namespace: &Labels,
-) -> Result<Vec<Entry>, NoMemory>
-    ensures { IfOk result (λ entries. entries.items
-        ≡ sorted entry_cmp (entries_from service.now namespace.now 0 pools.now)) }
+) -> Result<Vec<RankedPool>, NoMemory>
+    ensures { IfOk result (λ ranked. ranked.items
+        ≡ sorted ranked_cmp (ranked_from service.now namespace.now 0 pools.now)) }
 {
-    let mut entries = offered(alloc, pools, service, namespace)?;
-    entries.sort_unstable();
-    Ok(entries)
+    let mut ranked = offered(alloc, pools, service, namespace)?;
+    ranked.sort_unstable();
+    Ok(ranked)
 }
 
-fn places(alloc: Global, entries: &[Entry]) -> Result<PoolIndexes, NoMemory>
-    ensures { IfOk result (λ places. places ≡ map (λ e. e.place) entries.now) }
+fn places(alloc: Global, ranked: &[RankedPool]) -> Result<PoolIndexes, NoMemory>
+    ensures { IfOk result (λ places. places ≡ map (λ e. e.place) ranked.now) }
 {
     let mut places = PoolIndexes::new(alloc);
-    for entry in entries {
+    for entry in ranked {
         places.push(entry.place)?;
     }
     Ok(places)
@@ -114,10 +114,10 @@ fn eligible_in(
     namespace: &Labels,
 ) -> Result<PoolIndexes, NoMemory>
     ensures { IfOk result (λ places. places
-        ≡ map (λ e. e.place) (sorted entry_cmp (entries_from service.now namespace.now 0 pools.now))) }
+        ≡ map (λ e. e.place) (sorted ranked_cmp (ranked_from service.now namespace.now 0 pools.now))) }
 {
-    let entries = in_order(alloc, pools, service, namespace)?;
-    places(alloc, entries.as_slice())
+    let ranked = in_order(alloc, pools, service, namespace)?;
+    places(alloc, ranked.as_slice())
 }
 
 /// The pools of the configuration that serve the service unasked, whose namespace has these labels: those with a service

@@ -1,13 +1,13 @@
 use Rattle.std.proofs.Common.{◌≡◌, false, take}
-use Rattle.claim_index.specs.declared.slot.Slot.{Slot}
+use Rattle.claim_index.specs.declared.slot.NumberedSlot.{NumberedSlot}
 use Rattle.claim_index.specs.Holders.{in_slot, claims_having}
 use Rattle.claim_index.specs.Removal.{left_at}
-use Rattle.claim_index.specs.Slots.{same_slot}
+use Rattle.claim_index.specs.NumberedSlots.{same_slot}
 use Rattle.claim_index.proofs.removal.remove_each.Given as goal
 
 abbrev pub invariant-loop-address : goal.invariant-loop-address
 invariant-loop-address l =
     record {
       numbers : claims_having l.holders l.slot ≡ left_at l.number (take l.address-index l.addresses) (claims_having l.fn.holders l.slot);
-      others : (s : Slot) → same_slot l.slot s ≡ false → in_slot l.holders s ≡ in_slot l.fn.holders s;
+      others : (s : NumberedSlot) → same_slot l.slot s ≡ false → in_slot l.holders s ≡ in_slot l.fn.holders s;
     }

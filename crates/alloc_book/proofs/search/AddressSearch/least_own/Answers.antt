@@ -3,8 +3,13 @@ use Rattle.ip_ranges.specs.Values.{AddressValue, has_address}
 use Rattle.alloc_book.specs.Candidates.{Covers}
 use Rattle.alloc_book.specs.Search.{numbered}
 use Rattle.alloc_book.specs.Searching.{claims_for, usable_by}
-use Rattle.alloc_book.proofs.Candidates.{Ahead, IsOneOf, met-claim, met-none, all-claims_met}
+use Rattle.alloc_book.proofs.Candidates.{Ahead, IsOneOf, met-claim, met-none, all-claims_met, none-own}
 use Rattle.alloc_book.proofs.search.AddressSearch.least_own.Goals as goal
+
+pub returns-then-not-self : goal.returns-then-not-self
+returns-then-not-self c =
+    none-own (claims_for c.args.self.now) c.args.self.now.key.now c.args.self.now.family
+    (numbered (usable_by c.args.self.now) c.args.self.now.family) c.args.low c.args.high c.args.self.now.is_holder c.requires c.if-not-self.true
 
 pub loop-number-preserved-in_default : goal.loop-number-preserved-in_default
 loop-number-preserved-in_default c =

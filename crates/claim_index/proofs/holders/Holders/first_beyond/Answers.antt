@@ -47,9 +47,9 @@ returns-in-None-clause-some c =
     rw (← c.self.view_is)
     (of-found c.args.slot.now entries c.in_ok-claimants.claimants.now c.in_ok-claimants.ensures.value
     (λ (claimants : ClaimantsValue).
-    IfSome c.first_held.result (λ n. IsLeastIn (is_listed_but claimants (in_slot_at entries c.args.fewer.now)) c.args.low c.args.high n))
-    (subst (λ (test : ℕ → Bool). IfSome c.first_held.result (λ n. IsLeastIn test c.args.low c.args.high n))
-    (unlisted c.in_ok-claimants.claimants.now c.args.fewer.now entries c.in-None.ensures.value) c.first_held.ensures.some))
+    IfSome c.first_claimed.result (λ n. IsLeastIn (is_listed_but claimants (in_slot_at entries c.args.fewer.now)) c.args.low c.args.high n))
+    (subst (λ (test : ℕ → Bool). IfSome c.first_claimed.result (λ n. IsLeastIn test c.args.low c.args.high n))
+    (unlisted c.in_ok-claimants.claimants.now c.args.fewer.now entries c.in-None.ensures.value) c.first_claimed.ensures.some))
 
 pub returns-in-None-clause-none : goal.returns-in-None-clause-none
 returns-in-None-clause-none c =
@@ -57,6 +57,6 @@ returns-in-None-clause-none c =
     rw (← c.self.view_is)
     (of-found c.args.slot.now entries c.in_ok-claimants.claimants.now c.in_ok-claimants.ensures.value
     (λ (claimants : ClaimantsValue).
-    IfNone c.first_held.result (NonePasses (is_listed_but claimants (in_slot_at entries c.args.fewer.now)) c.args.low c.args.high))
-    (subst (λ (test : ℕ → Bool). IfNone c.first_held.result (NonePasses test c.args.low c.args.high))
-    (unlisted c.in_ok-claimants.claimants.now c.args.fewer.now entries c.in-None.ensures.value) c.first_held.ensures.none))
+    IfNone c.first_claimed.result (NonePasses (is_listed_but claimants (in_slot_at entries c.args.fewer.now)) c.args.low c.args.high))
+    (subst (λ (test : ℕ → Bool). IfNone c.first_claimed.result (NonePasses test c.args.low c.args.high))
+    (unlisted c.in_ok-claimants.claimants.now c.args.fewer.now entries c.in-None.ensures.value) c.first_claimed.ensures.none))

@@ -28,13 +28,13 @@ returns-in-Some-clause-addresses_kept c =
 pub returns-clause-numbers : goal.returns-clause-numbers
 returns-clause-numbers c =
     rw (← c.self.view_is)
-    (made-each c.args.slot.now c.in_ok-made.made c.in_ok-made.ensures c.self.inside.by_slot c.get_mut.follows.lender-at-none c.insert.new.self
+    (made-each c.args.slot.now c.args.slot.now refl c.self.inside.by_slot c.get_mut.follows.lender-at-none c.insert.new.self
     c.reserve-2.new.self c.get_mut.follows.holds-at-none c.in_default.ensures.value
     c.in_ok-_none.ensures.updates (λ old new. claims_at new ≡ claims_at old) (λ same. refl) (c.reserve-2.ensures.numbers ∙ c.new-claimants.ensures.numbers))
 
 pub returns-clause-claims : goal.returns-clause-claims
 returns-clause-claims c =
-    rw (made-now c.args.slot.now c.in_ok-made.made c.in_ok-made.ensures c.self.inside.by_slot c.get_mut.follows.lender-at-none c.insert.new.self
+    rw (made-now c.args.slot.now c.args.slot.now refl c.self.inside.by_slot c.get_mut.follows.lender-at-none c.insert.new.self
     c.reserve-2.new.self c.get_mut.follows.holds-at-none c.in_default.ensures.value
     c.in_ok-_none.ensures.updates)
     c.in_ok-reserve.ensures.claims
@@ -42,14 +42,14 @@ returns-clause-claims c =
 pub returns-clause-claims_kept : goal.returns-clause-claims_kept
 returns-clause-claims_kept c =
     rw (← c.self.view_is)
-    (made-each c.args.slot.now c.in_ok-made.made c.in_ok-made.ensures c.self.inside.by_slot c.get_mut.follows.lender-at-none c.insert.new.self
+    (made-each c.args.slot.now c.args.slot.now refl c.self.inside.by_slot c.get_mut.follows.lender-at-none c.insert.new.self
     c.reserve-2.new.self c.get_mut.follows.holds-at-none c.in_default.ensures.value
     c.in_ok-_none.ensures.updates (λ old new. (n : ℕ) → claim_room_at old n ≤ claim_room_at new n) (λ same n. omega arith) (λ n. omega arith))
 
 pub returns-clause-addresses_kept : goal.returns-clause-addresses_kept
 returns-clause-addresses_kept c =
     rw (← c.self.view_is)
-    (made-each c.args.slot.now c.in_ok-made.made c.in_ok-made.ensures c.self.inside.by_slot c.get_mut.follows.lender-at-none c.insert.new.self
+    (made-each c.args.slot.now c.args.slot.now refl c.self.inside.by_slot c.get_mut.follows.lender-at-none c.insert.new.self
     c.reserve-2.new.self c.get_mut.follows.holds-at-none c.in_default.ensures.value
     c.in_ok-_none.ensures.updates (λ old new. old.room ≤ new.room) (λ same. omega arith) (omega arith))
 
@@ -67,7 +67,7 @@ returns-in-Some-clause-addresses c =
 
 pub returns-clause-addresses : goal.returns-clause-addresses
 returns-clause-addresses c =
-    rw (made-now c.args.slot.now c.in_ok-made.made c.in_ok-made.ensures c.self.inside.by_slot c.get_mut.follows.lender-at-none c.insert.new.self
+    rw (made-now c.args.slot.now c.args.slot.now refl c.self.inside.by_slot c.get_mut.follows.lender-at-none c.insert.new.self
     c.reserve-2.new.self c.get_mut.follows.holds-at-none c.in_default.ensures.value
     c.in_ok-_none.ensures.updates)
     c.in_ok-reserve.ensures.addresses

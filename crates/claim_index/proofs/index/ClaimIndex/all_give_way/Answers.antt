@@ -7,7 +7,7 @@ use Rattle.std.proofs.lemmas.Iterator.{YieldsList-from_slice, cases_from_all}
 use Rattle.std.proofs.lemmas.Iterator.Search.{all_from_yields_List}
 use Rattle.ip_ranges.specs.Values.{AddressValue}
 use Rattle.mlb_base.specs.Items.{is_nil}
-use Rattle.claim_index.specs.declared.slot.Slot.TheVariants.{Any}
+use Rattle.claim_index.specs.Slots.{Any}
 use Rattle.claim_index.specs.Reading.{gives_way}
 use Rattle.claim_index.proofs.IndexReading.{under, asked-all, all_leave-is}
 use Rattle.claim_index.proofs.index.ClaimIndex.all_give_way.Goals as goal

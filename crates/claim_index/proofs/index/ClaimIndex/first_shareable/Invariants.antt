@@ -8,5 +8,5 @@ invariant-loop-port l =
     record {
       begun : l.low ≤ l.left;
       within : l.left ≤ l.high;
-      none : NoneOpen (values_of l.self.items) l.group l.family (take l.port-index l.ports) l.low l.left;
+      none : NoneOpen (values_of l.self.items) l.terms l.family (take l.port-index l.port-items) l.low l.left;
     }

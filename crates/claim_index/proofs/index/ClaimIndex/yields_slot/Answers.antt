@@ -1,4 +1,4 @@
-use Rattle.std.proofs.Common.{◌≡◌, ℕ, Bool, List, false, rules, tests, ap, ◌∙◌}
+use Rattle.std.proofs.Common.{◌≡◌, ℕ, Bool, List, Some, false, rules, tests, sym, subst, ap, ◌∙◌}
 use Rattle.std.specs.List.{list_all}
 use Rattle.std.specs.List.Sorted.{IsStrictlySortedBy}
 use Rattle.std.specs.Map.{keys_of}
@@ -7,8 +7,13 @@ use Rattle.std.proofs.lemmas.Iterator.{YieldsList-from_slice, cases_from_all}
 use Rattle.std.proofs.lemmas.Iterator.Search.{all_from_yields_List}
 use Rattle.ip_ranges.specs.Values.{AddressValue}
 use Rattle.mlb_base.specs.Items.{is_nil}
+use Rattle.claim_index.specs.GroupNumbers.{number_for}
+use Rattle.claim_index.specs.Index.{ClaimIndexValue}
 use Rattle.claim_index.specs.Reading.{is_of}
+use Rattle.claim_index.specs.SharingGroups.{sharing_group_of}
+use Rattle.claim_index.specs.Slots.{OfPort}
 use Rattle.claim_index.proofs.IndexReading.{under, asked-all, yields-is}
+use Rattle.claim_index.proofs.NumberLaws.{port-are}
 use Rattle.claim_index.proofs.index.ClaimIndex.yields_slot.Goals as goal
 
 pub returns : goal.returns
@@ -23,6 +28,10 @@ returns c =
     let test : ℕ → Bool = λ n. is_of c.args.key.now (under items n) in
     let value : c.all.result ≡ list_all test numbers =
     all_from_yields_List test _ _ c.all.result c.all.ensures.ran (YieldsList-from_slice numbers cc) (λ x b q k. search (rules, tests)) in
+    let terms = c.args.terms.now in
+    let number : number_for c.self.inside.groups terms ≡ Some c.args.group =
+    subst (λ (v : ClaimIndexValue). number_for v.room.groups terms ≡ Some c.args.group) (sym c.self.view_is) c.requires in
     rw (← c.self.view_is)
-    (value ∙ yields-is items numbers sorted c.args.slot.now c.args.address.now
-    (c.numbers.ensures ∙ ap (λ (f : AddressValue → List ℕ). f c.args.address.now) (c.self.invariant.holders c.args.slot.now)) c.args.key.now)
+    (value ∙ yields-is items numbers sorted (OfPort c.args.port (sharing_group_of terms)) c.args.address.now
+    (c.numbers.ensures ∙ ap (λ (f : AddressValue → List ℕ). f c.args.address.now)
+    (port-are c.self.inside.groups c.self.inside.holders items c.self.invariant.holders terms c.args.port c.args.group number)) c.args.key.now)

@@ -3,7 +3,7 @@ use Rattle.mlb_base.specs.Items.{is_nil}
 use Rattle.number_sets.specs.Least.{IsLeastIn, NonePasses}
 use Rattle.claim_index.specs.Holders.{claims_at}
 use Rattle.claim_index.proofs.SlotLaws.{slot-absent, of-found}
-use Rattle.claim_index.proofs.holders.Holders.first_held.Goals as goal
+use Rattle.claim_index.proofs.holders.Holders.first_claimed.Goals as goal
 
 pub returns-in_err-get-clause-none : goal.returns-in_err-get-clause-none
 returns-in_err-get-clause-none c =
@@ -14,10 +14,11 @@ pub returns-clause-some : goal.returns-clause-some
 returns-clause-some c =
     rw (← c.self.view_is)
     (of-found c.args.slot.now c.self.inside.by_slot.entries c.in_ok-get.field-0.now c.in_ok-get.ensures.value
-    (λ claimants. IfSome c.first_held.result (λ n. IsLeastIn (λ m. not (is_nil (claims_at claimants m))) c.args.low c.args.high n)) c.first_held.ensures.some)
+    (λ claimants. IfSome c.first_claimed.result (λ n. IsLeastIn (λ m. not (is_nil (claims_at claimants m))) c.args.low c.args.high n))
+    c.first_claimed.ensures.some)
 
 pub returns-clause-none : goal.returns-clause-none
 returns-clause-none c =
     rw (← c.self.view_is)
     (of-found c.args.slot.now c.self.inside.by_slot.entries c.in_ok-get.field-0.now c.in_ok-get.ensures.value
-    (λ claimants. IfNone c.first_held.result (NonePasses (λ m. not (is_nil (claims_at claimants m))) c.args.low c.args.high)) c.first_held.ensures.none)
+    (λ claimants. IfNone c.first_claimed.result (NonePasses (λ m. not (is_nil (claims_at claimants m))) c.args.low c.args.high)) c.first_claimed.ensures.none)

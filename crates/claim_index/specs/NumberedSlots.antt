@@ -1,0 +1,47 @@
+-- The slots of claims by the numbers of their groups.
+use Rattle.std.specs.Prelude.{◌≡◌, ℕ, Bool, true, false, ◌==◌, ◌&&◌, List, [], ◌∷◌, map, ⊤, Option, Some}
+use Rattle.std.specs.List.{list_any}
+use Rattle.std.specs.Option.{option_map, option_map_or}
+use Rattle.kube_model.specs.declared.port.Port.{Port}
+use Rattle.sharing_terms.specs.Sharing.{has_port, same_port}
+use Rattle.claim_index.specs.declared.slot.NumberedSlot.{NumberedSlot}
+use Rattle.claim_index.specs.declared.slot.NumberedSlot.TheVariants.{Any, OfSharingGroup, OfPort}
+use Rattle.claim_index.specs.GroupNumbers.{GroupsValue, number_of}
+use Rattle.claim_index.specs.Slots as texts
+
+-- whether the slots are one
+abbrev pub same_slot : NumberedSlot → NumberedSlot → Bool
+same_slot Any Any = true
+same_slot Any (OfSharingGroup other) = false
+same_slot Any (OfPort port other) = false
+same_slot (OfSharingGroup group) Any = false
+same_slot (OfSharingGroup group) (OfSharingGroup other) = group == other
+same_slot (OfSharingGroup group) (OfPort port other) = false
+same_slot (OfPort port group) Any = false
+same_slot (OfPort port group) (OfSharingGroup other) = false
+same_slot (OfPort port group) (OfPort other_port other) = same_port port other_port && (group == other)
+
+-- there is a number, and it is this one
+abbrev pub is_number : Option ℕ → ℕ → Bool
+is_number group n = option_map_or (λ m. m == n) group false
+
+-- the slot is that of all claims, or one of the group of this number, where there is one: that of the group or that of one of these ports in it
+abbrev pub is_slot_by : Option ℕ → List Port → NumberedSlot → Bool
+is_slot_by group ports Any = true
+is_slot_by group ports (OfSharingGroup n) = is_number group n
+is_slot_by group ports (OfPort port n) = is_number group n && has_port ports port
+
+-- the slots of the group of this number and of each of the ports in it
+abbrev pub shared_slots : ℕ → List Port → List NumberedSlot
+shared_slots group ports = OfSharingGroup group ∷ map (λ port. OfPort port group) ports
+
+-- none of the slots is that of all claims, and none stands twice
+abbrev pub AreApart : List NumberedSlot → Type 0
+AreApart [] = ⊤
+AreApart (slot ∷ slots) = (same_slot Any slot ≡ false) × (list_any (same_slot slot) slots ≡ false) × AreApart slots
+
+-- the slot with the number of its group, where that has one
+abbrev pub numbered_slot : GroupsValue → texts.Slot → Option NumberedSlot
+numbered_slot groups texts.Any = Some Any
+numbered_slot groups (texts.OfSharingGroup group) = option_map (λ n. OfSharingGroup n) (number_of groups group)
+numbered_slot groups (texts.OfPort port group) = option_map (λ n. OfPort port n) (number_of groups group)

@@ -1,5 +1,5 @@
 //! The owner of the list.
-ghost use Rattle.std.specs.Prelude.{◌≡◌, ◌-◌, ◌^◌, ◌<◌, ◌++◌, ◌∷◌, [], length, MatchBool};
+ghost use Rattle.std.specs.Prelude.{◌≡◌, ◌++◌, ◌∷◌, [], MatchBool};
 ghost use Rattle.growing_list.specs.Counted.{word_of};
 
 use crate::beginning::Beginning;
@@ -69,15 +69,18 @@ impl<E, J: Naming> Grower<E, J> {
         self.whole.again()
     }
 
-    /// Adds the entry. `false` says that it wasn't added: that doesn't happen, and no clause excludes it. It takes no memory.
+    /// Adds the entry. `false` says that it wasn't added: that doesn't happen before the list has 2^64 - 1 entries, and no clause excludes it. It
+    /// takes no memory.
     pub fn add(&mut self, entry: &E) -> bool
-        requires room { length self.old < 2 ^ 64 - 1 }
         ensures { MatchBool result (self.new ≡ self.old ++ entry.now ∷ []) (self.new ≡ self.old) }
     {
         let mut longer = self.whole.again();
+        let count = longer.count;
+        if count == u64::MAX {
+            return false;
+        }
         let mut offer: Offer<E, u64, Counts, Nothing> = longer.seen.plain::<Nothing, E, Add>(entry);
         let mut pen = longer.seen.no_pen();
-        let count = longer.count;
         let found = self
             .word
             .compare_exchange::<Add, Nothing>(

@@ -1,15 +1,16 @@
 -- Replies, one after the other, and what they are once the list is known.
-use Rattle.std.proofs.Common.{◌≡◌, ℕ, ◌+◌, ◌<◌, ◌≤◌, zero, suc, Option, Some, Result, Ok, Err, IfSome, IfOk, List, [], ◌∷◌, ◌++◌, length, fold, take, get_or, add-one, refl, ap, sym, subst, ◌∙◌, arith, append_assoc, length-append}
+use Rattle.std.proofs.Common.{◌≡◌, ℕ, ◌+◌, ◌<◌, ◌≤◌, zero, suc, Option, Some, Result, Ok, Err, IfSome, IfOk, List}
+use Rattle.std.proofs.Common.{[], ◌∷◌, ◌++◌, length, fold, take, get_or, add-one, refl, ap, sym, subst, ◌∙◌, arith, append_assoc, length-append}
 use mathlib.Core.List.{IsPrefix}
 use Rattle.std.specs.Result.{result_ok}
 use Rattle.std.proofs.Math.Seq.{take-suc}
 use Rattle.shown_board.specs.declared.follower.Reply.{Reply}
 use Rattle.shown_board.specs.Replies.{AreReplies, AreAnswered}
 
-prefix_through : {A : Type 0} (xs ys zs : List A) → IsPrefix xs ys → IsPrefix ys zs → IsPrefix xs zs
+pub prefix_through : {A : Type 0} (xs ys zs : List A) → IsPrefix xs ys → IsPrefix ys zs → IsPrefix xs zs
 prefix_through xs ys zs p q = (p.0 ++ q.0, sym (append_assoc xs p.0 q.0) ∙ (ap (λ w. w ++ q.0) p.1 ∙ q.1))
 
-prefix_taken : {A : Type 0} (xs ys : List A) → IsPrefix xs ys → take (length xs) ys ≡ xs
+pub prefix_taken : {A : Type 0} (xs ys : List A) → IsPrefix xs ys → take (length xs) ys ≡ xs
 prefix_taken [] ys p = refl
 prefix_taken (x ∷ xs) [] p = absurd (cc (p.1))
 prefix_taken (x ∷ xs) (y ∷ ys) p =
@@ -17,13 +18,14 @@ prefix_taken (x ∷ xs) (y ∷ ys) p =
     let head : x ≡ y = cc (p.1) in
     cc (head, rest)
 
-prefix_long : {A : Type 0} (xs ys : List A) → IsPrefix xs ys → length xs ≤ length ys
+pub prefix_long : {A : Type 0} (xs ys : List A) → IsPrefix xs ys → length xs ≤ length ys
 prefix_long xs ys p = omega (arith, sym (ap length p.1) ∙ length-append xs p.0)
 
 module _ {T E Q A : Type 0} (after : T → E → T) (start : T) (answers : Q → T → A → Type 0) where
   -- one question more
   pub replies_more : (seen : List E) (questions : List Q) (replies : List (Reply A)) (mid now : List E) (question : Q) (reply : Reply A)
-      → AreReplies after start answers seen questions replies mid → IsPrefix mid now → reply.seen ≡ length now → answers question (fold after start now) reply.answer
+      → AreReplies after start answers seen questions replies mid → IsPrefix mid now → reply.seen ≡ length now
+      → answers question (fold after start now) reply.answer
       → AreReplies after start answers seen (questions ++ question ∷ []) (replies ++ reply ∷ []) now
   replies_more seen [] [] mid now question reply done begins count answer =
       (now, subst (λ s. IsPrefix s now) done begins, count, answer, refl)
@@ -32,7 +34,8 @@ module _ {T E Q A : Type 0} (after : T → E → T) (start : T) (answers : Q →
   replies_more seen (q ∷ qs) (r ∷ rs) mid now question reply done begins count answer =
       (done.0, done.1, done.2, done.3, replies_more done.0 qs rs mid now question reply done.4 begins count answer)
 
-  replies_begin : (seen : List E) (questions : List Q) (replies : List (Reply A)) (seen' : List E) → AreReplies after start answers seen questions replies seen' → IsPrefix seen seen'
+  replies_begin : (seen : List E) (questions : List Q) (replies : List (Reply A)) (seen' : List E)
+      → AreReplies after start answers seen questions replies seen' → IsPrefix seen seen'
   replies_begin seen [] [] seen' done = ([], append_none seen seen' done)
     where
       append_none : (xs ys : List E) → ys ≡ xs → xs ++ [] ≡ ys
@@ -47,7 +50,8 @@ module _ {T E Q A : Type 0} (after : T → E → T) (start : T) (answers : Q →
 
   -- where the events that were seen last begin a list, each reply is by the first ones of that list
   pub replies_of_list : (events : List E) (seen : List E) (questions : List Q) (replies : List (Reply A)) (seen' : List E)
-      → AreReplies after start answers seen questions replies seen' → IsPrefix seen' events → AreAnswered after start answers events (length seen) questions replies
+      → AreReplies after start answers seen questions replies seen' → IsPrefix seen' events
+      → AreAnswered after start answers events (length seen) questions replies
   replies_of_list events seen [] [] seen' done begins = tt
   replies_of_list events seen [] (r ∷ rs) seen' done begins = absurd done
   replies_of_list events seen (q ∷ qs) [] seen' done begins = absurd done

@@ -10,7 +10,8 @@ module _ {T E Q A : Type 0} (after : T → E → T) (start : T) (answers : Q →
   AreReplies seen [] (reply ∷ replies) seen' = ⊥
   AreReplies seen (question ∷ questions) [] seen' = ⊥
   AreReplies seen (question ∷ questions) (reply ∷ replies) seen' =
-      (now : List E) × IsPrefix seen now × (reply.seen ≡ length now) × answers question (fold after start now) reply.answer × AreReplies now questions replies seen'
+      (now : List E) × IsPrefix seen now × (reply.seen ≡ length now) × answers question (fold after start now) reply.answer
+      × AreReplies now questions replies seen'
 
   -- Each question has an answer, by the value after some first ones of these events, never fewer than before.
   abbrev pub AreAnswered : List E → ℕ → List Q → List (Reply A) → Type 0
@@ -18,4 +19,5 @@ module _ {T E Q A : Type 0} (after : T → E → T) (start : T) (answers : Q →
   AreAnswered events low [] (reply ∷ replies) = ⊥
   AreAnswered events low (question ∷ questions) [] = ⊥
   AreAnswered events low (question ∷ questions) (reply ∷ replies) =
-      (low ≤ reply.seen) × (reply.seen ≤ length events) × answers question (fold after start (take reply.seen events)) reply.answer × AreAnswered events reply.seen questions replies
+      (low ≤ reply.seen) × (reply.seen ≤ length events) × answers question (fold after start (take reply.seen events)) reply.answer
+      × AreAnswered events reply.seen questions replies

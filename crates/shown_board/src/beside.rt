@@ -1,5 +1,5 @@
 //! A responder that answers beside the writer, and what its answers are once both have ended.
-ghost use Rattle.std.specs.Prelude.{◌≡◌, ◌-◌, ◌^◌, ◌<◌, ◌++◌, ◌≤◌, [], fold, length, vec_len, IfSome, IsTrue};
+ghost use Rattle.std.specs.Prelude.{◌≡◌, ◌++◌, ◌≤◌, [], fold, length, IfSome, IsTrue};
 ghost use mathlib.Core.List.{IsPrefix};
 ghost use Rattle.shown_board.specs.Replies.{AreReplies, AreAnswered};
 
@@ -35,7 +35,6 @@ pub fn publish_all<P: Post<E, J>, E: Drop, J: Naming, R: Wait>(
     events: Vec<E>,
 ) -> bool
     requires fresh { (writer.old.published ≡ []) × (writer.old.pending ≡ []) }
-    requires room { vec_len events < 2 ^ 64 - 1 }
     ensures { IsTrue result → writer.new.published ≡ events.items }
 {
     for event in events {
@@ -65,7 +64,6 @@ fn write<P: Post<E, J>, E: Drop, J: Naming, R: Wait>(
     events: Vec<E>,
 ) -> Option<Beginning<E, J>>
     requires fresh { (writer.old.published ≡ []) × (writer.old.pending ≡ []) }
-    requires room { vec_len events < 2 ^ 64 - 1 }
     ensures { IfSome result (λ all. all ≡ events.items) }
 {
     if publish_all(rt, writer, events) {
@@ -96,7 +94,6 @@ where
     Q::Answer: Send,
     requires book { opened.seen.book ≡ J.book }
     requires start { (first ≡ T.start) × (second ≡ T.start) }
-    requires room { vec_len events < 2 ^ 64 - 1 }
     ensures { IfSome result (λ replies. AreAnswered T.after T.start Q.answers events.items 0 questions.now replies.items) }
 {
     let (mut writer, responder) = board::<T, E, J, R>(rt, alloc, opened, first, second).ok()?;
@@ -106,7 +103,7 @@ where
             ensures { IfSome result (λ r. AreReplies T.after T.start Q.answers responder.seen questions.entry.now r.1.items r.0) }
         { read(alloc, responder, questions) },
         || -> Option<Beginning<E, J>>
-            requires { (writer.published ≡ []) × (writer.pending ≡ []) × (vec_len events < 2 ^ 64 - 1) }
+            requires { (writer.published ≡ []) × (writer.pending ≡ []) }
             ensures { IfSome result (λ all. all ≡ events.items) }
         { write(rt, &mut writer, events) },
     );

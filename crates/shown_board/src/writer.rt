@@ -1,5 +1,5 @@
 //! The writer of a board.
-ghost use Rattle.std.specs.Prelude.{◌≡◌, ◌+◌, ◌-◌, ◌^◌, ◌<◌, ◌++◌, ◌∷◌, [], length, IfOk, MatchResult};
+ghost use Rattle.std.specs.Prelude.{◌≡◌, ◌++◌, ◌∷◌, [], IfOk, MatchResult};
 
 use crate::follower::Follower;
 use crate::posted::{Post, Posted, Step};
@@ -81,9 +81,8 @@ pub fn board<T: Follower<E>, E: Drop, J: Naming, R: Wait>(
 }
 
 impl<P: Post<E, J>, E: Drop, J: Naming> BoardWriter<P, E, J> {
-    /// The event goes to the end of what is pending. For want of memory it comes back, and nothing changes.
+    /// The event goes to the end of what is pending. For want of memory it comes back, and nothing changes; so it is behind 2^64 - 1 events.
     pub fn append(&mut self, event: E) -> Result<(), AppendBack<E>>
-        requires room { length self.old.published + length self.old.pending < 2 ^ 64 - 1 }
         ensures published { self.new.published ≡ self.old.published }
         ensures pending { MatchResult result (λ _. self.new.pending ≡ self.old.pending ++ event ∷ [])
             (λ back. (back.event ≡ event) × (self.new.pending ≡ self.old.pending)) }

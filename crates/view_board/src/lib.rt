@@ -6,11 +6,13 @@
 #![tactic(auto)]
 
 mod answer;
+mod board_wait;
 mod elected_view;
 mod responder;
 mod writer;
 
 pub use answer::Answer;
+pub use board_wait::BoardWait;
 pub use elected_view::{Classed, ElectedView};
 pub use responder::{Reply, Responder, Told};
 pub use shown_board::{Naming, Opened};

@@ -1,5 +1,5 @@
 //! The board and its writer.
-ghost use Rattle.std.specs.Prelude.{◌≡◌, ◌+◌, ◌-◌, ◌^◌, ◌<◌, ◌++◌, ◌∷◌, [], length, IfOk, MatchResult};
+ghost use Rattle.std.specs.Prelude.{◌≡◌, ◌++◌, ◌∷◌, [], IfOk, MatchResult};
 
 use crate::elected_view::{Classed, ElectedView};
 use crate::responder::{Responder, Told};
@@ -52,9 +52,8 @@ pub fn board<J: Classed, R: Wait>(
 }
 
 impl<J: Classed> BoardWriter<J> {
-    /// The event goes to the end of what is pending. For want of memory it comes back, and nothing changes.
+    /// The event goes to the end of what is pending. For want of memory it comes back, and nothing changes; so it is behind 2^64 - 1 events.
     pub fn append(&mut self, event: Event) -> Result<(), AppendBack>
-        requires room { length self.old.published + length self.old.pending < 2 ^ 64 - 1 }
         ensures published { self.new.published ≡ self.old.published }
         ensures pending { MatchResult result (λ _. self.new.pending ≡ self.old.pending ++ event ∷ [])
             (λ back. (back.event ≡ event) × (self.new.pending ≡ self.old.pending)) }

@@ -1,5 +1,5 @@
 //! A responder on a thread beside the writer's.
-ghost use Rattle.std.specs.Prelude.{◌≡◌, [], None};
+ghost use Rattle.std.specs.Prelude.{◌≡◌, None};
 
 use crate::asking::{Heard, ask};
 use crate::shown::{LEFT, SHOWN, show, show_all};
@@ -35,9 +35,7 @@ fn publish<J: Classed, R: Wait>(
     writer: &mut BoardWriter<J>,
     announced: &AtomicU64,
     answered: &AtomicU64,
-) -> bool
-    requires { writer.old.pending ≡ [] }
-{
+) -> bool {
     if !show_all(rt, alloc, writer, &SHOWN) {
         return false;
     }
@@ -80,9 +78,7 @@ fn is_met<J: Classed + Send + Sync, R: Threads + Wait + Abort + Sync>(
     let ((before, after), published) = join(
         rt,
         || -> (Told, Told) { answer(responder, &announced, &answered) },
-        || -> bool
-            requires { writer.pending ≡ [] }
-        { publish(rt, alloc, &mut writer, &announced, &answered) },
+        || -> bool { publish(rt, alloc, &mut writer, &announced, &answered) },
     );
     writer.end(rt);
     assert!(rt; published);

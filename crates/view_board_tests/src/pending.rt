@@ -7,11 +7,10 @@ use kube_model::Event;
 use std::alloc::Global;
 use std::marker::Brand;
 use std::process::Abort;
-use std::sync::Wait;
 use std::test::Fail;
-use view_board::{Classed, Opened, board};
+use view_board::{BoardWait, Classed, Opened};
 
-fn is_told<J: Classed, R: Wait + Abort>(
+fn is_told<J: Classed, R: BoardWait + Abort>(
     rt: &R,
     alloc: Global,
     opened: Opened<Event>,
@@ -19,15 +18,15 @@ fn is_told<J: Classed, R: Wait + Abort>(
     requires book { opened.seen.book ≡ J.book }
     requires class { J.class ≡ None }
 {
-    let Ok((mut writer, mut responder)) = board::<J, R>(rt, alloc, opened, None) else {
+    let Ok((mut writer, mut responder)) = rt.board::<J>(alloc, opened, None) else {
         return Err("no memory".into());
     };
     let appended = put_all(alloc, &mut writer, &SHOWN);
     let before = ask(&mut responder);
-    let published = writer.publish(rt).is_ok();
+    let published = rt.publish(&mut writer).is_ok();
     responder.learn(writer.tell());
     let after = ask(&mut responder);
-    writer.end(rt);
+    rt.end_board(writer);
     let ended = ask(&mut responder);
     assert!(rt; appended && published);
     assert_eq!(rt; before, Some((Heard::Silence, 0)));

@@ -10,8 +10,8 @@ pub loop-question-preserved : goal.loop-question-preserved
 loop-question-preserved g c =
     let questions = c.args.questions.now in
     let i = c.loop-question.question-index in
-    let more = replies_more g.T.Follower.after g.T.Follower.start g.Q.Question.answers c.args.responder.now.seen (take i questions) c.loop-question.replies.items
-    c.loop-question.responder.seen c.respond.new.self.seen c.question-item.result c.in_ok-respond.field-0
+    let more = replies_more g.T.Follower.after g.T.Follower.start g.Q.Question.answers c.args.responder.now.seen (take i questions)
+    c.loop-question.replies.items c.loop-question.responder.seen c.respond.new.self.seen c.question-item.result c.in_ok-respond.field-0
     c.loop-question.invariant c.in_ok-respond.ensures.later.0 c.in_ok-respond.ensures.seen c.in_ok-respond.ensures.answer in
     rw (c.push_reserved.ensures.items, c.reserve.ensures.items, taken_more questions i c.question-item.result c.loop-question-test.true c.question-item.is) more
 

@@ -19,7 +19,8 @@ returns-in-Some-ndp_answer_known g c =
     λ bytes it. none-some bytes (sym c.in_default.is ∙ (c.arp_answer_known.ensures.meaning bytes).1 it) in
     let is = (c.ndp_answer_known.ensures.meaning c.in-Some-ndp_answer_known.bytes).0 c.in-Some-ndp_answer_known.is in (
       subst (λ (v : ViewValue). NoArp v asked.node.now asked.interface.now asked.mac.now asked.frame.now) c.value.view_is none,
-      subst (λ (v : ViewValue). IsNdpAnswer v asked.node.now asked.interface.now asked.mac.now asked.frame.now c.in-Some-ndp_answer_known.bytes) c.value.view_is is,
+      subst (λ (v : ViewValue). IsNdpAnswer v asked.node.now asked.interface.now asked.mac.now asked.frame.now c.in-Some-ndp_answer_known.bytes)
+          c.value.view_is is,
     )
 
 pub returns-in-None : goal.returns-in-None

@@ -15,19 +15,20 @@ use Rattle.lane_run.specs.declared.lane_end.LaneEnd.TheVariants.{Done}
 use Rattle.lane_run.specs.LaneInputs.{LaneInput, lane_input}
 use Rattle.lane_run.specs.Ran.{LanesEnded}
 use Rattle.lane_run.specs.Turned.{StopsTurned}
-use Rattle.lane_run.specs.Views.{SourceView, Outside, outside}
+use Rattle.lane_run.specs.Outside.{SourceState, Outside}
 use Rattle.lane_run.specs.Watched.{Begins, StopsAs}
 use Rattle.lane_run.proofs.Turning.{begins_unturned, ended_unturned, unturned}
 use Rattle.mlb_edge.specs.declared.lines.Line.{Line}
-use Rattle.mlb_edge.specs.InputLines.{Input, to_come}
+use Rattle.mlb_edge.specs.InputLines.{Input}
 use Rattle.lane_drive.specs.Asking.{AsksMore, AsksOf}
-use Rattle.lane_drive.specs.Clauses.{AtDone, AtEnd, DoneOf, EndOf, unread}
+use Rattle.lane_drive.specs.Clauses.{AtDone, AtEnd, DoneOf, EndOf}
 use Rattle.lane_drive.specs.Complete.{AreReadable, AreSent, TakesFirst}
 use Rattle.lane_drive.specs.Drive.{Told, AreTaken}
-use Rattle.lane_drive.specs.Files.{FilesView}
+use Rattle.lane_drive.specs.Files.{FilesState}
 use Rattle.lane_drive.specs.LaneRules.{LaneRules}
 use Rattle.lane_drive.specs.Sending.{Sending, turned}
-use Rattle.lane_drive.specs.Stops.{AreBeginnings, EndsBy, EndsSo, TakesAll, WritesBegun, WritesUpTo, as_they_are}
+use Rattle.lane_drive.specs.Stops.{AreBeginnings, WritesBegun, WritesUpTo, as_they_are}
+use Rattle.lane_drive.proofs.Carried.{Carries, asks_carried, done_carried, end_carried, writes_carried}
 use Rattle.lane_drive.proofs.Complete.{quiet_first, stops_told}
 
 -- ---- put together with what is still to come
@@ -46,7 +47,7 @@ merge_more : (items a b : List Item) → IsMerge (items ++ (a ++ b)) (items_of F
 merge_more [] a b = merge_rest a b
 merge_more (item ∷ items) a b = merge_one item.lane item (items ++ (a ++ b)) (items_of First items) (items_of Second items) a b (merge_more items a b)
 
-begins_in : (belongs : Lane → Event → Bool) (lane : Lane) (left : Option (List ℕ)) (bytes : List ℕ) (part : List Item) → left ≡ Some bytes
+pub begins_in : (belongs : Lane → Event → Bool) (lane : Lane) (left : Option (List ℕ)) (bytes : List ℕ) (part : List Item) → left ≡ Some bytes
     → Begins belongs lane left part → (rest : List Item) × ((lane_input belongs lane bytes).items ≡ part ++ rest)
 begins_in belongs lane left bytes part told b =
     let b' : Begins belongs lane (Some bytes) part = subst (λ (o : Option (List ℕ)). Begins belongs lane o part) told b in
@@ -101,7 +102,7 @@ module _ (belongs : Lane → Event → Bool) where
   abbrev pub unchanged : Sending
   unchanged = turned (λ (s t : ⊤) (event sent : Event). sent ≡ event) (λ (s t : ⊤) (event sent : Event). sent ≡ event) belongs tt tt tt tt
 
-  lanes_so : (first first' second second' : SourceView) (sent : List Item) (end end' : LaneEnd) → unchanged.Ended first first' second second' sent end end'
+  lanes_so : (first first' second second' : SourceState) (sent : List Item) (end end' : LaneEnd) → unchanged.Ended first first' second second' sent end end'
       → LanesEnded belongs first first' second second' sent end end'
   lanes_so first first' second second' sent end end' lanes = record {
     first_ended = ended_unturned belongs First first first' tt tt (items_of First sent) end lanes.first_ended;
@@ -111,142 +112,42 @@ module _ (belongs : Lane → Event → Bool) where
 
   begins_so : (first second : Option (List ℕ)) (items : List Item) → unchanged.Begins first second items → AreBeginnings belongs first second items
   begins_so first second items b = record {
-    firsts = begins_unturned belongs First first tt (items_of First items) b.firsts;
-    seconds = begins_unturned belongs Second second tt (items_of Second items) b.seconds;
+    firsts = begins_unturned belongs First first tt tt (items_of First items) b.firsts;
+    seconds = begins_unturned belongs Second second tt tt (items_of Second items) b.seconds;
   }
 
   stops_so : (lane : Lane) (left : Option (List ℕ)) (items : List Item)
       → StopsTurned (λ (s t : ⊤) (event sent : Event). sent ≡ event) belongs lane left tt tt items Done → StopsAs belongs lane left items Done
   stops_so lane left items s = rw (unturned tt tt s.items items s.turned) s.stops
 
-  module _ {S E : Type 0} (rules : LaneRules S E) (start : S) where
-    abbrev all_so : (first first' second second' : SourceView) (before mid : Outside) (end end' : LaneEnd)
-        → TakesAll unchanged rules start first first' second second' before mid end end'
-        → TakesAll (as_they_are belongs) rules start first first' second second' before mid end end'
-    all_so first first' second second' before mid end end' s = record {
-      items = s.items;
-      lanes = lanes_so first first' second second' s.items end end' s.lanes;
-      state = s.state;
-      told = s.told;
-      drove = s.drove;
-      quiet = s.quiet;
-      known = s.known;
-    }
+  -- so they send their events as they are
+  carries : Carries unchanged (as_they_are belongs)
+  carries = record {
+    ended = lanes_so;
+    begins = begins_so;
+    firsts = λ left items. stops_so First left (items_of First items);
+    seconds = λ left items. stops_so Second left (items_of Second items);
+  }
 
+  module _ {S E : Type 0} (rules : LaneRules S E) (start : S) where
     pub writes_so : (first second : Option (List ℕ)) (now : Option Input) (before after : Option (List ℕ))
         → WritesBegun unchanged rules start first second now before after → WritesUpTo belongs rules start first second now before after
-    writes_so first second now before after s = record {
-      items = s.items;
-      replies = s.replies;
-      next = s.next;
-      comes = s.comes;
-      begin = begins_so first second s.items s.begin;
-      state = s.state;
-      told = s.told;
-      taken = s.taken;
-      wrote = s.wrote;
-    }
+    writes_so = writes_carried unchanged (as_they_are belongs) carries rules start
 
-    module _ (first first' second second' : SourceView) (before after : Outside) (status : Status) where
-      ends_so : EndsBy unchanged rules start first first' second second' before after status
-          → EndsSo belongs rules start first first' second second' before after status
-      ends_so (inl s) = inl (record {
-        items = s.items;
-        item = s.item;
-        dropped = s.dropped;
-        end = s.end;
-        end' = s.end';
-        lanes = lanes_so first first' second second' (s.items ++ s.item ∷ s.dropped) s.end s.end' s.lanes;
-        state = s.state;
-        told = s.told;
-        mid = s.mid;
-        drove = s.drove;
-        quiet = s.quiet;
-        stops = s.stops;
-        unread = s.unread;
-        known = s.known;
-      })
-      ends_so (inr (inl s)) = inr (inl (record {
-        items = s.items;
-        dropped = s.dropped;
-        end = s.end;
-        end' = s.end';
-        lanes = lanes_so first first' second second' (s.items ++ s.dropped) s.end s.end' s.lanes;
-        state = s.state;
-        told = s.told;
-        mid = s.mid;
-        drove = s.drove;
-        waits = s.waits;
-        stops = s.stops;
-        known = s.known;
-      }))
-      ends_so (inr (inr (inl s))) = inr (inr (inl (record {
-        end = s.end;
-        end' = s.end';
-        mid = s.mid;
-        all = all_so first first' second second' before s.mid s.end s.end' s.all;
-        hears = s.hears;
-        stops = s.stops;
-        ill = s.ill;
-      })))
-      ends_so (inr (inr (inr (inl s)))) = inr (inr (inr (inl (record {
-        end = s.end;
-        end' = s.end';
-        mid = s.mid;
-        all = all_so first first' second second' before s.mid s.end s.end' s.all;
-        is = s.is;
-        kept = s.kept;
-        ended = s.ended;
-        unheard = s.unheard;
-      }))))
-      ends_so (inr (inr (inr (inr s)))) =
-          inr (inr (inr (inr (s.0, writes_so first.left second.left (to_come before.reading before.replies.left) before.written after.written s.1))))
-
-    pub asks_so : (first second : SourceView) (before now : Outside) → AsksOf unchanged rules start first second before now
+    pub asks_so : (first second : SourceState) (before now : Outside) → AsksOf unchanged rules start first second before now
         → AsksMore belongs rules start first second before now
-    asks_so first second before now (inl more) = inl more
-    asks_so first second before now (inr s) = inr (record {
-      first' = s.first';
-      second' = s.second';
-      end = s.end;
-      end' = s.end';
-      all = all_so first s.first' second s.second' before now s.end s.end' s.all;
-      none_held = s.none_held;
-      hears = s.hears;
-    })
+    asks_so = asks_carried unchanged (as_they_are belongs) carries rules start
 
     pub done_so : (first second : Option (List ℕ)) (status : Status) (replies left before after : Option (List ℕ))
         → DoneOf unchanged rules start first second status replies left before after
         → AtDone belongs rules start first second status replies left before after
-    done_so first second status replies left before after at done =
-        let s = at done in
-        record {
-          items = s.items;
-          firsts = stops_so First first (items_of First s.items) s.firsts;
-          seconds = stops_so Second second (items_of Second s.items) s.seconds;
-          merge = s.merge;
-          heard = s.heard;
-          state = s.state;
-          told = s.told;
-          taken = s.taken;
-          quiet = s.quiet;
-          wrote = s.wrote;
-          whole = s.whole;
-        }
+    done_so = done_carried unchanged (as_they_are belongs) carries rules start
 
-    pub end_so : (file file' : List ℕ) (files files' : FilesView) (first second replies replies' : SourceView) (before after : Option (List ℕ))
+    pub end_so : (file file' : List ℕ) (files files' : FilesState) (first second replies replies' : SourceState) (before after : Option (List ℕ))
         (writes writes' : ℕ) (status : Status)
         → EndOf unchanged rules start file file' files files' first second replies replies' before after writes writes' status
         → AtEnd belongs rules start file file' files files' first second replies replies' before after writes writes' status
-    end_so file file' files files' first second replies replies' before after writes writes' status at opened =
-        let s = at opened in
-        record {
-          first' = s.first';
-          second' = s.second';
-          reading = s.reading;
-          ends = ends_so first s.first' second s.second' (outside unread replies before writes) (outside s.reading replies' after writes') status s.ends;
-          kept = s.kept;
-        }
+    end_so = end_carried unchanged (as_they_are belongs) carries rules start
 
     -- in whatever order both send their events, they are taken
     module _ (first second replies : Option (List ℕ)) (ready : AreReadable belongs rules start first second replies) where
@@ -289,4 +190,4 @@ module _ (belongs : Lane → Event → Bool) where
               none_more part rest (ap (λ (i : LaneInput). i.items) (stops_told belongs lane left bytes part Done told stops) ∙ are)
 
       pub sent_so : AreSent belongs rules start unchanged first second replies
-      sent_so = record { lines = ready.lines; events = ready.events; taken = takes_first }
+      sent_so = record { lines = ready.lines; events = ready.events; taken = λ items b. inl (takes_first items b) }

@@ -14,7 +14,7 @@ use Rattle.lane_mail.specs.declared.item.Item.{Item}
 use Rattle.lane_run.specs.declared.lane_end.LaneEnd.{LaneEnd}
 use Rattle.lane_run.specs.declared.lane_end.LaneEnd.TheVariants.{Done, ReadFault, LineLimit, InputLimit, BadLine, NoMemory}
 use Rattle.lane_run.specs.LaneInputs.{LaneInput, lane_input, IsInputOf}
-use Rattle.lane_run.specs.Views.{SourceView, Outside, outside}
+use Rattle.lane_run.specs.Outside.{SourceState, Outside, outside}
 use Rattle.lane_run.specs.Watched.{Sends}
 use Rattle.line_run.specs.declared.halt.Halt.{Halt}
 use Rattle.line_run.specs.declared.halt.Halt.TheVariants as halts
@@ -33,9 +33,9 @@ use Rattle.mlb_edge.specs.declared.lines.LineEnd.TheVariants as reader
 use Rattle.mlb_edge.specs.InputLines.{Input, Whole, LongLine, LongInput, Follows, EndsAs, input_of, to_come}
 use Rattle.mlb_edge.specs.Written.{Grows}
 use Rattle.lane_drive.specs.Clauses.{AreLinesOf, EndOf, AtOpenFault, EndsWith, FailsToOpen, unread}
-use Rattle.lane_drive.specs.Complete.{AreSent, CompleteOf, TakesFirst}
+use Rattle.lane_drive.specs.Complete.{AreSent, CompleteOf, TakesFirst, WantsMemory}
 use Rattle.lane_drive.specs.Drive.{Told, AreHeard, AreTaken, IsTaken, Drives}
-use Rattle.lane_drive.specs.Files.{FilesView}
+use Rattle.lane_drive.specs.Files.{FilesState}
 use Rattle.lane_drive.specs.LaneRules.{LaneRules, reply_rules, HaltsItem}
 use Rattle.lane_drive.specs.Sending.{Sending, turned}
 use Rattle.lane_drive.specs.Stops.{StopsAtItem, StopsAtReply, StopsBehind, EndsAsLanes, TakesAll, EndsBy, status_of_lanes}
@@ -89,6 +89,24 @@ comes_left : (bytes : List ℕ) (lines xs : List Line) (now : Option Input) → 
     → (input : Input) × (now ≡ Some input) × (lines ≡ xs ++ input.lines) × (input.ending ≡ Whole)
 comes_left bytes lines xs None follows are = absurd follows
 comes_left bytes lines xs (Some input) follows are = (input, refl, sym are.0 ∙ follows.0, sym follows.1 ∙ are.1)
+
+-- the one is the last item, or one before it
+last_or : (items : List Item) (item : Item) (front : List Item) (one : Item) (others : List Item) → items ++ item ∷ [] ≡ front ++ one ∷ others
+    → ((items ≡ front) × (item ≡ one)) ⊎ ((rest : List Item) × (items ≡ front ++ one ∷ rest))
+last_or [] item [] one others e = inl (refl, cc)
+last_or [] item (f ∷ front) one others e = absurd (omega (arith, ap length e, length-append front (one ∷ others)))
+last_or (i ∷ items) item [] one others e =
+    let same : i ≡ one = cc in
+    inr (items, ap (λ (x : Item). x ∷ items) same)
+last_or (i ∷ items) item (f ∷ front) one others e =
+    let head : i ≡ f = cc in
+    let tail : items ++ item ∷ [] ≡ front ++ one ∷ others = cc in
+    behind head (last_or items item front one others tail)
+  where
+    behind : i ≡ f → ((items ≡ front) × (item ≡ one)) ⊎ ((rest : List Item) × (items ≡ front ++ one ∷ rest))
+        → ((i ∷ items ≡ f ∷ front) × (item ≡ one)) ⊎ ((rest : List Item) × (i ∷ items ≡ (f ∷ front) ++ one ∷ rest))
+    behind head (inl (same, last)) = inl (cc, last)
+    behind head (inr (rest, is)) = inr (rest, cc)
 
 module _ {S E : Type 0} (rules : LaneRules S E) where
   -- ---- what is heard and taken is one
@@ -196,6 +214,92 @@ module _ {S E : Type 0} (rules : LaneRules S E) where
       goes_on (other ∷ items) rest behind ys behind' after next u t more more' others
       (subst (λ (x : S). AreTaken rules (other ∷ (items ++ rest)) behind' x t more') none.1 others') quiet (sym tails)
 
+  -- the same items, with replies that are both the first of the same lines, lead to one state that awaits none
+  same_state : (items : List Item) (xs ys zs after : List Line) (s u t : S) (told told' : List (Told E)) → AreTaken rules items xs s u told
+      → rules.waits u ≡ false → AreTaken rules items zs s t told' → rules.waits t ≡ false → zs ++ after ≡ xs ++ ys → t ≡ u
+  same_state items xs ys zs after s u t told told' mine quiet theirs quiet' same =
+      let theirs' : AreTaken rules (items ++ []) zs s t told' = rw (append-nil items) theirs in
+      let on = goes_on items [] xs ys zs after s u t told told' mine theirs' quiet' same in
+      on.taken.1 ∙ (none_heard rules u on.state on.more on.entries quiet on.hears).1
+
+  -- Some items were taken, and then this one.
+  record TakesAt (front : List Item) (item : Item) (lines : List Line) (s : S) : Type 0 where
+    pub heard : List Line
+    pub rest : List Line
+    pub split : lines ≡ heard ++ rest
+    pub state : S
+    pub told : List (Told E)
+    pub taken : AreTaken rules front heard s state told
+    pub quiet : rules.waits state ≡ false
+    pub next : S
+    pub entries : List E
+    pub steps : rules.take state item ≡ Goes next entries
+
+  takes_at : (front : List Item) (item : Item) (others : List Item) (lines : List Line) (s t : S) (told : List (Told E))
+      → AreTaken rules (front ++ item ∷ others) lines s t told → TakesAt front item lines s
+  takes_at [] item others lines s t told (own, behind, next, entries, more, split, taken, rest, is) = record {
+    heard = [];
+    rest = lines;
+    split = refl;
+    state = s;
+    told = [];
+    taken = (refl, refl, refl);
+    quiet = taken.quiet;
+    next = taken.next;
+    entries = taken.first;
+    steps = taken.steps;
+  }
+  takes_at (one ∷ front) item others lines s t told (own, behind, next, entries, more, split, taken, rest, is) =
+      let tail = takes_at front item others behind next t more rest in
+      record {
+        heard = own ++ tail.heard;
+        rest = tail.rest;
+        split = split ∙ (ap (λ (l : List Line). own ++ l) tail.split ∙ sym (append_assoc own tail.heard tail.rest));
+        state = tail.state;
+        told = (record { item = one; entries = entries }) ∷ tail.told;
+        taken = (own, tail.heard, next, entries, tail.told, refl, taken, tail.taken, refl);
+        quiet = tail.quiet;
+        next = tail.next;
+        entries = tail.entries;
+        steps = tail.steps;
+      }
+
+  -- for none of the items that were taken memory was wanting
+  wants_not : (items : List Item) (xs ys lines : List Line) (s t : S) (told : List (Told E)) → AreTaken rules items xs s t told → lines ≡ xs ++ ys
+      → WantsMemory rules s lines items → ⊥
+  wants_not items xs ys lines s t told mine split w =
+      let at = takes_at w.front w.item w.others xs s t told (subst (λ (l : List Item). AreTaken rules l xs s t told) w.items_are mine) in
+      let whole : w.heard ++ w.rest ≡ at.heard ++ (at.rest ++ ys) =
+      sym w.split ∙ (split ∙ (ap (λ (l : List Line). l ++ ys) at.split ∙ append_assoc at.heard at.rest ys)) in
+      let same = same_state w.front at.heard (at.rest ++ ys) w.heard w.rest s at.state w.state at.told w.told at.taken at.quiet w.taken w.quiet whole in
+      let goes : rules.take at.state w.item ≡ Goes at.next at.entries = at.steps in
+      let stops : rules.take at.state w.item ≡ Stops statuses.NoMemory = ap (λ (x : S). rules.take x w.item) (sym same) ∙ w.stops in
+      absurd (cc)
+
+  -- where memory is wanting for the last item, the run stops at it for that
+  wants_last : (items : List Item) (item : Item) (xs ys lines : List Line) (s u : S) (told : List (Told E)) → AreTaken rules items xs s u told
+      → rules.waits u ≡ false → lines ≡ xs ++ ys → (w : WantsMemory rules s lines (items ++ item ∷ []))
+      → ((items ≡ w.front) × (item ≡ w.item)) ⊎ ((rest : List Item) × (items ≡ w.front ++ w.item ∷ rest)) → rules.take u item ≡ Stops statuses.NoMemory
+  wants_last items item xs ys lines s u told mine quiet split w (inl (same, last)) =
+      let mine' : AreTaken rules w.front xs s u told = subst (λ (l : List Item). AreTaken rules l xs s u told) same mine in
+      let states = same_state w.front xs ys w.heard w.rest s u w.state told w.told mine' quiet w.taken w.quiet (sym w.split ∙ split) in
+      ap (rules.take u) last ∙ (ap (λ (x : S). rules.take x w.item) (sym states) ∙ w.stops)
+  wants_last items item xs ys lines s u told mine quiet split w (inr (rest, is)) =
+      absurd (wants_not items xs ys lines s u told mine split (record {
+        front = w.front;
+        item = w.item;
+        others = rest;
+        items_are = is;
+        heard = w.heard;
+        rest = w.rest;
+        split = w.split;
+        state = w.state;
+        told = w.told;
+        taken = w.taken;
+        quiet = w.quiet;
+        stops = w.stops;
+      }))
+
   -- where a reply is awaited, one more is heard
   first_more : (more : List Line) (u v : S) (es : List E) → AreHeard rules more u v es → rules.waits u ≡ true → rules.waits v ≡ false
       → (line : Line) × (lines : List Line) × (next : S) × (fs : List E) × (more ≡ line ∷ lines) × (rules.hear u line ≡ Goes next fs)
@@ -281,7 +385,7 @@ module _ (belongs : Lane → Event → Bool) where
       → (lane_input belongs lane bytes).end ≡ Done → IsInputOf belongs lane left (record { items = items; end = end }) → end ≡ Done
   ends_not lane left bytes items end told done is = ap (λ (i : LaneInput). i.end) (stops_told lane left bytes items end told is) ∙ done
 
-  lane_done : (lane : Lane) (before after : SourceView) (bytes : List ℕ) (items : List Item) (end : LaneEnd) → before.left ≡ Some bytes
+  lane_done : (lane : Lane) (before after : SourceState) (bytes : List ℕ) (items : List Item) (end : LaneEnd) → before.left ≡ Some bytes
       → (lane_input belongs lane bytes).end ≡ Done → end ≢ NoMemory → (Rose before.faults after.faults → ⊥)
       → Sends belongs lane before after items end → end ≡ Done
   lane_done lane before after bytes items Done told done known none sends = refl
@@ -308,7 +412,7 @@ module _ {S E U V : Type 0} (TurnsFirst : U → U → Event → Event → Type 0
       let quiet = never is s in
       absurd (cc)
 
-  module _ (first first' second second' : SourceView) (before after : Outside) (fresh : before.reading ≡ unread)
+  module _ (first first' second second' : SourceState) (before after : Outside) (fresh : before.reading ≡ unread)
       (ready : AreSent belongs rules start sending first.left second.left before.replies.left)
       (unrisen : Rose before.replies.faults after.replies.faults → ⊥) (unrisen' : Rose before.faults after.faults → ⊥) where
     -- the lines behind those that were heard
@@ -371,23 +475,54 @@ module _ {S E U V : Type 0} (TurnsFirst : U → U → Event → Event → Type 0
     item_memory status item u next es b a writes writes' goes none (inr (halts.WriteFault, is, h)) = absurd (none h.halts.1)
     item_memory status item u next es b a writes writes' goes none (inr (halts.NoMemory, is, h)) = is
 
-    at_item : (status : Status) → StopsAtItem sending rules start first first' second second' before after status → status ≡ statuses.NoMemory
-    at_item status s =
-        let begin = begins_of laws rules start first first' second second' (s.items ++ s.item ∷ s.dropped) (s.items ++ s.item ∷ []) s.dropped s.end s.end'
-        s.lanes (sym (append_assoc s.items (s.item ∷ []) s.dropped)) in
-        let takes = ready.taken (s.items ++ s.item ∷ []) begin in
+    -- the run stops at an item for which memory is wanting
+    item_stopped : (status : Status) (item : Item) (u : S) (b a : Option (List ℕ)) (writes writes' : ℕ) → rules.take u item ≡ Stops statuses.NoMemory
+        → ((rules.take u item ≡ Stops status) × Grows b a [])
+        ⊎ ((halt : Halt) × (status ≡ status_of_halt halt) × HaltsItem halt rules u item b a writes writes') → status ≡ statuses.NoMemory
+    item_stopped status item u b a writes writes' wants (inl stops) =
+        let stop = stops.0 in
+        cc
+    item_stopped status item u b a writes writes' wants (inr (halts.WriteFault, is, h)) =
+        let goes = h.steps in
+        absurd (cc)
+    item_stopped status item u b a writes writes' wants (inr (halts.NoMemory, is, h)) = is
+
+    at_item_by : (status : Status) (s : StopsAtItem sending rules start first first' second second' before after status)
+        → TakesFirst sending rules start first.left second.left ready.lines (s.items ++ s.item ∷ [])
+        ⊎ WantsMemory rules start ready.lines (s.items ++ s.item ∷ []) → status ≡ statuses.NoMemory
+    at_item_by status s (inl takes) =
         let l = left_by s.items s.state s.told s.mid s.drove rules.hears refl in
         let on = then_taken s.items s.state s.told s.mid s.drove (s.item ∷ []) takes.heard takes.rest takes.state takes.told takes.taken takes.quiet takes.split
         l.0 l.1 in
         let goes = item_goes s.item s.state takes.state l.0 takes.rest on s.quiet in
         item_memory status s.item s.state goes.0 goes.1 s.mid.written after.written s.mid.faults after.faults goes.2
         (unrisen_mid' s.items s.state s.told s.mid s.drove) s.stops
+    at_item_by status s (inr wants) =
+        let l = left_by s.items s.state s.told s.mid s.drove rules.hears refl in
+        item_stopped status s.item s.state s.mid.written after.written s.mid.faults after.faults
+        (wants_last rules s.items s.item s.drove.replies l.0 ready.lines start s.state s.told s.drove.taken s.quiet l.1 wants
+        (last_or s.items s.item wants.front wants.item wants.others wants.items_are)) s.stops
+
+    at_item : (status : Status) → StopsAtItem sending rules start first first' second second' before after status → status ≡ statuses.NoMemory
+    at_item status s =
+        at_item_by status s (ready.taken (s.items ++ s.item ∷ [])
+        (begins_of laws rules start first first' second second' (s.items ++ s.item ∷ s.dropped) (s.items ++ s.item ∷ []) s.dropped s.end s.end' s.lanes
+        (sym (append_assoc s.items (s.item ∷ []) s.dropped))))
+
+    -- what was taken can be taken
+    can_take : (items : List Item) (state : S) (told : List (Told E)) (mid : Outside) (drove : Drives rules items start state told before mid)
+        (lines : List Line) → ready.lines ≡ drove.replies ++ lines
+        → TakesFirst sending rules start first.left second.left ready.lines items ⊎ WantsMemory rules start ready.lines items
+        → TakesFirst sending rules start first.left second.left ready.lines items
+    can_take items state told mid drove lines split (inl takes) = takes
+    can_take items state told mid drove lines split (inr wants) =
+        absurd (wants_not rules items drove.replies lines ready.lines start state told drove.taken split wants)
 
     at_reply : (status : Status) → StopsAtReply sending rules start first first' second second' before after status → status ≡ statuses.NoMemory
     at_reply status s =
-        let takes = ready.taken s.items
-        (begins_of laws rules start first first' second second' (s.items ++ s.dropped) s.items s.dropped s.end s.end' s.lanes refl) in
         let l = heard_left s.items s.state s.told s.mid s.drove (hears_there rules.hears s.state refl s.waits) in
+        let takes = can_take s.items s.state s.told s.mid s.drove l.0.lines l.2 (ready.taken s.items
+        (begins_of laws rules start first first' second second' (s.items ++ s.dropped) s.items s.dropped s.end s.end' s.lanes refl)) in
         let on = then_heard s.items s.state s.told s.mid s.drove takes l.0.lines l.2 in
         let one = first_more rules on.more s.state on.state on.entries on.hears s.waits on.quiet in
         let lines : l.0.lines ≡ one.0 ∷ (one.1 ++ (on.behind ++ takes.rest)) =
@@ -421,8 +556,8 @@ module _ {S E U V : Type 0} (TurnsFirst : U → U → Event → Event → Type 0
           (subst (λ (end : LaneEnd). sending.Ended first first' second second' items end s.end') done.0 s.all.lanes) in
           let whole = laws.whole first first' second second' items ended in
           let begin = begins_all laws rules start first first' second second' items s.end s.end' s.all.lanes in
-          let takes = ready.taken items begin in
           let l = heard_left items s.all.state s.all.told s.mid s.all.drove s.hears in
+          let takes = can_take items s.all.state s.all.told s.mid s.all.drove l.0.lines l.2 (ready.taken items begin) in
           let on = then_heard items s.all.state s.all.told s.mid s.all.drove takes l.0.lines l.2 in
           let none = none_heard rules s.all.state on.state on.more on.entries s.all.quiet on.hears in
           let lines : l.0.lines ≡ [] = on.lines_are ∙ (ap (λ (m : List Line). m ++ (on.behind ++ takes.rest)) none.0
@@ -453,7 +588,7 @@ module _ {S E U V : Type 0} (TurnsFirst : U → U → Event → Event → Type 0
   unrisen_from : (faults : ℕ) → faults ≡ 0 → Rose 0 faults → ⊥
   unrisen_from faults none rose = absurd (omega (arith, none, rose))
 
-  module _ (file file' : List ℕ) (files files' : FilesView) (first second replies replies' : SourceView) (before after : Option (List ℕ)) (writes writes' : ℕ)
+  module _ (file file' : List ℕ) (files files' : FilesState) (first second replies replies' : SourceState) (before after : Option (List ℕ)) (writes writes' : ℕ)
       (status : Status) where
     opened_not : AtOpenFault rules.name file file' status files files' → files'.failed_opens ≡ files.failed_opens → (lane : LaneName)
         → status ≢ statuses.OpenFault lane

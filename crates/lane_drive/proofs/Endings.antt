@@ -14,7 +14,7 @@ use Rattle.lane_mail.specs.declared.lane.Lane.TheVariants.{First, Second}
 use Rattle.lane_mail.specs.declared.item.Item.{Item}
 use Rattle.lane_run.specs.declared.lane_end.LaneEnd.{LaneEnd}
 use Rattle.lane_run.specs.declared.lane_end.LaneEnd.TheVariants.{Done, ReadFault, LineLimit, InputLimit, BadLine, NoMemory}
-use Rattle.lane_run.specs.Views.{SourceView, Outside}
+use Rattle.lane_run.specs.Outside.{SourceState, Outside}
 use Rattle.line_run.specs.declared.halt.Halt.{Halt}
 use Rattle.line_run.specs.declared.halt.Halt.TheVariants as halts
 use Rattle.line_run.specs.declared.halt.Refusal.{Refusal}
@@ -33,7 +33,7 @@ use Rattle.mlb_edge.specs.Written.{Grows}
 use Rattle.lane_drive.specs.Causes.{held_status, reply_causes, end_causes}
 use Rattle.lane_drive.specs.Clauses.{AreLinesOf, TakesAllOf, unread}
 use Rattle.lane_drive.specs.Drive.{Told, Drives, told_text}
-use Rattle.lane_drive.specs.LaneRules.{LaneRules, IsHeldLimit, reply_rules, item_text, HaltsItem}
+use Rattle.lane_drive.specs.LaneRules.{LaneRules, IsHeldLimit, IsItemLimit, reply_rules, item_text, HaltsItem}
 use Rattle.lane_drive.specs.Sending.{Sending}
 use Rattle.lane_drive.specs.Stops.{status_of_lane, status_of_lanes, EndsAsLanes, WritesBegun, EndsBy}
 use Rattle.lane_drive.proofs.Sent.{SendsLawfully}
@@ -117,7 +117,7 @@ module _ {S E : Type 0} {sending : Sending} (laws : SendsLawfully sending) (rule
   -- A beginning of the text of what was driven, and of the next item or reply, was written.
   module _ (quiet : rules.waits start ≡ false) (first second : Option (List ℕ)) (items : List Item) (state : S) (told : List (Told E)) (before mid : Outside)
       (drove : Drives rules items start state told before mid) (after : Option (List ℕ)) where
-    upto_still : sending.Begins first second items → Grows mid.written after []
+    abbrev pub upto_still : sending.Begins first second items → Grows mid.written after []
         → WritesBegun sending rules start first second (to_come before.reading before.replies.left) before.written after
     upto_still begin nothing = record {
       items = items;
@@ -131,7 +131,7 @@ module _ {S E : Type 0} {sending : Sending} (laws : SendsLawfully sending) (rule
       wrote = upto_all before.written after (told_text rules told) (nothing_more before.written mid.written after (told_text rules told) drove.wrote nothing);
     }
 
-    upto_item : (item : Item) (next : S) (entries : List E) → sending.Begins first second (items ++ item ∷ []) → rules.waits state ≡ false
+    abbrev pub upto_item : (item : Item) (next : S) (entries : List E) → sending.Begins first second (items ++ item ∷ []) → rules.waits state ≡ false
         → rules.take state item ≡ Goes next entries → GrowsUpTo mid.written after (item_text rules item entries)
         → WritesBegun sending rules start first second (to_come before.reading before.replies.left) before.written after
     upto_item item next entries begin quiet' steps part =
@@ -215,17 +215,17 @@ module _ {S E : Type 0} {sending : Sending} (laws : SendsLawfully sending) (rule
     upto_stopped status item writes writes' begin begin' quiet' (inr (halt, is, h)) = upto_unwritten halt item writes writes' begin begin' quiet' h
 
   -- a beginning of what both lanes sent
-  pub begins_of : (first first' second second' : SourceView) (sent part rest : List Item) (end end' : LaneEnd)
+  pub begins_of : (first first' second second' : SourceState) (sent part rest : List Item) (end end' : LaneEnd)
       → sending.Ended first first' second second' sent end end' → sent ≡ part ++ rest → sending.Begins first.left second.left part
   begins_of first first' second second' sent part rest end end' lanes split = laws.part first first' second second' sent part end end' lanes (rest, split)
 
   -- what both lanes sent
-  pub begins_all : (first first' second second' : SourceView) (sent : List Item) (end end' : LaneEnd)
+  pub begins_all : (first first' second second' : SourceState) (sent : List Item) (end end' : LaneEnd)
       → sending.Ended first first' second second' sent end end' → sending.Begins first.left second.left sent
   begins_all first first' second second' sent end end' lanes =
       begins_of first first' second second' sent sent [] end end' lanes (sym (append-nil sent))
 
-  module _ (first first' second second' : SourceView) (before after : Outside) where
+  module _ (first first' second second' : SourceState) (before after : Outside) where
     -- however the run ends, a beginning of the text of some items was written
     pub writes_upto : (status : Status) → rules.waits start ≡ false → EndsBy sending rules start first first' second second' before after status
         → WritesBegun sending rules start first.left second.left (to_come before.reading before.replies.left) before.written after.written
@@ -274,7 +274,7 @@ module _ {S E : Type 0} {sending : Sending} (laws : SendsLawfully sending) (rule
         }
 
     -- Why the machine stops.
-    module _ (items_stop : (s : S) (item : Item) (status : Status) → rules.take s item ≡ Stops status → IsHeldLimit status)
+    module _ (items_stop : (s : S) (item : Item) (status : Status) → rules.take s item ≡ Stops status → IsItemLimit status)
         (replies_stop : (s : S) (line : Line) (status : Status) → rules.waits s ≡ true → rules.hear s line ≡ Stops status
         → (status ≡ statuses.BadReply line.number line.bytes) ⊎ IsHeldLimit status)
         (puts : (s : S) → rules.waits s ≡ true → (put : Put) × (rules.unanswered s ≡ statuses.NoReply put)) where
@@ -318,11 +318,15 @@ module _ {S E : Type 0} {sending : Sending} (laws : SendsLawfully sending) (rule
       halts_rise halts.WriteFault s item b a writes writes' h e = h.halts.1
       halts_rise halts.NoMemory s item b a writes writes' h e = absurd (cc)
 
+      limit_ill : (status : Status) (reads reads' writes writes' : ℕ) → IsItemLimit status → IsIllBy status reads reads' writes writes'
+      limit_ill status reads reads' writes writes' (inl held) = line_ill status reads reads' writes writes' (held_status status held)
+      limit_ill status reads reads' writes writes' (inr is) = rw is tt
+
       item_ill : (s : S) (item : Item) (status : Status) (b a : Option (List ℕ)) (reads reads' writes writes' : ℕ)
           → ((rules.take s item ≡ Stops status) × Grows b a [])
           ⊎ ((halt : Halt) × (status ≡ status_of_halt halt) × HaltsItem halt rules s item b a writes writes') → IsIllBy status reads reads' writes writes'
       item_ill s item status b a reads reads' writes writes' (inl stops) =
-          line_ill status reads reads' writes writes' (held_status status (items_stop s item status stops.0))
+          limit_ill status reads reads' writes writes' (items_stop s item status stops.0)
       item_ill s item status b a reads reads' writes writes' (inr (halt, is, h)) =
           let ill : IsIllBy (status_of_halt halt) reads reads' writes writes' =
           halt_ill halt reads reads' writes writes' (halts_rise halt s item b a writes writes' h) in

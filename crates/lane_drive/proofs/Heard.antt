@@ -4,7 +4,7 @@ use Rattle.std.specs.List.{flat_map}
 use Rattle.std.proofs.lemmas.Grind.{flat_map-append}
 use Rattle.std.proofs.lemmas.List.{append-nil}
 use Rattle.kube_model.specs.declared.status.Status.TheVariants as statuses
-use Rattle.lane_run.specs.Views.{Outside}
+use Rattle.lane_run.specs.Outside.{Outside}
 use Rattle.line_run.specs.Ends.{Drives}
 use Rattle.line_run.specs.Machine.{Transition, Goes, Stops}
 use Rattle.lane_drive.specs.LaneRules.{LaneRules, reply_rules}

@@ -7,4 +7,6 @@ pub mod ReadItems
 pub mod Taken
 pub mod Ways
 pub mod Complete
+pub mod Carried
 pub mod AsTheyAre
+pub mod Left

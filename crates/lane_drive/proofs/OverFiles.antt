@@ -13,7 +13,7 @@ use Rattle.lane_mail.specs.declared.item.Item.{Item}
 use Rattle.lane_mail.specs.declared.lane.Lane.{Lane}
 use Rattle.lane_mail.specs.declared.lane.Lane.TheVariants.{First, Second}
 use Rattle.lane_run.specs.Ran.{TurnedBeginnings}
-use Rattle.lane_run.specs.Views.{SourceView, Outside, lane_view, outside}
+use Rattle.lane_run.specs.Outside.{SourceState, Outside, lane_state, outside}
 use Rattle.line_run.specs.Machine.{Stops}
 use Rattle.mlb_edge.specs.Causes.{Rose}
 use Rattle.mlb_edge.specs.Failed.{IsOpened, times, with_closed, with_failed, times-later, Rose-closed}
@@ -23,8 +23,8 @@ use Rattle.mlb_edge.specs.declared.lines.Line.{Line}
 use Rattle.mlb_edge.specs.InputLines.{to_come}
 use Rattle.mlb_edge.specs.Reading.{Reading}
 use Rattle.lane_drive.specs.Clauses.{AtOpenFault, EndsWith, RoseFor, TakesAllOf, status_of_open, unread}
-use Rattle.lane_drive.specs.Files.{FilesView, files_view}
-use Rattle.lane_drive.specs.LaneRules.{LaneRules, IsHeldLimit}
+use Rattle.lane_drive.specs.Files.{FilesState, files_state}
+use Rattle.lane_drive.specs.LaneRules.{LaneRules, IsHeldLimit, IsItemLimit}
 use Rattle.lane_drive.specs.Sending.{Sending}
 use Rattle.lane_drive.specs.Stops.{WritesBegun, EndsBy}
 use Rattle.lane_drive.proofs.Sent.{SendsLawfully}
@@ -78,18 +78,18 @@ unread_closed (Err end) names names' name faults ok err none = err
 module _ (name : Lane → LaneName) (file file' : List ℕ) (status : Status) (opens opens' reads reads' : List (List ℕ)) where
   -- none
   pub none_failed : ((lane : LaneName) → status ≢ statuses.OpenFault lane) → opens' ≡ opens
-      → AtOpenFault name file file' status (files_view opens reads) (files_view opens' reads')
+      → AtOpenFault name file file' status (files_state opens reads) (files_state opens' reads')
   none_failed other same = ((λ lane is. absurd (other lane is)), (λ not. same))
 
   -- that of the first file, or memory was wanting
   pub first_failed : (T : Type 0) (end : OpenEnd) → status ≡ status_of_open (name First) end → opens' ≡ with_failed {T = T} opens file (Err end)
-      → reads' ≡ reads → AtOpenFault name file file' status (files_view opens reads) (files_view opens' reads')
+      → reads' ≡ reads → AtOpenFault name file file' status (files_state opens reads) (files_state opens' reads')
   first_failed T Failed is failed same = ((λ lane it. (inl (cc, failed), same)), (λ other. absurd (other (name First) is)))
   first_failed T NoMemory is failed same = ((λ lane it. absurd (cc)), (λ other. failed))
 
   -- that of the second file, or memory was wanting
   pub second_failed : (T : Type 0) (end : OpenEnd) → status ≡ status_of_open (name Second) end → opens' ≡ with_failed {T = T} opens file' (Err end)
-      → reads' ≡ reads → AtOpenFault name file file' status (files_view opens reads) (files_view opens' reads')
+      → reads' ≡ reads → AtOpenFault name file file' status (files_state opens reads) (files_state opens' reads')
   second_failed T Failed is failed same = ((λ lane it. (inr (cc, failed), same)), (λ other. absurd (other (name Second) is)))
   second_failed T NoMemory is failed same = ((λ lane it. absurd (cc)), (λ other. failed))
 
@@ -97,38 +97,40 @@ module _ (name : Lane → LaneName) (file file' : List ℕ) (status : Status) (o
 pub of_files : (own own' : List ℕ) (bytes bytes' told : Option (List ℕ)) (safe safe' known : Bool) (name left : Option (List ℕ))
     (faults : ℕ) (is_safe : Bool) (name' left' : Option (List ℕ)) (faults' : ℕ) (is_safe' : Bool) → IsOpened name left faults is_safe own bytes safe
     → IsOpened name' left' faults' is_safe' own' told known → told ≡ bytes' → known ≡ safe'
-    → (reader : Reading) → reader ≡ unread → (So : SourceView → SourceView → Reading → Type 0) → So (lane_view left name faults is_safe)
-    (lane_view left' name' faults' is_safe') reader → So (lane_view bytes (Some own) 0 safe) (lane_view bytes' (Some own') 0 safe') unread
+    → (reader : Reading) → reader ≡ unread → (So : SourceState → SourceState → Reading → Type 0) → So (lane_state left name faults is_safe)
+    (lane_state left' name' faults' is_safe') reader → So (lane_state bytes (Some own) 0 safe) (lane_state bytes' (Some own') 0 safe') unread
 of_files own own' bytes bytes' told safe safe' known name left faults is_safe name' left' faults' is_safe' opened opened' same same' reader fresh So so =
-    let one : lane_view left name faults is_safe ≡ lane_view bytes (Some own) 0 safe = rw (opened.named, opened.whole, opened.none, opened.safety) refl in
-    let two : lane_view left' name' faults' is_safe' ≡ lane_view bytes' (Some own') 0 safe' =
+    let one : lane_state left name faults is_safe ≡ lane_state bytes (Some own) 0 safe = rw (opened.named, opened.whole, opened.none, opened.safety) refl in
+    let two : lane_state left' name' faults' is_safe' ≡ lane_state bytes' (Some own') 0 safe' =
     rw (opened'.named, opened'.whole, opened'.none, opened'.safety, same, same') refl in
-    let x = subst (λ (v : SourceView). So v (lane_view left' name' faults' is_safe') reader) one so in
-    let y = subst (λ (v : SourceView). So (lane_view bytes (Some own) 0 safe) v reader) two x in
-    subst (λ (r : Reading). So (lane_view bytes (Some own) 0 safe) (lane_view bytes' (Some own') 0 safe') r) fresh y
+    let x = subst (λ (v : SourceState). So v (lane_state left' name' faults' is_safe') reader) one so in
+    let y = subst (λ (v : SourceState). So (lane_state bytes (Some own) 0 safe) v reader) two x in
+    subst (λ (r : Reading). So (lane_state bytes (Some own) 0 safe) (lane_state bytes' (Some own') 0 safe') r) fresh y
 
 -- what was sent for a beginning of what both inputs carry was sent for one of what both files do
 pub begins_with : {U V : Type 0} (TurnsFirst : U → U → Event → Event → Type 0) (TurnsSecond : V → V → Event → Event → Type 0)
-    (belongs : Lane → Event → Bool) (u : U) (v : V) (items : List Item) (own own' : List ℕ) (bytes bytes' told : Option (List ℕ)) (safe known : Bool)
+    (belongs : Lane → Event → Bool) (u u' : U) (v v' : V) (items : List Item) (own own' : List ℕ) (bytes bytes' told : Option (List ℕ)) (safe known : Bool)
     (name left : Option (List ℕ)) (faults : ℕ) (is_safe : Bool) (name' left' : Option (List ℕ)) (faults' : ℕ) (is_safe' : Bool)
     → IsOpened name left faults is_safe own bytes safe → IsOpened name' left' faults' is_safe' own' told known → told ≡ bytes'
-    → TurnedBeginnings TurnsFirst TurnsSecond belongs left left' u v items → TurnedBeginnings TurnsFirst TurnsSecond belongs bytes bytes' u v items
-begins_with TurnsFirst TurnsSecond belongs u v items own own' bytes bytes' told safe known name left faults is_safe name' left' faults' is_safe' opened
+    → TurnedBeginnings TurnsFirst TurnsSecond belongs left left' u u' v v' items → TurnedBeginnings TurnsFirst TurnsSecond belongs bytes bytes' u u' v v' items
+begins_with TurnsFirst TurnsSecond belongs u u' v v' items own own' bytes bytes' told safe known name left faults is_safe name' left' faults' is_safe' opened
     opened' same begins =
-    subst (λ (o : Option (List ℕ)). TurnedBeginnings TurnsFirst TurnsSecond belongs bytes o u v items) (opened'.whole ∙ same)
-    (subst (λ (o : Option (List ℕ)). TurnedBeginnings TurnsFirst TurnsSecond belongs o left' u v items) opened.whole begins)
+    subst (λ (o : Option (List ℕ)). TurnedBeginnings TurnsFirst TurnsSecond belongs bytes o u u' v v' items) (opened'.whole ∙ same)
+    (subst (λ (o : Option (List ℕ)). TurnedBeginnings TurnsFirst TurnsSecond belongs o left' u u' v v' items) opened.whole begins)
 
 module _ {S E : Type 0} {sending : Sending} (laws : SendsLawfully sending) (rules : LaneRules S E) (start : S) (quiet : rules.waits start ≡ false) where
   -- nothing was read or written
-  pub ends_none : (file file' : List ℕ) (files files' : FilesView) (first second replies : SourceView) (before : Option (List ℕ)) (writes : ℕ) (status : Status)
-      → status ≡ statuses.NoMemory
+  pub ends_none : (file file' : List ℕ) (files files' : FilesState) (first second replies : SourceState) (before : Option (List ℕ)) (writes : ℕ)
+      (status : Status)
+      → status ≡ statuses.NoMemory → sending.Begins first.left second.left []
       → EndsWith sending rules start file file' files files' first second replies replies before before writes writes status
-  ends_none file file' files files' first second replies before writes status is = record {
+  ends_none file file' files files' first second replies before writes status is begin = record {
     first' = first;
     second' = second;
     reading = unread;
     ends = rw is
-        (ends_undriven laws rules start quiet first first second second (outside unread replies before writes) (outside unread replies before writes) refl);
+        (ends_undriven laws rules start quiet first first second second (outside unread replies before writes) (outside unread replies before writes) refl
+        begin);
     kept = λ known. absurd (known is);
   }
 
@@ -136,29 +138,29 @@ module _ {S E : Type 0} {sending : Sending} (laws : SendsLawfully sending) (rule
   module _ (own own' : List ℕ) (bytes bytes' told : Option (List ℕ)) (safe safe' known : Bool) (name left : Option (List ℕ))
       (faults : ℕ) (is_safe : Bool) (name' left' : Option (List ℕ)) (faults' : ℕ) (is_safe' : Bool) (opened : IsOpened name left faults is_safe own bytes safe)
       (opened' : IsOpened name' left' faults' is_safe' own' told known) (same : told ≡ bytes') (same' : known ≡ safe')
-      (reader : Reading) (fresh : reader ≡ unread) (first second replies : SourceView) (before : Option (List ℕ)) (writes : ℕ) (after : Outside)
+      (reader : Reading) (fresh : reader ≡ unread) (first second replies : SourceState) (before : Option (List ℕ)) (writes : ℕ) (after : Outside)
       (status : Status)
-      (run : EndsBy sending rules start (lane_view left name faults is_safe) first (lane_view left' name' faults' is_safe') second
+      (run : EndsBy sending rules start (lane_state left name faults is_safe) first (lane_state left' name' faults' is_safe') second
       (outside reader replies before writes) after status) where
-    over_files : EndsBy sending rules start (lane_view bytes (Some own) 0 safe) first (lane_view bytes' (Some own') 0 safe') second
+    over_files : EndsBy sending rules start (lane_state bytes (Some own) 0 safe) first (lane_state bytes' (Some own') 0 safe') second
         (outside unread replies before writes) after status
     over_files =
         of_files own own' bytes bytes' told safe safe' known name left faults is_safe name' left' faults' is_safe' opened opened' same same' reader fresh
         (λ v v' r. EndsBy sending rules start v first v' second (outside r replies before writes) after status) run
 
-    pub ends_with : (files files' : FilesView)
+    pub ends_with : (files files' : FilesState)
         → files'.failed_reads ≡ with_closed (with_closed files.failed_reads (Some own) first.faults) (Some own') second.faults
-        → EndsWith sending rules start own own' files files' (lane_view bytes (Some own) 0 safe) (lane_view bytes' (Some own') 0 safe') replies after.replies
+        → EndsWith sending rules start own own' files files' (lane_state bytes (Some own) 0 safe) (lane_state bytes' (Some own') 0 safe') replies after.replies
         before after.written writes after.faults status
     ends_with files files' kept = record { first' = first; second' = second; reading = after.reading; ends = over_files; kept = λ known. kept }
 
     pub only : WritesBegun sending rules start bytes bytes' (to_come unread replies.left) before after.written
-    only = endings.writes_upto laws rules start (lane_view bytes (Some own) 0 safe) first (lane_view bytes' (Some own') 0 safe') second
+    only = endings.writes_upto laws rules start (lane_state bytes (Some own) 0 safe) first (lane_state bytes' (Some own') 0 safe') second
         (outside unread replies before writes) after status quiet over_files
 
     -- that a reading failed isn't kept
-    pub ends_unkept : (files files' : FilesView)
-        → EndsWith sending rules start own own' files files' (lane_view bytes (Some own) 0 safe) (lane_view bytes' (Some own') 0 safe') replies after.replies
+    pub ends_unkept : (files files' : FilesState)
+        → EndsWith sending rules start own own' files files' (lane_state bytes (Some own) 0 safe) (lane_state bytes' (Some own') 0 safe') replies after.replies
         before after.written writes after.faults statuses.NoMemory
     ends_unkept files files' = record {
       first' = first;
@@ -168,20 +170,20 @@ module _ {S E : Type 0} {sending : Sending} (laws : SendsLawfully sending) (rule
       kept = λ known. absurd (known refl);
     }
 
-    module _ (items_stop : (s : S) (item : Item) (status' : Status) → rules.take s item ≡ Stops status' → IsHeldLimit status')
+    module _ (items_stop : (s : S) (item : Item) (status' : Status) → rules.take s item ≡ Stops status' → IsItemLimit status')
         (replies_stop : (s : S) (line : Line) (status' : Status) → rules.waits s ≡ true → rules.hear s line ≡ Stops status'
         → (status' ≡ statuses.BadReply line.number line.bytes) ⊎ IsHeldLimit status')
         (puts : (s : S) → rules.waits s ≡ true → (put : Put) × (rules.unanswered s ≡ statuses.NoReply put)) where
       pub done : status ≡ statuses.Done → TakesAllOf sending rules start bytes bytes' replies.left after.replies.left before after.written
-      done = endings.done_whole laws rules start (lane_view bytes (Some own) 0 safe) first (lane_view bytes' (Some own') 0 safe') second
+      done = endings.done_whole laws rules start (lane_state bytes (Some own) 0 safe) first (lane_state bytes' (Some own') 0 safe') second
           (outside unread replies before writes) after items_stop replies_stop puts status refl over_files
 
       pub write_fault : status ≡ statuses.WriteFault → Rose writes after.faults
-      write_fault = endings.write_fault laws rules start (lane_view bytes (Some own) 0 safe) first (lane_view bytes' (Some own') 0 safe') second
+      write_fault = endings.write_fault laws rules start (lane_state bytes (Some own) 0 safe) first (lane_state bytes' (Some own') 0 safe') second
           (outside unread replies before writes) after items_stop replies_stop puts status over_files
 
       pub no_open_fault : (lane : LaneName) → status ≢ statuses.OpenFault lane
-      no_open_fault = endings.no_open_fault laws rules start (lane_view bytes (Some own) 0 safe) first (lane_view bytes' (Some own') 0 safe') second
+      no_open_fault = endings.no_open_fault laws rules start (lane_state bytes (Some own) 0 safe) first (lane_state bytes' (Some own') 0 safe') second
           (outside unread replies before writes) after items_stop replies_stop puts status over_files
 
       by_lane : (names names' : List (List ℕ)) → (first.faults ≢ 0 → Rose (times own names) (times own names'))
@@ -200,5 +202,5 @@ module _ {S E : Type 0} {sending : Sending} (laws : SendsLawfully sending) (rule
           ⊎ (RoseFor lane (rules.name First) own names names' ⊎ RoseFor lane (rules.name Second) own' names names')
       read_fault names names' rise rise' lane is =
           by_lane names names' rise rise' lane
-          (endings.read_fault laws rules start (lane_view bytes (Some own) 0 safe) first (lane_view bytes' (Some own') 0 safe') second
+          (endings.read_fault laws rules start (lane_state bytes (Some own) 0 safe) first (lane_state bytes' (Some own') 0 safe') second
           (outside unread replies before writes) after items_stop replies_stop puts status over_files lane is)

@@ -27,7 +27,7 @@ by_lane P one items First all firsts seconds = (firsts.0, all firsts.1 seconds)
 by_lane P one items Second all firsts seconds = (seconds.0, all firsts seconds.1)
 
 -- what each item of either lane has, each item has
-all_lanes : (P : Item → Type 0) (items : List Item) → AllByRecursion P (items_of First items) → AllByRecursion P (items_of Second items)
+pub all_lanes : (P : Item → Type 0) (items : List Item) → AllByRecursion P (items_of First items) → AllByRecursion P (items_of Second items)
     → AllByRecursion P items
 all_lanes P [] firsts seconds = tt
 all_lanes P (one ∷ items) firsts seconds = by_lane P one items one.lane (all_lanes P items) firsts seconds
@@ -58,7 +58,7 @@ module _ (belongs : Lane → Event → Bool) (lane : Lane) where
   input_read None input is = rw is.2 (lines_read is.0 is.1)
   input_read (Some bytes) input is = rw is (lines_read (input_of bytes).lines (input_of bytes).ending)
 
-  begins_read : (left : Option (List ℕ)) (items : List Item) → Begins belongs lane left items → AllByRecursion (IsRead belongs) items
+  pub begins_read : (left : Option (List ℕ)) (items : List Item) → Begins belongs lane left items → AllByRecursion (IsRead belongs) items
   begins_read left items b = all_begin (IsRead belongs) items b.begins.0 (subst (AllByRecursion (IsRead belongs)) b.begins.1 (input_read left b.input b.is))
 
 -- each item that is taken is the event of a line that may come by its lane

@@ -6,7 +6,7 @@ use Rattle.std.proofs.lemmas.List.{append-nil}
 use Rattle.kube_model.specs.declared.status.Status.{Status}
 use Rattle.lane_mail.specs.declared.item.Item.{Item}
 use Rattle.lane_run.specs.Reconciled.{AreDriven, AsksIn, HasDriven, HasRefused}
-use Rattle.lane_run.specs.Views.{SourceView, Outside}
+use Rattle.lane_run.specs.Outside.{SourceState, Outside}
 use Rattle.line_run.specs.Ended.{status_of_refusal}
 use Rattle.line_run.specs.Machine.{Goes}
 use Rattle.line_run.specs.Text.{line_of}
@@ -172,7 +172,7 @@ module _ {S E : Type 0} (rules : LaneRules S E) where
         comes = rw same hears.comes;
         wrote = subst (λ (x : List ℕ). Grows before.written after.written x)
             (sym (append-nil (item_text rules item (took.entries ++ hears.entries)) ∙ item_text-append item took.entries hears.entries)) wrote;
-        reads = omega (arith, hears.reads, ap (λ (v : SourceView). v.faults) replies);
+        reads = omega (arith, hears.reads, ap (λ (v : SourceState). v.faults) replies);
         writes = omega (arith, later, hears.writes);
         unread = λ none.
             let still = hears.still none in

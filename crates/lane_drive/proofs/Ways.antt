@@ -10,7 +10,7 @@ use Rattle.lane_run.specs.declared.lane_run.LaneRun.{LaneRun}
 use Rattle.lane_run.specs.declared.lane_end.LaneEnd.{LaneEnd}
 use Rattle.lane_run.specs.Ran.{RanBy}
 use Rattle.lane_run.specs.Reconciled.{AreDriven, Drove, Leaves}
-use Rattle.lane_run.specs.Views.{SourceView, Outside}
+use Rattle.lane_run.specs.Outside.{SourceState, Outside}
 use Rattle.line_run.specs.declared.halt.Halt.{Halt}
 use Rattle.line_run.specs.declared.halt.Refusal.{Refusal}
 use Rattle.line_run.specs.declared.halt.Refusal.TheVariants.{Stopped, Halted}
@@ -41,7 +41,7 @@ drove_all Goes Refuses taken s t before after done d =
 
 module _ {S E : Type 0} (rules : LaneRules S E) where
   -- why the item isn't taken
-  why : (refusal : Refusal) (s : S) (item : Item) (before after : Outside)
+  pub why : (refusal : Refusal) (s : S) (item : Item) (before after : Outside)
       → RefusesItem refusal rules s item before.written after.written before.faults after.faults
       → ((rules.take s item ≡ Stops (status_of_refusal refusal)) × Grows before.written after.written [])
       ⊎ ((halt : Halt) × (status_of_refusal refusal ≡ status_of_halt halt)
@@ -66,27 +66,28 @@ module _ {S E : Type 0} (rules : LaneRules S E) where
 
 module _ {S E : Type 0} {sending : Sending} (laws : SendsLawfully sending) (rules : LaneRules S E) (start : S) (quiet : rules.waits start ≡ false) where
   -- for want of memory nothing was done
-  pub writes_none : (first second : Option (List ℕ)) (now : Option Input) (before : Option (List ℕ))
+  pub writes_none : (first second : Option (List ℕ)) (now : Option Input) (before : Option (List ℕ)) → sending.Begins first second []
       → WritesBegun sending rules start first second now before before
-  writes_none first second now before = record {
+  writes_none first second now before begin = record {
     items = [];
     replies = [];
     next = now;
     comes = Follows-refl now;
-    begin = laws.none first second;
+    begin = begin;
     state = start;
     told = [];
     taken = (refl, refl, refl);
     wrote = upto_none before [];
   }
 
-  pub ends_undriven : (first first' second second' : SourceView) (before after : Outside) → after.written ≡ before.written
-      → EndsBy sending rules start first first' second second' before after statuses.NoMemory
-  ends_undriven first first' second second' before after same =
+  pub ends_undriven : (first first' second second' : SourceState) (before after : Outside) → after.written ≡ before.written
+      → sending.Begins first.left second.left [] → EndsBy sending rules start first first' second second' before after statuses.NoMemory
+  ends_undriven first first' second second' before after same begin =
       inr (inr (inr (inr (
         refl,
         subst (λ (o : Option (List ℕ)). WritesBegun sending rules start first.left second.left (to_come before.reading
-            before.replies.left) before.written o) (sym same) (writes_none first.left second.left (to_come before.reading before.replies.left) before.written),
+            before.replies.left) before.written o) (sym same)
+            (writes_none first.left second.left (to_come before.reading before.replies.left) before.written begin),
       ))))
 
   -- The items before this one drove the machine, which refused it or a reply behind it.
@@ -102,7 +103,7 @@ module _ {S E : Type 0} {sending : Sending} (laws : SendsLawfully sending) (rule
     pub still : rules.waits state ≡ false
     pub fails : FailsItem rules status state item mid after ⊎ FailsBehind rules status state item mid after
 
-  module _ (first first' second second' : SourceView) (end end' : LaneEnd) (before after : Outside) (taken : List Item) (status : Status)
+  module _ (first first' second second' : SourceState) (end end' : LaneEnd) (before after : Outside) (taken : List Item) (status : Status)
       (r : Refused before after taken status) (lanes : sending.Ended first first' second second' taken end end') where
     sent : sending.Ended first first' second second' (r.items ++ r.item ∷ r.dropped) end end'
     sent = subst (λ (l : List Item). sending.Ended first first' second second' l end end') r.split lanes
@@ -171,7 +172,7 @@ module _ {S E : Type 0} {sending : Sending} (laws : SendsLawfully sending) (rule
         absurd (cc)
 
   -- the reconciler refused an item
-  module _ (first first' second second' : SourceView) (before after : Outside) (t : S) (run : LaneRun)
+  module _ (first first' second second' : SourceState) (before after : Outside) (t : S) (run : LaneRun)
       (ran : RanBy (sending.Ended first first' second second') (DrivesItem rules) (RefusesNext rules) start t before after run)
       (status : Status) (ill : run.outcome ≡ Err status) where
     refused : Refused before after ran.taken status
@@ -206,7 +207,7 @@ module _ {S E : Type 0} {sending : Sending} (laws : SendsLawfully sending) (rule
         inr (inr (inr (inr (refl, upto_fails first first' second second' run.first run.second before after ran.taken status refused ran.lanes refused.fails))))
 
   -- all that both lanes sent was taken
-  module _ (first first' second second' : SourceView) (before mid : Outside) (t : S) (run : LaneRun)
+  module _ (first first' second second' : SourceState) (before mid : Outside) (t : S) (run : LaneRun)
       (ran : RanBy (sending.Ended first first' second second') (DrivesItem rules) (RefusesNext rules) start t before mid run) (done : run.outcome ≡ Ok tt) where
     all_driven : AreDriven (DrivesItem rules) ran.taken start t before mid
     all_driven =
@@ -287,7 +288,7 @@ module _ {S E : Type 0} {sending : Sending} (laws : SendsLawfully sending) (rule
     leaves_lanes after never behind none = (behind.unheard none).1 ∙ leaves_driven (never none)
 
   -- One of the lanes ended for want of memory, whatever the reconciler made of what they sent.
-  module _ (first first' second second' : SourceView) (before mid : Outside) (t : S) (run : LaneRun)
+  module _ (first first' second second' : SourceState) (before mid : Outside) (t : S) (run : LaneRun)
       (ran : RanBy (sending.Ended first first' second second') (DrivesItem rules) (RefusesNext rules) start t before mid run) where
     unknown_by : (outcome : Result (Unit {0}) Status) → run.outcome ≡ outcome
         → EndsBy sending rules start first first' second second' before mid statuses.NoMemory

@@ -6,7 +6,7 @@ use Rattle.kube_model.specs.declared.status.Status.{Status}
 use Rattle.lane_mail.specs.declared.item.Item.{Item}
 use Rattle.lane_mail.specs.declared.lane.Lane.{Lane}
 use Rattle.lane_run.specs.declared.lane_end.LaneEnd.{LaneEnd}
-use Rattle.lane_run.specs.Views.{SourceView, Outside}
+use Rattle.lane_run.specs.Outside.{SourceState, Outside}
 use Rattle.lane_run.specs.Waiting.{MayBeAwaited}
 use Rattle.line_run.specs.Answered.{MayBeAsked}
 use Rattle.mlb_edge.specs.Reading.{Reading}
@@ -64,9 +64,9 @@ pub record HasStopped {S E : Type 0} (rules : LaneRules S E) (start : S) (before
 module _ {S E : Type 0} (sending : Sending) (rules : LaneRules S E) (start : S) where
   -- All that both lanes sent was taken, and just its text was written. No other line came whole, and where there are replies it is still to
   -- be seen that the input is at its end. That a lane ended because its reading failed is possible only where its source isn't safe.
-  pub record LooksBehind (first second : SourceView) (before now : Outside) : Type 0 where
-    pub first' : SourceView
-    pub second' : SourceView
+  pub record LooksBehind (first second : SourceState) (before now : Outside) : Type 0 where
+    pub first' : SourceState
+    pub second' : SourceState
     pub end : LaneEnd
     pub end' : LaneEnd
     pub all : TakesAll sending rules start first first' second second' before now end end'
@@ -74,11 +74,11 @@ module _ {S E : Type 0} (sending : Sending) (rules : LaneRules S E) (start : S) 
     pub hears : rules.hears ≡ true
 
   -- a reply is awaited, or the end of the input
-  abbrev pub AsksOf : (first second : SourceView) (before now : Outside) → Type 0
+  abbrev pub AsksOf : (first second : SourceState) (before now : Outside) → Type 0
   AsksOf first second before now = ((items : List Item) × AwaitsReply rules items start before now) ⊎ LooksBehind first second before now
 
 -- it is so where each lane sends its events as they are
-abbrev pub AsksMore : {S E : Type 0} → (Lane → Event → Bool) → LaneRules S E → S → (first second : SourceView) (before now : Outside) → Type 0
+abbrev pub AsksMore : {S E : Type 0} → (Lane → Event → Bool) → LaneRules S E → S → (first second : SourceState) (before now : Outside) → Type 0
 AsksMore belongs = AsksOf (as_they_are belongs)
 
 -- While the machine is driven from this state, more replies may be asked for where it asks for them; the next item may be waited for where all items

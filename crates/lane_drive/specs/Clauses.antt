@@ -11,10 +11,10 @@ use Rattle.lane_mail.specs.declared.lane.Lane.TheVariants.{First, Second}
 use Rattle.lane_mail.specs.declared.item.Item.{Item}
 use Rattle.lane_mail.specs.Lanes.{items_of}
 use Rattle.lane_mail.specs.Merges.{IsMerge}
-use Rattle.lane_run.specs.Views.{SourceView, outside}
+use Rattle.lane_run.specs.Outside.{SourceState, outside}
 use Rattle.lane_drive.specs.LaneRules.{LaneRules}
 use Rattle.lane_drive.specs.Drive.{Told, AreTaken, told_text}
-use Rattle.lane_drive.specs.Files.{FilesView}
+use Rattle.lane_drive.specs.Files.{FilesState}
 use Rattle.lane_drive.specs.Sending.{Sending}
 use Rattle.lane_drive.specs.Stops.{EndsBy, WritesBegun, as_they_are}
 use Rattle.mlb_edge.specs.Causes.{Rose}
@@ -54,17 +54,17 @@ module _ {S E : Type 0} (sending : Sending) (rules : LaneRules S E) (start : S) 
   DoneOf first second status replies left before after = status ≡ statuses.Done → TakesAllOf first second replies left before after
 
   -- The run of both lanes ended so. Of each file's input it is kept, when it is handed back, whether its reading failed, unless memory is wanting.
-  pub record EndsWith (file file' : List ℕ) (files files' : FilesView) (first second : SourceView) (replies replies' : SourceView)
+  pub record EndsWith (file file' : List ℕ) (files files' : FilesState) (first second : SourceState) (replies replies' : SourceState)
       (before after : Option (List ℕ)) (writes writes' : ℕ) (status : Status) : Type 0 where
-    pub first' : SourceView
-    pub second' : SourceView
+    pub first' : SourceState
+    pub second' : SourceState
     pub reading : Reading
     pub ends : EndsBy sending rules start first first' second second' (outside unread replies before writes) (outside reading replies' after writes') status
     pub kept : status ≢ statuses.NoMemory
         → files'.failed_reads ≡ with_closed (with_closed files.failed_reads (Some file) first'.faults) (Some file') second'.faults
 
   -- so it is where both files were opened
-  abbrev pub EndOf : (file file' : List ℕ) (files files' : FilesView) (first second : SourceView) (replies replies' : SourceView)
+  abbrev pub EndOf : (file file' : List ℕ) (files files' : FilesState) (first second : SourceState) (replies replies' : SourceState)
       (before after : Option (List ℕ)) (writes writes' : ℕ) → Status → Type 0
   EndOf file file' files files' first second replies replies' before after writes writes' status =
       ((lane : LaneName) → status ≢ statuses.OpenFault lane) → EndsWith file file' files files' first second replies replies' before after writes writes' status
@@ -81,7 +81,7 @@ module _ {S E : Type 0} (belongs : Lane → Event → Bool) (rules : LaneRules S
   abbrev pub AtDone : (first second : Option (List ℕ)) → Status → (replies left before after : Option (List ℕ)) → Type 0
   AtDone = DoneOf (as_they_are belongs) rules start
 
-  abbrev pub AtEnd : (file file' : List ℕ) (files files' : FilesView) (first second : SourceView) (replies replies' : SourceView)
+  abbrev pub AtEnd : (file file' : List ℕ) (files files' : FilesState) (first second : SourceState) (replies replies' : SourceState)
       (before after : Option (List ℕ)) (writes writes' : ℕ) → Status → Type 0
   AtEnd = EndOf (as_they_are belongs) rules start
 
@@ -93,29 +93,29 @@ abbrev pub RoseFor : LaneName → LaneName → List ℕ → (names names' : List
 RoseFor lane own file names names' = (lane ≡ own) × Rose (times file names) (times file names')
 
 -- the file of this lane is the one whose opening failed, once
-abbrev pub FailsToOpen : LaneName → LaneName → List ℕ → (files files' : FilesView) → Type 0
+abbrev pub FailsToOpen : LaneName → LaneName → List ℕ → (files files' : FilesState) → Type 0
 FailsToOpen lane own file files files' = (lane ≡ own) × (files'.failed_opens ≡ files.failed_opens ++ file ∷ [])
 
 -- a lane isn't opened exactly where the opening of its file failed, and then nothing was read; else no opening failed
-abbrev pub AtOpenFault : (Lane → LaneName) → (first second : List ℕ) → Status → (files files' : FilesView) → Type 0
+abbrev pub AtOpenFault : (Lane → LaneName) → (first second : List ℕ) → Status → (files files' : FilesState) → Type 0
 AtOpenFault name first second status files files' =
     ((lane : LaneName) → status ≡ statuses.OpenFault lane
     → (FailsToOpen lane (name First) first files files' ⊎ FailsToOpen lane (name Second) second files files') × (files'.failed_reads ≡ files.failed_reads))
     × (((lane : LaneName) → status ≢ statuses.OpenFault lane) → files'.failed_opens ≡ files.failed_opens)
 
 -- a lane isn't read only where the count of failed readings of its file rose, and the input only where its own rose
-abbrev pub AtReadFault : (Lane → LaneName) → (first second : List ℕ) → Status → (files files' : FilesView) (reads reads' : ℕ) → Type 0
+abbrev pub AtReadFault : (Lane → LaneName) → (first second : List ℕ) → Status → (files files' : FilesState) (reads reads' : ℕ) → Type 0
 AtReadFault name first second status files files' reads reads' = (lane : LaneName) → status ≡ statuses.ReadFault lane
     → ((lane ≡ lanes.Input) × Rose reads reads')
     ⊎ (RoseFor lane (name First) first files.failed_reads files'.failed_reads ⊎ RoseFor lane (name Second) second files.failed_reads files'.failed_reads)
 
 -- of no other file an opening or a reading failed
-abbrev pub LeavesOthers : (first second : List ℕ) (files files' : FilesView) → Type 0
+abbrev pub LeavesOthers : (first second : List ℕ) (files files' : FilesState) → Type 0
 LeavesOthers first second files files' = (file : List ℕ) → file ≢ first → file ≢ second
     → (times file files'.failed_opens ≡ times file files.failed_opens) × (times file files'.failed_reads ≡ times file files.failed_reads)
 
 -- nothing is read of the input
-abbrev pub LeavesInput : (replies replies' : SourceView) → Type 0
+abbrev pub LeavesInput : (replies replies' : SourceState) → Type 0
 LeavesInput replies replies' = replies' ≡ replies
 
 -- the status where a lane's file isn't opened

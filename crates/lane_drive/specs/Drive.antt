@@ -2,7 +2,7 @@
 use Rattle.std.specs.Prelude.{◌≡◌, ◌≤◌, ℕ, true, false, List, [], ◌∷◌, ◌++◌}
 use Rattle.std.specs.List.{flat_map}
 use Rattle.lane_mail.specs.declared.item.Item.{Item}
-use Rattle.lane_run.specs.Views.{Outside}
+use Rattle.lane_run.specs.Outside.{Outside}
 use Rattle.line_run.specs.Machine.{Goes}
 use Rattle.lane_drive.specs.LaneRules.{LaneRules, item_text}
 use Rattle.mlb_edge.specs.declared.lines.Line.{Line}

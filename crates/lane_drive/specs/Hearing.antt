@@ -5,7 +5,7 @@ use Rattle.std.specs.Io.KnownBytes.{IsAtEnd}
 use Rattle.kube_model.specs.declared.status.Status.{Status}
 use Rattle.kube_model.specs.declared.status.Status.TheVariants.{Done}
 use Rattle.lane_mail.specs.declared.item.Item.{Item}
-use Rattle.lane_run.specs.Views.{Outside}
+use Rattle.lane_run.specs.Outside.{Outside}
 use Rattle.line_run.specs.Ended.{status_of_refusal}
 use Rattle.line_run.specs.declared.halt.Refusal.{Refusal}
 use Rattle.lane_drive.specs.LaneRules.{LaneRules, RefusesItem}

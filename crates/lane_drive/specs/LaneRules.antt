@@ -6,6 +6,7 @@ use Rattle.kube_model.specs.declared.status.LaneName.{LaneName}
 use Rattle.kube_model.specs.declared.status.What.{What}
 use Rattle.kube_model.specs.declared.status.Status.{Status}
 use Rattle.kube_model.specs.declared.status.Status.TheVariants.{Done, BadReply, Limit}
+use Rattle.kube_model.specs.declared.status.Status.TheVariants as statuses
 use Rattle.lane_mail.specs.declared.lane.Lane.{Lane}
 use Rattle.lane_mail.specs.declared.item.Item.{Item}
 use Rattle.line_run.specs.declared.halt.Halt.{Halt}
@@ -38,6 +39,10 @@ pub record LaneRules (S E : Type 0) : Type 0 where
 -- the first number past a limit of what is held is told
 abbrev pub IsHeldLimit : Status → Type 0
 IsHeldLimit status = (what : What) × (count : ℕ) × IsHeld what × (status ≡ Limit what count)
+
+-- why a run stops at an item: more would be held than may be, or memory is wanting
+abbrev pub IsItemLimit : Status → Type 0
+IsItemLimit status = IsHeldLimit status ⊎ (status ≡ statuses.NoMemory)
 
 -- The lines of the input: each is the reply that is awaited, and where none is the input is at its end.
 abbrev pub reply_rules : {S E : Type 0} → LaneRules S E → Rules S E

@@ -8,13 +8,13 @@ use Rattle.lane_run.specs.declared.lane_end.LaneEnd.{LaneEnd}
 use Rattle.lane_run.specs.declared.lane_end.LaneEnd.TheVariants.{Done}
 use Rattle.lane_run.specs.Ran.{LanesTurned, TurnedBeginnings}
 use Rattle.lane_run.specs.Turned.{StopsTurned}
-use Rattle.lane_run.specs.Views.{SourceView}
+use Rattle.lane_run.specs.Outside.{SourceState}
 
 -- What it is that two lanes send.
 pub record Sending : Type 1 where
   -- both lanes ended so, and these are all items that they sent, put together
-  pub Ended : (first first' second second' : SourceView) → (sent : List Item) (end end' : LaneEnd) → Type 0
-  -- of each lane these items are a beginning of what it may send
+  pub Ended : (first first' second second' : SourceState) → (sent : List Item) (end end' : LaneEnd) → Type 0
+  -- of each lane these items are a beginning of what it may send, and lead on to what it comes to in the end
   pub Begins : (first second : Option (List ℕ)) → List Item → Type 0
   -- just these items are sent for all that the first lane carries, and for all that the second does, and each ends with its input
   pub Firsts : Option (List ℕ) → List Item → Type 0
@@ -25,7 +25,7 @@ abbrev pub turned : {U V : Type 0} → (U → U → Event → Event → Type 0) 
     → Sending
 turned TurnsFirst TurnsSecond belongs u u' v v' = record {
   Ended = λ first first' second second'. LanesTurned TurnsFirst TurnsSecond belongs first first' second second' u u' v v';
-  Begins = λ first second. TurnedBeginnings TurnsFirst TurnsSecond belongs first second u v;
+  Begins = λ first second. TurnedBeginnings TurnsFirst TurnsSecond belongs first second u u' v v';
   Firsts = λ first items. StopsTurned TurnsFirst belongs First first u u' items Done;
   Seconds = λ second items. StopsTurned TurnsSecond belongs Second second v v' items Done;
 }

@@ -1,6 +1,7 @@
 -- How a run over two lanes ends.
 use Rattle.std.specs.Prelude.{◌≡◌, ◌≢◌, ◌⊎◌, ℕ, ◌+◌, ◌^◌, Bool, true, false, List, [], ◌∷◌, ◌++◌, Option}
 use Rattle.std.specs.Io.KnownBytes.{IsAtEnd}
+use Rattle.std.specs.Option.{option_to_list}
 use Rattle.kube_model.specs.declared.event.Event.{Event}
 use Rattle.kube_model.specs.declared.status.LaneName.{LaneName}
 use Rattle.kube_model.specs.declared.status.What.TheVariants as whats
@@ -12,7 +13,7 @@ use Rattle.lane_mail.specs.declared.item.Item.{Item}
 use Rattle.lane_mail.specs.Lanes.{items_of}
 use Rattle.lane_run.specs.declared.lane_end.LaneEnd.{LaneEnd}
 use Rattle.lane_run.specs.declared.lane_end.LaneEnd.TheVariants.{Done, ReadFault, LineLimit, InputLimit, BadLine, NoMemory}
-use Rattle.lane_run.specs.Views.{SourceView, Outside}
+use Rattle.lane_run.specs.Outside.{SourceState, Outside}
 use Rattle.lane_run.specs.Ran.{LanesEnded}
 use Rattle.lane_run.specs.Watched.{Begins, StopsAs}
 use Rattle.line_run.specs.declared.halt.Halt.{Halt}
@@ -68,7 +69,7 @@ as_they_are belongs = record {
 module _ {S E : Type 0} (sending : Sending) (rules : LaneRules S E) (start : S) where
   -- The run stops at an item that isn't taken, or whose text isn't written whole. The lanes were read to their ends, and what they sent behind
   -- that item was dropped.
-  pub record StopsAtItem (first first' second second' : SourceView) (before after : Outside) (status : Status) : Type 0 where
+  pub record StopsAtItem (first first' second second' : SourceState) (before after : Outside) (status : Status) : Type 0 where
     pub items : List Item
     pub item : Item
     pub dropped : List Item
@@ -88,7 +89,7 @@ module _ {S E : Type 0} (sending : Sending) (rules : LaneRules S E) (start : S) 
 
   -- A reply is awaited, and the next line isn't one, can't be read, or isn't there; or what it comes to isn't written whole. What the lanes sent
   -- behind the items was dropped.
-  pub record StopsAtReply (first first' second second' : SourceView) (before after : Outside) (status : Status) : Type 0 where
+  pub record StopsAtReply (first first' second second' : SourceState) (before after : Outside) (status : Status) : Type 0 where
     pub items : List Item
     pub dropped : List Item
     pub end : LaneEnd
@@ -104,7 +105,7 @@ module _ {S E : Type 0} (sending : Sending) (rules : LaneRules S E) (start : S) 
     pub known : (end ≢ NoMemory) × (end' ≢ NoMemory)
 
   -- All that both lanes sent was taken, in an order that is each lane's own, and no reply is awaited. The lanes ended so.
-  pub record TakesAll (first first' second second' : SourceView) (before mid : Outside) (end end' : LaneEnd) : Type 0 where
+  pub record TakesAll (first first' second second' : SourceState) (before mid : Outside) (end end' : LaneEnd) : Type 0 where
     pub items : List Item
     pub lanes : sending.Ended first first' second second' items end end'
     pub state : S
@@ -115,7 +116,7 @@ module _ {S E : Type 0} (sending : Sending) (rules : LaneRules S E) (start : S) 
     pub known : (end ≢ NoMemory) × (end' ≢ NoMemory)
 
   -- Behind the last reply the input isn't at its end.
-  pub record StopsBehind (first first' second second' : SourceView) (before after : Outside) (status : Status) : Type 0 where
+  pub record StopsBehind (first first' second second' : SourceState) (before after : Outside) (status : Status) : Type 0 where
     pub end : LaneEnd
     pub end' : LaneEnd
     pub mid : Outside
@@ -125,7 +126,7 @@ module _ {S E : Type 0} (sending : Sending) (rules : LaneRules S E) (start : S) 
     pub ill : status ≢ statuses.Done
 
   -- The reconciler is done, and the status is that of the lanes. Where there are replies, the input is at its end.
-  pub record EndsAsLanes (first first' second second' : SourceView) (before after : Outside) (status : Status) : Type 0 where
+  pub record EndsAsLanes (first first' second second' : SourceState) (before after : Outside) (status : Status) : Type 0 where
     pub end : LaneEnd
     pub end' : LaneEnd
     pub mid : Outside
@@ -148,8 +149,19 @@ module _ {S E : Type 0} (sending : Sending) (rules : LaneRules S E) (start : S) 
     pub taken : AreTaken rules items replies start state told
     pub wrote : GrowsUpTo before after (told_text rules told)
 
+  -- A beginning of the text of the items that drove a machine was written, or of these and the one behind them, which it refused. It stands as it
+  -- may behind them.
+  pub record LeavesMachine (Stands : List Item → Option Item → Type 0) (first second : Option (List ℕ)) (now : Option Input) (before after : Option (List ℕ))
+      : Type 0 where
+    pub begun : WritesBegun first second now before after
+    pub driven : List Item
+    pub refused : Option Item
+    pub are : (begun.items ≡ driven) ⊎ (begun.items ≡ driven ++ option_to_list refused)
+    pub sent : sending.Begins first second (driven ++ option_to_list refused)
+    pub stands : Stands driven refused
+
   -- how the run of two open lanes ends: by the reconciler, behind the last reply, as the lanes did, or for want of memory
-  abbrev pub EndsBy : (first first' second second' : SourceView) (before after : Outside) → Status → Type 0
+  abbrev pub EndsBy : (first first' second second' : SourceState) (before after : Outside) → Status → Type 0
   EndsBy first first' second second' before after status =
       StopsAtItem first first' second second' before after status
       ⊎ (StopsAtReply first first' second second' before after status
@@ -162,5 +174,5 @@ module _ {S E : Type 0} (belongs : Lane → Event → Bool) (rules : LaneRules S
   abbrev pub WritesUpTo : (first second : Option (List ℕ)) (now : Option Input) (before after : Option (List ℕ)) → Type 0
   WritesUpTo = WritesBegun (as_they_are belongs) rules start
 
-  abbrev pub EndsSo : (first first' second second' : SourceView) (before after : Outside) → Status → Type 0
+  abbrev pub EndsSo : (first first' second second' : SourceState) (before after : Outside) → Status → Type 0
   EndsSo = EndsBy (as_they_are belongs) rules start

@@ -4,9 +4,9 @@ ghost use Rattle.kube_model.specs.declared.status.LaneName.{LaneName as Name};
 ghost use Rattle.lane_drive.specs.Asking.{AnswersAll, AsksMore, HasStopped};
 ghost use Rattle.lane_drive.specs.Clauses.{AtDone, AtEnd, AtOpenFault, AtReadFault, LeavesInput, LeavesOthers, OnlyWrites, unread};
 ghost use Rattle.lane_drive.specs.Complete.{IsComplete};
-ghost use Rattle.lane_drive.specs.Files.{files_view};
+ghost use Rattle.lane_drive.specs.Files.{files_state};
 ghost use Rattle.lane_run.specs.Opening.{MayBeOpened};
-ghost use Rattle.lane_run.specs.Views.{lane_view, outside, source_view};
+ghost use Rattle.lane_run.specs.Outside.{lane_state, outside, source_state};
 ghost use Rattle.lane_run.specs.Waiting.{MayBeAwaited};
 ghost use Rattle.line_run.specs.Answered.{MayBeAsked};
 ghost use Rattle.line_run.specs.Clauses.{AtWriteFault};
@@ -53,32 +53,32 @@ pub fn run_lane_files<
     // awaited or both lanes have ended. Nothing else is known of when it may. That a lane ended because its reading failed is possible where
     // its file isn't safe; where both are, it may be asked behind all that both carry.
     requires live { MayBeAsked I.name I.may_read input.old (λ i r o. AsksMore M.belongs M.rules (M.state machine)
-        (lane_view (F.bytes files.old first.now) (Some first.now) 0 (F.safe files.old first.now))
-        (lane_view (F.bytes files.old second.now) (Some second.now) 0 (F.safe files.old second.now))
-        (outside unread (source_view (I.left input.old) (I.name input.old) (I.faults input.old))
+        (lane_state (F.bytes files.old first.now) (Some first.now) 0 (F.safe files.old first.now))
+        (lane_state (F.bytes files.old second.now) (Some second.now) 0 (F.safe files.old second.now))
+        (outside unread (source_state (I.left input.old) (I.name input.old) (I.faults input.old))
         (K.written out.old) (K.faults out.old))
-        (outside r (source_view (I.left i) (I.name i) (I.faults i)) (K.written o) (K.faults o))) }
+        (outside r (source_state (I.left i) (I.name i) (I.faults i)) (K.written o) (K.faults o))) }
 
     // The next item may be waited for where just the text of all items taken before stands written, with all replies to them heard. Nothing
     // else is known of when it may, and it can be waited for beside a sink of this type alone, so nothing is held back of `out` while a lane is
     // waited for.
     requires waits { MayBeAwaited R.may_wait rt.now K.written (AnswersAll M.rules (M.state machine)
-        (outside unread (source_view (I.left input.old) (I.name input.old) (I.faults input.old))
+        (outside unread (source_state (I.left input.old) (I.name input.old) (I.faults input.old))
         (K.written out.old) (K.faults out.old))) }
 
     // What the lanes still send may be dropped where the machine stopped at the last item taken, or at a reply behind it, and nowhere else.
     requires drops { MayBeAwaited R.may_drop rt.now K.written (HasStopped M.rules (M.state machine)
-        (outside unread (source_view (I.left input.old) (I.name input.old) (I.faults input.old))
+        (outside unread (source_state (I.left input.old) (I.name input.old) (I.faults input.old))
         (K.written out.old) (K.faults out.old))) }
 
     // How the run ended, once both files are open.
     ensures ended { AtEnd M.belongs M.rules (M.state machine) first.now second.now
-        (files_view (F.failed_opens files.old) (F.failed_reads files.old))
-        (files_view (F.failed_opens files.new) (F.failed_reads files.new))
-        (lane_view (F.bytes files.old first.now) (Some first.now) 0 (F.safe files.old first.now))
-        (lane_view (F.bytes files.old second.now) (Some second.now) 0 (F.safe files.old second.now))
-        (source_view (I.left input.old) (I.name input.old) (I.faults input.old))
-        (source_view (I.left input.new) (I.name input.new) (I.faults input.new))
+        (files_state (F.failed_opens files.old) (F.failed_reads files.old))
+        (files_state (F.failed_opens files.new) (F.failed_reads files.new))
+        (lane_state (F.bytes files.old first.now) (Some first.now) 0 (F.safe files.old first.now))
+        (lane_state (F.bytes files.old second.now) (Some second.now) 0 (F.safe files.old second.now))
+        (source_state (I.left input.old) (I.name input.old) (I.faults input.old))
+        (source_state (I.left input.new) (I.name input.new) (I.faults input.new))
         (K.written out.old) (K.written out.new) (K.faults out.old) (K.faults out.new) result }
 
     // Where it is done, all that both files carry was taken, with all lines of the input as replies, and just its text was written.
@@ -95,29 +95,29 @@ pub fn run_lane_files<
     // the replies, and no count of faults rises, it is done, but for want of memory.
     ensures complete { IsComplete M.belongs M.rules (M.state machine)
         (F.bytes files.old first.now) (F.bytes files.old second.now) result
-        (files_view (F.failed_opens files.old) (F.failed_reads files.old))
-        (files_view (F.failed_opens files.new) (F.failed_reads files.new))
+        (files_state (F.failed_opens files.old) (F.failed_reads files.old))
+        (files_state (F.failed_opens files.new) (F.failed_reads files.new))
         (I.left input.old) (I.faults input.old) (I.faults input.new) (K.faults out.old) (K.faults out.new) }
 
     // A fault comes only where its count rose, and a file isn't opened exactly where its opening failed.
     ensures open_fault { AtOpenFault M.rules.name first.now second.now result
-        (files_view (F.failed_opens files.old) (F.failed_reads files.old))
-        (files_view (F.failed_opens files.new) (F.failed_reads files.new)) }
+        (files_state (F.failed_opens files.old) (F.failed_reads files.old))
+        (files_state (F.failed_opens files.new) (F.failed_reads files.new)) }
     ensures read_fault { AtReadFault M.rules.name first.now second.now result
-        (files_view (F.failed_opens files.old) (F.failed_reads files.old))
-        (files_view (F.failed_opens files.new) (F.failed_reads files.new)) (I.faults input.old) (I.faults input.new) }
+        (files_state (F.failed_opens files.old) (F.failed_reads files.old))
+        (files_state (F.failed_opens files.new) (F.failed_reads files.new)) (I.faults input.old) (I.faults input.new) }
     ensures write_fault { AtWriteFault result (K.faults out.old) (K.faults out.new) }
 
     // Where a file isn't opened nothing is read or written; and where there are no replies nothing is read of the input.
     ensures unopened { (lane : Name) → result ≡ Status.OpenFault lane → (input.new ≡ input.old) × (out.new ≡ out.old) }
     ensures unheard { M.rules.hears ≡ false → LeavesInput
-        (source_view (I.left input.old) (I.name input.old) (I.faults input.old))
-        (source_view (I.left input.new) (I.name input.new) (I.faults input.new)) }
+        (source_state (I.left input.old) (I.name input.old) (I.faults input.old))
+        (source_state (I.left input.new) (I.name input.new) (I.faults input.new)) }
 
     // Of no other file an opening or a reading failed.
     ensures others { LeavesOthers first.now second.now
-        (files_view (F.failed_opens files.old) (F.failed_reads files.old))
-        (files_view (F.failed_opens files.new) (F.failed_reads files.new)) }
+        (files_state (F.failed_opens files.old) (F.failed_reads files.old))
+        (files_state (F.failed_opens files.new) (F.failed_reads files.new)) }
     ensures bytes { (file : List ℕ) → F.bytes files.new file ≡ F.bytes files.old file }
 {
     let (status, machine) = run_turned_files(

@@ -1,6 +1,6 @@
 //! The replies to what was written.
 ghost use Rattle.std.specs.Prelude.{◌≡◌, true, false, OnOk, IfErr, IfSome, IfNone};
-ghost use Rattle.lane_run.specs.Views.{outside, source_view};
+ghost use Rattle.lane_run.specs.Outside.{outside, source_state};
 ghost use Rattle.lane_drive.specs.Asking.{AwaitsMore};
 ghost use Rattle.lane_drive.specs.Hearing.{Hears, StopsHearing, EndsHearing, GoesBehind};
 ghost use Rattle.line_run.specs.Answered.{MayBeAsked};
@@ -22,20 +22,20 @@ pub(crate) fn hear_replies<M: LaneMachine, I: PacedSource<K>, K: Sink>(
     out: &mut K,
 ) -> Result<(), Status>
     requires live { MayBeAsked I.name I.may_read input.old (λ i r o. AwaitsMore M.rules (M.state replies.old.machine)
-        (outside reader.old (source_view (I.left input.old) (I.name input.old) (I.faults input.old))
+        (outside reader.old (source_state (I.left input.old) (I.name input.old) (I.faults input.old))
         (K.written out.old) (K.faults out.old))
-        (outside r (source_view (I.left i) (I.name i) (I.faults i)) (K.written o) (K.faults o))) }
+        (outside r (source_state (I.left i) (I.name i) (I.faults i)) (K.written o) (K.faults o))) }
     ensures name { I.name input.new ≡ I.name input.old }
     ensures quiet { M.rules.waits (M.state replies.old.machine) ≡ false → replies.new ≡ replies.old }
     ensures ok { OnOk result (Hears M.rules (M.state replies.old.machine) (M.state replies.new.machine)
-        (outside reader.old (source_view (I.left input.old) (I.name input.old) (I.faults input.old))
+        (outside reader.old (source_state (I.left input.old) (I.name input.old) (I.faults input.old))
         (K.written out.old) (K.faults out.old))
-        (outside reader.new (source_view (I.left input.new) (I.name input.new) (I.faults input.new))
+        (outside reader.new (source_state (I.left input.new) (I.name input.new) (I.faults input.new))
         (K.written out.new) (K.faults out.new))) }
     ensures err { IfErr result (λ status. StopsHearing M.rules (M.state replies.old.machine) status
-        (outside reader.old (source_view (I.left input.old) (I.name input.old) (I.faults input.old))
+        (outside reader.old (source_state (I.left input.old) (I.name input.old) (I.faults input.old))
         (K.written out.old) (K.faults out.old))
-        (outside reader.new (source_view (I.left input.new) (I.name input.new) (I.faults input.new))
+        (outside reader.new (source_state (I.left input.new) (I.name input.new) (I.faults input.new))
         (K.written out.new) (K.faults out.new))) }
 {
     'replies: while replies.machine.waits() {
@@ -59,14 +59,14 @@ pub(crate) fn look_behind<M: LaneMachine, I: PacedSource<K>, K: Sink>(
     requires paced { M.rules.hears ≡ true → (HoldsLine reader.old → ⊥) → I.may_read input.old reader.old out.old }
     ensures unheard { M.rules.hears ≡ false → replies.new ≡ replies.old }
     ensures none { IfNone result (EndsHearing M.rules
-        (outside reader.old (source_view (I.left input.old) (I.name input.old) (I.faults input.old))
+        (outside reader.old (source_state (I.left input.old) (I.name input.old) (I.faults input.old))
         (K.written out.old) (K.faults out.old))
-        (outside reader.new (source_view (I.left input.new) (I.name input.new) (I.faults input.new))
+        (outside reader.new (source_state (I.left input.new) (I.name input.new) (I.faults input.new))
         (K.written out.new) (K.faults out.new))) }
     ensures some { IfSome result (λ status. GoesBehind M.rules (M.state replies.old.machine) status
-        (outside reader.old (source_view (I.left input.old) (I.name input.old) (I.faults input.old))
+        (outside reader.old (source_state (I.left input.old) (I.name input.old) (I.faults input.old))
         (K.written out.old) (K.faults out.old))
-        (outside reader.new (source_view (I.left input.new) (I.name input.new) (I.faults input.new))
+        (outside reader.new (source_state (I.left input.new) (I.name input.new) (I.faults input.new))
         (K.written out.new) (K.faults out.new))) }
 {
     if !M::hears() {

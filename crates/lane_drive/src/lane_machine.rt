@@ -1,5 +1,5 @@
 //! What is driven by the items of two lanes.
-ghost use Rattle.std.specs.Prelude.{◌≡◌, ◌≢◌, ◌⊎◌, ◌≤◌, ⊤, true, false, List, [], ◌∷◌, ◌++◌, OnOk, IfOk, IfErr, IsTrue};
+ghost use Rattle.std.specs.Prelude.{◌≡◌, ◌≢◌, ◌⊎◌, ◌≤◌, ⊤, true, false, List, [], ◌∷◌, ◌++◌, Option, Some, None, OnOk, OnErr, IfOk, IfErr, IsTrue};
 ghost use Rattle.kube_lines.specs.OutputLines.{is_taken};
 ghost use Rattle.kube_model.specs.declared.put.Put.{Put};
 ghost use Rattle.kube_model.specs.declared.status.Status.{Status};
@@ -9,7 +9,7 @@ ghost use Rattle.lane_mail.specs.declared.lane.Lane.{Lane};
 ghost use Rattle.lane_mail.specs.declared.lane.Lane.TheVariants.{First, Second};
 ghost use Rattle.line_run.specs.Machine.{Stops};
 ghost use Rattle.line_run.specs.Steps.{Takes, Refuses};
-ghost use Rattle.lane_drive.specs.LaneRules.{LaneRules, IsHeldLimit, reply_rules, TakesItem, RefusesItem};
+ghost use Rattle.lane_drive.specs.LaneRules.{LaneRules, IsHeldLimit, IsItemLimit, reply_rules, TakesItem, RefusesItem};
 ghost use Rattle.mlb_edge.specs.declared.lines.Line.{Line};
 
 use kube_model::{LaneName, Status};
@@ -25,16 +25,16 @@ pub trait LaneMachine {
     ghost State: { Type 0 };
 
     /// What its transcript is made of.
-    ghost Entry: { Type 0 };
+    ghost TranscriptEntry: { Type 0 };
 
     /// The state that it has.
     ghost state: { Self → State };
 
     /// What an item and a reply are to a state, and what is written of an entry.
-    ghost rules: { LaneRules State Entry };
+    ghost rules: { LaneRules State TranscriptEntry };
 
-    /// It may stand so behind these items, of which it may have refused the last. Where it says nothing of that, it may stand so behind any.
-    ghost Behind: { Self → List Item → Type 0 } = { λ _ _. ⊤ };
+    /// It may stand so behind these items, and where it refused the one behind them. Where it says nothing of that, it may stand so behind any.
+    ghost Behind: { Self → List Item → Option Item → Type 0 } = { λ _ _ _. ⊤ };
 
     /// The name of the lane.
     fn lane_name(lane: Lane) -> LaneName
@@ -55,7 +55,8 @@ pub trait LaneMachine {
             (K.written out.old) (K.written out.new)) }
         ensures err { IfErr result (λ refusal. RefusesItem refusal rules (state self.old) item
             (K.written out.old) (K.written out.new) (K.faults out.old) (K.faults out.new)) }
-        ensures behind { (items : List Item) → Behind self.old items → Behind self.new (items ++ item ∷ []) }
+        ensures behind { OnOk result ((items : List Item) → Behind self.old items None → Behind self.new (items ++ item ∷ []) None) }
+        ensures refused { OnErr result ((items : List Item) → Behind self.old items None → Behind self.new items (Some item)) }
         ensures later { K.faults out.old ≤ K.faults out.new };
 
     /// Takes the line as the reply that is awaited, and writes what comes of it before it returns.
@@ -72,8 +73,8 @@ pub trait LaneMachine {
         requires { rules.waits (state self.now) ≡ true }
         ensures { IfOk result (λ status. status ≡ rules.unanswered (state self.now)) };
 
-    /// Why it stops at an item: more would be held than may be.
-    ghost items_stop: { (s : State) (item : Item) (status : Status) → rules.take s item ≡ Stops status → IsHeldLimit status };
+    /// Why it stops at an item: more would be held than may be, or memory is wanting.
+    ghost items_stop: { (s : State) (item : Item) (status : Status) → rules.take s item ≡ Stops status → IsItemLimit status };
 
     /// Why it stops at a reply: the line is none, or more would be held than may be.
     ghost replies_stop: { (s : State) (line : Line) (status : Status) → rules.waits s ≡ true → rules.hear s line ≡ Stops status

@@ -1,12 +1,11 @@
 //! The run over two lanes that are open.
-ghost use Rattle.std.specs.Prelude.{◌≡◌, List, [], false};
-ghost use Rattle.lane_mail.specs.declared.item.Item.{Item};
+ghost use Rattle.std.specs.Prelude.{◌≡◌, [], None, false};
 ghost use Rattle.lane_drive.specs.Asking.{AsksOf, MayDrive};
 ghost use Rattle.lane_drive.specs.Clauses.{LeavesInput, unread};
 ghost use Rattle.lane_drive.specs.Sending.{turned};
-ghost use Rattle.lane_drive.specs.Stops.{EndsBy};
-ghost use Rattle.lane_run.specs.Ran.{TurnedBeginnings};
-ghost use Rattle.lane_run.specs.Views.{lane_view, outside, source_view};
+ghost use Rattle.lane_drive.specs.Stops.{EndsBy, LeavesMachine};
+ghost use Rattle.lane_run.specs.Outside.{lane_state, outside, source_state};
+ghost use Rattle.mlb_edge.specs.InputLines.{to_come};
 
 use crate::driver::Driver;
 use crate::hearing::look_behind;
@@ -47,34 +46,36 @@ pub(crate) fn run_opened<
         (λ before now. (u : A.State) × (v : B.State)
         × AsksOf (turned A.Turns B.Turns M.belongs (A.state first_turner.old) u (B.state second_turner.old) v)
         M.rules (M.state driver.old.replies.machine)
-        (lane_view (S.left first.old) (S.name first.old) (S.faults first.old) (S.safe first.old))
-        (lane_view (S.left second.old) (S.name second.old) (S.faults second.old) (S.safe second.old)) before now)
+        (lane_state (S.left first.old) (S.name first.old) (S.faults first.old) (S.safe first.old))
+        (lane_state (S.left second.old) (S.name second.old) (S.faults second.old) (S.safe second.old)) before now)
         I.name I.may_read R.may_wait R.may_drop K.written
-        (λ i r o. outside r (source_view (I.left i) (I.name i) (I.faults i)) (K.written o) (K.faults o))
+        (λ i r o. outside r (source_state (I.left i) (I.name i) (I.faults i)) (K.written o) (K.faults o))
         rt.now input.old reader.old out.old }
     ensures ended { EndsBy (turned A.Turns B.Turns M.belongs
         (A.state first_turner.old) (A.state first_turner.new) (B.state second_turner.old) (B.state second_turner.new))
         M.rules (M.state driver.old.replies.machine)
-        (lane_view (S.left first.old) (S.name first.old) (S.faults first.old) (S.safe first.old))
-        (lane_view (S.left first.new) (S.name first.new) (S.faults first.new) (S.safe first.new))
-        (lane_view (S.left second.old) (S.name second.old) (S.faults second.old) (S.safe second.old))
-        (lane_view (S.left second.new) (S.name second.new) (S.faults second.new) (S.safe second.new))
-        (outside reader.old (source_view (I.left input.old) (I.name input.old) (I.faults input.old))
+        (lane_state (S.left first.old) (S.name first.old) (S.faults first.old) (S.safe first.old))
+        (lane_state (S.left first.new) (S.name first.new) (S.faults first.new) (S.safe first.new))
+        (lane_state (S.left second.old) (S.name second.old) (S.faults second.old) (S.safe second.old))
+        (lane_state (S.left second.new) (S.name second.new) (S.faults second.new) (S.safe second.new))
+        (outside reader.old (source_state (I.left input.old) (I.name input.old) (I.faults input.old))
         (K.written out.old) (K.faults out.old))
-        (outside reader.new (source_view (I.left input.new) (I.name input.new) (I.faults input.new))
+        (outside reader.new (source_state (I.left input.new) (I.name input.new) (I.faults input.new))
         (K.written out.new) (K.faults out.new)) result }
 
-    // However it ends, a machine that hears no replies stands as it may behind items that were sent for a beginning of what each lane carries.
-    ensures behind { M.rules.hears ≡ false → M.Behind driver.old.replies.machine []
-        → (items : List Item) × M.Behind driver.new.replies.machine items
-        × TurnedBeginnings A.Turns B.Turns M.belongs (S.left first.old) (S.left second.old)
-        (A.state first_turner.old) (B.state second_turner.old) items }
+    // However it ends, a beginning of the text of the items that drove the machine was written, or of these and the next one, which it refused. One that
+    // hears no replies stands as it may behind them.
+    ensures behind { M.rules.hears ≡ false → M.Behind driver.old.replies.machine [] None
+        → LeavesMachine (turned A.Turns B.Turns M.belongs
+        (A.state first_turner.old) (A.state first_turner.new) (B.state second_turner.old) (B.state second_turner.new))
+        M.rules (M.state driver.old.replies.machine) (M.Behind driver.new.replies.machine) (S.left first.old) (S.left second.old)
+        (to_come reader.old (I.left input.old)) (K.written out.old) (K.written out.new) }
 
     // Both sources keep their names, and where there are no replies nothing is read of the input.
     ensures names { (S.name first.new ≡ S.name first.old) × (S.name second.new ≡ S.name second.old) }
     ensures unheard { M.rules.hears ≡ false → LeavesInput
-        (source_view (I.left input.old) (I.name input.old) (I.faults input.old))
-        (source_view (I.left input.new) (I.name input.new) (I.faults input.new)) }
+        (source_state (I.left input.old) (I.name input.old) (I.faults input.old))
+        (source_state (I.left input.new) (I.name input.new) (I.faults input.new)) }
 {
     let ran = run_turned::<M, A, B, Driver<M>, R, S, I, K>(
         rt,

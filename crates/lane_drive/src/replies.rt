@@ -19,7 +19,7 @@ impl<M: LaneMachine> Machine for Replies<M> {
 
     ghost State = { M.State };
 
-    ghost Entry = { M.Entry };
+    ghost TranscriptEntry = { M.TranscriptEntry };
 
     ghost state = { λ replies. M.state replies.machine };
 

@@ -1,16 +1,16 @@
 //! The run over two lane files whose events are turned.
-ghost use Rattle.std.specs.Prelude.{◌≡◌, ℕ, List, [], Some, false};
+ghost use Rattle.std.specs.Prelude.{◌≡◌, ℕ, List, [], Some, None, false};
 ghost use Rattle.kube_model.specs.declared.status.LaneName.{LaneName as Name};
 ghost use Rattle.lane_drive.specs.Asking.{AsksOf, MayDrive};
 ghost use Rattle.lane_drive.specs.Clauses.{AtOpenFault, AtReadFault, DoneOf, EndOf, LeavesInput, LeavesOthers, WritesOf, status_of_open, unread};
 ghost use Rattle.lane_drive.specs.Complete.{CompleteOf};
-ghost use Rattle.lane_drive.specs.Files.{files_view};
+ghost use Rattle.lane_drive.specs.Files.{files_state};
 ghost use Rattle.lane_drive.specs.Sending.{turned};
-ghost use Rattle.lane_mail.specs.declared.item.Item.{Item};
+ghost use Rattle.lane_drive.specs.Stops.{LeavesMachine};
 ghost use Rattle.lane_run.specs.Opening.{MayBeOpened};
-ghost use Rattle.lane_run.specs.Ran.{TurnedBeginnings};
-ghost use Rattle.lane_run.specs.Views.{lane_view, outside, source_view};
+ghost use Rattle.lane_run.specs.Outside.{lane_state, outside, source_state};
 ghost use Rattle.line_run.specs.Clauses.{AtWriteFault};
+ghost use Rattle.mlb_edge.specs.InputLines.{to_come};
 
 use crate::driver::Driver;
 use crate::lane_machine::LaneMachine;
@@ -53,22 +53,22 @@ pub fn run_turned_files<
     requires may { MayDrive M.rules (M.state machine)
         (λ before now. (u : A.State) × (v : B.State)
         × AsksOf (turned A.Turns B.Turns M.belongs (A.state first_turner.old) u (B.state second_turner.old) v) M.rules (M.state machine)
-        (lane_view (F.bytes files.old first.now) (Some first.now) 0 (F.safe files.old first.now))
-        (lane_view (F.bytes files.old second.now) (Some second.now) 0 (F.safe files.old second.now)) before now)
+        (lane_state (F.bytes files.old first.now) (Some first.now) 0 (F.safe files.old first.now))
+        (lane_state (F.bytes files.old second.now) (Some second.now) 0 (F.safe files.old second.now)) before now)
         I.name I.may_read R.may_wait R.may_drop K.written
-        (λ i r o. outside r (source_view (I.left i) (I.name i) (I.faults i)) (K.written o) (K.faults o))
+        (λ i r o. outside r (source_state (I.left i) (I.name i) (I.faults i)) (K.written o) (K.faults o))
         rt.now input.old unread out.old }
 
     // How the run ended, once both files are open.
     ensures ended { EndOf (turned A.Turns B.Turns M.belongs
         (A.state first_turner.old) (A.state first_turner.new) (B.state second_turner.old) (B.state second_turner.new))
         M.rules (M.state machine) first.now second.now
-        (files_view (F.failed_opens files.old) (F.failed_reads files.old))
-        (files_view (F.failed_opens files.new) (F.failed_reads files.new))
-        (lane_view (F.bytes files.old first.now) (Some first.now) 0 (F.safe files.old first.now))
-        (lane_view (F.bytes files.old second.now) (Some second.now) 0 (F.safe files.old second.now))
-        (source_view (I.left input.old) (I.name input.old) (I.faults input.old))
-        (source_view (I.left input.new) (I.name input.new) (I.faults input.new))
+        (files_state (F.failed_opens files.old) (F.failed_reads files.old))
+        (files_state (F.failed_opens files.new) (F.failed_reads files.new))
+        (lane_state (F.bytes files.old first.now) (Some first.now) 0 (F.safe files.old first.now))
+        (lane_state (F.bytes files.old second.now) (Some second.now) 0 (F.safe files.old second.now))
+        (source_state (I.left input.old) (I.name input.old) (I.faults input.old))
+        (source_state (I.left input.new) (I.name input.new) (I.faults input.new))
         (K.written out.old) (K.written out.new) (K.faults out.old) (K.faults out.new) result.0 }
 
     // Where it is done, all that was sent for what both files carry was taken, with all lines of the input as replies, and just its text was written.
@@ -84,40 +84,43 @@ pub fn run_turned_files<
         M.rules (M.state machine) (F.bytes files.old first.now) (F.bytes files.old second.now)
         (I.left input.old) (K.written out.old) (K.written out.new) }
 
-    // However it ends, a machine that hears no replies stands as it may behind items that were sent for a beginning of what each lane carries.
-    ensures behind { M.rules.hears ≡ false → M.Behind machine [] → (items : List Item) × M.Behind result.1 items
-        × TurnedBeginnings A.Turns B.Turns M.belongs (F.bytes files.old first.now) (F.bytes files.old second.now)
-        (A.state first_turner.old) (B.state second_turner.old) items }
+    // However it ends, that is a beginning of the text of the items that drove the machine, or of these and the next one, which it refused. One that hears
+    // no replies stands as it may behind them. What was sent leads on to the states with which both turners come back.
+    ensures behind { M.rules.hears ≡ false → M.Behind machine [] None
+        → LeavesMachine (turned A.Turns B.Turns M.belongs
+        (A.state first_turner.old) (A.state first_turner.new) (B.state second_turner.old) (B.state second_turner.new))
+        M.rules (M.state machine) (M.Behind result.1) (F.bytes files.old first.now) (F.bytes files.old second.now)
+        (to_come unread (I.left input.old)) (K.written out.old) (K.written out.new) }
 
     // Where each line of both files is an event of its lane, whatever is sent for these, in whatever order it comes, can be taken with the lines of
-    // the input as the replies, and no count of faults rises, it is done, but for want of memory.
+    // the input as the replies, or wants memory, and no count of faults rises, it is done, but for want of memory.
     ensures complete { CompleteOf M.belongs M.rules (M.state machine) (turned A.Turns B.Turns M.belongs
         (A.state first_turner.old) (A.state first_turner.new) (B.state second_turner.old) (B.state second_turner.new))
         (F.bytes files.old first.now) (F.bytes files.old second.now) result.0
-        (files_view (F.failed_opens files.old) (F.failed_reads files.old))
-        (files_view (F.failed_opens files.new) (F.failed_reads files.new))
+        (files_state (F.failed_opens files.old) (F.failed_reads files.old))
+        (files_state (F.failed_opens files.new) (F.failed_reads files.new))
         (I.left input.old) (I.faults input.old) (I.faults input.new) (K.faults out.old) (K.faults out.new) }
 
     // A fault comes only where its count rose, and a file isn't opened exactly where its opening failed.
     ensures open_fault { AtOpenFault M.rules.name first.now second.now result.0
-        (files_view (F.failed_opens files.old) (F.failed_reads files.old))
-        (files_view (F.failed_opens files.new) (F.failed_reads files.new)) }
+        (files_state (F.failed_opens files.old) (F.failed_reads files.old))
+        (files_state (F.failed_opens files.new) (F.failed_reads files.new)) }
     ensures read_fault { AtReadFault M.rules.name first.now second.now result.0
-        (files_view (F.failed_opens files.old) (F.failed_reads files.old))
-        (files_view (F.failed_opens files.new) (F.failed_reads files.new)) (I.faults input.old) (I.faults input.new) }
+        (files_state (F.failed_opens files.old) (F.failed_reads files.old))
+        (files_state (F.failed_opens files.new) (F.failed_reads files.new)) (I.faults input.old) (I.faults input.new) }
     ensures write_fault { AtWriteFault result.0 (K.faults out.old) (K.faults out.new) }
 
     // Where a file isn't opened nothing is read, turned or written.
     ensures unopened { (lane : Name) → result.0 ≡ Status.OpenFault lane → (input.new ≡ input.old) × (out.new ≡ out.old)
         × (first_turner.new ≡ first_turner.old) × (second_turner.new ≡ second_turner.old) }
     ensures unheard { M.rules.hears ≡ false → LeavesInput
-        (source_view (I.left input.old) (I.name input.old) (I.faults input.old))
-        (source_view (I.left input.new) (I.name input.new) (I.faults input.new)) }
+        (source_state (I.left input.old) (I.name input.old) (I.faults input.old))
+        (source_state (I.left input.new) (I.name input.new) (I.faults input.new)) }
 
     // Of no other file an opening or a reading failed.
     ensures others { LeavesOthers first.now second.now
-        (files_view (F.failed_opens files.old) (F.failed_reads files.old))
-        (files_view (F.failed_opens files.new) (F.failed_reads files.new)) }
+        (files_state (F.failed_opens files.old) (F.failed_reads files.old))
+        (files_state (F.failed_opens files.new) (F.failed_reads files.new)) }
     ensures bytes { (file : List ℕ) → F.bytes files.new file ≡ F.bytes files.old file }
 {
     let Ok(mut reader) = LineReader::new(alloc) else {

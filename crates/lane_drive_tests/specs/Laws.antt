@@ -9,11 +9,11 @@ use Rattle.lane_mail.specs.declared.item.Item.{Item}
 use Rattle.lane_mail.specs.declared.lane.Lane.{Lane}
 use Rattle.lane_mail.specs.declared.lane.Lane.TheVariants.{First, Second}
 use Rattle.line_run.specs.Machine.{Stops}
-use Rattle.lane_drive.specs.LaneRules.{IsHeldLimit}
+use Rattle.lane_drive.specs.LaneRules.{IsHeldLimit, IsItemLimit}
 use Rattle.lane_drive_tests.specs.Teller.{teller_rules, name_of}
 use Rattle.mlb_edge.specs.declared.lines.Line.{Line}
 
-pub no_item_stops : (s : ⊤) (item : Item) (status : Status) → teller_rules.take s item ≡ Stops status → IsHeldLimit status
+pub no_item_stops : (s : ⊤) (item : Item) (status : Status) → teller_rules.take s item ≡ Stops status → IsItemLimit status
 no_item_stops s item status e = absurd (cc)
 
 pub no_reply_stops : (s : ⊤) (line : Line) (status : Status) → teller_rules.waits s ≡ true → teller_rules.hear s line ≡ Stops status

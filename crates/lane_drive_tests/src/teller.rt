@@ -43,26 +43,11 @@ impl LaneMachine for Teller {
 
     ghost State = { ⊤ };
 
-    ghost Entry = { ⊤ };
+    ghost TranscriptEntry = { ⊤ };
 
     ghost state = { λ _. tt };
 
     ghost rules = { teller_rules };
-
-    fn lane_name(lane: Lane) -> LaneName {
-        match lane {
-            Lane::First => LaneName::Watch,
-            Lane::Second => LaneName::Frame,
-        }
-    }
-
-    fn hears() -> bool {
-        false
-    }
-
-    fn waits(&self) -> bool {
-        false
-    }
 
     fn take_item<K: Sink>(
         &mut self,
@@ -95,6 +80,21 @@ impl LaneMachine for Teller {
         ensures { IfOk result (λ status. status ≡ Status.Done) }
     {
         Ok(Status::Done)
+    }
+
+    fn lane_name(lane: Lane) -> LaneName {
+        match lane {
+            Lane::First => LaneName::Watch,
+            Lane::Second => LaneName::Frame,
+        }
+    }
+
+    fn hears() -> bool {
+        false
+    }
+
+    fn waits(&self) -> bool {
+        false
     }
 
     ghost items_stop = { no_item_stops };

@@ -13,7 +13,7 @@ use Rattle.lane_run.specs.declared.lane_end.LaneEnd.{LaneEnd}
 use Rattle.lane_run.specs.declared.lane_end.LaneEnd.TheVariants.{Done, ReadFault, LineLimit, InputLimit, BadLine, NoMemory}
 use Rattle.lane_run.specs.LaneInputs.{item_in, AreItems, end_at, LaneInput, with_items, no_items, lane_input_from, lane_input}
 use Rattle.lane_run.specs.Steps.{EndsAt, IsBad}
-use Rattle.lane_run.specs.Views.{SourceView}
+use Rattle.lane_run.specs.Outside.{SourceState}
 use Rattle.lane_run.specs.Watched.{Begins, SendsRead, StopsAs, Sends, Ended}
 use Rattle.lane_run.proofs.Inputs.{items-push, input-behind}
 use Rattle.line_run.proofs.ReadSoFar.{fresh, begins_at, stands_at}
@@ -106,7 +106,7 @@ module _ (belongs : Lane → Event → Bool) (lane : Lane) where
       }
 
   -- the lane ends
-  pub ended_by : (before now after : SourceView) (r r' : Reading) (sent : List Item) (end : LaneEnd)
+  pub ended_by : (before now after : SourceState) (r r' : Reading) (sent : List Item) (end : LaneEnd)
       → Watching belongs lane before.left (to_come r now.left) sent → Passes fresh r' before.left after.left
       → before.faults ≤ now.faults → now.safe ≡ before.safe → EndsAt belongs lane (to_come r now.left) (to_come r' after.left) r'.held after.left now.faults
       after.faults now.safe end → Sends belongs lane before after sent end
@@ -120,7 +120,7 @@ module _ (belongs : Lane → Event → Bool) (lane : Lane) where
   ended_by before now after r r' sent NoMemory w passes later safety e = tt
 
   -- where nothing more is sent
-  pub ended_so : (before now after : SourceView) (r r' : Reading) (sent : List Item) (end : LaneEnd)
+  pub ended_so : (before now after : SourceState) (r r' : Reading) (sent : List Item) (end : LaneEnd)
       → Watching belongs lane before.left (to_come r now.left) sent → Passes fresh r' before.left after.left
       → before.faults ≤ now.faults → now.name ≡ before.name → now.safe ≡ before.safe → EndsAt belongs lane (to_come r now.left) (to_come r' after.left) r'.held
       after.left now.faults after.faults now.safe end → now.faults ≤ after.faults → after.name ≡ now.name → after.safe ≡ now.safe
@@ -138,5 +138,5 @@ module _ (belongs : Lane → Event → Bool) (lane : Lane) where
   begins_none start = begins_so start (to_come fresh start) [] (begins start)
 
   -- there was no memory for a reader
-  pub ended_unread : (view : SourceView) → Ended belongs lane view view [] NoMemory
+  pub ended_unread : (view : SourceState) → Ended belongs lane view view [] NoMemory
   ended_unread view = record { sends = tt; begins = begins_none view.left; later = omega arith; named = refl; safety = refl }

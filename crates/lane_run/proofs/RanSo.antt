@@ -15,7 +15,7 @@ use Rattle.lane_run.specs.declared.lane_end.LaneEnd.{LaneEnd}
 use Rattle.lane_run.specs.declared.lane_run.LaneRun.{LaneRun}
 use Rattle.lane_run.specs.Ran.{LanesTurned, Ran, RanBy, TurnedBeginnings}
 use Rattle.lane_run.specs.Turned.{BeginsTurned, EndedTurned, Watched}
-use Rattle.lane_run.specs.Views.{SourceView, Outside}
+use Rattle.lane_run.specs.Outside.{SourceState, Outside}
 use Rattle.lane_run.specs.Watched.{Begins, IsBeginning}
 use Rattle.lane_run.proofs.LaneSoFar.{begins_none}
 use Rattle.lane_run.proofs.Turning.{begins_less, begins_turned, ended_unturned}
@@ -33,35 +33,36 @@ begins_part belongs lane left taken part split =
 
 module _ {U : Type 0} (Turns : U → U → Event → Event → Type 0) (belongs : Lane → Event → Bool) (lane : Lane) where
   -- how the lane of a watcher ended, by the items taken of it
-  ended_of : (mail : MailId) (before after : SourceView) (u u' : U) (done : Sender) (end : LaneEnd) (taken : List Item)
+  ended_of : (mail : MailId) (before after : SourceState) (u u' : U) (done : Sender) (end : LaneEnd) (taken : List Item)
       → Watched Turns belongs lane mail before after u u' done end → items_of lane taken ≡ done.sent
       → EndedTurned Turns belongs lane before after u u' (items_of lane taken) end
   ended_of mail before after u u' done end taken w same = rw same w.ended
 
   -- a part of what was sent for the items of a lane
-  pub part_turned : (before after : SourceView) (u u' : U) (end : LaneEnd) (taken part : List Item) → IsBeginning part taken
-      → EndedTurned Turns belongs lane before after u u' (items_of lane taken) end → BeginsTurned Turns belongs lane before.left u (items_of lane part)
+  pub part_turned : (before after : SourceState) (u u' : U) (end : LaneEnd) (taken part : List Item) → IsBeginning part taken
+      → EndedTurned Turns belongs lane before after u u' (items_of lane taken) end → BeginsTurned Turns belongs lane before.left u u' (items_of lane part)
   part_turned before after u u' end taken part split e =
       let two = items_begin lane taken part split in
       begins_turned Turns belongs lane before after u u' (items_of lane part) two.0 end
       (subst (λ (l : List Item). EndedTurned Turns belongs lane before after u u' l end) two.1 e)
 
-  -- nothing was sent
-  pub none_turned : (left : Option (List ℕ)) (u : U) → BeginsTurned Turns belongs lane left u []
-  none_turned left u = record { items = []; begins = begins_none belongs lane left; state = u; turned = refl }
+  -- nothing was sent, and the state stays
+  pub none_turned : (left : Option (List ℕ)) (u u' : U) → u' ≡ u → BeginsTurned Turns belongs lane left u u' []
+  none_turned left u u' same = record { items = []; begins = begins_none belongs lane left; state = u; turned = refl; leads = ([], [], same) }
 
--- nothing was sent
+-- nothing was sent, and the states stay
 pub turned_none : {U V : Type 0} (TurnsFirst : U → U → Event → Event → Type 0) (TurnsSecond : V → V → Event → Event → Type 0)
-    (belongs : Lane → Event → Bool) (first second : Option (List ℕ)) (u : U) (v : V) → TurnedBeginnings TurnsFirst TurnsSecond belongs first second u v []
-turned_none TurnsFirst TurnsSecond belongs first second u v =
-    record { firsts = none_turned TurnsFirst belongs First first u; seconds = none_turned TurnsSecond belongs Second second v }
+    (belongs : Lane → Event → Bool) (first second : Option (List ℕ)) (u u' : U) (v v' : V) → u' ≡ u → v' ≡ v
+    → TurnedBeginnings TurnsFirst TurnsSecond belongs first second u u' v v' []
+turned_none TurnsFirst TurnsSecond belongs first second u u' v v' same same' =
+    record { firsts = none_turned TurnsFirst belongs First first u u' same; seconds = none_turned TurnsSecond belongs Second second v v' same' }
 
 module _ {U V : Type 0} (TurnsFirst : U → U → Event → Event → Type 0) (TurnsSecond : V → V → Event → Event → Type 0) (belongs : Lane → Event → Bool)
-    (first first' second second' : SourceView) (u u' : U) (v v' : V) where
+    (first first' second second' : SourceState) (u u' : U) (v v' : V) where
   -- a part of what both lanes sent
   pub turned_part : (sent part : List Item) (end end' : LaneEnd) → IsBeginning part sent
       → LanesTurned TurnsFirst TurnsSecond belongs first first' second second' u u' v v' sent end end'
-      → TurnedBeginnings TurnsFirst TurnsSecond belongs first.left second.left u v part
+      → TurnedBeginnings TurnsFirst TurnsSecond belongs first.left second.left u u' v v' part
   turned_part sent part end end' split lanes = record {
     firsts = part_turned TurnsFirst belongs First first first' u u' end sent part split lanes.first_ended;
     seconds = part_turned TurnsSecond belongs Second second second' v v' end' sent part split lanes.second_ended;
@@ -80,7 +81,7 @@ module _ {U V : Type 0} (TurnsFirst : U → U → Event → Event → Type 0) (T
 
 -- where each event is sent as it is, these are the items of both lanes
 pub ran_unturned : {S : Type 0} (belongs : Lane → Event → Bool) (Drives : S → S → Item → Outside → Outside → Type 0)
-    (Refuses : Status → S → Item → Outside → Outside → Type 0) (first first' second second' : SourceView) (s t : S) (before after : Outside)
+    (Refuses : Status → S → Item → Outside → Outside → Type 0) (first first' second second' : SourceState) (s t : S) (before after : Outside)
     (ran : Result LaneRun MemoryEnd)
     → IfOk ran (RanBy (LanesTurned (λ (s t : ⊤) (event sent : Event). sent ≡ event) (λ (s t : ⊤) (event sent : Event). sent ≡ event) belongs first first'
     second second' tt tt tt tt) Drives Refuses s t before after)

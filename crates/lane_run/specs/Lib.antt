@@ -1,4 +1,4 @@
-pub mod Views
+pub mod Outside
 pub mod LaneInputs
 pub mod Watched
 pub mod Turned

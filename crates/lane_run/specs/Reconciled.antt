@@ -1,9 +1,10 @@
 -- What a reconciler makes of the items that it takes.
-use Rattle.std.specs.Prelude.{◌≡◌, ℕ, List, [], ◌∷◌, ◌++◌, Option, Result, Ok, Err}
+use Rattle.std.specs.Prelude.{◌≡◌, ℕ, List, [], ◌∷◌, ◌++◌, Option, Some, None, Result, Ok, Err}
+use Rattle.std.specs.Option.{option_to_list}
 use Rattle.kube_model.specs.declared.status.Status.{Status}
 use Rattle.lane_mail.specs.declared.item.Item.{Item}
 use Rattle.lane_mail.specs.Values.{MailId, Receiver, HasAll}
-use Rattle.lane_run.specs.Views.{Outside}
+use Rattle.lane_run.specs.Outside.{Outside}
 use Rattle.lane_run.specs.Waiting.{MayBeAwaited}
 use Rattle.line_run.specs.Answered.{MayBeAsked}
 use Rattle.mlb_edge.specs.Reading.{Reading}
@@ -70,6 +71,23 @@ pub record Drove {S U : Type 0} (Drives : S → S → Item → Outside → Outsi
   pub mid : Outside
   pub drove : AreDriven Drives driven s state before mid
   pub leaves : Leaves Refuses outcome behind state t mid after
+
+-- nothing more came of it, or what comes of the item that it refused
+abbrev pub LeavesOff : {S : Type 0} → (Status → S → Item → Outside → Outside → Type 0) → Option Item → S → (mid after : Outside) → Type 0
+LeavesOff Refuses None state mid after = after ≡ mid
+LeavesOff Refuses (Some item) state mid after = (status : Status) × Refuses status state item mid after
+
+-- Just these items drove it, and it may have refused the one behind them. They were sent, and it stands as it may behind them.
+pub record StandsBehind {S : Type 0} (Drives : S → S → Item → Outside → Outside → Type 0) (Refuses : Status → S → Item → Outside → Outside → Type 0)
+    (Stands : List Item → Option Item → Type 0) (AreSent : List Item → Type 0) (s : S) (before after : Outside) : Type 0 where
+  pub driven : List Item
+  pub refused : Option Item
+  pub sent : AreSent driven × AreSent (driven ++ option_to_list refused)
+  pub state : S
+  pub mid : Outside
+  pub drove : AreDriven Drives driven s state before mid
+  pub leaves : LeavesOff Refuses refused state mid after
+  pub stands : Stands driven refused
 
 -- Both lanes have ended and each of their items was taken, and these were driven.
 pub record Reconciled {S U : Type 0} (Drives : S → S → Item → Outside → Outside → Type 0) (Refuses : Status → S → Item → Outside → Outside → Type 0)

@@ -11,11 +11,14 @@ use Rattle.mlb_edge.specs.Rows.{HasNoNewline, raw_lines}
 use Rattle.lane_run.specs.declared.lane_end.LaneEnd.{LaneEnd}
 use Rattle.lane_run.specs.declared.lane_end.LaneEnd.TheVariants.{Done, ReadFault, LineLimit, InputLimit, BadLine, NoMemory}
 use Rattle.lane_run.specs.LaneInputs.{AreItems, LaneInput, IsInputOf}
-use Rattle.lane_run.specs.Views.{SourceView}
+use Rattle.lane_run.specs.Outside.{SourceState}
 
 -- the whole begins with the part
 abbrev pub IsBeginning : {T : Type 0} → List T → List T → Type 0
 IsBeginning {T} part whole = (rest : List T) × (whole ≡ part ++ rest)
+
+abbrev pub BeginsWith : {T : Type 0} → List T → List T → Type 0
+BeginsWith whole part = IsBeginning part whole
 
 -- a beginning of what the lane carries
 pub record Begins (belongs : Lane → Event → Bool) (lane : Lane) (left : Option (List ℕ)) (items : List Item) : Type 0 where
@@ -45,7 +48,7 @@ abbrev pub StopsAs : (Lane → Event → Bool) → Lane → Option (List ℕ) �
 StopsAs belongs lane left items end = IsInputOf belongs lane left (record { items = items; end = end })
 
 -- what a lane has sent, by the way that it ends; that a read fails is possible only where the source isn't safe
-abbrev pub Sends : (Lane → Event → Bool) → Lane → (before after : SourceView) → List Item → LaneEnd → Type 0
+abbrev pub Sends : (Lane → Event → Bool) → Lane → (before after : SourceState) → List Item → LaneEnd → Type 0
 Sends belongs lane before after items Done = StopsAs belongs lane before.left items Done × IsAtEnd after.left
 Sends belongs lane before after items ReadFault = SendsRead belongs lane before.left after.left items × Rose before.faults after.faults × (before.safe ≡ false)
 Sends belongs lane before after items (LineLimit number) = StopsAs belongs lane before.left items (LineLimit number)
@@ -54,7 +57,7 @@ Sends belongs lane before after items (BadLine number bytes) = StopsAs belongs l
 Sends belongs lane before after items NoMemory = ⊤
 
 -- A lane ended so, and these are the items that it sent.
-pub record Ended (belongs : Lane → Event → Bool) (lane : Lane) (before after : SourceView) (items : List Item) (end : LaneEnd) : Type 0 where
+pub record Ended (belongs : Lane → Event → Bool) (lane : Lane) (before after : SourceState) (items : List Item) (end : LaneEnd) : Type 0 where
   pub sends : Sends belongs lane before after items end
   -- however it ends
   pub begins : Begins belongs lane before.left items

@@ -1,8 +1,8 @@
 //! What is driven by the items of both lanes.
-ghost use Rattle.std.specs.Prelude.{◌≡◌, ⊤, List, [], ◌∷◌, ◌++◌, OnOk, IfErr};
+ghost use Rattle.std.specs.Prelude.{◌≡◌, ⊤, List, [], ◌∷◌, ◌++◌, Option, Some, None, OnOk, OnErr, IfErr};
 ghost use Rattle.kube_model.specs.declared.status.Status.{Status};
 ghost use Rattle.lane_mail.specs.declared.item.Item.{Item};
-ghost use Rattle.lane_run.specs.Views.{Outside, outside, source_view};
+ghost use Rattle.lane_run.specs.Outside.{Outside, outside, source_state};
 ghost use Rattle.line_run.specs.Answered.{MayBeAsked};
 
 use kube_model::Status;
@@ -28,8 +28,8 @@ pub trait Reconciler {
     /// While it takes the item in this state, and has led what is outside from the one to the other, it may ask for replies.
     ghost Asks: { State → Item → Outside → Outside → Type 0 };
 
-    /// It may stand so behind these items, of which it may have refused the last. Where it says nothing of that, it may stand so behind any.
-    ghost Behind: { Self → List Item → Type 0 } = { λ _ _. ⊤ };
+    /// It may stand so behind these items, and where it refused the one behind them. Where it says nothing of that, it may stand so behind any.
+    ghost Behind: { Self → List Item → Option Item → Type 0 } = { λ _ _ _. ⊤ };
 
     /// Is driven by the item, and writes what comes of it before it returns. `reader` reads the replies of
     /// `input`. `Err` is the status that the run stops with.
@@ -42,19 +42,20 @@ pub trait Reconciler {
         out: &mut K,
     ) -> Result<(), Status>
         requires live { MayBeAsked I.name I.may_read input.old (λ i r o. Asks (state self.old) item
-            (outside reader.old (source_view (I.left input.old) (I.name input.old) (I.faults input.old))
+            (outside reader.old (source_state (I.left input.old) (I.name input.old) (I.faults input.old))
             (K.written out.old) (K.faults out.old))
-            (outside r (source_view (I.left i) (I.name i) (I.faults i)) (K.written o) (K.faults o))) }
+            (outside r (source_state (I.left i) (I.name i) (I.faults i)) (K.written o) (K.faults o))) }
         ensures ok { OnOk result (Drives (state self.old) (state self.new) item
-            (outside reader.old (source_view (I.left input.old) (I.name input.old) (I.faults input.old))
+            (outside reader.old (source_state (I.left input.old) (I.name input.old) (I.faults input.old))
             (K.written out.old) (K.faults out.old))
-            (outside reader.new (source_view (I.left input.new) (I.name input.new) (I.faults input.new))
+            (outside reader.new (source_state (I.left input.new) (I.name input.new) (I.faults input.new))
             (K.written out.new) (K.faults out.new))) }
         ensures err { IfErr result (λ status. Refuses status (state self.old) item
-            (outside reader.old (source_view (I.left input.old) (I.name input.old) (I.faults input.old))
+            (outside reader.old (source_state (I.left input.old) (I.name input.old) (I.faults input.old))
             (K.written out.old) (K.faults out.old))
-            (outside reader.new (source_view (I.left input.new) (I.name input.new) (I.faults input.new))
+            (outside reader.new (source_state (I.left input.new) (I.name input.new) (I.faults input.new))
             (K.written out.new) (K.faults out.new))) }
-        ensures behind { (items : List Item) → Behind self.old items → Behind self.new (items ++ item ∷ []) }
+        ensures behind { OnOk result ((items : List Item) → Behind self.old items None → Behind self.new (items ++ item ∷ []) None) }
+        ensures refused { OnErr result ((items : List Item) → Behind self.old items None → Behind self.new items (Some item)) }
         ensures name { I.name input.new ≡ I.name input.old };
 }

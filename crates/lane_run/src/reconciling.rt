@@ -1,9 +1,8 @@
 //! The third thread: it takes what the lanes sent, and drives the reconciler.
-ghost use Rattle.std.specs.Prelude.{◌≡◌, [], List};
-ghost use Rattle.lane_mail.specs.declared.item.Item.{Item};
-ghost use Rattle.lane_run.specs.Reconciled.{MayReconcile, Reconciled};
-ghost use Rattle.lane_run.specs.Watched.{IsBeginning};
-ghost use Rattle.lane_run.specs.Views.{outside, source_view};
+ghost use Rattle.std.specs.Prelude.{◌≡◌, [], None};
+ghost use Rattle.lane_run.specs.Reconciled.{MayReconcile, Reconciled, StandsBehind};
+ghost use Rattle.lane_run.specs.Watched.{BeginsWith};
+ghost use Rattle.lane_run.specs.Outside.{outside, source_state};
 
 use crate::paced::PacedWait;
 use crate::reconciler::Reconciler;
@@ -28,14 +27,19 @@ pub(crate) fn reconcile<M: Reconciler, R: PacedWait<K>, I: PacedSource<K>, K: Si
     requires mail { inbox.old.mail ≡ mail.now }
     requires fresh { inbox.old.taken ≡ [] }
     requires may { MayReconcile M.Drives M.Refuses M.Asks (M.state machine.old) I.name I.may_read R.may_wait R.may_drop K.written
-        (λ i r o. outside r (source_view (I.left i) (I.name i) (I.faults i)) (K.written o) (K.faults o))
+        (λ i r o. outside r (source_state (I.left i) (I.name i) (I.faults i)) (K.written o) (K.faults o))
         rt.now input.old reader.old out.old }
     ensures name { I.name input.new ≡ I.name input.old }
-    ensures behind { M.Behind machine.old [] → (items : List Item) × IsBeginning items inbox.new.taken × M.Behind machine.new items }
-    ensures reconciled { Reconciled M.Drives M.Refuses mail.now inbox.new (M.state machine.old) (M.state machine.new)
-        (outside reader.old (source_view (I.left input.old) (I.name input.old) (I.faults input.old))
+    ensures behind { M.Behind machine.old [] None → StandsBehind M.Drives M.Refuses (M.Behind machine.new) (BeginsWith inbox.new.taken)
+        (M.state machine.old)
+        (outside reader.old (source_state (I.left input.old) (I.name input.old) (I.faults input.old))
         (K.written out.old) (K.faults out.old))
-        (outside reader.new (source_view (I.left input.new) (I.name input.new) (I.faults input.new))
+        (outside reader.new (source_state (I.left input.new) (I.name input.new) (I.faults input.new))
+        (K.written out.new) (K.faults out.new)) }
+    ensures reconciled { Reconciled M.Drives M.Refuses mail.now inbox.new (M.state machine.old) (M.state machine.new)
+        (outside reader.old (source_state (I.left input.old) (I.name input.old) (I.faults input.old))
+        (K.written out.old) (K.faults out.old))
+        (outside reader.new (source_state (I.left input.new) (I.name input.new) (I.faults input.new))
         (K.written out.new) (K.faults out.new)) result }
 {
     'items: loop {

@@ -1,9 +1,8 @@
 //! The run of two lanes: three threads, joined.
-ghost use Rattle.std.specs.Prelude.{◌≡◌, List, [], IfOk, OnErr};
-ghost use Rattle.lane_mail.specs.declared.item.Item.{Item};
+ghost use Rattle.std.specs.Prelude.{◌≡◌, [], None, IfOk, OnErr};
 ghost use Rattle.lane_run.specs.Ran.{LanesTurned, Ran, RanBy, TurnedBeginnings};
-ghost use Rattle.lane_run.specs.Reconciled.{AsksIn, HasDriven, HasRefused, MayReconcile};
-ghost use Rattle.lane_run.specs.Views.{lane_view, outside, source_view};
+ghost use Rattle.lane_run.specs.Reconciled.{AsksIn, HasDriven, HasRefused, MayReconcile, StandsBehind};
+ghost use Rattle.lane_run.specs.Outside.{lane_state, outside, source_state};
 ghost use Rattle.lane_run.specs.Waiting.{MayBeAwaited};
 ghost use Rattle.line_run.specs.Answered.{MayBeAsked};
 
@@ -46,30 +45,30 @@ pub fn run_lanes<
 ) -> Result<LaneRun, NoMemory>
     // While the reconciler takes an item it may ask for replies where it says so, and nowhere else.
     requires live { MayBeAsked I.name I.may_read input.old (λ i r o. AsksIn M.Drives M.Asks (M.state machine.old)
-        (outside reader.old (source_view (I.left input.old) (I.name input.old) (I.faults input.old))
+        (outside reader.old (source_state (I.left input.old) (I.name input.old) (I.faults input.old))
         (K.written out.old) (K.faults out.old))
-        (outside r (source_view (I.left i) (I.name i) (I.faults i)) (K.written o) (K.faults o))) }
+        (outside r (source_state (I.left i) (I.name i) (I.faults i)) (K.written o) (K.faults o))) }
 
     // Behind each item that it took it waits for the next only where it was driven by all of them and what they came to stands written.
     requires waits { MayBeAwaited R.may_wait rt.now K.written (HasDriven M.Drives (M.state machine.old)
-        (outside reader.old (source_view (I.left input.old) (I.name input.old) (I.faults input.old))
+        (outside reader.old (source_state (I.left input.old) (I.name input.old) (I.faults input.old))
         (K.written out.old) (K.faults out.old))) }
 
     // What the lanes still send is dropped only where it refused the last item that it took, and what it wrote of that stands written.
     requires drops { MayBeAwaited R.may_drop rt.now K.written (HasRefused M.Drives M.Refuses (M.state machine.old)
-        (outside reader.old (source_view (I.left input.old) (I.name input.old) (I.faults input.old))
+        (outside reader.old (source_state (I.left input.old) (I.name input.old) (I.faults input.old))
         (K.written out.old) (K.faults out.old))) }
 
     // How both lanes ended, and what they sent. It was driven by all of that, or up to the item that it refused.
     ensures ran { IfOk result (λ run. Ran L.belongs M.Drives M.Refuses
-        (lane_view (S.left first.old) (S.name first.old) (S.faults first.old) (S.safe first.old))
-        (lane_view (S.left first.new) (S.name first.new) (S.faults first.new) (S.safe first.new))
-        (lane_view (S.left second.old) (S.name second.old) (S.faults second.old) (S.safe second.old))
-        (lane_view (S.left second.new) (S.name second.new) (S.faults second.new) (S.safe second.new))
+        (lane_state (S.left first.old) (S.name first.old) (S.faults first.old) (S.safe first.old))
+        (lane_state (S.left first.new) (S.name first.new) (S.faults first.new) (S.safe first.new))
+        (lane_state (S.left second.old) (S.name second.old) (S.faults second.old) (S.safe second.old))
+        (lane_state (S.left second.new) (S.name second.new) (S.faults second.new) (S.safe second.new))
         (M.state machine.old) (M.state machine.new)
-        (outside reader.old (source_view (I.left input.old) (I.name input.old) (I.faults input.old))
+        (outside reader.old (source_state (I.left input.old) (I.name input.old) (I.faults input.old))
         (K.written out.old) (K.faults out.old))
-        (outside reader.new (source_view (I.left input.new) (I.name input.new) (I.faults input.new))
+        (outside reader.new (source_state (I.left input.new) (I.name input.new) (I.faults input.new))
         (K.written out.new) (K.faults out.new)) run) }
 
     // The source of the replies keeps its name.
@@ -119,26 +118,32 @@ pub fn run_turned<
 ) -> Result<LaneRun, NoMemory>
     // It may ask for replies, wait for the next item, and drop what the lanes still send, just where `run_lanes` may.
     requires may { MayReconcile M.Drives M.Refuses M.Asks (M.state machine.old) I.name I.may_read R.may_wait R.may_drop K.written
-        (λ i r o. outside r (source_view (I.left i) (I.name i) (I.faults i)) (K.written o) (K.faults o))
+        (λ i r o. outside r (source_state (I.left i) (I.name i) (I.faults i)) (K.written o) (K.faults o))
         rt.now input.old reader.old out.old }
 
     // How both lanes ended, and what was sent for the items of their lines. It was driven by all of that, or up to the item that it refused.
     ensures ran { IfOk result (λ run. RanBy (LanesTurned A.Turns B.Turns L.belongs
-        (lane_view (S.left first.old) (S.name first.old) (S.faults first.old) (S.safe first.old))
-        (lane_view (S.left first.new) (S.name first.new) (S.faults first.new) (S.safe first.new))
-        (lane_view (S.left second.old) (S.name second.old) (S.faults second.old) (S.safe second.old))
-        (lane_view (S.left second.new) (S.name second.new) (S.faults second.new) (S.safe second.new))
+        (lane_state (S.left first.old) (S.name first.old) (S.faults first.old) (S.safe first.old))
+        (lane_state (S.left first.new) (S.name first.new) (S.faults first.new) (S.safe first.new))
+        (lane_state (S.left second.old) (S.name second.old) (S.faults second.old) (S.safe second.old))
+        (lane_state (S.left second.new) (S.name second.new) (S.faults second.new) (S.safe second.new))
         (A.state first_turner.old) (A.state first_turner.new) (B.state second_turner.old) (B.state second_turner.new))
         M.Drives M.Refuses (M.state machine.old) (M.state machine.new)
-        (outside reader.old (source_view (I.left input.old) (I.name input.old) (I.faults input.old))
+        (outside reader.old (source_state (I.left input.old) (I.name input.old) (I.faults input.old))
         (K.written out.old) (K.faults out.old))
-        (outside reader.new (source_view (I.left input.new) (I.name input.new) (I.faults input.new))
+        (outside reader.new (source_state (I.left input.new) (I.name input.new) (I.faults input.new))
         (K.written out.new) (K.faults out.new)) run) }
 
-    // However the run ends, it stands as it may behind items that were sent for a beginning of what each lane carries.
-    ensures behind { M.Behind machine.old [] → (items : List Item) × M.Behind machine.new items
-        × TurnedBeginnings A.Turns B.Turns L.belongs (S.left first.old) (S.left second.old)
-        (A.state first_turner.old) (B.state second_turner.old) items }
+    // However the run ends, it stands as it may behind the items that drove it, and behind the one that it refused, if it refused one. They were sent
+    // for a beginning of what each lane carries, and lead on to the states with which both turners come back.
+    ensures behind { M.Behind machine.old [] None → StandsBehind M.Drives M.Refuses (M.Behind machine.new)
+        (TurnedBeginnings A.Turns B.Turns L.belongs (S.left first.old) (S.left second.old)
+        (A.state first_turner.old) (A.state first_turner.new) (B.state second_turner.old) (B.state second_turner.new))
+        (M.state machine.old)
+        (outside reader.old (source_state (I.left input.old) (I.name input.old) (I.faults input.old))
+        (K.written out.old) (K.faults out.old))
+        (outside reader.new (source_state (I.left input.new) (I.name input.new) (I.faults input.new))
+        (K.written out.new) (K.faults out.new)) }
 
     // The source of the replies keeps its name.
     ensures name { I.name input.new ≡ I.name input.old }

@@ -1,12 +1,11 @@
 //! The three threads.
-ghost use Rattle.std.specs.Prelude.{◌≡◌, [], List};
+ghost use Rattle.std.specs.Prelude.{◌≡◌, [], None};
 ghost use Rattle.std.specs.Thread.{IsSync};
-ghost use Rattle.lane_mail.specs.declared.item.Item.{Item};
 ghost use Rattle.lane_mail.specs.declared.lane.Lane.TheVariants.{First, Second};
-ghost use Rattle.lane_run.specs.Reconciled.{MayReconcile, Reconciled};
+ghost use Rattle.lane_run.specs.Reconciled.{MayReconcile, Reconciled, StandsBehind};
 ghost use Rattle.lane_run.specs.Turned.{CanWatch, Watched};
-ghost use Rattle.lane_run.specs.Views.{lane_view, outside, source_view};
-ghost use Rattle.lane_run.specs.Watched.{IsBeginning};
+ghost use Rattle.lane_run.specs.Outside.{lane_state, outside, source_state};
+ghost use Rattle.lane_run.specs.Watched.{BeginsWith};
 
 use crate::lane_end::LaneEnd;
 use crate::lanes::Lanes;
@@ -56,22 +55,27 @@ pub(crate) fn run_threads<
     requires second { (second_pass.mail ≡ mail.now) × (second_pass.lane ≡ Second) × (second_pass.sent ≡ []) }
     requires inbox { (inbox.old.mail ≡ mail.now) × (inbox.old.taken ≡ []) }
     requires may { MayReconcile M.Drives M.Refuses M.Asks (M.state machine.old) I.name I.may_read R.may_wait R.may_drop K.written
-        (λ i r o. outside r (source_view (I.left i) (I.name i) (I.faults i)) (K.written o) (K.faults o))
+        (λ i r o. outside r (source_state (I.left i) (I.name i) (I.faults i)) (K.written o) (K.faults o))
         rt.now input.old reader.old out.old }
     ensures name { I.name input.new ≡ I.name input.old }
-    ensures behind { M.Behind machine.old [] → (items : List Item) × IsBeginning items inbox.new.taken × M.Behind machine.new items }
-    ensures inbox { Reconciled M.Drives M.Refuses mail.now inbox.new (M.state machine.old) (M.state machine.new)
-        (outside reader.old (source_view (I.left input.old) (I.name input.old) (I.faults input.old))
+    ensures behind { M.Behind machine.old [] None → StandsBehind M.Drives M.Refuses (M.Behind machine.new) (BeginsWith inbox.new.taken)
+        (M.state machine.old)
+        (outside reader.old (source_state (I.left input.old) (I.name input.old) (I.faults input.old))
         (K.written out.old) (K.faults out.old))
-        (outside reader.new (source_view (I.left input.new) (I.name input.new) (I.faults input.new))
+        (outside reader.new (source_state (I.left input.new) (I.name input.new) (I.faults input.new))
+        (K.written out.new) (K.faults out.new)) }
+    ensures inbox { Reconciled M.Drives M.Refuses mail.now inbox.new (M.state machine.old) (M.state machine.new)
+        (outside reader.old (source_state (I.left input.old) (I.name input.old) (I.faults input.old))
+        (K.written out.old) (K.faults out.old))
+        (outside reader.new (source_state (I.left input.new) (I.name input.new) (I.faults input.new))
         (K.written out.new) (K.faults out.new)) result.0 }
     ensures first { Watched A.Turns L.belongs First mail.now
-        (lane_view (S.left first.old) (S.name first.old) (S.faults first.old) (S.safe first.old))
-        (lane_view (S.left first.new) (S.name first.new) (S.faults first.new) (S.safe first.new))
+        (lane_state (S.left first.old) (S.name first.old) (S.faults first.old) (S.safe first.old))
+        (lane_state (S.left first.new) (S.name first.new) (S.faults first.new) (S.safe first.new))
         (A.state first_turner.old) (A.state first_turner.new) result.1.0 result.1.1 }
     ensures second { Watched B.Turns L.belongs Second mail.now
-        (lane_view (S.left second.old) (S.name second.old) (S.faults second.old) (S.safe second.old))
-        (lane_view (S.left second.new) (S.name second.new) (S.faults second.new) (S.safe second.new))
+        (lane_state (S.left second.old) (S.name second.old) (S.faults second.old) (S.safe second.old))
+        (lane_state (S.left second.new) (S.name second.new) (S.faults second.new) (S.safe second.new))
         (B.state second_turner.old) (B.state second_turner.new) result.2.0 result.2.1 }
 {
     let mut first_slot = WatchPass {
@@ -85,26 +89,30 @@ pub(crate) fn run_threads<
         &mut || -> Result<(), Status>
             requires inbox { (inbox.now.mail ≡ mail.now) × (inbox.now.taken ≡ []) }
             requires may { MayReconcile M.Drives M.Refuses M.Asks (M.state machine.now) I.name I.may_read R.may_wait R.may_drop K.written
-                (λ i r o. outside r (source_view (I.left i) (I.name i) (I.faults i)) (K.written o) (K.faults o))
+                (λ i r o. outside r (source_state (I.left i) (I.name i) (I.faults i)) (K.written o) (K.faults o))
                 rt.now input.now reader.now out.now }
             ensures name { I.name input.exit.now ≡ I.name input.entry.now }
-            ensures behind { M.Behind machine.entry.now [] → (items : List Item) × IsBeginning items inbox.exit.now.taken
-                × M.Behind machine.exit.now items }
-            ensures reconciled { Reconciled M.Drives M.Refuses mail.entry.now inbox.exit.now (M.state machine.entry.now) (M.state machine.exit.now)
-                (outside reader.entry.now (source_view (I.left input.entry.now) (I.name input.entry.now) (I.faults input.entry.now))
+            ensures behind { M.Behind machine.entry.now [] None → StandsBehind M.Drives M.Refuses (M.Behind machine.exit.now)
+                (BeginsWith inbox.exit.now.taken) (M.state machine.entry.now)
+                (outside reader.entry.now (source_state (I.left input.entry.now) (I.name input.entry.now) (I.faults input.entry.now))
                 (K.written out.entry.now) (K.faults out.entry.now))
-                (outside reader.exit.now (source_view (I.left input.exit.now) (I.name input.exit.now) (I.faults input.exit.now))
+                (outside reader.exit.now (source_state (I.left input.exit.now) (I.name input.exit.now) (I.faults input.exit.now))
+                (K.written out.exit.now) (K.faults out.exit.now)) }
+            ensures reconciled { Reconciled M.Drives M.Refuses mail.entry.now inbox.exit.now (M.state machine.entry.now) (M.state machine.exit.now)
+                (outside reader.entry.now (source_state (I.left input.entry.now) (I.name input.entry.now) (I.faults input.entry.now))
+                (K.written out.entry.now) (K.faults out.entry.now))
+                (outside reader.exit.now (source_state (I.left input.exit.now) (I.name input.exit.now) (I.faults input.exit.now))
                 (K.written out.exit.now) (K.faults out.exit.now)) result }
         { reconcile::<M, R, I, K>(rt, alloc, mail, inbox, machine, reader, input, out) },
         &mut || -> (Watch, Watch)
             requires { IsSync R.row × CanWatch mail.now First first_slot × CanWatch mail.now Second second_slot }
             ensures { Watched B.Turns L.belongs Second mail.entry.now
-                (lane_view (S.left second.entry.now) (S.name second.entry.now) (S.faults second.entry.now) (S.safe second.entry.now))
-                (lane_view (S.left second.exit.now) (S.name second.exit.now) (S.faults second.exit.now) (S.safe second.exit.now))
+                (lane_state (S.left second.entry.now) (S.name second.entry.now) (S.faults second.entry.now) (S.safe second.entry.now))
+                (lane_state (S.left second.exit.now) (S.name second.exit.now) (S.faults second.exit.now) (S.safe second.exit.now))
                 (B.state second_turner.entry.now) (B.state second_turner.exit.now) result.0.0 result.0.1
                 × Watched A.Turns L.belongs First mail.entry.now
-                (lane_view (S.left first.entry.now) (S.name first.entry.now) (S.faults first.entry.now) (S.safe first.entry.now))
-                (lane_view (S.left first.exit.now) (S.name first.exit.now) (S.faults first.exit.now) (S.safe first.exit.now))
+                (lane_state (S.left first.entry.now) (S.name first.entry.now) (S.faults first.entry.now) (S.safe first.entry.now))
+                (lane_state (S.left first.exit.now) (S.name first.exit.now) (S.faults first.exit.now) (S.safe first.exit.now))
                 (A.state first_turner.entry.now) (A.state first_turner.exit.now) result.1.0 result.1.1 }
         {
             join_mut(
@@ -112,8 +120,8 @@ pub(crate) fn run_threads<
                 &mut || -> Watch
                     requires { CanWatch mail.now Second second_slot }
                     ensures { Watched B.Turns L.belongs Second mail.entry.now
-                        (lane_view (S.left second.entry.now) (S.name second.entry.now) (S.faults second.entry.now) (S.safe second.entry.now))
-                        (lane_view (S.left second.exit.now) (S.name second.exit.now) (S.faults second.exit.now) (S.safe second.exit.now))
+                        (lane_state (S.left second.entry.now) (S.name second.entry.now) (S.faults second.entry.now) (S.safe second.entry.now))
+                        (lane_state (S.left second.exit.now) (S.name second.exit.now) (S.faults second.exit.now) (S.safe second.exit.now))
                         (B.state second_turner.entry.now) (B.state second_turner.exit.now) result.0 result.1 }
                 {
                     second.watch::<L, B, R>(
@@ -128,8 +136,8 @@ pub(crate) fn run_threads<
                 &mut || -> Watch
                     requires { CanWatch mail.now First first_slot }
                     ensures { Watched A.Turns L.belongs First mail.entry.now
-                        (lane_view (S.left first.entry.now) (S.name first.entry.now) (S.faults first.entry.now) (S.safe first.entry.now))
-                        (lane_view (S.left first.exit.now) (S.name first.exit.now) (S.faults first.exit.now) (S.safe first.exit.now))
+                        (lane_state (S.left first.entry.now) (S.name first.entry.now) (S.faults first.entry.now) (S.safe first.entry.now))
+                        (lane_state (S.left first.exit.now) (S.name first.exit.now) (S.faults first.exit.now) (S.safe first.exit.now))
                         (A.state first_turner.entry.now) (A.state first_turner.exit.now) result.0 result.1 }
                 {
                     first.watch::<L, A, R>(

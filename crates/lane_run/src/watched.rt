@@ -1,6 +1,6 @@
 //! Sources and files that are watched, and read in no other way.
 ghost use Rattle.std.specs.Prelude.{◌≡◌, ◌≢◌, ⊤, ℕ, Bool, List, Option, Some, OnOk, OnErr, IfOk, IsOk, IsErrOf};
-ghost use Rattle.lane_run.specs.Views.{lane_view};
+ghost use Rattle.lane_run.specs.Outside.{lane_state};
 ghost use Rattle.lane_run.specs.Turned.{CanWatch, Watched};
 ghost use Rattle.mlb_edge.specs.Failed.{CountsFault, IsOpened, with_failed, with_closed};
 
@@ -60,8 +60,8 @@ pub trait WatchedSource {
     ) -> (LaneDone, LaneEnd)
         requires { CanWatch mail.now lane pass.old }
         ensures { Watched T.Turns L.belongs lane mail.now
-            (lane_view (left self.old) (name self.old) (faults self.old) (safe self.old))
-            (lane_view (left self.new) (name self.new) (faults self.new) (safe self.new))
+            (lane_state (left self.old) (name self.old) (faults self.old) (safe self.old))
+            (lane_state (left self.new) (name self.new) (faults self.new) (safe self.new))
             (T.state turner.old) (T.state turner.new) result.0 result.1 };
 }
 

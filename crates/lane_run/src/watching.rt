@@ -4,7 +4,7 @@ ghost use Rattle.lane_mail.specs.Values.{sent_more};
 ghost use Rattle.mlb_edge.specs.InputLines.{Passes, to_come};
 ghost use Rattle.lane_run.specs.Steps.{SendsNext, EndsAt};
 ghost use Rattle.lane_run.specs.Turned.{CanWatch, EndedTurned, IsLeft, Watched};
-ghost use Rattle.lane_run.specs.Views.{lane_view};
+ghost use Rattle.lane_run.specs.Outside.{lane_state};
 
 use crate::lane_end::{LaneEnd, end_of};
 use crate::lanes::Lanes;
@@ -99,8 +99,8 @@ fn send_lines<L: Lanes, T: Turner, R: MailWait, S: Source>(
     ensures mail { pass.new.mail ≡ pass.old.mail }
     ensures lane { pass.new.lane ≡ pass.old.lane }
     ensures ended { EndedTurned T.Turns L.belongs lane
-        (lane_view (S.left source.old) (S.name source.old) (S.faults source.old) (S.safe source.old))
-        (lane_view (S.left source.new) (S.name source.new) (S.faults source.new) (S.safe source.new))
+        (lane_state (S.left source.old) (S.name source.old) (S.faults source.old) (S.safe source.old))
+        (lane_state (S.left source.new) (S.name source.new) (S.faults source.new) (S.safe source.new))
         (T.state turner.old) (T.state turner.new) pass.new.sent result }
 {
     'lines: loop {
@@ -128,8 +128,8 @@ fn send_source<L: Lanes, T: Turner, R: MailWait, S: Source>(
     ensures mail { pass.new.mail ≡ pass.old.mail }
     ensures lane { pass.new.lane ≡ pass.old.lane }
     ensures ended { EndedTurned T.Turns L.belongs lane
-        (lane_view (S.left source.old) (S.name source.old) (S.faults source.old) (S.safe source.old))
-        (lane_view (S.left source.new) (S.name source.new) (S.faults source.new) (S.safe source.new))
+        (lane_state (S.left source.old) (S.name source.old) (S.faults source.old) (S.safe source.old))
+        (lane_state (S.left source.new) (S.name source.new) (S.faults source.new) (S.safe source.new))
         (T.state turner.old) (T.state turner.new) pass.new.sent result }
 {
     let Ok(mut reader) = LineReader::new(alloc) else {
@@ -151,8 +151,8 @@ pub(crate) fn watch<L: Lanes, T: Turner, R: MailWait, S: Source>(
 ) -> (LaneDone, LaneEnd)
     requires { CanWatch mail.now lane pass.old }
     ensures { Watched T.Turns L.belongs lane mail.now
-        (lane_view (S.left source.old) (S.name source.old) (S.faults source.old) (S.safe source.old))
-        (lane_view (S.left source.new) (S.name source.new) (S.faults source.new) (S.safe source.new))
+        (lane_state (S.left source.old) (S.name source.old) (S.faults source.old) (S.safe source.old))
+        (lane_state (S.left source.new) (S.name source.new) (S.faults source.new) (S.safe source.new))
         (T.state turner.old) (T.state turner.new) result.0 result.1 }
 {
     let Some(mut pass) = pass.pass.take() else {

@@ -9,7 +9,7 @@ use Rattle.mlb_edge.specs.Causes.{Rose}
 use Rattle.mlb_edge.specs.declared.lines.Line.{Line}
 use Rattle.mlb_edge.specs.InputLines.{HoldsLine, Input, Whole, Follows, EndsAs, to_come}
 use Rattle.mlb_edge.specs.Written.{Grows, GrowsInPart}
-use Rattle.lane_run.specs.Views.{Outside}
+use Rattle.lane_run.specs.Outside.{Outside}
 
 -- the byte that tells a lane
 abbrev pub lane_byte : Lane → ℕ

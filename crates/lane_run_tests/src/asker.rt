@@ -2,7 +2,7 @@
 ghost use Rattle.std.specs.Prelude.{◌≡◌, [], OnOk, IfOk, IfErr};
 ghost use Rattle.mlb_edge.specs.InputLines.{HoldsLine, to_come};
 ghost use Rattle.lane_run.specs.Ran.{Ran};
-ghost use Rattle.lane_run.specs.Views.{Outside, lane_view, outside, source_view};
+ghost use Rattle.lane_run.specs.Outside.{Outside, lane_state, outside, source_state};
 ghost use Rattle.lane_run_tests.specs.Asks.{lane_byte, Hears, Unheard, Asks, AsksInVain};
 ghost use Rattle.lane_run_tests.specs.Halves.{belongs_to};
 
@@ -96,12 +96,12 @@ pub fn ask_lanes<R: Threads + Wait + Sync, S: Source + Send, I: Source + Send, K
     out: &mut K,
 ) -> Result<LaneRun, NoMemory>
     ensures { IfOk result (λ run. (after : Outside) × Ran belongs_to Asks AsksInVain
-        (lane_view (S.left first.old) (S.name first.old) (S.faults first.old) (S.safe first.old))
-        (lane_view (S.left first.new) (S.name first.new) (S.faults first.new) (S.safe first.new))
-        (lane_view (S.left second.old) (S.name second.old) (S.faults second.old) (S.safe second.old))
-        (lane_view (S.left second.new) (S.name second.new) (S.faults second.new) (S.safe second.new)) tt tt
+        (lane_state (S.left first.old) (S.name first.old) (S.faults first.old) (S.safe first.old))
+        (lane_state (S.left first.new) (S.name first.new) (S.faults first.new) (S.safe first.new))
+        (lane_state (S.left second.old) (S.name second.old) (S.faults second.old) (S.safe second.old))
+        (lane_state (S.left second.new) (S.name second.new) (S.faults second.new) (S.safe second.new)) tt tt
         (outside (record { held = []; passed = 0; number = 0 })
-        (source_view (I.left input.old) (I.name input.old) (I.faults input.old))
+        (source_state (I.left input.old) (I.name input.old) (I.faults input.old))
         (K.written out.old) (K.faults out.old)) after run) }
 {
     let mut reader = LineReader::new(alloc)?;

@@ -1,5 +1,5 @@
 use Rattle.std.proofs.Common.{refl, sym, ◌∙◌}
-use Rattle.lane_run.specs.Views.{outside, source_view}
+use Rattle.lane_run.specs.Outside.{outside, source_state}
 use Rattle.lane_drive.proofs.Heard.{hears_none, hears_one, hears_more, never}
 use Rattle.lane_drive.proofs.hearing.hear_replies.Goals as goal
 
@@ -26,8 +26,8 @@ replies-preserved g c =
     let failed = g.K.Sink.faults in
     let now = c.replies in
     let new = c.next_step.new in
-    let mid = outside now.reader (source_view (left now.input) (name now.input) (faults now.input)) (written now.out) (failed now.out) in
-    let after = outside new.reader (source_view (left new.input) (name new.input) (faults new.input)) (written new.out) (failed new.out) in
+    let mid = outside now.reader (source_state (left now.input) (name now.input) (faults now.input)) (written now.out) (failed now.out) in
+    let after = outside new.reader (source_state (left new.input) (name new.input) (faults new.input)) (written new.out) (failed new.out) in
     let state = g.M.LaneMachine.state now.replies.machine in
     let state' = g.M.LaneMachine.state new.machine.machine in
     record {

@@ -1,10 +1,11 @@
 use Rattle.std.proofs.Common.{ℕ, List, [], Err, inr, refl, ap, subst, ◌∙◌}
 use Rattle.mlb_edge.specs.Failed.{with_failed}
 use Rattle.mlb_edge.specs.Reading.{Reading}
-use Rattle.lane_run.specs.Views.{outside, source_view}
+use Rattle.lane_run.specs.Outside.{outside, source_state}
 use Rattle.lane_drive.specs.Asking.{AnswersAll, AsksOf, HasStopped}
 use Rattle.lane_drive.specs.Sending.{turned}
 use Rattle.lane_run.proofs.RanSo.{turned_none}
+use Rattle.lane_drive.proofs.Left.{left_none, left_with}
 use Rattle.lane_drive.proofs.Sent.{turned_lawful}
 use Rattle.lane_drive.proofs.Complete.{complete}
 use Rattle.lane_drive.proofs.Ways.{writes_none}
@@ -20,15 +21,16 @@ run_opened-status-requires-clause-may g c = λ _ _. record {
         (c.open.ensures.bytes c.args.second.now) (c.open.ensures.safe c.args.second.now) c.in-Ok.reader c.in-Ok.ensures
         (λ v v' reader. AsksOf (turned g.A.Turner.Turns g.B.Turner.Turns g.M.Lanes.belongs (g.A.Turner.state c.args.first_turner.now) more.0
         (g.B.Turner.state c.args.second_turner.now) more.1) g.M.LaneMachine.rules (g.M.LaneMachine.state c.args.machine) v v'
-        (outside reader (source_view (g.I.PacedSource.left c.args.input.now) (g.I.PacedSource.name c.args.input.now) (g.I.PacedSource.faults c.args.input.now))
+        (outside reader (source_state (g.I.PacedSource.left c.args.input.now) (g.I.PacedSource.name c.args.input.now) (g.I.PacedSource.faults c.args.input.now))
         (g.K.Sink.written c.args.out.now) (g.K.Sink.faults c.args.out.now))
-        (outside r (source_view (g.I.PacedSource.left i) (g.I.PacedSource.name i) (g.I.PacedSource.faults i)) (g.K.Sink.written o) (g.K.Sink.faults o))) more.2,
+        (outside r (source_state (g.I.PacedSource.left i) (g.I.PacedSource.name i) (g.I.PacedSource.faults i)) (g.K.Sink.written o) (g.K.Sink.faults o)))
+        more.2,
   );
   waits = λ items out answers.
       c.requires.may.waits items out
       (subst
       (λ (reader : Reading). AnswersAll g.M.LaneMachine.rules (g.M.LaneMachine.state c.args.machine)
-      (outside reader (source_view (g.I.PacedSource.left c.args.input.now) (g.I.PacedSource.name c.args.input.now) (g.I.PacedSource.faults c.args.input.now))
+      (outside reader (source_state (g.I.PacedSource.left c.args.input.now) (g.I.PacedSource.name c.args.input.now) (g.I.PacedSource.faults c.args.input.now))
       (g.K.Sink.written c.args.out.now) (g.K.Sink.faults c.args.out.now))
       items (g.K.Sink.written out))
       c.in-Ok.ensures answers);
@@ -36,7 +38,7 @@ run_opened-status-requires-clause-may g c = λ _ _. record {
       c.requires.may.drops items out
       (subst
       (λ (reader : Reading). HasStopped g.M.LaneMachine.rules (g.M.LaneMachine.state c.args.machine)
-      (outside reader (source_view (g.I.PacedSource.left c.args.input.now) (g.I.PacedSource.name c.args.input.now) (g.I.PacedSource.faults c.args.input.now))
+      (outside reader (source_state (g.I.PacedSource.left c.args.input.now) (g.I.PacedSource.name c.args.input.now) (g.I.PacedSource.faults c.args.input.now))
       (g.K.Sink.written c.args.out.now) (g.K.Sink.faults c.args.out.now))
       items (g.K.Sink.written out))
       c.in-Ok.ensures stopped);
@@ -45,28 +47,34 @@ run_opened-status-requires-clause-may g c = λ _ _. record {
 pub returns-in_default-clause-ended : goal.returns-in_default-clause-ended
 returns-in_default-clause-ended g c =
     λ other. files.ends_none turned_lawful g.M.LaneMachine.rules (g.M.LaneMachine.state c.args.machine) c.requires.quiet _ _ _ _ _ _ _ _ _ _ refl
+    (turned_none g.A.Turner.Turns g.B.Turner.Turns g.M.Lanes.belongs _ _ _ _ _ _ refl refl)
 
 pub returns-in_default-clause-only : goal.returns-in_default-clause-only
 returns-in_default-clause-only g c =
     writes_none turned_lawful g.M.LaneMachine.rules (g.M.LaneMachine.state c.args.machine) c.requires.quiet _ _ _ _
+    (turned_none g.A.Turner.Turns g.B.Turner.Turns g.M.Lanes.belongs _ _ _ _ _ _ refl refl)
 
 pub returns-in-Err-clause-ended : goal.returns-in-Err-clause-ended
 returns-in-Err-clause-ended g c = λ other.
     files.ends_none turned_lawful g.M.LaneMachine.rules (g.M.LaneMachine.state c.args.machine) c.requires.quiet _ _ _ _ _ _ _ _ _ c.status_of_open.result
     (files.memory_wants c.lane_name.result c.in-Err.end c.status_of_open.result c.status_of_open.ensures other)
+    (turned_none g.A.Turner.Turns g.B.Turner.Turns g.M.Lanes.belongs _ _ _ _ _ _ refl refl)
 
 pub returns-in-Err-clause-only : goal.returns-in-Err-clause-only
 returns-in-Err-clause-only g c =
     writes_none turned_lawful g.M.LaneMachine.rules (g.M.LaneMachine.state c.args.machine) c.requires.quiet _ _ _ _
+    (turned_none g.A.Turner.Turns g.B.Turner.Turns g.M.Lanes.belongs _ _ _ _ _ _ refl refl)
 
 pub returns-in-Err-open-clause-ended : goal.returns-in-Err-open-clause-ended
 returns-in-Err-open-clause-ended g c = λ other. files.ends_none turned_lawful g.M.LaneMachine.rules (g.M.LaneMachine.state c.args.machine) c.requires.quiet
     _ _ _ _ _ _ _ _ _ c.status_of_open-in-Err-open.result
     (files.memory_wants c.lane_name-in-Err-open.result c.in-Err-open.end c.status_of_open-in-Err-open.result c.status_of_open-in-Err-open.ensures other)
+    (turned_none g.A.Turner.Turns g.B.Turner.Turns g.M.Lanes.belongs _ _ _ _ _ _ refl refl)
 
 pub returns-in-Err-open-clause-only : goal.returns-in-Err-open-clause-only
 returns-in-Err-open-clause-only g c =
     writes_none turned_lawful g.M.LaneMachine.rules (g.M.LaneMachine.state c.args.machine) c.requires.quiet _ _ _ _
+    (turned_none g.A.Turner.Turns g.B.Turner.Turns g.M.Lanes.belongs _ _ _ _ _ _ refl refl)
 
 pub returns-in-Ok-Ok-clause-ended : goal.returns-in-Ok-Ok-clause-ended
 returns-in-Ok-Ok-clause-ended g c = λ other.
@@ -205,28 +213,25 @@ pub returns-clause-complete : goal.returns-clause-complete
 returns-clause-complete g c = λ ready opens reads none none'. inr refl
 
 pub returns-in_default-clause-behind : goal.returns-in_default-clause-behind
-returns-in_default-clause-behind g c = λ none fresh. ([], fresh, turned_none g.A.Turner.Turns g.B.Turner.Turns g.M.Lanes.belongs _ _ _ _)
+returns-in_default-clause-behind g c = λ none fresh. left_none turned_lawful g.M.LaneMachine.rules (g.M.LaneMachine.state c.args.machine) _ _ _ _ _
+    (turned_none g.A.Turner.Turns g.B.Turner.Turns g.M.Lanes.belongs _ _ _ _ _ _ refl refl) fresh
 
 pub returns-in-Err-clause-behind : goal.returns-in-Err-clause-behind
-returns-in-Err-clause-behind g c = λ none fresh. ([], fresh, turned_none g.A.Turner.Turns g.B.Turner.Turns g.M.Lanes.belongs _ _ _ _)
+returns-in-Err-clause-behind g c = λ none fresh. left_none turned_lawful g.M.LaneMachine.rules (g.M.LaneMachine.state c.args.machine) _ _ _ _ _
+    (turned_none g.A.Turner.Turns g.B.Turner.Turns g.M.Lanes.belongs _ _ _ _ _ _ refl refl) fresh
 
 pub returns-in-Err-open-clause-behind : goal.returns-in-Err-open-clause-behind
-returns-in-Err-open-clause-behind g c = λ none fresh. ([], fresh, turned_none g.A.Turner.Turns g.B.Turner.Turns g.M.Lanes.belongs _ _ _ _)
+returns-in-Err-open-clause-behind g c = λ none fresh. left_none turned_lawful g.M.LaneMachine.rules (g.M.LaneMachine.state c.args.machine) _ _ _ _ _
+    (turned_none g.A.Turner.Turns g.B.Turner.Turns g.M.Lanes.belongs _ _ _ _ _ _ refl refl) fresh
 
 pub returns-in-Ok-Ok-clause-behind : goal.returns-in-Ok-Ok-clause-behind
-returns-in-Ok-Ok-clause-behind g c = λ none fresh.
-    let behind = c.run_opened-status.ensures.behind none fresh in (
-      behind.0,
-      behind.1,
-      files.begins_with g.A.Turner.Turns g.B.Turner.Turns g.M.Lanes.belongs _ _ behind.0 c.args.first.now c.args.second.now _ _ _ _ _ _ _ _ _ _ _ _ _
-          c.in-Ok-open.ensures.opened c.in-Ok-open-2.ensures.opened (c.open.ensures.bytes c.args.second.now) behind.2,
-    )
+returns-in-Ok-Ok-clause-behind g c = λ none fresh. left_with turned_lawful g.M.LaneMachine.rules (g.M.LaneMachine.state c.args.machine) _
+    c.args.first.now c.args.second.now _ _ _ _ _ _ _ _ _ _ _ _ _
+    c.in-Ok-open.ensures.opened c.in-Ok-open-2.ensures.opened (c.open.ensures.bytes c.args.second.now) c.in-Ok.reader c.in-Ok.ensures _ _ _
+    (c.run_opened-status.ensures.behind none fresh)
 
 pub returns-clause-behind : goal.returns-clause-behind
-returns-clause-behind g c = λ none fresh.
-    let behind = c.run_opened-status.ensures.behind none fresh in (
-      behind.0,
-      behind.1,
-      files.begins_with g.A.Turner.Turns g.B.Turner.Turns g.M.Lanes.belongs _ _ behind.0 c.args.first.now c.args.second.now _ _ _ _ _ _ _ _ _ _ _ _ _
-          c.in-Ok-open.ensures.opened c.in-Ok-open-2.ensures.opened (c.open.ensures.bytes c.args.second.now) behind.2,
-    )
+returns-clause-behind g c = λ none fresh. left_with turned_lawful g.M.LaneMachine.rules (g.M.LaneMachine.state c.args.machine) _
+    c.args.first.now c.args.second.now _ _ _ _ _ _ _ _ _ _ _ _ _
+    c.in-Ok-open.ensures.opened c.in-Ok-open-2.ensures.opened (c.open.ensures.bytes c.args.second.now) c.in-Ok.reader c.in-Ok.ensures _ _ _
+    (c.run_opened-status.ensures.behind none fresh)

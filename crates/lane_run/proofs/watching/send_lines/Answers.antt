@@ -1,7 +1,7 @@
 use Rattle.std.proofs.Common.{◌≡◌, ◌∷◌, [], ◌++◌, length, refl, ap, ◌∙◌, arith, length-append}
 use Rattle.lane_mail.specs.Values.{Sender}
 use Rattle.mlb_edge.specs.InputLines.{Passes-refl, Passes-append}
-use Rattle.lane_run.specs.Views.{lane_view}
+use Rattle.lane_run.specs.Outside.{lane_state}
 use Rattle.lane_run.proofs.LaneSoFar.{begins, goes_on, ended_so}
 use Rattle.lane_run.proofs.Turning.{turned_more}
 use Rattle.lane_run.proofs.watching.send_lines.Goals as goal
@@ -30,8 +30,8 @@ returns-in-Some-clause-ended g c =
     let after = c.send_next.new.source in
     record {
       items = i.turned.0;
-      ended = ended_so g.L.Lanes.belongs c.args.lane (lane_view (left first) (name first) (faults first) (safe first))
-          (lane_view (left now) (name now) (faults now) (safe now)) (lane_view (left after) (name after) (faults after) (safe after)) c.lines.reader
+      ended = ended_so g.L.Lanes.belongs c.args.lane (lane_state (left first) (name first) (faults first) (safe first))
+          (lane_state (left now) (name now) (faults now) (safe now)) (lane_state (left after) (name after) (faults after) (safe after)) c.lines.reader
           c.send_next.new.reader i.turned.0 c.in-Some.end i.turned.1
           (Passes-append _ c.lines.reader c.send_next.new.reader _ (left now) _ i.passes c.send_next.ensures.passes) i.later i.named i.safety
           c.in-Some.ensures.ends c.send_next.ensures.later c.send_next.ensures.name c.send_next.ensures.safe;

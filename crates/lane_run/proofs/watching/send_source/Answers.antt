@@ -1,5 +1,5 @@
 use Rattle.std.proofs.Common.{[], inl, refl}
-use Rattle.lane_run.specs.Views.{lane_view}
+use Rattle.lane_run.specs.Outside.{lane_state}
 use Rattle.lane_run.proofs.LaneSoFar.{ended_unread}
 use Rattle.lane_run.proofs.watching.send_source.Goals as goal
 
@@ -9,7 +9,7 @@ returns-in_default-clause-ended g c =
     record {
       items = [];
       ended = ended_unread g.L.Lanes.belongs c.args.lane
-          (lane_view (g.S.Source.left source) (g.S.Source.name source) (g.S.Source.faults source) (g.S.Source.safe source));
+          (lane_state (g.S.Source.left source) (g.S.Source.name source) (g.S.Source.faults source) (g.S.Source.safe source));
       state = _;
       turned = rw c.requires.fresh refl;
       left = inl refl;

@@ -1,8 +1,16 @@
-use Rattle.std.proofs.Common.{◌≡◌, true, false, refl, sym, subst, ◌∙◌}
+use Rattle.std.proofs.Common.{◌≡◌, true, false, Result, Ok, Err, IfErr, OnOk, OnErr, refl, sym, subst, ◌∙◌}
 use Rattle.std.proofs.lemmas.Result.{on_ok_weaker, IfErr-weaker}
-use Rattle.lane_run.specs.Views.{outside, source_view}
+use Rattle.lane_run.specs.Outside.{outside, source_state}
 use Rattle.lane_drive.proofs.Taken.{asks_not, awaits_behind, drives_item, fails_behind, fails_item, fails_not}
 use Rattle.lane_drive.proofs.driver.DriverReconciler.take.Goals as goal
+
+on_ok_always : {T F P : Type 0} (result : Result T F) → P → OnOk result P
+on_ok_always (Ok x) p = p
+on_ok_always (Err e) p = tt
+
+err_then_never : {T F : Type 0} (result : Result T F) (P : F → Type 0) (Q : Type 0) → IfErr result P → ((e : F) → P e → Q) → OnErr result Q
+err_then_never (Ok x) P Q is then = tt
+err_then_never (Err e) P Q is then = then e is
 
 pub hear_replies-requires : goal.hear_replies-requires
 hear_replies-requires g c = record {
@@ -13,7 +21,7 @@ hear_replies-requires g c = record {
 pub hear_replies-requires-2 : goal.hear_replies-requires-2
 hear_replies-requires-2 g c =
     let heard = c.hear_replies.new in
-    let mid = outside heard.reader (source_view (g.I.PacedSource.left heard.input) (g.I.PacedSource.name heard.input) (g.I.PacedSource.faults heard.input))
+    let mid = outside heard.reader (source_state (g.I.PacedSource.left heard.input) (g.I.PacedSource.name heard.input) (g.I.PacedSource.faults heard.input))
     (g.K.Sink.written c.take_item.new.out) (g.K.Sink.faults c.take_item.new.out) in
     record {
       live = λ i r o name more. c.requires.live i r o (name ∙ c.hear_replies.ensures.name)
@@ -29,7 +37,7 @@ returns-in-Err-clause-err g c =
 pub returns-in-Err-take_item-clause-err : goal.returns-in-Err-take_item-clause-err
 returns-in-Err-take_item-clause-err g c =
     let heard = c.hear_replies.new in
-    let after = outside heard.reader (source_view (g.I.PacedSource.left heard.input) (g.I.PacedSource.name heard.input) (g.I.PacedSource.faults heard.input))
+    let after = outside heard.reader (source_state (g.I.PacedSource.left heard.input) (g.I.PacedSource.name heard.input) (g.I.PacedSource.faults heard.input))
     (g.K.Sink.written c.take_item.new.out) (g.K.Sink.faults c.take_item.new.out) in
     fails_item g.M.LaneMachine.rules (g.M.LaneMachine.state c.args.self.now.replies.machine) (g.M.LaneMachine.state heard.replies.machine) c.args.item _ _ after
     c.status_of_refusal.result c.in-Err-take_item.refusal c.in_default.ensures.ok.0
@@ -38,7 +46,7 @@ returns-in-Err-take_item-clause-err g c =
 pub returns-clause-ok : goal.returns-clause-ok
 returns-clause-ok g c =
     let heard = c.hear_replies.new in
-    let mid = outside heard.reader (source_view (g.I.PacedSource.left heard.input) (g.I.PacedSource.name heard.input) (g.I.PacedSource.faults heard.input))
+    let mid = outside heard.reader (source_state (g.I.PacedSource.left heard.input) (g.I.PacedSource.name heard.input) (g.I.PacedSource.faults heard.input))
     (g.K.Sink.written c.take_item.new.out) (g.K.Sink.faults c.take_item.new.out) in
     on_ok_weaker c.hear_replies-2.result
     (drives_item g.M.LaneMachine.rules (g.M.LaneMachine.state c.args.self.now.replies.machine) (g.M.LaneMachine.state heard.replies.machine)
@@ -49,7 +57,7 @@ returns-clause-ok g c =
 pub returns-clause-err : goal.returns-clause-err
 returns-clause-err g c =
     let heard = c.hear_replies.new in
-    let mid = outside heard.reader (source_view (g.I.PacedSource.left heard.input) (g.I.PacedSource.name heard.input) (g.I.PacedSource.faults heard.input))
+    let mid = outside heard.reader (source_state (g.I.PacedSource.left heard.input) (g.I.PacedSource.name heard.input) (g.I.PacedSource.faults heard.input))
     (g.K.Sink.written c.take_item.new.out) (g.K.Sink.faults c.take_item.new.out) in
     IfErr-weaker c.hear_replies-2.result _ _
     (fails_behind g.M.LaneMachine.rules (g.M.LaneMachine.state c.args.self.now.replies.machine) (g.M.LaneMachine.state heard.replies.machine)
@@ -57,23 +65,30 @@ returns-clause-err g c =
     c.in_default-take_item.ensures.ok refl refl c.take_item.ensures.later _) c.hear_replies-2.ensures.err
 
 -- where no reply is ever awaited, just the item was offered
-pub returns-in-Err-clause-behind : goal.returns-in-Err-clause-behind
-returns-in-Err-clause-behind g c = λ items behind none.
+pub returns-in-Err-clause-refused : goal.returns-in-Err-clause-refused
+returns-in-Err-clause-refused g c = λ items behind none.
     let laws = g.met.M.LaneMachine in
     let stops = c.in-Err.ensures.err in
     let waits : g.M.LaneMachine.rules.waits stops.state ≡ true = stops.waits in
     let quiet : g.M.LaneMachine.rules.waits stops.state ≡ false = laws.unheard none stops.state in
     absurd (cc)
 
-pub returns-in-Err-take_item-clause-behind : goal.returns-in-Err-take_item-clause-behind
-returns-in-Err-take_item-clause-behind g c = λ items behind none.
+pub returns-in-Err-take_item-clause-refused : goal.returns-in-Err-take_item-clause-refused
+returns-in-Err-take_item-clause-refused g c = λ items behind none.
     let laws = g.met.M.LaneMachine in
     let same = c.hear_replies.ensures.quiet (laws.unheard none (g.M.LaneMachine.state c.args.self.now.replies.machine)) in
-    c.take_item.ensures.behind items (rw same (behind none))
+    c.in-Err-take_item.ensures.refused items (rw same (behind none))
 
 pub returns-clause-behind : goal.returns-clause-behind
-returns-clause-behind g c = λ items behind none.
+returns-clause-behind g c = on_ok_always c.hear_replies-2.result (λ items behind none.
     let laws = g.met.M.LaneMachine in
     let same = c.hear_replies.ensures.quiet (laws.unheard none (g.M.LaneMachine.state c.args.self.now.replies.machine)) in
     let same' = c.hear_replies-2.ensures.quiet (laws.unheard none (g.M.LaneMachine.state c.take_item.new.self)) in
-    rw same' (c.take_item.ensures.behind items (rw same (behind none)))
+    rw same' (c.in_default-take_item.ensures.behind items (rw same (behind none))))
+
+pub returns-clause-refused : goal.returns-clause-refused
+returns-clause-refused g c = err_then_never c.hear_replies-2.result _ _ c.hear_replies-2.ensures.err (λ status stops items behind none.
+    let laws = g.met.M.LaneMachine in
+    let waits : g.M.LaneMachine.rules.waits stops.state ≡ true = stops.waits in
+    let quiet : g.M.LaneMachine.rules.waits stops.state ≡ false = laws.unheard none stops.state in
+    absurd (cc))

@@ -3,7 +3,7 @@ use Rattle.std.specs.Prelude.{ℕ, Bool, false, List, Option}
 use Rattle.mlb_edge.specs.Reading.{Reading}
 
 -- a source
-pub record SourceView : Type 0 where
+pub record SourceState : Type 0 where
   -- the bytes not yet read, where it tells them
   pub left : Option (List ℕ)
   -- the text that no read changes, where it has one
@@ -14,24 +14,24 @@ pub record SourceView : Type 0 where
   pub safe : Bool
 
 -- a source that tells this, and of which any read may fail
-abbrev pub source_view : Option (List ℕ) → Option (List ℕ) → ℕ → SourceView
-source_view left name faults = record { left = left; name = name; faults = faults; safe = false }
+abbrev pub source_state : Option (List ℕ) → Option (List ℕ) → ℕ → SourceState
+source_state left name faults = record { left = left; name = name; faults = faults; safe = false }
 
 -- a source that tells this, and whether it is known that no read fails
-abbrev pub lane_view : Option (List ℕ) → Option (List ℕ) → ℕ → Bool → SourceView
-lane_view left name faults safe = record { left = left; name = name; faults = faults; safe = safe }
+abbrev pub lane_state : Option (List ℕ) → Option (List ℕ) → ℕ → Bool → SourceState
+lane_state left name faults safe = record { left = left; name = name; faults = faults; safe = safe }
 
 -- the replies that a reconciler reads, and the sink that it writes to
 pub record Outside : Type 0 where
   -- how far the reader of the replies has come
   pub reading : Reading
   -- the source of the replies
-  pub replies : SourceView
+  pub replies : SourceState
   -- the bytes written, where the sink tells them
   pub written : Option (List ℕ)
   -- how often writing has failed
   pub faults : ℕ
 
 -- a reader, its source, and a sink that tells this
-abbrev pub outside : Reading → SourceView → Option (List ℕ) → ℕ → Outside
+abbrev pub outside : Reading → SourceState → Option (List ℕ) → ℕ → Outside
 outside reading replies written faults = record { reading = reading; replies = replies; written = written; faults = faults }

@@ -1,3 +1,4 @@
+pub mod Firsts
 pub mod NamedLanes
 pub mod Reading
 pub mod Tables

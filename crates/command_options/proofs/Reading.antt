@@ -1,11 +1,12 @@
 -- Words are read as the options that they are.
 use Rattle.std.proofs.Common.{◌≡◌, ◌≢◌, ℕ, suc, ◌+◌, Bool, true, false, cond, ltb, eqb-true, List, [], ◌∷◌, ◌++◌}
-use Rattle.std.proofs.Common.{length, take, drop, Option, Some, None, refl, sym, ap, ◌∙◌, subst, arith, inl, inr}
+use Rattle.std.proofs.Common.{length, Option, Some, None, refl, sym, ap, ◌∙◌, subst, arith, inl, inr}
 use Rattle.std.proofs.lemmas.Bool.{false≢true, true≢false, eqb-false, ne_eqb, lt-ltb}
 use Rattle.std.proofs.lemmas.Bool.Decides.{nat_tests}
 use Rattle.std.specs.Option.{option_map}
 use Rattle.std.specs.List.{AllByRecursion, position_or_len, before_first, after_first}
 use Rattle.command_options.specs.Options.{CommandOption, First, is_given, is_value, AreOptions, is_equals}
+use Rattle.command_options.proofs.Firsts.{before-cons, after-cons}
 use Rattle.command_options.specs.Options.{has_equals, first_of, with_option, options_in, OptionsAreRead}
 
 -- ---- a text round its first `=`
@@ -20,18 +21,6 @@ one_fewer a b r e = grind (arith, nat_tests)
 
 one_more : (a b : ℕ) (r : Bool) → ltb a b ≡ r → ltb (1 + a) (suc b) ≡ r
 one_more a b r e = grind (arith, nat_tests)
-
-take_one : (n c : ℕ) (xs : List ℕ) → take (1 + n) (c ∷ xs) ≡ c ∷ take n xs
-take_one n c xs = let e : 1 + n ≡ suc n = omega arith in rw e refl
-
-drop_one : (n c : ℕ) (xs : List ℕ) → drop ((1 + n) + 1) (c ∷ xs) ≡ drop (n + 1) xs
-drop_one n c xs = let e : (1 + n) + 1 ≡ suc (n + 1) = omega arith in rw e refl
-
-before-cons : (c : ℕ) (text : List ℕ) → is_equals c ≡ false → before_first is_equals (c ∷ text) ≡ c ∷ before_first is_equals text
-before-cons c text e = rw e (take_one (position_or_len is_equals text) c text)
-
-after-cons : (c : ℕ) (text : List ℕ) → is_equals c ≡ false → after_first is_equals (c ∷ text) ≡ after_first is_equals text
-after-cons c text e = rw e (drop_one (position_or_len is_equals text) c text)
 
 has-cons : (c : ℕ) (text : List ℕ) (r : Bool) → is_equals c ≡ false → has_equals (c ∷ text) ≡ r → has_equals text ≡ r
 has-cons c text r e h =
@@ -51,8 +40,8 @@ split_by true c text t e rest =
 split_by false c text t e rest =
     let s = rest (has-cons c text true t e) in
     record {
-      joined = rw (before-cons c text t, after-cons c text t) (ap (λ (l : List ℕ). c ∷ l) s.joined);
-      lacks = subst (λ (l : List ℕ). AllByRecursion (λ x. x ≢ 61) l) (sym (before-cons c text t)) (eqb-false c 61 t, s.lacks);
+      joined = rw (before-cons is_equals c text t, after-cons is_equals c text t) (ap (λ (l : List ℕ). c ∷ l) s.joined);
+      lacks = subst (λ (l : List ℕ). AllByRecursion (λ x. x ≢ 61) l) (sym (before-cons is_equals c text t)) (eqb-false c 61 t, s.lacks);
     }
 
 splits : (text : List ℕ) → has_equals text ≡ true → Splits text
@@ -65,7 +54,7 @@ pub record Joins (name value : List ℕ) : Type 0 where
   pub before : before_first is_equals (name ++ 61 ∷ value) ≡ name
   pub after : after_first is_equals (name ++ 61 ∷ value) ≡ value
 
-joins : (name value : List ℕ) → AllByRecursion (λ c. c ≢ 61) name → Joins name value
+pub joins : (name value : List ℕ) → AllByRecursion (λ c. c ≢ 61) name → Joins name value
 joins [] value lacks = record { has = has-first 61 value refl; before = refl; after = refl }
 joins (c ∷ name) value lacks =
     let j = joins name value lacks.1 in
@@ -73,8 +62,8 @@ joins (c ∷ name) value lacks =
     let e : is_equals c ≡ false = ne_eqb c 61 lacks.0 in
     record {
       has = cons-has c text true e j.has;
-      before = before-cons c text e ∙ ap (λ (l : List ℕ). c ∷ l) j.before;
-      after = after-cons c text e ∙ j.after;
+      before = before-cons is_equals c text e ∙ ap (λ (l : List ℕ). c ∷ l) j.before;
+      after = after-cons is_equals c text e ∙ j.after;
     }
 
 -- a name alone

@@ -1,5 +1,5 @@
 -- Options of a table, each taken into a part of its own of what is given.
-use Rattle.std.proofs.Common.{◌≡◌, ◌⊎◌, ℕ, Bool, true, false, cond, List, [], ◌∷◌, Option, Some, None, refl, sym, ap, ◌∙◌, subst, inl, inr}
+use Rattle.std.proofs.Common.{◌≡◌, ◌⊎◌, ℕ, Bool, true, false, cond, List, [], ◌∷◌, ◌++◌, Option, Some, None, refl, sym, ap, ◌∙◌, subst, inl, inr}
 use Rattle.std.specs.Prelude.{option_and_then}
 use Rattle.std.specs.List.{AllByRecursion}
 use Rattle.std.specs.Option.{option_map}
@@ -163,3 +163,39 @@ module _ {G I : Type 0} {A : I → Type 0} (Is : CommandOption → Type 0) (step
     give-words words options g h spelled gives =
         ap (λ (found : Option (List CommandOption)). option_and_then (λ os. taken_by step os g) found) ((options_are_read words options).1 spelled)
         ∙ gives-given options g h gives
+
+    -- ---- words in two parts
+    taken-over : (front back : List CommandOption) (g : G) → taken_by step (front ++ back) g ≡ option_and_then (taken_by step back) (taken_by step front g)
+    taken-over [] back g = refl
+    taken-over (o ∷ front) back g = by (step o.name o.value g) (taken-over front back) where
+      by : (x : Option G) → ((next : G) → taken_by step (front ++ back) next ≡ option_and_then (taken_by step back) (taken_by step front next))
+          → option_and_then (taken_by step (front ++ back)) x ≡ option_and_then (taken_by step back) (option_and_then (taken_by step front) x)
+      by None later = refl
+      by (Some next) later = later next
+
+    pub parts-give : (before behind : List (List ℕ)) (g h : G) → option_and_then (taken_in step behind) (taken_in step before g) ≡ Some h
+        → (front : List CommandOption) × (back : List CommandOption) × AreOptions front before × AreOptions back behind × Gives (front ++ back) g h
+    parts-give before behind g h e =
+        let (mid, first, second) = through (taken_in step behind) (taken_in step before g) h e in
+        let (front, read, gave) = through (λ (os : List CommandOption). taken_by step os g) (options_in before) mid first in
+        let (back, read', gave') = through (λ (os : List CommandOption). taken_by step os mid) (options_in behind) h second in (
+          front,
+          back,
+          (options_are_read before front).0 read,
+          (options_are_read behind back).0 read',
+          given-gives (front ++ back) g h (taken-over front back g ∙ ap (option_and_then (taken_by step back)) gave ∙ gave'),
+        )
+
+    pub give-parts : (before behind : List (List ℕ)) (front back : List CommandOption) (g h : G) → AreOptions front before → AreOptions back behind
+        → Gives (front ++ back) g h → option_and_then (taken_in step behind) (taken_in step before g) ≡ Some h
+    give-parts before behind front back g h spelled spelled' gives =
+        ap (λ (found : Option (List CommandOption)). option_and_then (taken_in step behind) (option_and_then (λ os. taken_by step os g) found))
+        ((options_are_read before front).1 spelled)
+        ∙ behind-is (taken_by step front g)
+        ∙ sym (taken-over front back g)
+        ∙ gives-given (front ++ back) g h gives
+      where
+        behind-is : (x : Option G) → option_and_then (taken_in step behind) x ≡ option_and_then (taken_by step back) x
+        behind-is None = refl
+        behind-is (Some next) =
+            ap (λ (found : Option (List CommandOption)). option_and_then (λ os. taken_by step os next) found) ((options_are_read behind back).1 spelled')

@@ -1,16 +1,15 @@
 -- Each line that a speaker writes is one line, and what it says is read off it; addresses are read off their texts.
-use Rattle.std.proofs.Common.{◌≡◌, ℕ, ◌<◌, ◌^◌, Bool, true, false, not, ◌==◌, List, [], ◌∷◌, ◌++◌, Some, codes, refl, sym, ap, ◌∙◌, arith}
+use Rattle.std.proofs.Common.{◌≡◌, ℕ, ◌<◌, ◌^◌, true, not, ◌==◌, List, [], ◌∷◌, ◌++◌, Some, codes, refl, sym, ap, ◌∙◌, arith}
 use Rattle.std.proofs.lemmas.Bool.{and_from, and_parts}
 use Rattle.std.proofs.lemmas.Bool.Decides.{nat_tests}
 use Rattle.std.proofs.lemmas.Nat.{from_be_bytes-to_be_bytes_4}
 use Rattle.std.proofs.NetLemmas.Texts.{IsDotted-ipv4_text, IsColonHex-hex_groups_text}
 use Rattle.std.specs.Char.{digit_char}
 use Rattle.std.specs.Int.{w32, w128, to_be_bytes, from_be_bytes}
-use Rattle.std.specs.List.{list_all}
 use Rattle.std.specs.Net.Addr.{segments_of}
 use Rattle.hex.specs.Hex.{encode_lower}
 use Rattle.json.specs.Lex.{tokens}
-use Rattle.json.specs.Print.{escape, escape_byte, escape_letter, quoted, print, print_from, ArePrintable}
+use Rattle.json.specs.Print.{escape, escape_byte, quoted, print, ArePrintable}
 use Rattle.json.specs.Token.{Token, bad, begin_array, begin_object, boolean, end_array, end_object, key, null, number, string}
 use Rattle.json.proofs.Printed.Tokens.{tokens-print}
 use Rattle.serde_json.proofs.OnLiterals.{serde_json_on_literals}

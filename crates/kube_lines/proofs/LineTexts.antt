@@ -1,6 +1,9 @@
 -- The text of each value that is written.
-use Rattle.std.proofs.Common.{◌≡◌, ℕ, List, [], ◌∷◌, ◌++◌, true, false, map, refl, sym, ap, ◌∙◌, append_assoc, codes}
+use Rattle.std.proofs.Common.{◌≡◌, ℕ, List, [], ◌∷◌, ◌++◌, true, false, map, Result, refl, sym, ap, ◌∙◌, append_assoc, codes}
+use Rattle.std.proofs.lemmas.Result.{IfOk-weaker}
+use Rattle.std.specs.Prelude.{IfOk}
 use Rattle.json.specs.Print.{quoted}
+use Rattle.serde_json.specs.Data.{Data}
 use Rattle.serde_json.specs.Written.{compact_text, items_text, has_float, items_have_float}
 use Rattle.serde_json.proofs.OnLiterals.{serde_json_on_literals}
 use Rattle.ip_ranges.specs.Values.{AddressValue}
@@ -11,8 +14,13 @@ use Rattle.kube_model.specs.declared.reason.Reason.{Reason}
 use Rattle.kube_model.specs.declared.config_fault.ConfigFault.{ConfigFault}
 use Rattle.kube_model.specs.declared.status.LaneName.{LaneName}
 use Rattle.kube_lines.specs.OutputLines.{quoted_texts, address_strings, put_text, put_data, pending_text, pending_data, refused_text}
-use Rattle.kube_lines.specs.OutputLines.{refused_data, took_text, took_data, address_data, announce_text, withdraw_text, send_text}
+use Rattle.kube_lines.specs.OutputLines.{refused_data, seen_text, seen_data, took_text, took_data, address_data, announce_text, withdraw_text, send_text}
 use Rattle.kube_lines.specs.OutputLines.{send_data, update_text, update_data, record_text, record_data, trial_text, trial_data}
+
+-- a value's line is its text
+pub line_is : {E : Type 0} (line : Result (List ℕ) E) (value is : Data) (text : List ℕ) → IfOk line (λ l. l ≡ compact_text value) → value ≡ is
+    → compact_text is ≡ text → IfOk line (λ l. l ≡ text)
+line_is line value is text written same reads = IfOk-weaker line _ _ (λ l e. e ∙ ap compact_text same ∙ reads) written
 
 no_float : (addresses : List AddressValue) → items_have_float (address_strings addresses) ≡ false
 no_float [] = refl
@@ -48,6 +56,10 @@ refused_is fault = refl
 pub took_is : (lane : LaneName) (number : ℕ) → compact_text (took_data lane number) ≡ took_text lane number
 unfolding serde_json_on_literals
 took_is lane number = refl
+
+pub seen_is : (events : ℕ) → compact_text (seen_data events) ≡ seen_text events
+unfolding serde_json_on_literals
+seen_is events = refl
 
 pub announce_is : (address : AddressValue) → compact_text (address_data address (codes "announce")) ≡ announce_text address
 unfolding serde_json_on_literals

@@ -65,6 +65,10 @@ took_text lane n = concat (
     codes "{\"lane\":" ∷ quoted (lane_text lane) ∷
     codes ",\"n\":" ∷ decimal n ∷ codes ",\"op\":\"took\"}" ∷ [])
 
+-- a frame was answered by what is shown after so many events
+abbrev pub seen_text : ℕ → List ℕ
+seen_text events = concat (codes "{\"events\":" ∷ decimal events ∷ codes ",\"op\":\"seen\"}" ∷ [])
+
 -- the address is answered for from now on
 abbrev pub announce_text : AddressValue → List ℕ
 announce_text address = concat (
@@ -136,6 +140,9 @@ abbrev pub took_data : LaneName → ℕ → Data
 took_data lane n = object (member (codes "lane") (string (lane_text lane))
     (member (codes "n") (number_data n)
     (member (codes "op") (string (codes "took")) no_members)))
+
+abbrev pub seen_data : ℕ → Data
+seen_data events = object (member (codes "events") (number_data events) (member (codes "op") (string (codes "seen")) no_members))
 
 -- what is to be done with an address
 abbrev pub address_data : AddressValue → List ℕ → Data

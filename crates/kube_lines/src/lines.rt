@@ -5,7 +5,8 @@ ghost use Rattle.serde_json.specs.Data.{array};
 ghost use Rattle.serde_json.specs.Written.{has_float, compact_text};
 ghost use Rattle.kube_lines.specs.OutputLines.{put_text, put_data, address_strings, pending_text, pending_data, accepted_text, refused_text};
 ghost use Rattle.kube_lines.specs.OutputLines.{refused_data, is_taken, took_text, took_data, announce_text, withdraw_text, address_data};
-ghost use Rattle.kube_lines.specs.OutputLines.{send_text, send_data, update_text, update_data, record_text, record_data, trial_text, trial_data};
+ghost use Rattle.kube_lines.specs.OutputLines.{seen_text, seen_data, send_text, send_data, update_text, update_data, record_text, record_data};
+ghost use Rattle.kube_lines.specs.OutputLines.{trial_text, trial_data};
 
 use ip_ranges::{Address, print_address};
 use kube_labels::Text;
@@ -118,6 +119,23 @@ pub fn took_line(alloc: Global, lane: LaneName, number: u64) -> Result<Text, NoM
     ensures { IfOk result (λ line. line ≡ took_text lane number) }
 {
     let value = took_value(alloc, lane, number)?;
+    written(alloc, &value)
+}
+
+fn seen_value(alloc: Global, events: u64) -> Result<Value, NoMemory>
+    ensures { IfOk result (λ v. view v ≡ seen_data events) }
+{
+    Ok(json!(in alloc; {
+        "events": events,
+        "op": "seen"
+    })?)
+}
+
+/// The line that tells that a frame was answered by what is shown after so many events.
+pub fn seen_line(alloc: Global, events: u64) -> Result<Text, NoMemory>
+    ensures { IfOk result (λ line. line ≡ seen_text events) }
+{
+    let value = seen_value(alloc, events)?;
     written(alloc, &value)
 }
 

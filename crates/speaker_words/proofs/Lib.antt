@@ -1,3 +1,4 @@
+pub mod Flags
 pub mod Folded
 pub mod Interfaces
 pub mod Macs

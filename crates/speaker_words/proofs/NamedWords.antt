@@ -1,14 +1,16 @@
 -- What the words say is what is read of them.
-use Rattle.std.proofs.Common.{◌≡◌, ℕ, ◌<◌, Bool, true, false, cond, List, [], ◌∷◌, Option, Some, None, Ok, Err, refl, sym, ap, ◌∙◌, subst, arith, inl, inr}
+use Rattle.std.proofs.Common.{◌≡◌, ℕ, ◌<◌, Bool, true, false, cond, List, [], ◌∷◌, ◌++◌, Option, Some, None, Ok, Err}
+use Rattle.std.proofs.Common.{refl, sym, ap, ◌∙◌, subst, arith, inl, inr}
 use Rattle.std.specs.Prelude.{option_and_then, Result}
-use Rattle.std.specs.List.{AllByRecursion, AllZip}
+use Rattle.std.specs.List.{AllByRecursion, AllZip, list_any, before_first, after_first}
 use Rattle.std.specs.Option.{option_map, option_to_list}
 use Rattle.command_options.specs.Options.{CommandOption}
 use Rattle.command_options.specs.Values.{values_of, once, text_of, taken_in}
 use Rattle.command_options.specs.Lanes.{LaneNames, LanesGiven, lanes_of}
+use Rattle.command_options.proofs.Firsts.{Lack, before-found, after-found, any-found, before-none, after-none, any-none, lack-of}
 use Rattle.command_options.proofs.Values.{folded, through, zip-each, once-read, read-once, once-text, text-once}
 use Rattle.command_options.proofs.NamedLanes.{given_lanes, given-lanes, named-give, give-named, named-lanes}
-use Rattle.command_options.proofs.Tables.{Keeps, Table, Part, words-give, give-words, named-or, named-last, part-of-part}
+use Rattle.command_options.proofs.Tables.{Gives, Keeps, Table, Part, words-give, give-words, parts-give, give-parts, named-or, named-last, part-of-part}
 use Rattle.ip_ranges.specs.declared.family.Family.{Family}
 use Rattle.ip_ranges.specs.declared.family.Family.TheVariants.{V4, V6}
 use Rattle.ip_ranges.specs.declared.fault.RangeFault.{RangeFault}
@@ -16,10 +18,14 @@ use Rattle.ip_ranges.specs.Values.{AddressValue, same_family}
 use Rattle.ip_ranges.specs.AddressText.{address_of}
 use Rattle.ip_ranges.proofs.AddressLaws.{same_family-is, same_family-itself}
 use Rattle.ip_ranges.proofs.SpelledLemmas.{address_of-ok}
+use Rattle.mlb_base.proofs.Lists.{all-front}
 use Rattle.speaker_words.specs.Interface.{InterfaceValue}
 use Rattle.speaker_words.specs.Words.{Said, Say, IsKnown, IsNextHop, node_option, class_option, interface_option}
 use Rattle.speaker_words.specs.Words.{next_hop_option, next_hop_v6_option, watch_option, frame_option}
-use Rattle.speaker_words.specs.Reading.{Given, nothing_given, one_more, only_of, next_hop_of, hops_stand, with_lanes, with_option, said_by, finished, said_in}
+use Rattle.speaker_words.specs.Reading.{Given, nothing_given, one_more, only_of, next_hop_of, hops_stand, with_lanes, with_option, said_by, said_if}
+use Rattle.speaker_words.specs.Reading.{finished, said_in, given_in, is_flag, responder_stands}
+use Rattle.speaker_words.specs.Words.{AreSpelled, responder_flag}
+use Rattle.speaker_words.proofs.Flags.{split-by, options-lack}
 use Rattle.speaker_words.proofs.Folded.{fold-adds, adds-fold}
 
 -- ---- the next hops
@@ -199,10 +205,70 @@ by-stand : (hop v6 : Option AddressValue) → hops_stand hop v6 ≡ true → hop
 by-stand hop None e none = refl
 by-stand hop (Some v6) e none = let not : false ≡ true = rw none at e in absurd (cc)
 
+-- ---- the responder stands beside two lanes
+lanes-stand : (responder : Bool) (lanes : Option LaneNames) → (lanes ≡ None → responder ≡ false) → responder_stands responder lanes ≡ true
+lanes-stand false lanes beside = refl
+lanes-stand true (Some files) beside = refl
+lanes-stand true None beside = let none : true ≡ false = beside refl in absurd (cc)
+
+stand-lanes : (responder : Bool) (lanes : Option LaneNames) → responder_stands responder lanes ≡ true → lanes ≡ None → responder ≡ false
+stand-lanes false lanes e none = refl
+stand-lanes true (Some files) e none = absurd (cc)
+stand-lanes true None e none = absurd (cc)
+
+-- ---- the options, and the flag between them
+abbrev OptionsGive : List CommandOption → Given → Type 0
+OptionsGive options h = Gives IsKnown with_option named name part with_part take options nothing_given h
+
+abbrev given_by : (before behind : List (List ℕ)) → Option Given
+given_by before behind = option_and_then (taken_in with_option behind) (taken_in with_option before nothing_given)
+
+same-parts : (before before' behind behind' : List (List ℕ)) → before ≡ before' → behind ≡ behind' → given_by before behind ≡ given_by before' behind'
+same-parts before before' behind behind' one other = ap (λ (words : List (List ℕ)). given_by words behind) one ∙ ap (given_by before') other
+
+none-behind : (words : List (List ℕ)) → given_by words [] ≡ taken_in with_option words nothing_given
+none-behind words = ends (taken_in with_option words nothing_given) where
+  ends : (x : Option Given) → option_and_then (taken_in with_option []) x ≡ x
+  ends None = refl
+  ends (Some g) = refl
+
+-- what the words give where the flag isn't there
+unflagged : (words : List (List ℕ)) → Lack is_flag words → given_in words ≡ taken_in with_option words nothing_given
+unflagged words lack =
+    same-parts (before_first is_flag words) words (after_first is_flag words) [] (before-none is_flag words lack) (after-none is_flag words lack)
+    ∙ none-behind words
+
+spelled-give : (responder : Bool) (words : List (List ℕ)) (options : List CommandOption) (h : Given) → AreSpelled responder options words
+    → OptionsGive options h → (list_any is_flag words ≡ responder) × (given_in words ≡ Some h)
+spelled-give false words options h spelled gives =
+    let lack = options-lack options words spelled gives.known in (
+      any-none is_flag words lack,
+      unflagged words lack ∙ give-words IsKnown with_option named name part with_part take at table words options nothing_given h spelled gives,
+    )
+spelled-give true words options h (front, back, before, behind, are, words_are, ahead, after) gives =
+    let both : OptionsGive (front ++ back) h = subst (λ (os : List CommandOption). OptionsGive os h) are gives in
+    let lack = options-lack front before ahead (all-front IsKnown front back both.known) in
+    let gave = give-parts IsKnown with_option named name part with_part take at table before behind front back nothing_given h ahead after both in
+    let said = before ++ responder_flag ∷ behind in
+    subst (λ (ws : List (List ℕ)). (list_any is_flag ws ≡ true) × (given_in ws ≡ Some h)) (sym words_are) (
+      any-found is_flag before responder_flag behind lack refl,
+      same-parts (before_first is_flag said) before (after_first is_flag said) behind (before-found is_flag before responder_flag behind lack refl)
+          (after-found is_flag before responder_flag behind lack refl) ∙ gave,
+    )
+
+read-spelled : (responder : Bool) (words : List (List ℕ)) (h : Given) → list_any is_flag words ≡ responder → given_in words ≡ Some h
+    → (options : List CommandOption) × AreSpelled responder options words × OptionsGive options h
+read-spelled false words h flag e =
+    words-give IsKnown with_option named name part with_part take at table words nothing_given h (sym (unflagged words (lack-of is_flag words flag)) ∙ e)
+read-spelled true words h flag e =
+    let (front, back, ahead, after, gives) =
+    parts-give IsKnown with_option named name part with_part take at table (before_first is_flag words) (after_first is_flag words) nothing_given h e in
+    (front ++ back, (front, back, before_first is_flag words, after_first is_flag words, refl, split-by words flag, ahead, after), gives)
+
 pub say-read : (words : List (List ℕ)) (said : Said) → Say words said → said_in words ≡ Some said
 say-read words said say =
     let (watch, frame) = named-give watch_option frame_option say.options said.lanes say.lanes in
-    let gave = give-words IsKnown with_option named name part with_part take at table words say.options nothing_given (given said) say.spelled (record {
+    let (flag, gave) = spelled-give said.responder words say.options (given said) say.spelled (record {
       known = say.known;
       parts = λ i. elim i as (Stands say.options (given said)) [
         | Node ↦ text-once (values_of node_option say.options) (Some said.node) say.node
@@ -215,39 +281,47 @@ say-read words said say =
       ];
     }) in
     let stand : hops_stand said.next_hop said.next_hop_v6 ≡ true = stand-by said.next_hop said.next_hop_v6 say.beside in
-    ap (option_and_then finished) gave
+    let stands : responder_stands said.responder said.lanes ≡ true = lanes-stand said.responder said.lanes say.beside_lanes in
+    ap (λ (responder : Bool). option_and_then (finished responder) (given_in words)) flag
+    ∙ ap (option_and_then (finished said.responder)) gave
     ∙ rw stand refl
-    ∙ ap (option_map (said_by (given said) said.node)) (named-lanes watch_option frame_option say.options said.lanes say.lanes)
+    ∙ ap (option_and_then (said_if (given said) said.node said.responder)) (named-lanes watch_option frame_option say.options said.lanes say.lanes)
+    ∙ rw stands refl
 
 -- Who says something was given that, with files that are lanes.
-record Finished (h : Given) (said : Said) : Type 0 where
+record Finished (responder : Bool) (h : Given) (said : Said) : Type 0 where
   are : h ≡ given said
   lanes : Option LaneNames
   found : lanes_of h.lanes ≡ Some lanes
   stand : hops_stand said.next_hop said.next_hop_v6 ≡ true
+  responds : said.responder ≡ responder
+  stands : responder_stands said.responder said.lanes ≡ true
 
-said-of : (h : Given) (said : Said) → finished h ≡ Some said → Finished h said
-said-of h said e = stands (hops_stand h.next_hop h.next_hop_v6) refl e where
+said-of : (responder : Bool) (h : Given) (said : Said) → finished responder h ≡ Some said → Finished responder h said
+said-of responder h said e = stands (hops_stand h.next_hop h.next_hop_v6) refl e where
   ends : Option Said
-  ends = option_and_then (λ node. option_map (said_by h node) (lanes_of h.lanes)) h.node
+  ends = option_and_then (λ node. option_and_then (said_if h node responder) (lanes_of h.lanes)) h.node
 
-  stands : (b : Bool) → hops_stand h.next_hop h.next_hop_v6 ≡ b → cond b ends None ≡ Some said → Finished h said
+  stands : (b : Bool) → hops_stand h.next_hop h.next_hop_v6 ≡ b → cond b ends None ≡ Some said → Finished responder h said
   stands false t f = absurd (cc)
   stands true t f =
-      let (node, is, more) = through (λ node. option_map (said_by h node) (lanes_of h.lanes)) h.node said f in
-      by (lanes_of h.lanes) refl node is more
+      let (node, is, more) = through (λ node. option_and_then (said_if h node responder) (lanes_of h.lanes)) h.node said f in
+      let (lanes, found, end) = through (said_if h node responder) (lanes_of h.lanes) said more in
+      by (responder_stands responder lanes) node is lanes refl found end
     where
-      by : (lanes : Option (Option LaneNames)) → lanes_of h.lanes ≡ lanes → (node : List ℕ) → h.node ≡ Some node → option_map (said_by h node) lanes ≡ Some said
-          → Finished h said
-      by None found node is f = absurd (cc)
-      by (Some lanes) found node is f =
-          let same : said_by h node lanes ≡ said = cc in
+      by : (b : Bool) → (node : List ℕ) → h.node ≡ Some node → (lanes : Option LaneNames) → responder_stands responder lanes ≡ b
+          → lanes_of h.lanes ≡ Some lanes → cond b (Some (said_by h node responder lanes)) None ≡ Some said → Finished responder h said
+      by false node is lanes so found f = absurd (cc)
+      by true node is lanes so found f =
+          let same : said_by h node responder lanes ≡ said = cc in
           record {
             are = ap (λ (n : Option (List ℕ)). with_part Node n h) is
                 ∙ ap (λ (l : LanesGiven). with_part Node (Some node) (with_lanes l h)) (given-lanes h.lanes lanes found) ∙ ap given same;
             lanes = lanes;
             found = found;
             stand = subst (λ (s : Said). hops_stand s.next_hop s.next_hop_v6 ≡ true) same t;
+            responds = ap (λ (s : Said). s.responder) (sym same);
+            stands = subst (λ (s : Said). responder_stands s.responder s.lanes ≡ true) same so;
           }
 
 none-apart : (i j : ℕ) (d : InterfaceValue) → i < j → j < 0 → ⊥
@@ -255,10 +329,10 @@ none-apart i j d lt none = omega (arith, none)
 
 pub read-say : (words : List (List ℕ)) (said : Said) → said_in words ≡ Some said → Say words said
 read-say words said e =
-    let (h, found, end) = through finished (taken_in with_option words nothing_given) said e in
-    let f = said-of h said end in
+    let (h, found, end) = through (finished (list_any is_flag words)) (given_in words) said e in
+    let f = said-of (list_any is_flag words) h said end in
     let (options, spelled, gives) =
-    words-give IsKnown with_option named name part with_part take at table words nothing_given (given said) (found ∙ ap (λ (x : Given). Some x) f.are) in
+    read-spelled said.responder words (given said) (sym f.responds) (found ∙ ap (λ (x : Given). Some x) f.are) in
     let adds = fold-adds (values_of interface_option options) [] said.interfaces (omega arith, λ i j d lt none. absurd (none-apart i j d lt none))
     (gives.parts Interfaces) in
     record {
@@ -275,4 +349,5 @@ read-say words said e =
       beside = by-stand said.next_hop said.next_hop_v6 f.stand;
       lanes = give-named watch_option frame_option options said.lanes f.lanes (gives.parts Watch, gives.parts Frame)
           (ap (λ (x : Given). lanes_of x.lanes) (sym f.are) ∙ f.found);
+      beside_lanes = stand-lanes said.responder said.lanes f.stands;
     }

@@ -1,7 +1,7 @@
 -- What is said as a function of the words.
 use Rattle.std.specs.Prelude.{ℕ, Bool, ◌&&◌, ◌||◌, not, is_some, is_none, nat_lt, if◌then◌else◌, List, []}
 use Rattle.std.specs.Prelude.{◌∷◌, ◌++◌, length, Option, Some, None, option_and_then, Result, Ok, Err}
-use Rattle.std.specs.List.{list_any}
+use Rattle.std.specs.List.{list_any, before_first, after_first}
 use Rattle.std.specs.Option.{option_map}
 use Rattle.std.specs.Str.{bytes_eq}
 use Rattle.command_options.specs.Values.{once, text_of, taken_in}
@@ -13,6 +13,7 @@ use Rattle.ip_ranges.specs.Values.{AddressValue, same_family}
 use Rattle.ip_ranges.specs.AddressText.{address_of}
 use Rattle.speaker_words.specs.Interface.{InterfaceValue, interface_of}
 use Rattle.speaker_words.specs.Words.{Said, node_option, class_option, interface_option, next_hop_option, next_hop_v6_option, watch_option, frame_option}
+use Rattle.speaker_words.specs.Words.{responder_flag}
 
 -- what options said so far
 pub record Given : Type 0 where
@@ -95,17 +96,41 @@ with_option name value g =
     else None
 
 -- a speaker has a node, and two lanes or one stream
-abbrev pub said_by : Given → List ℕ → Option LaneNames → Said
-said_by g node lanes = record { node = node; class = g.class; interfaces = g.interfaces; next_hop = g.next_hop; next_hop_v6 = g.next_hop_v6; lanes = lanes }
+abbrev pub said_by : Given → List ℕ → Bool → Option LaneNames → Said
+said_by g node responder lanes = record {
+  node = node;
+  class = g.class;
+  interfaces = g.interfaces;
+  next_hop = g.next_hop;
+  next_hop_v6 = g.next_hop_v6;
+  lanes = lanes;
+  responder = responder;
+}
+
+-- a responder stands beside two lanes alone
+abbrev pub responder_stands : Bool → Option LaneNames → Bool
+responder_stands responder lanes = not responder || is_some lanes
+
+abbrev pub said_if : Given → List ℕ → Bool → Option LaneNames → Option Said
+said_if g node responder lanes = if responder_stands responder lanes then Some (said_by g node responder lanes) else None
 
 -- a hop of IPv6 stands beside one of IPv4 alone
 abbrev pub hops_stand : Option AddressValue → Option AddressValue → Bool
 hops_stand next_hop next_hop_v6 = is_some next_hop || is_none next_hop_v6
 
-abbrev pub finished : Given → Option Said
-finished g =
-    if hops_stand g.next_hop g.next_hop_v6 then option_and_then (λ node. option_map (said_by g node) (lanes_of g.lanes)) g.node else None
+abbrev pub finished : Bool → Given → Option Said
+finished responder g =
+    if hops_stand g.next_hop g.next_hop_v6 then option_and_then (λ node. option_and_then (said_if g node responder) (lanes_of g.lanes)) g.node
+    else None
+
+abbrev pub is_flag : List ℕ → Bool
+is_flag word = bytes_eq word responder_flag
+
+-- what the options ahead of the flag and behind it give; all words are ahead of it where it isn't there
+abbrev pub given_in : List (List ℕ) → Option Given
+given_in words =
+    option_and_then (taken_in with_option (after_first is_flag words)) (taken_in with_option (before_first is_flag words) nothing_given)
 
 -- what the words say, where they are of the table
 abbrev pub said_in : List (List ℕ) → Option Said
-said_in words = option_and_then finished (taken_in with_option words nothing_given)
+said_in words = option_and_then (finished (list_any is_flag words)) (given_in words)

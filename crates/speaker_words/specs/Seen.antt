@@ -34,4 +34,5 @@ said_seen w = record {
   next_hop = w.next_hop;
   next_hop_v6 = w.next_hop_v6;
   lanes = option_map lane_seen w.lanes;
+  responder = w.responder;
 }

@@ -1,6 +1,6 @@
 -- What the words of the command line say: `--node-name NODE`, and perhaps `--lb-class CLASS`, `--interface NAME=MAC`, `--next-hop ADDRESS`, beside
--- it `--next-hop-v6 ADDRESS`, and `--watch-lane FILE` with `--frame-lane FILE`.
-use Rattle.std.specs.Prelude.{◌≡◌, ◌≢◌, ◌≤◌, ◌⊎◌, ℕ, List, [], ◌∷◌, length, codes, Option, None}
+-- it `--next-hop-v6 ADDRESS`, and `--watch-lane FILE` with `--frame-lane FILE`, beside these `--responder`.
+use Rattle.std.specs.Prelude.{◌≡◌, ◌≢◌, ◌≤◌, ◌⊎◌, ℕ, Bool, true, false, List, [], ◌∷◌, ◌++◌, length, codes, Option, None}
 use Rattle.std.specs.List.{AllByRecursion, AllZip, AllPairs}
 use Rattle.std.specs.Option.{option_to_list}
 use Rattle.command_options.specs.Options.{CommandOption, AreOptions}
@@ -13,7 +13,8 @@ use Rattle.ip_ranges.specs.AddressText.{IsAddressText}
 use Rattle.speaker_words.specs.Interface.{InterfaceValue, IsInterface}
 
 -- the node that the speaker runs on, the class of the services that it announces, with none those that name none, the interfaces that it
--- answers on, the addresses that its routes of IPv4 and of IPv6 lead to, and the files of the watched objects and of the received frames
+-- answers on, the addresses that its routes of IPv4 and of IPv6 lead to, the files of the watched objects and of the received frames, and whether
+-- frames are answered on a thread of their own
 pub record Said : Type 0 where
   pub node : List ℕ
   pub class : Option (List ℕ)
@@ -21,6 +22,7 @@ pub record Said : Type 0 where
   pub next_hop : Option AddressValue
   pub next_hop_v6 : Option AddressValue
   pub lanes : Option LaneNames
+  pub responder : Bool
 
 abbrev pub node_option : List ℕ
 node_option = codes "--node-name"
@@ -43,6 +45,10 @@ watch_option = codes "--watch-lane"
 abbrev pub frame_option : List ℕ
 frame_option = codes "--frame-lane"
 
+-- a word of its own, without a value
+abbrev pub responder_flag : List ℕ
+responder_flag = codes "--responder"
+
 abbrev pub IsKnown : CommandOption → Type 0
 IsKnown o =
     (o.name ≡ node_option) ⊎ (o.name ≡ class_option) ⊎ (o.name ≡ interface_option) ⊎ (o.name ≡ next_hop_option)
@@ -58,12 +64,19 @@ pub record IsNextHop (family : Family) (text : List ℕ) (a : AddressValue) : Ty
 abbrev pub AreApart : List InterfaceValue → Type 0
 AreApart interfaces = AllPairs (λ i j. i.name ≢ j.name) interfaces
 
+-- The words are these options, one behind the other, and where the flag is said it stands once, ahead of one of them or behind the last.
+abbrev pub AreSpelled : Bool → List CommandOption → List (List ℕ) → Type 0
+AreSpelled false options words = AreOptions options words
+AreSpelled true options words =
+    (front : List CommandOption) × (back : List CommandOption) × (before : List (List ℕ)) × (behind : List (List ℕ)) × (options ≡ front ++ back)
+    × (words ≡ before ++ responder_flag ∷ behind) × AreOptions front before × AreOptions back behind
+
 -- The words are of the table, and say this: the node's option stands once, those of the class and of the next hops at most once, that of
 -- the IPv6 one only beside that of the IPv4 one, that of an interface up to 16 times with distinct names, those of the two lanes once each,
--- of distinct files, or neither, and no other does.
+-- of distinct files, or neither, and no other does; the flag stands beside two lanes alone.
 pub record Say (words : List (List ℕ)) (said : Said) : Type 0 where
   pub options : List CommandOption
-  pub spelled : AreOptions options words
+  pub spelled : AreSpelled said.responder options words
   pub known : AllByRecursion IsKnown options
   pub node : values_of node_option options ≡ said.node ∷ []
   pub class : values_of class_option options ≡ option_to_list said.class
@@ -74,6 +87,7 @@ pub record Say (words : List (List ℕ)) (said : Said) : Type 0 where
   pub next_hop_v6 : AllZip (IsNextHop V6) (values_of next_hop_v6_option options) (option_to_list said.next_hop_v6)
   pub beside : said.next_hop ≡ None → said.next_hop_v6 ≡ None
   pub lanes : MayNameLanes watch_option frame_option options said.lanes
+  pub beside_lanes : said.lanes ≡ None → said.responder ≡ false
 
 -- some words of the table
 abbrev pub AreKnown : List (List ℕ) → Type 0

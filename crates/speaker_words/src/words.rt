@@ -1,12 +1,14 @@
 //! The words of the command line.
-ghost use Rattle.std.specs.Prelude.{◌≡◌, IfSome, IfNone};
-ghost use Rattle.std.specs.List.{list_any};
+ghost use Rattle.std.specs.Prelude.{◌≡◌, IfSome, IfNone, string_bytes};
+ghost use Rattle.std.specs.List.{list_any, position, before_first, after_first};
 ghost use Rattle.std.specs.Str.{bytes_eq};
 ghost use Rattle.std.specs.Option.{option_map};
+ghost use Rattle.command_options.specs.Lanes.{lane_seen};
 ghost use Rattle.command_options.specs.Options.{texts_of};
 ghost use Rattle.speaker_words.specs.Words.{Say, AreKnown};
 ghost use Rattle.speaker_words.specs.Reading.{said_in, Given, with_option, with_node, with_class, with_interface, with_one};
-ghost use Rattle.speaker_words.specs.Reading.{with_next_hop, with_next_hop_v6, next_hop_of, hops_stand, with_watch, with_frame, finished};
+ghost use Rattle.speaker_words.specs.Reading.{with_next_hop, with_next_hop_v6, next_hop_of, hops_stand, responder_stands, with_watch, with_frame};
+ghost use Rattle.speaker_words.specs.Reading.{finished, is_flag};
 ghost use Rattle.speaker_words.specs.Seen.{interface_seen, interfaces_seen, given_seen, said_seen};
 
 use crate::interface::{InterfaceWord, interface_of};
@@ -28,6 +30,8 @@ const WATCH_OPTION: &str = "--watch-lane";
 
 const FRAME_OPTION: &str = "--frame-lane";
 
+const RESPONDER_FLAG: &str = "--responder";
+
 /// The interfaces that words name, 16 at most.
 pub type InterfaceWords<'a> = ArrayVec<InterfaceWord<'a>, 16>;
 
@@ -46,6 +50,8 @@ pub struct SpeakerWords<'a> {
     pub next_hop_v6: Option<Address>,
     /// The files of the watched objects and of the received frames; with none, all comes by one stream.
     pub lanes: Option<LaneFiles<'a>>,
+    /// Frames are answered on a thread of their own, by a view that is published; only beside two lanes.
+    pub responder: bool,
 }
 
 /// What options said so far.
@@ -65,7 +71,8 @@ struct SaidSoFar<'a> {
 /// without leading zeros; `--next-hop-v6 ADDRESS` at most once, an IPv6 address in the text of RFC 4291, section 2.2, which isn't a mapped
 /// IPv4 one, and only beside `--next-hop`; `--interface NAME=MAC` up to 16 times, split at the first `=`, with distinct names, of which one may be empty,
 /// and with six octets of two hexadecimal digits of either case and `:` between them; `--watch-lane FILE` and `--frame-lane FILE` once each,
-/// of distinct names, or neither. Each option is one word with `=`, or two. `None` where the words aren't of the table. It takes no memory.
+/// of distinct names, or neither; the word `--responder` at most once, ahead of an option or behind the last, and only beside these two. Each
+/// option is one word with `=`, or two. `None` where the words aren't of the table. It takes no memory.
 pub fn speaker_words(words: &[String]) -> Option<SpeakerWords<'_>>
     ensures value { option_map said_seen result ≡ said_in (texts_of words.now) }
 
@@ -87,7 +94,34 @@ fn read_words(words: &[String]) -> Option<SpeakerWords<'_>>
         next_hop_v6: None,
         lanes: GivenLanes::new(),
     };
-    finished(taken_options(words, nothing)?)
+    let (ahead, behind, responder) = split_at_flag(words);
+    let given = taken_options(ahead, nothing)?;
+    finished(taken_options(behind, given)?, responder)
+}
+
+/// The words ahead of the first flag and those behind it, and whether it is there; all are ahead where it isn't.
+fn split_at_flag(words: &[String]) -> (&[String], &[String], bool)
+    ensures ahead { texts_of result.0.now ≡ before_first is_flag (texts_of words.now) }
+    ensures behind { texts_of result.1.now ≡ after_first is_flag (texts_of words.now) }
+    ensures is_there { result.2 ≡ list_any is_flag (texts_of words.now) }
+{
+    match flag_place(words) {
+        Some(at) => (&words[..at], &words[at + 1..], true),
+        None => (words, &[], false),
+    }
+}
+
+/// Where the first flag stands.
+fn flag_place(words: &[String]) -> Option<usize>
+    ensures { result ≡ position (λ word. is_flag (string_bytes word)) words.now }
+{
+    words.iter().position(|word| is_flag(word))
+}
+
+fn is_flag(word: &String) -> bool
+    ensures { result ≡ is_flag (string_bytes word.now) }
+{
+    word.as_str() == RESPONDER_FLAG
 }
 
 impl<'a> TakesOptions<'a> for SaidSoFar<'a> {
@@ -226,18 +260,31 @@ fn hops_stand(next_hop: Option<Address>, next_hop_v6: Option<Address>) -> bool
     next_hop.is_some() || next_hop_v6.is_none()
 }
 
-fn finished(given: SaidSoFar<'_>) -> Option<SpeakerWords<'_>>
-    ensures { option_map said_seen result ≡ finished (given_seen given.entry) }
+/// Whether a responder stands beside two lanes, if it is asked for.
+fn responder_stands(responder: bool, lanes: Option<LaneFiles<'_>>) -> bool
+    ensures { result ≡ responder_stands responder (option_map lane_seen lanes.entry) }
+{
+    !responder || lanes.is_some()
+}
+
+fn finished(given: SaidSoFar<'_>, responder: bool) -> Option<SpeakerWords<'_>>
+    ensures { option_map said_seen result ≡ finished responder (given_seen given.entry) }
 {
     if !hops_stand(given.next_hop, given.next_hop_v6) {
         return None;
     }
+    let node = given.node?;
+    let lanes = lane_files(given.lanes.first, given.lanes.second)?;
+    if !responder_stands(responder, lanes) {
+        return None;
+    }
     Some(SpeakerWords {
-        node: given.node?,
+        node,
         class: given.class,
         interfaces: given.interfaces,
         next_hop: given.next_hop,
         next_hop_v6: given.next_hop_v6,
-        lanes: lane_files(given.lanes.first, given.lanes.second)?,
+        lanes,
+        responder,
     })
 }

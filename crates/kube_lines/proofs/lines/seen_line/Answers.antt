@@ -1,0 +1,10 @@
+use Rattle.std.proofs.Common.{ap}
+use Rattle.serde_json.specs.Written.{has_float}
+use Rattle.kube_lines.proofs.LineTexts.{line_is, seen_is}
+use Rattle.kube_lines.proofs.lines.seen_line.Goals as goal
+
+pub written-requires : goal.written-requires
+written-requires c = ap has_float c.in_ok-value.ensures
+
+pub returns : goal.returns
+returns c = line_is c.written.result _ _ _ c.written.ensures c.in_ok-value.ensures (seen_is c.args.events)

@@ -18,15 +18,15 @@ use Rattle.line_run.specs.Text.{Halts}
 use Rattle.line_run.proofs.Refusals.{broken}
 use Rattle.mlb_admit.specs.declared.work.Work.{Work}
 use Rattle.mlb_admit.specs.declared.work.Work.TheVariants.{Judging, Explaining}
-use Rattle.mlb_admit.specs.Stream.{Entry, Answered, readable_review, answer_of, told_of, entry_text, event_step, step_where, line_step, admit_rules}
+use Rattle.mlb_admit.specs.Stream.{TranscriptEntry, Answered, readable_review, answer_of, told_of, entry_text, event_step, step_where, line_step, admit_rules}
 
 -- the text of one entry
-one_text : (entry : Entry) → text_of admit_rules (entry ∷ []) ≡ entry_text entry
+one_text : (entry : TranscriptEntry) → text_of admit_rules (entry ∷ []) ≡ entry_text entry
 one_text entry = append-nil (entry_text entry)
 
 -- ---- one entry is told
 
-module _ (work next : Work) (line : Line) (entry : Entry) (steps : line_step work line ≡ Goes next (entry ∷ [])) where
+module _ (work next : Work) (line : Line) (entry : TranscriptEntry) (steps : line_step work line ≡ Goes next (entry ∷ [])) where
   takes_one : (before after : Option (List ℕ)) → Grows before after (entry_text entry) → Takes admit_rules work next line before after
   takes_one before after wrote = record { entries = entry ∷ []; steps = steps; wrote = rw (one_text entry) wrote }
 
@@ -60,7 +60,8 @@ pub takes_event : (s t : ObjectSet) (line : Line) (event : Event) (before : Opti
     → event_of_line line.bytes ≡ Ok event → t ≡ objects_after (Watched event) s → Takes admit_rules (Judging s) (Judging t) line before before
 takes_event s t line event before none reads leads = record {
   entries = [];
-  steps = means_event s line event none reads ∙ ap (λ (next : ObjectSet). let step : Transition Work Entry = Goes (Judging next) [] in step) (sym leads);
+  steps = means_event s line event none reads
+      ∙ ap (λ (next : ObjectSet). let step : Transition Work TranscriptEntry = Goes (Judging next) [] in step) (sym leads);
   wrote = Grows-none before;
 }
 

@@ -9,14 +9,15 @@ use Rattle.line_run.specs.Clauses as run
 use Rattle.line_run.specs.Run.{Run, run_from, status_at}
 use Rattle.mlb_admit.specs.declared.work.Work.{Work}
 use Rattle.mlb_admit.specs.declared.work.Work.TheVariants.{Explaining}
-use Rattle.mlb_admit.specs.Stream.{Entry, told_of, admit_rules, IsCause}
+use Rattle.mlb_admit.specs.Stream.{TranscriptEntry, told_of, admit_rules, IsCause}
 use Rattle.mlb_admit.specs.Told.{LinesAreTold, StopsAtNone}
 use Rattle.mlb_admit.specs.Words.{begun_by}
 
 pub lines_are_told : LinesAreTold
 lines_are_told [] ending = refl
 lines_are_told (line ∷ lines) ending =
-    ap (λ (r : Run Entry). let first : Run Entry = record { entries = told_of line ∷ r.entries; stop = r.stop } in first) (lines_are_told lines ending)
+    ap (λ (r : Run TranscriptEntry). let first : Run TranscriptEntry = record { entries = told_of line ∷ r.entries; stop = r.stop } in first)
+    (lines_are_told lines ending)
 
 -- no ending of lines is a bad one
 ends_well : (ending : Ending) (lane : LaneName) (number : ℕ) (bytes : List ℕ) → status_at admit_rules ending Explaining ≡ BadLine lane number bytes → ⊥
@@ -26,7 +27,8 @@ ends_well LongInput lane number bytes e = cc
 
 stops_well : (lines : List Line) (ending : Ending) (lane : LaneName) (number : ℕ) (bytes : List ℕ)
     → (run_from admit_rules lines ending Explaining).stop ≡ BadLine lane number bytes → ⊥
-stops_well lines ending lane number bytes e = ends_well ending lane number bytes (sym (ap (λ (r : Run Entry). r.stop) (lines_are_told lines ending)) ∙ e)
+stops_well lines ending lane number bytes e = ends_well ending lane number bytes
+    (sym (ap (λ (r : Run TranscriptEntry). r.stop) (lines_are_told lines ending)) ∙ e)
 
 -- so a run that tells of lines stops at none
 pub stops_at_none : (status : Status) (left before after : Option (List ℕ)) → run.AtBadLine admit_rules IsCause Explaining status left before after

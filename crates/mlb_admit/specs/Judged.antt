@@ -14,7 +14,7 @@ use Rattle.mlb_edge.specs.declared.lines.Line.{Line}
 use Rattle.mlb_edge.specs.InputLines.{Ending}
 use Rattle.line_run.specs.Run.{run_from}
 use Rattle.mlb_admit.specs.declared.work.Work.TheVariants.{Judging}
-use Rattle.mlb_admit.specs.Stream.{Answer, Entry, Answered, readable_review, admit_rules}
+use Rattle.mlb_admit.specs.Stream.{Answer, TranscriptEntry, Answered, readable_review, admit_rules}
 
 -- The answer names the review. It allows the change just where it may be made to the objects as they were last shown, and refuses it just
 -- by the message that names why not.
@@ -26,19 +26,19 @@ pub record IsRightAnswer (review : Review) (answer : Answer) (earlier : List Obs
   pub refused : (message : List ℕ) → (answer.verdict ≡ Refused message) ↔ Names held review.change message
 
 -- an event is shown and has no answer; where the line is none the run stops, and nothing more is answered
-abbrev pub IsRightAfter : Result Event EventFault → List Observation → List Entry → (List Observation → List Entry → Type 0) → Type 0
+abbrev pub IsRightAfter : Result Event EventFault → List Observation → List TranscriptEntry → (List Observation → List TranscriptEntry → Type 0) → Type 0
 IsRightAfter (Ok event) earlier entries Rest = Rest (Watched event ∷ earlier) entries
 IsRightAfter (Err fault) earlier entries Rest = entries ≡ []
 
 -- a review has the first of the answers, and shows nothing
-abbrev pub IsRightAt : Option Review → List ℕ → List Observation → List Entry → (List Observation → List Entry → Type 0) → Type 0
+abbrev pub IsRightAt : Option Review → List ℕ → List Observation → List TranscriptEntry → (List Observation → List TranscriptEntry → Type 0) → Type 0
 IsRightAt (Some review) bytes earlier entries Rest =
-    (answer : Answer) × (rest : List Entry) × (entries ≡ Answered answer ∷ rest) × IsRightAnswer review answer earlier × Rest earlier rest
+    (answer : Answer) × (rest : List TranscriptEntry) × (entries ≡ Answered answer ∷ rest) × IsRightAnswer review answer earlier × Rest earlier rest
 IsRightAt None bytes earlier entries Rest = IsRightAfter (event_of_line bytes) earlier entries Rest
 
 -- Behind what was shown earlier, the newest first, these are the answers to the lines: one to each review, in their order, up to a line that is
 -- neither a review nor an event; and each is right by what the events before it showed.
-abbrev pub AreRight : List Line → List Observation → List Entry → Type 0
+abbrev pub AreRight : List Line → List Observation → List TranscriptEntry → Type 0
 AreRight [] earlier entries = entries ≡ []
 AreRight (line ∷ lines) earlier entries = IsRightAt (readable_review line.bytes) line.bytes earlier entries (λ shown rest. AreRight lines shown rest)
 

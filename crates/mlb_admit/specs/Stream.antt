@@ -33,11 +33,11 @@ abbrev pub answer_of : ObjectSet → Review → Answer
 answer_of objects review = record { uid = review.uid; verdict = verdict_of objects review.change }
 
 -- what is told of a run
-pub data Entry : Type 0 where
-  Answered : (answer : Answer) → Entry  -- a review has this answer
-  Told : (number : ℕ) → (explained : Explained) → Entry  -- the line of this number is read as this
+pub data TranscriptEntry : Type 0 where
+  Answered : (answer : Answer) → TranscriptEntry  -- a review has this answer
+  Told : (number : ℕ) → (explained : Explained) → TranscriptEntry  -- the line of this number is read as this
 
-abbrev pub entry_text : Entry → List ℕ
+abbrev pub entry_text : TranscriptEntry → List ℕ
 entry_text (Answered answer) = line_of (response_text answer.uid answer.verdict)
 entry_text (Told number explained) = line_of (explained_text number explained)
 
@@ -52,27 +52,27 @@ readable_review bytes = review_where (review_of_line bytes)
 -- ---- a run that answers reviews
 
 -- it is no readable event, or the objects are held that it shows
-abbrev pub event_step : ObjectSet → Line → Result Event EventFault → Transition Work Entry
+abbrev pub event_step : ObjectSet → Line → Result Event EventFault → Transition Work TranscriptEntry
 event_step objects line (Err fault) = Stops (BadLine lanes.Input line.number line.bytes)
 event_step objects line (Ok event) = Goes (Judging (objects_after (Watched event) objects)) []
 
 -- A review changes no objects that are held.
-abbrev pub step_where : Option Review → ObjectSet → Line → Transition Work Entry
+abbrev pub step_where : Option Review → ObjectSet → Line → Transition Work TranscriptEntry
 step_where (Some review) objects line = Goes (Judging objects) (Answered (answer_of objects review) ∷ [])
 step_where None objects line = event_step objects line (event_of_line line.bytes)
 
 -- ---- any run
 
 -- what is told of a line
-abbrev pub told_of : Line → Entry
+abbrev pub told_of : Line → TranscriptEntry
 told_of line = Told line.number (explained_of line.bytes)
 
-abbrev pub line_step : Work → Line → Transition Work Entry
+abbrev pub line_step : Work → Line → Transition Work TranscriptEntry
 line_step (Judging objects) line = step_where (readable_review line.bytes) objects line
 line_step Explaining line = Goes Explaining (told_of line ∷ [])
 
 -- the admission tool, as a machine over lines
-abbrev pub admit_rules : Rules Work Entry
+abbrev pub admit_rules : Rules Work TranscriptEntry
 admit_rules = record { step = line_step; end = λ work. Done; text = entry_text }
 
 -- the bytes are neither a readable review nor a readable event

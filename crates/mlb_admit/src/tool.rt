@@ -10,12 +10,12 @@ use std::alloc::Global;
 
 impl Machine for Work {
     ghost use Rattle.mlb_admit.specs.declared.work.Work.{Work as Doing};
-    ghost use Rattle.mlb_admit.specs.Stream.{Entry as Told, admit_rules, IsCause};
+    ghost use Rattle.mlb_admit.specs.Stream.{TranscriptEntry as Told, admit_rules, IsCause};
     ghost use Rattle.mlb_admit.specs.Causes.{line_causes, end_causes};
 
     ghost State = { Doing };
 
-    ghost Entry = { Told };
+    ghost TranscriptEntry = { Told };
 
     ghost state = { λ work. work };
 

@@ -8,14 +8,14 @@ use Rattle.kube_model.specs.declared.status.Status.TheVariants as statuses
 use Rattle.kube_model.specs.declared.status.LaneName.TheVariants as names
 use Rattle.kube_model.specs.declared.status.What.TheVariants as whats
 use Rattle.lane_drive.specs.Clauses.{AtEnd, AtOpenFault, FailsToOpen, OnlyWrites, unread}
-use Rattle.lane_drive.specs.Files.{FilesView}
+use Rattle.lane_drive.specs.Files.{FilesState}
 use Rattle.lane_drive.specs.LaneRules.{HaltsItem, reply_rules}
 use Rattle.lane_drive.specs.Stops.{StopsReading, EndsSo, status_of_lanes}
 use Rattle.lane_mail.specs.declared.lane.Lane.{Lane}
 use Rattle.lane_mail.specs.declared.lane.Lane.TheVariants.{First, Second}
 use Rattle.lane_run.specs.LaneInputs.{lane_input, no_items}
 use Rattle.lane_run.specs.Watched.{Begins}
-use Rattle.lane_run.specs.Views.{SourceView, Outside, outside}
+use Rattle.lane_run.specs.Outside.{SourceState, Outside, outside}
 use Rattle.lane_run.specs.declared.lane_end.LaneEnd.{LaneEnd}
 use Rattle.lane_run.specs.declared.lane_end.LaneEnd.TheVariants as lane_ends
 use Rattle.line_run.specs.declared.halt.Halt.{Halt}
@@ -95,7 +95,7 @@ lanes_fair lane_ends.InputLimit end' = refl
 lanes_fair (lane_ends.BadLine number bytes) end' = inl refl
 lanes_fair lane_ends.NoMemory end' = tt
 
-module _ (start : State) (first first' second second' : SourceView) (before after : Outside) (status : Status) where
+module _ (start : State) (first first' second second' : SourceState) (before after : Outside) (status : Status) where
   -- once both files are open
   ends_fair : EndsSo belongs_to lane_rules start first first' second second' before after status → CanEndLanes status
   ends_fair (inl at_item) = item_fair at_item.stops
@@ -110,7 +110,7 @@ module _ (start : State) (first first' second second' : SourceView) (before afte
   ends_fair (inr (inr (inr (inl ended)))) = fair status (status_of_lanes name_of ended.end ended.end') ended.is (lanes_fair ended.end ended.end')
   ends_fair (inr (inr (inr (inr (is, wrote))))) = fair status statuses.NoMemory is tt
 
-module _ (start : State) (file file' : List ℕ) (files files' : FilesView) (first second replies replies' : SourceView) (before after : Option (List ℕ))
+module _ (start : State) (file file' : List ℕ) (files files' : FilesState) (first second replies replies' : SourceState) (before after : Option (List ℕ))
     (k n : ℕ) where
   opened_fair : (status : Status) → ((lane : LaneName) → status ≢ statuses.OpenFault lane)
       → AtEnd belongs_to lane_rules start file file' files files' first second replies replies' before after k n status
@@ -158,7 +158,7 @@ writes_nothing start first second replies written = record {
 }
 
 -- so a run ends that there is no memory for
-pub ends_unbegun : (start : State) (file file' : List ℕ) (files files' : FilesView) (first second replies : SourceView) (written : Option (List ℕ)) (n : ℕ)
+pub ends_unbegun : (start : State) (file file' : List ℕ) (files files' : FilesState) (first second replies : SourceState) (written : Option (List ℕ)) (n : ℕ)
     → AtEnd belongs_to lane_rules start file file' files files' first second replies replies written written n n statuses.NoMemory
 ends_unbegun start file file' files files' first second replies written n opened = record {
   first' = first;

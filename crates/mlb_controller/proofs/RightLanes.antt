@@ -3,13 +3,13 @@ use Rattle.std.proofs.Common.{◌≡◌, ℕ, List, [], ◌∷◌, ◌++◌, Opt
 use Rattle.std.proofs.lemmas.List.{append-nil}
 use Rattle.std.specs.List.{AllByRecursion}
 use Rattle.core_drive.proofs.Goes.{begins_fresh, expiries_go_on, drives_are_sound}
-use Rattle.core_drive.specs.Drive.{Entry, expiring}
+use Rattle.core_drive.specs.Drive.{TranscriptEntry, expiring}
 use Rattle.core_drive.specs.Sound.{IsSound, LeadsTo}
 use Rattle.core_rules.specs.Core.{State, fresh}
 use Rattle.kube_events.specs.Event.{event_of_line}
 use Rattle.kube_model.specs.declared.event.Event.{Event}
 use Rattle.kube_model.specs.declared.event.Event.TheVariants.{Changed, Deleted, ListEnd, Expired, Members, Frame, Ignored}
-use Rattle.kube_model.specs.declared.event.Group.TheVariants as groups
+use Rattle.kube_model.specs.declared.event.ListGroup.TheVariants as groups
 use Rattle.lane_drive.proofs.ReadItems.{items_are_read}
 use Rattle.lane_drive.specs.Clauses.{OnlyWrites, TakesWhole}
 use Rattle.lane_drive.specs.Drive.{Told, AreHeard, AreTaken, IsTaken, entries_of}
@@ -25,7 +25,7 @@ use Rattle.mlb_controller.specs.LaneClauses.{TellsSound, LanesAreWatches, Leaves
 use Rattle.mlb_controller.specs.Lanes.{belongs_to, lane_arrival, lane_group, lane_rules}
 use Rattle.mlb_controller.specs.Sound.{IsSafeThroughout}
 use Rattle.mlb_controller.proofs.Rightful.{GoesOn, by_driven, arrival_goes, where_goes, safe_led, led_quiet}
-use Rattle.mlb_controller.proofs.Turning.{none_from}
+use Rattle.mlb_base.proofs.Bools.{none_from}
 use Rattle.mlb_edge.specs.declared.lines.Line.{Line}
 
 module _ (class : Option (List ℕ)) where
@@ -43,11 +43,11 @@ module _ (class : Option (List ℕ)) where
       arrival_goes class s bytes (Frame interface frame) none reads next entries told e leads
   item_goes Ignored s lane bytes none reads next entries told e leads = arrival_goes class s bytes Ignored none reads next entries told e leads
 
-  joined : (a b c : List Entry) (s : State) → LeadsTo class ((a ++ b) ++ c) s → LeadsTo class (a ++ (b ++ c)) s
-  joined a b c s leads = subst (λ (told : List Entry). LeadsTo class told s) (append_assoc a b c) leads
+  joined : (a b c : List TranscriptEntry) (s : State) → LeadsTo class ((a ++ b) ++ c) s → LeadsTo class (a ++ (b ++ c)) s
+  joined a b c s leads = subst (λ (told : List TranscriptEntry). LeadsTo class told s) (append_assoc a b c) leads
 
   -- replies that are heard
-  heard_leads : (lines : List Line) (s t : State) (entries told : List Entry) → AreHeard lane_rules lines s t entries → LeadsTo class told s
+  heard_leads : (lines : List Line) (s t : State) (entries told : List TranscriptEntry) → AreHeard lane_rules lines s t entries → LeadsTo class told s
       → LeadsTo class (told ++ entries) t
   heard_leads [] s t entries told (same, none) leads = rw (same, none, append-nil told) leads
   heard_leads (line ∷ lines) s t entries told (next, first, rest, waits, hears, more, is) leads =
@@ -55,7 +55,7 @@ module _ (class : Option (List ℕ)) where
       rw is (joined told first rest t (heard_leads lines next t rest (told ++ first) more one))
 
   -- an item that is taken, with the replies behind it
-  one_leads : (item : Item) (replies : List Line) (s t : State) (entries told : List Entry) → IsRead belongs_to item
+  one_leads : (item : Item) (replies : List Line) (s t : State) (entries told : List TranscriptEntry) → IsRead belongs_to item
       → IsTaken lane_rules item replies s t entries
       → LeadsTo class told s → LeadsTo class (told ++ entries) t
   one_leads item replies s t entries told read taken leads =
@@ -63,7 +63,7 @@ module _ (class : Option (List ℕ)) where
       rw taken.entries_are (joined told taken.first taken.rest t (heard_leads replies taken.next t taken.rest (told ++ taken.first) taken.heard one))
 
   -- all that are taken
-  taken_leads : (items : List Item) (replies : List Line) (s t : State) (told : List (Told Entry)) (earlier : List Entry)
+  taken_leads : (items : List Item) (replies : List Line) (s t : State) (told : List (Told TranscriptEntry)) (earlier : List TranscriptEntry)
       → AllByRecursion (IsRead belongs_to) items
       → AreTaken lane_rules items replies s t told → LeadsTo class earlier s → LeadsTo class (earlier ++ entries_of told) t
   taken_leads [] replies s t told earlier read (none, same, nothing) leads = rw (same, nothing, append-nil earlier) leads
@@ -72,14 +72,14 @@ module _ (class : Option (List ℕ)) where
       rw is (joined earlier entries (entries_of more) t (taken_leads items behind next t more (earlier ++ entries) read.1 rest one))
 
   -- from the start, where the items are beginnings of both lanes
-  lanes_lead : (first second : Option (List ℕ)) (items : List Item) (replies : List Line) (t : State) (told : List (Told Entry))
+  lanes_lead : (first second : Option (List ℕ)) (items : List Item) (replies : List Line) (t : State) (told : List (Told TranscriptEntry))
       → AreBeginnings belongs_to first second items
       → AreTaken lane_rules items replies (fresh class) t told → LeadsTo class (entries_of told) t
   lanes_lead first second items replies t told begin taken =
       taken_leads items replies (fresh class) t told [] (items_are_read belongs_to first second items begin) taken (begins_fresh class)
 
   -- so what is told of them is sound and safe
-  pub any_sound : (first second : Option (List ℕ)) (items : List Item) (replies : List Line) (t : State) (told : List (Told Entry))
+  pub any_sound : (first second : Option (List ℕ)) (items : List Item) (replies : List Line) (t : State) (told : List (Told TranscriptEntry))
       → AreBeginnings belongs_to first second items
       → AreTaken lane_rules items replies (fresh class) t told → IsSound class (entries_of told) × IsSafeThroughout class (entries_of told)
   any_sound first second items replies t told begin taken =

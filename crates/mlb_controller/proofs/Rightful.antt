@@ -10,9 +10,9 @@ use Rattle.kube_events.specs.Event.{event_of_line}
 use Rattle.kube_lines.specs.ReplyLines.{reply_of}
 use Rattle.core_rules.specs.Core.{State, fresh}
 use Rattle.core_rules.specs.Take.{limits}
-use Rattle.core_rules.specs.Run.{Entry as CoreEntry, IsRun}
+use Rattle.core_rules.specs.Run.{TranscriptEntry as CoreEntry, IsRun}
 use Rattle.core_laws.specs.Shared.{AllShowTerms}
-use Rattle.core_drive.specs.Drive.{Driven, Entry, taking, hearing, core_entry, behind}
+use Rattle.core_drive.specs.Drive.{Driven, TranscriptEntry, taking, hearing, core_entry, behind}
 use Rattle.core_drive.specs.Sound.{IsSound, LeadsTo}
 use Rattle.core_drive.proofs.Goes.{begins_fresh, events_go_on, replies_go_on, drives_are_sound, drives_are_quiet}
 use Rattle.core_drive.proofs.Settled.{drives_are_settled}
@@ -31,10 +31,10 @@ use Rattle.mlb_controller.specs.Sound.{WritesSound, RunsSound, IsSafeThroughout,
 
 module _ (class : Option (List ℕ)) where
   -- what goes on from a core goes on from what was told of it
-  abbrev pub GoesOn : State → Transition State Entry → Type 0
-  GoesOn s step = (next : State) (entries told : List Entry) → step ≡ Goes next entries → LeadsTo class told s → LeadsTo class (told ++ entries) next
+  abbrev pub GoesOn : State → Transition State TranscriptEntry → Type 0
+  GoesOn s step = (next : State) (entries told : List TranscriptEntry) → step ≡ Goes next entries → LeadsTo class told s → LeadsTo class (told ++ entries) next
 
-  pub by_driven : (d : Driven) (next : State) (entries told : List Entry) → goes_by d ≡ Goes next entries → LeadsTo class (told ++ d.entries) d.core
+  pub by_driven : (d : Driven) (next : State) (entries told : List TranscriptEntry) → goes_by d ≡ Goes next entries → LeadsTo class (told ++ d.entries) d.core
       → LeadsTo class (told ++ entries) next
   by_driven d next entries told e leads =
       let core : d.core ≡ next = cc in
@@ -76,25 +76,27 @@ module _ (class : Option (List ℕ)) where
       drives_are_sound class (run_from controller_rules lines ending (fresh class)).entries led.state led.kept
 
   -- a beginning of a run is one
-  begun_run : (later : List Entry) (earlier : List CoreEntry) → IsRun class (behind later earlier) → IsRun class earlier
+  begun_run : (later : List TranscriptEntry) (earlier : List CoreEntry) → IsRun class (behind later earlier) → IsRun class earlier
   begun_run [] earlier is = is
   begun_run (entry ∷ later) earlier is = (begun_run later (core_entry entry ∷ earlier) is).1
 
-  beginning_run : (first later : List Entry) (earlier : List CoreEntry) → IsRun class (behind (first ++ later) earlier) → IsRun class (behind first earlier)
+  beginning_run : (first later : List TranscriptEntry) (earlier : List CoreEntry) → IsRun class (behind (first ++ later) earlier)
+      → IsRun class (behind first earlier)
   beginning_run [] later earlier is = begun_run later earlier is
   beginning_run (entry ∷ first) later earlier is = beginning_run first later (core_entry entry ∷ earlier) is
 
   -- and what it was shown has terms
-  begun_terms : (later : List Entry) (earlier : List CoreEntry) → AllShowTerms (behind later earlier) → AllShowTerms earlier
+  begun_terms : (later : List TranscriptEntry) (earlier : List CoreEntry) → AllShowTerms (behind later earlier) → AllShowTerms earlier
   begun_terms [] earlier all = all
   begun_terms (entry ∷ later) earlier all = (begun_terms later (core_entry entry ∷ earlier) all).1
 
-  beginning_terms : (first later : List Entry) (earlier : List CoreEntry) → AllShowTerms (behind (first ++ later) earlier) → AllShowTerms (behind first earlier)
+  beginning_terms : (first later : List TranscriptEntry) (earlier : List CoreEntry) → AllShowTerms (behind (first ++ later) earlier)
+      → AllShowTerms (behind first earlier)
   beginning_terms [] later earlier all = begun_terms later earlier all
   beginning_terms (entry ∷ first) later earlier all = beginning_terms first later (core_entry entry ∷ earlier) all
 
   -- what leads to a core is safe in every world
-  pub safe_led : (told : List Entry) (s : State) → LeadsTo class told s → IsSafeThroughout class told
+  pub safe_led : (told : List TranscriptEntry) (s : State) → LeadsTo class told s → IsSafeThroughout class told
   safe_led told s leads first later e =
       runs_are_safe_in_worlds class (behind first []) (beginning_run first later [] (rw e at leads.is)) (beginning_terms first later [] (rw e at leads.typed))
 
@@ -117,7 +119,7 @@ module _ (class : Option (List ℕ)) where
   done_in s (inr stopped) = absurd ((line_causes s stopped.0 Done stopped.1).0)
 
   -- and nothing is left waiting
-  pub led_quiet : (told : List Entry) (s : State) → LeadsTo class told s → s.out ≡ None → LeavesNothing class told
+  pub led_quiet : (told : List TranscriptEntry) (s : State) → LeadsTo class told s → s.out ≡ None → LeavesNothing class told
   led_quiet told s leads none = record { quiet = drives_are_quiet class told s leads none; settled = drives_are_settled class told s leads none }
 
   quiet_in : (lines : List Line) (ending : Ending) → (run_from controller_rules lines ending (fresh class)).stop ≡ Done

@@ -2,7 +2,7 @@
 use Rattle.std.proofs.Common.{◌≡◌, ℕ, List, Option, Some, None, Ok, inr, ◌++◌, refl, sym, ap, ◌∙◌}
 use Rattle.std.specs.Prelude.{IsSome}
 use Rattle.kube_model.specs.declared.event.Event.{Event}
-use Rattle.kube_model.specs.declared.event.Group.{Group}
+use Rattle.kube_model.specs.declared.event.ListGroup.{ListGroup}
 use Rattle.kube_model.specs.declared.put.Put.{Put}
 use Rattle.kube_model.specs.declared.reply.PutReply.{PutReply}
 use Rattle.kube_events.specs.Event.{event_of_line}
@@ -13,7 +13,7 @@ use Rattle.object_cache.specs.declared.change.TakeNote.TheVariants.{Quiet}
 use Rattle.core_rules.specs.Core.{State}
 use Rattle.core_rules.specs.Replied.{core_reply}
 use Rattle.core_rules.specs.Take.{core_expired}
-use Rattle.core_drive.specs.Drive.{Entry, ListExpired, with_turns, hearing, expiring, turns_from}
+use Rattle.core_drive.specs.Drive.{TranscriptEntry, ListExpired, with_turns, hearing, expiring, turns_from}
 use Rattle.mlb_edge.specs.declared.lines.Line.{Line}
 use Rattle.mlb_edge.specs.Written.{Grows}
 use Rattle.lane_drive.specs.LaneRules.{BreaksItem, RefusesItem}
@@ -26,7 +26,8 @@ use Rattle.line_run.specs.Steps.{Takes, Breaks, Refuses}
 use Rattle.line_run.specs.Text.{Halts, line_of}
 use Rattle.line_run.proofs.Refusals.{broken}
 use Rattle.mlb_controller.specs.Lanes.{name_of, item_step, lane_rules}
-use Rattle.mlb_controller.specs.Output.{output_of, note_text}
+use Rattle.mlb_controller.specs.Output.{output_of}
+use Rattle.program_lines.specs.Lines.{note_text}
 use Rattle.mlb_controller.specs.Stream.{arrival, Enters, event_step, goes_by, line_step, step_where, controller_rules}
 
 meant : (o : Option Put) (s : State) (line : Line) (reply : PutReply) → IsSome o → ((put : Put) → o ≡ Some put → reply_of put line.bytes ≡ Some reply)
@@ -42,7 +43,7 @@ module _ (s t : State) (line : Line) (reply : PutReply) (some : IsSome s.out) (g
   hears u before after core wrote = record {
     entries = (hearing s reply).entries;
     steps = meant s.out s line reply some gives
-        ∙ ap (λ (next : State). let step : Transition State Entry = Goes next (hearing s reply).entries in step) (sym (rw leads at core));
+        ∙ ap (λ (next : State). let step : Transition State TranscriptEntry = Goes next (hearing s reply).entries in step) (sym (rw leads at core));
     wrote = rw leads at wrote;
   }
 
@@ -56,7 +57,7 @@ module _ (s t : State) (line : Line) (reply : PutReply) (some : IsSome s.out) (g
   }
 
 -- the watch of one list expires
-pub enters_lapse : (s t : State) (group : Group) → t ≡ core_expired s group → Enters (goes_by (expiring s group)) Quiet t
+pub enters_lapse : (s t : State) (group : ListGroup) → t ≡ core_expired s group → Enters (goes_by (expiring s group)) Quiet t
 enters_lapse s t group leads =
     record { entry = ListExpired group; steps = ap (λ (u : State). goes_by (with_turns (ListExpired group) u)) (sym leads); text = refl }
 
@@ -71,7 +72,7 @@ item_broken WriteFault s item before after k n b = b
 item_broken NoMemory s item before after k n b = inr b
 
 -- what arrives is entered
-module _ (step : Transition State Entry) (note : TakeNote) (t : State) (enters : Enters step note t) where
+module _ (step : Transition State TranscriptEntry) (note : TakeNote) (t : State) (enters : Enters step note t) where
   -- what is told of it
   abbrev told : List ℕ
   told = note_text note ++ output_of (turns_from t).entries
@@ -80,7 +81,8 @@ module _ (step : Transition State Entry) (note : TakeNote) (t : State) (enters :
   told_is = ap (λ (text : List ℕ). text ++ output_of (turns_from t).entries) (sym enters.text)
 
   leads_to : (u : State) → u ≡ (turns_from t).core → step ≡ Goes u (with_turns enters.entry t).entries
-  leads_to u core = enters.steps ∙ ap (λ (next : State). let step : Transition State Entry = Goes next (with_turns enters.entry t).entries in step) (sym core)
+  leads_to u core = enters.steps ∙ ap (λ (next : State). let step : Transition State TranscriptEntry = Goes next (with_turns enters.entry t).entries in step)
+      (sym core)
 
   pub takes : (s u : State) (line : Line) (before after : Option (List ℕ)) → line_step s line ≡ step → u ≡ (turns_from t).core → Grows before after told
       → Takes controller_rules s u line before after

@@ -62,3 +62,11 @@ LeavesInput words input input' = (seed steps : ℕ) → AskTrial (texts_of words
 -- at no moment of it are two services recorded with one address, unless they share it
 abbrev pub TrialIsSafe : {Z : Type 0} → List (String Z) → Type 0
 TrialIsSafe words = (seed steps : ℕ) → AskTrial (texts_of words) seed steps → IsSafeTrial seed
+
+-- So is each run that the words begin, whatever is written of it: it is of the class that they name, and the run of the bytes, where the source
+-- tells them, is sound, and safe in every world that explains it; so is each trial.
+pub record RunsRightly {Z : Type 0} (words : List (String Z)) (left : Option (List ℕ)) : Type 0 where
+  pub named : HandlesNamed words
+  pub sound : RunsSound words left
+  pub safe : RunsSafe words left
+  pub trial_safe : TrialIsSafe words

@@ -2,11 +2,11 @@
 use Rattle.std.specs.Prelude.{◌≡◌, ◌≢◌, ◌⊎◌, ◌↔◌, ℕ, Bool, true, ⊤, List, String, Option, Some}
 use Rattle.command_options.specs.Lanes.{LaneNames}
 use Rattle.command_options.specs.Options.{texts_of}
-use Rattle.core_drive.specs.Drive.{Entry}
+use Rattle.core_drive.specs.Drive.{TranscriptEntry}
 use Rattle.core_drive.specs.Sound.{IsSound}
 use Rattle.core_rules.specs.Core.{State, fresh}
-use Rattle.kube_model.specs.declared.event.Group.{Group}
-use Rattle.kube_model.specs.declared.event.Group.TheVariants as groups
+use Rattle.kube_model.specs.declared.event.ListGroup.{ListGroup}
+use Rattle.kube_model.specs.declared.event.ListGroup.TheVariants as groups
 use Rattle.kube_model.specs.declared.status.LaneName.{LaneName}
 use Rattle.kube_model.specs.declared.status.LaneName.TheVariants as names
 use Rattle.kube_model.specs.declared.status.Status.{Status}
@@ -15,12 +15,12 @@ use Rattle.lane_drive.specs.Asking.{AnswersAll, AsksMore, HasStopped}
 use Rattle.lane_drive.specs.Clauses as lanes
 use Rattle.lane_drive.specs.Complete as can_be_done
 use Rattle.lane_drive.specs.Drive.{Told, AreTaken, entries_of}
-use Rattle.lane_drive.specs.Files.{FilesView}
+use Rattle.lane_drive.specs.Files.{FilesState}
 use Rattle.lane_drive.specs.Stops.{AreBeginnings}
 use Rattle.lane_mail.specs.declared.item.Item.{Item}
 use Rattle.lane_mail.specs.declared.lane.Lane.{Lane}
 use Rattle.lane_run.specs.Opening.{MayBeOpened}
-use Rattle.lane_run.specs.Views.{SourceView, lane_view, outside, source_view}
+use Rattle.lane_run.specs.Outside.{SourceState, lane_state, outside, source_state}
 use Rattle.lane_run.specs.Waiting.{MayBeAwaited}
 use Rattle.line_run.specs.Answered.{MayBeAsked}
 use Rattle.line_run.specs.Clauses.{CanPass}
@@ -40,18 +40,18 @@ abbrev pub LanesMayAsk : {S K : Type 0} → (List ℕ → Option (List ℕ)) →
     → (S → Reading → K → Type 0) → (written : K → Option (List ℕ)) (writes : K → ℕ) → S → K → Option (List ℕ) → LaneNames → Type 0
 LanesMayAsk bytes safe name left reads may_read written writes input out class files =
     MayBeAsked name may_read input (λ source reader out'. AsksMore belongs_to lane_rules (fresh class)
-    (lane_view (bytes files.first) (Some files.first) 0 (safe files.first)) (lane_view (bytes files.second) (Some files.second) 0 (safe files.second))
-    (outside lanes.unread (source_view (left input) (name input) (reads input)) (written out) (writes out))
-    (outside reader (source_view (left source) (name source) (reads source)) (written out') (writes out')))
+    (lane_state (bytes files.first) (Some files.first) 0 (safe files.first)) (lane_state (bytes files.second) (Some files.second) 0 (safe files.second))
+    (outside lanes.unread (source_state (left input) (name input) (reads input)) (written out) (writes out))
+    (outside reader (source_state (left source) (name source) (reads source)) (written out') (writes out')))
 
 -- the next item may be waited for wherever just the text of all items taken before stands written, with all replies to them heard
-abbrev pub LanesMayWait : {R K : Type 0} → (R → List Item → K → Type 0) → R → (replies : SourceView) (written : K → Option (List ℕ)) (writes : K → ℕ) → K
+abbrev pub LanesMayWait : {R K : Type 0} → (R → List Item → K → Type 0) → R → (replies : SourceState) (written : K → Option (List ℕ)) (writes : K → ℕ) → K
     → Option (List ℕ) → LaneNames → Type 0
 LanesMayWait may_wait rt replies written writes out class files =
     MayBeAwaited may_wait rt written (AnswersAll lane_rules (fresh class) (outside lanes.unread replies (written out) (writes out)))
 
 -- what the files still give may be dropped wherever the run stopped at the last item taken, or at a reply behind it
-abbrev pub LanesMayDrop : {R K : Type 0} → (R → List Item → K → Type 0) → R → (replies : SourceView) (written : K → Option (List ℕ)) (writes : K → ℕ) → K
+abbrev pub LanesMayDrop : {R K : Type 0} → (R → List Item → K → Type 0) → R → (replies : SourceState) (written : K → Option (List ℕ)) (writes : K → ℕ) → K
     → Option (List ℕ) → LaneNames → Type 0
 LanesMayDrop may_drop rt replies written writes out class files =
     MayBeAwaited may_drop rt written (HasStopped lane_rules (fresh class) (outside lanes.unread replies (written out) (writes out)))
@@ -61,11 +61,12 @@ abbrev pub LanesMayOpen : {F : Type 0} → (F → List ℕ → Type 0) → (F �
 LanesMayOpen may_open Opens unopened class files = MayBeOpened may_open Opens unopened files.first files.second
 
 -- how the run ended, once both files are open
-abbrev pub LanesEnd : (List ℕ → Option (List ℕ)) → (List ℕ → Bool) → (files files' : FilesView) (replies replies' : SourceView) (before after : Option (List ℕ))
+abbrev pub LanesEnd : (List ℕ → Option (List ℕ)) → (List ℕ → Bool)
+    → (files files' : FilesState) (replies replies' : SourceState) (before after : Option (List ℕ))
     (writes writes' : ℕ) → Status → Option (List ℕ) → LaneNames → Type 0
 LanesEnd bytes safe opened opened' replies replies' before after writes writes' status class files =
     lanes.AtEnd belongs_to lane_rules (fresh class) files.first files.second opened opened'
-    (lane_view (bytes files.first) (Some files.first) 0 (safe files.first)) (lane_view (bytes files.second) (Some files.second) 0 (safe files.second))
+    (lane_state (bytes files.first) (Some files.first) 0 (safe files.first)) (lane_state (bytes files.second) (Some files.second) 0 (safe files.second))
     replies replies' before after writes writes' status
 
 -- where it is done all that both files carry was taken, with all lines of the input as the replies, and just its text was written
@@ -87,13 +88,13 @@ LanesSound bytes replies before after class files = TellsSound (bytes files.firs
 -- whatever items are taken from the start, of each lane a beginning of what some file carries, and with whatever replies: what is told of them is
 -- sound, and safe in every world that explains it
 abbrev pub LanesAreSound : Option (List ℕ) → LaneNames → Type 0
-LanesAreSound class files = (first second : Option (List ℕ)) (items : List Item) (replies : List Line) (t : State) (told : List (Told Entry))
+LanesAreSound class files = (first second : Option (List ℕ)) (items : List Item) (replies : List Line) (t : State) (told : List (Told TranscriptEntry))
     → AreBeginnings belongs_to first second items → AreTaken lane_rules items replies (fresh class) t told
     → IsSound class (entries_of told) × IsSafeThroughout class (entries_of told)
 
 -- of the configuration and the services a lane carries just that which it is the watch of
 abbrev pub LanesAreWatches : Type 0
-LanesAreWatches = (lane : Lane) (group : Group) → group ≢ groups.Endpoint → (carries lane (Some group) ≡ true) ↔ (lane_group lane ≡ group)
+LanesAreWatches = (lane : Lane) (group : ListGroup) → group ≢ groups.Endpoint → (carries lane (Some group) ≡ true) ↔ (lane_group lane ≡ group)
 
 -- All that both files carry was taken, nothing is left waiting that could be served, and each settled service has its own.
 pub record LeavesServed (first second left left' before after class : Option (List ℕ)) : Type 0 where
@@ -107,21 +108,21 @@ LanesQuiet bytes status left left' before after class files =
 
 -- where each line of both files can be taken, in whatever order the events of both come, with a reply to each put and no line behind the last,
 -- and no count of faults rises, the run is done, but for want of memory
-abbrev pub LanesComplete : (List ℕ → Option (List ℕ)) → Status → (files files' : FilesView) (replies : Option (List ℕ)) (reads reads' writes writes' : ℕ)
+abbrev pub LanesComplete : (List ℕ → Option (List ℕ)) → Status → (files files' : FilesState) (replies : Option (List ℕ)) (reads reads' writes writes' : ℕ)
     → Option (List ℕ) → LaneNames → Type 0
 LanesComplete bytes status before after replies reads reads' writes writes' class files =
     can_be_done.IsComplete belongs_to lane_rules (fresh class) (bytes files.first) (bytes files.second) status before after replies reads reads' writes writes'
 
 -- a file isn't opened exactly where its opening failed, and then nothing was read; else no opening failed
-abbrev pub LaneOpenFault : Status → (files files' : FilesView) → Option (List ℕ) → LaneNames → Type 0
+abbrev pub LaneOpenFault : Status → (files files' : FilesState) → Option (List ℕ) → LaneNames → Type 0
 LaneOpenFault status before after class files = lanes.AtOpenFault name_of files.first files.second status before after
 
 -- a file isn't read only where the count of its failed readings rose, and the input only where its own rose
-abbrev pub LaneReadFault : Status → (files files' : FilesView) (reads reads' : ℕ) → Option (List ℕ) → LaneNames → Type 0
+abbrev pub LaneReadFault : Status → (files files' : FilesState) (reads reads' : ℕ) → Option (List ℕ) → LaneNames → Type 0
 LaneReadFault status before after reads reads' class files = lanes.AtReadFault name_of files.first files.second status before after reads reads'
 
 -- of no other file an opening or a reading failed
-abbrev pub LaneOthers : (files files' : FilesView) → Option (List ℕ) → LaneNames → Type 0
+abbrev pub LaneOthers : (files files' : FilesState) → Option (List ℕ) → LaneNames → Type 0
 LaneOthers before after class files = lanes.LeavesOthers files.first files.second before after
 
 -- the lane is the file of the configuration or that of the services

@@ -3,7 +3,7 @@ use Rattle.std.specs.Prelude.{◌≡◌, ℕ, List, [], ◌++◌, ⊤, None, Som
 use Rattle.kube_model.specs.declared.status.Status.TheVariants.{Done}
 use Rattle.core_rules.specs.Core.{fresh}
 use Rattle.core_laws.specs.QuietShown.{IsQuietAsShown}
-use Rattle.core_drive.specs.Drive.{Entry, behind}
+use Rattle.core_drive.specs.Drive.{TranscriptEntry, behind}
 use Rattle.core_drive.specs.Settled.{AllHaveTheirOwn}
 use Rattle.core_drive.specs.Sound.{IsSound}
 use Rattle.world_rules.specs.Explaining.{IsSafeInWorlds}
@@ -16,8 +16,8 @@ use Rattle.mlb_controller.specs.Stream.{controller_rules}
 
 -- In every world that explains a beginning of the transcript the core is the transcript's, and services recorded with one address share it by
 -- their marks, before and behind each move of the world, and also where a last put that has no reply yet reaches the store.
-abbrev pub IsSafeThroughout : Option (List ℕ) → List Entry → Type 0
-IsSafeThroughout class transcript = (earlier later : List Entry) → transcript ≡ earlier ++ later → IsSafeInWorlds class (behind earlier [])
+abbrev pub IsSafeThroughout : Option (List ℕ) → List TranscriptEntry → Type 0
+IsSafeThroughout class transcript = (earlier later : List TranscriptEntry) → transcript ≡ earlier ++ later → IsSafeInWorlds class (behind earlier [])
 
 -- A beginning of the text of some lines' run was written, whatever the source tells, and the transcript of that run is sound, and safe in
 -- every world that explains it.
@@ -39,7 +39,7 @@ RunsSafe class (Some bytes) = IsSafeThroughout class (run_of controller_rules (f
 
 -- Nothing is left waiting that could be served, by what the transcript shows; and each settled service has its own: what serves it, a reason
 -- that holds now, or, where it isn't of type LoadBalancer, no record.
-pub record LeavesNothing (class : Option (List ℕ)) (transcript : List Entry) : Type 0 where
+pub record LeavesNothing (class : Option (List ℕ)) (transcript : List TranscriptEntry) : Type 0 where
   pub quiet : IsQuietAsShown class (behind transcript [])
   pub settled : AllHaveTheirOwn class (behind transcript [])
 

@@ -6,11 +6,11 @@ ghost use Rattle.mlb_controller.specs.Stream.{end_of};
 
 use crate::line::drive_line;
 use ctl_core::Core;
-use kube_labels::Text;
 use kube_model::Status;
 use line_run::{Machine, Refusal};
 use mlb_base::{NoMemory, TryCopy};
 use mlb_edge::{Line, Sink};
+use program_exit::owned_word;
 use std::alloc::Global;
 
 /// Drives a core by lines: each is an event, or the reply to the put that is out.
@@ -26,19 +26,9 @@ impl Controller {
         ensures { IfOk result (λ controller. controller.core ≡ fresh (option_map (λ c. c.now) class.entry)) }
     {
         Ok(Controller {
-            core: Core::new(alloc, owned(alloc, class)?)?,
+            core: Core::new(alloc, owned_word(alloc, class)?)?,
         })
     }
-}
-
-/// The class as a text of its own.
-fn owned(alloc: Global, class: Option<&str>) -> Result<Option<Text>, NoMemory>
-    ensures { IfOk result (λ text. text ≡ option_map (λ c. c.now) class.entry) }
-{
-    let Some(class) = class else {
-        return Ok(None);
-    };
-    Ok(Some(Text::new(alloc, class)?))
 }
 
 /// The status where the input ends.
@@ -53,13 +43,13 @@ pub(crate) fn end_status(core: &Core) -> Result<Status, NoMemory>
 
 impl Machine for Controller {
     ghost use Rattle.core_rules.specs.Core.{State as CoreState};
-    ghost use Rattle.core_drive.specs.Drive.{Entry as DriveEntry};
+    ghost use Rattle.core_drive.specs.Drive.{TranscriptEntry as DriveEntry};
     ghost use Rattle.mlb_controller.specs.Stream.{controller_rules, IsCause};
     ghost use Rattle.mlb_controller.specs.Causes.{line_causes, end_causes};
 
     ghost State = { CoreState };
 
-    ghost Entry = { DriveEntry };
+    ghost TranscriptEntry = { DriveEntry };
 
     ghost state = { λ controller. controller.core };
 

@@ -2,11 +2,11 @@
 ghost use Rattle.std.specs.Prelude.{◌≡◌, ◌≤◌, ◌++◌, OnOk, IfOk, IfErr, None};
 ghost use Rattle.core_drive.specs.Drive.{turns_from};
 ghost use Rattle.line_run.specs.Text.{Halts};
-ghost use Rattle.mlb_controller.specs.Output.{note_text, output_of};
+ghost use Rattle.mlb_controller.specs.Output.{output_of};
 ghost use Rattle.mlb_controller.specs.Stream.{arrival, Enters, IsUntaken};
 ghost use Rattle.mlb_edge.specs.Written.{Grows};
+ghost use Rattle.program_lines.specs.Lines.{note_text};
 
-use crate::output::write_note;
 use crate::turns::make_turns;
 use core_rules::TakeFault;
 use ctl_core::Core;
@@ -14,6 +14,7 @@ use kube_model::{Event, Status, What};
 use line_run::{Halt, Refusal};
 use mlb_edge::Sink;
 use object_cache::TakeNote;
+use program_lines::write_note;
 use std::alloc::Global;
 
 /// Takes the event. What is noted of it, or why it isn't taken.

@@ -1,20 +1,20 @@
 //! The controller, as a machine over the items of two lanes: the objects of the configuration, and the services.
-ghost use Rattle.std.specs.Prelude.{◌≡◌, ◌≤◌, ◌++◌, OnOk, IfOk, IfErr, IsSome, None};
+ghost use Rattle.std.specs.Prelude.{◌≡◌, ◌≤◌, ◌++◌, OnOk, IfOk, IfErr, None};
 ghost use Rattle.core_drive.specs.Drive.{turns_from};
 ghost use Rattle.kube_lines.specs.OutputLines.{took_text};
-ghost use Rattle.lane_drive.specs.LaneRules.{TakesItem, RefusesItem, reply_rules};
-ghost use Rattle.line_run.specs.Steps.{Takes, Refuses};
+ghost use Rattle.lane_drive.specs.LaneRules.{TakesItem, RefusesItem};
 ghost use Rattle.line_run.specs.Text.{Halts, line_of};
 ghost use Rattle.mlb_controller.specs.Lanes.{group_in, carries, name_of, lane_group, lane_arrival, lane_rules};
-ghost use Rattle.mlb_controller.specs.Output.{note_text, output_of};
+ghost use Rattle.mlb_controller.specs.Output.{output_of};
 ghost use Rattle.mlb_controller.specs.Stream.{Enters, IsUntaken};
 ghost use Rattle.mlb_edge.specs.Written.{Grows};
+ghost use Rattle.program_lines.specs.Lines.{note_text};
 
 use crate::controller::{Controller, end_status};
 use crate::events::{take_event, tell};
 use crate::line::hear_line;
 use ctl_core::Core;
-use kube_model::{Event, Group, LaneName, Status};
+use kube_model::{Event, LaneName, ListGroup, Status};
 use lane_drive::{LaneMachine, write_took};
 use lane_mail::{Item, Lane};
 use lane_run::Lanes;
@@ -35,14 +35,14 @@ impl Lanes for Controller {
 }
 
 impl LaneMachine for Controller {
-    ghost use Rattle.core_drive.specs.Drive.{Entry as DriveEntry};
+    ghost use Rattle.core_drive.specs.Drive.{TranscriptEntry as DriveEntry};
     ghost use Rattle.core_rules.specs.Core.{State as CoreState};
     ghost use Rattle.mlb_controller.specs.Causes.{items_stop, replies_stop, awaits_reply, lanes_are_taken, names_differ, heard_replies};
     ghost use Rattle.mlb_controller.specs.Lanes.{lane_rules};
 
     ghost State = { CoreState };
 
-    ghost Entry = { DriveEntry };
+    ghost TranscriptEntry = { DriveEntry };
 
     ghost state = { λ controller. controller.core };
 
@@ -70,7 +70,7 @@ impl LaneMachine for Controller {
     }
 
     fn hear<K: Sink>(&mut self, alloc: Global, line: Line, out: &mut K) -> Result<(), Refusal> {
-        hear_reply(alloc, &mut self.core, line, out)
+        hear_line(alloc, &mut self.core, line, out)
     }
 
     fn unanswered(&self) -> Result<Status, NoMemory> {
@@ -91,7 +91,7 @@ impl LaneMachine for Controller {
 }
 
 /// The group of what the event tells of, if it tells of one.
-fn group_in(event: &Event) -> Option<Group>
+fn group_in(event: &Event) -> Option<ListGroup>
     ensures { result ≡ group_in event.now }
 {
     match event {
@@ -103,11 +103,11 @@ fn group_in(event: &Event) -> Option<Group>
 }
 
 /// Whether what is of the group may come by the lane.
-fn carries(lane: Lane, group: Option<Group>) -> bool
+fn carries(lane: Lane, group: Option<ListGroup>) -> bool
     ensures { result ≡ carries lane group }
 {
     match (lane, group) {
-        (Lane::First, Some(Group::Service)) | (Lane::Second, Some(Group::Config)) => false,
+        (Lane::First, Some(ListGroup::Service)) | (Lane::Second, Some(ListGroup::Config)) => false,
         _ => true,
     }
 }
@@ -123,12 +123,12 @@ fn name_of(lane: Lane) -> LaneName
 }
 
 /// The group that the lane is the watch of.
-fn lane_group(lane: Lane) -> Group
+fn lane_group(lane: Lane) -> ListGroup
     ensures { result ≡ lane_group lane }
 {
     match lane {
-        Lane::First => Group::Config,
-        Lane::Second => Group::Service,
+        Lane::First => ListGroup::Config,
+        Lane::Second => ListGroup::Service,
     }
 }
 
@@ -189,31 +189,7 @@ fn drive_item<K: Sink>(
         event,
     } = item;
     let note = take_from(core, lane, event)?;
-    match tell_item(alloc, core, lane, number, &note, out) {
-        Ok(()) => {
-            drop(note);
-            Ok(())
-        }
-        Err(halt) => {
-            drop(note);
-            Err(Refusal::Halted { halt })
-        }
-    }
-}
-
-/// Takes the line as the reply to the put that is out, and makes the turns that follow.
-fn hear_reply<K: Sink>(
-    alloc: Global,
-    core: &mut Core,
-    line: Line,
-    out: &mut K,
-) -> Result<(), Refusal>
-    requires { IsSome core.old.out }
-    ensures ok { OnOk result (Takes (reply_rules lane_rules) core.old core.new line
-        (K.written out.old) (K.written out.new)) }
-    ensures err { IfErr result (λ refusal. Refuses refusal (reply_rules lane_rules) core.old line
-        (K.written out.old) (K.written out.new) (K.faults out.old) (K.faults out.new)) }
-    ensures later { K.faults out.old ≤ K.faults out.new }
-{
-    hear_line(alloc, core, line, out)
+    let told = tell_item(alloc, core, lane, number, &note, out);
+    drop(note);
+    Ok(told?)
 }

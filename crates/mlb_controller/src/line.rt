@@ -8,11 +8,11 @@ ghost use Rattle.mlb_controller.specs.Stream.{controller_rules};
 use crate::events::{take_event, tell};
 use crate::turns::make_turns;
 use ctl_core::Core;
-use kube_events::read_event;
 use kube_lines::{ReplyFault, read_reply};
-use kube_model::{EventFault, LaneName, PutReply, Status};
+use kube_model::PutReply;
 use line_run::{Halt, Refusal};
 use mlb_edge::{Line, Sink};
+use program_lines::{bad_reply, event_of_line};
 use std::alloc::Global;
 
 /// Takes the event of the line, and makes the turns that follow.
@@ -29,37 +29,11 @@ fn take_line<K: Sink>(
         (K.written out.old) (K.written out.new) (K.faults out.old) (K.faults out.new)) }
     ensures later { K.faults out.old ≤ K.faults out.new }
 {
-    let event = match read_event(alloc, line.bytes.as_slice()) {
-        Ok(event) => event,
-        Err(EventFault::NoMemory) => {
-            drop(line);
-            return Err(Refusal::Halted {
-                halt: Halt::NoMemory,
-            });
-        }
-        Err(fault) => {
-            drop(fault);
-            return Err(Refusal::Stopped {
-                status: Status::BadLine {
-                    lane: LaneName::Input,
-                    number: line.number,
-                    bytes: line.bytes,
-                },
-            });
-        }
-    };
-    drop(line);
+    let event = event_of_line(alloc, line)?;
     let note = take_event(core, event)?;
-    match tell(alloc, core, &note, out) {
-        Ok(()) => {
-            drop(note);
-            Ok(())
-        }
-        Err(halt) => {
-            drop(note);
-            Err(Refusal::Halted { halt })
-        }
-    }
+    let told = tell(alloc, core, &note, out);
+    drop(note);
+    Ok(told?)
 }
 
 /// Reads the line as the reply to the put that is out.
@@ -96,14 +70,7 @@ pub(crate) fn hear_line<K: Sink>(
                 halt: Halt::NoMemory,
             });
         }
-        Err(ReplyFault::BadReply) => {
-            return Err(Refusal::Stopped {
-                status: Status::BadReply {
-                    number: line.number,
-                    bytes: line.bytes,
-                },
-            });
-        }
+        Err(ReplyFault::BadReply) => return Err(bad_reply(line)),
     };
     drop(line);
     if core.answered(reply).is_err() {
@@ -111,10 +78,7 @@ pub(crate) fn hear_line<K: Sink>(
             halt: Halt::NoMemory,
         });
     }
-    match make_turns(alloc, core, out) {
-        Ok(()) => Ok(()),
-        Err(halt) => Err(Refusal::Halted { halt }),
-    }
+    Ok(make_turns(alloc, core, out)?)
 }
 
 /// Drives the core by the line, and writes what comes of it.

@@ -5,6 +5,7 @@ mod controller;
 mod events;
 mod lane_files;
 mod lanes;
+mod laws;
 mod line;
 mod output;
 mod run;
@@ -12,25 +13,23 @@ mod stream;
 mod trial;
 mod turns;
 
-use kube_model::Status;
-use mlb_edge::{RealFiles, RealSink, RealSource};
-use program_exit::{exit_code, words_given};
+use program_exit::{exit_code, given_by};
 use run::run_controller;
-use std::io;
 use std::process::ExitCode;
 
 fn main(rt: HostRuntime) -> ExitCode {
-    let alloc = rt.alloc();
-    let words = match words_given(&rt) {
-        Ok(words) => words,
+    let mut owned = match given_by(&rt) {
+        Ok(owned) => owned,
         Err(status) => return exit_code(&rt, &status),
     };
-    let Ok(owned) = rt.clone() else {
-        return exit_code(&rt, &Status::NoMemory);
-    };
-    let mut files = RealFiles::new(owned, alloc);
-    let mut input = RealSource::new(rt.reader());
-    let mut out = RealSink::new(io::writer(&rt));
-    let status = run_controller(&rt, alloc, &words, &mut files, &mut input, &mut out);
+    let given = &mut owned;
+    let status = run_controller(
+        &rt,
+        rt.alloc(),
+        &given.words,
+        &mut given.files,
+        &mut given.input,
+        &mut given.out,
+    );
     exit_code(&rt, &status)
 }

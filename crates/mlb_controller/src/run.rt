@@ -3,8 +3,8 @@ ghost use Rattle.std.specs.Prelude.{◌≡◌, ◌↔◌, ℕ, List, IfSome, IfN
 ghost use Rattle.std.specs.Option.{option_map};
 ghost use Rattle.command_options.specs.Lanes.{lane_seen};
 ghost use Rattle.kube_model.specs.declared.status.LaneName.{LaneName};
-ghost use Rattle.lane_drive.specs.Files.{files_view};
-ghost use Rattle.lane_run.specs.Views.{source_view};
+ghost use Rattle.lane_drive.specs.Files.{files_state};
+ghost use Rattle.lane_run.specs.Outside.{source_state};
 ghost use Rattle.line_run.specs.Clauses.{AtReadFault, AtWriteFault, RunOwes};
 ghost use Rattle.command_options.specs.Options.{texts_of};
 ghost use Rattle.controller_words.specs.Words.{AreKnown};
@@ -17,6 +17,7 @@ ghost use Rattle.mlb_controller.specs.Clauses.{EndsQuiet, HandlesNamed, WritesTr
 ghost use Rattle.mlb_controller.specs.Stream.{IsCause, controller_rules};
 
 use crate::lane_files::lanes_controller;
+use crate::laws::{lanes_are_sound, runs_rightly};
 use crate::stream::stream_controller;
 use controller_words::{Asked, LaneFiles, controller_words};
 use kube_model::Status;
@@ -49,12 +50,12 @@ pub fn run_controller<
     // their puts heard. Nothing else is known of when it may, it can be waited for beside a sink of this type alone, and the files can only be
     // watched: so nothing is held back of `out` meanwhile. What is a `Wait` may wait at any time, and meets this.
     requires lanes_wait { OverLanes words.now (LanesMayWait R.may_wait rt.now
-        (source_view (S.left input.old) (S.name input.old) (S.faults input.old)) K.written K.faults out.old) }
+        (source_state (S.left input.old) (S.name input.old) (S.faults input.old)) K.written K.faults out.old) }
 
     // What the files still give may be dropped where the run stopped at the last event taken, or at the reply to its put, and what it wrote of
     // that stands written; and nowhere else.
     requires lanes_drop { OverLanes words.now (LanesMayDrop R.may_drop rt.now
-        (source_view (S.left input.old) (S.name input.old) (S.faults input.old)) K.written K.faults out.old) }
+        (source_state (S.left input.old) (S.name input.old) (S.faults input.old)) K.written K.faults out.old) }
 
     ensures no_file { AskNoLanes (texts_of words.now) → files.new ≡ files.old }
     ensures can_end { AskNoLanes (texts_of words.now) → CanEnd result }
@@ -95,10 +96,10 @@ pub fn run_controller<
 
     // Where the words ask for a run over two files: how it ended, once both are open, and with which statuses it may.
     ensures lanes { OverLanes words.now (LanesEnd (F.bytes files.old) (F.safe files.old)
-        (files_view (F.failed_opens files.old) (F.failed_reads files.old))
-        (files_view (F.failed_opens files.new) (F.failed_reads files.new))
-        (source_view (S.left input.old) (S.name input.old) (S.faults input.old))
-        (source_view (S.left input.new) (S.name input.new) (S.faults input.new))
+        (files_state (F.failed_opens files.old) (F.failed_reads files.old))
+        (files_state (F.failed_opens files.new) (F.failed_reads files.new))
+        (source_state (S.left input.old) (S.name input.old) (S.faults input.old))
+        (source_state (S.left input.new) (S.name input.new) (S.faults input.new))
         (K.written out.old) (K.written out.new) (K.faults out.old) (K.faults out.new) result) }
     ensures lane_can_end { OverLanes words.now (LaneCanEnd result) }
 
@@ -123,24 +124,26 @@ pub fn run_controller<
     // Where all can be taken in whatever order it comes, with a reply to each put and no line behind the last, and no count of faults rises,
     // it is done, but for want of memory.
     ensures lanes_complete { OverLanes words.now (LanesComplete (F.bytes files.old) result
-        (files_view (F.failed_opens files.old) (F.failed_reads files.old))
-        (files_view (F.failed_opens files.new) (F.failed_reads files.new))
+        (files_state (F.failed_opens files.old) (F.failed_reads files.old))
+        (files_state (F.failed_opens files.new) (F.failed_reads files.new))
         (S.left input.old) (S.faults input.old) (S.faults input.new) (K.faults out.old) (K.faults out.new)) }
 
     // A file isn't opened exactly where its opening failed, and then nothing is read or written; a fault of reading comes only where its count
     // rose. Of no other file an opening or a reading failed.
     ensures lane_open_fault { OverLanes words.now (LaneOpenFault result
-        (files_view (F.failed_opens files.old) (F.failed_reads files.old))
-        (files_view (F.failed_opens files.new) (F.failed_reads files.new))) }
+        (files_state (F.failed_opens files.old) (F.failed_reads files.old))
+        (files_state (F.failed_opens files.new) (F.failed_reads files.new))) }
     ensures lane_read_fault { OverLanes words.now (LaneReadFault result
-        (files_view (F.failed_opens files.old) (F.failed_reads files.old))
-        (files_view (F.failed_opens files.new) (F.failed_reads files.new)) (S.faults input.old) (S.faults input.new)) }
+        (files_state (F.failed_opens files.old) (F.failed_reads files.old))
+        (files_state (F.failed_opens files.new) (F.failed_reads files.new)) (S.faults input.old) (S.faults input.new)) }
     ensures lane_unopened { (lane : LaneName) → result ≡ Status.OpenFault lane → (input.new ≡ input.old) × (out.new ≡ out.old) }
     ensures lane_others { OverLanes words.now (LaneOthers
-        (files_view (F.failed_opens files.old) (F.failed_reads files.old))
-        (files_view (F.failed_opens files.new) (F.failed_reads files.new))) }
+        (files_state (F.failed_opens files.old) (F.failed_reads files.old))
+        (files_state (F.failed_opens files.new) (F.failed_reads files.new))) }
     ensures lane_bytes { (file : List ℕ) → F.bytes files.new file ≡ F.bytes files.old file }
 {
+    runs_rightly::<S, K>(words, input);
+    lanes_are_sound(words);
     match lanes_asked(words) {
         None => stream_controller(alloc, words, input, out),
         Some((class, lanes)) => lanes_controller(rt, alloc, class, lanes, files, input, out),

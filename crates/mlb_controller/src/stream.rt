@@ -4,11 +4,11 @@ ghost use Rattle.line_run.specs.Clauses.{AtReadFault, AtWriteFault, RunOwes};
 ghost use Rattle.command_options.specs.Options.{texts_of};
 ghost use Rattle.controller_words.specs.Words.{AreKnown};
 ghost use Rattle.mlb_controller.specs.Asked.{AskNoLanes, AskRun};
-ghost use Rattle.mlb_controller.specs.Clauses.{begun_by, MayAskAnswered, CanEnd, WritesSound, RunsSound, RunsSafe};
-ghost use Rattle.mlb_controller.specs.Clauses.{EndsQuiet, HandlesNamed, WritesTrial, LeavesInput, TrialIsSafe};
+ghost use Rattle.mlb_controller.specs.Clauses.{begun_by, MayAskAnswered, CanEnd, WritesSound, EndsQuiet, WritesTrial, LeavesInput, RunsRightly};
 ghost use Rattle.mlb_controller.specs.Stream.{IsCause, controller_rules};
 
 use crate::controller::Controller;
+use crate::laws::runs_rightly;
 use crate::trial::run_trial;
 use controller_words::{Asked, controller_words};
 use kube_model::Status;
@@ -30,7 +30,6 @@ pub fn stream_controller<S: PacedSource<K>, K: Sink>(
 
     ensures can_end { CanEnd result }
     ensures usage { (result ≡ Status.Usage) ↔ (¬ (AreKnown (texts_of words.now))) }
-    ensures named { HandlesNamed words.now }
     ensures unused { result ≡ Status.Usage → (input.new ≡ input.old) × (out.new ≡ out.old) }
 
     // A fault comes only where its count rose.
@@ -41,29 +40,18 @@ pub fn stream_controller<S: PacedSource<K>, K: Sink>(
     ensures run { AskRun (texts_of words.now) → RunOwes controller_rules IsCause (begun_by words.now) result
         (S.left input.old) (S.left input.new) (K.written out.old) (K.written out.new) }
 
-    // Over any input at all a beginning of the text of some lines' run was written, and that run is
-    // sound: each put, each reason and each note is right by the transcript before it, no key is
-    // chosen for too early, and at each moment two services that have or may have one address share
-    // it by the terms of their claims, or the cluster showed it so. So is the run of the input, where the
-    // source tells its bytes.
+    // A beginning of the text of some lines' run was written, which is sound and safe; and where the run is done, nothing is left waiting.
     ensures only { WritesSound words.now K.written out.old out.new }
-    ensures sound { RunsSound words.now (S.left input.old) }
-
-    // Whatever store there is, whoever else edits it, in whatever order it is listed and however late its changes are shown: where
-    // that explains what was read so far, services recorded with one address share it by the terms of their marks, where both have
-    // one, at each moment, and also where a last put that has no reply yet reached the store.
-    ensures safe { RunsSafe words.now (S.left input.old) }
-
-    // Where the run is done, no service is left waiting that could be served. Each that is settled has what serves it, or a reason that
-    // holds now; or none, where it isn't of type LoadBalancer.
     ensures quiet { EndsQuiet words.now result (S.left input.old) K.written out.old out.new }
 
-    // Where the words ask for a trial nothing is read, and just its text is written. At no moment of it are two services recorded with
-    // one address, unless they share it.
+    // Where the words ask for a trial nothing is read, and just its text is written.
     ensures trial { WritesTrial words.now result K.written out.old out.new }
     ensures trial_unread { LeavesInput words.now input.old input.new }
-    ensures trial_safe { TrialIsSafe words.now }
+
+    // Whatever was written, the run of the input is of the class of the words, sound and safe; and so is a trial.
+    ensures right { RunsRightly words.now (S.left input.old) }
 {
+    runs_rightly::<S, K>(words, input);
     let class = match controller_words(words) {
         None => return Status::Usage,
         Some(Asked::Trial { seed, steps }) => return run_trial(alloc, seed, steps, out),

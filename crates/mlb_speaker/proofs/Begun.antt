@@ -1,5 +1,5 @@
 -- What a run begins with, and its lane files, are what the words say.
-use Rattle.std.proofs.Common.{◌≡◌, ℕ, List, [], ◌∷◌, map, Option, refl, sym, ap, subst}
+use Rattle.std.proofs.Common.{◌≡◌, ℕ, true, false, List, [], ◌∷◌, map, Option, None, refl, sym, ap, ◌∙◌, subst}
 use Rattle.std.specs.List.{AllZip}
 use Rattle.std.specs.Option.{option_map}
 use Rattle.ip_ranges.specs.Values.{AddressValue}
@@ -9,12 +9,31 @@ use Rattle.speaker_words.specs.Reading.{said_in}
 use Rattle.speaker_words.specs.Words.{Said, Say}
 use Rattle.speaker_words.proofs.NamedWords.{say-read}
 use Rattle.mlb_speaker.specs.declared.local_node.NextHops.{NextHops}
-use Rattle.mlb_speaker.specs.Clauses.{IsNamed, SpeaksFor, begun_with, lanes_in, lanes_of}
+use Rattle.mlb_speaker.specs.Clauses.{IsNamed, SpeaksFor, begun_with, lanes_in, lanes_of, plain_lanes_of, responder_lanes_of, responds_in}
 use Rattle.mlb_speaker.specs.LocalNode.{interface_by}
 use Rattle.mlb_speaker.specs.Stream.{SpeakerState, first_state}
 
 pub named-begun : (words : List (List ℕ)) (said : Said) → Say words said → (begun_with (said_in words) ≡ first_state said) × (lanes_of words ≡ said.lanes)
 named-begun words said say = (ap begun_with (say-read words said say), ap lanes_in (say-read words said say))
+
+-- ---- whether they ask for a responder
+module _ (words : List (List ℕ)) (said : Said) (say : Say words said) where
+  asks : responds_in (said_in words) ≡ said.responder
+  asks = ap responds_in (say-read words said say)
+
+  -- where they do, no lane files are without one
+  pub with-responder : said.responder ≡ true → (responder_lanes_of words ≡ said.lanes) × (plain_lanes_of words ≡ None)
+  with-responder is = (
+    rw (asks ∙ is) (named-begun words said say).1,
+    rw (asks ∙ is) refl,
+  )
+
+  -- and where they don't all are
+  pub without-responder : said.responder ≡ false → (responder_lanes_of words ≡ None) × (plain_lanes_of words ≡ said.lanes)
+  without-responder is = (
+    rw (asks ∙ is) refl,
+    rw (asks ∙ is) (named-begun words said say).1,
+  )
 
 -- ---- in the words' own terms
 same-interfaces : (words : List InterfaceValue) → AllZip IsNamed (map interface_by words) words

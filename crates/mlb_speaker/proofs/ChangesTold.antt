@@ -1,13 +1,13 @@
 -- Of each event is told just what it changes.
 use Rattle.std.proofs.Common.{◌≡◌, ◌↔◌, ℕ, Bool, true, false, cond, not, ◌&&◌, List, [], ◌∷◌, ◌++◌, map}
-use Rattle.std.proofs.Common.{Option, Some, None, refl, sym, ap, ◌∙◌, subst, append_assoc, Contains, inl, inr}
+use Rattle.std.proofs.Common.{Option, Some, None, refl, sym, ap, ◌∙◌, subst, append_assoc}
 use Rattle.std.proofs.lemmas.Bool.{and_parts, and_from, false_from_ne_true, true≢false}
 use Rattle.std.proofs.lemmas.List.{append-nil}
 use Rattle.std.proofs.lemmas.List.Kept.{IsStrictlySortedBy-filter}
 use Rattle.std.specs.List.{flat_map}
 use Rattle.std.specs.List.Sorted.{IsStrictlySortedBy}
 use Rattle.mlb_base.specs.Items.{IsIn}
-use Rattle.mlb_base.proofs.Among.{contains-first, contains-later, contains-cons, contains-none}
+use Rattle.mlb_base.proofs.Lists.{contains-in, in-contains}
 use Rattle.ip_ranges.specs.Values.{AddressValue, has_address}
 use Rattle.ip_ranges.proofs.AddressLaws.{has_address-is, has_address-from}
 use Rattle.kube_events.specs.Event.{event_of_line}
@@ -20,15 +20,15 @@ use Rattle.l2_elect.specs.Election.{IsAnnouncer, announces_of}
 use Rattle.l2_elect.proofs.Least.{announces-announcer, announcer-announces}
 use Rattle.announced_set.specs.Announced.{address_cmp, announced_by}
 use Rattle.announced_set.specs.Changes.{difference}
-use Rattle.announced_set.proofs.Listed.{all_are_announced, has-announced}
+use Rattle.announced_set.proofs.Listed.{all_are_announced, has-announced, nothing_ascends}
 use Rattle.mlb_edge.specs.declared.lines.Line.{Line}
 use Rattle.line_run.specs.Machine.{Goes}
-use Rattle.mlb_speaker.specs.declared.entries.Entry.{Entry}
-use Rattle.mlb_speaker.specs.declared.entries.Entry.TheVariants.{Noted, Withdrawn, Announced, Sent, Updated}
+use Rattle.mlb_speaker.specs.declared.transcript.TranscriptEntry.{TranscriptEntry}
+use Rattle.mlb_speaker.specs.declared.transcript.TranscriptEntry.TheVariants.{Noted, Withdrawn, Announced, Sent, Updated}
 use Rattle.mlb_speaker.specs.declared.local_node.Interface.{Interface}
 use Rattle.mlb_speaker.specs.declared.local_node.NextHops.{NextHops}
 use Rattle.mlb_speaker.specs.declared.local_node.LocalNode.{LocalNode}
-use Rattle.mlb_speaker.specs.Entries.{withdrawn, withdrawals, announcements, entries_for}
+use Rattle.mlb_speaker.specs.Transcript.{withdrawn, withdrawals, announcements, entries_for}
 use Rattle.mlb_speaker.specs.Sends.{unsolicited_by, unsolicited, listening, announcement, sent_on, answer_on, answer_by, interface_of}
 use Rattle.mlb_speaker.specs.Stream.{SpeakerState, Received, frame_in, entries_at, entries_of, line_step}
 use Rattle.mlb_speaker.specs.Told.{withdrawn_in, announced_in, AnnouncesAlone, TellsChange, TellsWhatChanges}
@@ -38,7 +38,7 @@ use Rattle.mlb_speaker.proofs.Steps.{frame_leaves}
 use Rattle.mlb_speaker.proofs.Telling.{event_applies, has-difference, station_kept}
 
 -- ---- the addresses of the lines
-pub announced-append : (xs ys : List Entry) → announced_in (xs ++ ys) ≡ announced_in xs ++ announced_in ys
+pub announced-append : (xs ys : List TranscriptEntry) → announced_in (xs ++ ys) ≡ announced_in xs ++ announced_in ys
 announced-append [] ys = refl
 announced-append (Announced a ∷ xs) ys = ap (λ (zs : List AddressValue). a ∷ zs) (announced-append xs ys)
 announced-append (Noted note ∷ xs) ys = announced-append xs ys
@@ -46,7 +46,7 @@ announced-append (Withdrawn a ∷ xs) ys = announced-append xs ys
 announced-append (Sent interface frame ∷ xs) ys = announced-append xs ys
 announced-append (Updated peer message ∷ xs) ys = announced-append xs ys
 
-withdrawn-append : (xs ys : List Entry) → withdrawn_in (xs ++ ys) ≡ withdrawn_in xs ++ withdrawn_in ys
+withdrawn-append : (xs ys : List TranscriptEntry) → withdrawn_in (xs ++ ys) ≡ withdrawn_in xs ++ withdrawn_in ys
 withdrawn-append [] ys = refl
 withdrawn-append (Withdrawn a ∷ xs) ys = ap (λ (zs : List AddressValue). a ∷ zs) (withdrawn-append xs ys)
 withdrawn-append (Noted note ∷ xs) ys = withdrawn-append xs ys
@@ -86,11 +86,11 @@ withdrawn-announcements v local (a ∷ zs) =
     ∙ withdrawn-announcements v local zs
 
 -- what is told to peers has none
-pub record TellsNone (entries : List Entry) : Type 0 where
+pub record TellsNone (entries : List TranscriptEntry) : Type 0 where
   pub announced : announced_in entries ≡ []
   pub withdrawn : withdrawn_in entries ≡ []
 
-none-append : (xs ys : List Entry) → TellsNone xs → TellsNone ys → TellsNone (xs ++ ys)
+none-append : (xs ys : List TranscriptEntry) → TellsNone xs → TellsNone ys → TellsNone (xs ++ ys)
 none-append xs ys x y = record {
   announced = announced-append xs ys ∙ ap (λ (zs : List AddressValue). zs ++ announced_in ys) x.announced ∙ y.announced;
   withdrawn = withdrawn-append xs ys ∙ ap (λ (zs : List AddressValue). zs ++ withdrawn_in ys) x.withdrawn ∙ y.withdrawn;
@@ -106,7 +106,7 @@ none-peers v v' node hop (peer ∷ peers) =
     none-append (updates_to v v' node hop peer) (flat_map (updates_to v v' node hop) peers) (none-messages peer (messages_to v v' node hop peer))
     (none-peers v v' node hop peers)
 
-none-hop : (are : Bool) (entries : List Entry) → TellsNone entries → TellsNone (cond are entries [])
+none-hop : (are : Bool) (entries : List TranscriptEntry) → TellsNone entries → TellsNone (cond are entries [])
 none-hop true entries none = none
 none-hop false entries none = record { announced = refl; withdrawn = refl }
 
@@ -122,11 +122,12 @@ none-answer v node (Some i) frame = go (answer_on v node i frame) where
   go (Some answer) = record { announced = refl; withdrawn = refl }
 
 -- what is told of a change, with what is told to peers behind it
-module _ (v : ViewValue) (local : LocalNode) (note : TakeNote) (before after : List AddressValue) (updates : List Entry) (none : TellsNone updates) where
-  abbrev gone : List Entry
+module _ (v : ViewValue) (local : LocalNode) (note : TakeNote) (before after : List AddressValue) (updates : List TranscriptEntry)
+    (none : TellsNone updates) where
+  abbrev gone : List TranscriptEntry
   gone = Noted note ∷ withdrawals before after
 
-  abbrev come : List Entry
+  abbrev come : List TranscriptEntry
   come = announcements v local before after ++ updates
 
   come-announces : announced_in come ≡ difference after before
@@ -162,15 +163,6 @@ module _ (v : ViewValue) (local : LocalNode) (note : TakeNote) (before after : L
       ∙ withdrawn-withdrawals (difference before after)
 
 -- ---- what a difference has
-pub listed-in : {X : Type 0} (xs : List X) (a : X) → Contains xs a → IsIn xs a
-listed-in [] a there = absurd (contains-none a there)
-listed-in (x ∷ xs) a there = elim (contains-cons x xs a there) [ inl here ↦ inl here | inr later ↦ inr (listed-in xs a later) ]
-
-in-listed : (xs : List AddressValue) (a : AddressValue) → IsIn xs a → Contains xs a
-in-listed [] a none = absurd none
-in-listed (x ∷ xs) a (inl here) = subst (λ (y : AddressValue). Contains (x ∷ xs) y) here (contains-first x xs)
-in-listed (x ∷ xs) a (inr later) = contains-later x xs a (in-listed xs a later)
-
 module _ (node : List ℕ) (v w : ViewValue) where
   abbrev alone : List AddressValue
   alone = difference (announced_by v node) (announced_by w node)
@@ -189,11 +181,11 @@ module _ (node : List ℕ) (v w : ViewValue) where
   pub alone-means : (a : AddressValue) → IsIn alone a ↔ AnnouncesAlone node v w a
   alone-means a = (
     λ there.
-        let both = and_parts (announces_of v node a) (not (announces_of w node a)) (sym (tested a) ∙ has_address-from alone a (in-listed alone a there)) in
+        let both = and_parts (announces_of v node a) (not (announces_of w node a)) (sym (tested a) ∙ has_address-from alone a (in-contains alone a there)) in
         (announces-announcer v a node both.0, refuses a (announces_of w node a) refl both.1),
     λ is.
         let none : announces_of w node a ≡ false = false_from_ne_true (announces_of w node a) (λ h. is.1 (announces-announcer w a node h)) in
-        listed-in alone a (has_address-is alone a
+        contains-in alone a (has_address-is alone a
         (tested a ∙ and_from (announces_of v node a) (not (announces_of w node a)) (announcer-announces v a node is.0) (ap not none))),
   )
 
@@ -201,12 +193,8 @@ module _ (node : List ℕ) (v w : ViewValue) where
   alone-ascends = IsStrictlySortedBy-filter address_cmp (λ a. not (has_address (announced_by w node) a)) (announced_by v node) (all_are_announced v node).ascend
 
 -- ---- events
-pub nothing_ascends : IsStrictlySortedBy address_cmp []
-unfolding IsStrictlySortedBy
-nothing_ascends = tt
-
 -- nothing is told where the view stays
-still : (node : List ℕ) (v : ViewValue) (entries : List Entry) → TellsNone entries → TellsChange node v v entries
+still : (node : List ℕ) (v : ViewValue) (entries : List TranscriptEntry) → TellsNone entries → TellsChange node v v entries
 still node v entries none = record {
   withdrawn = λ a.
       (λ there. let none_there : IsIn [] a = subst (λ (zs : List AddressValue). IsIn zs a) none.withdrawn there in absurd none_there, λ is. absurd (is.1 is.0));
@@ -250,11 +238,11 @@ event-told None s event is =
       later_announces = come-withdraws w s.local note before after updates none;
     }
 
-pub line-told : (s : SpeakerState) (line : Line) (t : SpeakerState) (entries : List Entry) → line_step s line ≡ Goes t entries
+pub line-told : (s : SpeakerState) (line : Line) (t : SpeakerState) (entries : List TranscriptEntry) → line_step s line ≡ Goes t entries
     → TellsChange s.local.node s.view t.view entries
 line-told s line t entries goes =
     let by = event_applies (event_of_line line.bytes) s t line entries goes in
-    subst (λ (es : List Entry). TellsChange s.local.node s.view t.view es) (sym by.tells)
+    subst (λ (es : List TranscriptEntry). TellsChange s.local.node s.view t.view es) (sym by.tells)
     (subst (λ (u : SpeakerState). TellsChange s.local.node s.view u.view (entries_of s by.event)) (sym by.leads)
     (event-told (frame_in by.event) s by.event refl))
 

@@ -1,27 +1,28 @@
 -- The addresses that are told fit their families, so the written lines tell what the entries do.
-use Rattle.std.proofs.Common.{◌≡◌, ℕ, List, [], ◌∷◌, ◌++◌, inl, inr, refl, sym, subst}
+use Rattle.std.proofs.Common.{◌≡◌, ℕ, List, [], ◌∷◌, inl, inr, refl, sym, subst}
 use Rattle.ip_ranges.specs.Values.{AddressValue, IsOfFamily}
 use Rattle.l2_elect.specs.Election.{IsAnnouncer}
 use Rattle.line_run.specs.Machine.{Goes}
 use Rattle.line_run.specs.Run.{AreTaken}
 use Rattle.mlb_base.specs.Items.{IsIn}
+use Rattle.mlb_base.proofs.Lists.{all-append, contains-in}
 use Rattle.mlb_edge.specs.declared.lines.Line.{Line}
 use Rattle.speaker_view.specs.Held.{objects_of}
 use Rattle.speaker_view.specs.ViewValue.{ViewValue}
 use Rattle.speaker_words.specs.Reading.{said_in}
 use Rattle.bgp_routes.proofs.Few.{each-of}
 use Rattle.shown_view_laws.specs.Numbered.{HasFittingAddresses, IsNumbered}
-use Rattle.mlb_speaker.specs.declared.entries.Entry.{Entry}
-use Rattle.mlb_speaker.specs.declared.entries.Entry.TheVariants.{Noted, Withdrawn, Announced, Sent, Updated}
+use Rattle.mlb_speaker.specs.declared.transcript.TranscriptEntry.{TranscriptEntry}
+use Rattle.mlb_speaker.specs.declared.transcript.TranscriptEntry.TheVariants.{Noted, Withdrawn, Announced, Sent, Updated}
 use Rattle.mlb_speaker.specs.Clauses.{begun_with}
 use Rattle.mlb_speaker.specs.Heard.{messages_told}
 use Rattle.mlb_speaker.specs.Stream.{SpeakerState, line_step, speaker_rules}
 use Rattle.mlb_speaker.specs.Told.{announced_in, withdrawn_in}
 use Rattle.mlb_speaker.specs.Written.{WritesPeersTheirRoutes, WritesWhatIsAnnounced}
-use Rattle.mlb_speaker.proofs.ChangesTold.{line-told, listed-in}
+use Rattle.mlb_speaker.proofs.ChangesTold.{line-told}
 use Rattle.mlb_speaker.proofs.Heard.{IsGoodView, begun-good, heard_by, line-good}
 use Rattle.mlb_speaker.proofs.Telling.{told_by}
-use Rattle.mlb_speaker.proofs.Written.{AllFit, announced-written, messages-written}
+use Rattle.mlb_speaker.proofs.Written.{AllFit, FitsAt, announced-written, messages-written}
 
 -- what a node announces fits its family
 announcer-fits : (v : ViewValue) (a : AddressValue) (node : List ℕ) → IsNumbered v → IsAnnouncer v a node → IsOfFamily a
@@ -29,11 +30,11 @@ announcer-fits v a node numbered announcer =
     let recorded = announcer.eligible.recorded in
     let fitting : HasFittingAddresses recorded.service =
     each-of HasFittingAddresses (objects_of v.held.services) recorded.service numbered.services
-    (listed-in (objects_of v.held.services) recorded.service recorded.held) in
-    each-of IsOfFamily recorded.service.holding.addresses a fitting (listed-in recorded.service.holding.addresses a recorded.recorded)
+    (contains-in (objects_of v.held.services) recorded.service recorded.held) in
+    each-of IsOfFamily recorded.service.holding.addresses a fitting (contains-in recorded.service.holding.addresses a recorded.recorded)
 
 -- entries whose withdrawn and announced addresses fit
-all-fit : (entries : List Entry) → ((a : AddressValue) → IsIn (withdrawn_in entries) a → IsOfFamily a)
+all-fit : (entries : List TranscriptEntry) → ((a : AddressValue) → IsIn (withdrawn_in entries) a → IsOfFamily a)
     → ((a : AddressValue) → IsIn (announced_in entries) a → IsOfFamily a) → AllFit entries
 all-fit [] gone come = tt
 all-fit (Noted note ∷ entries) gone come = (tt, all-fit entries gone come)
@@ -42,7 +43,7 @@ all-fit (Announced b ∷ entries) gone come = (come b (inl refl), all-fit entrie
 all-fit (Sent interface frame ∷ entries) gone come = (tt, all-fit entries gone come)
 all-fit (Updated peer message ∷ entries) gone come = (tt, all-fit entries gone come)
 
-line-fits : (s t : SpeakerState) (line : Line) (entries : List Entry) → line_step s line ≡ Goes t entries → IsNumbered s.view → IsNumbered t.view
+line-fits : (s t : SpeakerState) (line : Line) (entries : List TranscriptEntry) → line_step s line ≡ Goes t entries → IsNumbered s.view → IsNumbered t.view
     → AllFit entries
 line-fits s t line entries goes before after =
     let told = line-told s line t entries goes in
@@ -50,16 +51,12 @@ line-fits s t line entries goes before after =
     (λ a there. announcer-fits s.view a s.local.node before ((told.withdrawn a).0 there).0)
     (λ a there. announcer-fits t.view a s.local.node after ((told.announced a).0 there).0)
 
-fit-append : (xs ys : List Entry) → AllFit xs → AllFit ys → AllFit (xs ++ ys)
-fit-append [] ys x y = y
-fit-append (entry ∷ xs) ys x y = (x.0, fit-append xs ys x.1 y)
-
-lines-fit : (lines : List Line) (s t : SpeakerState) (told : List Entry) → AreTaken speaker_rules lines s t told → IsGoodView s.view → AllFit told
+lines-fit : (lines : List Line) (s t : SpeakerState) (told : List TranscriptEntry) → AreTaken speaker_rules lines s t told → IsGoodView s.view → AllFit told
 lines-fit [] s t told taken good = subst AllFit (sym taken.1) tt
 lines-fit (line ∷ lines) s t told (next, first, rest, goes, others, is) good =
     let next_good = line-good s next line first goes good in
     subst AllFit (sym is)
-    (fit-append first rest (line-fits s next line first goes good.numbered next_good.numbered) (lines-fit lines next t rest others next_good))
+    (all-append FitsAt first rest (line-fits s next line first goes good.numbered next_good.numbered) (lines-fit lines next t rest others next_good))
 
 -- ---- whatever the words say
 pub written_by : (words : List (List ℕ)) → WritesWhatIsAnnounced (begun_with (said_in words))

@@ -16,6 +16,7 @@ use Rattle.kube_events.specs.Event.{event_of_line}
 use Rattle.kube_model.specs.declared.event.Event.{Event}
 use Rattle.line_event_laws.proofs.Shown.{lines_show_numbers, text-fits}
 use Rattle.mlb_base.specs.Items.{IsIn}
+use Rattle.mlb_base.proofs.Lists.{all-append}
 use Rattle.mlb_edge.specs.declared.lines.Line.{Line}
 use Rattle.object_cache.specs.declared.change.TakeNote.{TakeNote}
 use Rattle.line_run.specs.Machine.{Goes}
@@ -44,14 +45,14 @@ use Rattle.shown_view_laws.proofs.InForce.{fresh-few, after-few}
 use Rattle.shown_view_laws.specs.Numbered.{IsNumbered, IsNumberedConfig, HasCompiledAsn}
 use Rattle.shown_view_laws.proofs.Kept.{fresh-numbered, after-numbered}
 use Rattle.shown_view_laws.proofs.Tellable.{routes_can_be_told}
-use Rattle.mlb_speaker.specs.declared.entries.Entry.{Entry}
+use Rattle.mlb_speaker.specs.declared.transcript.TranscriptEntry.{TranscriptEntry}
 use Rattle.mlb_speaker.specs.declared.local_node.Interface.{Interface}
 use Rattle.mlb_speaker.specs.declared.local_node.NextHops.{NextHops}
 use Rattle.mlb_speaker.specs.declared.local_node.LocalNode.{LocalNode}
 use Rattle.announced_set.specs.Announced.{announced_by}
 use Rattle.mlb_speaker.specs.Clauses.{nothing_said, begun_with}
 use Rattle.announced_set.specs.Changes.{difference}
-use Rattle.mlb_speaker.specs.Entries.{withdrawn, withdrawals, announcements, entries_for}
+use Rattle.mlb_speaker.specs.Transcript.{withdrawn, withdrawals, announcements, entries_for}
 use Rattle.mlb_speaker.specs.Heard.{message_to, messages_told, IsSamePeer, IsThere, StaysOver, HasComeSince}
 use Rattle.mlb_speaker.specs.Heard.{GiveTable, AreToldBy, HearsItsRoutes, PeersHearTheirRoutes}
 use Rattle.mlb_speaker.specs.Sends.{unsolicited_by, unsolicited, listening, announcement, answer_on, sent_on, answer_by, interface_of}
@@ -67,7 +68,7 @@ use Rattle.mlb_speaker.proofs.Telling.{event_applies, station_kept}
 -- ---- what entries tell a peer
 
 module _ (name : List ℕ) where
-  told-append : (xs ys : List Entry) → messages_told name (xs ++ ys) ≡ messages_told name xs ++ messages_told name ys
+  told-append : (xs ys : List TranscriptEntry) → messages_told name (xs ++ ys) ≡ messages_told name xs ++ messages_told name ys
   told-append xs ys = flat_map-append (message_to name) xs ys
 
   told-withdrawn : (addresses : List AddressValue) → messages_told name (map withdrawn addresses) ≡ []
@@ -132,12 +133,13 @@ good-after event line v reads good = record {
   few = after-few event v good.few;
 }
 
-pub line-good : (s t : SpeakerState) (line : Line) (entries : List Entry) → line_step s line ≡ Goes t entries → IsGoodView s.view → IsGoodView t.view
+pub line-good : (s t : SpeakerState) (line : Line) (entries : List TranscriptEntry) → line_step s line ≡ Goes t entries → IsGoodView s.view → IsGoodView t.view
 line-good s t line entries goes good =
     let by = event_applies (event_of_line line.bytes) s t line entries goes in
     subst (λ (u : SpeakerState). IsGoodView u.view) (sym by.leads) (good-after by.event line.bytes s.view by.reads good)
 
-lines-good : (lines : List Line) (s t : SpeakerState) (entries : List Entry) → AreTaken speaker_rules lines s t entries → IsGoodView s.view → IsGoodView t.view
+lines-good : (lines : List Line) (s t : SpeakerState) (entries : List TranscriptEntry) → AreTaken speaker_rules lines s t entries → IsGoodView s.view
+    → IsGoodView t.view
 lines-good [] s t entries taken good = subst (λ (u : SpeakerState). IsGoodView u.view) (sym taken.0) good
 lines-good (line ∷ lines) s t entries (next, first, rest, goes, others, is) good = lines-good lines next t rest others (line-good s next line first goes good)
 
@@ -155,7 +157,7 @@ module _ (peer : CompiledPeer) (node : List ℕ) (hop : NextHops) (are : are_hop
   abbrev Table : Type 0
   Table = List (PrefixValue × Terms)
 
-  abbrev told : List Entry → List (List ℕ)
+  abbrev told : List TranscriptEntry → List (List ℕ)
   told entries = messages_told peer.name entries
 
   abbrev peering : Peering
@@ -219,7 +221,7 @@ module _ (peer : CompiledPeer) (node : List ℕ) (hop : NextHops) (are : are_hop
         (other-name p.name peer.name (λ named. apart-later p other peers sorted later (named ∙ sym same.name))))
         ∙ peers-told other peers (names-tail p peers sorted) later same
 
-    hop-told : (b : Bool) (entries : List Entry) → b ≡ true → cond b entries [] ≡ entries
+    hop-told : (b : Bool) (entries : List TranscriptEntry) → b ≡ true → cond b entries [] ≡ entries
     hop-told true entries is = refl
     hop-told false entries is = absurd (true≢false (sym is))
 
@@ -244,10 +246,6 @@ module _ (peer : CompiledPeer) (node : List ℕ) (hop : NextHops) (are : are_hop
   last-append : (old : Table) (xs ys : List Table) → last_table old (xs ++ ys) ≡ last_table (last_table old xs) ys
   last-append old [] ys = refl
   last-append old (x ∷ xs) ys = last-append x xs ys
-
-  all-append : (P : Table → Type 0) (xs ys : List Table) → AllByRecursion P xs → AllByRecursion P ys → AllByRecursion P (xs ++ ys)
-  all-append P [] ys a b = b
-  all-append P (x ∷ xs) ys a b = (a.0, all-append P xs ys a.1 b)
 
   -- what was told leads from the table before to the one after, over tables that can be told
   record Leads (v v' : ViewValue) (messages : List (List ℕ)) : Type 0 where
@@ -309,18 +307,19 @@ module _ (peer : CompiledPeer) (node : List ℕ) (hop : NextHops) (are : are_hop
           last = sym (there-table v' other good among same);
         }
 
-    line-leads : (t : SpeakerState) (line : Line) (entries : List Entry) → line_step s line ≡ Goes t entries → IsGoodView t.view → IsThere peer t.view
+    line-leads : (t : SpeakerState) (line : Line) (entries : List TranscriptEntry) → line_step s line ≡ Goes t entries → IsGoodView t.view → IsThere peer t.view
         → Leads s.view t.view (told entries)
     line-leads t line entries goes good there =
         let by = event_applies (event_of_line line.bytes) s t line entries goes in
         let view_is : t.view ≡ view_after by.event s.view = ap (λ (u : SpeakerState). u.view) by.leads in
         subst (λ (u : ViewValue). Leads s.view u (told entries)) (sym view_is)
-        (subst (λ (es : List Entry). Leads s.view (view_after by.event s.view) (told es)) (sym by.tells)
+        (subst (λ (es : List TranscriptEntry). Leads s.view (view_after by.event s.view) (told es)) (sym by.tells)
         (event-leads by.event (frame_in by.event) refl (subst IsGoodView view_is good) (subst (IsThere peer) view_is there)))
 
   -- ---- lines
 
-  lines-lead : (lines : List Line) (s t : SpeakerState) (entries : List Entry) → s.local.node ≡ node → s.local.next_hops ≡ Some hop → IsGoodView s.view
+  lines-lead : (lines : List Line) (s t : SpeakerState) (entries : List TranscriptEntry) → s.local.node ≡ node → s.local.next_hops ≡ Some hop
+      → IsGoodView s.view
       → StaysOver peer lines s t entries → Leads s.view t.view (told entries)
   lines-lead [] s t entries at hops good stays =
       subst (λ (u : SpeakerState). Leads s.view u.view (told entries)) (sym stays.0) (leads-nowhere s.view (told entries) (ap told stays.1))
@@ -371,9 +370,9 @@ module _ (peer : CompiledPeer) (node : List ℕ) (hop : NextHops) (are : are_hop
 
 module _ (start : SpeakerState) (peer : CompiledPeer) where
   abbrev HasCome : List Line → SpeakerState → Type 0
-  HasCome lines s = IsThere peer s.view → (told : List Entry) × HasComeSince start lines peer s told
+  HasCome lines s = IsThere peer s.view → (told : List TranscriptEntry) × HasComeSince start lines peer s told
 
-  stays-push : (lines : List Line) (s t u : SpeakerState) (line : Line) (told more : List Entry) → StaysOver peer lines s t told
+  stays-push : (lines : List Line) (s t u : SpeakerState) (line : Line) (told more : List TranscriptEntry) → StaysOver peer lines s t told
       → line_step t line ≡ Goes u more → IsThere peer u.view
       → StaysOver peer (lines ++ line ∷ []) s u (told ++ more)
   stays-push [] s t u line told more stays goes there = (
@@ -383,7 +382,7 @@ module _ (start : SpeakerState) (peer : CompiledPeer) where
     subst (λ (x : SpeakerState). line_step x line ≡ Goes u more) stays.0 goes,
     there,
     (refl, refl),
-    ap (λ (es : List Entry). es ++ more) stays.1 ∙ sym (append-nil more),
+    ap (λ (es : List TranscriptEntry). es ++ more) stays.1 ∙ sym (append-nil more),
   )
   stays-push (l ∷ lines) s t u line told more (next, first, rest, steps, here, later, is) goes there = (
     next,
@@ -392,10 +391,10 @@ module _ (start : SpeakerState) (peer : CompiledPeer) where
     steps,
     here,
     stays-push lines next t u line rest more later goes there,
-    ap (λ (es : List Entry). es ++ more) is ∙ append_assoc first rest more,
+    ap (λ (es : List TranscriptEntry). es ++ more) is ∙ append_assoc first rest more,
   )
 
-  come-next : (done : List Line) (s next : SpeakerState) (line : Line) (before first : List Entry) → AreTaken speaker_rules done start s before
+  come-next : (done : List Line) (s next : SpeakerState) (line : Line) (before first : List TranscriptEntry) → AreTaken speaker_rules done start s before
       → line_step s line ≡ Goes next first → HasCome done s → HasCome (done ++ line ∷ []) next
   come-next done s next line before first reached goes come there = elim (decided peer s.view) [
     | inl already ↦
@@ -427,7 +426,7 @@ module _ (start : SpeakerState) (peer : CompiledPeer) where
     )
   ]
 
-  come-by : (lines done : List Line) (s t : SpeakerState) (before entries : List Entry) → AreTaken speaker_rules done start s before → HasCome done s
+  come-by : (lines done : List Line) (s t : SpeakerState) (before entries : List TranscriptEntry) → AreTaken speaker_rules done start s before → HasCome done s
       → AreTaken speaker_rules lines s t entries → HasCome (done ++ lines) t
   come-by [] done s t before entries reached come taken =
       subst (λ (ls : List Line). HasCome ls t) (sym (append-nil done)) (subst (HasCome done) (sym taken.0) come)

@@ -1,18 +1,18 @@
 -- Items that are taken are lines that are taken.
-use Rattle.std.proofs.Common.{◌≡◌, List, [], ◌∷◌, ◌++◌, Result, refl, sym, ap, ◌∙◌}
+use Rattle.std.proofs.Common.{◌≡◌, List, [], ◌∷◌, ◌++◌, Result, refl, ap, ◌∙◌}
 use Rattle.std.proofs.lemmas.List.{append-nil}
 use Rattle.std.specs.List.{AllByRecursion}
 use Rattle.kube_model.specs.declared.event.Event.{Event}
 use Rattle.kube_model.specs.declared.event.EventFault.{EventFault}
-use Rattle.lane_drive.specs.Drive.{Told, AreHeard, AreTaken as AreItemsTaken, IsTaken, entries_of}
+use Rattle.lane_drive.specs.Drive.{Told, AreTaken as AreItemsTaken, entries_of}
 use Rattle.lane_drive.specs.Laws.{IsRead}
 use Rattle.lane_drive.proofs.ReadItems.{items_are_read}
 use Rattle.lane_mail.specs.declared.item.Item.{Item}
-use Rattle.line_run.specs.Machine.{Goes}
 use Rattle.line_run.specs.Run.{AreTaken}
+use Rattle.mlb_base.proofs.Lists.{all-behind, all-front}
 use Rattle.mlb_edge.specs.declared.lines.Line.{Line}
-use Rattle.mlb_speaker.specs.declared.entries.Entry.{Entry}
-use Rattle.mlb_speaker.specs.Causes.{awaits_none}
+use Rattle.mlb_speaker.specs.declared.transcript.TranscriptEntry.{TranscriptEntry}
+use Rattle.mlb_speaker.proofs.Quiet.{item_goes}
 use Rattle.mlb_speaker.specs.LaneLaws.{HaveEvents, event_in, ItemsAreAsLines, ItemsTellWhatIsAnnounced}
 use Rattle.mlb_speaker.specs.LaneLaws.{ItemsTellWhatChanges, ItemsSendWhatIsMeant, ItemsMakeRoutes}
 use Rattle.mlb_speaker.specs.Lanes.{belongs_to, item_step, lane_rules}
@@ -25,8 +25,7 @@ abbrev AreRead : List Item → Type 0
 AreRead items = AllByRecursion (IsRead belongs_to) items
 
 read_parts : (items : List Item) (item : Item) → AreRead (items ++ item ∷ []) → AreRead items × IsRead belongs_to item
-read_parts [] item all = (tt, all.0)
-read_parts (one ∷ items) item all = let (front, last) = read_parts items item all.1 in ((all.0, front), last)
+read_parts items item all = (all-front (IsRead belongs_to) items (item ∷ []) all, (all-behind (IsRead belongs_to) items (item ∷ []) all).0)
 
 -- a line that reads as the event of the item
 abbrev line_for : (item : Item) → IsRead belongs_to item → Line
@@ -43,21 +42,7 @@ lines_have (item ∷ items) all = rw all.0.read (ap (λ (events : List (Result E
 line_is : (item : Item) (read : IsRead belongs_to item) (s : SpeakerState) → line_step s (line_for item read) ≡ item_step s item
 line_is item read s = rw read.read refl
 
--- no reply is heard
-heard_none : (replies : List Line) (s t : SpeakerState) (entries : List Entry) → AreHeard lane_rules replies s t entries → (t ≡ s) × (entries ≡ [])
-heard_none [] s t entries heard = heard
-heard_none (line ∷ lines) s t entries (next, first, rest, waits, hears, others, is) = awaits_none s waits
-
-item_goes : (item : Item) (replies : List Line) (s t : SpeakerState) (entries : List Entry) → IsTaken lane_rules item replies s t entries
-    → item_step s item ≡ Goes t entries
-item_goes item replies s t entries taken =
-    let (same, none) = heard_none replies taken.next t taken.rest taken.heard in
-    let all : entries ≡ taken.first = taken.entries_are ∙ ap (λ (es : List Entry). taken.first ++ es) none ∙ append-nil taken.first in
-    taken.steps
-    ∙ ap (λ (u : SpeakerState). Goes u taken.first) (sym same)
-    ∙ ap (λ (es : List Entry). Goes t es) (sym all)
-
-lines_taken : (items : List Item) (all : AreRead items) (replies : List Line) (s t : SpeakerState) (told : List (Told Entry))
+lines_taken : (items : List Item) (all : AreRead items) (replies : List Line) (s t : SpeakerState) (told : List (Told TranscriptEntry))
     → AreItemsTaken lane_rules items replies s t told
     → AreTaken speaker_rules (lines_for items all) s t (entries_of told)
 lines_taken [] all replies s t told (none, same, nothing) = (same, ap entries_of nothing)
@@ -65,7 +50,7 @@ lines_taken (item ∷ items) all replies s t told (own, behind, next, entries, m
   next,
   entries,
   entries_of more,
-  line_is item all.0 s ∙ item_goes item own s next entries taken,
+  line_is item all.0 s ∙ item_goes lane_rules (λ u. refl) item own s next entries taken,
   lines_taken items all.1 behind next t more others,
   ap entries_of is,
 )

@@ -8,6 +8,7 @@ use Rattle.std.specs.Prelude.{slice_range}
 use Rattle.std.proofs.lemmas.Bool.{true≢false}
 use Rattle.mlb_base.specs.Items.{IsIn}
 use Rattle.mlb_base.proofs.Among.{contains-first, contains-later, contains-cons, contains-none}
+use Rattle.mlb_base.proofs.Lists.{all-append}
 use Rattle.pool_config.proofs.ItemLaws.{has_left, has_right}
 use Rattle.ip_ranges.specs.Values.{AddressValue}
 use Rattle.pool_config.specs.declared.compiled.CompiledPeer.{CompiledPeer}
@@ -16,7 +17,7 @@ use Rattle.kube_model.specs.declared.event.Event.{Event}
 use Rattle.speaker_view.specs.ViewValue.{ViewValue}
 use Rattle.speaker_view.specs.View.{view_after, note_by}
 use Rattle.l2_elect.specs.Listening.{listens_of, Listens}
-use Rattle.l2_elect.proofs.Filters.{Contains-filter}
+use Rattle.mlb_base.proofs.Lists.{filter-keeps}
 use Rattle.l2_elect.proofs.ListenLaws.{listens-means}
 use Rattle.neigh_frames.specs.Advertisement.{reply_to}
 use Rattle.neigh_frames.specs.Arp.{arp_answer_of, arp_reply, IsArpAnswer}
@@ -27,15 +28,15 @@ use Rattle.neigh_frames.proofs.NdpMeaning.{ndp-means}
 use Rattle.mlb_edge.specs.declared.lines.Line.{Line}
 use Rattle.line_run.specs.Machine.{Goes}
 use Rattle.speaker_words.specs.Reading.{said_in}
-use Rattle.mlb_speaker.specs.declared.entries.Entry.{Entry}
-use Rattle.mlb_speaker.specs.declared.entries.Entry.TheVariants.{Sent}
+use Rattle.mlb_speaker.specs.declared.transcript.TranscriptEntry.{TranscriptEntry}
+use Rattle.mlb_speaker.specs.declared.transcript.TranscriptEntry.TheVariants.{Sent}
 use Rattle.mlb_speaker.specs.declared.local_node.Interface.{Interface}
 use Rattle.mlb_speaker.specs.declared.local_node.NextHops.{NextHops}
 use Rattle.mlb_speaker.specs.declared.local_node.LocalNode.{LocalNode}
 use Rattle.announced_set.specs.Announced.{announced_by}
 use Rattle.mlb_speaker.specs.Clauses.{begun_with}
 use Rattle.announced_set.specs.Changes.{difference}
-use Rattle.mlb_speaker.specs.Entries.{withdrawn, withdrawals, announcements, entries_for}
+use Rattle.mlb_speaker.specs.Transcript.{withdrawn, withdrawals, announcements, entries_for}
 use Rattle.mlb_speaker.specs.Meant.{IsAnswer, IsOfThese, SendsAnswer, SendsOf, SendsWhatIsMeant, AllSendWhatIsMeant}
 use Rattle.mlb_speaker.specs.Sends.{unsolicited_of, unsolicited_by, unsolicited, listening, announcement, sent_on, answer_by, interface_of}
 use Rattle.mlb_speaker.specs.Told.{announced_in}
@@ -45,10 +46,6 @@ use Rattle.mlb_speaker.specs.Updates.{messages_to, updated, updates_to, updates_
 use Rattle.mlb_speaker.proofs.Steps.{frame_leaves}
 use Rattle.mlb_speaker.proofs.ChangesTold.{none-updates, change-announces}
 use Rattle.mlb_speaker.proofs.Telling.{event_applies}
-
-all-append : {X : Type 0} (P : X → Type 0) (xs ys : List X) → AllByRecursion P xs → AllByRecursion P ys → AllByRecursion P (xs ++ ys)
-all-append P [] ys h k = k
-all-append P (x ∷ xs) ys h k = (h.0, all-append P xs ys h.1 k)
 
 -- what stands in a list stands in what is made of each
 mapped : {X Y : Type 0} (f : X → Y) (xs : List X) (x : X) → Contains xs x → IsIn (map f xs) (f x)
@@ -63,8 +60,8 @@ none-some x e = absurd (cc)
 
 module _ (v : ViewValue) (local : LocalNode) where
   -- ---- unsolicited
-  module _ (all : List Entry) where
-    abbrev Meant : List Entry → Type 0
+  module _ (all : List TranscriptEntry) where
+    abbrev Meant : List TranscriptEntry → Type 0
     Meant entries = AllByRecursion (IsOfThese v local all) entries
 
     unsolicited-meant : (a : AddressValue) → IsIn (announced_in all) a → (interfaces : List Interface)
@@ -106,7 +103,7 @@ module _ (v : ViewValue) (local : LocalNode) where
         all-append (IsOfThese v local all) (updates_to u u' node hop peer) (flat_map (updates_to u u' node hop) peers)
         (messages-meant peer (messages_to u u' node hop peer)) (peers-meant u u' node hop peers)
 
-    hop-meant : (are : Bool) (entries : List Entry) → Meant entries → Meant (cond are entries [])
+    hop-meant : (are : Bool) (entries : List TranscriptEntry) → Meant entries → Meant (cond are entries [])
     hop-meant true entries meant = meant
     hop-meant false entries meant = tt
 
@@ -120,7 +117,7 @@ module _ (v : ViewValue) (local : LocalNode) where
       → IsIn (flat_map (announcement v local) addresses) (unsolicited_by a i)
   announced-sends a i there listens [] none = absurd none
   announced-sends a i there listens (b ∷ addresses) (inl here) =
-      let listed = Contains-filter (λ (j : Interface). listens_of v local.node j.name a) local.interfaces i there
+      let listed = filter-keeps (λ (j : Interface). listens_of v local.node j.name a) local.interfaces i there
       ((listens-means v local.node i.name a (listens_of v local.node i.name a) refl).1 listens) in
       let own : IsIn (unsolicited v local b) (unsolicited_by a i) = subst (λ (c : AddressValue). IsIn (unsolicited v local c) (unsolicited_by a i)) (sym here)
       (mapped (unsolicited_by a) (listening v local a) i listed) in
@@ -131,7 +128,7 @@ module _ (v : ViewValue) (local : LocalNode) where
 
   -- ---- answers
   -- the interface that is found is one of them, and has the name
-  find-is : (name : List ℕ) (interfaces : List Interface) (i : Interface) → find (λ j. bytes_eq j.name name) interfaces ≡ Some i
+  pub find-is : (name : List ℕ) (interfaces : List Interface) (i : Interface) → find (λ j. bytes_eq j.name name) interfaces ≡ Some i
       → Contains interfaces i × (i.name ≡ name)
   find-is name [] i e = absurd (cc)
   find-is name (j ∷ interfaces) i e = go (bytes_eq j.name name) refl e (find-is name interfaces i) where
@@ -145,7 +142,7 @@ module _ (v : ViewValue) (local : LocalNode) where
     go false other f rest = let (there, named) = rest f in (contains-later j interfaces i there, named)
 
   -- where none is found, none has it
-  find-none : (name : List ℕ) (interfaces : List Interface) → find (λ j. bytes_eq j.name name) interfaces ≡ None → (i : Interface) → Contains interfaces i
+  pub find-none : (name : List ℕ) (interfaces : List Interface) → find (λ j. bytes_eq j.name name) interfaces ≡ None → (i : Interface) → Contains interfaces i
       → i.name ≡ name → ⊥
   find-none name [] e i there named = contains-none i there
   find-none name (j ∷ interfaces) e i there named = go (bytes_eq j.name name) refl e (λ f later. find-none name interfaces f i later named) where
@@ -253,17 +250,17 @@ told-meant None s event is =
           ap (λ (n : List ℕ). Sent n (unsolicited_of a.family is.interface.mac a.number)) is.named ∙ ap (λ (f : List ℕ). Sent name f) (sym is.says) in
           has_left (λ e. e ≡ Sent name frame) (entries_for w s.local note before after) updates
           (inr (has_right (λ e. e ≡ Sent name frame) (withdrawals before after) (announcements w s.local before after)
-          (subst (λ (e : Entry). IsIn (announcements w s.local before after) e) same sent)));
+          (subst (λ (e : TranscriptEntry). IsIn (announcements w s.local before after) e) same sent)));
     }
 
-line-meant : (s : SpeakerState) (line : Line) (t : SpeakerState) (entries : List Entry) → line_step s line ≡ Goes t entries
+line-meant : (s : SpeakerState) (line : Line) (t : SpeakerState) (entries : List TranscriptEntry) → line_step s line ≡ Goes t entries
     → (event : Event) → event_of_line line.bytes ≡ Ok event → SendsOf t.view t.local (frame_in event) entries
 line-meant s line t entries goes event reads =
     let by = event_applies (event_of_line line.bytes) s t line entries goes in
     let read : Ok by.event ≡ Ok event = sym by.reads ∙ reads in
     let same : by.event ≡ event = cc in
     subst (λ (e : Event). SendsOf t.view t.local (frame_in e) entries) same
-    (subst (λ (es : List Entry). SendsOf t.view t.local (frame_in by.event) es) (sym by.tells)
+    (subst (λ (es : List TranscriptEntry). SendsOf t.view t.local (frame_in by.event) es) (sym by.tells)
     (subst (λ (u : SpeakerState). SendsOf u.view u.local (frame_in by.event) (entries_at (frame_in by.event) s by.event)) (sym by.leads)
     (told-meant (frame_in by.event) s by.event refl)))
 

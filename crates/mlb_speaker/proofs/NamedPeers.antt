@@ -1,5 +1,5 @@
 -- Peers of distinct names, and those of one name with the same AS numbers.
-use Rattle.std.proofs.Common.{◌≡◌, ℕ, Bool, true, false, ◌&&◌, ◌==◌, List, [], ◌∷◌, map, Option, Some, None}
+use Rattle.std.proofs.Common.{◌≡◌, ℕ, true, false, ◌&&◌, ◌==◌, List, [], ◌∷◌, map, Option, Some, None}
 use Rattle.std.proofs.Common.{Ordering, Less, refl, sym, ap, ◌∙◌, subst, inl, inr, ◌⊎◌, arith}
 use Rattle.std.proofs.lemmas.Bool.{and_parts, and_from, true≢false}
 use Rattle.std.proofs.lemmas.Bool.Decides.{nat_tests}
@@ -11,16 +11,13 @@ use Rattle.std.specs.Str.{bytes_eq}
 use Rattle.kube_labels.specs.Names.{name_cmp}
 use Rattle.kube_labels.proofs.NameLaws.{name_cmp-total}
 use Rattle.mlb_base.specs.Items.{Has, IsIn}
+use Rattle.mlb_base.proofs.Bools.{by_bool}
 use Rattle.pool_config.specs.ConfigValue.{ConfigValue, IsConfig}
 use Rattle.pool_config.specs.declared.compiled.CompiledPeer.{CompiledPeer}
 use Rattle.speaker_view.specs.ViewValue.{ViewValue}
 use Rattle.bgp_routes.specs.Peers.{peers_in, peers_of}
 use Rattle.mlb_speaker.specs.Heard.{IsSamePeer, IsThere}
 use Rattle.mlb_speaker.specs.Updates.{is_one_peer}
-
-pub by_bool : (P : Type 0) (b : Bool) → (b ≡ true → P) → (b ≡ false → P) → P
-by_bool P true t f = t refl
-by_bool P false t f = f refl
 
 pub number-is : (m n : ℕ) → (m == n) ≡ true → m ≡ n
 number-is m n e = grind (arith, nat_tests)

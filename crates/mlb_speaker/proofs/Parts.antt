@@ -24,14 +24,14 @@ use Rattle.bgp_updates.proofs.ReceivedLaws.{distinct}
 use Rattle.bgp_routes.specs.Differ.{DiffersAt}
 use Rattle.bgp_routes.specs.Few.{HasFewInForce}
 use Rattle.bgp_routes.specs.Kept.{AreKeptFor, KeptValue}
-use Rattle.bgp_routes.specs.Peers.{HeldTable, is_table_of, peers_in, peers_of, table_at, table_found, tables_of}
+use Rattle.bgp_routes.specs.Peers.{PeerTable, is_table_of, peers_in, peers_of, table_at, table_found, tables_of}
 use Rattle.bgp_routes.specs.Parts.{bgp_in, is_touched, part_of, prefix_under}
 use Rattle.bgp_routes.specs.Routes.{routes_of}
 use Rattle.bgp_routes.proofs.Agreeing.{others-agree}
 use Rattle.bgp_routes.proofs.Differing.{changed-differ}
 use Rattle.bgp_routes.proofs.Elements.{prefixes-ascend}
 use Rattle.bgp_routes.proofs.Families.{routes-of-ipv4}
-use Rattle.mlb_speaker.specs.declared.entries.Entry.{Entry}
+use Rattle.mlb_speaker.specs.declared.transcript.TranscriptEntry.{TranscriptEntry}
 use Rattle.mlb_speaker.specs.declared.local_node.NextHops.{NextHops}
 use Rattle.mlb_speaker.specs.declared.local_node.LocalNode.{LocalNode}
 use Rattle.mlb_speaker.specs.Kept.{AreKeptWith, AreRoutesOf, WereKept, WereKeptWith, WereRoutes, changed_part, part_at, part_updates}
@@ -50,7 +50,7 @@ module _ (v : ViewValue) (node : List ℕ) (both : Bool) where
   found-among peer [] = refl
   found-among peer (p ∷ peers) = by_test (is_one_peer peer p) (found-among peer peers) where
     by_test : (b : Bool) → unwrap_or (table_found peer (map (table_at v node both) peers)) [] ≡ table_by v node both (find (is_one_peer peer) peers)
-        → unwrap_or (option_map (λ (table : HeldTable). table.routes) (cond b (Some (table_at v node both p))
+        → unwrap_or (option_map (λ (table : PeerTable). table.routes) (cond b (Some (table_at v node both p))
         (find (is_table_of peer) (map (table_at v node both) peers)))) [] ≡ table_by v node both (cond b (Some p) (find (is_one_peer peer) peers))
     by_test true rest = refl
     by_test false rest = rest
@@ -84,7 +84,7 @@ module _ (change : ViewChange) (u v : ViewValue) (node : List ℕ) (hops : NextH
   abbrev both : Bool
   both = both_with hops
 
-  abbrev told : CompiledPeer → Routes → Routes → List Entry
+  abbrev told : CompiledPeer → Routes → Routes → List TranscriptEntry
   told peer before after = map (updated peer) (messages_between (peering_of peer hops.v4 hops.v6) before after)
 
   same-touched : DiffersAt u v node change.addresses → (table : Routes) → part_of u change.addresses table ≡ part_of v change.addresses table
@@ -121,7 +121,7 @@ module _ (change : ViewChange) (u v : ViewValue) (node : List ℕ) (hops : NextH
       → flat_map (part_updates change u v node hops) peers ≡ flat_map (updates_to u v node hops) peers
   parts-told [] are = refl
   parts-told (peer ∷ peers) are =
-      ap₂ (λ (first rest : List Entry). first ++ rest) (part-told peer (are peer (inl refl))) (parts-told peers (λ p there. are p (inr there)))
+      ap₂ (λ (first rest : List TranscriptEntry). first ++ rest) (part-told peer (are peer (inl refl))) (parts-told peers (λ p there. are p (inr there)))
 
   pub all-told : flat_map (part_updates change u v node hops) (peers_of v) ≡ flat_map (updates_to u v node hops) (peers_of v)
   all-told = parts-told (peers_of v) (λ peer there. there)
@@ -185,10 +185,10 @@ still-none o change kept v w is were =
 pub right-hop : (o : Option NextHops) (hop : NextHops) (kept : KeptValue) (w : ViewValue) → o ≡ Some hop → AreKeptFor w kept → AreKeptWith o kept w
 right-hop o hop kept w is right = subst (λ (h : Option NextHops). AreKeptWith h kept w) (sym is) right
 
-pub none-told : (o : Option NextHops) (entries : List Entry) (v w : ViewValue) (node : List ℕ) → o ≡ None → entries ≡ entries ++ updates_by v w node o
+pub none-told : (o : Option NextHops) (entries : List TranscriptEntry) (v w : ViewValue) (node : List ℕ) → o ≡ None → entries ≡ entries ++ updates_by v w node o
 none-told o entries v w node is = sym (append-nil entries) ∙ ap (λ (h : Option NextHops). entries ++ updates_by v w node h) (sym is)
 
-pub hop-told : (o : Option NextHops) (hop : NextHops) (before after : List Entry) (v w : ViewValue) (kept node : List ℕ) → o ≡ Some hop → kept ≡ node
+pub hop-told : (o : Option NextHops) (hop : NextHops) (before after : List TranscriptEntry) (v w : ViewValue) (kept node : List ℕ) → o ≡ Some hop → kept ≡ node
     → after ≡ before ++ cond (are_hops hop) (flat_map (updates_to v w kept hop) (peers_of w)) [] → after ≡ before ++ updates_by v w node o
 hop-told o hop before after v w kept node is own told =
     told

@@ -13,7 +13,7 @@ use Rattle.std.specs.List.{flat_map}
 use Rattle.ip_ranges.specs.Values.{AddressValue}
 use Rattle.l2_elect.specs.Kept.{AreKeptFor}
 use Rattle.announced_set.specs.Changes.{AreComeSince, AreWithdrawn}
-use Rattle.mlb_speaker.specs.declared.entries.Entry.TheVariants.{Noted}
+use Rattle.mlb_speaker.specs.declared.transcript.TranscriptEntry.TheVariants.{Noted}
 use Rattle.mlb_speaker.specs.Sends.{announcement}
 use Rattle.speaker_view.specs.declared.change.ViewChange.{ViewChange}
 use Rattle.speaker_view.specs.ViewValue.{ViewValue}
@@ -24,10 +24,10 @@ use Rattle.line_run.specs.Machine.{Goes}
 use Rattle.line_run.specs.Run.{text_of}
 use Rattle.line_run.specs.Steps.{Breaks}
 use Rattle.line_run.specs.Text.{Halts}
-use Rattle.mlb_speaker.specs.declared.entries.Entry.{Entry}
+use Rattle.mlb_speaker.specs.declared.transcript.TranscriptEntry.{TranscriptEntry}
 use Rattle.mlb_speaker.specs.declared.local_node.LocalNode.{LocalNode}
 use Rattle.announced_set.specs.Announced.{announced_by}
-use Rattle.mlb_speaker.specs.Entries.{entries_for, entry_text, withdrawn}
+use Rattle.mlb_speaker.specs.Transcript.{entries_for, entry_text, withdrawn}
 use Rattle.mlb_speaker.specs.Updates.{update_entries, updates_by}
 use Rattle.mlb_speaker.specs.Stream.{SpeakerState, Received, state_of, frame_in, changes_of, step_by, speaker_rules}
 
@@ -45,7 +45,7 @@ no_limit note (Some p) h = let wrong : noted note ≡ Err (Limit p.0 p.1) = (h p
 abbrev refused : ApplyFault → Result Note ApplyFault
 refused fault = Err fault
 
-abbrev unmade : ApplyFault → Result (List Entry) ApplyFault
+abbrev unmade : ApplyFault → Result (List TranscriptEntry) ApplyFault
 unmade fault = Err fault
 
 -- a fault is handed on
@@ -53,7 +53,8 @@ pub handed_on : (fault told : ApplyFault) → unmade fault ≡ unmade told → r
 handed_on fault told e = let same : fault ≡ told = cc in ap refused same
 
 -- what is told where addresses are withdrawn and announced, of whichever view the announcers were
-pub entries-told : {E : Type 0} (r : Result (List Entry) E) (local : LocalNode) (note : TakeNote) (held : List (AddressValue × List ℕ)) (v' : ViewValue)
+pub entries-told : {E : Type 0} (r : Result (List TranscriptEntry) E) (local : LocalNode) (note : TakeNote) (held : List (AddressValue × List ℕ))
+    (v' : ViewValue)
     (gone come : List AddressValue)
     → AreWithdrawn held v' local.node gone → AreComeSince held v' local.node come
     → IfOk r (λ entries. entries ≡ Noted note ∷ map withdrawn gone ++ flat_map (announcement v' local) come)
@@ -65,7 +66,7 @@ entries-told (Err e) local note held v' gone come w a is = tt
 
 module _ (v : ViewValue) (local : LocalNode) (event : Event) where
   -- what is told is what the views before and after it say
-  pub changes-are : (note : TakeNote) (v' : ViewValue) (entries : List Entry)
+  pub changes-are : (note : TakeNote) (v' : ViewValue) (entries : List TranscriptEntry)
       → entries ≡ entries_for v' local note (announced_by v local.node) (announced_by v' local.node) ++ updates_by v v' local.node local.next_hops
       → v' ≡ view_after event v → note ≡ note_by v event → entries ≡ changes_of (state_of v local) event
   changes-are note v' entries is w n =
@@ -74,7 +75,7 @@ module _ (v : ViewValue) (local : LocalNode) (event : Event) where
       ∙ ap (λ (u : ViewValue). entries_for u local (note_by v event) (announced_by v local.node) (announced_by u local.node) ++ update_entries v u local) w
 
   -- a line that reads as the event is to a state what the event is
-  pub breaks : (line : Line) (t : SpeakerState) (halt : Halt) (entries : List Entry) (before after : Option (List ℕ)) (k n : ℕ)
+  pub breaks : (line : Line) (t : SpeakerState) (halt : Halt) (entries : List TranscriptEntry) (before after : Option (List ℕ)) (k n : ℕ)
       → event_of_line line.bytes ≡ Ok event
       → step_by (state_of v local) event ≡ Goes t entries → Halts halt (text_of speaker_rules entries) before after k n
       → Breaks halt speaker_rules (state_of v local) line before after k n
@@ -100,8 +101,8 @@ frame_within (Members names) received v e = absurd (cc)
 frame_within Ignored received v e = absurd (cc)
 
 -- the text of the entries from one on
-pub next_is : (entries : List Entry) (i : ℕ) (e : Entry) → i < length entries → e ≡ get_or entries i e
+pub next_is : (entries : List TranscriptEntry) (i : ℕ) (e : TranscriptEntry) → i < length entries → e ≡ get_or entries i e
     → text_of speaker_rules (drop i entries) ≡ entry_text e ++ text_of speaker_rules (drop (i + 1) entries)
 next_is entries i e within is =
-    let cons : drop i entries ≡ e ∷ drop (suc i) entries = drop-cons entries i e within ∙ ap (λ (x : Entry). x ∷ drop (suc i) entries) (sym is) in
+    let cons : drop i entries ≡ e ∷ drop (suc i) entries = drop-cons entries i e within ∙ ap (λ (x : TranscriptEntry). x ∷ drop (suc i) entries) (sym is) in
     rw (add-one, cons)

@@ -6,6 +6,7 @@ use Rattle.std.proofs.lemmas.Bool.{false_from_ne_true}
 use Rattle.std.proofs.lemmas.List.{append-nil}
 use Rattle.std.proofs.lemmas.List.Sums.{fold-append}
 use Rattle.mlb_base.proofs.Among.{contains-none}
+use Rattle.mlb_base.proofs.Bools.{by_bool}
 use Rattle.ip_ranges.specs.Values.{AddressValue, same_address, has_address}
 use Rattle.pool_config.specs.declared.compiled.CompiledPeer.{CompiledPeer}
 use Rattle.ip_ranges.proofs.AddressLaws.{same_address-is, same_address-itself}
@@ -22,15 +23,15 @@ use Rattle.l2_elect.proofs.Least.{announces-announcer, announcer-announces}
 use Rattle.mlb_edge.specs.declared.lines.Line.{Line}
 use Rattle.line_run.specs.Machine.{Goes}
 use Rattle.line_run.specs.Run.{AreTaken}
-use Rattle.mlb_speaker.specs.declared.entries.Entry.{Entry}
-use Rattle.mlb_speaker.specs.declared.entries.Entry.TheVariants.{Noted, Withdrawn, Announced, Sent, Updated}
+use Rattle.mlb_speaker.specs.declared.transcript.TranscriptEntry.{TranscriptEntry}
+use Rattle.mlb_speaker.specs.declared.transcript.TranscriptEntry.TheVariants.{Noted, Withdrawn, Announced, Sent, Updated}
 use Rattle.announced_set.specs.Announced.{announced_by}
 use Rattle.mlb_speaker.specs.Clauses.{nothing_said, begun_with}
 use Rattle.mlb_speaker.specs.declared.local_node.Interface.{Interface}
 use Rattle.mlb_speaker.specs.declared.local_node.NextHops.{NextHops}
 use Rattle.mlb_speaker.specs.declared.local_node.LocalNode.{LocalNode}
 use Rattle.announced_set.specs.Changes.{difference}
-use Rattle.mlb_speaker.specs.Entries.{withdrawn, withdrawals, announcements, entries_for}
+use Rattle.mlb_speaker.specs.Transcript.{withdrawn, withdrawals, announcements, entries_for}
 use Rattle.mlb_speaker.specs.Sends.{unsolicited_by, listening, announcement, answer_on, answer_by, sent_on, interface_of}
 use Rattle.mlb_speaker.specs.Stream.{SpeakerState, Received, first_state, state_after, frame_in, changes_of}
 use Rattle.mlb_speaker.specs.Stream.{entries_at, entries_of, limit_step, event_step, line_step, speaker_rules}
@@ -43,10 +44,6 @@ use Rattle.announced_set.proofs.Listed.{has-announced}
 use Rattle.mlb_speaker.proofs.Steps.{frame_leaves}
 
 -- ---- tests
-
-by_bool : (P : Type 0) (b : Bool) → (b ≡ true → P) → (b ≡ false → P) → P
-by_bool P true t f = t refl
-by_bool P false t f = f refl
 
 or_false : (b : Bool) → b ≡ (b || false)
 or_false true = refl
@@ -84,14 +81,14 @@ module _ (a : AddressValue) where
 
   -- ---- what was told of the address
 
-  abbrev says : Bool → Entry → Bool
+  abbrev says : Bool → TranscriptEntry → Bool
   says before (Noted note) = before
   says before (Withdrawn b) = cond (same_address a b) false before
   says before (Announced b) = cond (same_address a b) true before
   says before (Sent interface frame) = before
   says before (Updated peer message) = before
 
-  stands : Bool → List Entry → Bool
+  stands : Bool → List TranscriptEntry → Bool
   stands before told = fold says before told
 
   withdrawn_bools : (b c d : Bool) → ((cond c false b) && not d) ≡ (b && not (c || d))
@@ -157,7 +154,7 @@ module _ (a : AddressValue) where
       ∙ ap (λ (c : Bool). fold says c (flat_map (updates_to v v' node hop) peers)) (stands-messages peer (messages_to v v' node hop peer) b)
       ∙ stands-peers v v' node hop peers b
 
-  stands-hop : (are : Bool) (entries : List Entry) (b : Bool) → fold says b entries ≡ b → fold says b (cond are entries []) ≡ b
+  stands-hop : (are : Bool) (entries : List TranscriptEntry) (b : Bool) → fold says b entries ≡ b → fold says b (cond are entries []) ≡ b
   stands-hop true entries b stands = stands
   stands-hop false entries b stands = refl
 
@@ -174,19 +171,19 @@ module _ (a : AddressValue) where
     go (Some answer) = refl
 
   -- what stands told is what is announced
-  Keeps : SpeakerState → List Entry → Type 0
+  Keeps : SpeakerState → List TranscriptEntry → Type 0
   Keeps s told = fold says false told ≡ announces_of s.view s.local.node a
 
 -- ---- runs
 
 -- a line that is taken is read as an event, which is applied
-pub record Applies (read : Result Event EventFault) (s t : SpeakerState) (entries : List Entry) : Type 0 where
+pub record Applies (read : Result Event EventFault) (s t : SpeakerState) (entries : List TranscriptEntry) : Type 0 where
   pub event : Event
   pub reads : read ≡ Ok event
   pub leads : t ≡ state_after s event
   pub tells : entries ≡ entries_of s event
 
-limit_applies : (o : Option (Kind × ℕ)) (s t : SpeakerState) (event : Event) (entries : List Entry) → limit_step s event o ≡ Goes t entries
+limit_applies : (o : Option (Kind × ℕ)) (s t : SpeakerState) (event : Event) (entries : List TranscriptEntry) → limit_step s event o ≡ Goes t entries
     → Applies (Ok event) s t entries
 limit_applies None s t event entries e =
     let leads : t ≡ state_after s event = cc in
@@ -194,7 +191,8 @@ limit_applies None s t event entries e =
     record { event = event; reads = refl; leads = leads; tells = tells }
 limit_applies (Some p) s t event entries e = absurd (cc)
 
-pub event_applies : (read : Result Event EventFault) (s t : SpeakerState) (line : Line) (entries : List Entry) → event_step s line read ≡ Goes t entries
+pub event_applies : (read : Result Event EventFault) (s t : SpeakerState) (line : Line) (entries : List TranscriptEntry)
+    → event_step s line read ≡ Goes t entries
     → Applies read s t entries
 event_applies (Err fault) s t line entries e = absurd (cc)
 event_applies (Ok event) s t line entries e = limit_applies (limit_by s.view event) s t event entries e
@@ -218,7 +216,7 @@ module _ (a : AddressValue) where
       ∙ stands-updates a s.view (view_after event s.view) s.local.node s.local.next_hops (has_address (announced_by (view_after event s.view) s.local.node) a)
       ∙ has-announced (view_after event s.view) s.local.node a
 
-  kept : (s t : SpeakerState) (line : Line) (told entries : List Entry) → fold (says a) false told ≡ announces_of s.view s.local.node a
+  kept : (s t : SpeakerState) (line : Line) (told entries : List TranscriptEntry) → fold (says a) false told ≡ announces_of s.view s.local.node a
       → line_step s line ≡ Goes t entries
       → fold (says a) false (told ++ entries) ≡ announces_of t.view t.local.node a
   kept s t line told entries keeps goes =
@@ -226,19 +224,20 @@ module _ (a : AddressValue) where
       let event = by.event in
       fold-append (says a) false told entries
       ∙ ap (λ (b : Bool). fold (says a) b entries) keeps
-      ∙ ap (λ (es : List Entry). fold (says a) (announces_of s.view s.local.node a) es) by.tells
+      ∙ ap (λ (es : List TranscriptEntry). fold (says a) (announces_of s.view s.local.node a) es) by.tells
       ∙ told_by_event (frame_in event) s event refl
       ∙ ap (λ (u : SpeakerState). announces_of u.view u.local.node a) (sym by.leads)
 
-  taken_keeps : (lines : List Line) (s t : SpeakerState) (told entries : List Entry) → fold (says a) false told ≡ announces_of s.view s.local.node a
+  taken_keeps : (lines : List Line) (s t : SpeakerState) (told entries : List TranscriptEntry) → fold (says a) false told ≡ announces_of s.view s.local.node a
       → AreTaken speaker_rules lines s t entries
       → fold (says a) false (told ++ entries) ≡ announces_of t.view t.local.node a
   taken_keeps [] s t told entries keeps taken =
-      ap (λ (es : List Entry). fold (says a) false (told ++ es)) taken.1 ∙ ap (λ (es : List Entry). fold (says a) false es) (append-nil told) ∙ keeps
+      ap (λ (es : List TranscriptEntry). fold (says a) false (told ++ es)) taken.1
+      ∙ ap (λ (es : List TranscriptEntry). fold (says a) false es) (append-nil told) ∙ keeps
       ∙ ap (λ (u : SpeakerState). announces_of u.view u.local.node a) (sym taken.0)
   taken_keeps (line ∷ lines) s t told entries keeps (next, first, rest, goes, others, is) =
-      ap (λ (es : List Entry). fold (says a) false (told ++ es)) is
-      ∙ ap (λ (es : List Entry). fold (says a) false es) (sym (append_assoc told first rest))
+      ap (λ (es : List TranscriptEntry). fold (says a) false (told ++ es)) is
+      ∙ ap (λ (es : List TranscriptEntry). fold (says a) false es) (sym (append_assoc told first rest))
       ∙ taken_keeps lines next t (told ++ first) rest (kept s next line told first keeps goes) others
 
   -- nothing is announced at first
@@ -248,7 +247,7 @@ module _ (a : AddressValue) where
 
   -- ---- the relation
 
-  lasts_on : (later : List Entry) → AllLeave a later → fold (says a) true later ≡ true
+  lasts_on : (later : List TranscriptEntry) → AllLeave a later → fold (says a) true later ≡ true
   lasts_on [] all = refl
   lasts_on (Noted note ∷ later) all = lasts_on later all.1
   lasts_on (Withdrawn b ∷ later) all = by_bool _ (same_address a b)
@@ -260,17 +259,17 @@ module _ (a : AddressValue) where
   lasts_on (Sent interface frame ∷ later) all = lasts_on later all.1
   lasts_on (Updated peer message ∷ later) all = lasts_on later all.1
 
-  told-stands : (told : List Entry) → IsToldOf told a → fold (says a) false told ≡ true
+  told-stands : (told : List TranscriptEntry) → IsToldOf told a → fold (says a) false told ≡ true
   told-stands told is =
-      ap (λ (es : List Entry). fold (says a) false es) is.split
+      ap (λ (es : List TranscriptEntry). fold (says a) false es) is.split
       ∙ fold-append (says a) false is.earlier (Announced a ∷ is.later)
       ∙ ap (λ (c : Bool). fold (says a) (cond c true (fold (says a) false is.earlier)) is.later) (same_address-itself a)
       ∙ lasts_on is.later is.lasts
 
-  behind : (e : Entry) (told : List Entry) → IsToldOf told a → IsToldOf (e ∷ told) a
-  behind e told is = record { earlier = e ∷ is.earlier; later = is.later; split = ap (λ es. e ∷ es) is.split; lasts = is.lasts }
+  pub told_later : (e : TranscriptEntry) (told : List TranscriptEntry) → IsToldOf told a → IsToldOf (e ∷ told) a
+  told_later e told is = record { earlier = e ∷ is.earlier; later = is.later; split = ap (λ es. e ∷ es) is.split; lasts = is.lasts }
 
-  told_here : (b : AddressValue) (told : List Entry) → b ≡ a → AllLeave a told → IsToldOf (Announced b ∷ told) a
+  pub told_here : (b : AddressValue) (told : List TranscriptEntry) → b ≡ a → AllLeave a told → IsToldOf (Announced b ∷ told) a
   told_here b told is all = record { earlier = []; later = told; split = ap (λ (x : AddressValue). Announced x ∷ told) is; lasts = all }
 
   withdrawn_case : (c : Bool) (x : AddressValue) (b : Bool) → same_address a x ≡ c → cond c false b ≡ true → (b ≡ true) × (x ≢ a)
@@ -278,37 +277,37 @@ module _ (a : AddressValue) where
   withdrawn_case false x b s p =
       (p, λ e. let u : same_address a x ≡ true = subst (λ (y : AddressValue). same_address a y ≡ true) (sym e) (same_address-itself a) in absurd (cc))
 
-  withdrawn_cases : (x : AddressValue) (b : Bool) (told : List Entry) → ((cond (same_address a x) false b ≡ true) × AllLeave a told) ⊎ IsToldOf told a
+  withdrawn_cases : (x : AddressValue) (b : Bool) (told : List TranscriptEntry) → ((cond (same_address a x) false b ≡ true) × AllLeave a told) ⊎ IsToldOf told a
       → ((b ≡ true) × AllLeave a (Withdrawn x ∷ told)) ⊎ IsToldOf (Withdrawn x ∷ told) a
   withdrawn_cases x b told (inl p) = let q = withdrawn_case (same_address a x) x b refl p.0 in inl (q.0, (q.1, p.1))
-  withdrawn_cases x b told (inr is) = inr (behind (Withdrawn x) told is)
+  withdrawn_cases x b told (inr is) = inr (told_later (Withdrawn x) told is)
 
-  announced_case : (c : Bool) (x : AddressValue) (b : Bool) (told : List Entry) → same_address a x ≡ c → cond c true b ≡ true → AllLeave a told
+  announced_case : (c : Bool) (x : AddressValue) (b : Bool) (told : List TranscriptEntry) → same_address a x ≡ c → cond c true b ≡ true → AllLeave a told
       → ((b ≡ true) × AllLeave a (Announced x ∷ told)) ⊎ IsToldOf (Announced x ∷ told) a
   announced_case true x b told s p all = inr (told_here x told (sym (same_address-is a x s)) all)
   announced_case false x b told s p all = inl (p, (tt, all))
 
-  announced_cases : (x : AddressValue) (b : Bool) (told : List Entry) → ((cond (same_address a x) true b ≡ true) × AllLeave a told) ⊎ IsToldOf told a
+  announced_cases : (x : AddressValue) (b : Bool) (told : List TranscriptEntry) → ((cond (same_address a x) true b ≡ true) × AllLeave a told) ⊎ IsToldOf told a
       → ((b ≡ true) × AllLeave a (Announced x ∷ told)) ⊎ IsToldOf (Announced x ∷ told) a
   announced_cases x b told (inl p) = announced_case (same_address a x) x b told refl p.0 p.1
-  announced_cases x b told (inr is) = inr (behind (Announced x) told is)
+  announced_cases x b told (inr is) = inr (told_later (Announced x) told is)
 
-  sent_cases : (interface frame : List ℕ) (b : Bool) (told : List Entry) → ((b ≡ true) × AllLeave a told) ⊎ IsToldOf told a
+  sent_cases : (interface frame : List ℕ) (b : Bool) (told : List TranscriptEntry) → ((b ≡ true) × AllLeave a told) ⊎ IsToldOf told a
       → ((b ≡ true) × AllLeave a (Sent interface frame ∷ told)) ⊎ IsToldOf (Sent interface frame ∷ told) a
   sent_cases interface frame b told (inl p) = inl (p.0, (tt, p.1))
-  sent_cases interface frame b told (inr is) = inr (behind (Sent interface frame) told is)
+  sent_cases interface frame b told (inr is) = inr (told_later (Sent interface frame) told is)
 
-  updated_cases : (peer message : List ℕ) (b : Bool) (told : List Entry) → ((b ≡ true) × AllLeave a told) ⊎ IsToldOf told a
+  updated_cases : (peer message : List ℕ) (b : Bool) (told : List TranscriptEntry) → ((b ≡ true) × AllLeave a told) ⊎ IsToldOf told a
       → ((b ≡ true) × AllLeave a (Updated peer message ∷ told)) ⊎ IsToldOf (Updated peer message ∷ told) a
   updated_cases peer message b told (inl p) = inl (p.0, (tt, p.1))
-  updated_cases peer message b told (inr is) = inr (behind (Updated peer message) told is)
+  updated_cases peer message b told (inr is) = inr (told_later (Updated peer message) told is)
 
-  noted_cases : (note : TakeNote) (b : Bool) (told : List Entry) → ((b ≡ true) × AllLeave a told) ⊎ IsToldOf told a
+  noted_cases : (note : TakeNote) (b : Bool) (told : List TranscriptEntry) → ((b ≡ true) × AllLeave a told) ⊎ IsToldOf told a
       → ((b ≡ true) × AllLeave a (Noted note ∷ told)) ⊎ IsToldOf (Noted note ∷ told) a
   noted_cases note b told (inl p) = inl (p.0, (tt, p.1))
-  noted_cases note b told (inr is) = inr (behind (Noted note) told is)
+  noted_cases note b told (inr is) = inr (told_later (Noted note) told is)
 
-  stands_cases : (told : List Entry) (b : Bool) → fold (says a) b told ≡ true → ((b ≡ true) × AllLeave a told) ⊎ IsToldOf told a
+  stands_cases : (told : List TranscriptEntry) (b : Bool) → fold (says a) b told ≡ true → ((b ≡ true) × AllLeave a told) ⊎ IsToldOf told a
   stands_cases [] b h = inl (h, tt)
   stands_cases (Noted note ∷ told) b h = noted_cases note b told (stands_cases told b h)
   stands_cases (Sent interface frame ∷ told) b h = sent_cases interface frame b told (stands_cases told b h)
@@ -316,15 +315,15 @@ module _ (a : AddressValue) where
   stands_cases (Withdrawn x ∷ told) b h = withdrawn_cases x b told (stands_cases told (cond (same_address a x) false b) h)
   stands_cases (Announced x ∷ told) b h = announced_cases x b told (stands_cases told (cond (same_address a x) true b) h)
 
-  told_of : (told : List Entry) → ((false ≡ true) × AllLeave a told) ⊎ IsToldOf told a → IsToldOf told a
+  told_of : (told : List TranscriptEntry) → ((false ≡ true) × AllLeave a told) ⊎ IsToldOf told a → IsToldOf told a
   told_of told (inl p) = let wrong : false ≡ true = p.0 in absurd (cc)
   told_of told (inr is) = is
 
-  stands-told : (told : List Entry) → fold (says a) false told ≡ true → IsToldOf told a
+  stands-told : (told : List TranscriptEntry) → fold (says a) false told ≡ true → IsToldOf told a
   stands-told told h = told_of told (stands_cases told false h)
 
 -- the local node stays
-pub station_kept : (lines : List Line) (s t : SpeakerState) (entries : List Entry) → AreTaken speaker_rules lines s t entries → t.local ≡ s.local
+pub station_kept : (lines : List Line) (s t : SpeakerState) (entries : List TranscriptEntry) → AreTaken speaker_rules lines s t entries → t.local ≡ s.local
 station_kept [] s t entries taken = ap (λ (u : SpeakerState). u.local) taken.0
 station_kept (line ∷ lines) s t entries (next, first, rest, goes, others, is) =
     station_kept lines next t rest others ∙ ap (λ (u : SpeakerState). u.local) (event_applies (event_of_line line.bytes) s next line first goes).leads

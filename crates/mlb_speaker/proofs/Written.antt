@@ -7,6 +7,8 @@ use Rattle.std.proofs.lemmas.Slice.Eq.{bytes_eq-Decides}
 use Rattle.std.specs.List.{AllByRecursion, flat_map}
 use Rattle.std.specs.Prelude.{⊤}
 use Rattle.std.specs.Str.{bytes_eq}
+use Rattle.mlb_base.proofs.Bools.{by_bool}
+use Rattle.mlb_base.proofs.Lists.{all-append, all-behind, all-front}
 use Rattle.ip_ranges.specs.Values.{AddressValue, IsOfFamily}
 use Rattle.kube_lines.specs.Apart.{is_plain}
 use Rattle.kube_lines.specs.OutputLines.{accepted_text, announce_text, refused_text, send_text, update_text, withdraw_text}
@@ -19,14 +21,15 @@ use Rattle.line_run.specs.Run.{text_of}
 use Rattle.line_run.specs.Text.{line_of}
 use Rattle.mlb_edge.specs.Rows.{HasNoNewline, RawLine, raw_lines}
 use Rattle.mlb_edge.proofs.RowLemmas.{raw_lines-ended}
-use Rattle.mlb_speaker.specs.declared.entries.Entry.{Entry}
-use Rattle.mlb_speaker.specs.declared.entries.Entry.TheVariants.{Noted, Withdrawn, Announced, Sent, Updated}
-use Rattle.mlb_speaker.specs.Entries.{entry_text, note_text}
+use Rattle.mlb_speaker.specs.declared.transcript.TranscriptEntry.{TranscriptEntry}
+use Rattle.mlb_speaker.specs.declared.transcript.TranscriptEntry.TheVariants.{Noted, Withdrawn, Announced, Sent, Updated}
+use Rattle.program_lines.specs.Lines.{note_text}
+use Rattle.mlb_speaker.specs.Transcript.{entry_text}
 use Rattle.mlb_speaker.specs.Heard.{message_to, messages_told}
 use Rattle.mlb_speaker.specs.Stream.{speaker_rules}
 use Rattle.mlb_speaker.specs.Told.{AllLeave, IsToldOf, Leaves}
 use Rattle.mlb_speaker.specs.Written.{AreWrittenTo, IsAnnouncedIn, lines_in, written_lines}
-use Rattle.mlb_speaker.proofs.NamedPeers.{by_bool}
+use Rattle.mlb_speaker.proofs.Telling.{told_here, told_later}
 
 cons-head : {T : Type 0} (x y : T) (xs ys : List T) → x ∷ xs ≡ y ∷ ys → x ≡ y
 cons-head x y xs ys e = cc
@@ -58,7 +61,7 @@ note_lines Accepted = accepted_text ∷ []
 note_lines (Refused fault) = refused_text fault ∷ []
 
 -- the lines that are written of an entry
-abbrev entry_lines : Entry → List (List ℕ)
+abbrev entry_lines : TranscriptEntry → List (List ℕ)
 entry_lines (Noted note) = note_lines note
 entry_lines (Withdrawn a) = withdraw_text a ∷ []
 entry_lines (Announced a) = announce_text a ∷ []
@@ -70,27 +73,27 @@ note-cut Quiet more = refl
 note-cut Accepted more = line-cut accepted_text more lines-read.accepted.one
 note-cut (Refused fault) more = line-cut (refused_text fault) more (lines-read.refused fault).one
 
-entry-cut : (entry : Entry) (more : List ℕ) → lines_in (entry_text entry ++ more) ≡ entry_lines entry ++ lines_in more
+entry-cut : (entry : TranscriptEntry) (more : List ℕ) → lines_in (entry_text entry ++ more) ≡ entry_lines entry ++ lines_in more
 entry-cut (Noted note) more = note-cut note more
 entry-cut (Withdrawn a) more = line-cut (withdraw_text a) more (lines-read.withdraw a).one
 entry-cut (Announced a) more = line-cut (announce_text a) more (lines-read.announce a).one
 entry-cut (Sent interface frame) more = line-cut (send_text interface frame) more (lines-read.send interface frame).one
 entry-cut (Updated peer message) more = line-cut (update_text peer message) more (lines-read.update peer message).one
 
-pub entries-cut : (told : List Entry) → written_lines told ≡ flat_map entry_lines told
+pub entries-cut : (told : List TranscriptEntry) → written_lines told ≡ flat_map entry_lines told
 unfolding raw_lines
 entries-cut [] = refl
 entries-cut (entry ∷ told) = entry-cut entry (text_of speaker_rules told) ∙ ap (λ (lines : List (List ℕ)). entry_lines entry ++ lines) (entries-cut told)
 
 -- ---- the addresses that are told fit their families
-abbrev FitsAt : Entry → Type 0
+abbrev pub FitsAt : TranscriptEntry → Type 0
 FitsAt (Noted note) = ⊤
 FitsAt (Withdrawn a) = IsOfFamily a
 FitsAt (Announced a) = IsOfFamily a
 FitsAt (Sent interface frame) = ⊤
 FitsAt (Updated peer message) = ⊤
 
-abbrev pub AllFit : List Entry → Type 0
+abbrev pub AllFit : List TranscriptEntry → Type 0
 AllFit told = AllByRecursion FitsAt told
 
 -- ---- announcements
@@ -99,65 +102,48 @@ module _ (a : AddressValue) (fits : IsOfFamily a) where
   abbrev Stays : List ℕ → Type 0
   Stays line = line ≢ withdraw_text a
 
-  stays-append : (xs ys : List (List ℕ)) → AllByRecursion Stays xs → AllByRecursion Stays ys → AllByRecursion Stays (xs ++ ys)
-  stays-append [] ys x y = y
-  stays-append (line ∷ xs) ys x y = (x.0, stays-append xs ys x.1 y)
-
-  stays-behind : (xs ys : List (List ℕ)) → AllByRecursion Stays (xs ++ ys) → AllByRecursion Stays xs × AllByRecursion Stays ys
-  stays-behind [] ys all = (tt, all)
-  stays-behind (line ∷ xs) ys all = let (front, back) = stays-behind xs ys all.1 in ((all.0, front), back)
-
   note-stays : (note : TakeNote) → AllByRecursion Stays (note_lines note)
   note-stays Quiet = tt
   note-stays Accepted = (λ is. accepted-withdrawn a is, tt)
   note-stays (Refused fault) = (λ is. refused-withdrawn fault a is, tt)
 
   -- no line of an entry that leaves the address withdraws it
-  entry-stays : (entry : Entry) → FitsAt entry → Leaves a entry → AllByRecursion Stays (entry_lines entry)
+  entry-stays : (entry : TranscriptEntry) → FitsAt entry → Leaves a entry → AllByRecursion Stays (entry_lines entry)
   entry-stays (Noted note) fit leaves = note-stays note
   entry-stays (Withdrawn b) fit leaves = (λ is. leaves (one-withdrawn b a fit fits is), tt)
   entry-stays (Announced b) fit leaves = (λ is. announced-withdrawn b a is, tt)
   entry-stays (Sent interface frame) fit leaves = (λ is. sent-withdrawn interface frame a is, tt)
   entry-stays (Updated peer message) fit leaves = (λ is. updated-withdrawn peer message a is, tt)
 
-  all-stay : (told : List Entry) → AllFit told → AllLeave a told → AllByRecursion Stays (flat_map entry_lines told)
+  all-stay : (told : List TranscriptEntry) → AllFit told → AllLeave a told → AllByRecursion Stays (flat_map entry_lines told)
   all-stay [] fit leave = tt
   all-stay (entry ∷ told) fit leave =
-      stays-append (entry_lines entry) (flat_map entry_lines told) (entry-stays entry fit.0 leave.0) (all-stay told fit.1 leave.1)
+      all-append Stays (entry_lines entry) (flat_map entry_lines told) (entry-stays entry fit.0 leave.0) (all-stay told fit.1 leave.1)
 
   -- an entry none of whose lines withdraws the address leaves it
-  stays-leaves : (entry : Entry) → AllByRecursion Stays (entry_lines entry) → Leaves a entry
+  stays-leaves : (entry : TranscriptEntry) → AllByRecursion Stays (entry_lines entry) → Leaves a entry
   stays-leaves (Noted note) all = tt
   stays-leaves (Withdrawn b) all = λ same. all.0 (ap withdraw_text same)
   stays-leaves (Announced b) all = tt
   stays-leaves (Sent interface frame) all = tt
   stays-leaves (Updated peer message) all = tt
 
-  all-leave : (told : List Entry) → AllByRecursion Stays (flat_map entry_lines told) → AllLeave a told
+  all-leave : (told : List TranscriptEntry) → AllByRecursion Stays (flat_map entry_lines told) → AllLeave a told
   all-leave [] all = tt
-  all-leave (entry ∷ told) all = let (own, more) = stays-behind (entry_lines entry) (flat_map entry_lines told) all in
-      (stays-leaves entry own, all-leave told more)
+  all-leave (entry ∷ told) all = (
+    stays-leaves entry (all-front Stays (entry_lines entry) (flat_map entry_lines told) all),
+    all-leave told (all-behind Stays (entry_lines entry) (flat_map entry_lines told) all),
+  )
 
-  fit-behind : (xs ys : List Entry) → AllFit (xs ++ ys) → AllFit ys
-  fit-behind [] ys fit = fit
-  fit-behind (entry ∷ xs) ys fit = fit-behind xs ys fit.1
-
-  to-lines : (told : List Entry) → AllFit told → IsToldOf told a → IsAnnouncedIn (flat_map entry_lines told) a
+  to-lines : (told : List TranscriptEntry) → AllFit told → IsToldOf told a → IsAnnouncedIn (flat_map entry_lines told) a
   to-lines told fit is =
-      let behind : AllFit (Announced a ∷ is.later) = fit-behind is.earlier (Announced a ∷ is.later) (subst AllFit is.split fit) in
+      let behind : AllFit (Announced a ∷ is.later) = all-behind FitsAt is.earlier (Announced a ∷ is.later) (subst AllFit is.split fit) in
       record {
         earlier = flat_map entry_lines is.earlier;
         later = flat_map entry_lines is.later;
         split = ap (flat_map entry_lines) is.split ∙ flat_map-append entry_lines is.earlier (Announced a ∷ is.later);
         lasts = all-stay is.later behind.1 is.lasts;
       }
-
-  -- the address is announced by this entry, and left by all that follow
-  told-here : (b : AddressValue) (told : List Entry) → b ≡ a → AllLeave a told → IsToldOf (Announced b ∷ told) a
-  told-here b told is leave = record { earlier = []; later = told; split = ap (λ (c : AddressValue). Announced c ∷ told) is; lasts = leave }
-
-  told-later : (entry : Entry) (told : List Entry) → IsToldOf told a → IsToldOf (entry ∷ told) a
-  told-later entry told is = record { earlier = entry ∷ is.earlier; later = is.later; split = ap (λ (es : List Entry). entry ∷ es) is.split; lasts = is.lasts }
 
   -- the first of some lines is another one
   in-rest : (line : List ℕ) (lines : List (List ℕ)) → (line ≡ announce_text a → ⊥) → IsAnnouncedIn (line ∷ lines) a → IsAnnouncedIn lines a
@@ -183,28 +169,28 @@ module _ (a : AddressValue) (fits : IsOfFamily a) where
   note-rest Accepted lines is = in-rest accepted_text lines (λ same. accepted-announced a same) is
   note-rest (Refused fault) lines is = in-rest (refused_text fault) lines (λ same. refused-announced fault a same) is
 
-  from-lines : (told : List Entry) → AllFit told → IsAnnouncedIn (flat_map entry_lines told) a → IsToldOf told a
+  from-lines : (told : List TranscriptEntry) → AllFit told → IsAnnouncedIn (flat_map entry_lines told) a → IsToldOf told a
   from-lines [] fit is = absurd (none is.earlier is.later is.split) where
     none : (earlier later : List (List ℕ)) → [] ≡ earlier ++ announce_text a ∷ later → ⊥
     none [] later split = no-cons (announce_text a) later split
     none (one ∷ earlier) later split = no-cons one (earlier ++ announce_text a ∷ later) split
-  from-lines (Noted note ∷ told) fit is = told-later (Noted note) told (from-lines told fit.1 (note-rest note (flat_map entry_lines told) is))
+  from-lines (Noted note ∷ told) fit is = told_later a (Noted note) told (from-lines told fit.1 (note-rest note (flat_map entry_lines told) is))
   from-lines (Withdrawn b ∷ told) fit is =
-      told-later (Withdrawn b) told
+      told_later a (Withdrawn b) told
       (from-lines told fit.1 (in-rest (withdraw_text b) (flat_map entry_lines told) (λ same. announced-withdrawn a b (sym same)) is))
   from-lines (Announced b ∷ told) fit is = elim (here-or-later (announce_text b) (flat_map entry_lines told) is) [
-    | inl here ↦ told-here b told (one-announced b a fit.0 fits here.0) (all-leave told here.1)
-    | inr later ↦ told-later (Announced b) told (from-lines told fit.1 later)
+    | inl here ↦ told_here a b told (one-announced b a fit.0 fits here.0) (all-leave told here.1)
+    | inr later ↦ told_later a (Announced b) told (from-lines told fit.1 later)
   ]
   from-lines (Sent interface frame ∷ told) fit is =
-      told-later (Sent interface frame) told
+      told_later a (Sent interface frame) told
       (from-lines told fit.1 (in-rest (send_text interface frame) (flat_map entry_lines told) (λ same. sent-announced interface frame a same) is))
   from-lines (Updated peer message ∷ told) fit is =
-      told-later (Updated peer message) told
+      told_later a (Updated peer message) told
       (from-lines told fit.1 (in-rest (update_text peer message) (flat_map entry_lines told) (λ same. updated-announced peer message a same) is))
 
   -- the written lines say of the address what the entries do
-  pub announced-written : (told : List Entry) → AllFit told → IsAnnouncedIn (written_lines told) a ↔ IsToldOf told a
+  pub announced-written : (told : List TranscriptEntry) → AllFit told → IsAnnouncedIn (written_lines told) a ↔ IsToldOf told a
   announced-written told fit = (
     λ is. from-lines told fit (subst (λ (lines : List (List ℕ)). IsAnnouncedIn lines a) (entries-cut told) is),
     λ is. subst (λ (lines : List (List ℕ)). IsAnnouncedIn lines a) (sym (entries-cut told)) (to-lines told fit is),
@@ -231,7 +217,7 @@ module _ (name : List ℕ) where
       (λ other. rw other (passed (update_text peer message) lines messages
       (λ m is. true≢false (sym ((bytes_eq-Decides peer name).1 (one-updated peer message name m is)) ∙ other)) are))
 
-  all-written : (told : List Entry) → AreWrittenTo name (flat_map entry_lines told) (messages_told name told)
+  all-written : (told : List TranscriptEntry) → AreWrittenTo name (flat_map entry_lines told) (messages_told name told)
   all-written [] = refl
   all-written (Noted note ∷ told) = note-passed note (flat_map entry_lines told) (messages_told name told) (all-written told)
   all-written (Withdrawn a ∷ told) = passed (withdraw_text a) (flat_map entry_lines told) (messages_told name told)
@@ -244,5 +230,5 @@ module _ (name : List ℕ) where
   all-written (Updated peer message ∷ told) = update-written peer message (flat_map entry_lines told) (messages_told name told) (all-written told)
 
   -- the update lines that are written carry the messages that the entries tell
-  pub messages-written : (told : List Entry) → AreWrittenTo name (written_lines told) (messages_told name told)
+  pub messages-written : (told : List TranscriptEntry) → AreWrittenTo name (written_lines told) (messages_told name told)
   messages-written told = subst (λ (lines : List (List ℕ)). AreWrittenTo name lines (messages_told name told)) (sym (entries-cut told)) (all-written told)

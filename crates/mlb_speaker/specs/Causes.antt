@@ -1,6 +1,6 @@
 -- Why a run of the speaker stops.
 use Rattle.std.specs.Bool.{IsTrue}
-use Rattle.std.proofs.Common.{◌≡◌, ◌≢◌, ℕ, ◌+◌, Bool, true, false, Option, Some, None, Result, Ok, Err, is_err, refl, sym, ap, subst}
+use Rattle.std.proofs.Common.{◌≡◌, ◌≢◌, ℕ, ◌+◌, Bool, true, false, Option, Some, None, Result, Ok, Err, is_err, inl, refl, sym, ap, subst}
 use Rattle.std.proofs.lemmas.Bool.{true≢false}
 use Rattle.kube_labels.specs.Names.{name_cmp}
 use Rattle.kube_model.specs.Keys.{key_cmp}
@@ -19,7 +19,7 @@ use Rattle.object_cache.specs.Limits.{most_services, most_nodes, passes, first_p
 use Rattle.object_history.specs.Cache.{Cached}
 use Rattle.speaker_view.specs.View.{limit_by}
 use Rattle.kube_lines.specs.OutputLines.{is_taken}
-use Rattle.lane_drive.specs.LaneRules.{IsHeldLimit}
+use Rattle.lane_drive.specs.LaneRules.{IsHeldLimit, IsItemLimit}
 use Rattle.lane_mail.specs.declared.item.Item.{Item}
 use Rattle.lane_mail.specs.declared.lane.Lane.{Lane}
 use Rattle.lane_mail.specs.declared.lane.Lane.TheVariants.{First, Second}
@@ -93,6 +93,9 @@ held_limit (Some p) s event status is e =
 -- with the item that a run stops at more would be held than may be
 pub item_causes : (s : SpeakerState) (item : Item) (status : Status) → item_step s item ≡ Stops status → IsHeldLimit status
 item_causes s item status e = held_limit (limit_by s.view item.event) s item.event status refl e
+
+pub items_stop : (s : SpeakerState) (item : Item) (status : Status) → item_step s item ≡ Stops status → IsItemLimit status
+items_stop s item status e = inl (item_causes s item status e)
 
 -- no reply is awaited
 pub awaits_none : {T : Type 0} (s : SpeakerState) → lane_rules.waits s ≡ true → T

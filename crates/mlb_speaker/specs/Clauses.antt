@@ -1,5 +1,5 @@
 -- What the speaker owes at each status where all comes by one stream: the clauses of a run over lines, with the speaker's rules and the words' node and class.
-use Rattle.std.specs.Prelude.{◌≡◌, ◌⊎◌, ℕ, List, [], String, Option, Some, None}
+use Rattle.std.specs.Prelude.{◌≡◌, ◌⊎◌, ℕ, Bool, false, if◌then◌else◌, List, [], String, Option, Some, None}
 use Rattle.std.specs.List.{AllZip}
 use Rattle.ip_ranges.specs.Values.{AddressValue}
 use Rattle.kube_model.specs.declared.status.Status.{Status}
@@ -21,7 +21,7 @@ use Rattle.speaker_words.specs.Reading.{said_in}
 use Rattle.speaker_words.specs.Words.{Said, Say}
 
 abbrev pub nothing_said : Said
-nothing_said = record { node = []; class = None; interfaces = []; next_hop = None; next_hop_v6 = None; lanes = None }
+nothing_said = record { node = []; class = None; interfaces = []; next_hop = None; next_hop_v6 = None; lanes = None; responder = false }
 
 -- where the words aren't of the table there is no run
 abbrev pub begun_with : Option Said → SpeakerState
@@ -39,6 +39,18 @@ lanes_in (Some said) = said.lanes
 
 abbrev pub lanes_of : List (List ℕ) → Option LaneNames
 lanes_of words = lanes_in (said_in words)
+
+-- whether words ask for a responder
+abbrev pub responds_in : Option Said → Bool
+responds_in None = false
+responds_in (Some said) = said.responder
+
+-- the lane files where words ask for a responder, and where they don't
+abbrev pub responder_lanes_of : List (List ℕ) → Option LaneNames
+responder_lanes_of words = if responds_in (said_in words) then lanes_of words else None
+
+abbrev pub plain_lanes_of : List (List ℕ) → Option LaneNames
+plain_lanes_of words = if responds_in (said_in words) then None else lanes_of words
 
 -- so it is where the words name no lane files: all comes by one stream
 abbrev pub InStream : {Z : Type 0} → List (String Z) → Type 0 → Type 0
@@ -98,3 +110,13 @@ WritesWhatIsAnnounced words = in_lines.WritesWhatIsAnnounced (begun_by words)
 -- and the update lines carry each peer's routes
 abbrev pub WritesPeersTheirRoutes : {Z : Type 0} → List (String Z) → Type 0
 WritesPeersTheirRoutes words = in_lines.WritesPeersTheirRoutes (begun_by words)
+
+-- So is each run that the words begin, whatever its lines: it is that of what they say, and so much is told and written of them.
+pub record RunsTell {Z : Type 0} (words : List (String Z)) : Type 0 where
+  pub named : SpeaksForNamed words
+  pub told : TellsWhatIsAnnounced words
+  pub changes : TellsWhatChanges words
+  pub sends : SendsWhatIsMeant words
+  pub routes : TellsPeersTheirRoutes words
+  pub told_written : WritesWhatIsAnnounced words
+  pub routes_written : WritesPeersTheirRoutes words

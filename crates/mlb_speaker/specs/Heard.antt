@@ -19,13 +19,13 @@ use Rattle.bgp_reading.specs.Laws.{joined}
 use Rattle.bgp_reading.specs.Update.{IsMessageOf}
 use Rattle.bgp_routes.specs.Peers.{peers_of}
 use Rattle.bgp_routes.specs.Routes.{routes_of}
-use Rattle.mlb_speaker.specs.declared.entries.Entry.{Entry}
-use Rattle.mlb_speaker.specs.declared.entries.Entry.TheVariants.{Noted, Withdrawn, Announced, Sent, Updated}
+use Rattle.mlb_speaker.specs.declared.transcript.TranscriptEntry.{TranscriptEntry}
+use Rattle.mlb_speaker.specs.declared.transcript.TranscriptEntry.TheVariants.{Noted, Withdrawn, Announced, Sent, Updated}
 use Rattle.mlb_speaker.specs.declared.local_node.NextHops.{NextHops}
 use Rattle.mlb_speaker.specs.Stream.{SpeakerState, first_state, line_step, speaker_rules}
 
 -- the message to the peer of this name, if the entry is one
-abbrev pub message_to : List ℕ → Entry → List (List ℕ)
+abbrev pub message_to : List ℕ → TranscriptEntry → List (List ℕ)
 message_to name (Updated peer message) = if bytes_eq peer name then message ∷ [] else []
 message_to name (Noted note) = []
 message_to name (Withdrawn a) = []
@@ -33,7 +33,7 @@ message_to name (Announced a) = []
 message_to name (Sent interface frame) = []
 
 -- the messages of its update lines
-abbrev pub messages_told : List ℕ → List Entry → List (List ℕ)
+abbrev pub messages_told : List ℕ → List TranscriptEntry → List (List ℕ)
 messages_told name told = flat_map (message_to name) told
 
 -- the name and the AS numbers are the peer's
@@ -47,20 +47,20 @@ abbrev pub IsThere : CompiledPeer → ViewValue → Type 0
 IsThere peer v = Has (IsSamePeer peer) (peers_of v)
 
 -- these lines are taken, one after the other, and the peer is there after each of them
-abbrev pub StaysOver : CompiledPeer → List Line → SpeakerState → SpeakerState → List Entry → Type 0
+abbrev pub StaysOver : CompiledPeer → List Line → SpeakerState → SpeakerState → List TranscriptEntry → Type 0
 StaysOver peer [] s t told = (t ≡ s) × (told ≡ [])
 StaysOver peer (line ∷ lines) s t told =
-    (next : SpeakerState) × (first : List Entry) × (rest : List Entry) × (line_step s line ≡ Goes next first) × IsThere peer next.view
+    (next : SpeakerState) × (first : List TranscriptEntry) × (rest : List TranscriptEntry) × (line_step s line ≡ Goes next first) × IsThere peer next.view
     × StaysOver peer lines next t rest × (told ≡ first ++ rest)
 
 -- The peer came, or its AS numbers last changed, with the first of the later lines: it isn't there before them, and is after each.
 -- `told` is what was told over them.
-pub record HasComeSince (start : SpeakerState) (lines : List Line) (peer : CompiledPeer) (t : SpeakerState) (told : List Entry) : Type 0 where
+pub record HasComeSince (start : SpeakerState) (lines : List Line) (peer : CompiledPeer) (t : SpeakerState) (told : List TranscriptEntry) : Type 0 where
   pub earlier : List Line
   pub later : List Line
   pub split : lines ≡ earlier ++ later
   pub s : SpeakerState
-  pub before : List Entry
+  pub before : List TranscriptEntry
   pub reached : AreTaken speaker_rules earlier start s before
   pub absent : ¬ (IsThere peer s.view)
   pub stays : StaysOver peer later s t told
@@ -84,14 +84,14 @@ AreToldBy peer hops messages = (sender : Peering) × IsSender peer hops sender �
 -- and with a next hop of IPv6 of both families.
 abbrev pub HearsSince : (start : SpeakerState) (lines : List Line) (t : SpeakerState) → NextHops → CompiledPeer → Type 0
 HearsSince start lines t hops peer =
-    ((told : List Entry) × HasComeSince start lines peer t told)
-    × ((told : List Entry) → HasComeSince start lines peer t told
+    ((told : List TranscriptEntry) × HasComeSince start lines peer t told)
+    × ((told : List TranscriptEntry) → HasComeSince start lines peer t told
     → GiveTable (messages_told peer.name told) (routes_of t.view start.local.node peer (is_some hops.v6))
     × AreToldBy peer hops (messages_told peer.name told))
 
 -- so it is after any lines, with a next hop, with each peer of the configuration in force
 abbrev pub HearsItsRoutes : SpeakerState → Type 0
-HearsItsRoutes start = (lines : List Line) (t : SpeakerState) (all : List Entry) → AreTaken speaker_rules lines start t all
+HearsItsRoutes start = (lines : List Line) (t : SpeakerState) (all : List TranscriptEntry) → AreTaken speaker_rules lines start t all
     → (hops : NextHops) → start.local.next_hops ≡ Some hops → (peer : CompiledPeer) → IsIn (peers_of t.view) peer → HearsSince start lines t hops peer
 
 -- so it is of a run that begins with what words say

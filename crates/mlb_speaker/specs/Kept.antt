@@ -9,7 +9,7 @@ use Rattle.bgp_updates.specs.Between.{peering_of, messages_between}
 use Rattle.bgp_routes.specs.Differ.{DiffersAt}
 use Rattle.bgp_routes.specs.Kept.{AreKeptFor, HoldsNone, KeptValue}
 use Rattle.bgp_routes.specs.Parts.{part_of}
-use Rattle.mlb_speaker.specs.declared.entries.Entry.{Entry}
+use Rattle.mlb_speaker.specs.declared.transcript.TranscriptEntry.{TranscriptEntry}
 use Rattle.mlb_speaker.specs.declared.local_node.NextHops.{NextHops}
 use Rattle.mlb_speaker.specs.declared.local_node.LocalNode.{LocalNode}
 use Rattle.mlb_speaker.specs.Updates.{both_with, table_of, updated}
@@ -60,10 +60,10 @@ abbrev pub part_at : ViewChange → ViewValue → List ℕ → Bool → Compiled
 part_at change v node both peer = changed_part change v (table_of v node both peer)
 
 -- what tells the peer to make the one table of the other
-abbrev pub updates_of : List (PrefixValue × Terms) → List (PrefixValue × Terms) → NextHops → CompiledPeer → List Entry
+abbrev pub updates_of : List (PrefixValue × Terms) → List (PrefixValue × Terms) → NextHops → CompiledPeer → List TranscriptEntry
 updates_of before after hops peer = map (updated peer) (messages_between (peering_of peer hops.v4 hops.v6) before after)
 
 -- what tells it of the parts
-abbrev pub part_updates : ViewChange → ViewValue → ViewValue → List ℕ → NextHops → CompiledPeer → List Entry
+abbrev pub part_updates : ViewChange → ViewValue → ViewValue → List ℕ → NextHops → CompiledPeer → List TranscriptEntry
 part_updates change before after node hops peer =
     updates_of (part_at change before node (both_with hops) peer) (part_at change after node (both_with hops) peer) hops peer

@@ -10,13 +10,13 @@ use Rattle.command_options.specs.Options.{texts_of}
 use Rattle.lane_drive.specs.Asking.{AnswersAll, HasStopped}
 use Rattle.lane_drive.specs.Clauses as drive
 use Rattle.lane_drive.specs.Complete as can_be_done
-use Rattle.lane_drive.specs.Files.{FilesView}
+use Rattle.lane_drive.specs.Files.{FilesState}
 use Rattle.lane_mail.specs.declared.item.Item.{Item}
 use Rattle.lane_run.specs.Opening.{MayBeOpened}
-use Rattle.lane_run.specs.Views.{SourceView, lane_view, outside}
+use Rattle.lane_run.specs.Outside.{SourceState, lane_state, outside}
 use Rattle.lane_run.specs.Waiting.{MayBeAwaited}
 use Rattle.line_run.specs.Clauses.{CanPass}
-use Rattle.mlb_speaker.specs.Clauses.{begun_by, lanes_of}
+use Rattle.mlb_speaker.specs.Clauses.{begun_by, lanes_of, plain_lanes_of}
 use Rattle.mlb_speaker.specs.LaneLaws as laws
 use Rattle.mlb_speaker.specs.Lanes.{belongs_to, lane_rules, name_of}
 use Rattle.mlb_speaker.specs.Stream.{IsCause}
@@ -25,21 +25,27 @@ use Rattle.mlb_speaker.specs.Stream.{IsCause}
 abbrev pub OverLanes : {Z : Type 0} → List (String Z) → (LaneNames → Type 0) → Type 0
 OverLanes words so = (files : LaneNames) → lanes_of (texts_of words) ≡ Some files → so files
 
+-- and where they ask for no responder
+abbrev pub WithoutResponder : {Z : Type 0} → List (String Z) → (LaneNames → Type 0) → Type 0
+WithoutResponder words so = (files : LaneNames) → plain_lanes_of (texts_of words) ≡ Some files → so files
+
 -- a file of these bytes, of which nothing is read yet
-abbrev pub opened : (List ℕ → Option (List ℕ)) → (List ℕ → Bool) → List ℕ → SourceView
-opened bytes safe file = lane_view (bytes file) (Some file) 0 (safe file)
+abbrev pub opened : (List ℕ → Option (List ℕ)) → (List ℕ → Bool) → List ℕ → SourceState
+opened bytes safe file = lane_state (bytes file) (Some file) 0 (safe file)
 
 -- the next item may be waited for wherever just the text of all items taken before stands written
-abbrev pub LanesMayWait : {Z R K : Type 0} → List (String Z) → (R → List Item → K → Type 0) → R → (input : SourceView) → (K → Option (List ℕ)) → (K → ℕ) → K
+abbrev pub LanesMayWait : {Z R K : Type 0} → List (String Z) → (R → List Item → K → Type 0) → R → (input : SourceState) → (K → Option (List ℕ)) → (K → ℕ) → K
     → Type 0
 LanesMayWait words may_wait rt input written faults out =
-    OverLanes words (λ files. MayBeAwaited may_wait rt written (AnswersAll lane_rules (begun_by words) (outside drive.unread input (written out) (faults out))))
+    WithoutResponder words
+    (λ files. MayBeAwaited may_wait rt written (AnswersAll lane_rules (begun_by words) (outside drive.unread input (written out) (faults out))))
 
 -- what the files still give may be dropped wherever the run stopped at the last item taken
-abbrev pub LanesMayDrop : {Z R K : Type 0} → List (String Z) → (R → List Item → K → Type 0) → R → (input : SourceView) → (K → Option (List ℕ)) → (K → ℕ) → K
+abbrev pub LanesMayDrop : {Z R K : Type 0} → List (String Z) → (R → List Item → K → Type 0) → R → (input : SourceState) → (K → Option (List ℕ)) → (K → ℕ) → K
     → Type 0
 LanesMayDrop words may_drop rt input written faults out =
-    OverLanes words (λ files. MayBeAwaited may_drop rt written (HasStopped lane_rules (begun_by words) (outside drive.unread input (written out) (faults out))))
+    WithoutResponder words
+    (λ files. MayBeAwaited may_drop rt written (HasStopped lane_rules (begun_by words) (outside drive.unread input (written out) (faults out))))
 
 -- the watched file may be opened, and once it is open that of the frames
 abbrev pub LanesMayOpen : {Z F : Type 0} → List (String Z) → (F → List ℕ → Type 0) → (F → F → List ℕ → Type 0) → F → Type 0
@@ -47,45 +53,45 @@ LanesMayOpen words may_open Opens unopened = OverLanes words (λ files. MayBeOpe
 
 -- how the run ended, once both files are open
 abbrev pub EndsLanes : {Z K : Type 0} → List (String Z) → Status → (List ℕ → Option (List ℕ)) → (List ℕ → Bool)
-    → (seen seen' : FilesView) (input input' : SourceView) → (K → Option (List ℕ)) → (K → ℕ) → K → K → Type 0
+    → (seen seen' : FilesState) (input input' : SourceState) → (K → Option (List ℕ)) → (K → ℕ) → K → K → Type 0
 EndsLanes words status bytes safe seen seen' input input' written faults out out' =
-    OverLanes words (λ files. drive.AtEnd belongs_to lane_rules (begun_by words) files.first files.second seen seen'
+    WithoutResponder words (λ files. drive.AtEnd belongs_to lane_rules (begun_by words) files.first files.second seen seen'
     (opened bytes safe files.first) (opened bytes safe files.second) input input' (written out) (written out') (faults out) (faults out') status)
 
 -- where it is done, all that both files carry was taken, and just its text was written
-abbrev pub LanesDone : {Z K : Type 0} → List (String Z) → Status → (List ℕ → Option (List ℕ)) → (input input' : SourceView) → (K → Option (List ℕ)) → K → K
+abbrev pub LanesDone : {Z K : Type 0} → List (String Z) → Status → (List ℕ → Option (List ℕ)) → (input input' : SourceState) → (K → Option (List ℕ)) → K → K
     → Type 0
-LanesDone words status bytes input input' written out out' = OverLanes words (λ files. drive.AtDone belongs_to lane_rules (begun_by words)
+LanesDone words status bytes input input' written out out' = WithoutResponder words (λ files. drive.AtDone belongs_to lane_rules (begun_by words)
     (bytes files.first) (bytes files.second) status input.left input'.left (written out) (written out'))
 
 -- however it ends, a beginning of the text of some items was written, and they are of each file a beginning of what it carries
 abbrev pub LanesWriteOnly : {Z K : Type 0} → List (String Z) → (List ℕ → Option (List ℕ)) → (left : Option (List ℕ)) → (K → Option (List ℕ)) → K → K → Type 0
-LanesWriteOnly words bytes left written out out' = OverLanes words (λ files. drive.OnlyWrites belongs_to lane_rules (begun_by words)
+LanesWriteOnly words bytes left written out out' = WithoutResponder words (λ files. drive.OnlyWrites belongs_to lane_rules (begun_by words)
     (bytes files.first) (bytes files.second) left (written out) (written out'))
 
 -- where each line of both files can be applied, in whatever order the events of both come, and no count of faults rises, the run is done, but for want
 -- of memory
 abbrev pub LanesComplete : {Z : Type 0} → List (String Z) → Status → (List ℕ → Option (List ℕ))
-    → (seen seen' : FilesView) (input input' : SourceView) (writes writes' : ℕ) → Type 0
+    → (seen seen' : FilesState) (input input' : SourceState) (writes writes' : ℕ) → Type 0
 LanesComplete words status bytes seen seen' input input' writes writes' =
-    OverLanes words (λ files. can_be_done.IsComplete belongs_to lane_rules (begun_by words)
+    WithoutResponder words (λ files. can_be_done.IsComplete belongs_to lane_rules (begun_by words)
     (bytes files.first) (bytes files.second) status seen seen' input.left input.faults input'.faults writes writes')
 
 -- a lane isn't opened exactly where the opening of its file failed, and then nothing was read; else no opening failed
-abbrev pub AtLaneOpenFault : {Z : Type 0} → List (String Z) → Status → (seen seen' : FilesView) → Type 0
+abbrev pub AtLaneOpenFault : {Z : Type 0} → List (String Z) → Status → (seen seen' : FilesState) → Type 0
 AtLaneOpenFault words status seen seen' = OverLanes words (λ files. drive.AtOpenFault name_of files.first files.second status seen seen')
 
 -- a lane isn't read only where the count of failed readings of its file rose
-abbrev pub AtLaneReadFault : {Z : Type 0} → List (String Z) → Status → (seen seen' : FilesView) → (reads reads' : ℕ) → Type 0
+abbrev pub AtLaneReadFault : {Z : Type 0} → List (String Z) → Status → (seen seen' : FilesState) → (reads reads' : ℕ) → Type 0
 AtLaneReadFault words status seen seen' reads reads' =
     OverLanes words (λ files. drive.AtReadFault name_of files.first files.second status seen seen' reads reads')
 
 -- of no other file an opening or a reading failed
-abbrev pub LeavesOtherFiles : {Z : Type 0} → List (String Z) → (seen seen' : FilesView) → Type 0
+abbrev pub LeavesOtherFiles : {Z : Type 0} → List (String Z) → (seen seen' : FilesState) → Type 0
 LeavesOtherFiles words seen seen' = OverLanes words (λ files. drive.LeavesOthers files.first files.second seen seen')
 
 -- nothing is read of the input
-abbrev pub LeavesInput : {Z : Type 0} → List (String Z) → (input input' : SourceView) → Type 0
+abbrev pub LeavesInput : {Z : Type 0} → List (String Z) → (input input' : SourceState) → Type 0
 LeavesInput words input input' = OverLanes words (λ files. drive.LeavesInput input input')
 
 abbrev pub IsLane : LaneName → Type 0
@@ -127,3 +133,11 @@ LanesTellWhatChanges words = laws.ItemsTellWhatChanges (begun_by words)
 -- after any items, with a next hop, each peer of the configuration in force has heard its routes
 abbrev pub LanesMakeRoutes : {Z : Type 0} → List (String Z) → Type 0
 LanesMakeRoutes words = laws.ItemsMakeRoutes (begun_by words)
+
+-- So is each run over lanes that the words begin, whatever its items: it is as one in one stream, and so much is told of them.
+pub record LanesTell {Z : Type 0} (words : List (String Z)) : Type 0 where
+  pub as_lines : LanesAreAsLines words
+  pub told : LanesTellWhatIsAnnounced words
+  pub changes : LanesTellWhatChanges words
+  pub sends : LanesSendWhatIsMeant words
+  pub routes : LanesMakeRoutes words

@@ -14,7 +14,7 @@ use Rattle.line_run.specs.Run.{AreTaken}
 use Rattle.mlb_base.specs.Items.{IsIn}
 use Rattle.mlb_edge.specs.declared.lines.Line.{Line}
 use Rattle.pool_config.specs.declared.compiled.CompiledPeer.{CompiledPeer}
-use Rattle.mlb_speaker.specs.declared.entries.Entry.{Entry}
+use Rattle.mlb_speaker.specs.declared.transcript.TranscriptEntry.{TranscriptEntry}
 use Rattle.mlb_speaker.specs.declared.local_node.NextHops.{NextHops}
 use Rattle.mlb_speaker.specs.Heard.{HearsSince}
 use Rattle.mlb_speaker.specs.Lanes.{belongs_to, item_step, lane_rules}
@@ -23,7 +23,7 @@ use Rattle.mlb_speaker.specs.Stream.{SpeakerState, frame_in, speaker_rules}
 use Rattle.mlb_speaker.specs.Told.{IsToldOf, TellsChange}
 
 -- Items of two lanes are taken one after the other. More may come behind them.
-pub record TakesItems (start : SpeakerState) (items behind : List Item) (t : SpeakerState) (told : List (Told Entry)) : Type 0 where
+pub record TakesItems (start : SpeakerState) (items behind : List Item) (t : SpeakerState) (told : List (Told TranscriptEntry)) : Type 0 where
   pub first : Option (List ℕ)
   pub second : Option (List ℕ)
   pub begin : AreBeginnings belongs_to first second (items ++ behind)
@@ -40,27 +40,27 @@ HaveEvents lines items = map (λ line. event_of_line line.bytes) lines ≡ map e
 
 -- Whatever items are taken, there are lines with their events, one for each, that are taken so in one stream.
 abbrev pub ItemsAreAsLines : SpeakerState → Type 0
-ItemsAreAsLines start = (items : List Item) (t : SpeakerState) (told : List (Told Entry)) → TakesItems start items [] t told
+ItemsAreAsLines start = (items : List Item) (t : SpeakerState) (told : List (Told TranscriptEntry)) → TakesItems start items [] t told
     → (lines : List Line) × HaveEvents lines items × AreTaken speaker_rules lines start t (entries_of told)
 
 -- After any items that are taken, the addresses with an announce line and no later withdraw line are exactly those that the node announces.
 abbrev pub ItemsTellWhatIsAnnounced : SpeakerState → Type 0
-ItemsTellWhatIsAnnounced start = (items : List Item) (t : SpeakerState) (told : List (Told Entry)) → TakesItems start items [] t told
+ItemsTellWhatIsAnnounced start = (items : List Item) (t : SpeakerState) (told : List (Told TranscriptEntry)) → TakesItems start items [] t told
     → (a : AddressValue) → IsToldOf (entries_of told) a ↔ IsAnnouncer t.view a start.local.node
 
 -- At each item just the frames are sent that are meant of its event, by what was shown then.
 abbrev pub ItemsSendWhatIsMeant : SpeakerState → Type 0
-ItemsSendWhatIsMeant start = (items : List Item) (item : Item) (s t : SpeakerState) (told : List (Told Entry)) (entries : List Entry)
+ItemsSendWhatIsMeant start = (items : List Item) (item : Item) (s t : SpeakerState) (told : List (Told TranscriptEntry)) (entries : List TranscriptEntry)
     → TakesItems start items (item ∷ []) s told → item_step s item ≡ Goes t entries → SendsOf t.view t.local (frame_in item.event) entries
 
 -- At each item just what its event changes for the node is told.
 abbrev pub ItemsTellWhatChanges : SpeakerState → Type 0
-ItemsTellWhatChanges start = (items : List Item) (item : Item) (s t : SpeakerState) (told : List (Told Entry)) (entries : List Entry)
+ItemsTellWhatChanges start = (items : List Item) (item : Item) (s t : SpeakerState) (told : List (Told TranscriptEntry)) (entries : List TranscriptEntry)
     → TakesItems start items (item ∷ []) s told → item_step s item ≡ Goes t entries → TellsChange start.local.node s.view t.view entries
 
 -- After any items that are taken, with a next hop, it is with each peer of the configuration in force as behind lines with their events, which are
 -- taken so in one stream: it has come with one of them, and what it was told since makes its routes of the empty table.
 abbrev pub ItemsMakeRoutes : SpeakerState → Type 0
-ItemsMakeRoutes start = (items : List Item) (t : SpeakerState) (told : List (Told Entry)) → TakesItems start items [] t told
+ItemsMakeRoutes start = (items : List Item) (t : SpeakerState) (told : List (Told TranscriptEntry)) → TakesItems start items [] t told
     → (hops : NextHops) → start.local.next_hops ≡ Some hops → (peer : CompiledPeer) → IsIn (peers_of t.view) peer
     → (lines : List Line) × HaveEvents lines items × AreTaken speaker_rules lines start t (entries_of told) × HearsSince start lines t hops peer

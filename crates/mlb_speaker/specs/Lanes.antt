@@ -9,8 +9,8 @@ use Rattle.lane_mail.specs.declared.item.Item.{Item}
 use Rattle.lane_mail.specs.declared.lane.Lane.{Lane}
 use Rattle.lane_mail.specs.declared.lane.Lane.TheVariants.{First, Second}
 use Rattle.line_run.specs.Machine.{Transition, Stops}
-use Rattle.mlb_speaker.specs.declared.entries.Entry.{Entry}
-use Rattle.mlb_speaker.specs.Entries.{entry_text}
+use Rattle.mlb_speaker.specs.declared.transcript.TranscriptEntry.{TranscriptEntry}
+use Rattle.mlb_speaker.specs.Transcript.{entry_text}
 use Rattle.mlb_speaker.specs.Stream.{SpeakerState, frame_in, step_by}
 
 -- whether the event may come by the lane: frames come by the second alone, and all else by the first alone
@@ -23,11 +23,11 @@ name_of First = names.Watch
 name_of Second = names.Frame
 
 -- what an item is to this state: what its event is
-abbrev pub item_step : SpeakerState → Item → Transition SpeakerState Entry
+abbrev pub item_step : SpeakerState → Item → Transition SpeakerState TranscriptEntry
 item_step s item = step_by s item.event
 
 -- the speaker, as a machine over items; there are no replies, and the input isn't read
-abbrev pub lane_rules : LaneRules SpeakerState Entry
+abbrev pub lane_rules : LaneRules SpeakerState TranscriptEntry
 lane_rules = record {
   take = item_step;
   waits = λ s. false;

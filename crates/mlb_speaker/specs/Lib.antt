@@ -1,12 +1,16 @@
 pub mod Causes
 pub mod Clauses
-pub mod Entries
+pub mod Transcript
 pub mod Heard
 pub mod Kept
 pub mod LaneClauses
 pub mod LaneLaws
 pub mod Lanes
 pub mod Meant
+pub mod Responding
+pub mod ResponderClauses
+pub mod ResponderSeen
+pub mod ShownCauses
 pub mod Seen
 pub mod Sends
 pub mod LocalNode

@@ -13,8 +13,8 @@ use Rattle.mlb_edge.specs.declared.lines.Line.{Line}
 use Rattle.line_run.specs.Machine.{Goes}
 use Rattle.line_run.specs.Run.{AreTaken}
 use Rattle.speaker_words.specs.Words.{Said}
-use Rattle.mlb_speaker.specs.declared.entries.Entry.{Entry}
-use Rattle.mlb_speaker.specs.declared.entries.Entry.TheVariants.{Noted, Withdrawn, Announced, Sent, Updated}
+use Rattle.mlb_speaker.specs.declared.transcript.TranscriptEntry.{TranscriptEntry}
+use Rattle.mlb_speaker.specs.declared.transcript.TranscriptEntry.TheVariants.{Noted, Withdrawn, Announced, Sent, Updated}
 use Rattle.mlb_speaker.specs.declared.local_node.Interface.{Interface}
 use Rattle.mlb_speaker.specs.declared.local_node.LocalNode.{LocalNode}
 use Rattle.mlb_speaker.specs.Sends.{unsolicited_of}
@@ -40,7 +40,7 @@ pub record IsAnswer (v : ViewValue) (local : LocalNode) (received : Received) (f
       ⊎ IsNdpAnswer v local.node interface.name interface.mac received.frame frame
 
 -- the entry is no frame, or an unsolicited one of an address that these entries announce
-abbrev pub IsOfThese : ViewValue → LocalNode → List Entry → Entry → Type 0
+abbrev pub IsOfThese : ViewValue → LocalNode → List TranscriptEntry → TranscriptEntry → Type 0
 IsOfThese v local entries (Noted note) = ⊤
 IsOfThese v local entries (Withdrawn a) = ⊤
 IsOfThese v local entries (Announced a) = ⊤
@@ -48,25 +48,25 @@ IsOfThese v local entries (Updated peer message) = ⊤
 IsOfThese v local entries (Sent name frame) = (a : AddressValue) × IsIn (announced_in entries) a × IsUnasked v local a name frame
 
 -- Just the unsolicited frames of the addresses that the entries announce are sent, each of them.
-pub record SendsUnasked (v : ViewValue) (local : LocalNode) (entries : List Entry) : Type 0 where
+pub record SendsUnasked (v : ViewValue) (local : LocalNode) (entries : List TranscriptEntry) : Type 0 where
   pub only : AllByRecursion (IsOfThese v local entries) entries
   pub each : (a : AddressValue) → IsIn (announced_in entries) a → (name frame : List ℕ) → IsUnasked v local a name frame → IsIn entries (Sent name frame)
 
 -- the answer to the frame is sent by the interface by which it came, and nothing else is told; nothing where it has no answer
-abbrev pub SendsAnswer : ViewValue → LocalNode → Received → List Entry → Type 0
+abbrev pub SendsAnswer : ViewValue → LocalNode → Received → List TranscriptEntry → Type 0
 SendsAnswer v local received entries =
     ((frame : List ℕ) × IsAnswer v local received frame × (entries ≡ Sent received.interface frame ∷ []))
     ⊎ (((frame : List ℕ) → ¬ (IsAnswer v local received frame)) × (entries ≡ []))
 
 -- what is sent of an event: of a received frame its answer, of others the unsolicited frames of what they announce
-abbrev pub SendsOf : ViewValue → LocalNode → Option Received → List Entry → Type 0
+abbrev pub SendsOf : ViewValue → LocalNode → Option Received → List TranscriptEntry → Type 0
 SendsOf v local None entries = SendsUnasked v local entries
 SendsOf v local (Some received) entries = SendsAnswer v local received entries
 
 -- At each line of a run just the frames are sent that are meant of its event, by what was shown then.
 abbrev pub SendsWhatIsMeant : SpeakerState → Type 0
-SendsWhatIsMeant start = (lines : List Line) (s : SpeakerState) (told : List Entry) → AreTaken speaker_rules lines start s told
-    → (line : Line) (t : SpeakerState) (entries : List Entry) → line_step s line ≡ Goes t entries
+SendsWhatIsMeant start = (lines : List Line) (s : SpeakerState) (told : List TranscriptEntry) → AreTaken speaker_rules lines start s told
+    → (line : Line) (t : SpeakerState) (entries : List TranscriptEntry) → line_step s line ≡ Goes t entries
     → (event : Event) → event_of_line line.bytes ≡ Ok event → SendsOf t.view t.local (frame_in event) entries
 
 -- so it is whatever the words say, where nothing was shown yet

@@ -20,10 +20,10 @@ use Rattle.line_run.specs.declared.halt.Refusal.TheVariants.{Stopped, Halted}
 use Rattle.line_run.specs.Machine.{Transition, Goes, Stops, Rules}
 use Rattle.mlb_edge.specs.declared.lines.Line.{Line}
 use Rattle.speaker_words.specs.Words.{Said}
-use Rattle.mlb_speaker.specs.declared.entries.Entry.{Entry}
+use Rattle.mlb_speaker.specs.declared.transcript.TranscriptEntry.{TranscriptEntry}
 use Rattle.mlb_speaker.specs.declared.local_node.LocalNode.{LocalNode}
 use Rattle.announced_set.specs.Announced.{announced_by}
-use Rattle.mlb_speaker.specs.Entries.{entries_for, entry_text}
+use Rattle.mlb_speaker.specs.Transcript.{entries_for, entry_text}
 use Rattle.mlb_speaker.specs.Sends.{answers}
 use Rattle.mlb_speaker.specs.LocalNode.{local_node_of}
 use Rattle.mlb_speaker.specs.Updates.{update_entries}
@@ -60,19 +60,19 @@ frame_in Ignored = None
 
 -- what is told of what the event changes: its note, what the node announced before it and announces after it, and the routes of the
 -- peers
-abbrev pub changes_of : SpeakerState → Event → List Entry
+abbrev pub changes_of : SpeakerState → Event → List TranscriptEntry
 changes_of s event =
     entries_for (view_after event s.view) s.local (note_by s.view event) (announced_by s.view s.local.node)
     (announced_by (view_after event s.view) s.local.node)
     ++ update_entries s.view (view_after event s.view) s.local
 
 -- a frame changes nothing, and may be answered
-abbrev pub entries_at : Option Received → SpeakerState → Event → List Entry
+abbrev pub entries_at : Option Received → SpeakerState → Event → List TranscriptEntry
 entries_at (Some received) s event = answers s.view s.local received.interface received.frame
 entries_at None s event = changes_of s event
 
 -- what is told of the event
-abbrev pub entries_of : SpeakerState → Event → List Entry
+abbrev pub entries_of : SpeakerState → Event → List TranscriptEntry
 entries_of s event = entries_at (frame_in event) s event
 
 -- what there is too much of where a limit of the kind is passed; services and nodes alone have one
@@ -88,12 +88,12 @@ what_of kinds.Namespace = whats.Nodes
 what_of kinds.Slice = whats.Nodes
 
 -- with the event more would be held than may be, or it is applied
-abbrev pub limit_step : SpeakerState → Event → Option (Kind × ℕ) → Transition SpeakerState Entry
+abbrev pub limit_step : SpeakerState → Event → Option (Kind × ℕ) → Transition SpeakerState TranscriptEntry
 limit_step s event None = Goes (state_after s event) (entries_of s event)
 limit_step s event (Some p) = Stops (Limit (what_of p.0) p.1)
 
 -- what an event is to this state
-abbrev pub step_by : SpeakerState → Event → Transition SpeakerState Entry
+abbrev pub step_by : SpeakerState → Event → Transition SpeakerState TranscriptEntry
 step_by s event = limit_step s event (limit_by s.view event)
 
 -- why an event isn't applied: the run stops at it, or memory is wanting
@@ -102,16 +102,16 @@ IsUnapplied (Stopped status) s event = step_by s event ≡ Stops status
 IsUnapplied (Halted halt) s event = halt ≡ halts.NoMemory
 
 -- it is no readable event, or it is one
-abbrev pub event_step : SpeakerState → Line → Result Event EventFault → Transition SpeakerState Entry
+abbrev pub event_step : SpeakerState → Line → Result Event EventFault → Transition SpeakerState TranscriptEntry
 event_step s line (Err fault) = Stops (BadLine lanes.Input line.number line.bytes)
 event_step s line (Ok event) = step_by s event
 
 -- what a line is to this state
-abbrev pub line_step : SpeakerState → Line → Transition SpeakerState Entry
+abbrev pub line_step : SpeakerState → Line → Transition SpeakerState TranscriptEntry
 line_step s line = event_step s line (event_of_line line.bytes)
 
 -- the speaker, as a machine over lines; a run is done where the input ends
-abbrev pub speaker_rules : Rules SpeakerState Entry
+abbrev pub speaker_rules : Rules SpeakerState TranscriptEntry
 speaker_rules = record { step = line_step; end = λ s. Done; text = entry_text }
 
 -- the first number past a limit of what the speaker holds

@@ -10,33 +10,33 @@ use Rattle.speaker_words.specs.Words.{Said}
 use Rattle.mlb_edge.specs.declared.lines.Line.{Line}
 use Rattle.line_run.specs.Machine.{Goes}
 use Rattle.line_run.specs.Run.{AreTaken}
-use Rattle.mlb_speaker.specs.declared.entries.Entry.{Entry}
-use Rattle.mlb_speaker.specs.declared.entries.Entry.TheVariants.{Noted, Withdrawn, Announced, Sent, Updated}
+use Rattle.mlb_speaker.specs.declared.transcript.TranscriptEntry.{TranscriptEntry}
+use Rattle.mlb_speaker.specs.declared.transcript.TranscriptEntry.TheVariants.{Noted, Withdrawn, Announced, Sent, Updated}
 use Rattle.mlb_speaker.specs.Stream.{SpeakerState, first_state, line_step, speaker_rules}
 
 -- the entry isn't a withdraw line of the address
-abbrev pub Leaves : AddressValue → Entry → Type 0
+abbrev pub Leaves : AddressValue → TranscriptEntry → Type 0
 Leaves a (Noted note) = ⊤
 Leaves a (Withdrawn b) = b ≢ a
 Leaves a (Announced b) = ⊤
 Leaves a (Sent interface frame) = ⊤
 Leaves a (Updated peer message) = ⊤
 
-abbrev pub AllLeave : AddressValue → List Entry → Type 0
+abbrev pub AllLeave : AddressValue → List TranscriptEntry → Type 0
 AllLeave a [] = ⊤
 AllLeave a (e ∷ entries) = Leaves a e × AllLeave a entries
 
 -- The address has an announce line, and no later withdraw line.
-pub record IsToldOf (told : List Entry) (a : AddressValue) : Type 0 where
-  pub earlier : List Entry
-  pub later : List Entry
+pub record IsToldOf (told : List TranscriptEntry) (a : AddressValue) : Type 0 where
+  pub earlier : List TranscriptEntry
+  pub later : List TranscriptEntry
   pub split : told ≡ earlier ++ Announced a ∷ later
   pub lasts : AllLeave a later
 
 -- After any lines that are taken, one after the other, the addresses with an announce line and no later withdraw line are exactly
 -- those that the node announces.
 abbrev pub TellsWhatIsAnnounced : SpeakerState → Type 0
-TellsWhatIsAnnounced start = (lines : List Line) (s : SpeakerState) (told : List Entry) → AreTaken speaker_rules lines start s told
+TellsWhatIsAnnounced start = (lines : List Line) (s : SpeakerState) (told : List TranscriptEntry) → AreTaken speaker_rules lines start s told
     → (a : AddressValue) → IsToldOf told a ↔ IsAnnouncer s.view a start.local.node
 
 -- so it is whatever the words say, where nothing was shown yet
@@ -45,7 +45,7 @@ LinesTellWhatIsAnnounced = (said : Said) → TellsWhatIsAnnounced (first_state s
 
 -- ---- what is told of one event
 -- the addresses of the withdraw lines, in their order
-abbrev pub withdrawn_in : List Entry → List AddressValue
+abbrev pub withdrawn_in : List TranscriptEntry → List AddressValue
 withdrawn_in [] = []
 withdrawn_in (Withdrawn a ∷ entries) = a ∷ withdrawn_in entries
 withdrawn_in (Noted note ∷ entries) = withdrawn_in entries
@@ -54,7 +54,7 @@ withdrawn_in (Sent interface frame ∷ entries) = withdrawn_in entries
 withdrawn_in (Updated peer message ∷ entries) = withdrawn_in entries
 
 -- those of the announce lines
-abbrev pub announced_in : List Entry → List AddressValue
+abbrev pub announced_in : List TranscriptEntry → List AddressValue
 announced_in [] = []
 announced_in (Announced a ∷ entries) = a ∷ announced_in entries
 announced_in (Noted note ∷ entries) = announced_in entries
@@ -68,18 +68,18 @@ AnnouncesAlone node v other a = IsAnnouncer v a node × ¬ (IsAnnouncer other a 
 
 -- Withdraw lines tell just what the node announces no more, and behind them announce lines what it announces from now on, each address once, IPv4
 -- before IPv6 and each family ascending.
-pub record TellsChange (node : List ℕ) (before after : ViewValue) (entries : List Entry) : Type 0 where
+pub record TellsChange (node : List ℕ) (before after : ViewValue) (entries : List TranscriptEntry) : Type 0 where
   pub withdrawn : (a : AddressValue) → IsIn (withdrawn_in entries) a ↔ AnnouncesAlone node before after a
   pub announced : (a : AddressValue) → IsIn (announced_in entries) a ↔ AnnouncesAlone node after before a
   pub withdrawn_ascend : IsStrictlySortedBy address_cmp (withdrawn_in entries)
   pub announced_ascend : IsStrictlySortedBy address_cmp (announced_in entries)
-  pub first : List Entry
-  pub later : List Entry
+  pub first : List TranscriptEntry
+  pub later : List TranscriptEntry
   pub split : entries ≡ first ++ later
   pub first_withdraws : announced_in first ≡ []
   pub later_announces : withdrawn_in later ≡ []
 
 -- At each line of a run just what its event changes is told so.
 abbrev pub TellsWhatChanges : SpeakerState → Type 0
-TellsWhatChanges start = (lines : List Line) (s : SpeakerState) (told : List Entry) → AreTaken speaker_rules lines start s told
-    → (line : Line) (t : SpeakerState) (entries : List Entry) → line_step s line ≡ Goes t entries → TellsChange start.local.node s.view t.view entries
+TellsWhatChanges start = (lines : List Line) (s : SpeakerState) (told : List TranscriptEntry) → AreTaken speaker_rules lines start s told
+    → (line : Line) (t : SpeakerState) (entries : List TranscriptEntry) → line_step s line ≡ Goes t entries → TellsChange start.local.node s.view t.view entries

@@ -10,8 +10,8 @@ use Rattle.bgp_updates.specs.declared.route.Terms.{Terms}
 use Rattle.bgp_updates.specs.Between.{peering_of, messages_between}
 use Rattle.bgp_routes.specs.Peers.{peers_of}
 use Rattle.bgp_routes.specs.Routes.{routes_of}
-use Rattle.mlb_speaker.specs.declared.entries.Entry.{Entry}
-use Rattle.mlb_speaker.specs.declared.entries.Entry.TheVariants.{Updated}
+use Rattle.mlb_speaker.specs.declared.transcript.TranscriptEntry.{TranscriptEntry}
+use Rattle.mlb_speaker.specs.declared.transcript.TranscriptEntry.TheVariants.{Updated}
 use Rattle.mlb_speaker.specs.declared.local_node.NextHops.{NextHops}
 use Rattle.mlb_speaker.specs.declared.local_node.LocalNode.{LocalNode}
 
@@ -37,10 +37,10 @@ abbrev pub messages_to : ViewValue → ViewValue → List ℕ → NextHops → C
 messages_to v v' node hops peer =
     messages_between (peering_of peer hops.v4 hops.v6) (table_of v node (both_with hops) peer) (routes_of v' node peer (both_with hops))
 
-abbrev pub updated : CompiledPeer → List ℕ → Entry
+abbrev pub updated : CompiledPeer → List ℕ → TranscriptEntry
 updated peer message = Updated peer.name message
 
-abbrev pub updates_to : ViewValue → ViewValue → List ℕ → NextHops → CompiledPeer → List Entry
+abbrev pub updates_to : ViewValue → ViewValue → List ℕ → NextHops → CompiledPeer → List TranscriptEntry
 updates_to v v' node hops peer = map (updated peer) (messages_to v v' node hops peer)
 
 -- one of IPv6, if it is there
@@ -53,9 +53,9 @@ abbrev pub are_hops : NextHops → Bool
 are_hops hops = same_family hops.v4.family V4 && is_v6 hops.v6
 
 -- what is told to each peer that is there after the event; nothing where there is no next hop
-abbrev pub updates_by : ViewValue → ViewValue → List ℕ → Option NextHops → List Entry
+abbrev pub updates_by : ViewValue → ViewValue → List ℕ → Option NextHops → List TranscriptEntry
 updates_by v v' node None = []
 updates_by v v' node (Some hops) = if are_hops hops then flat_map (updates_to v v' node hops) (peers_of v') else []
 
-abbrev pub update_entries : ViewValue → ViewValue → LocalNode → List Entry
+abbrev pub update_entries : ViewValue → ViewValue → LocalNode → List TranscriptEntry
 update_entries v v' local = updates_by v v' local.node local.next_hops

@@ -11,7 +11,7 @@ use Rattle.line_run.specs.Run.{AreTaken, text_of}
 use Rattle.pool_config.specs.declared.compiled.CompiledPeer.{CompiledPeer}
 use Rattle.bgp_routes.specs.Peers.{peers_of}
 use Rattle.bgp_routes.specs.Routes.{routes_of}
-use Rattle.mlb_speaker.specs.declared.entries.Entry.{Entry}
+use Rattle.mlb_speaker.specs.declared.transcript.TranscriptEntry.{TranscriptEntry}
 use Rattle.mlb_speaker.specs.declared.local_node.NextHops.{NextHops}
 use Rattle.mlb_speaker.specs.Heard.{AreToldBy, GiveTable, HasComeSince}
 use Rattle.mlb_speaker.specs.Stream.{SpeakerState, speaker_rules}
@@ -21,7 +21,7 @@ abbrev pub lines_in : List ℕ → List (List ℕ)
 lines_in text = map (λ raw. raw.bytes) (raw_lines text)
 
 -- those that are written of entries
-abbrev pub written_lines : List Entry → List (List ℕ)
+abbrev pub written_lines : List TranscriptEntry → List (List ℕ)
 written_lines told = lines_in (text_of speaker_rules told)
 
 -- The address has an announce line, and no later withdraw line.
@@ -34,7 +34,7 @@ pub record IsAnnouncedIn (lines : List (List ℕ)) (a : AddressValue) : Type 0 w
 -- After any lines that are taken, one after the other, the addresses with an announce line that is written and no withdraw line written behind it
 -- are exactly those that the node announces.
 abbrev pub WritesWhatIsAnnounced : SpeakerState → Type 0
-WritesWhatIsAnnounced start = (lines : List Line) (s : SpeakerState) (told : List Entry) → AreTaken speaker_rules lines start s told
+WritesWhatIsAnnounced start = (lines : List Line) (s : SpeakerState) (told : List TranscriptEntry) → AreTaken speaker_rules lines start s told
     → (a : AddressValue) → IsOfFamily a → IsAnnouncedIn (written_lines told) a ↔ IsAnnouncer s.view a start.local.node
 
 -- the messages of the update lines for the peer of this name, in their order
@@ -47,8 +47,8 @@ AreWrittenTo name (line ∷ lines) messages =
 -- After any lines that are taken, with a next hop, the update lines that are written for a peer of the configuration in force since it came, or since
 -- its AS numbers last changed, carry messages which make its routes of the empty table.
 abbrev pub WritesPeersTheirRoutes : SpeakerState → Type 0
-WritesPeersTheirRoutes start = (lines : List Line) (t : SpeakerState) (all : List Entry) → AreTaken speaker_rules lines start t all
+WritesPeersTheirRoutes start = (lines : List Line) (t : SpeakerState) (all : List TranscriptEntry) → AreTaken speaker_rules lines start t all
     → (hops : NextHops) → start.local.next_hops ≡ Some hops → (peer : CompiledPeer) → IsIn (peers_of t.view) peer
-    → (told : List Entry) → HasComeSince start lines peer t told
+    → (told : List TranscriptEntry) → HasComeSince start lines peer t told
     → (messages : List (List ℕ)) × AreWrittenTo peer.name (written_lines told) messages
     × GiveTable messages (routes_of t.view start.local.node peer (is_some hops.v6)) × AreToldBy peer hops messages

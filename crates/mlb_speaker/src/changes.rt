@@ -6,15 +6,15 @@ ghost use Rattle.speaker_view.specs.View.{limit_by};
 ghost use Rattle.speaker_view.specs.ViewValue.{ViewValue};
 ghost use Rattle.l2_elect.specs.Kept.{AreKeptFor, AreKnown, AreRightBut};
 ghost use Rattle.announced_set.specs.Announced.{announced_by};
-ghost use Rattle.mlb_speaker.specs.Entries.{entries_for};
+ghost use Rattle.mlb_speaker.specs.Transcript.{entries_for};
 ghost use Rattle.mlb_speaker.specs.Kept.{AreRoutesKnown, AreRoutesOf, WereRoutes};
 ghost use Rattle.mlb_speaker.specs.Stream.{changes_of, state_after};
 ghost use Rattle.mlb_speaker.specs.Updates.{updates_by};
 
-use crate::entries::{Entry, entries_for};
 use crate::local_node::LocalNode;
 use crate::peers::{renew_routes, routes_by};
 use crate::speaker::Speaker;
+use crate::transcript::{TranscriptEntry, entries_for};
 use announced_set::renew_announcers;
 use bgp_routes::KeptRoutes;
 use kube_model::Event;
@@ -37,7 +37,7 @@ impl Speaker {
         &mut self,
         alloc: Global,
         event: Event,
-    ) -> Result<Sequence<Entry>, ApplyFault>
+    ) -> Result<Sequence<TranscriptEntry>, ApplyFault>
         ensures ok { IfOk result (λ entries. entries ≡ changes_of self.old event) }
         ensures state { OnOk result (self.new ≡ state_after self.old event) }
         ensures within { OnOk result (limit_by self.old.view event ≡ None) }
@@ -157,7 +157,7 @@ fn told_since(
     note: TakeNote,
     change: &ViewChange,
     standing: &mut Standing,
-) -> Result<Sequence<Entry>, NoMemory>
+) -> Result<Sequence<TranscriptEntry>, NoMemory>
     requires announcers { AreRightBut change.now standing.old.announcers view.now }
     requires routes { (before : ViewValue) × WereRoutes change.now standing.old.routes before view.now local.now }
     ensures entries { IfOk result (λ entries. (before : ViewValue) → AreKeptFor standing.old.announcers before
@@ -184,7 +184,7 @@ fn changed_entries(
     note: TakeNote,
     change: &ViewChange,
     announcers: &mut Announcers,
-) -> Result<Sequence<Entry>, NoMemory>
+) -> Result<Sequence<TranscriptEntry>, NoMemory>
     requires { AreRightBut change.now announcers.old view.now }
     ensures entries { IfOk result (λ entries. (was : ViewValue) → AreKeptFor announcers.old was
         → entries ≡ entries_for view.now local.now note (announced_by was local.now.node) (announced_by view.now local.now.node)) }

@@ -9,10 +9,10 @@ ghost use Rattle.mlb_speaker.specs.Seen.{received_seen};
 ghost use Rattle.mlb_speaker.specs.Sends.{answers};
 ghost use Rattle.mlb_speaker.specs.Stream.{state_after, frame_in, entries_of, step_by, IsUnapplied, what_of};
 
-use crate::entries::Entry;
 use crate::local_node::LocalNode;
 use crate::sends::answers;
 use crate::speaker::Speaker;
+use crate::transcript::TranscriptEntry;
 use kube_labels::Text;
 use kube_model::{Event, Kind, Status, What};
 use l2_elect::Announcers;
@@ -27,7 +27,7 @@ pub(crate) fn apply_event(
     alloc: Global,
     speaker: &mut Speaker,
     event: Event,
-) -> Result<Sequence<Entry>, Refusal>
+) -> Result<Sequence<TranscriptEntry>, Refusal>
     ensures ok { IfOk result (λ entries. step_by speaker.old event ≡ Goes speaker.new entries) }
     ensures err { IfErr result (λ refusal. IsUnapplied refusal speaker.old event) }
 {
@@ -50,7 +50,7 @@ fn entries_by(
     alloc: Global,
     speaker: &mut Speaker,
     event: Event,
-) -> Result<Sequence<Entry>, ApplyFault>
+) -> Result<Sequence<TranscriptEntry>, ApplyFault>
     ensures ok { IfOk result (λ entries. entries ≡ entries_of speaker.old event) }
     ensures state { OnOk result (speaker.new ≡ state_after speaker.old event) }
     ensures within { OnOk result (limit_by speaker.old.view event ≡ None) }
@@ -83,7 +83,7 @@ fn answers_to(
     announcers: Option<&Announcers>,
     local: &LocalNode,
     event: &Event,
-) -> Result<Option<Sequence<Entry>>, NoMemory>
+) -> Result<Option<Sequence<TranscriptEntry>>, NoMemory>
     requires { AreKnown (option_copied announcers) view.now }
     ensures { IfOk result (λ entries. entries ≡ option_map (λ r. answers view.now local.now r.interface r.frame) (frame_in event.now)) }
 {

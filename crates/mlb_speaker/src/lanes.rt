@@ -8,10 +8,10 @@ ghost use Rattle.mlb_edge.specs.Written.{Grows};
 ghost use Rattle.mlb_speaker.specs.Lanes.{lane_rules, name_of};
 ghost use Rattle.mlb_speaker.specs.Stream.{speaker_rules};
 
-use crate::entries::Entry;
 use crate::events::{apply_event, frame_in};
 use crate::output::write_entries;
 use crate::speaker::Speaker;
+use crate::transcript::TranscriptEntry;
 use kube_model::{Event, LaneName, Status};
 use lane_drive::{LaneMachine, write_took};
 use lane_mail::{Item, Lane};
@@ -19,6 +19,7 @@ use lane_run::Lanes;
 use line_run::{Halt, Refusal};
 use mlb_base::NoMemory;
 use mlb_edge::{Line, Sink};
+use program_lines::bad_reply;
 use std::alloc::Global;
 
 impl Lanes for Speaker {
@@ -36,14 +37,14 @@ impl Lanes for Speaker {
 
 impl LaneMachine for Speaker {
     ghost use Rattle.std.specs.Prelude.{refl};
-    ghost use Rattle.mlb_speaker.specs.Causes.{item_causes, awaits_none, names_taken, names_differ};
+    ghost use Rattle.mlb_speaker.specs.Causes.{items_stop, awaits_none, names_taken, names_differ};
     ghost use Rattle.mlb_speaker.specs.Lanes.{lane_rules};
     ghost use Rattle.mlb_speaker.specs.Stream.{SpeakerState};
-    ghost use Rattle.mlb_speaker.specs.declared.entries.Entry.{Entry as SpeakerEntry};
+    ghost use Rattle.mlb_speaker.specs.declared.transcript.TranscriptEntry.{TranscriptEntry as SpeakerEntry};
 
     ghost State = { SpeakerState };
 
-    ghost Entry = { SpeakerEntry };
+    ghost TranscriptEntry = { SpeakerEntry };
 
     ghost state = { λ speaker. speaker };
 
@@ -75,12 +76,7 @@ impl LaneMachine for Speaker {
         ensures refused { result ≡ Err (Refusal.Stopped (Status.BadReply line.number line.bytes)) }
         ensures kept { (self.new ≡ self.old) × (_out.new ≡ _out.old) }
     {
-        Err(Refusal::Stopped {
-            status: Status::BadReply {
-                number: line.number,
-                bytes: line.bytes,
-            },
-        })
+        Err(bad_reply(line))
     }
 
     fn unanswered(&self) -> Result<Status, NoMemory>
@@ -89,7 +85,7 @@ impl LaneMachine for Speaker {
         Ok(Status::Done)
     }
 
-    ghost items_stop = { item_causes };
+    ghost items_stop = { items_stop };
 
     ghost replies_stop = { λ s line status waits _. awaits_none s waits };
 
@@ -103,7 +99,7 @@ impl LaneMachine for Speaker {
 }
 
 /// The name of the lane.
-fn name_of(lane: Lane) -> LaneName
+pub(crate) fn name_of(lane: Lane) -> LaneName
     ensures { result ≡ name_of lane }
 {
     match lane {
@@ -131,25 +127,18 @@ fn drive_item<K: Sink>(
         event,
     } = item;
     let entries = apply_event(alloc, speaker, event)?;
-    match write_item(alloc, out, lane, number, entries.as_slice()) {
-        Ok(()) => {
-            drop(entries);
-            Ok(())
-        }
-        Err(halt) => {
-            drop(entries);
-            Err(Refusal::Halted { halt })
-        }
-    }
+    let written = write_item(alloc, out, lane, number, entries.as_slice());
+    drop(entries);
+    Ok(written?)
 }
 
 /// Tells that the item of this number was taken from the lane, and then the entries.
-fn write_item<K: Sink>(
+pub(crate) fn write_item<K: Sink>(
     alloc: Global,
     out: &mut K,
     lane: Lane,
     number: u64,
-    entries: &[Entry],
+    entries: &[TranscriptEntry],
 ) -> Result<(), Halt>
     ensures ok { OnOk result (Grows (K.written out.old) (K.written out.new)
         (line_of (took_text (name_of lane) number) ++ text_of speaker_rules entries.now)) }

@@ -1,5 +1,7 @@
 //! What holds of every run, and of every view.
+ghost use Rattle.mlb_speaker.specs.Clauses.{RunsTell};
 ghost use Rattle.mlb_speaker.specs.Heard.{PeersHearTheirRoutes};
+ghost use Rattle.mlb_speaker.specs.LaneClauses.{LanesTell};
 ghost use Rattle.mlb_speaker.specs.Meant.{AllSendWhatIsMeant};
 ghost use Rattle.mlb_speaker.specs.Told.{LinesTellWhatIsAnnounced};
 
@@ -20,3 +22,15 @@ pub fn all_send_what_is_meant()
 pub fn peers_hear_their_routes()
     ensures { PeersHearTheirRoutes }
 {}
+
+/// Each run that the words begin is that of what they say, and just what is so is told and written of its lines.
+pub(crate) fn runs_tell(words: &[String])
+    ensures { RunsTell words.now }
+{}
+
+/// And so is each run over two lanes.
+pub(crate) fn lanes_tell(words: &[String])
+    ensures { LanesTell words.now }
+{
+    runs_tell(words);
+}

@@ -10,8 +10,8 @@ ghost use Rattle.bgp_routes.specs.Peers.{peers_of, table_found, tables_of};
 ghost use Rattle.mlb_speaker.specs.Kept.{AreRoutesOf, WereKept, WereRoutes, changed_part, part_at, part_updates, updates_of};
 ghost use Rattle.mlb_speaker.specs.Updates.{are_hops, both_with, is_v6, updated, updates_by, updates_to};
 
-use crate::entries::Entry;
 use crate::local_node::{LocalNode, NextHops};
+use crate::transcript::TranscriptEntry;
 use bgp_routes::{KeptRoutes, peers_of};
 use bgp_updates::{RouteTable, updates};
 use ip_ranges::{Address, Family};
@@ -55,7 +55,7 @@ fn rebuilt(view: &View, mut kept: KeptRoutes) -> Result<KeptRoutes, NoMemory>
 /// routes.
 pub(crate) fn renew_routes(
     alloc: Global,
-    entries: &mut Sequence<Entry>,
+    entries: &mut Sequence<TranscriptEntry>,
     view: &View,
     local: &LocalNode,
     change: &ViewChange,
@@ -68,31 +68,9 @@ pub(crate) fn renew_routes(
 {
     match &local.next_hops {
         None => Ok(()),
-        Some(hops) => renew_with_hops(alloc, entries, view, hops, change, kept),
-    }
-}
-
-fn renew_with_hops(
-    alloc: Global,
-    entries: &mut Sequence<Entry>,
-    view: &View,
-    hops: &NextHops,
-    change: &ViewChange,
-    kept: &mut KeptRoutes,
-) -> Result<(), NoMemory>
-    requires both { kept.old.both ≡ both_with hops.now }
-    requires kept { (before : ViewValue) × WereKept change.now kept.old before view.now }
-    ensures entries { OnOk result ((before : ViewValue) → WereKept change.now kept.old before view.now
-        → entries.new ≡ entries.old ++ (if are_hops hops.now then flat_map (updates_to before view.now kept.old.node hops.now) (peers_of view.now) else [])) }
-    ensures node { kept.new.node ≡ kept.old.node }
-    ensures both { kept.new.both ≡ kept.old.both }
-    ensures right { OnOk result (AreKeptFor view.now kept.new) }
-{
-    if are_hops(hops) {
-        renew_told(alloc, entries, view, hops, change, kept)
-    } else {
+        Some(hops) if are_hops(hops) => renew_told(alloc, entries, view, hops, change, kept),
         // The words name none of other families.
-        renew_kept(view, change, kept)
+        Some(_) => renew_kept(view, change, kept),
     }
 }
 
@@ -129,7 +107,7 @@ fn renew_kept(view: &View, change: &ViewChange, kept: &mut KeptRoutes) -> Result
 /// The same, and tells the peers what it changes.
 fn renew_told(
     alloc: Global,
-    entries: &mut Sequence<Entry>,
+    entries: &mut Sequence<TranscriptEntry>,
     view: &View,
     hops: &NextHops,
     change: &ViewChange,
@@ -207,7 +185,7 @@ fn found_part(
 /// Tells each peer what makes the part that is kept now of the one that was.
 fn push_changes(
     alloc: Global,
-    entries: &mut Sequence<Entry>,
+    entries: &mut Sequence<TranscriptEntry>,
     hops: &NextHops,
     peers: &[CompiledPeer],
     change: &ViewChange,
@@ -232,7 +210,7 @@ fn push_changes(
 /// Tells a peer what makes the one table of the other.
 fn push_change(
     alloc: Global,
-    entries: &mut Sequence<Entry>,
+    entries: &mut Sequence<TranscriptEntry>,
     hops: &NextHops,
     peer: &CompiledPeer,
     before: &RouteTable,
@@ -252,7 +230,7 @@ fn push_change(
 
 fn push_message(
     alloc: Global,
-    entries: &mut Sequence<Entry>,
+    entries: &mut Sequence<TranscriptEntry>,
     peer: &CompiledPeer,
     message: &ByteList,
 ) -> Result<(), NoMemory>
@@ -260,5 +238,5 @@ fn push_message(
 {
     let peer = peer.name.copy()?;
     let message = ByteList::from_slice(alloc, message.as_slice())?;
-    entries.push(Entry::Updated { peer, message })
+    entries.push(TranscriptEntry::Updated { peer, message })
 }

@@ -1,8 +1,8 @@
 //! The top call.
 ghost use Rattle.std.specs.Prelude.{◌≡◌, ◌↔◌, ℕ, List};
 ghost use Rattle.kube_model.specs.declared.status.LaneName.{LaneName};
-ghost use Rattle.lane_drive.specs.Files.{files_view};
-ghost use Rattle.lane_run.specs.Views.{source_view};
+ghost use Rattle.lane_drive.specs.Files.{files_state};
+ghost use Rattle.lane_run.specs.Outside.{source_state};
 ghost use Rattle.line_run.specs.Clauses.{AtReadFault, AtWriteFault, RunOwes};
 ghost use Rattle.command_options.specs.Options.{texts_of};
 ghost use Rattle.mlb_speaker.specs.Clauses.{begun_by, InStream, MayAskAnswered, CanEnd, SpeaksForNamed, TellsWhatIsAnnounced, TellsWhatChanges};
@@ -10,9 +10,12 @@ ghost use Rattle.mlb_speaker.specs.Clauses.{SendsWhatIsMeant, TellsPeersTheirRou
 ghost use Rattle.mlb_speaker.specs.LaneClauses.{EndsLanes, LanesMayOpen, LanesMayWait, LanesMayDrop, LanesComplete, LanesDone, LanesWriteOnly};
 ghost use Rattle.mlb_speaker.specs.LaneClauses.{AtLaneOpenFault, AtLaneReadFault, LeavesOtherFiles, LeavesInput, LanesCanEnd, LanesAreAsLines};
 ghost use Rattle.mlb_speaker.specs.LaneClauses.{LanesTellWhatIsAnnounced, LanesTellWhatChanges, LanesSendWhatIsMeant, LanesMakeRoutes};
+ghost use Rattle.mlb_speaker.specs.ResponderClauses.{AnswersAreTold, ResponderIsAsLines, ResponderMayDrop, ResponderMayWait, ResponderOwes};
 ghost use Rattle.mlb_speaker.specs.Stream.{IsCause, speaker_rules};
 ghost use Rattle.speaker_words.specs.Words.{AreKnown};
 
+use crate::beside::run_responder;
+use crate::laws::{lanes_tell, runs_tell};
 use crate::speaker::Speaker;
 use crate::stream::stream_speaker;
 use kube_model::Status;
@@ -22,12 +25,14 @@ use line_run::PacedSource;
 use mlb_edge::Sink;
 use speaker_words::speaker_words;
 use std::alloc::Global;
+use std::marker::Brand;
 use std::thread::Threads;
+use view_board::{BoardWait, Opened};
 
-/// All that the program does: where the words name two lane files, the run over these, which doesn't read the input; else the run over one
-/// stream, which opens no file.
+/// All that the program does: where the words name two lane files, the run over these, which doesn't read the input, and where they ask for a
+/// responder it answers the frames meanwhile, on the thread of their lane; else the run over one stream, which opens no file.
 pub fn run_speaker<
-    R: Threads + PacedWait<K> + MailWait + Sync,
+    R: Threads + PacedWait<K> + MailWait + BoardWait + Sync,
     F: WatchedFiles,
     S: PacedSource<K> + Send,
     K: Sink + Send,
@@ -44,12 +49,18 @@ pub fn run_speaker<
     // of when it may, it can be waited for beside a sink of this type alone, and the files can only be watched: so nothing is held back of `out`
     // meanwhile. What is a `Wait` may wait at any time.
     requires lanes_wait { LanesMayWait words.now R.may_wait rt.now
-        (source_view (S.left input.old) (S.name input.old) (S.faults input.old)) K.written K.faults out.old }
+        (source_state (S.left input.old) (S.name input.old) (S.faults input.old)) K.written K.faults out.old }
 
     // What the files still give may be dropped where the run stopped at the last event taken, and what it wrote of that stands written; and
     // nowhere else.
     requires lanes_drop { LanesMayDrop words.now R.may_drop rt.now
-        (source_view (S.left input.old) (S.name input.old) (S.faults input.old)) K.written K.faults out.old }
+        (source_state (S.left input.old) (S.name input.old) (S.faults input.old)) K.written K.faults out.old }
+
+    // The same where the words ask for a responder: of a frame, the text that tells its answer.
+    requires responder_wait { ResponderMayWait words.now R.may_wait rt.now
+        (source_state (S.left input.old) (S.name input.old) (S.faults input.old)) K.written K.faults out.old }
+    requires responder_drop { ResponderMayDrop words.now R.may_drop rt.now
+        (source_state (S.left input.old) (S.name input.old) (S.faults input.old)) K.written K.faults out.old }
 
     ensures no_file { InStream words.now (files.new ≡ files.old) }
     ensures can_end { InStream words.now (CanEnd result) }
@@ -90,18 +101,18 @@ pub fn run_speaker<
     // Over two lane files: how the run ended, once both are open. The items of both are taken in the order in which they come, and of each the
     // line that tells of it is written, and then what it comes to.
     ensures lanes { EndsLanes words.now result (F.bytes files.old) (F.safe files.old)
-        (files_view (F.failed_opens files.old) (F.failed_reads files.old))
-        (files_view (F.failed_opens files.new) (F.failed_reads files.new))
-        (source_view (S.left input.old) (S.name input.old) (S.faults input.old))
-        (source_view (S.left input.new) (S.name input.new) (S.faults input.new))
+        (files_state (F.failed_opens files.old) (F.failed_reads files.old))
+        (files_state (F.failed_opens files.new) (F.failed_reads files.new))
+        (source_state (S.left input.old) (S.name input.old) (S.faults input.old))
+        (source_state (S.left input.new) (S.name input.new) (S.faults input.new))
         K.written K.faults out.old out.new }
     ensures lane_can_end { LanesCanEnd words.now result }
 
     // Where it is done all that both files carry was taken, and just its text was written; and however it ends, a beginning of the text
     // of some items, which are of each file a beginning of what it carries.
     ensures lanes_done { LanesDone words.now result (F.bytes files.old)
-        (source_view (S.left input.old) (S.name input.old) (S.faults input.old))
-        (source_view (S.left input.new) (S.name input.new) (S.faults input.new))
+        (source_state (S.left input.old) (S.name input.old) (S.faults input.old))
+        (source_state (S.left input.new) (S.name input.new) (S.faults input.new))
         K.written out.old out.new }
     ensures lanes_only { LanesWriteOnly words.now (F.bytes files.old) (S.left input.old) K.written out.old out.new }
 
@@ -115,36 +126,66 @@ pub fn run_speaker<
 
     // Where all can be applied in whatever order it comes, and no count of faults rises, the run is done, but for want of memory.
     ensures lanes_complete { LanesComplete words.now result (F.bytes files.old)
-        (files_view (F.failed_opens files.old) (F.failed_reads files.old))
-        (files_view (F.failed_opens files.new) (F.failed_reads files.new))
-        (source_view (S.left input.old) (S.name input.old) (S.faults input.old))
-        (source_view (S.left input.new) (S.name input.new) (S.faults input.new)) (K.faults out.old) (K.faults out.new) }
+        (files_state (F.failed_opens files.old) (F.failed_reads files.old))
+        (files_state (F.failed_opens files.new) (F.failed_reads files.new))
+        (source_state (S.left input.old) (S.name input.old) (S.faults input.old))
+        (source_state (S.left input.new) (S.name input.new) (S.faults input.new)) (K.faults out.old) (K.faults out.new) }
+
+    // With a responder: how the run ended, what was taken and written, and when it is done. The items of the watched lane are its events, and those of
+    // the frame lane the answers to its frames, in their order: each says by how many of the first events of the watched lane it was given, never
+    // fewer than the one before, and is that of the view after these, for the interface by which the frame came where that is one of the words, and
+    // else none. So it is however the run ends.
+    ensures responder { ResponderOwes words.now result (F.bytes files.old) (F.safe files.old)
+        (files_state (F.failed_opens files.old) (F.failed_reads files.old))
+        (files_state (F.failed_opens files.new) (F.failed_reads files.new))
+        (source_state (S.left input.old) (S.name input.old) (S.faults input.old))
+        (source_state (S.left input.new) (S.name input.new) (S.faults input.new))
+        K.written K.faults out.old out.new }
+
+    // What is told of an answer is what the item has; and whatever items are taken, there are lines with the watched events, one for each, that are taken
+    // so in one stream. So the clauses `told`, `changes`, `sends` and `routes` hold of what is told of the watched objects.
+    ensures answers { AnswersAreTold }
+    ensures responder_as_lines { ResponderIsAsLines words.now }
 
     // A lane isn't opened exactly where the opening of its file failed, and then nothing is read or written. It isn't read only where the
     // count of failed readings of its file rose.
     ensures lane_open_fault { AtLaneOpenFault words.now result
-        (files_view (F.failed_opens files.old) (F.failed_reads files.old))
-        (files_view (F.failed_opens files.new) (F.failed_reads files.new)) }
+        (files_state (F.failed_opens files.old) (F.failed_reads files.old))
+        (files_state (F.failed_opens files.new) (F.failed_reads files.new)) }
     ensures lane_read_fault { AtLaneReadFault words.now result
-        (files_view (F.failed_opens files.old) (F.failed_reads files.old))
-        (files_view (F.failed_opens files.new) (F.failed_reads files.new)) (S.faults input.old) (S.faults input.new) }
+        (files_state (F.failed_opens files.old) (F.failed_reads files.old))
+        (files_state (F.failed_opens files.new) (F.failed_reads files.new)) (S.faults input.old) (S.faults input.new) }
     ensures lane_unopened { (lane : LaneName) → result ≡ Status.OpenFault lane → (input.new ≡ input.old) × (out.new ≡ out.old) }
 
     // Nothing of the input is read, and of no other file an opening or a reading failed. No file's bytes change.
     ensures lane_unheard { LeavesInput words.now
-        (source_view (S.left input.old) (S.name input.old) (S.faults input.old))
-        (source_view (S.left input.new) (S.name input.new) (S.faults input.new)) }
+        (source_state (S.left input.old) (S.name input.old) (S.faults input.old))
+        (source_state (S.left input.new) (S.name input.new) (S.faults input.new)) }
     ensures lane_others { LeavesOtherFiles words.now
-        (files_view (F.failed_opens files.old) (F.failed_reads files.old))
-        (files_view (F.failed_opens files.new) (F.failed_reads files.new)) }
+        (files_state (F.failed_opens files.old) (F.failed_reads files.old))
+        (files_state (F.failed_opens files.new) (F.failed_reads files.new)) }
     ensures bytes { (file : List ℕ) → F.bytes files.new file ≡ F.bytes files.old file }
 {
+    runs_tell(words);
+    lanes_tell(words);
     let Some(said) = speaker_words(words) else {
         return Status::Usage;
     };
     let Some(lanes) = said.lanes else {
         return stream_speaker(alloc, words, input, out);
     };
+    if said.responder {
+        return run_responder::<Brand, R, F, S, K>(
+            rt,
+            alloc,
+            Opened::new(),
+            &said,
+            lanes,
+            files,
+            input,
+            out,
+        );
+    }
     let Ok(speaker) = Speaker::new(alloc, &said) else {
         return Status::NoMemory;
     };

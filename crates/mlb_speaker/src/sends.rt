@@ -1,13 +1,13 @@
 //! The frames that are sent.
 ghost use Rattle.std.specs.Prelude.{◌≡◌, ◌++◌, ◌∷◌, [], IfOk, OnOk};
-ghost use Rattle.mlb_speaker.specs.declared.entries.Entry.TheVariants as told;
+ghost use Rattle.mlb_speaker.specs.declared.transcript.TranscriptEntry.TheVariants as told;
 ghost use Rattle.std.specs.Option.{option_copied};
 ghost use Rattle.l2_elect.specs.Kept.{AreKeptFor, AreKnown};
 ghost use Rattle.l2_elect.specs.Listening.{listens_of};
 ghost use Rattle.mlb_speaker.specs.Sends.{unsolicited_by, unsolicited, answer_on, sent_on, answers};
 
-use crate::entries::Entry;
 use crate::local_node::{Interface, LocalNode};
+use crate::transcript::TranscriptEntry;
 use ip_ranges::{Address, Family};
 use kube_labels::Text;
 use l2_elect::{Announcers, listens_known};
@@ -19,7 +19,7 @@ use std::alloc::Global;
 /// Has the frame sent by the interface.
 fn push_sent(
     alloc: Global,
-    entries: &mut Sequence<Entry>,
+    entries: &mut Sequence<TranscriptEntry>,
     interface: &Interface,
     frame: &[u8],
 ) -> Result<(), NoMemory>
@@ -27,13 +27,13 @@ fn push_sent(
 {
     let frame = ByteList::from_slice(alloc, frame)?;
     let interface = interface.name.copy()?;
-    entries.push(Entry::Sent { interface, frame })
+    entries.push(TranscriptEntry::Sent { interface, frame })
 }
 
 /// Has the unsolicited frame of the address sent by the interface.
 fn push_unasked(
     alloc: Global,
-    entries: &mut Sequence<Entry>,
+    entries: &mut Sequence<TranscriptEntry>,
     interface: &Interface,
     address: &Address,
 ) -> Result<(), NoMemory>
@@ -58,7 +58,7 @@ fn push_unasked(
 /// Has the unsolicited frame of the address sent by each interface on which the node listens for it.
 pub(crate) fn push_all_unasked(
     alloc: Global,
-    entries: &mut Sequence<Entry>,
+    entries: &mut Sequence<TranscriptEntry>,
     view: &View,
     announcers: &Announcers,
     local: &LocalNode,
@@ -102,7 +102,7 @@ pub(crate) fn answers(
     local: &LocalNode,
     interface: &Text,
     frame: &[u8],
-) -> Result<Sequence<Entry>, NoMemory>
+) -> Result<Sequence<TranscriptEntry>, NoMemory>
     requires { AreKnown (option_copied announcers) view.now }
     ensures { IfOk result (λ entries. entries ≡ answers view.now local.now interface.now frame.now) }
 {
@@ -124,7 +124,7 @@ pub(crate) fn answers(
 /// Has the answer to the frame sent by the interface that received it, where there is one: that of ARP, else that of Neighbor Discovery.
 fn push_answer(
     alloc: Global,
-    entries: &mut Sequence<Entry>,
+    entries: &mut Sequence<TranscriptEntry>,
     view: &View,
     announcers: Option<&Announcers>,
     node: &Text,

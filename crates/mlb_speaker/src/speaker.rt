@@ -1,18 +1,19 @@
 //! The speaker, as a machine over lines.
 ghost use Rattle.std.specs.Prelude.{◌≡◌, IfOk};
-ghost use Rattle.std.specs.Option.{option_map};
 ghost use Rattle.speaker_words.specs.Seen.{said_seen};
 ghost use Rattle.mlb_speaker.specs.Stream.{first_state};
 
-use crate::line::drive_line;
+use crate::events::apply_event;
 use crate::local_node::LocalNode;
+use crate::output::write_entries;
 use bgp_routes::KeptRoutes;
-use kube_labels::Text;
 use kube_model::Status;
 use l2_elect::Announcers;
 use line_run::{Machine, Refusal};
 use mlb_base::NoMemory;
 use mlb_edge::{Line, Sink};
+use program_exit::owned_word;
+use program_lines::event_of_line;
 use speaker_view::View;
 use speaker_words::SpeakerWords;
 use std::alloc::Global;
@@ -46,7 +47,7 @@ impl Speaker {
     pub(crate) fn new(alloc: Global, said: &SpeakerWords<'_>) -> Result<Speaker, NoMemory>
         ensures { IfOk result (λ speaker. speaker ≡ first_state (said_seen said.now)) }
     {
-        let class = owned(alloc, said.class)?;
+        let class = owned_word(alloc, said.class)?;
         let local = LocalNode::new(alloc, said)?;
         Ok(Speaker {
             view: View::new(alloc, class),
@@ -57,24 +58,14 @@ impl Speaker {
     }
 }
 
-/// The class as a text of its own.
-fn owned(alloc: Global, class: Option<&str>) -> Result<Option<Text>, NoMemory>
-    ensures { IfOk result (λ text. text ≡ option_map (λ c. c.now) class.entry) }
-{
-    let Some(class) = class else {
-        return Ok(None);
-    };
-    Ok(Some(Text::new(alloc, class)?))
-}
-
 impl Machine for Speaker {
     ghost use Rattle.mlb_speaker.specs.Stream.{SpeakerState, speaker_rules, IsCause};
     ghost use Rattle.mlb_speaker.specs.Causes.{line_causes, end_causes};
-    ghost use Rattle.mlb_speaker.specs.declared.entries.Entry.{Entry as SpeakerEntry};
+    ghost use Rattle.mlb_speaker.specs.declared.transcript.TranscriptEntry.{TranscriptEntry as SpeakerEntry};
 
     ghost State = { SpeakerState };
 
-    ghost Entry = { SpeakerEntry };
+    ghost TranscriptEntry = { SpeakerEntry };
 
     ghost state = { λ speaker. speaker };
 
@@ -82,8 +73,13 @@ impl Machine for Speaker {
 
     ghost cause = { IsCause };
 
+    // The line's event is applied to the view, and what comes of it is written.
     fn take<K: Sink>(&mut self, alloc: Global, line: Line, out: &mut K) -> Result<(), Refusal> {
-        drive_line(alloc, self, line, out)
+        let event = event_of_line(alloc, line)?;
+        let entries = apply_event(alloc, self, event)?;
+        let written = write_entries(alloc, out, entries.as_slice());
+        drop(entries);
+        Ok(written?)
     }
 
     fn end(&self) -> Result<Status, NoMemory> {

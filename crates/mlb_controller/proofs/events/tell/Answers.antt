@@ -1,6 +1,7 @@
 use Rattle.core_drive.specs.Drive.{turns_from}
 use Rattle.line_run.proofs.Texts.{err_then}
-use Rattle.mlb_controller.specs.Output.{note_text, output_of}
+use Rattle.mlb_controller.specs.Output.{output_of}
+use Rattle.program_lines.specs.Lines.{note_text}
 use Rattle.mlb_controller.proofs.events.tell.Goals as goal
 
 pub returns-clause-err : goal.returns-clause-err

@@ -3,7 +3,7 @@ use Rattle.core_rules.specs.Core.{fresh}
 use Rattle.std.proofs.Common.{Some, inr, refl, subst}
 use Rattle.lane_drive.specs.Asking.{AnswersAll, AsksMore, HasStopped}
 use Rattle.lane_drive.specs.Clauses.{OnlyWrites, TakesWhole, unread}
-use Rattle.lane_run.specs.Views.{lane_view, outside, source_view}
+use Rattle.lane_run.specs.Outside.{lane_state, outside, source_state}
 use Rattle.mlb_controller.specs.Lanes.{belongs_to, lane_rules}
 use Rattle.mlb_controller.proofs.LaneEnds.{ends_unbegun, lanes_can_end, writes_nothing}
 use Rattle.mlb_controller.proofs.RightLanes.{lanes_sound, lanes_quiet}
@@ -29,13 +29,13 @@ run_lane_files-requires-clause-live g c = λ _ _ i r o name more.
     c.requires.live i r o name
     (subst
     (λ s. AsksMore belongs_to lane_rules s
-    (lane_view (g.F.WatchedFiles.bytes c.args.files.now c.args.lanes.first.now) (Some c.args.lanes.first.now) 0
+    (lane_state (g.F.WatchedFiles.bytes c.args.files.now c.args.lanes.first.now) (Some c.args.lanes.first.now) 0
     (g.F.WatchedFiles.safe c.args.files.now c.args.lanes.first.now))
-    (lane_view (g.F.WatchedFiles.bytes c.args.files.now c.args.lanes.second.now) (Some c.args.lanes.second.now) 0
+    (lane_state (g.F.WatchedFiles.bytes c.args.files.now c.args.lanes.second.now) (Some c.args.lanes.second.now) 0
     (g.F.WatchedFiles.safe c.args.files.now c.args.lanes.second.now))
-    (outside unread (source_view (g.S.PacedSource.left c.args.input.now) (g.S.PacedSource.name c.args.input.now) (g.S.PacedSource.faults c.args.input.now))
+    (outside unread (source_state (g.S.PacedSource.left c.args.input.now) (g.S.PacedSource.name c.args.input.now) (g.S.PacedSource.faults c.args.input.now))
     (g.K.Sink.written c.args.out.now) (g.K.Sink.faults c.args.out.now))
-    (outside r (source_view (g.S.PacedSource.left i) (g.S.PacedSource.name i) (g.S.PacedSource.faults i)) (g.K.Sink.written o) (g.K.Sink.faults o)))
+    (outside r (source_state (g.S.PacedSource.left i) (g.S.PacedSource.name i) (g.S.PacedSource.faults i)) (g.K.Sink.written o) (g.K.Sink.faults o)))
     c.in-Ok.ensures more)
 
 pub run_lane_files-requires-clause-waits : goal.run_lane_files-requires-clause-waits
@@ -43,7 +43,7 @@ run_lane_files-requires-clause-waits g c = λ _ _ items out answers.
     c.requires.waits items out
     (subst
     (λ s. AnswersAll lane_rules s
-    (outside unread (source_view (g.S.PacedSource.left c.args.input.now) (g.S.PacedSource.name c.args.input.now) (g.S.PacedSource.faults c.args.input.now))
+    (outside unread (source_state (g.S.PacedSource.left c.args.input.now) (g.S.PacedSource.name c.args.input.now) (g.S.PacedSource.faults c.args.input.now))
     (g.K.Sink.written c.args.out.now) (g.K.Sink.faults c.args.out.now)) items (g.K.Sink.written out))
     c.in-Ok.ensures answers)
 
@@ -52,7 +52,7 @@ run_lane_files-requires-clause-drops g c = λ _ _ items out stopped.
     c.requires.drops items out
     (subst
     (λ s. HasStopped lane_rules s
-    (outside unread (source_view (g.S.PacedSource.left c.args.input.now) (g.S.PacedSource.name c.args.input.now) (g.S.PacedSource.faults c.args.input.now))
+    (outside unread (source_state (g.S.PacedSource.left c.args.input.now) (g.S.PacedSource.name c.args.input.now) (g.S.PacedSource.faults c.args.input.now))
     (g.K.Sink.written c.args.out.now) (g.K.Sink.faults c.args.out.now)) items (g.K.Sink.written out))
     c.in-Ok.ensures stopped)
 

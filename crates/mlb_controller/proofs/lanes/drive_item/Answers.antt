@@ -1,9 +1,12 @@
 use Rattle.std.proofs.Common.{refl}
+use Rattle.std.proofs.lemmas.Result.{err_from_is_err_and}
 use Rattle.mlb_controller.specs.Lanes.{item_step}
 use Rattle.mlb_controller.proofs.Steps.{item_halts}
 use Rattle.mlb_controller.proofs.lanes.drive_item.Goals as goal
 
-pub returns-in-Err-clause-err : goal.returns-in-Err-clause-err
-returns-in-Err-clause-err g c =
-    item_halts (item_step c.args.core.now c.args.item) c.in_ok-note.note c.take_from.new.core c.in_ok-note.ensures.ok c.in-Err.halt c.args.core.now c.args.item
-    _ _ _ _ refl c.in-Err.ensures.err
+pub returns-in_err-told-clause-err : goal.returns-in_err-told-clause-err
+returns-in_err-told-clause-err g c =
+    let p = err_from_is_err_and c.from_residual-in_err-told.result c.from_residual-in_err-told.ensures.1 in
+    rw (p.1, p.2)
+    (item_halts (item_step c.args.core.now c.args.item) c.in_ok-note.note c.take_from.new.core c.in_ok-note.ensures.ok c.in_err-told.field-0.0 c.args.core.now
+    c.args.item _ _ _ _ refl (rw c.in_err-told.was at c.tell_item-told.ensures.err))

@@ -5,7 +5,8 @@ use Rattle.kube_lines.specs.OutputLines.{took_text}
 use Rattle.line_run.proofs.Texts.{Halts-first, ok_then, err_then}
 use Rattle.line_run.specs.Text.{line_of}
 use Rattle.mlb_controller.specs.Lanes.{name_of}
-use Rattle.mlb_controller.specs.Output.{note_text, output_of}
+use Rattle.mlb_controller.specs.Output.{output_of}
+use Rattle.program_lines.specs.Lines.{note_text}
 use Rattle.mlb_controller.proofs.lanes.tell_item.Goals as goal
 
 pub returns-in_err-write_took-clause-err : goal.returns-in_err-write_took-clause-err

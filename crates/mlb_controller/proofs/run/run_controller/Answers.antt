@@ -1,8 +1,5 @@
 use Rattle.command_options.specs.Options.{texts_of}
-use Rattle.mlb_controller.specs.Asked.{class_of}
-use Rattle.mlb_controller.proofs.Asking.{class-named, lanes_no_run, lanes_no_trial, one_lanes, trial-safe}
-use Rattle.mlb_controller.proofs.Rightful.{sound_where_told, safe_where_told}
-use Rattle.mlb_controller.proofs.RightLanes.{any_sound, lanes_watch}
+use Rattle.mlb_controller.proofs.Asking.{lanes_no_run, lanes_no_trial, one_lanes}
 use Rattle.mlb_controller.proofs.run.run_controller.Goals as goal
 
 -- ---- when the input may be asked for more
@@ -39,16 +36,7 @@ returns-in-None-clause-lanes_complete g c = λ class files say. absurd (c.in-Non
 pub returns-in-None-clause-lanes_sound : goal.returns-in-None-clause-lanes_sound
 returns-in-None-clause-lanes_sound g c = λ class files say. absurd (c.in-None.ensures.none class files say)
 
-pub returns-in-None-clause-lanes_any : goal.returns-in-None-clause-lanes_any
-returns-in-None-clause-lanes_any g c = λ class files say. any_sound class
-
-pub returns-in-None-clause-lane_groups : goal.returns-in-None-clause-lane_groups
-returns-in-None-clause-lane_groups g c = lanes_watch
-
 -- ---- a run over two lanes: neither one over one stream nor a trial is asked for
-
-pub returns-in-Some-clause-named : goal.returns-in-Some-clause-named
-returns-in-Some-clause-named g c = class-named (texts_of c.args.words.now)
 
 pub returns-in-Some-clause-run : goal.returns-in-Some-clause-run
 returns-in-Some-clause-run g c = λ ask. absurd (lanes_no_run (texts_of c.args.words.now) _ _ c.in-Some.ensures.some ask)
@@ -59,20 +47,11 @@ returns-in-Some-clause-only g c = λ ask. absurd (lanes_no_run (texts_of c.args.
 pub returns-in-Some-clause-quiet : goal.returns-in-Some-clause-quiet
 returns-in-Some-clause-quiet g c = λ ask. absurd (lanes_no_run (texts_of c.args.words.now) _ _ c.in-Some.ensures.some ask)
 
-pub returns-in-Some-clause-sound : goal.returns-in-Some-clause-sound
-returns-in-Some-clause-sound g c = sound_where_told (class_of (texts_of c.args.words.now)) (g.S.PacedSource.left c.args.input.now)
-
-pub returns-in-Some-clause-safe : goal.returns-in-Some-clause-safe
-returns-in-Some-clause-safe g c = safe_where_told (class_of (texts_of c.args.words.now)) (g.S.PacedSource.left c.args.input.now)
-
 pub returns-in-Some-clause-trial : goal.returns-in-Some-clause-trial
 returns-in-Some-clause-trial g c = λ seed steps ask. absurd (lanes_no_trial (texts_of c.args.words.now) _ _ c.in-Some.ensures.some seed steps ask)
 
 pub returns-in-Some-clause-trial_unread : goal.returns-in-Some-clause-trial_unread
 returns-in-Some-clause-trial_unread g c = λ seed steps ask. absurd (lanes_no_trial (texts_of c.args.words.now) _ _ c.in-Some.ensures.some seed steps ask)
-
-pub returns-in-Some-clause-trial_safe : goal.returns-in-Some-clause-trial_safe
-returns-in-Some-clause-trial_safe g c = λ seed steps ask. trial-safe seed
 
 -- ---- and the class and the files that are asked for are those of the run
 
@@ -95,12 +74,6 @@ pub returns-in-Some-clause-lanes_sound : goal.returns-in-Some-clause-lanes_sound
 returns-in-Some-clause-lanes_sound g c = λ class files say.
     let one = one_lanes (texts_of c.args.words.now) _ class _ files c.in-Some.ensures.some say in
     rw (← one.0, ← one.1) c.lanes_controller.ensures.sound
-
-pub returns-in-Some-clause-lanes_any : goal.returns-in-Some-clause-lanes_any
-returns-in-Some-clause-lanes_any g c = λ class files say. any_sound class
-
-pub returns-in-Some-clause-lane_groups : goal.returns-in-Some-clause-lane_groups
-returns-in-Some-clause-lane_groups g c = lanes_watch
 
 pub returns-in-Some-clause-lanes_complete : goal.returns-in-Some-clause-lanes_complete
 returns-in-Some-clause-lanes_complete g c = λ class files say.

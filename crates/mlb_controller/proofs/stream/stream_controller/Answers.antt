@@ -11,22 +11,11 @@ use Rattle.line_run.specs.RunOutput.{WritesOnly}
 use Rattle.mlb_controller.specs.Asked.{AskRun, class_of}
 use Rattle.mlb_controller.specs.Stream.{controller_rules, IsCause}
 use Rattle.mlb_controller.specs.Trial.{TrialEnds}
-use Rattle.mlb_controller.proofs.Asking.{class-named, class-asked, no-run, no-trial, one-trial, trial-safe}
-use Rattle.mlb_controller.proofs.Rightful.{sound_where_told, safe_where_told, quiet_where_done, only_sound}
+use Rattle.mlb_controller.proofs.Asking.{class-asked, no-run, no-trial, one-trial}
+use Rattle.mlb_controller.proofs.Rightful.{quiet_where_done, only_sound}
 use Rattle.mlb_controller.proofs.stream.stream_controller.Goals as goal
 
--- ---- words that aren't of the table
-
-pub returns-in-None-clause-sound : goal.returns-in-None-clause-sound
-returns-in-None-clause-sound g c = sound_where_told (class_of (texts_of c.args.words.now)) (g.S.PacedSource.left c.args.input.now)
-
-pub returns-in-None-clause-safe : goal.returns-in-None-clause-safe
-returns-in-None-clause-safe g c = safe_where_told (class_of (texts_of c.args.words.now)) (g.S.PacedSource.left c.args.input.now)
-
 -- ---- a trial
-
-pub returns-in-Some-Trial-clause-named : goal.returns-in-Some-Trial-clause-named
-returns-in-Some-Trial-clause-named g c = class-named (texts_of c.args.words.now)
 
 pub returns-in-Some-Trial-clause-run : goal.returns-in-Some-Trial-clause-run
 returns-in-Some-Trial-clause-run g c = λ ask. absurd (no-run (texts_of c.args.words.now) c.in-Some-Trial.seed c.in-Some-Trial.steps
@@ -40,12 +29,6 @@ pub returns-in-Some-Trial-clause-quiet : goal.returns-in-Some-Trial-clause-quiet
 returns-in-Some-Trial-clause-quiet g c = λ ask. absurd (no-run (texts_of c.args.words.now) c.in-Some-Trial.seed c.in-Some-Trial.steps
     (sym (ap (λ x. Some (asked_seen x)) c.in-Some-Trial.field-0-is) ∙ c.in-Some-Trial.ensures.value) ask)
 
-pub returns-in-Some-Trial-clause-sound : goal.returns-in-Some-Trial-clause-sound
-returns-in-Some-Trial-clause-sound g c = sound_where_told (class_of (texts_of c.args.words.now)) (g.S.PacedSource.left c.args.input.now)
-
-pub returns-in-Some-Trial-clause-safe : goal.returns-in-Some-Trial-clause-safe
-returns-in-Some-Trial-clause-safe g c = safe_where_told (class_of (texts_of c.args.words.now)) (g.S.PacedSource.left c.args.input.now)
-
 pub returns-in-Some-Trial-clause-trial : goal.returns-in-Some-Trial-clause-trial
 returns-in-Some-Trial-clause-trial g c = λ seed steps ask.
     let one = one-trial (texts_of c.args.words.now) c.in-Some-Trial.seed c.in-Some-Trial.steps seed steps
@@ -54,28 +37,13 @@ returns-in-Some-Trial-clause-trial g c = λ seed steps ask.
     (subst (λ n. TrialEnds c.in-Some-Trial.seed n c.run_trial.result (g.K.Sink.written c.args.out.now) (g.K.Sink.written c.run_trial.new.out)) one.1
     c.run_trial.ensures.ends)
 
-pub returns-in-Some-Trial-clause-trial_safe : goal.returns-in-Some-Trial-clause-trial_safe
-returns-in-Some-Trial-clause-trial_safe g c = λ seed steps ask. trial-safe seed
-
 -- ---- a run for which there is no memory
-
-pub returns-in_default-clause-named : goal.returns-in_default-clause-named
-returns-in_default-clause-named g c = class-named (texts_of c.args.words.now)
 
 pub returns-in_default-clause-only : goal.returns-in_default-clause-only
 returns-in_default-clause-only g c = λ ask.
     let class = class_of (texts_of c.args.words.now) in
     only_sound class (g.K.Sink.written c.args.out.now) (g.K.Sink.written c.args.out.now)
     (only_nothing controller_rules (fresh class) (g.K.Sink.written c.args.out.now))
-
-pub returns-in_default-clause-sound : goal.returns-in_default-clause-sound
-returns-in_default-clause-sound g c = sound_where_told (class_of (texts_of c.args.words.now)) (g.S.PacedSource.left c.args.input.now)
-
-pub returns-in_default-clause-safe : goal.returns-in_default-clause-safe
-returns-in_default-clause-safe g c = safe_where_told (class_of (texts_of c.args.words.now)) (g.S.PacedSource.left c.args.input.now)
-
-pub returns-in_default-clause-trial_safe : goal.returns-in_default-clause-trial_safe
-returns-in_default-clause-trial_safe g c = λ seed steps ask. trial-safe seed
 
 -- ---- a run
 
@@ -90,9 +58,6 @@ run_machine-status-requires g c =
           (subst (λ s. IsAnswered controller_rules s (g.S.PacedSource.left c.args.input.now) r (g.S.PacedSource.left i) (g.K.Sink.written c.args.out.now)
           (g.K.Sink.written o)) begun answered);
     }
-
-pub returns-clause-named : goal.returns-clause-named
-returns-clause-named g c = class-named (texts_of c.args.words.now)
 
 pub returns-clause-run : goal.returns-clause-run
 returns-clause-run g c = λ ask.
@@ -111,12 +76,6 @@ returns-clause-only g c = λ ask.
     rw begun at c.run_machine-status.ensures.run.only in
     only_sound class (g.K.Sink.written c.args.out.now) (g.K.Sink.written c.run_machine-status.new.out) only
 
-pub returns-clause-sound : goal.returns-clause-sound
-returns-clause-sound g c = sound_where_told (class_of (texts_of c.args.words.now)) (g.S.PacedSource.left c.args.input.now)
-
-pub returns-clause-safe : goal.returns-clause-safe
-returns-clause-safe g c = safe_where_told (class_of (texts_of c.args.words.now)) (g.S.PacedSource.left c.args.input.now)
-
 pub returns-clause-quiet : goal.returns-clause-quiet
 returns-clause-quiet g c = λ ask done.
     let class = class_of (texts_of c.args.words.now) in
@@ -134,6 +93,3 @@ returns-clause-trial g c = λ seed steps ask.
 pub returns-clause-trial_unread : goal.returns-clause-trial_unread
 returns-clause-trial_unread g c = λ seed steps ask.
     absurd (no-trial (texts_of c.args.words.now) _ (sym (ap (λ x. Some (asked_seen x)) c.in-Some-Run.field-0-is) ∙ c.in-Some-Run.ensures.value) seed steps ask)
-
-pub returns-clause-trial_safe : goal.returns-clause-trial_safe
-returns-clause-trial_safe g c = λ seed steps ask. trial-safe seed

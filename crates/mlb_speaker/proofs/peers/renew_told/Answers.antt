@@ -1,7 +1,7 @@
 use Rattle.std.proofs.Common.{◌++◌, ℕ, Bool, List, map, sym, ap, ◌∙◌}
 use Rattle.std.specs.List.{flat_map}
 use Rattle.pool_config.specs.declared.compiled.CompiledPeer.{CompiledPeer}
-use Rattle.mlb_speaker.specs.declared.entries.Entry.{Entry}
+use Rattle.mlb_speaker.specs.declared.transcript.TranscriptEntry.{TranscriptEntry}
 use Rattle.mlb_speaker.specs.Kept.{part_at, part_updates}
 use Rattle.mlb_speaker.proofs.NamedPeers.{names-known}
 use Rattle.mlb_speaker.proofs.Parts.{all-told, on-ok}
@@ -27,7 +27,7 @@ returns-clause-entries c = elim c.match-renew_kept.branch [
       w.in-Ok.ensures.right
       ∙ ap (λ (n : List ℕ). c.args.entries.now ++ flat_map (part_updates change before view n hops) peers) c.renew_kept.ensures.node
       ∙ ap (λ (ps : List CompiledPeer). c.args.entries.now ++ flat_map (part_updates change before view node hops) ps) c.peers_of-peers.ensures.peers
-      ∙ ap (λ (es : List Entry). c.args.entries.now ++ es)
+      ∙ ap (λ (es : List TranscriptEntry). c.args.entries.now ++ es)
       (all-told change before view node hops were.differs (names-known view.held.config c.config-known.ensures.known)
       (λ config in_force. (c.config-known.ensures.known config in_force).communities)))
       w.push_changes-told.ensures)

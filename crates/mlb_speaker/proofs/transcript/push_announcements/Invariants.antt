@@ -1,7 +1,7 @@
 use Rattle.std.proofs.Common.{◌≡◌, ◌++◌}
 use Rattle.std.specs.List.{flat_map}
 use Rattle.mlb_speaker.specs.Sends.{announcement}
-use Rattle.mlb_speaker.proofs.entries.push_announcements.Given as goal
+use Rattle.mlb_speaker.proofs.transcript.push_announcements.Given as goal
 
 abbrev pub invariant-loop-address : goal.invariant-loop-address
 invariant-loop-address l =

@@ -2,7 +2,7 @@
 ghost use Rattle.std.specs.Prelude.{◌≡◌, ◌++◌, ◌∷◌, map, IfOk, OnOk};
 ghost use Rattle.std.specs.List.{flat_map};
 ghost use Rattle.l2_elect.specs.Kept.{AreKeptFor};
-ghost use Rattle.mlb_speaker.specs.Entries.{withdrawn};
+ghost use Rattle.mlb_speaker.specs.Transcript.{withdrawn};
 ghost use Rattle.mlb_speaker.specs.Sends.{announcement};
 
 use crate::local_node::LocalNode;
@@ -19,7 +19,7 @@ use std::collections::BTreeSet;
 
 /// One thing that is told.
 #[derive(Drop)]
-pub enum Entry {
+pub enum TranscriptEntry {
     /// What became of a configuration.
     Noted { note: TakeNote },
     /// The address isn't announced any more.
@@ -40,13 +40,13 @@ pub(crate) fn entries_for(
     local: &LocalNode,
     note: TakeNote,
     changes: &AddressChanges,
-) -> Result<Sequence<Entry>, NoMemory>
+) -> Result<Sequence<TranscriptEntry>, NoMemory>
     requires { AreKeptFor announcers.now view.now }
     ensures { IfOk result (λ entries. entries
-        ≡ Entry.Noted note ∷ map withdrawn changes.now.withdrawn.keys ++ flat_map (announcement view.now local.now) changes.now.announced.keys) }
+        ≡ TranscriptEntry.Noted note ∷ map withdrawn changes.now.withdrawn.keys ++ flat_map (announcement view.now local.now) changes.now.announced.keys) }
 {
     let mut entries = Sequence::new(alloc);
-    entries.push(Entry::Noted { note })?;
+    entries.push(TranscriptEntry::Noted { note })?;
     push_withdrawals(&mut entries, &changes.withdrawn)?;
     push_announcements(
         alloc,
@@ -60,20 +60,20 @@ pub(crate) fn entries_for(
 }
 
 fn push_withdrawals(
-    entries: &mut Sequence<Entry>,
+    entries: &mut Sequence<TranscriptEntry>,
     addresses: &BTreeSet<Address>,
 ) -> Result<(), NoMemory>
     ensures { OnOk result (entries.new ≡ entries.old ++ map withdrawn addresses.now.keys) }
 {
     for address in addresses {
-        entries.push(Entry::Withdrawn { address: *address })?;
+        entries.push(TranscriptEntry::Withdrawn { address: *address })?;
     }
     Ok(())
 }
 
 fn push_announcements(
     alloc: Global,
-    entries: &mut Sequence<Entry>,
+    entries: &mut Sequence<TranscriptEntry>,
     view: &View,
     announcers: &Announcers,
     local: &LocalNode,
@@ -91,7 +91,7 @@ fn push_announcements(
 /// The announcement of an address, and the frames that are sent with it.
 fn push_announcement(
     alloc: Global,
-    entries: &mut Sequence<Entry>,
+    entries: &mut Sequence<TranscriptEntry>,
     view: &View,
     announcers: &Announcers,
     local: &LocalNode,
@@ -100,6 +100,6 @@ fn push_announcement(
     requires { AreKeptFor announcers.now view.now }
     ensures { OnOk result (entries.new ≡ entries.old ++ announcement view.now local.now address.now) }
 {
-    entries.push(Entry::Announced { address: *address })?;
+    entries.push(TranscriptEntry::Announced { address: *address })?;
     push_all_unasked(alloc, entries, view, announcers, local, address)
 }

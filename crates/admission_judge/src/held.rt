@@ -4,7 +4,7 @@ ghost use Rattle.kube_model.specs.declared.event.Event.TheVariants.{Changed, Del
 ghost use Rattle.object_history.specs.Observations.{Watched};
 ghost use Rattle.object_history.specs.Cache.{objects_after};
 
-use kube_model::{Event, Group, Key, Kind, Object};
+use kube_model::{Event, Key, Kind, ListGroup, Object};
 use mlb_base::NoMemory;
 use pool_config::ObjectSet;
 
@@ -18,18 +18,24 @@ pub fn hold(objects: &mut ObjectSet, event: Event) -> Result<(), NoMemory>
     match event {
         Event::Changed { version, object } => show(objects, version, object),
         Event::Deleted { kind, key } => {
-            delete(objects, kind, key);
+            delete(objects, kind, &key);
+            drop(key);
             Ok(())
         }
         Event::ListEnd { group } => {
+            drop(event);
             end_list(objects, group);
             Ok(())
         }
         Event::Expired => {
+            drop(event);
             objects.expire();
             Ok(())
         }
-        Event::Members { .. } | Event::Frame { .. } | Event::Ignored => Ok(()),
+        Event::Members { .. } | Event::Frame { .. } | Event::Ignored => {
+            drop(event);
+            Ok(())
+        }
     }
 }
 
@@ -43,17 +49,17 @@ fn show(objects: &mut ObjectSet, version: u64, object: Object) -> Result<(), NoM
 }
 
 #[tactic(auto, using(crate::proofs::Events::removed_is))]
-fn delete(objects: &mut ObjectSet, kind: Kind, key: Key)
-    ensures { objects.new ≡ objects_after (Watched (Deleted kind key)) objects.old }
+fn delete(objects: &mut ObjectSet, kind: Kind, key: &Key)
+    ensures { objects.new ≡ objects_after (Watched (Deleted kind key.now)) objects.old }
 {
     objects.remove(kind, &key.name);
 }
 
-fn end_list(objects: &mut ObjectSet, group: Group)
+fn end_list(objects: &mut ObjectSet, group: ListGroup)
     ensures { objects.new ≡ objects_after (Watched (ListEnd group)) objects.old }
 {
     match group {
-        Group::Config => objects.drop_unlisted(),
-        Group::Service | Group::Endpoint => {}
+        ListGroup::Config => objects.drop_unlisted(),
+        ListGroup::Service | ListGroup::Endpoint => {}
     }
 }

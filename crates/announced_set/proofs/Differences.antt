@@ -10,6 +10,7 @@ use Rattle.std.specs.BTreeMap.{is_at}
 use Rattle.std.specs.List.{list_any}
 use Rattle.std.specs.List.Sorted.{IsStrictlySortedBy}
 use Rattle.std.specs.Map.{keys_of}
+use Rattle.std.proofs.Math.Bool.{or-false}
 use Rattle.mlb_base.proofs.Among.{contains-first, contains-later}
 use Rattle.ip_ranges.specs.Values.{AddressValue, same_address, has_address}
 use Rattle.ip_ranges.proofs.AddressLaws.{same_address-is, has_address-from}
@@ -17,10 +18,10 @@ use Rattle.speaker_view.specs.Endpoints.{recorded_addresses}
 use Rattle.speaker_view.specs.ViewValue.{ViewValue}
 use Rattle.speaker_view.proofs.AddressOrder.{ascending-distinct, ascending-same, found-has, has-distinct}
 use Rattle.l2_elect.specs.Election.{announces_of, is_named}
-use Rattle.l2_elect.specs.Kept.{AreKeptBut, AreKeptFor, held_for}
+use Rattle.l2_elect.specs.Kept.{AreKeptBut, AreKeptFor, kept_announcer}
 use Rattle.l2_elect.proofs.Keeping.{nothing-but}
 use Rattle.announced_set.specs.Announced.{address_cmp, announced_by}
-use Rattle.announced_set.specs.Changes.{AreComeSince, AreWithdrawn, difference, held_among, is_held}
+use Rattle.announced_set.specs.Changes.{AreComeSince, AreWithdrawn, difference, kept_among, is_kept_announcer}
 use Rattle.announced_set.proofs.Listed.{all_are_announced, has-announced}
 
 has-difference : (addresses others : List AddressValue) (a : AddressValue)
@@ -31,10 +32,11 @@ has-difference addresses others a =
 
 -- ---- the addresses at which the announcers were looked at
 has-held : (entries : List (AddressValue × List ℕ)) (node : List ℕ) (addresses : List AddressValue) (a : AddressValue)
-    → has_address (held_among entries node addresses) a ≡ (is_held entries node a && has_address addresses a)
+    → has_address (kept_among entries node addresses) a ≡ (is_kept_announcer entries node a && has_address addresses a)
 has-held entries node addresses a =
-    has-distinct (filter (is_held entries node) addresses) a
-    ∙ any-filter_same (same_address a) (is_held entries node) (is_held entries node a) (λ k e. ap (is_held entries node) (sym (same_address-is a k e)))
+    has-distinct (filter (is_kept_announcer entries node) addresses) a
+    ∙ any-filter_same (same_address a) (is_kept_announcer entries node) (is_kept_announcer entries node a)
+    (λ k e. ap (is_kept_announcer entries node) (sym (same_address-is a k e)))
     addresses
 
 -- `t`, it was looked at; `p`, it is one of the first; `q`, of the others
@@ -50,15 +52,15 @@ differs_by false false false same = refl
 
 module _ (node : List ℕ) (addresses : List AddressValue) where
   -- the difference of two sets that were looked at is that of the two whole ones, where these are the same elsewhere
-  differs : (one other : List (AddressValue × List ℕ)) (v w : ViewValue) → ((a : AddressValue) → is_held one node a ≡ announces_of v node a)
-      → ((a : AddressValue) → is_held other node a ≡ announces_of w node a)
+  differs : (one other : List (AddressValue × List ℕ)) (v w : ViewValue) → ((a : AddressValue) → is_kept_announcer one node a ≡ announces_of v node a)
+      → ((a : AddressValue) → is_kept_announcer other node a ≡ announces_of w node a)
       → ((a : AddressValue) → has_address addresses a ≡ false → announces_of v node a ≡ announces_of w node a)
-      → difference (held_among one node addresses) (held_among other node addresses) ≡ difference (announced_by v node) (announced_by w node)
+      → difference (kept_among one node addresses) (kept_among other node addresses) ≡ difference (announced_by v node) (announced_by w node)
   differs one other v w first second same =
-      let ours = held_among one node addresses in
-      let theirs = held_among other node addresses in
+      let ours = kept_among one node addresses in
+      let theirs = kept_among other node addresses in
       ascending-same (difference ours theirs) (difference (announced_by v node) (announced_by w node))
-      (IsStrictlySortedBy-filter address_cmp (λ a. not (has_address theirs a)) ours (ascending-distinct (filter (is_held one node) addresses)))
+      (IsStrictlySortedBy-filter address_cmp (λ a. not (has_address theirs a)) ours (ascending-distinct (filter (is_kept_announcer one node) addresses)))
       (IsStrictlySortedBy-filter address_cmp (λ a. not (has_address (announced_by w node) a)) (announced_by v node) (all_are_announced v node).ascend)
       (λ a.
       has-difference ours theirs a
@@ -70,23 +72,23 @@ module _ (node : List ℕ) (addresses : List AddressValue) where
 
   module _ (old new : List (AddressValue × List ℕ)) (v w : ViewValue) (was : AreKeptFor old v) (is : AreKeptFor new w) (but : AreKeptBut addresses old w) where
     held-announced : (entries : List (AddressValue × List ℕ)) (u : ViewValue) → AreKeptFor entries u → (a : AddressValue)
-        → is_held entries node a ≡ announces_of u node a
+        → is_kept_announcer entries node a ≡ announces_of u node a
     held-announced entries u kept a = ap (is_named node) (kept.each a)
 
     same-elsewhere : (a : AddressValue) → has_address addresses a ≡ false → announces_of v node a ≡ announces_of w node a
     same-elsewhere a e = ap (is_named node) (sym (was.each a) ∙ but a (λ there. false≢true (sym e ∙ has_address-from addresses a there)))
 
-    pub withdrawn-told : difference (held_among old node addresses) (held_among new node addresses) ≡ difference (announced_by v node) (announced_by w node)
+    pub withdrawn-told : difference (kept_among old node addresses) (kept_among new node addresses) ≡ difference (announced_by v node) (announced_by w node)
     withdrawn-told = differs old new v w (held-announced old v was) (held-announced new w is) same-elsewhere
 
-    pub announced-told : difference (held_among new node addresses) (held_among old node addresses) ≡ difference (announced_by w node) (announced_by v node)
+    pub announced-told : difference (kept_among new node addresses) (kept_among old node addresses) ≡ difference (announced_by w node) (announced_by v node)
     announced-told = differs new old w v (held-announced new w is) (held-announced old v was) (λ a e. sym (same-elsewhere a e))
 
 -- what a call found in the two sets is told of whichever view the first announcers were of
 module _ {T E : Type 0} (found : T → List AddressValue) (r : Result T E) (node : List ℕ) (addresses : List AddressValue)
     (old new : List (AddressValue × List ℕ)) (w : ViewValue) (is : AreKeptFor new w)
-    (but : AreKeptBut addresses old w) (before after : List AddressValue) (was : before ≡ held_among old node addresses)
-    (now : after ≡ held_among new node addresses) where
+    (but : AreKeptBut addresses old w) (before after : List AddressValue) (was : before ≡ kept_among old node addresses)
+    (now : after ≡ kept_among new node addresses) where
   if_ok : {P Q : T → Type 0} (s : Result T E) → ((x : T) → P x → Q x) → IfOk s P → IfOk s Q
   if_ok (Ok x) h p = h x p
   if_ok (Err e) h p = tt
@@ -103,10 +105,10 @@ unheld_by : {X : Type 0} (b : Bool) (here : X) (there : Option X) → (b ≡ tru
 unheld_by true here there never none = absurd (never refl)
 unheld_by false here there never none = none
 
-unheld : (entries : List (AddressValue × List ℕ)) (a : AddressValue) → ¬ (Contains (keys_of entries) a) → held_for entries a ≡ None
+unheld : (entries : List (AddressValue × List ℕ)) (a : AddressValue) → ¬ (Contains (keys_of entries) a) → kept_announcer entries a ≡ None
 unheld [] a none = refl
 unheld (e ∷ es) a none =
-    unheld_by (same_address a e.0) e.1 (held_for es a)
+    unheld_by (same_address a e.0) e.1 (kept_announcer es a)
     (λ same. none (subst (λ (x : AddressValue). Contains (e.0 ∷ keys_of es) x) (sym (same_address-is a e.0 same)) (contains-first e.0 (keys_of es))))
     (unheld es a (λ there. none (contains-later e.0 (keys_of es) a there)))
 
@@ -130,15 +132,11 @@ pub found-more : (found new : List AddressValue) (address : AddressValue) (rest 
 found-more found new address rest all put so_far a =
     ap (λ b. b || has_address rest a) (put a) ∙ one_of (has_address found a) (same_address a address) (has_address rest a) ∙ so_far a
 
-or_nothing : (b : Bool) → b ≡ (b || false)
-or_nothing true = refl
-or_nothing false = refl
-
 -- all of them were found
 pub found-all : (addresses others found left : List AddressValue) → left ≡ []
     → ((a : AddressValue) → (has_address found a || has_address left a) ≡ has_address (filter (λ x. not (list_any (is_at (address_cmp x)) others)) addresses) a)
     → IsStrictlySortedBy address_cmp addresses → IsStrictlySortedBy address_cmp found → found ≡ difference addresses others
 found-all addresses others found left none each was ascend =
     ascending-same found (difference addresses others) ascend (IsStrictlySortedBy-filter address_cmp (λ a. not (has_address others a)) addresses was) (λ a.
-    or_nothing (has_address found a) ∙ ap (λ l. has_address found a || has_address l a) (sym none) ∙ each a
+    sym (or-false (has_address found a)) ∙ ap (λ l. has_address found a || has_address l a) (sym none) ∙ each a
     ∙ (λ i. has_address (filter (λ x. not (found-has others x i)) addresses) a))

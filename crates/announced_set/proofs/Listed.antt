@@ -3,7 +3,8 @@ use Rattle.std.proofs.Common.{◌≡◌, ℕ, Bool, true, List, [], ◌∷◌, s
 use Rattle.std.specs.List.Sorted.{IsStrictlySortedBy}
 use Rattle.std.proofs.lemmas.Bool.Decides.{same_from_decides}
 use Rattle.mlb_base.specs.Items.{IsIn}
-use Rattle.mlb_base.proofs.Among.{contains-first, contains-later, contains-cons, contains-none}
+use Rattle.mlb_base.proofs.Among.{contains-cons, contains-none}
+use Rattle.mlb_base.proofs.Lists.{in-contains, contains-in, filter-contains, filter-keeps}
 use Rattle.ip_ranges.specs.Values.{AddressValue, has_address}
 use Rattle.ip_ranges.proofs.AddressLaws.{has_address-is, has_address-from}
 use Rattle.kube_model.specs.declared.service.Service.{Service}
@@ -12,20 +13,9 @@ use Rattle.pool_config.proofs.KeySets.{in_keys, keys_in, ascending-keys_with}
 use Rattle.speaker_view.specs.Held.{objects_of}
 use Rattle.speaker_view.specs.ViewValue.{ViewValue}
 use Rattle.l2_elect.specs.Election.{IsAnnouncer, announces_of}
-use Rattle.l2_elect.proofs.Filters.{Contains-filter, filter-Contains}
 use Rattle.l2_elect.proofs.Least.{announces-announcer, announcer-announces}
 use Rattle.announced_set.specs.Announced.{address_cmp, announced_of, announced_with, announced_by, AllAreAnnounced}
 use Rattle.speaker_view.proofs.AddressOrder.{address_total, address_exact}
-
--- ---- items of lists
-in-contains : (xs : List AddressValue) (a : AddressValue) → IsIn xs a → Contains xs a
-in-contains [] a none = absurd none
-in-contains (x ∷ xs) a (inl here) = subst (λ (y : AddressValue). Contains (x ∷ xs) y) here (contains-first x xs)
-in-contains (x ∷ xs) a (inr later) = contains-later x xs a (in-contains xs a later)
-
-contains-in : (xs : List AddressValue) (a : AddressValue) → Contains xs a → IsIn xs a
-contains-in [] a there = absurd (contains-none a there)
-contains-in (x ∷ xs) a there = elim (contains-cons x xs a there) [ inl here ↦ inl here | inr later ↦ inr (contains-in xs a later) ]
 
 -- ---- those that the node announces
 pub nothing_ascends : IsStrictlySortedBy address_cmp []
@@ -45,7 +35,7 @@ module _ (v : ViewValue) (node : List ℕ) where
         | inl before ↦
             elim (in_keys address_total address_exact found more a before) [
               | inl old ↦ inl old
-              | inr new ↦ inr (filter-Contains passes s.holding.addresses a (in-contains more a new)).1
+              | inr new ↦ inr (filter-contains passes s.holding.addresses a (in-contains more a new)).1
             ]
         | inr e ↦ inr e
       ]
@@ -65,7 +55,7 @@ module _ (v : ViewValue) (node : List ℕ) where
       elim (contains-cons s services service there) [
         | inl here ↦
             let of_it : Contains s.holding.addresses a = subst (λ (x : Service). Contains x.holding.addresses a) (sym here) recorded in
-            let new : IsIn more a = contains-in more a (Contains-filter passes s.holding.addresses a of_it e) in
+            let new : IsIn more a = contains-in more a (filter-keeps passes s.holding.addresses a of_it e) in
             listed-keeps services (keys_with address_cmp found more) a (keys_in address_total address_exact found more a (inr new))
         | inr later ↦ listed-has services (keys_with address_cmp found more) service a later recorded e
       ]

@@ -4,7 +4,7 @@ use Rattle.ip_ranges.specs.Values.{AddressValue, has_address}
 use Rattle.pool_config.specs.KeySets.{keys_with}
 use Rattle.speaker_view.specs.ViewValue.{ViewValue}
 use Rattle.l2_elect.specs.Election.{is_named}
-use Rattle.l2_elect.specs.Kept.{AreKeptFor, held_for}
+use Rattle.l2_elect.specs.Kept.{AreKeptFor, kept_announcer}
 use Rattle.announced_set.specs.Announced.{address_cmp, announced_by}
 
 -- the addresses that aren't among the others
@@ -22,9 +22,9 @@ AreComeSince entries after node addresses =
     (before : ViewValue) → AreKeptFor entries before → addresses ≡ difference (announced_by after node) (announced_by before node)
 
 -- the node's name is held for the address
-abbrev pub is_held : List (AddressValue × List ℕ) → List ℕ → AddressValue → Bool
-is_held entries node a = is_named node (held_for entries a)
+abbrev pub is_kept_announcer : List (AddressValue × List ℕ) → List ℕ → AddressValue → Bool
+is_kept_announcer entries node a = is_named node (kept_announcer entries a)
 
 -- the addresses for which it is, each put in its place, once
-abbrev pub held_among : List (AddressValue × List ℕ) → List ℕ → List AddressValue → List AddressValue
-held_among entries node addresses = keys_with address_cmp [] (filter (is_held entries node) addresses)
+abbrev pub kept_among : List (AddressValue × List ℕ) → List ℕ → List AddressValue → List AddressValue
+kept_among entries node addresses = keys_with address_cmp [] (filter (is_kept_announcer entries node) addresses)

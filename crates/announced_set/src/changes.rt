@@ -6,7 +6,7 @@ ghost use Rattle.ip_ranges.specs.Values.{AddressValue, has_address, same_address
 ghost use Rattle.speaker_view.specs.Endpoints.{recorded_addresses};
 ghost use Rattle.l2_elect.specs.Kept.{AreKeptBut, AreKeptFor, AreRightBut};
 ghost use Rattle.announced_set.specs.Announced.{address_cmp};
-ghost use Rattle.announced_set.specs.Changes.{AreComeSince, AreWithdrawn, difference, held_among, is_held};
+ghost use Rattle.announced_set.specs.Changes.{AreComeSince, AreWithdrawn, difference, kept_among, is_kept_announcer};
 
 use ip_ranges::{Address, AddressList};
 use kube_labels::Text;
@@ -82,9 +82,9 @@ fn renew_at(
     ensures withdrawn { IfOk result (λ changes. AreWithdrawn announcers.old view.now node.now changes.withdrawn.keys) }
     ensures announced { IfOk result (λ changes. AreComeSince announcers.old view.now node.now changes.announced.keys) }
 {
-    let before = held_by(alloc, announcers, node, addresses)?;
+    let before = kept_for_node(alloc, announcers, node, addresses)?;
     announcers.renew(view, addresses)?;
-    let after = held_by(alloc, announcers, node, addresses)?;
+    let after = kept_for_node(alloc, announcers, node, addresses)?;
     changes_between(alloc, &before, &after)
 }
 
@@ -103,36 +103,36 @@ fn changes_between(
 }
 
 /// Those of the addresses whose announcer is the node, as it is held.
-fn held_by(
+fn kept_for_node(
     alloc: Global,
     announcers: &Announcers,
     node: &Text,
     addresses: &AddressList,
 ) -> Result<BTreeSet<Address>, NoMemory>
-    ensures { IfOk result (λ found. found.keys ≡ held_among announcers.now node.now addresses.now) }
+    ensures { IfOk result (λ found. found.keys ≡ kept_among announcers.now node.now addresses.now) }
 {
-    held_among(alloc, announcers, node, addresses.as_slice())
+    kept_among(alloc, announcers, node, addresses.as_slice())
 }
 
-fn held_among(
+fn kept_among(
     alloc: Global,
     announcers: &Announcers,
     node: &Text,
     addresses: &[Address],
 ) -> Result<BTreeSet<Address>, NoMemory>
-    ensures { IfOk result (λ found. found.keys ≡ held_among announcers.now node.now addresses.now) }
+    ensures { IfOk result (λ found. found.keys ≡ kept_among announcers.now node.now addresses.now) }
 {
     let mut found = BTreeSet::new(alloc);
     for address in addresses {
-        if is_held(announcers, node, address) {
+        if is_kept_announcer(announcers, node, address) {
             found.insert(*address)?;
         }
     }
     Ok(found)
 }
 
-fn is_held(announcers: &Announcers, node: &Text, address: &Address) -> bool
-    ensures { result ≡ is_held announcers.now node.now address.now }
+fn is_kept_announcer(announcers: &Announcers, node: &Text, address: &Address) -> bool
+    ensures { result ≡ is_kept_announcer announcers.now node.now address.now }
 {
     match announcers.of(address) {
         Some(name) => name == node,

@@ -8,7 +8,7 @@ use Rattle.ip_ranges.specs.Values.{PrefixValue, IsPrefix, same_family}
 use Rattle.ip_ranges.proofs.AddressLaws.{same_family-is}
 use Rattle.bgp_updates.specs.declared.route.Terms.{Terms}
 use Rattle.bgp_updates.specs.declared.route.Peering.{Peering}
-use Rattle.bgp_updates.specs.declared.route.Group.{Group}
+use Rattle.bgp_updates.specs.declared.route.RouteGroup.{RouteGroup}
 use Rattle.bgp_updates.specs.Between.{AreFew}
 use Rattle.bgp_updates.specs.Laws.{updates_for}
 use Rattle.bgp_updates.specs.Message.{announced_part, in_messages, octets, packed, room_of, with_first, withdrawn_part}
@@ -99,7 +99,7 @@ record Tells (family : Family) (peering : Peering) (route : PrefixValue × Terms
   few : AreFew route.1
 
 -- a group of prefixes that ascend and come before all these
-record Grouped (family : Family) (peering : Peering) (later : List PrefixValue) (group : Group) : Type 0 where
+record Grouped (family : Family) (peering : Peering) (later : List PrefixValue) (group : RouteGroup) : Type 0 where
   prefixes : Ascending family group.prefixes
   first : AllByRecursion (λ p. list_all (before p) later ≡ true) group.prefixes
   told : IsSaid peering group.terms
@@ -110,7 +110,7 @@ earlier : (q : PrefixValue) (later prefixes : List PrefixValue) → AllByRecursi
 earlier q later [] all = tt
 earlier q later (p ∷ rest) all = ((and_parts (before p q) (list_all (before p) later) all.0).1, earlier q later rest all.1)
 
-earlier-groups : (family : Family) (peering : Peering) (q : PrefixValue) (later : List PrefixValue) (groups : List Group)
+earlier-groups : (family : Family) (peering : Peering) (q : PrefixValue) (later : List PrefixValue) (groups : List RouteGroup)
     → AllByRecursion (Grouped family peering (q ∷ later)) groups → AllByRecursion (Grouped family peering later) groups
 earlier-groups family peering q later [] all = tt
 earlier-groups family peering q later (group ∷ groups) all = (
@@ -135,7 +135,7 @@ ascend-last later [] q ascend all = (refl, tt)
 ascend-last later (p ∷ rest) q ascend all =
     (list_all-last (before p) rest q ascend.0 (and_parts (before p q) (list_all (before p) later) all.0).0, ascend-last later rest q ascend.1 all.1)
 
-with_route-grouped : (family : Family) (peering : Peering) (later : List PrefixValue) (groups : List Group) (route : PrefixValue × Terms)
+with_route-grouped : (family : Family) (peering : Peering) (later : List PrefixValue) (groups : List RouteGroup) (route : PrefixValue × Terms)
     → Tells family peering route → list_all (before route.0) later ≡ true
     → AllByRecursion (Grouped family peering (route.0 ∷ later)) groups → AllByRecursion (Grouped family peering later) (with_route same_terms groups route)
 with_route-grouped family peering later [] route is own all =
@@ -156,7 +156,8 @@ with_route-grouped family peering later (group ∷ groups) route is own all =
     (λ same. (joins, others.1))
     (λ differ. (others.0, with_route-grouped family peering later groups route is own all.1))
 
-groups-formed : (family : Family) (peering : Peering) (groups : List Group) (routes : List (PrefixValue × Terms)) → AllByRecursion (Tells family peering) routes
+groups-formed : (family : Family) (peering : Peering) (groups : List RouteGroup) (routes : List (PrefixValue × Terms))
+    → AllByRecursion (Tells family peering) routes
     → Ascend (keys_of routes)
     → AllByRecursion (Grouped family peering (keys_of routes)) groups → AllByRecursion (Grouped family peering []) (groups_from same_terms groups routes)
 groups-formed family peering groups [] are ascend all = all
@@ -228,7 +229,7 @@ formed-append : (family : Family) (peering : Peering) (a b : List Update) → Al
 formed-append family peering [] b first second = second
 formed-append family peering (update ∷ a) b first second = (first.0, formed-append family peering a b first.1 second)
 
-formed-groups : (family : Family) (peering : Peering) (groups : List Group) → AllByRecursion (Grouped family peering []) groups
+formed-groups : (family : Family) (peering : Peering) (groups : List RouteGroup) → AllByRecursion (Grouped family peering []) groups
     → AllByRecursion (Formed family peering) (flat_map (group_updates family peering) groups)
 formed-groups family peering [] all = tt
 formed-groups family peering (group ∷ groups) all =

@@ -18,10 +18,10 @@ use Rattle.speaker_view.specs.Endpoints.{announced_from, node_labels}
 use Rattle.speaker_view.specs.ViewValue.{ViewValue}
 use Rattle.bgp_updates.specs.declared.route.Terms.{Terms}
 use Rattle.bgp_routes.specs.declared.contributors.Aggregate.{Aggregate}
-use Rattle.bgp_routes.specs.declared.held.Advertisement.{Advertisement}
+use Rattle.bgp_routes.specs.declared.kept_config.Advertisement.{Advertisement}
 use Rattle.bgp_routes.specs.Contribution.{Counts, IsContribution, contribution}
 use Rattle.bgp_routes.specs.Contributors.{aggregate_of, contributes, is_own, may_stand}
-use Rattle.bgp_routes.specs.Held.{advertisement_of, choice_at, choice_of, receives, is_chosen, is_set, peer_by, pools_in, pools_of, prefix_of}
+use Rattle.bgp_routes.specs.KeptConfig.{advertisement_of, choice_at, choice_of, receives, is_chosen, is_set, peer_by, pools_in, pools_of, prefix_of}
 use Rattle.bgp_routes.specs.Parts.{bgp_in, bgp_of}
 use Rattle.bgp_routes.specs.Placed.{place_cmp, place_of}
 use Rattle.bgp_routes.specs.Routes.{counts, is_for}

@@ -12,11 +12,11 @@ use Rattle.mlb_base.specs.Items.{Has as HasItem, IsIn}
 use Rattle.bgp_updates.specs.declared.route.Terms.{Terms}
 use Rattle.bgp_updates.specs.Tables.{HasFew}
 use Rattle.bgp_updates.proofs.ReceivedLaws.{distinct}
-use Rattle.bgp_routes.specs.declared.held.Advertisement.{Advertisement}
-use Rattle.bgp_routes.specs.declared.held.HeldPeer.{HeldPeer}
+use Rattle.bgp_routes.specs.declared.kept_config.Advertisement.{Advertisement}
+use Rattle.bgp_routes.specs.declared.kept_config.KeptPeer.{KeptPeer}
 use Rattle.bgp_routes.specs.Contributors.{Entries, of_address, of_aggregate}
 use Rattle.bgp_routes.specs.Determined.{Ascends}
-use Rattle.bgp_routes.specs.Held.{AreFew, route_for}
+use Rattle.bgp_routes.specs.KeptConfig.{AreFew, route_for}
 use Rattle.bgp_routes.specs.Laws.{stated}
 use Rattle.bgp_routes.specs.Uniting.{with_contributions}
 use Rattle.bgp_routes.proofs.Contributing.{at-in}
@@ -91,14 +91,14 @@ module _ (advertisements : List Advertisement) (few : AreFew advertisements) whe
     large = ap (λ (x : PrefixValue × Terms). x.1.large) is ∙ larges;
   }
 
-  pub part-few : (entries : Entries) (peer : HeldPeer) (addresses : List AddressValue)
+  pub part-few : (entries : Entries) (peer : KeptPeer) (addresses : List AddressValue)
       → All HasFew (with_contributions [] (flat_map (of_address entries advertisements peer) addresses))
   part-few entries peer addresses =
       all-few (flat_map (of_address entries advertisements peer) addresses) (λ c there.
       let s = (part-source entries advertisements peer addresses c there).0 in
       of-one s.adv c (route_for peer s.address s.adv) s.is (at-in advertisements s.adv s.place s.at) refl refl)
 
-  pub whole-few : (entries : Entries) (peer : HeldPeer)
+  pub whole-few : (entries : Entries) (peer : KeptPeer)
       → All HasFew (with_contributions [] (flat_map (of_aggregate entries advertisements peer) (keys_of entries)))
   whole-few entries peer =
       all-few (flat_map (of_aggregate entries advertisements peer) (keys_of entries)) (λ c there.

@@ -5,7 +5,7 @@ pub mod Differing
 pub mod Elements
 pub mod Families
 pub mod Few
-pub mod FewHeld
+pub mod FewKept
 pub mod FewTold
 pub mod Keeping
 pub mod Listing

@@ -7,7 +7,7 @@ use Rattle.pool_config.specs.declared.compiled.CompiledPool.{CompiledPool}
 use Rattle.pool_config.specs.ConfigValue.{AreApart, placed_spans}
 use Rattle.pool_config.specs.PoolOf.{pool_of, pool_with}
 use Rattle.pool_config.proofs.OnePool.{with_at, with_none}
-use Rattle.bgp_routes.specs.Held.{pool_at}
+use Rattle.bgp_routes.specs.KeptConfig.{pool_at}
 
 pub found-pool : (pools : List CompiledPool) → AreApart (placed_spans pools) → (a : AddressValue) (found : Option ℕ) → found ≡ pool_of pools a
     → pool_at pools found ≡ pool_with pools a

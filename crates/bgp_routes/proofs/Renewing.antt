@@ -17,11 +17,11 @@ use Rattle.speaker_view.specs.Held.{objects_of}
 use Rattle.speaker_view.specs.ViewValue.{ViewValue}
 use Rattle.speaker_view.proofs.Indexed.{has-recorded_addresses}
 use Rattle.bgp_routes.specs.declared.contributors.Aggregate.{Aggregate}
-use Rattle.bgp_routes.specs.declared.held.Advertisement.{Advertisement}
+use Rattle.bgp_routes.specs.declared.kept_config.Advertisement.{Advertisement}
 use Rattle.bgp_routes.specs.Contributors.{AreTouched, Entries, IsPutAt, IsPutByAll, IsTouched, StandRight}
 use Rattle.bgp_routes.specs.Contributors.{aggregate_cmp, aggregate_of, contributes, has, is_own, may_stand}
 use Rattle.bgp_routes.specs.Differ.{DiffersAt}
-use Rattle.bgp_routes.specs.Held.{advertisement_of, choice_at, choice_by, choice_of, held_for, is_set, peer_by, pools_in, pools_of, prefix_of}
+use Rattle.bgp_routes.specs.KeptConfig.{advertisement_of, choice_at, choice_by, choice_of, kept_config_for, is_set, peer_by, pools_in, pools_of, prefix_of}
 use Rattle.bgp_routes.specs.Parts.{bgp_in, bgp_of}
 use Rattle.bgp_routes.specs.Peers.{peers_in}
 use Rattle.bgp_routes.specs.Placed.{place_cmp, place_of}
@@ -253,7 +253,8 @@ module _ (v : ViewValue) (node : List ℕ) (both : Bool) where
       and-none false = refl
 
 -- ---- views that differ elsewhere
-pub same-held : (u v : ViewValue) (node : List ℕ) (addresses : List AddressValue) → DiffersAt u v node addresses → held_for u node ≡ held_for v node
+pub same-held : (u v : ViewValue) (node : List ℕ) (addresses : List AddressValue) → DiffersAt u v node addresses
+    → kept_config_for u node ≡ kept_config_for v node
 same-held u v node addresses differs = λ i. record {
   advertisements = map advertisement_of (bgp_in (differs.config i));
   choices = map (choice_by (differs.labels i) (bgp_in (differs.config i))) (pools_in (differs.config i));

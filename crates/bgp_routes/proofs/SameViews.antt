@@ -8,7 +8,7 @@ use Rattle.bgp_updates.specs.declared.route.Terms.{Terms}
 use Rattle.bgp_routes.specs.Contribution.{IsContribution}
 use Rattle.bgp_routes.specs.Differ.{DiffersAt}
 use Rattle.bgp_routes.specs.Parts.{CommunitiesAscend, SameViewsKeepTables}
-use Rattle.bgp_routes.specs.Peers.{HeldTable, peers_in, peers_of, table_at, tables_of}
+use Rattle.bgp_routes.specs.Peers.{PeerTable, peers_in, peers_of, table_at, tables_of}
 use Rattle.bgp_routes.specs.Laws.{AreRoutes, HasCommunity, IsGreatest, IsRoute}
 use Rattle.bgp_routes.specs.Routes.{routes_of}
 use Rattle.bgp_routes.proofs.Agreeing.{into, turned}
@@ -63,7 +63,7 @@ module _ (u v : ViewValue) (node : List ℕ) (both : Bool) (differs : DiffersAt 
   same-tables : (peers : List CompiledPeer) → map (table_at u node both) peers ≡ map (table_at v node both) peers
   same-tables [] = refl
   same-tables (peer ∷ peers) =
-      ap₂ (λ (routes : List (PrefixValue × Terms)) (ts : List HeldTable).
+      ap₂ (λ (routes : List (PrefixValue × Terms)) (ts : List PeerTable).
       record { name = peer.name; my_asn = peer.my_asn; peer_asn = peer.peer_asn; routes = routes } ∷ ts) (same-routes peer) (same-tables peers)
 
   pub same-kept : tables_of u node both ≡ tables_of v node both

@@ -16,13 +16,13 @@ use Rattle.bgp_updates.specs.declared.route.Terms.{Terms}
 use Rattle.bgp_updates.specs.Received.{same_prefix}
 use Rattle.bgp_updates.proofs.ReceivedLaws.{same_prefix-is, same_prefix-itself}
 use Rattle.bgp_routes.specs.declared.contributors.Aggregate.{Aggregate}
-use Rattle.bgp_routes.specs.declared.held.Advertisement.{Advertisement}
-use Rattle.bgp_routes.specs.declared.held.HeldPeer.{HeldPeer}
+use Rattle.bgp_routes.specs.declared.kept_config.Advertisement.{Advertisement}
+use Rattle.bgp_routes.specs.declared.kept_config.KeptPeer.{KeptPeer}
 use Rattle.bgp_routes.specs.Contribution.{IsContribution, contribution, length_for}
 use Rattle.bgp_routes.specs.Contributors.{Entries, aggregate_of, contributes, has, is_told, may_stand}
 use Rattle.bgp_routes.specs.Contributors.{of_address, of_advertisements, of_aggregate, of_contributor, one_of}
 use Rattle.bgp_routes.specs.Determined.{Ascends}
-use Rattle.bgp_routes.specs.Held.{AreFew, advertisement_of, choice_at, is_set, peer_by, prefix_of, route_for}
+use Rattle.bgp_routes.specs.KeptConfig.{AreFew, advertisement_of, choice_at, is_set, peer_by, prefix_of, route_for}
 use Rattle.bgp_routes.specs.Parts.{bgp_of, is_touched, part_of, prefix_under}
 use Rattle.bgp_routes.specs.Placed.{place_of}
 use Rattle.bgp_routes.specs.Routes.{contributions, routes_of}
@@ -36,7 +36,7 @@ use Rattle.bgp_routes.proofs.Standing.{one-stands, stands-among, stands-one, the
 use Rattle.bgp_routes.proofs.Stays.{any-in, in-any}
 
 -- ---- what is told by a list of advertisements
-module _ (entries : Entries) (peer : HeldPeer) (a : AddressValue) where
+module _ (entries : Entries) (peer : KeptPeer) (a : AddressValue) where
   pub record Told (place : ℕ) (advertisements : List Advertisement) (c : PrefixValue × Terms) : Type 0 where
     pub index : ℕ
     pub adv : Advertisement
@@ -79,7 +79,7 @@ module _ (entries : Entries) (peer : HeldPeer) (a : AddressValue) where
       (inr (from-told (place + 1) advertisements index adv at (subst (λ n. is_told entries peer a n adv ≡ true) next told)))
 
 -- ---- where what is told comes from
-module _ (entries : Entries) (advertisements : List Advertisement) (peer : HeldPeer) where
+module _ (entries : Entries) (advertisements : List Advertisement) (peer : KeptPeer) where
   -- something that is told: by which advertisement, and of which address
   pub record Source (c : PrefixValue × Terms) : Type 0 where
     pub address : AddressValue
@@ -176,7 +176,7 @@ module _ (v : ViewValue) (node : List ℕ) (peer : CompiledPeer) (both : Bool) (
   abbrev advertisements : List Advertisement
   advertisements = map advertisement_of bgp
 
-  abbrev held : HeldPeer
+  abbrev held : KeptPeer
   held = peer_by (node_labels v node) bgp peer
 
   -- what stands with an aggregate may stand there

@@ -12,9 +12,9 @@ use Rattle.speaker_view.specs.Addresses.{address_cmp}
 use Rattle.speaker_view.specs.ViewValue.{ViewValue}
 use Rattle.bgp_updates.specs.declared.route.Terms.{Terms}
 use Rattle.bgp_routes.specs.declared.contributors.Aggregate.{Aggregate}
-use Rattle.bgp_routes.specs.declared.held.Advertisement.{Advertisement}
-use Rattle.bgp_routes.specs.declared.held.HeldPeer.{HeldPeer}
-use Rattle.bgp_routes.specs.Held.{choice_at, held_for, is_set, prefix_of, route_for}
+use Rattle.bgp_routes.specs.declared.kept_config.Advertisement.{Advertisement}
+use Rattle.bgp_routes.specs.declared.kept_config.KeptPeer.{KeptPeer}
+use Rattle.bgp_routes.specs.KeptConfig.{choice_at, kept_config_for, is_set, prefix_of, route_for}
 use Rattle.bgp_routes.specs.Placed.{place_cmp, place_of}
 use Rattle.bgp_routes.specs.Routes.{counts}
 
@@ -58,7 +58,7 @@ StandRight both advertisements entries = (g : Aggregate) (a : AddressValue) → 
 -- The address contributes to the aggregate by the view: it may stand there, it is announced from the node, and the advertisement chooses
 -- its pool and selects the node.
 abbrev pub contributes : ViewValue → List ℕ → Bool → Aggregate → AddressValue → Bool
-contributes v node both g a = may_stand both (held_for v node).advertisements g a && is_set (choice_at v node a) g.advertisement
+contributes v node both g a = may_stand both (kept_config_for v node).advertisements g a && is_set (choice_at v node a) g.advertisement
 
 -- ---- what changes
 -- the address stands with the aggregate now or doesn't, and nothing else changes
@@ -81,25 +81,25 @@ AreTouched v node both addresses old new =
 
 -- ---- what a peer is told
 -- something contributes to the address's prefix under the advertisement, and the peer receives it
-abbrev pub is_told : Entries → HeldPeer → AddressValue → ℕ → Advertisement → Bool
+abbrev pub is_told : Entries → KeptPeer → AddressValue → ℕ → Advertisement → Bool
 is_told entries peer a place adv = is_set peer.receives place && is_some (one_of entries (aggregate_of place adv a))
 
 -- what is contributed to the prefixes of the address by these advertisements, of which the first has the place
-abbrev pub of_advertisements : Entries → HeldPeer → AddressValue → ℕ → List Advertisement → List (PrefixValue × Terms)
+abbrev pub of_advertisements : Entries → KeptPeer → AddressValue → ℕ → List Advertisement → List (PrefixValue × Terms)
 of_advertisements entries peer a place [] = []
 of_advertisements entries peer a place (adv ∷ more) =
     if is_told entries peer a place adv then route_for peer a adv ∷ of_advertisements entries peer a (place + 1) more
     else of_advertisements entries peer a (place + 1) more
 
-abbrev pub of_address : Entries → List Advertisement → HeldPeer → AddressValue → List (PrefixValue × Terms)
+abbrev pub of_address : Entries → List Advertisement → KeptPeer → AddressValue → List (PrefixValue × Terms)
 of_address entries advertisements peer a = of_advertisements entries peer a 0 advertisements
 
-abbrev pub of_contributor : HeldPeer → Option AddressValue → Option Advertisement → List (PrefixValue × Terms)
+abbrev pub of_contributor : KeptPeer → Option AddressValue → Option Advertisement → List (PrefixValue × Terms)
 of_contributor peer None adv = []
 of_contributor peer (Some a) None = []
 of_contributor peer (Some a) (Some adv) = route_for peer a adv ∷ []
 
 -- what is contributed to the aggregate
-abbrev pub of_aggregate : Entries → List Advertisement → HeldPeer → Aggregate → List (PrefixValue × Terms)
+abbrev pub of_aggregate : Entries → List Advertisement → KeptPeer → Aggregate → List (PrefixValue × Terms)
 of_aggregate entries advertisements peer g =
     if is_set peer.receives g.advertisement then of_contributor peer (one_of entries g) (slice_get advertisements g.advertisement) else []

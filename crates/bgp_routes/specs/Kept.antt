@@ -6,18 +6,18 @@ use Rattle.speaker_view.specs.ViewValue.{ViewValue}
 use Rattle.bgp_routes.specs.declared.contributors.Aggregate.{Aggregate}
 use Rattle.bgp_routes.specs.Contributors.{contributes, has}
 use Rattle.bgp_routes.specs.Differ.{DiffersAt}
-use Rattle.bgp_routes.specs.Held.{HeldValue, held_for}
+use Rattle.bgp_routes.specs.KeptConfig.{KeptConfigValue, kept_config_for}
 
 -- the node, whether both families count, what is held of the configuration in force, and which addresses contribute to which prefixes by which advertisement
 pub record KeptValue : Type 0 where
   pub node : List ℕ
   pub both : Bool
-  pub held : HeldValue
+  pub held : KeptConfigValue
   pub contributors : List (Aggregate × BTreeSet AddressValue)
 
 -- All that is kept is right for the view.
 pub record AreKeptFor (v : ViewValue) (kept : KeptValue) : Type 0 where
-  pub held : kept.held ≡ held_for v kept.node
+  pub held : kept.held ≡ kept_config_for v kept.node
   pub contributors : (g : Aggregate) (a : AddressValue) → has kept.contributors g a ≡ contributes v kept.node kept.both g a
 
 -- nothing is held

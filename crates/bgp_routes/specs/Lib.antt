@@ -4,7 +4,7 @@ pub mod Determined
 pub mod Differ
 pub mod Families
 pub mod Few
-pub mod Held
+pub mod KeptConfig
 pub mod Kept
 pub mod Laws
 pub mod Parts

@@ -10,7 +10,7 @@ use Rattle.bgp_updates.specs.declared.route.Terms.{Terms}
 use Rattle.bgp_routes.specs.Routes.{routes_of}
 
 -- a peer's name, its AS numbers and its table
-pub record HeldTable : Type 0 where
+pub record PeerTable : Type 0 where
   pub name : List ℕ
   pub my_asn : ℕ
   pub peer_asn : ℕ
@@ -25,17 +25,17 @@ abbrev pub peers_of : ViewValue → List CompiledPeer
 peers_of v = peers_in v.held.config
 
 -- the peer's table by the view
-abbrev pub table_at : ViewValue → List ℕ → Bool → CompiledPeer → HeldTable
+abbrev pub table_at : ViewValue → List ℕ → Bool → CompiledPeer → PeerTable
 table_at v node both peer = record { name = peer.name; my_asn = peer.my_asn; peer_asn = peer.peer_asn; routes = routes_of v node peer both }
 
 -- those of all peers
-abbrev pub tables_of : ViewValue → List ℕ → Bool → List HeldTable
+abbrev pub tables_of : ViewValue → List ℕ → Bool → List PeerTable
 tables_of v node both = map (table_at v node both) (peers_of v)
 
 -- the table is that of a peer of this name, with these AS numbers
-abbrev pub is_table_of : CompiledPeer → HeldTable → Bool
+abbrev pub is_table_of : CompiledPeer → PeerTable → Bool
 is_table_of peer table = bytes_eq table.name peer.name && (table.my_asn == peer.my_asn) && (table.peer_asn == peer.peer_asn)
 
 -- the first table that is so
-abbrev pub table_found : CompiledPeer → List HeldTable → Option (List (PrefixValue × Terms))
+abbrev pub table_found : CompiledPeer → List PeerTable → Option (List (PrefixValue × Terms))
 table_found peer tables = option_map (λ table. table.routes) (find (is_table_of peer) tables)

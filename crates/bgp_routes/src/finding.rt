@@ -4,22 +4,22 @@ ghost use Rattle.std.specs.List.{find};
 ghost use Rattle.std.specs.List.Sorted.{IsPartitionPoint};
 ghost use Rattle.std.specs.Option.{option_copied};
 ghost use Rattle.pool_config.specs.ConfigValue.{Ascend};
-ghost use Rattle.bgp_routes.specs.Held.{is_before, is_held_of};
+ghost use Rattle.bgp_routes.specs.KeptConfig.{is_before, is_kept_of};
 
-use crate::held::HeldPeer;
+use crate::kept_config::KeptPeer;
 use pool_config::CompiledPeer;
 
 /// The peer of this one's name and AS numbers, found by halves, since names ascend.
-pub(crate) fn peer_among<'a>(peers: &'a [HeldPeer], peer: &CompiledPeer) -> Option<&'a HeldPeer>
+pub(crate) fn peer_among<'a>(peers: &'a [KeptPeer], peer: &CompiledPeer) -> Option<&'a KeptPeer>
     requires { Ascend (map (λ held. held.name) peers.now) }
-    ensures { option_copied result ≡ find (is_held_of peer.now) peers.now }
+    ensures { option_copied result ≡ find (is_kept_of peer.now) peers.now }
 {
     let there = peers.get(count_before(peers, peer))?;
     if there.is_of(peer) { Some(there) } else { None }
 }
 
 /// How many peers have names before this one's.
-fn count_before(peers: &[HeldPeer], peer: &CompiledPeer) -> usize
+fn count_before(peers: &[KeptPeer], peer: &CompiledPeer) -> usize
     requires { Ascend (map (λ held. held.name) peers.now) }
     ensures { IsPartitionPoint (λ held. is_before peer.now held ≡ true) (λ held. is_before peer.now held ≡ false) peers.now result }
 {

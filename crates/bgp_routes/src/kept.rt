@@ -8,7 +8,7 @@ ghost use Rattle.bgp_routes.specs.Parts.{part_of};
 ghost use Rattle.bgp_routes.specs.Peers.{table_found, tables_of};
 
 use crate::contributors::Contributors;
-use crate::held::Held;
+use crate::kept_config::KeptConfig;
 use crate::told::{all_told, part_told};
 use crate::touching::touch_all;
 use bgp_updates::RouteTable;
@@ -31,7 +31,7 @@ pub struct KeptRoutes {
     alloc: Global,
     node: Text,
     both: bool,
-    held: Held,
+    held: KeptConfig,
     contributors: Contributors,
 }
 
@@ -54,7 +54,7 @@ impl KeptRoutes {
             alloc,
             node,
             both,
-            held: Held::nothing(alloc),
+            held: KeptConfig::nothing(alloc),
             contributors: Contributors::new(alloc),
         }
     }
@@ -138,7 +138,7 @@ impl KeptRoutes {
         ensures both { self.new.both ≡ self.old.both }
         ensures none { IsCleared self.new }
     {
-        drop(mem::replace(&mut self.held, Held::nothing(self.alloc)));
+        drop(mem::replace(&mut self.held, KeptConfig::nothing(self.alloc)));
         drop(mem::replace(&mut self.contributors, Contributors::new(self.alloc)));
     }
 
@@ -150,7 +150,7 @@ impl KeptRoutes {
         ensures ok { OnOk result (AreKeptFor view.now self.new) }
     {
         let addresses = view.addresses()?;
-        let held = Held::by(self.alloc, view, &self.node)?;
+        let held = KeptConfig::by(self.alloc, view, &self.node)?;
         drop(mem::replace(&mut self.held, held));
         touch_all(
             &mut self.contributors,

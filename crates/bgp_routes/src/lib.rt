@@ -4,8 +4,8 @@
 mod announced;
 mod contributors;
 mod finding;
-mod held;
 mod kept;
+mod kept_config;
 mod laws;
 mod peers;
 mod told;

@@ -6,7 +6,7 @@ ghost use Rattle.bgp_routes.specs.Contributors.{is_told, of_address, of_advertis
 ghost use Rattle.bgp_routes.specs.Uniting.{with_contributions, with_each};
 
 use crate::contributors::{Aggregate, Contributors};
-use crate::held::{Advertisement, HeldPeer};
+use crate::kept_config::{Advertisement, KeptPeer};
 use crate::uniting::UnitedRoutes;
 use bgp_updates::RouteTable;
 use ip_ranges::Address;
@@ -19,7 +19,7 @@ pub(crate) fn part_told(
     alloc: Global,
     contributors: &Contributors,
     advertisements: &[Advertisement],
-    peer: &HeldPeer,
+    peer: &KeptPeer,
     addresses: &[Address],
 ) -> Result<RouteTable, NoMemory>
     ensures { IfOk result (λ table. table ≡ with_contributions [] (flat_map (of_address contributors.now advertisements.now peer.now) addresses.now)) }
@@ -35,7 +35,7 @@ pub(crate) fn all_told(
     alloc: Global,
     contributors: &Contributors,
     advertisements: &[Advertisement],
-    peer: &HeldPeer,
+    peer: &KeptPeer,
 ) -> Result<RouteTable, NoMemory>
     ensures { IfOk result
         (λ table. table ≡ with_contributions [] (flat_map (of_aggregate contributors.now advertisements.now peer.now) (keys_of contributors.now))) }
@@ -56,7 +56,7 @@ fn add_addresses(
     routes: &mut UnitedRoutes,
     contributors: &Contributors,
     advertisements: &[Advertisement],
-    peer: &HeldPeer,
+    peer: &KeptPeer,
     addresses: &[Address],
 ) -> Result<(), NoMemory>
     ensures { OnOk result (routes.new ≡ with_each (of_address contributors.now advertisements.now peer.now) routes.old addresses.now) }
@@ -71,7 +71,7 @@ fn add_address(
     routes: &mut UnitedRoutes,
     contributors: &Contributors,
     advertisements: &[Advertisement],
-    peer: &HeldPeer,
+    peer: &KeptPeer,
     address: &Address,
 ) -> Result<(), NoMemory>
     ensures { OnOk result (routes.new ≡ with_contributions routes.old (of_address contributors.now advertisements.now peer.now address.now)) }
@@ -87,7 +87,7 @@ fn add_address(
 
 fn is_told(
     contributors: &Contributors,
-    peer: &HeldPeer,
+    peer: &KeptPeer,
     address: &Address,
     place: usize,
     advertisement: &Advertisement,
@@ -104,7 +104,7 @@ fn add_aggregates(
     routes: &mut UnitedRoutes,
     contributors: &Contributors,
     advertisements: &[Advertisement],
-    peer: &HeldPeer,
+    peer: &KeptPeer,
 ) -> Result<(), NoMemory>
     ensures { OnOk result (routes.new ≡ with_each (of_aggregate contributors.now advertisements.now peer.now) routes.old (keys_of contributors.now)) }
 {
@@ -118,7 +118,7 @@ fn add_aggregate(
     routes: &mut UnitedRoutes,
     contributors: &Contributors,
     advertisements: &[Advertisement],
-    peer: &HeldPeer,
+    peer: &KeptPeer,
     aggregate: &Aggregate,
 ) -> Result<(), NoMemory>
     ensures { OnOk result (routes.new ≡ with_contributions routes.old (of_aggregate contributors.now advertisements.now peer.now aggregate.now)) }

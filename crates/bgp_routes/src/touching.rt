@@ -1,11 +1,11 @@
 //! What addresses contribute, made anew at some of them.
 ghost use Rattle.std.specs.Prelude.{◌≡◌, OnOk};
 ghost use Rattle.bgp_routes.specs.Contributors.{AreTouched, IsPutByAll, IsTouched, StandRight};
-ghost use Rattle.bgp_routes.specs.Held.{held_for};
+ghost use Rattle.bgp_routes.specs.KeptConfig.{kept_config_for};
 
 use crate::announced::counts;
 use crate::contributors::Contributors;
-use crate::held::{Advertisement, Held, is_set};
+use crate::kept_config::{Advertisement, KeptConfig, is_set};
 use ip_ranges::Address;
 use kube_labels::Text;
 use mlb_base::NoMemory;
@@ -14,13 +14,13 @@ use speaker_view::View;
 /// Makes what these addresses contribute right for the view, where addresses of IPv6 count with `both` alone.
 pub(crate) fn touch_all(
     contributors: &mut Contributors,
-    held: &Held,
+    held: &KeptConfig,
     view: &View,
     node: &Text,
     both: bool,
     addresses: &[Address],
 ) -> Result<(), NoMemory>
-    requires held { held.now ≡ held_for view.now node.now }
+    requires held { held.now ≡ kept_config_for view.now node.now }
     requires stand { StandRight both held.now.advertisements contributors.old }
     ensures { OnOk result (AreTouched view.now node.now both addresses.now contributors.old contributors.new) }
 {
@@ -32,13 +32,13 @@ pub(crate) fn touch_all(
 
 fn touch(
     contributors: &mut Contributors,
-    held: &Held,
+    held: &KeptConfig,
     view: &View,
     node: &Text,
     both: bool,
     address: &Address,
 ) -> Result<(), NoMemory>
-    requires held { held.now ≡ held_for view.now node.now }
+    requires held { held.now ≡ kept_config_for view.now node.now }
     requires stand { StandRight both held.now.advertisements contributors.old }
     ensures { OnOk result (IsTouched view.now node.now both address.now contributors.old contributors.new) }
 {

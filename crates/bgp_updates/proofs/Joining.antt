@@ -17,17 +17,17 @@ use Rattle.ip_ranges.specs.Values.{PrefixValue}
 use Rattle.large_numbers.specs.Large.{large_cmp}
 use Rattle.large_numbers.specs.declared.numbers.LargeCommunity.{LargeCommunity}
 use Rattle.bgp_updates.specs.declared.grouping.TermsKey.{TermsKey}
-use Rattle.bgp_updates.specs.declared.route.Group.{Group}
+use Rattle.bgp_updates.specs.declared.route.RouteGroup.{RouteGroup}
 use Rattle.bgp_updates.specs.declared.route.Terms.{Terms}
 use Rattle.bgp_updates.specs.GroupPlaces.{ArePlaces, key_cmp, place_of, terms_in, with_prefix}
 use Rattle.bgp_updates.specs.Received.{same_large, same_preference, same_terms, with_route}
 use Rattle.bgp_updates.proofs.ReceivedLaws.{same_terms-is}
 
 -- ---- the group at a place
-pub set-with_prefix : (groups : List Group) (place : ℕ) (p : PrefixValue) (group : Group) → place < length groups → group ≡ get_or groups place group
+pub set-with_prefix : (groups : List RouteGroup) (place : ℕ) (p : PrefixValue) (group : RouteGroup) → place < length groups → group ≡ get_or groups place group
     → set groups place (record { terms = group.terms; prefixes = group.prefixes ++ p ∷ [] }) ≡ with_prefix groups place p
 set-with_prefix [] place p group lt is = absurd (omega arith)
-set-with_prefix (first ∷ groups) zero p group lt is = ap (λ (g : Group). record { terms = g.terms; prefixes = g.prefixes ++ p ∷ [] } ∷ groups) is
+set-with_prefix (first ∷ groups) zero p group lt is = ap (λ (g : RouteGroup). record { terms = g.terms; prefixes = g.prefixes ++ p ∷ [] } ∷ groups) is
 set-with_prefix (first ∷ groups) (suc place) p group lt is = ap (λ rest. first ∷ rest) (set-with_prefix groups place p group (omega arith) is)
 
 within-by : (same : Bool) (found : Option ℕ) (place n : ℕ) → cond same (Some 0) (option_map (λ m. suc m) found) ≡ Some place
@@ -36,13 +36,13 @@ within-by true found place n is later = let first : 0 ≡ place = cc in omega (a
 within-by false None place n is later = absurd (cc)
 within-by false (Some m) place n is later = let next : suc m ≡ place = cc in omega (arith, next, later m refl)
 
-pub place-within : (groups : List Group) (terms : Terms) (place : ℕ) → place_of groups terms ≡ Some place → place < length groups
+pub place-within : (groups : List RouteGroup) (terms : Terms) (place : ℕ) → place_of groups terms ≡ Some place → place < length groups
 place-within [] terms place is = absurd (cc)
 place-within (group ∷ groups) terms place is =
     within-by (same_terms group.terms terms) (place_of groups terms) place (length groups) is (place-within groups terms)
 
 -- ---- the route joins the group of its terms
-joined-by : (same : Bool) (found : Option ℕ) (group : Group) (groups : List Group) (route : PrefixValue × Terms) (place : ℕ)
+joined-by : (same : Bool) (found : Option ℕ) (group : RouteGroup) (groups : List RouteGroup) (route : PrefixValue × Terms) (place : ℕ)
     → same_terms group.terms route.1 ≡ same
     → ((m : ℕ) → found ≡ Some m → with_prefix groups m route.0 ≡ with_route same_terms groups route)
     → cond same (Some 0) (option_map (λ m. suc m) found) ≡ Some place
@@ -56,13 +56,14 @@ joined-by false (Some m) group groups route place same later is =
     let next : suc m ≡ place = cc in
     rw same (subst (λ n. with_prefix (group ∷ groups) n route.0 ≡ group ∷ with_route same_terms groups route) next (ap (λ rest. group ∷ rest) (later m refl)))
 
-pub joined : (groups : List Group) (route : PrefixValue × Terms) (place : ℕ) → place_of groups route.1 ≡ Some place
+pub joined : (groups : List RouteGroup) (route : PrefixValue × Terms) (place : ℕ) → place_of groups route.1 ≡ Some place
     → with_prefix groups place route.0 ≡ with_route same_terms groups route
 joined [] route place is = absurd (cc)
 joined (group ∷ groups) route place is =
     joined-by (same_terms group.terms route.1) (place_of groups route.1) group groups route place refl (joined groups route) is
 
-appended-by : (same : Bool) (found : Option ℕ) (group : Group) (groups : List Group) (route : PrefixValue × Terms) → same_terms group.terms route.1 ≡ same
+appended-by : (same : Bool) (found : Option ℕ) (group : RouteGroup) (groups : List RouteGroup) (route : PrefixValue × Terms)
+    → same_terms group.terms route.1 ≡ same
     → (found ≡ None → groups ++ record { terms = route.1; prefixes = route.0 ∷ [] } ∷ [] ≡ with_route same_terms groups route)
     → cond same (Some 0) (option_map (λ m. suc m) found) ≡ None
     → (group ∷ groups) ++ record { terms = route.1; prefixes = route.0 ∷ [] } ∷ [] ≡ with_route same_terms (group ∷ groups) route
@@ -70,19 +71,20 @@ appended-by true found group groups route same later is = absurd (cc)
 appended-by false None group groups route same later is = rw same (ap (λ rest. group ∷ rest) (later refl))
 appended-by false (Some m) group groups route same later is = absurd (cc)
 
-pub appended : (groups : List Group) (route : PrefixValue × Terms) → place_of groups route.1 ≡ None
+pub appended : (groups : List RouteGroup) (route : PrefixValue × Terms) → place_of groups route.1 ≡ None
     → groups ++ record { terms = route.1; prefixes = route.0 ∷ [] } ∷ [] ≡ with_route same_terms groups route
 appended [] route is = refl
 appended (group ∷ groups) route is = appended-by (same_terms group.terms route.1) (place_of groups route.1) group groups route refl (appended groups route) is
 
 -- ---- where the groups stand then
-place-with_prefix : (groups : List Group) (place : ℕ) (p : PrefixValue) (terms : Terms) → place_of (with_prefix groups place p) terms ≡ place_of groups terms
+place-with_prefix : (groups : List RouteGroup) (place : ℕ) (p : PrefixValue) (terms : Terms)
+    → place_of (with_prefix groups place p) terms ≡ place_of groups terms
 place-with_prefix [] place p terms = refl
 place-with_prefix (group ∷ groups) zero p terms = refl
 place-with_prefix (group ∷ groups) (suc place) p terms =
     ap (λ found. cond (same_terms group.terms terms) (Some 0) (option_map (λ m. suc m) found)) (place-with_prefix groups place p terms)
 
-pub places-stay : (entries : List (TermsKey × ℕ)) (groups : List Group) (place : ℕ) (p : PrefixValue) → ArePlaces entries groups
+pub places-stay : (entries : List (TermsKey × ℕ)) (groups : List RouteGroup) (place : ℕ) (p : PrefixValue) → ArePlaces entries groups
     → ArePlaces entries (with_prefix groups place p)
 places-stay entries groups place p are key = are key ∙ sym (place-with_prefix groups place p (terms_in key))
 
@@ -97,7 +99,7 @@ last-next false same (Some m) n = refl
 last-next false true None n = refl
 last-next false false None n = refl
 
-place-append : (groups : List Group) (group : Group) (terms : Terms)
+place-append : (groups : List RouteGroup) (group : RouteGroup) (terms : Terms)
     → place_of (groups ++ group ∷ []) terms ≡ option_or (place_of groups terms) (last_place (length groups) (same_terms group.terms terms))
 place-append [] group terms = elim (same_terms group.terms terms) as (λ s. cond s (Some 0) None ≡ last_place 0 s) [ true ↦ refl | false ↦ refl ]
 place-append (first ∷ groups) group terms =
@@ -142,7 +144,7 @@ same-keys a b =
     (sym (and_assoc (same_preference a.preference b.preference) (bytes_eq a.communities.items b.communities.items)
     (pointwise same_large a.large.items b.large.items)))
 
-module _ (before after : List (TermsKey × ℕ)) (groups : List Group) (group : Group) (key : TermsKey) (are : ArePlaces before groups)
+module _ (before after : List (TermsKey × ℕ)) (groups : List RouteGroup) (group : RouteGroup) (key : TermsKey) (are : ArePlaces before groups)
     (own : terms_in key ≡ group.terms)
     (absent : lookup (is_at (key_cmp key)) before ≡ None)
     (updates : (q : TermsKey)
@@ -163,7 +165,7 @@ module _ (before after : List (TermsKey × ℕ)) (groups : List Group) (group : 
       ∙ at-key q (same_terms group.terms (terms_in q)) refl
       ∙ sym (place-append groups group (terms_in q))
 
-pub pushed : {T E : Type 0} (answer : Result T E) (groups : List Group) (place : ℕ) (p : PrefixValue) (group : Group) (prefixes : List PrefixValue)
+pub pushed : {T E : Type 0} (answer : Result T E) (groups : List RouteGroup) (place : ℕ) (p : PrefixValue) (group : RouteGroup) (prefixes : List PrefixValue)
     → place < length groups → group ≡ get_or groups place group
     → OnOk answer (prefixes ≡ group.prefixes ++ p ∷ [])
     → OnOk answer (set groups place (record { terms = group.terms; prefixes = prefixes }) ≡ with_prefix groups place p)

@@ -11,7 +11,7 @@ use Rattle.std.proofs.lemmas.Bool.{or_parts}
 use Rattle.mlb_base.proofs.Bools.{by_bool}
 use Rattle.ip_ranges.specs.Values.{PrefixValue, same_family}
 use Rattle.bgp_updates.specs.declared.route.Terms.{Terms}
-use Rattle.bgp_updates.specs.declared.route.Group.{Group}
+use Rattle.bgp_updates.specs.declared.route.RouteGroup.{RouteGroup}
 use Rattle.bgp_updates.specs.declared.route.Peering.{Peering}
 use Rattle.ip_ranges.specs.declared.family.Family.{Family}
 use Rattle.ip_ranges.specs.declared.family.Family.TheVariants.{V4, V6}
@@ -72,11 +72,11 @@ count-updates p (u ∷ a) b =
     count-append p own (prefixes_of (a ++ b)) ∙ ap (λ n. count p own + n) (count-updates p a b)
     ∙ omega (arith, count-append p own (prefixes_of a))
 
-abbrev pub groups_count : PrefixValue → List Group → ℕ
+abbrev pub groups_count : PrefixValue → List RouteGroup → ℕ
 groups_count p [] = 0
 groups_count p (group ∷ groups) = count p group.prefixes + groups_count p groups
 
-count-in_parts : (p : PrefixValue) (room : Terms → ℕ) (groups : List Group) → count p (prefixes_of (in_parts room groups)) ≡ groups_count p groups
+count-in_parts : (p : PrefixValue) (room : Terms → ℕ) (groups : List RouteGroup) → count p (prefixes_of (in_parts room groups)) ≡ groups_count p groups
 count-in_parts p room [] = refl
 count-in_parts p room (group ∷ groups) =
     let parts = in_messages (room group.terms) group.prefixes in
@@ -85,7 +85,7 @@ count-in_parts p room (group ∷ groups) =
     (count-announcements p group.terms parts ∙ count-in_messages p (room group.terms) group.prefixes)
     ∙ ap (λ n. count p group.prefixes + n) (count-in_parts p room groups)
 
-count-with_route : (p : PrefixValue) (same : Terms → Terms → Bool) (groups : List Group) (route : PrefixValue × Terms)
+count-with_route : (p : PrefixValue) (same : Terms → Terms → Bool) (groups : List RouteGroup) (route : PrefixValue × Terms)
     → groups_count p (with_route same groups route) ≡ groups_count p groups + one p route.0
 count-with_route p same [] route = omega arith
 count-with_route p same (group ∷ groups) route =
@@ -93,7 +93,7 @@ count-with_route p same (group ∷ groups) route =
     (λ e. rw e (ap (λ n. n + groups_count p groups) (count-append p group.prefixes (route.0 ∷ [])) ∙ omega arith))
     (λ e. rw e (ap (λ n. count p group.prefixes + n) (count-with_route p same groups route) ∙ omega arith))
 
-count-groups_from : (p : PrefixValue) (same : Terms → Terms → Bool) (groups : List Group) (routes : List (PrefixValue × Terms))
+count-groups_from : (p : PrefixValue) (same : Terms → Terms → Bool) (groups : List RouteGroup) (routes : List (PrefixValue × Terms))
     → groups_count p (groups_from same groups routes) ≡ groups_count p groups + count p (keys_of routes)
 count-groups_from p same groups [] = omega arith
 count-groups_from p same groups (route ∷ routes) =

@@ -11,7 +11,7 @@ use Rattle.std.specs.List.{AllByRecursion, flat_map}
 use Rattle.std.specs.Map.{keys_of}
 use Rattle.ip_ranges.specs.declared.family.Family.TheVariants.{V4}
 use Rattle.ip_ranges.specs.Values.{PrefixValue}
-use Rattle.bgp_updates.specs.declared.route.Group.{Group}
+use Rattle.bgp_updates.specs.declared.route.RouteGroup.{RouteGroup}
 use Rattle.bgp_updates.specs.declared.route.Peering.{Peering}
 use Rattle.bgp_updates.specs.declared.route.Terms.{Terms}
 use Rattle.bgp_updates.specs.Between.{group_messages}
@@ -54,20 +54,20 @@ changed-bare old (route ∷ new) old_are new_are =
     (stands-bare (terms_at old route.0) route.1 (found-bare route.0 old old_are) new_are.0.without)
     ∙ ap (λ rest. cond (not (stands_as same_plain (terms_at old route.0) route.1)) (route ∷ rest) rest) (changed-bare old new old_are new_are.1)
 
-abbrev HasBare : Group → Type 0
+abbrev HasBare : RouteGroup → Type 0
 HasBare group = IsBare group.terms
 
-abbrev joined : Group → PrefixValue × Terms → Group
+abbrev joined : RouteGroup → PrefixValue × Terms → RouteGroup
 joined group route = record { terms = group.terms; prefixes = group.prefixes ++ route.0 ∷ [] }
 
-route-bare : (groups : List Group) (route : PrefixValue × Terms) → AllByRecursion HasBare groups → IsBare route.1
+route-bare : (groups : List RouteGroup) (route : PrefixValue × Terms) → AllByRecursion HasBare groups → IsBare route.1
     → with_route same_terms groups route ≡ with_route same_plain groups route
 route-bare [] route are bare = refl
 route-bare (group ∷ groups) route are bare =
     ap (λ same. cond same (joined group route ∷ groups) (group ∷ with_route same_terms groups route)) (same-bare group.terms route.1 are.0 bare)
     ∙ ap (λ rest. cond (same_plain group.terms route.1) (joined group route ∷ groups) (group ∷ rest)) (route-bare groups route are.1 bare)
 
-route-stays : (groups : List Group) (route : PrefixValue × Terms) → AllByRecursion HasBare groups → IsBare route.1
+route-stays : (groups : List RouteGroup) (route : PrefixValue × Terms) → AllByRecursion HasBare groups → IsBare route.1
     → AllByRecursion HasBare (with_route same_plain groups route)
 route-stays [] route are bare = (bare, tt)
 route-stays (group ∷ groups) route are bare =
@@ -76,14 +76,14 @@ route-stays (group ∷ groups) route are bare =
       | false ↦ (are.0, route-stays groups route are.1 bare)
     ]
 
-groups-bare : (groups : List Group) (routes : List (PrefixValue × Terms)) → AllByRecursion HasBare groups → AllByRecursion IsPlain routes
+groups-bare : (groups : List RouteGroup) (routes : List (PrefixValue × Terms)) → AllByRecursion HasBare groups → AllByRecursion IsPlain routes
     → groups_from same_terms groups routes ≡ groups_from same_plain groups routes
 groups-bare groups [] are plain = refl
 groups-bare groups (route ∷ routes) are plain =
     ap (λ joined. groups_from same_terms joined routes) (route-bare groups route are plain.0.without)
     ∙ groups-bare (with_route same_plain groups route) routes (route-stays groups route are plain.0.without) plain.1
 
-groups-stay : (groups : List Group) (routes : List (PrefixValue × Terms)) → AllByRecursion HasBare groups → AllByRecursion IsPlain routes
+groups-stay : (groups : List RouteGroup) (routes : List (PrefixValue × Terms)) → AllByRecursion HasBare groups → AllByRecursion IsPlain routes
     → AllByRecursion HasBare (groups_from same_plain groups routes)
 groups-stay groups [] are plain = are
 groups-stay groups (route ∷ routes) are plain = groups-stay (with_route same_plain groups route) routes (route-stays groups route are plain.0.without) plain.1
@@ -107,7 +107,7 @@ attributes-plain peering terms bare =
     ap (λ large. front_of V4 peering terms ++ large_attribute large) bare ∙ append-nil (front_of V4 peering terms)
     ∙ ap (λ communities. before ++ communities) (communities-plain terms.communities)
 
-group-plain : (peering : Peering) (group : Group) → HasBare group → group_messages V4 peering group ≡ plain_announcements peering group
+group-plain : (peering : Peering) (group : RouteGroup) → HasBare group → group_messages V4 peering group ≡ plain_announcements peering group
 unfolding part_bytes
 group-plain peering group bare =
     let form : List ℕ → ℕ → List (List ℕ) = λ attributes room. map (λ part. message_of [] attributes (prefixes_bytes part)) (in_messages room group.prefixes) in
@@ -115,7 +115,7 @@ group-plain peering group bare =
     let room : 4096 - (23 + length plain) ≡ 4073 - length plain = omega arith in
     ap (λ attributes. form attributes (4096 - (23 + length attributes))) (attributes-plain peering group.terms bare) ∙ ap (form plain) room
 
-all-plain : (peering : Peering) (groups : List Group) → AllByRecursion HasBare groups
+all-plain : (peering : Peering) (groups : List RouteGroup) → AllByRecursion HasBare groups
     → flat_map (group_messages V4 peering) groups ≡ flat_map (plain_announcements peering) groups
 all-plain peering [] are = refl
 all-plain peering (group ∷ groups) are =

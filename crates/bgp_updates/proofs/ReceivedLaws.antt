@@ -12,7 +12,7 @@ use Rattle.ip_ranges.specs.declared.family.Family.{Family}
 use Rattle.ip_ranges.specs.declared.family.Family.TheVariants.{V4, V6}
 use Rattle.ip_ranges.proofs.AddressLaws.{same_family-is, same_family-itself}
 use Rattle.bgp_updates.specs.declared.route.Terms.{Terms}
-use Rattle.bgp_updates.specs.declared.route.Group.{Group}
+use Rattle.bgp_updates.specs.declared.route.RouteGroup.{RouteGroup}
 use Rattle.std.specs.Str.{bytes_eq}
 use Rattle.std.proofs.lemmas.Slice.Eq.{bytes_eq-Decides, slice_eq-Decides}
 use Rattle.std.specs.Cmp.Lexicographic.{pointwise}
@@ -103,17 +103,17 @@ received-announcements table terms (part ∷ parts) p =
 -- ---- groups
 
 -- what the groups make of a prefix's terms
-abbrev pub found : PrefixValue → List Group → Option Terms → Option Terms
+abbrev pub found : PrefixValue → List RouteGroup → Option Terms → Option Terms
 found p [] t = t
 found p (group ∷ groups) t = found p groups (cond (list_any (same_prefix p) group.prefixes) (Some group.terms) t)
 
-abbrev pub any_group : PrefixValue → List Group → Bool
+abbrev pub any_group : PrefixValue → List RouteGroup → Bool
 any_group p groups = list_any (λ group. list_any (same_prefix p) group.prefixes) groups
 
-abbrev pub in_parts : (Terms → ℕ) → List Group → List Update
+abbrev pub in_parts : (Terms → ℕ) → List RouteGroup → List Update
 in_parts room groups = flat_map (λ group. announcements group.terms (in_messages (room group.terms) group.prefixes)) groups
 
-received-groups : (room : Terms → ℕ) (table : PrefixValue → Option Terms) (groups : List Group) (p : PrefixValue)
+received-groups : (room : Terms → ℕ) (table : PrefixValue → Option Terms) (groups : List RouteGroup) (p : PrefixValue)
     → received table (in_parts room groups) p ≡ found p groups (table p)
 received-groups room table [] p = refl
 received-groups room table (group ∷ groups) p =
@@ -129,7 +129,7 @@ list_any-push p q [] = or-false (same_prefix p q)
 list_any-push p q (first ∷ rest) =
     ap (λ b. same_prefix p first || b) (list_any-push p q rest) ∙ sym (or_assoc (same_prefix p first) (list_any (same_prefix p) rest) (same_prefix p q))
 
-found-absent : (p : PrefixValue) (groups : List Group) (t : Option Terms) → any_group p groups ≡ false → found p groups t ≡ t
+found-absent : (p : PrefixValue) (groups : List RouteGroup) (t : Option Terms) → any_group p groups ≡ false → found p groups t ≡ t
 found-absent p [] t absent = refl
 found-absent p (group ∷ groups) t absent =
     let parts = or_parts (list_any (same_prefix p) group.prefixes) (any_group p groups) absent in
@@ -140,7 +140,7 @@ push-other : (p : PrefixValue) (route : PrefixValue × Terms) (prefixes : List P
 push-other p route prefixes other =
     list_any-push p route.0 prefixes ∙ ap (λ v. list_any (same_prefix p) prefixes || v) other ∙ or-false (list_any (same_prefix p) prefixes)
 
-found-other : (same : Terms → Terms → Bool) (groups : List Group) (route : PrefixValue × Terms) (p : PrefixValue) (t : Option Terms)
+found-other : (same : Terms → Terms → Bool) (groups : List RouteGroup) (route : PrefixValue × Terms) (p : PrefixValue) (t : Option Terms)
     → same_prefix p route.0 ≡ false
     → found p (with_route same groups route) t ≡ found p groups t
 found-other same [] route p t other = rw other refl
@@ -149,7 +149,7 @@ found-other same (group ∷ groups) route p t other =
     (λ e. rw e (ap (λ b. found p groups (cond b (Some group.terms) t)) (push-other p route group.prefixes other)))
     (λ e. rw e (found-other same groups route p (cond (list_any (same_prefix p) group.prefixes) (Some group.terms) t) other))
 
-pub any_group-other : (same : Terms → Terms → Bool) (groups : List Group) (route : PrefixValue × Terms) (p : PrefixValue) → same_prefix p route.0 ≡ false
+pub any_group-other : (same : Terms → Terms → Bool) (groups : List RouteGroup) (route : PrefixValue × Terms) (p : PrefixValue) → same_prefix p route.0 ≡ false
     → any_group p (with_route same groups route) ≡ any_group p groups
 any_group-other same [] route p other = rw other refl
 any_group-other same (group ∷ groups) route p other =
@@ -158,7 +158,7 @@ any_group-other same (group ∷ groups) route p other =
     (λ e. rw e (ap (λ b. list_any (same_prefix p) group.prefixes || b) (any_group-other same groups route p other)))
 
 found-own : (same : Terms → Terms → Bool) → ((s t : Terms) → same s t ≡ true → s ≡ t)
-    → (groups : List Group) (route : PrefixValue × Terms) (p : PrefixValue) (t : Option Terms)
+    → (groups : List RouteGroup) (route : PrefixValue × Terms) (p : PrefixValue) (t : Option Terms)
     → same_prefix p route.0 ≡ true → any_group p groups ≡ false → found p (with_route same groups route) t ≡ Some route.1
 found-own same sound [] route p t own absent = rw own refl
 found-own same sound (group ∷ groups) route p t own absent =
@@ -170,7 +170,7 @@ found-own same sound (group ∷ groups) route p t own absent =
     ∙ ap Some (sound group.terms route.1 e)))
     (λ e. rw e (found-own same sound groups route p (cond (list_any (same_prefix p) group.prefixes) (Some group.terms) t) own parts.1))
 
-found-no_route : (same : Terms → Terms → Bool) (groups : List Group) (routes : List (PrefixValue × Terms)) (p : PrefixValue) (t : Option Terms)
+found-no_route : (same : Terms → Terms → Bool) (groups : List RouteGroup) (routes : List (PrefixValue × Terms)) (p : PrefixValue) (t : Option Terms)
     → list_any (same_prefix p) (keys_of routes) ≡ false → found p (groups_from same groups routes) t ≡ found p groups t
 found-no_route same groups [] p t absent = refl
 found-no_route same groups (route ∷ routes) p t absent =
@@ -178,7 +178,7 @@ found-no_route same groups (route ∷ routes) p t absent =
     found-no_route same (with_route same groups route) routes p t parts.1 ∙ found-other same groups route p t parts.0
 
 found-groups : (same : Terms → Terms → Bool) → ((s t : Terms) → same s t ≡ true → s ≡ t)
-    → (groups : List Group) (routes : List (PrefixValue × Terms)) (p : PrefixValue) (t : Option Terms)
+    → (groups : List RouteGroup) (routes : List (PrefixValue × Terms)) (p : PrefixValue) (t : Option Terms)
     → AreDistinct routes → (any_group p groups ≡ true → list_any (same_prefix p) (keys_of routes) ≡ false)
     → found p (groups_from same groups routes) t ≡ option_or (terms_at routes p) (found p groups t)
 found-groups same sound groups [] p t distinct apart = refl

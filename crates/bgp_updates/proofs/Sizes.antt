@@ -13,11 +13,11 @@ use Rattle.bgp_updates.specs.declared.part.Part.{Part}
 use Rattle.bgp_updates.specs.declared.part.Part.TheVariants.{Withdrawn, Unreached, Announced, Reached}
 use Rattle.bgp_updates.specs.declared.route.Terms.{Terms}
 use Rattle.bgp_updates.specs.Tables.{HasFew, IsTable, of_family}
-use Rattle.bgp_updates.specs.declared.route.Group.{Group}
+use Rattle.bgp_updates.specs.declared.route.RouteGroup.{RouteGroup}
 use Rattle.bgp_updates.specs.declared.route.Peering.{Peering}
 use Rattle.bgp_updates.specs.Message.{Fits, announced_part, attribute, in_messages, message_of, octets, packed, part_bytes, part_message, part_messages}
 use Rattle.bgp_updates.specs.Message.{part_size, prefix_bytes, prefixes_bytes, reach_attribute, room_of, unreach_attribute, with_first, withdrawn_part}
-use Rattle.bgp_updates.specs.Between.{IsGroup, group_messages, messages_between, messages_for}
+use Rattle.bgp_updates.specs.Between.{IsRouteGroup, group_messages, messages_between, messages_for}
 use Rattle.bgp_updates.specs.Received.{changed, gone, groups_from, same_terms}
 use Rattle.bgp_updates.specs.Laws.{MessagesFit}
 use Rattle.bgp_updates.proofs.Packing.{by_test, length-prefix_bytes, small_octets}
@@ -108,7 +108,7 @@ short-append : (a b : List (List ℕ)) → AllByRecursion IsShort a → AllByRec
 short-append [] b first second = second
 short-append (m ∷ a) b first second = (first.0, short-append a b first.1 second)
 
-short-groups : (family : Family) (peering : Peering) (groups : List Group) → AllByRecursion IsGroup groups
+short-groups : (family : Family) (peering : Peering) (groups : List RouteGroup) → AllByRecursion IsRouteGroup groups
     → AllByRecursion IsShort (flat_map (group_messages family peering) groups)
 short-groups family peering [] are = tt
 short-groups family peering (group ∷ groups) are =
@@ -122,7 +122,7 @@ short-for family peering old new old_table new_table few =
     let groups = groups_from same_terms [] (changed same_terms old new) in
     short-append (part_messages (withdrawn_part family) (keys_of (gone old new))) (flat_map (group_messages family peering) groups)
     (short-messages (withdrawn_part family) (keys_of (gone old new)) (size-withdrawn family) (short-gone old new old_table))
-    (short-groups family peering groups (recursion_from_All IsGroup groups (small-changed old new new_table few)))
+    (short-groups family peering groups (recursion_from_All IsRouteGroup groups (small-changed old new new_table few)))
 
 pub messages-fit : MessagesFit
 messages-fit peering old new old_table new_table few =

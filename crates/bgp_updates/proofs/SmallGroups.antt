@@ -11,26 +11,26 @@ use Rattle.ip_ranges.specs.Values.{PrefixValue, IsPrefix}
 use Rattle.large_numbers.specs.declared.numbers.LargeCommunity.{LargeCommunity}
 use Rattle.bgp_updates.specs.declared.route.Terms.{Terms}
 use Rattle.bgp_updates.specs.declared.route.Peering.{Peering}
-use Rattle.bgp_updates.specs.declared.route.Group.{Group}
+use Rattle.bgp_updates.specs.declared.route.RouteGroup.{RouteGroup}
 use Rattle.bgp_updates.specs.Message.{Fits, announced_part, attribute, communities_attribute, communities_bytes, front_of, hop_attribute}
 use Rattle.bgp_updates.specs.Message.{large_attribute, larges_bytes, optional_attribute, part_size, path_attribute, preference_attribute, withdrawn_part}
 use Rattle.bgp_updates.specs.Received.{changed, gone, groups_from, same_terms, stands_as, terms_at, with_route}
-use Rattle.bgp_updates.specs.Between.{AreFew, IsGroup, IsRoute}
+use Rattle.bgp_updates.specs.Between.{AreFew, IsRouteGroup, IsRoute}
 use Rattle.bgp_updates.specs.Tables.{IsTable, HasFew}
 
-small-with_route : (groups : List Group) (route : PrefixValue × Terms) → AllByRecursion IsGroup groups → IsRoute route
-    → AllByRecursion IsGroup (with_route same_terms groups route)
+small-with_route : (groups : List RouteGroup) (route : PrefixValue × Terms) → AllByRecursion IsRouteGroup groups → IsRoute route
+    → AllByRecursion IsRouteGroup (with_route same_terms groups route)
 small-with_route [] route all is =
     (record { short = All-cons Fits route.0 [] is.short (All-nil Fits); few = is.few }, tt)
 small-with_route (group ∷ groups) route all is =
-    elim (same_terms group.terms route.1) as (λ v. AllByRecursion IsGroup
+    elim (same_terms group.terms route.1) as (λ v. AllByRecursion IsRouteGroup
     (cond v (record { terms = group.terms; prefixes = group.prefixes ++ route.0 ∷ [] } ∷ groups) (group ∷ with_route same_terms groups route))) [
       | true ↦ (record { short = All-push Fits group.prefixes route.0 all.0.short is.short; few = all.0.few }, all.1)
       | false ↦ (all.0, small-with_route groups route all.1 is)
     ]
 
-small-groups_from : (groups : List Group) (routes : List (PrefixValue × Terms)) → AllByRecursion IsGroup groups → AllByRecursion IsRoute routes
-    → AllByRecursion IsGroup (groups_from same_terms groups routes)
+small-groups_from : (groups : List RouteGroup) (routes : List (PrefixValue × Terms)) → AllByRecursion IsRouteGroup groups → AllByRecursion IsRoute routes
+    → AllByRecursion IsRouteGroup (groups_from same_terms groups routes)
 small-groups_from groups [] all are = all
 small-groups_from groups (route ∷ routes) all are =
     small-groups_from (with_route same_terms groups route) routes (small-with_route groups route all are.0) are.1
@@ -64,10 +64,11 @@ pub short-gone : (old new : List (PrefixValue × Terms)) → IsTable old → All
 short-gone old new table =
     All-from_recursion Fits (keys_of (gone old new)) (short-filter (λ route. is_none (terms_at new route.0)) old table.0)
 
-pub small-changed : (old new : List (PrefixValue × Terms)) → IsTable new → All HasFew new → All IsGroup (groups_from same_terms [] (changed same_terms old new))
+pub small-changed : (old new : List (PrefixValue × Terms)) → IsTable new → All HasFew new
+    → All IsRouteGroup (groups_from same_terms [] (changed same_terms old new))
 small-changed old new table few =
     let are = are-routes new table.0 (recursion_from_All HasFew new few) in
-    All-from_recursion IsGroup (groups_from same_terms [] (changed same_terms old new))
+    All-from_recursion IsRouteGroup (groups_from same_terms [] (changed same_terms old new))
     (small-groups_from [] (changed same_terms old new) tt (small-filter (λ route. not (stands_as same_terms (terms_at old route.0) route.1)) new are))
 
 -- ---- how large attributes are

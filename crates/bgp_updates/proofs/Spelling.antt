@@ -6,7 +6,7 @@ use Rattle.std.specs.Map.{keys_of}
 use Rattle.ip_ranges.specs.Values.{PrefixValue}
 use Rattle.bgp_updates.specs.declared.route.Terms.{Terms}
 use Rattle.bgp_updates.specs.declared.route.Peering.{Peering}
-use Rattle.bgp_updates.specs.declared.route.Group.{Group}
+use Rattle.bgp_updates.specs.declared.route.RouteGroup.{RouteGroup}
 use Rattle.ip_ranges.specs.declared.family.Family.{Family}
 use Rattle.bgp_updates.specs.Message.{announced_part, in_messages, part_message, room_of, withdrawn_part}
 use Rattle.bgp_updates.specs.Received.{Update, announcements, changed, gone, groups_from, same_terms, withdrawals}
@@ -24,10 +24,10 @@ spell-announcements family peering terms [] = refl
 spell-announcements family peering terms (part ∷ parts) =
     ap (λ rest. part_message (announced_part family peering terms) part ∷ rest) (spell-announcements family peering terms parts)
 
-abbrev pub group_updates : Family → Peering → Group → List Update
+abbrev pub group_updates : Family → Peering → RouteGroup → List Update
 group_updates family peering group = announcements group.terms (in_messages (room_of (announced_part family peering group.terms)) group.prefixes)
 
-spell-groups : (family : Family) (peering : Peering) (groups : List Group)
+spell-groups : (family : Family) (peering : Peering) (groups : List RouteGroup)
     → flat_map (group_messages family peering) groups ≡ map (update_octets family peering) (flat_map (group_updates family peering) groups)
 spell-groups family peering [] = refl
 spell-groups family peering (group ∷ groups) =

@@ -8,7 +8,7 @@ use Rattle.ip_ranges.specs.Values.{AddressValue, PrefixValue}
 use Rattle.pool_config.specs.declared.compiled.CompiledPeer.{CompiledPeer}
 use Rattle.bgp_updates.specs.declared.route.Terms.{Terms}
 use Rattle.bgp_updates.specs.declared.route.Peering.{Peering}
-use Rattle.bgp_updates.specs.declared.route.Group.{Group}
+use Rattle.bgp_updates.specs.declared.route.RouteGroup.{RouteGroup}
 use Rattle.bgp_updates.specs.Message.{Fits, announced_part, part_message, part_messages, withdrawn_part}
 use Rattle.bgp_updates.specs.Received.{Update, changed, gone, groups_from, same_terms}
 use Rattle.bgp_updates.specs.Tables.{AreV4, of_family}
@@ -32,7 +32,7 @@ peering_of peer hop hop_v6 = record {
 }
 
 -- the messages that announce a group of a family
-abbrev pub group_messages : Family → Peering → Group → List (List ℕ)
+abbrev pub group_messages : Family → Peering → RouteGroup → List (List ℕ)
 group_messages family peering group = part_messages (announced_part family peering group.terms) group.prefixes
 
 -- of routes of a family: what is withdrawn, and then what is announced, group after group
@@ -56,7 +56,7 @@ pub record IsRoute (route : PrefixValue × Terms) : Type 0 where
   pub few : AreFew route.1
 
 -- the same of a group
-pub record IsGroup (group : Group) : Type 0 where
+pub record IsRouteGroup (group : RouteGroup) : Type 0 where
   pub short : All Fits group.prefixes
   pub few : AreFew group.terms
 

@@ -9,7 +9,7 @@ use Rattle.std.specs.declared.cmp.Ordering.{Ordering}
 use Rattle.ip_ranges.specs.Values.{PrefixValue}
 use Rattle.large_numbers.specs.Large.{large_cmp}
 use Rattle.bgp_updates.specs.declared.grouping.TermsKey.{TermsKey}
-use Rattle.bgp_updates.specs.declared.route.Group.{Group}
+use Rattle.bgp_updates.specs.declared.route.RouteGroup.{RouteGroup}
 use Rattle.bgp_updates.specs.declared.route.Terms.{Terms}
 use Rattle.bgp_updates.specs.Received.{same_terms}
 
@@ -24,16 +24,16 @@ key_cmp a b =
     (ordering_then (slice_cmp nat_cmp a.communities.items b.communities.items) (slice_cmp large_cmp a.large.items b.large.items))
 
 -- the place of the first group of the terms
-abbrev pub place_of : List Group → Terms → Option ℕ
+abbrev pub place_of : List RouteGroup → Terms → Option ℕ
 place_of [] terms = None
 place_of (group ∷ groups) terms = if same_terms group.terms terms then Some 0 else option_map (λ n. suc n) (place_of groups terms)
 
 -- under each key stands the place of the first group of its terms
-abbrev pub ArePlaces : List (TermsKey × ℕ) → List Group → Type 0
+abbrev pub ArePlaces : List (TermsKey × ℕ) → List RouteGroup → Type 0
 ArePlaces entries groups = (key : TermsKey) → lookup (is_at (key_cmp key)) entries ≡ place_of groups (terms_in key)
 
 -- the group at the place has the prefix too
-abbrev pub with_prefix : List Group → ℕ → PrefixValue → List Group
+abbrev pub with_prefix : List RouteGroup → ℕ → PrefixValue → List RouteGroup
 with_prefix [] place p = []
 with_prefix (group ∷ groups) zero p = record { terms = group.terms; prefixes = group.prefixes ++ p ∷ [] } ∷ groups
 with_prefix (group ∷ groups) (suc place) p = group ∷ with_prefix groups place p

@@ -6,7 +6,7 @@ use Rattle.std.specs.Map.{keys_of}
 use Rattle.std.specs.Str.{bytes_eq}
 use Rattle.ip_ranges.specs.declared.family.Family.TheVariants.{V4}
 use Rattle.ip_ranges.specs.Values.{PrefixValue}
-use Rattle.bgp_updates.specs.declared.route.Group.{Group}
+use Rattle.bgp_updates.specs.declared.route.RouteGroup.{RouteGroup}
 use Rattle.bgp_updates.specs.declared.route.Peering.{Peering}
 use Rattle.bgp_updates.specs.declared.route.Terms.{Terms}
 use Rattle.bgp_updates.specs.Between.{messages_between}
@@ -34,7 +34,7 @@ same_plain s t = same_preference s.preference t.preference && bytes_eq s.communi
 abbrev pub plain_withdrawals : List PrefixValue → List (List ℕ)
 plain_withdrawals prefixes = map (λ part. message_of (prefixes_bytes part) [] []) (in_messages 4073 prefixes)
 
-abbrev pub plain_announcements : Peering → Group → List (List ℕ)
+abbrev pub plain_announcements : Peering → RouteGroup → List (List ℕ)
 plain_announcements peering group =
     let attributes = plain_attributes peering group.terms in
     map (λ part. message_of [] attributes (prefixes_bytes part)) (in_messages (4073 - length attributes) group.prefixes)

@@ -4,7 +4,7 @@ use Rattle.std.specs.List.{list_any, flat_map}
 use Rattle.std.specs.Map.{lookup, keys_of}
 use Rattle.ip_ranges.specs.Values.{PrefixValue, same_family}
 use Rattle.bgp_updates.specs.declared.route.Terms.{Terms}
-use Rattle.bgp_updates.specs.declared.route.Group.{Group}
+use Rattle.bgp_updates.specs.declared.route.RouteGroup.{RouteGroup}
 use Rattle.bgp_updates.specs.Message.{in_messages}
 use Rattle.std.specs.Str.{bytes_eq}
 use Rattle.std.specs.Cmp.Lexicographic.{pointwise}
@@ -52,7 +52,7 @@ abbrev pub terms_at : List (PrefixValue × Terms) → PrefixValue → Option Ter
 terms_at table p = lookup (same_prefix p) table
 
 -- The route joins the first group of its terms, or begins one.
-abbrev pub with_route : (Terms → Terms → Bool) → List Group → PrefixValue × Terms → List Group
+abbrev pub with_route : (Terms → Terms → Bool) → List RouteGroup → PrefixValue × Terms → List RouteGroup
 with_route same [] route = record { terms = route.1; prefixes = route.0 ∷ [] } ∷ []
 with_route same (group ∷ groups) route =
     if same group.terms route.1
@@ -60,7 +60,7 @@ with_route same (group ∷ groups) route =
     else group ∷ with_route same groups route
 
 -- routes in groups of equal terms, in the order of the first route of each
-abbrev pub groups_from : (Terms → Terms → Bool) → List Group → List (PrefixValue × Terms) → List Group
+abbrev pub groups_from : (Terms → Terms → Bool) → List RouteGroup → List (PrefixValue × Terms) → List RouteGroup
 groups_from same groups [] = groups
 groups_from same groups (route ∷ routes) = groups_from same (with_route same groups route) routes
 

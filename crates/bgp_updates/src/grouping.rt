@@ -7,7 +7,7 @@ ghost use Rattle.bgp_updates.specs.Received.{changed, groups_from, same_terms, s
 ghost use Rattle.bgp_updates.specs.Tables.{IsTable};
 
 use crate::finding::route_at;
-use crate::route::{Group, Route, Terms};
+use crate::route::{Route, RouteGroup, Terms};
 use ip_ranges::Prefix;
 use large_numbers::LargeCommunity;
 use mlb_base::{NoMemory, Sequence, TryCopy};
@@ -28,7 +28,7 @@ pub(crate) fn changed_groups(
     alloc: Global,
     old: &[Route],
     new: &[Route],
-) -> Result<Vec<Group>, NoMemory>
+) -> Result<Vec<RouteGroup>, NoMemory>
     requires { IsTable old.now }
     ensures { IfOk result (λ groups. groups.items ≡ groups_from same_terms [] (changed same_terms old.now new.now)) }
 {
@@ -64,7 +64,7 @@ fn stands(table: &[Route], route: &Route) -> bool
 /// Adds the route to the group of its terms, which the places tell, or as a group of its own.
 fn join(
     alloc: Global,
-    groups: &mut Vec<Group>,
+    groups: &mut Vec<RouteGroup>,
     places: &mut BTreeMap<TermsKey, usize>,
     route: &Route,
 ) -> Result<(), NoMemory>
@@ -82,7 +82,7 @@ fn join(
 /// Adds a group of the route alone, where no group has its terms.
 fn begin(
     alloc: Global,
-    groups: &mut Vec<Group>,
+    groups: &mut Vec<RouteGroup>,
     places: &mut BTreeMap<TermsKey, usize>,
     key: TermsKey,
     route: &Route,
@@ -99,7 +99,7 @@ fn begin(
 }
 
 /// Appends the prefix to the group at the place.
-fn push_prefix(groups: &mut Vec<Group>, place: usize, prefix: Prefix) -> Result<(), NoMemory>
+fn push_prefix(groups: &mut Vec<RouteGroup>, place: usize, prefix: Prefix) -> Result<(), NoMemory>
     requires { place < length groups.old.items }
     ensures { OnOk result (groups.new.items ≡ with_prefix groups.old.items place prefix) }
 {
@@ -117,13 +117,13 @@ fn key_of(alloc: Global, route: &Route) -> Result<TermsKey, NoMemory>
 }
 
 /// The group of the route alone.
-fn group_of(alloc: Global, route: &Route) -> Result<Group, NoMemory>
+fn group_of(alloc: Global, route: &Route) -> Result<RouteGroup, NoMemory>
     ensures { IfOk result (λ group. group ≡ record { terms = route.now.1; prefixes = route.now.0 ∷ [] }) }
 {
     let mut prefixes = Sequence::new(alloc);
     prefixes.push(route.prefix)?;
     let terms = terms_of(route)?;
-    Ok(Group { terms, prefixes })
+    Ok(RouteGroup { terms, prefixes })
 }
 
 fn terms_of(route: &Route) -> Result<Terms, NoMemory>

@@ -91,7 +91,7 @@ impl RouteTable {
 
 /// Prefixes whose routes have the same terms.
 #[derive(Drop)]
-pub struct Group {
+pub struct RouteGroup {
     pub terms: Terms,
     pub prefixes: PrefixList,
 }

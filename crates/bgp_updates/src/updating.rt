@@ -4,7 +4,7 @@ ghost use Rattle.std.specs.List.{flat_map};
 ghost use Rattle.std.specs.Map.{keys_of};
 ghost use Rattle.std.specs.Option.{option_copied};
 ghost use Rattle.ip_ranges.specs.declared.family.Family.TheVariants.{V4};
-ghost use Rattle.bgp_updates.specs.Between.{group_messages, messages_between, messages_for, number_of_hop, peering_of, HasHops, IsGroup};
+ghost use Rattle.bgp_updates.specs.Between.{group_messages, messages_between, messages_for, number_of_hop, peering_of, HasHops, IsRouteGroup};
 ghost use Rattle.bgp_updates.specs.Message.{part_messages, withdrawn_part};
 ghost use Rattle.bgp_updates.specs.Received.{changed, gone, groups_from, same_terms, terms_at};
 ghost use Rattle.bgp_updates.specs.Tables.{HasFew, IsTable};
@@ -12,7 +12,7 @@ ghost use Rattle.bgp_updates.specs.Tables.{HasFew, IsTable};
 use crate::finding::{by_family, route_at};
 use crate::grouping::changed_groups;
 use crate::pack::put_messages;
-use crate::route::{Group, MessageList, Peering, Route, RouteTable};
+use crate::route::{MessageList, Peering, Route, RouteGroup, RouteTable};
 use crate::writing::{announced_part, withdrawn_part};
 use ip_ranges::{Address, Family, Prefix};
 use mlb_base::{NoMemory, Sequence};
@@ -158,9 +158,9 @@ fn put_groups(
     messages: &mut MessageList,
     family: Family,
     peering: &Peering,
-    groups: &[Group],
+    groups: &[RouteGroup],
 ) -> Result<(), NoMemory>
-    requires { All IsGroup groups.now }
+    requires { All IsRouteGroup groups.now }
     ensures { OnOk result (messages.new ≡ messages.old ++ flat_map (group_messages family peering.now) groups.now) }
 {
     for group in groups {

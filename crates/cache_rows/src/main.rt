@@ -1,26 +1,20 @@
-//! Reads the lines of a watch, and writes what a cache makes of the event of each: the change, the note, how many services are held
-//! then, and how many pools are in force. A line that begins with `#` says what the next one shows, and is written as it stands.
+//! Reads the lines of a watch, and writes what a cache makes of the event of each: whether a namespace changed, the note, how many
+//! services are held then, and how many pools are in force. A line that begins with `#` says what the next one shows, and is
+//! written as it stands.
 #![tactic(auto)]
 
 use kube_events::read_event;
 use mlb_base::NoMemory;
-use object_cache::{Applied, ApplyFault, Change, ObjectCache, TakeNote};
+use object_cache::{Applied, ApplyFault, ObjectCache, TakeNote};
 use std::alloc::Global;
 use std::io;
 use std::io::Input;
 
-/// What the change is called. A service that wasn't held before is called new, also where it is deleted.
-fn change_name(change: &Change) -> &'static str {
-    match change {
-        Change::Service { before: None, .. } => "new service",
-        Change::Service {
-            before: Some(_),
-            ..
-        } => "held service",
-        Change::Services { unlisted } if unlisted.is_empty() => "services",
-        Change::Services { .. } => "unlisted services",
-        Change::Namespace { .. } => "namespace",
-        Change::Other => "other",
+fn change_name(namespace_changed: bool) -> &'static str {
+    if namespace_changed {
+        "namespace"
+    } else {
+        "other"
     }
 }
 
@@ -40,7 +34,7 @@ fn pools_in_force(cache: &ObjectCache) -> usize {
 }
 
 fn outcome(alloc: Global, cache: &ObjectCache, applied: &Applied) -> Result<String, NoMemory> {
-    let change = change_name(&applied.change);
+    let change = change_name(applied.namespace_changed);
     let note = note_name(&applied.note);
     let services = cache.services().len();
     let pools = pools_in_force(cache);

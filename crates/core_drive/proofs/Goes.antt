@@ -1,7 +1,7 @@
 -- What is driven goes on from a run of the core, so it is sound, and where no put is out nothing is left waiting.
 use Rattle.std.proofs.Common.{◌≡◌, ◌≢◌, ℕ, true, List, [], ◌∷◌, ◌++◌, Option, Some, None, is_some, refl, sym, ap, ◌∙◌, subst}
 use Rattle.kube_model.specs.declared.event.Event.{Event}
-use Rattle.kube_model.specs.declared.event.Group.{Group}
+use Rattle.kube_model.specs.declared.event.ListGroup.{ListGroup}
 use Rattle.kube_model.specs.declared.key.Key.{Key}
 use Rattle.kube_model.specs.declared.reply.PutReply.{PutReply}
 use Rattle.core_rules.specs.declared.turn.Turn.{Turn}
@@ -10,7 +10,7 @@ use Rattle.core_rules.specs.Core.{State}
 use Rattle.core_rules.specs.Take.{core_take, core_expired}
 use Rattle.core_rules.specs.Turn.{core_turn, after_turn, put_in, rest_of, turn_of}
 use Rattle.core_rules.specs.Replied.{core_reply}
-use Rattle.core_rules.specs.Run.{Entry as CoreEntry, Took as TookByCore, Expired as ExpiredByCore}
+use Rattle.core_rules.specs.Run.{TranscriptEntry as CoreEntry, Took as TookByCore, Expired as ExpiredByCore}
 use Rattle.core_rules.specs.Run.{Turned as TurnedByCore, Heard as HeardByCore, IsRun, core_after}
 use Rattle.core_rules.proofs.Runs.{core_holds_what_was_observed, took-out, heard-out}
 use Rattle.core_laws.specs.Shared.{AllShowTerms}
@@ -19,16 +19,16 @@ use Rattle.core_laws.proofs.Puts.{idle-queue}
 use Rattle.core_laws.proofs.QuietShown.{runs_are_quiet_as_shown}
 use Rattle.core_laws.proofs.Sound.{runs_are_sound}
 use Rattle.core_laws.proofs.Telling.{notes_are_right}
-use Rattle.core_drive.specs.Drive.{Driven, Entry, turned, turns, taking, expiring, hearing, core_entry, behind}
+use Rattle.core_drive.specs.Drive.{Driven, TranscriptEntry, turned, turns, taking, expiring, hearing, core_entry, behind}
 use Rattle.core_drive.specs.Laws.{BeginsFresh, EventsGoOn, ExpiriesGoOn, RepliesGoOn, DrivesAreSound, DrivesAreQuiet}
 use Rattle.core_drive.specs.Sound.{AreNotesRight, LeadsTo, ShowsTerms, ShowsFamilies, HasFamilies}
 
 -- ---- transcripts one behind the other
-behind-append : (xs ys : List Entry) (earlier : List CoreEntry) → behind (xs ++ ys) earlier ≡ behind ys (behind xs earlier)
+behind-append : (xs ys : List TranscriptEntry) (earlier : List CoreEntry) → behind (xs ++ ys) earlier ≡ behind ys (behind xs earlier)
 behind-append [] ys earlier = refl
 behind-append (x ∷ xs) ys earlier = behind-append xs ys (core_entry x ∷ earlier)
 
-notes-append : (xs ys : List Entry) (earlier : List CoreEntry) → AreNotesRight xs earlier → AreNotesRight ys (behind xs earlier)
+notes-append : (xs ys : List TranscriptEntry) (earlier : List CoreEntry) → AreNotesRight xs earlier → AreNotesRight ys (behind xs earlier)
     → AreNotesRight (xs ++ ys) earlier
 notes-append [] ys earlier first then = then
 notes-append (x ∷ xs) ys earlier first then = (first.0, notes-append xs ys (core_entry x ∷ earlier) first.1 then)
@@ -103,7 +103,7 @@ module _ (class : Option (List ℕ)) where
         idle = rest.idle;
       }
 
-  expiring-goes : (group : Group) (run : List CoreEntry) → IsRun class run → (core_after class run).out ≡ None
+  expiring-goes : (group : ListGroup) (run : List CoreEntry) → IsRun class run → (core_after class run).out ≡ None
       → GoesOn class run (expiring (core_after class run) group)
   expiring-goes group run is none =
       let entered : IsRun class (ExpiredByCore group ∷ run) = (none, is) in
@@ -133,7 +133,7 @@ module _ (class : Option (List ℕ)) where
       }
 
 -- ---- from what was told
-goes-by : (class : Option (List ℕ)) (d : Driven) (s : State) (told : List Entry) → LeadsTo class told s → GoesOn class (behind told []) d
+goes-by : (class : Option (List ℕ)) (d : Driven) (s : State) (told : List TranscriptEntry) → LeadsTo class told s → GoesOn class (behind told []) d
     → LeadsTo class (told ++ d.entries) d.core
 goes-by class d s told leads g =
     let join = sym (behind-append told d.entries []) in

@@ -4,7 +4,7 @@ use Rattle.ip_ranges.specs.declared.family.Family.{Family}
 use Rattle.kube_model.specs.Families.{AreFamilies}
 use Rattle.object_history.specs.Kinds.{service_resource}
 use Rattle.object_history.proofs.Seen.{is-last_shown}
-use Rattle.core_rules.specs.Run.{Entry as CoreEntry, observed, claims_shown}
+use Rattle.core_rules.specs.Run.{TranscriptEntry as CoreEntry, observed, claims_shown}
 use Rattle.core_laws.specs.Quiet.{MeetsRow}
 use Rattle.core_laws.specs.QuietShown.{IsQuietAsShown, offer_shown}
 use Rattle.core_laws.specs.Shown.{HoldsOfShown}

@@ -12,7 +12,7 @@ use Rattle.alloc_book.specs.declared.choice.Choice.TheVariants.{Pending}
 use Rattle.alloc_book.specs.Asking.{Offer, asker_of}
 use Rattle.claim_index.specs.Claims.{Holders}
 use Rattle.alloc_book.specs.Chosen.{IsChosen}
-use Rattle.core_rules.specs.Run.{Entry, observed, claims_shown}
+use Rattle.core_rules.specs.Run.{TranscriptEntry, observed, claims_shown}
 use Rattle.core_laws.specs.Puts.{IsReadyBy}
 use Rattle.core_laws.specs.QuietShown.{offer_shown}
 use Rattle.core_laws.specs.Served.{IsServed}
@@ -28,7 +28,7 @@ pub record HasItsOwn (class : Option (List ℕ)) (o : Offer) (has : Holders) (se
 
 -- Once both lists have ended and a configuration is in force, so it is with each held service that doesn't await a newer event, by that
 -- configuration, its namespace's labels as they were last shown, and the claims that the look back shows.
-abbrev pub AllHaveTheirOwn : Option (List ℕ) → List Entry → Type 0
+abbrev pub AllHaveTheirOwn : Option (List ℕ) → List TranscriptEntry → Type 0
 AllHaveTheirOwn class run =
     (ready : IsReadyBy (observed run)) (key : Key) (held : Versioned Service) → IsLastShown service_resource key held (observed run)
     → awaits_shown key run ≡ false

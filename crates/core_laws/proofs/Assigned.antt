@@ -2,22 +2,22 @@
 use Rattle.std.proofs.Common.{ℕ, Bool, true, false, cond, not, List, [], ◌∷◌, ◌++◌, Option, Some, None}
 use Rattle.kube_model.specs.declared.event.Event.{Event}
 use Rattle.kube_model.specs.declared.event.Event.TheVariants.{ListEnd}
-use Rattle.kube_model.specs.declared.event.Group.TheVariants as groups
+use Rattle.kube_model.specs.declared.event.ListGroup.TheVariants as groups
 use Rattle.kube_model.specs.declared.key.Key.{Key}
 use Rattle.kube_model.specs.declared.put.Put.{Put}
 use Rattle.kube_model.specs.declared.record.Record.{Record}
 use Rattle.kube_model.specs.declared.reply.PutReply.{PutReply}
 use Rattle.kube_model.specs.declared.reply.PutReply.TheVariants.{Ok as StoredReply, Stale, Missing, Unknown}
-use Rattle.versioned_map.specs.Entries.{is_newer}
+use Rattle.versioned_map.specs.Objects.{is_newer}
 use Rattle.kube_model.specs.Keys.{key_cmp}
 use Rattle.mlb_base.proofs.Among.{contains-none}
+use Rattle.mlb_base.proofs.Lists.{filter-contains}
 use Rattle.claim_index.specs.Claims.{AreAssigned, ClaimValue, settled, others, claim_of, claims_it}
 use Rattle.alloc_book.proofs.BookLaws.{assigned-others, assigned-added}
-use Rattle.pool_choice.proofs.Filters.{filter-contains}
 use Rattle.core_rules.specs.Core.{State, shown_terms}
 use Rattle.core_rules.specs.Take.{core_by, core_take, is_unlisted}
 use Rattle.core_rules.specs.Replied.{replied_to, put_terms}
-use Rattle.core_rules.specs.Run.{Entry, Took, Expired, Turned, Heard, core_after}
+use Rattle.core_rules.specs.Run.{TranscriptEntry, Took, Expired, Turned, Heard, core_after}
 use Rattle.core_rules.proofs.Effects.{by_effect}
 use Rattle.sharing_terms.specs.declared.terms.Terms.{Terms}
 
@@ -46,7 +46,7 @@ heard-assigned (Some put) Missing s a = a
 heard-assigned (Some put) Unknown s a = assigned-if (claims_it put.key put.holding (put_terms s.held put) s.claims) s.claims
     (s.claims ++ claim_of put.key put.holding (put_terms s.held put)) a (assigned-added s.claims put.key put.holding (put_terms s.held put) a)
 
-pub runs-assigned : (class : Option (List ℕ)) (run : List Entry) → AreAssigned (core_after class run).claims
+pub runs-assigned : (class : Option (List ℕ)) (run : List TranscriptEntry) → AreAssigned (core_after class run).claims
 runs-assigned class [] = λ c there. absurd (contains-none c there)
 runs-assigned class (Took event ∷ earlier) = took-assigned (core_after class earlier) (runs-assigned class earlier) event
 runs-assigned class (Expired group ∷ earlier) = runs-assigned class earlier

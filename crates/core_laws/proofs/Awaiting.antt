@@ -2,20 +2,20 @@
 use Rattle.std.proofs.Common.{◌≡◌, ℕ, Bool, true, false, cond, leb, eqb, not, ◌&&◌, ◌||◌, List, [], ◌∷◌, filter, Option, Some, None, refl, sym, ap, subst, ◌∙◌}
 use Rattle.kube_model.specs.declared.event.Event.{Event}
 use Rattle.kube_model.specs.declared.event.Event.TheVariants.{ListEnd}
-use Rattle.kube_model.specs.declared.event.Group.TheVariants as groups
+use Rattle.kube_model.specs.declared.event.ListGroup.TheVariants as groups
 use Rattle.kube_model.specs.declared.key.Key.{Key}
 use Rattle.kube_model.specs.declared.put.Put.{Put}
 use Rattle.kube_model.specs.declared.reply.PutReply.{PutReply}
 use Rattle.kube_model.specs.declared.reply.PutReply.TheVariants.{Ok as StoredReply, Stale, Missing, Unknown}
-use Rattle.versioned_map.specs.Entries.{version_at}
+use Rattle.versioned_map.specs.Objects.{version_at}
 use Rattle.kube_model.specs.Keys.{key_cmp, same_key, has_key, without}
 use Rattle.object_history.specs.Kinds.{service_resource}
 use Rattle.object_history.specs.LookBack.{last_shown}
-use Rattle.kube_model.proofs.KeyLaws.{same_key-is}
+use Rattle.kube_model.proofs.KeyLaws.{same_key-is, same_key-flip}
 use Rattle.core_rules.specs.Core.{State}
 use Rattle.core_rules.specs.Take.{core_by, core_take, effect_of, is_unlisted}
 use Rattle.core_rules.specs.Replied.{replied_to}
-use Rattle.core_rules.specs.Run.{Entry, Took, Expired, Turned, Heard, core_after, IsRun, observed, version_shown}
+use Rattle.core_rules.specs.Run.{TranscriptEntry, Took, Expired, Turned, Heard, core_after, IsRun, observed, version_shown}
 use Rattle.core_rules.proofs.Claims.{version-held, ended-version}
 use Rattle.core_rules.proofs.Effects.{by_effect}
 use Rattle.core_rules.proofs.Runs.{core_holds_what_was_observed}
@@ -40,17 +40,8 @@ has_key-kept test [] key = either-same (test key)
 has_key-kept test (k ∷ keys) key = kept-by (test k) (same_key k key) (test key) k key keys (filter (λ k. not (test k)) keys) refl
     (λ s. ap test (same_key-is k key s)) (has_key-kept test keys key)
 
-flip-by : (a b : Bool) (x y : Key) → a ≡ same_key x y → b ≡ same_key y x → a ≡ b
-flip-by true true x y a b = refl
-flip-by false false x y a b = refl
-flip-by true false x y a b = a ∙ ap (same_key x) (sym (same_key-is x y (sym a))) ∙ ap (λ z. same_key z x) (same_key-is x y (sym a)) ∙ sym b
-flip-by false true x y a b = a ∙ ap (same_key x) (same_key-is y x (sym b)) ∙ ap (λ z. same_key z x) (sym (same_key-is y x (sym b))) ∙ sym b
-
-pub flip : (x y : Key) → same_key x y ≡ same_key y x
-flip x y = flip-by (same_key x y) (same_key y x) x y refl refl
-
 pub has_key-without : (own : Key) (keys : List Key) (key : Key) → has_key (without own keys) key ≡ cond (same_key own key) false (has_key keys key)
-has_key-without own keys key = has_key-kept (λ k. same_key k own) keys key ∙ ap (λ b. cond b false (has_key keys key)) (flip key own)
+has_key-without own keys key = has_key-kept (λ k. same_key k own) keys key ∙ ap (λ b. cond b false (has_key keys key)) (same_key-flip key own)
 
 shown-by : (same newer late : Bool) (own key : Key) (keys : List Key) (before : Bool) → same ≡ same_key own key → has_key keys key ≡ before
     → (same ≡ true → newer ≡ late)
@@ -90,7 +81,7 @@ heard-awaits (Some put) Missing s key before a =
     has_key-append s.awaiting (put.key ∷ []) key ∙ or-end (has_key s.awaiting key) (same_key put.key key) ∙ ap (λ b. b || same_key put.key key) a
 heard-awaits (Some put) Unknown s key before a = a
 
-pub awaiting-is : (class : Option (List ℕ)) (run : List Entry) → IsRun class run → (key : Key)
+pub awaiting-is : (class : Option (List ℕ)) (run : List TranscriptEntry) → IsRun class run → (key : Key)
     → has_key (core_after class run).awaiting key ≡ awaits_shown key run
 awaiting-is class [] is key = refl
 awaiting-is class (Took event ∷ earlier) is key =

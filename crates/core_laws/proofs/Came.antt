@@ -20,7 +20,7 @@ use Rattle.core_rules.specs.declared.turn.Turn.TheVariants.{Idle, NoPut, Wants}
 use Rattle.core_rules.specs.Core.{shown_terms}
 use Rattle.core_rules.specs.Take.{Effect, Shows, Drops, EndsServices, Configures, Expires, Nothing, effect_of}
 use Rattle.core_rules.specs.Turn.{put_in}
-use Rattle.core_rules.specs.Run.{Entry, Took, Expired, Turned, Heard, core_after, IsRun, put_out}
+use Rattle.core_rules.specs.Run.{TranscriptEntry, Took, Expired, Turned, Heard, core_after, IsRun, put_out}
 use Rattle.core_rules.specs.Run.{version_shown, terms_shown, claims_shown, claims_told, claims_heard}
 use Rattle.core_laws.specs.Shared.{claim_out, may_have, is_event}
 
@@ -37,7 +37,7 @@ pub put_key : Option Put → Option Key
 put_key None = None
 put_key (Some put) = Some put.key
 
-pub source_of : Entry → Option Key
+pub source_of : TranscriptEntry → Option Key
 source_of (Took event) = shown_key (effect_of event)
 source_of (Expired group) = None
 source_of (Turned turn) = put_key (put_in turn)
@@ -50,7 +50,7 @@ pub record IsPutClaim (put : Put) (adopted : Terms) (key : Key) (c : ClaimValue)
   pub terms_is : terms_under put.holding adopted ≡ c.terms
 
 -- The key came to the claim with the entry: by an event, or by a put that a turn wants.
-pub record Came (x : Entry) (adopted : Terms) (key : Key) (c : ClaimValue) : Type 0 where
+pub record Came (x : TranscriptEntry) (adopted : Terms) (key : Key) (c : ClaimValue) : Type 0 where
   pub source : source_of x ≡ Some key
   pub by : (is_event x ≡ true) ⊎ ((put : Put) × (pending : Option Reason) × (x ≡ Turned (Wants put pending)) × IsPutClaim put adopted key c)
 
@@ -126,7 +126,7 @@ heard-by (Some put) key Unknown adopted before c there =
     (added-by (list_any (is_under put.holding terms) before) (claim_of put.key put.holding terms) before c) there
 
 -- the terms that a put's record would adopt don't change where no event is taken, and no put is out where one is
-pub came : (class : Option (List ℕ)) (x : Entry) (earlier : List Entry) → ((core_after class earlier).out ≡ None → put_out earlier ≡ None)
+pub came : (class : Option (List ℕ)) (x : TranscriptEntry) (earlier : List TranscriptEntry) → ((core_after class earlier).out ≡ None → put_out earlier ≡ None)
     → IsRun class (x ∷ earlier)
     → (key : Key) (c : ClaimValue) → Contains (may_have key (x ∷ earlier)) c → ¬ (Contains (may_have key earlier) c) → Came x (terms_shown key earlier) key c
 unfolding source_of

@@ -7,8 +7,8 @@ use Rattle.std.specs.List.Sorted.{IsStrictlySortedBy}
 use Rattle.std.specs.Map.{keys_of}
 use Rattle.std.specs.Option.{option_map_or}
 use Rattle.kube_model.specs.declared.event.Event.{Event}
-use Rattle.kube_model.specs.declared.event.Group.{Group}
-use Rattle.kube_model.specs.declared.event.Group.TheVariants as groups
+use Rattle.kube_model.specs.declared.event.ListGroup.{ListGroup}
+use Rattle.kube_model.specs.declared.event.ListGroup.TheVariants as groups
 use Rattle.kube_model.specs.declared.key.Key.{Key}
 use Rattle.kube_model.specs.declared.put.Put.{Put}
 use Rattle.kube_model.specs.declared.record.Record.{Record}
@@ -22,7 +22,7 @@ use Rattle.kube_model.proofs.KeyLaws.{key_cmp-total, key_cmp-exact, same_key-is,
 use Rattle.sharing_terms.specs.declared.terms.Terms.{Terms}
 use Rattle.sharing_terms.specs.Terms.{terms_of}
 use Rattle.versioned_map.specs.declared.map.Versioned.{Versioned}
-use Rattle.versioned_map.specs.Entries.{held_at, at_version, version_at, listed, expired}
+use Rattle.versioned_map.specs.Objects.{held_at, at_version, version_at, listed, expired}
 use Rattle.versioned_map.proofs.HeldLaws.{held_at-shown, held_at-removed, held_at-listed, held_at-expired}
 use Rattle.object_history.specs.Kinds.{service_resource}
 use Rattle.object_history.specs.LookBack.{written_over}
@@ -34,13 +34,14 @@ use Rattle.claim_index.proofs.ClaimLaws.{claims_of-settled, claims_of-doubted, c
 use Rattle.core_rules.specs.Core.{State, no_terms, terms_in, shown_terms}
 use Rattle.core_rules.specs.Take.{core_by, core_take, core_expired, is_unlisted}
 use Rattle.core_rules.specs.Replied.{put_terms, replied_to}
-use Rattle.core_rules.specs.Run.{Entry, Took, Expired, Turned, Heard, core_after, observed, IsRun}
+use Rattle.core_rules.specs.Run.{TranscriptEntry, Took, Expired, Turned, Heard, core_after, observed, IsRun}
 use Rattle.core_rules.proofs.Claims.{claims_of-kept}
 use Rattle.core_rules.proofs.Effects.{by_effect, config-services}
 use Rattle.core_rules.proofs.Runs.{core_holds_what_was_observed}
 use Rattle.core_laws.specs.Claimed.{ServicesAreClaimed}
 use Rattle.core_laws.proofs.Orderly.{sorted-services}
 use Rattle.core_laws.proofs.Shared.{terms-kept}
+use Rattle.core_laws.proofs.Puts.{held-of}
 
 -- one of the claims is the service's record under its terms
 abbrev IsAmong : List ClaimValue → Service → Type 0
@@ -132,7 +133,7 @@ module _ (s : State) (sorted : IsStrictlySortedBy key_cmp (keys_of s.held.servic
   expired_by true = held-as _ _ _ _ (held_at-expired key_cmp s.held.services key) refl (at-version here 0 (claims_of key s.claims) all)
   expired_by false = all
 
-  one_expired : (group : Group) → AreClaims (held_at key_cmp (core_expired s group).held.services key) (claims_of key (core_expired s group).claims)
+  one_expired : (group : ListGroup) → AreClaims (held_at key_cmp (core_expired s group).held.services key) (claims_of key (core_expired s group).claims)
   one_expired group = expired_by (same_group group groups.Service)
 
   -- ---- a reply
@@ -191,7 +192,7 @@ module _ (s : State) (sorted : IsStrictlySortedBy key_cmp (keys_of s.held.servic
       held-as _ _ _ _ refl (claims_of-doubted s.claims put.key key put.holding (put_terms s.held put))
       (doubted_by (same_key put.key key) put.key put.holding (put_terms s.held put))
 
-held-claims : (class : Option (List ℕ)) (run : List Entry) → IsRun class run → (key : Key)
+held-claims : (class : Option (List ℕ)) (run : List TranscriptEntry) → IsRun class run → (key : Key)
     → AreClaims (held_at key_cmp (core_after class run).held.services key) (claims_of key (core_after class run).claims)
 held-claims class [] is key = none-held []
 held-claims class (Took event ∷ earlier) is key =
@@ -204,11 +205,6 @@ held-claims class (Turned turn ∷ earlier) is key = held-claims class earlier i
 held-claims class (Heard reply ∷ earlier) is key =
     heard (core_after class earlier) (sorted-services (core_after class earlier) (observed earlier) (core_holds_what_was_observed class earlier is.1).0) key
     (held-claims class earlier is.1 key) (core_after class earlier).out reply
-
-held-of : (found : Option (Versioned Service)) (service : Service) → option_map (λ (h : Versioned Service). h.object) found ≡ Some service
-    → (h : Versioned Service) × (found ≡ Some h) × (h.object ≡ service)
-held-of None service e = absurd (cc)
-held-of (Some h) service e = (h, refl, cc)
 
 pub services_are_claimed : ServicesAreClaimed
 services_are_claimed class run is key service found has =

@@ -2,8 +2,8 @@
 use Rattle.std.proofs.Common.{◌≡◌, ℕ, false, List, [], ◌∷◌, Option, Some, None, refl, ap, ◌∙◌}
 use Rattle.kube_model.specs.declared.event.Event.{Event}
 use Rattle.kube_model.specs.declared.event.Event.TheVariants.{Expired as WatchesExpired}
-use Rattle.kube_model.specs.declared.event.Group.{Group}
-use Rattle.kube_model.specs.declared.event.Group.TheVariants as groups
+use Rattle.kube_model.specs.declared.event.ListGroup.{ListGroup}
+use Rattle.kube_model.specs.declared.event.ListGroup.TheVariants as groups
 use Rattle.kube_model.specs.declared.put.Put.{Put}
 use Rattle.kube_model.specs.declared.reply.PutReply.{PutReply}
 use Rattle.kube_model.specs.declared.reply.PutReply.TheVariants.{Ok as StoredReply, Stale, Missing, Unknown}
@@ -12,7 +12,7 @@ use Rattle.object_history.specs.Observations.{Watched, WatchExpired}
 use Rattle.core_rules.specs.Core.{State}
 use Rattle.core_rules.specs.Take.{core_by, core_take}
 use Rattle.core_rules.specs.Replied.{replied_to}
-use Rattle.core_rules.specs.Run.{Entry, Took, Expired, Turned, Heard, core_after}
+use Rattle.core_rules.specs.Run.{TranscriptEntry, Took, Expired, Turned, Heard, core_after}
 use Rattle.core_rules.proofs.Effects.{by_effect, config-endpoints}
 use Rattle.core_laws.specs.Expired.{ExpiredIsBoth}
 
@@ -30,7 +30,7 @@ took-none s none = by_effect (λ event c. HasNoEndpoints (core_by c s event).hel
     (record { slices = rw none.slices refl; unended = refl })
     (λ event. none)
 
-expired-none : (group : Group) (held : Cached) → HasNoEndpoints held → HasNoEndpoints (cached_after (WatchExpired group) held)
+expired-none : (group : ListGroup) (held : Cached) → HasNoEndpoints held → HasNoEndpoints (cached_after (WatchExpired group) held)
 expired-none groups.Config held none = record { slices = none.slices; unended = none.unended }
 expired-none groups.Service held none = record { slices = none.slices; unended = none.unended }
 expired-none groups.Endpoint held none = record { slices = rw none.slices refl; unended = refl }
@@ -43,7 +43,7 @@ heard-none (Some put) Missing s none = none
 heard-none (Some put) Unknown s none = none
 
 -- a controller holds nothing of endpoints
-pub runs-no_endpoints : (class : Option (List ℕ)) (run : List Entry) → HasNoEndpoints (core_after class run).held
+pub runs-no_endpoints : (class : Option (List ℕ)) (run : List TranscriptEntry) → HasNoEndpoints (core_after class run).held
 runs-no_endpoints class [] = record { slices = refl; unended = refl }
 runs-no_endpoints class (Took event ∷ earlier) = took-none (core_after class earlier) (runs-no_endpoints class earlier) event
 runs-no_endpoints class (Expired group ∷ earlier) = expired-none group (core_after class earlier).held (runs-no_endpoints class earlier)

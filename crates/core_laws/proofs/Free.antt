@@ -1,6 +1,7 @@
 -- No key is chosen for while it awaits a newer event.
 use Rattle.std.proofs.Common.{◌≡◌, ℕ, Bool, true, false, cond, ◌||◌, List, [], ◌∷◌, ◌++◌, Option, Some, None, is_some, refl, sym, ap, subst, ◌∙◌}
-use Rattle.std.proofs.lemmas.Bool.{true≢false}
+use Rattle.std.proofs.lemmas.Bool.{true≢false, or_right, false_from_ne_true}
+use Rattle.std.proofs.Math.Bool.{or-false}
 use Rattle.kube_model.specs.declared.key.Key.{Key}
 use Rattle.kube_model.specs.declared.put.Put.{Put}
 use Rattle.kube_model.specs.declared.reason.Reason.{Reason}
@@ -19,12 +20,12 @@ use Rattle.core_rules.specs.declared.turn.Turn.TheVariants.{NoPut, Wants}
 use Rattle.core_rules.specs.Core.{State, is_ready, service_of, waiting}
 use Rattle.core_rules.specs.Turn.{turn_of, turn_at, rest_of, put_in, wanted_record, chosen_at}
 use Rattle.core_rules.specs.Replied.{replied_to, put_terms}
-use Rattle.core_rules.specs.Run.{Entry, Took, Expired, Turned, Heard, core_after, IsRun, observed}
+use Rattle.core_rules.specs.Run.{TranscriptEntry, Took, Expired, Turned, Heard, core_after, IsRun, observed}
 use Rattle.core_rules.proofs.Runs.{core_holds_what_was_observed}
 use Rattle.core_laws.specs.Queue.{AreApart}
 use Rattle.core_laws.specs.Waits.{is_turn_of, TurnsAreOfFreeKeys}
 use Rattle.core_laws.proofs.Awaiting.{awaiting-is}
-use Rattle.core_laws.proofs.QueueOnce.{no-true, waiting-new}
+use Rattle.core_laws.proofs.QueueOnce.{waiting-new}
 use Rattle.core_laws.proofs.Orderly.{AreAdded, IsInOrder, added, new-added, empty-order, sorted-services, took-order}
 use Rattle.core_laws.proofs.Puts.{IsWanted, wanted-of}
 use Rattle.core_laws.proofs.QuietRuns.{wants-some, none-some}
@@ -44,13 +45,9 @@ expired-order true queue awaiting o = o
 expired-order false queue awaiting o = empty-order awaiting
 
 -- ---- a turn
-there-behind : (a b : Bool) → b ≡ true → (a || b) ≡ true
-there-behind true b e = refl
-there-behind false b e = e
-
 rest-order : (queue awaiting : List Key) → IsInOrder queue awaiting → IsInOrder (rest_of queue) awaiting
 rest-order [] awaiting o = o
-rest-order (k ∷ keys) awaiting o = record { once = o.once.1; free = λ key there. o.free key (there-behind (same_key k key) (has_key keys key) there) }
+rest-order (k ∷ keys) awaiting o = record { once = o.once.1; free = λ key there. o.free key (or_right (same_key k key) (has_key keys key) there) }
 
 turned-orderly : (s : State) → IsInOrder s.queue s.awaiting → IsOrderly (rest_of s.queue) s.awaiting (put_in (turn_of s s.queue))
 turned-orderly s o =
@@ -67,16 +64,12 @@ turned-orderly s o =
     }
 
 -- ---- a reply
-only-one : (a : Bool) → (a || false) ≡ true → a ≡ true
-only-one true e = refl
-only-one false e = absurd (cc)
-
 one-added : (k : Key) (queue awaiting : List Key) → has_key queue k ≡ false → has_key awaiting k ≡ false → AreAdded (k ∷ []) queue awaiting
 one-added k queue awaiting q a =
     record {
       once = (refl, tt);
-      unqueued = λ key there. subst (λ x. has_key queue x ≡ false) (same_key-is k key (only-one (same_key k key) there)) q;
-      unawaited = λ key there. subst (λ x. has_key awaiting x ≡ false) (same_key-is k key (only-one (same_key k key) there)) a;
+      unqueued = λ key there. subst (λ x. has_key queue x ≡ false) (same_key-is k key (sym (or-false (same_key k key)) ∙ there)) q;
+      unawaited = λ key there. subst (λ x. has_key awaiting x ≡ false) (same_key-is k key (sym (or-false (same_key k key)) ∙ there)) a;
     }
 
 or-none : (a b : Bool) → a ≡ false → b ≡ false → (a || (b || false)) ≡ false
@@ -91,7 +84,7 @@ refused-order queue awaiting k o q =
       free = λ key there.
           has_key-append awaiting (k ∷ []) key
           ∙ or-none (has_key awaiting key) (same_key k key) (o.free key there)
-          (no-true (same_key k key) (λ same. true≢false (sym there ∙ subst (λ x. has_key queue x ≡ false) (same_key-is k key same) q)));
+          (false_from_ne_true (same_key k key) (λ same. true≢false (sym there ∙ subst (λ x. has_key queue x ≡ false) (same_key-is k key same) q)));
     }
 
 heard-orderly : (out : Option Put) (reply : PutReply) (s : State) (observations : List Observation) → s.held ≡ cached observations → s.out ≡ out
@@ -109,7 +102,7 @@ heard-orderly (Some put) Missing s observations e o there i = not-out _ _ None r
 heard-orderly (Some put) Unknown s observations e o there i =
     not-out _ _ None refl (added s.queue (put.key ∷ []) s.awaiting i.order (one-added put.key s.queue s.awaiting (i.out_queue put o) (i.out_free put o)))
 
-pub runs-orderly : (class : Option (List ℕ)) (run : List Entry) → IsRun class run
+pub runs-orderly : (class : Option (List ℕ)) (run : List TranscriptEntry) → IsRun class run
     → IsOrderly (core_after class run).queue (core_after class run).awaiting (core_after class run).out
 runs-orderly class [] is = not-out [] [] None refl (empty-order [])
 runs-orderly class (Took event ∷ earlier) is =

@@ -15,13 +15,13 @@ use Rattle.kube_model.specs.Keys.{key_cmp}
 use Rattle.kube_model.specs.Service.{with_holding}
 use Rattle.kube_model.proofs.KeyLaws.{key_cmp-exact}
 use Rattle.versioned_map.specs.declared.map.Versioned.{Versioned}
-use Rattle.versioned_map.specs.Entries.{at_version, held_at}
+use Rattle.versioned_map.specs.Objects.{at_version, held_at}
 use Rattle.object_history.specs.Observations.{Observation, Watched, WatchExpired, Written}
 use Rattle.object_history.specs.Kinds.{service_resource}
 use Rattle.object_history.specs.LookBack.{object_in, held_on, expires, record_in, written_over, version_of, newer_than, last_shown}
 use Rattle.core_rules.specs.Core.{service_of}
 use Rattle.core_rules.specs.Take.{Effect, Shows, Drops, EndsServices, Configures, Expires, Nothing, effect_of}
-use Rattle.core_rules.specs.Run.{Entry, Took, Expired, Turned, Heard, core_after, IsRun, observed, told_by, heard_by, heard_of, put_out}
+use Rattle.core_rules.specs.Run.{TranscriptEntry, Took, Expired, Turned, Heard, core_after, IsRun, observed, told_by, heard_by, heard_of, put_out}
 use Rattle.core_laws.specs.Shown.{OfEffect, HoldsOfShown}
 use Rattle.core_rules.proofs.Claims.{shown-held}
 use Rattle.core_rules.proofs.Effects.{by_effect}
@@ -132,14 +132,14 @@ module _ (P : Key → Service → Type 0) where
     heard-all None reply earlier all = all
     heard-all (Some put) reply earlier all = replied-all put reply earlier all
 
-    pub observed-all : (run : List Entry) → HoldsOfShown P run → OfAll (observed run)
+    pub observed-all : (run : List TranscriptEntry) → HoldsOfShown P run → OfAll (observed run)
     observed-all [] all = tt
     observed-all (Took event ∷ earlier) all = told-all (effect_of event) event (observed earlier) (λ p. p) all.0 (observed-all earlier all.1)
     observed-all (Expired group ∷ earlier) all = (tt, observed-all earlier all.1)
     observed-all (Turned turn ∷ earlier) all = observed-all earlier all.1
     observed-all (Heard reply ∷ earlier) all = heard-all (put_out earlier) reply (observed earlier) (observed-all earlier all.1)
 
-    pub held-holds : (class : Option (List ℕ)) (run : List Entry) → IsRun class run → HoldsOfShown P run → (key : Key) (service : Service)
+    pub held-holds : (class : Option (List ℕ)) (run : List TranscriptEntry) → IsRun class run → HoldsOfShown P run → (key : Key) (service : Service)
         → service_of (core_after class run).held key ≡ Some service → P key service
     held-holds class run is all key service found =
         object-holds (held_at key_cmp (core_after class run).held.services key) key service
@@ -149,13 +149,13 @@ module _ (P : Key → Service → Type 0) where
 own-key : (event : Event) → OfEffect (λ key service. service.key ≡ key) (effect_of event)
 own-key = by_effect (λ event c. OfEffect (λ key service. service.key ≡ key) c) (λ version service. refl) (λ key. tt) tt (λ event c. tt) tt (λ event. tt)
 
-pub own-keys : (run : List Entry) → HoldsOfShown (λ key service. service.key ≡ key) run
+pub own-keys : (run : List TranscriptEntry) → HoldsOfShown (λ key service. service.key ≡ key) run
 own-keys [] = tt
 own-keys (Took event ∷ earlier) = (own-key event, own-keys earlier)
 own-keys (Expired group ∷ earlier) = (tt, own-keys earlier)
 own-keys (Turned turn ∷ earlier) = (tt, own-keys earlier)
 own-keys (Heard reply ∷ earlier) = (tt, own-keys earlier)
 
-pub service-key : (class : Option (List ℕ)) (run : List Entry) → IsRun class run → (key : Key) (service : Service)
+pub service-key : (class : Option (List ℕ)) (run : List TranscriptEntry) → IsRun class run → (key : Key) (service : Service)
     → service_of (core_after class run).held key ≡ Some service → service.key ≡ key
 service-key class run is key service found = held-holds (λ k s. s.key ≡ k) (λ k s holding p. p) class run is (own-keys run) key service found

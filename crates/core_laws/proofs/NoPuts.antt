@@ -7,7 +7,7 @@ use Rattle.kube_model.specs.Keys.{key_cmp, has_key}
 use Rattle.kube_model.specs.Records.{same_record}
 use Rattle.kube_model.proofs.KeyLaws.{same_key-itself}
 use Rattle.kube_model.proofs.RecordLaws.{same_record-is}
-use Rattle.versioned_map.specs.Entries.{version_at}
+use Rattle.versioned_map.specs.Objects.{version_at}
 use Rattle.core_rules.specs.declared.turn.Turn.TheVariants.{Idle, NoPut, Wants}
 use Rattle.core_rules.specs.Core.{State, service_of}
 use Rattle.core_rules.specs.Turn.{chosen_at, reason_in, turn_at, turn_of, wanted_record}

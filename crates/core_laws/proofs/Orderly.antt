@@ -1,15 +1,16 @@
 -- Along a run the queue has each key once, and none that awaits a newer event or is being written.
-use Rattle.std.proofs.Common.{◌≡◌, Bool, true, false, cond, not, ◌&&◌, ◌||◌, List, [], ◌∷◌, ◌++◌, filter, Some, is_some, refl, sym, ap, subst, ◌∙◌}
-use Rattle.std.proofs.lemmas.Bool.{true≢false}
+use Rattle.std.proofs.Common.{◌≡◌, Bool, true, false, cond, not, ◌&&◌, ◌||◌, List, [], ◌∷◌, ◌++◌, filter, is_some, refl, sym, ap, subst, ◌∙◌}
+use Rattle.std.proofs.lemmas.Bool.{true≢false, false_from_ne_true, and_parts, not-true}
 use Rattle.std.specs.List.Sorted.{IsStrictlySortedBy}
 use Rattle.std.specs.Map.{keys_of}
+use Rattle.std.proofs.lemmas.Option.{same_Some}
 use Rattle.kube_model.specs.declared.event.Event.{Event}
 use Rattle.kube_model.specs.declared.event.Event.TheVariants.{ListEnd}
-use Rattle.kube_model.specs.declared.event.Group.TheVariants as groups
+use Rattle.kube_model.specs.declared.event.ListGroup.TheVariants as groups
 use Rattle.kube_model.specs.declared.key.Key.{Key}
 use Rattle.kube_model.specs.declared.service.Service.{Service}
 use Rattle.versioned_map.specs.declared.map.Versioned.{Versioned}
-use Rattle.versioned_map.specs.Entries.{is_newer, listed}
+use Rattle.versioned_map.specs.Objects.{is_newer, listed}
 use Rattle.object_history.specs.Cache.{Cached, cached, cached_after}
 use Rattle.object_history.specs.Observations.{Observation, Watched}
 use Rattle.kube_model.specs.Keys.{key_cmp, same_key, has_key, without}
@@ -18,7 +19,7 @@ use Rattle.kube_model.proofs.KeyLaws.{key_cmp-total, same_key-is}
 use Rattle.object_history.proofs.Force.{all_is_as_shown}
 use Rattle.object_history.proofs.Held.{ascending-held_after}
 use Rattle.object_cache.specs.Change.{applied}
-use Rattle.object_cache.specs.Told.{passing}
+use Rattle.object_cache.specs.Stays.{passing}
 use Rattle.kube_model.specs.Records.{is_assigned}
 use Rattle.claim_index.specs.Claims.{loses, has_claims}
 use Rattle.core_rules.specs.Core.{State, is_ready, is_free_with, all_free, waiting, shown_terms}
@@ -27,8 +28,8 @@ use Rattle.core_rules.specs.Take.{core_by, core_take, no_key, is_unlisted, liste
 use Rattle.core_rules.proofs.Effects.{by_effect}
 use Rattle.core_laws.specs.Queue.{AreApart, NoneAmong}
 use Rattle.core_laws.proofs.Awaiting.{has_key-without}
-use Rattle.core_laws.proofs.QueueOnce.{AreNew, apart-append, among-append, apart-kept, kept-among, among-kept, no-true}
-use Rattle.core_laws.proofs.QueueOnce.{none-new, waiting-new, passing-apart, passing-found, and-left, free-parts, not-true}
+use Rattle.core_laws.proofs.QueueOnce.{AreNew, apart-append, among-append, apart-kept, kept-among, among-kept}
+use Rattle.core_laws.proofs.QueueOnce.{none-new, waiting-new, passing-apart, passing-found, free-parts}
 
 -- The additions are in order: each key once, none queued, none awaiting.
 pub record AreAdded (more queue awaiting : List Key) : Type 0 where
@@ -64,11 +65,11 @@ added-fewer test queue more awaiting a =
 free-is : (b : Bool) (queue awaiting : List Key) (key : Key) (service : Service) → is_free_with queue awaiting b key service ≡ true
     → (has_key queue key ≡ false) × (has_key awaiting key ≡ false) × (is_assigned service.holding ≡ b)
 free-is true queue awaiting key service e =
-    let parts = and-left (not (has_key queue key) && not (has_key awaiting key)) (is_assigned service.holding) e in
+    let parts = and_parts (not (has_key queue key) && not (has_key awaiting key)) (is_assigned service.holding) e in
     let two = free-parts (has_key queue key) (has_key awaiting key) parts.0 in
     (two.0, two.1, parts.1)
 free-is false queue awaiting key service e =
-    let parts = and-left (not (has_key queue key) && not (has_key awaiting key)) (not (is_assigned service.holding)) e in
+    let parts = and_parts (not (has_key queue key) && not (has_key awaiting key)) (not (is_assigned service.holding)) e in
     let two = free-parts (has_key queue key) (has_key awaiting key) parts.0 in
     (two.0, two.1, not-true (is_assigned service.holding) parts.1)
 
@@ -81,9 +82,6 @@ free-with b queue awaiting es s =
       unawaited = λ key there. (let found = passing-found (is_free_with queue awaiting b) es s key there in (free-is b queue awaiting key found.0 found.2).1);
     }
 
-same-service : (x y : Service) → Some x ≡ Some y → x ≡ y
-same-service x y e = cc
-
 free-added : (queue awaiting : List Key) (es : List (Key × Versioned Service)) → IsStrictlySortedBy key_cmp (keys_of es)
     → AreAdded (all_free queue awaiting es) queue awaiting
 free-added queue awaiting es s =
@@ -91,10 +89,10 @@ free-added queue awaiting es s =
     let two = free-with false queue awaiting es s in
     let mine = passing (is_free_with queue awaiting true) es in
     let others = passing (is_free_with queue awaiting false) es in
-    let disjoint : NoneAmong others mine = λ key there. no-true (has_key mine key) (λ here.
+    let disjoint : NoneAmong others mine = λ key there. false_from_ne_true (has_key mine key) (λ here.
     (let a = passing-found (is_free_with queue awaiting true) es s key here in
     let b = passing-found (is_free_with queue awaiting false) es s key there in
-    let is : a.0 ≡ b.0 = same-service a.0 b.0 (sym a.1 ∙ b.1) in
+    let is : a.0 ≡ b.0 = same_Some a.0 b.0 (sym a.1 ∙ b.1) in
     true≢false
     (sym (free-is true queue awaiting key a.0 a.2).2 ∙ ap (λ (x : Service). is_assigned x.holding) is ∙ (free-is false queue awaiting key b.0 b.2).2))) in
     record {
@@ -126,7 +124,7 @@ own-added own queue awaiting =
 
 not-own : (own : Key) (queue : List Key) (key : Key) → same_key own key ≡ false → has_key (own_key own queue) key ≡ false
 not-own own queue key apart_key =
-    no-true (has_key (own_key own queue) key) (λ there. true≢false (sym (own-same (has_key queue own) own key there).1 ∙ apart_key))
+    false_from_ne_true (has_key (own_key own queue) key) (λ there. true≢false (sym (own-same (has_key queue own) own key there).1 ∙ apart_key))
 
 both-added : (own : Key) (queue awaiting more : List Key) → AreNew more queue awaiting (same_key own)
     → AreAdded (own_key own queue ++ more) queue (without own awaiting)

@@ -12,7 +12,7 @@ use Rattle.kube_model.specs.declared.reply.PutReply.{PutReply}
 use Rattle.kube_model.specs.declared.reply.PutReply.TheVariants.{Ok as StoredReply, Stale, Missing, Unknown}
 use Rattle.kube_model.specs.declared.service.Service.{Service}
 use Rattle.versioned_map.specs.declared.map.Versioned.{Versioned}
-use Rattle.versioned_map.specs.Entries.{held_at, version_at}
+use Rattle.versioned_map.specs.Objects.{held_at, version_at}
 use Rattle.pool_config.specs.ConfigValue.{ConfigValue}
 use Rattle.kube_labels.specs.Names.{name_cmp}
 use Rattle.object_history.specs.Cache.{Cached, cached}
@@ -38,7 +38,7 @@ use Rattle.core_rules.specs.Core.{State, is_ready, service_of, labels_of, offer_
 use Rattle.core_rules.specs.Take.{core_by, core_take}
 use Rattle.core_rules.specs.Turn.{wanted_record, reason_in, chosen_at, turn_at, turn_of}
 use Rattle.core_rules.specs.Replied.{replied_to}
-use Rattle.core_rules.specs.Run.{Entry, Took, Expired, Turned, Heard, core_after, IsRun, observed, claims_shown}
+use Rattle.core_rules.specs.Run.{TranscriptEntry, Took, Expired, Turned, Heard, core_after, IsRun, observed, claims_shown}
 use Rattle.core_rules.proofs.Claims.{shown-held, claims_are_shown}
 use Rattle.core_rules.proofs.Effects.{by_effect}
 use Rattle.core_rules.proofs.Runs.{core_holds_what_was_observed}
@@ -57,7 +57,7 @@ heard-class (Some put) Stale s = refl
 heard-class (Some put) Missing s = refl
 heard-class (Some put) Unknown s = refl
 
-pub class-is : (class : Option (List ℕ)) (run : List Entry) → (core_after class run).class ≡ class
+pub class-is : (class : Option (List ℕ)) (run : List TranscriptEntry) → (core_after class run).class ≡ class
 class-is class [] = refl
 class-is class (Took event ∷ earlier) = took-class (core_after class earlier) event ∙ class-is class earlier
 class-is class (Expired group ∷ earlier) = class-is class earlier
@@ -123,7 +123,7 @@ labels-within : (found : Option (Versioned Namespace)) → option_map_or (λ (n 
 labels-within None = refl
 labels-within (Some h) = refl
 
-pub labels-shown : (class : Option (List ℕ)) (run : List Entry) → IsRun class run → (name : List ℕ)
+pub labels-shown : (class : Option (List ℕ)) (run : List TranscriptEntry) → IsRun class run → (name : List ℕ)
     → labels_of (core_after class run).held name ≡ labels_shown name (observed run)
 labels-shown class run is name =
     ap (λ (h : Cached). labels_of h name) (core_holds_what_was_observed class run is).0
@@ -175,7 +175,7 @@ idle-queue s (key ∷ keys) e = absurd (busy-at (service_of s.held key) s key e)
 turn-queue : (s : State) (queue : List Key) (turn : Turn) → turn ≡ turn_of s queue → turn ≢ Idle → queue ≢ []
 turn-queue s queue turn e busy none = busy (e ∙ ap (turn_of s) none)
 
-pub ready-run : (class : Option (List ℕ)) (turn : Turn) (earlier : List Entry) → IsRun class (Turned turn ∷ earlier) → turn ≢ Idle
+pub ready-run : (class : Option (List ℕ)) (turn : Turn) (earlier : List TranscriptEntry) → IsRun class (Turned turn ∷ earlier) → turn ≢ Idle
     → IsReadyAt (core_after class earlier).held
 ready-run class turn earlier is busy =
     let s = core_after class earlier in
@@ -200,14 +200,14 @@ differs-from : (a b : Record) → same_record a b ≡ false → a ≢ b
 differs-from a b d e = true≢false (sym (subst (λ x. same_record a x ≡ true) e (same_record-itself a)) ∙ d)
 
 -- What is decided for a held service, in the words of the look back.
-pub record IsDecidedAs (class : Option (List ℕ)) (key : Key) (pending : Option Reason) (earlier : List Entry) (service : Service) : Type 0 where
+pub record IsDecidedAs (class : Option (List ℕ)) (key : Key) (pending : Option Reason) (earlier : List TranscriptEntry) (service : Service) : Type 0 where
   pub right : IsRightDecision class key pending earlier
   pub object_is : service ≡ right.held.object
   pub version_is : version_at key_cmp (core_after class earlier).held.services key ≡ right.held.version
   pub choice_is : chosen_at (core_after class earlier) service ≡ right.choice
 
 -- a turn that isn't idle decides by what the look back shows
-pub decided : (class : Option (List ℕ)) (turn : Turn) (earlier : List Entry) → IsRun class (Turned turn ∷ earlier) → turn ≢ Idle
+pub decided : (class : Option (List ℕ)) (turn : Turn) (earlier : List TranscriptEntry) → IsRun class (Turned turn ∷ earlier) → turn ≢ Idle
     → (key : Key) (pending : Option Reason) (service : Service) → service_of (core_after class earlier).held key ≡ Some service
     → pending ≡ reason_in (chosen_at (core_after class earlier) service) → IsDecidedAs class key pending earlier service
 decided class turn earlier is busy key pending service there reason =
@@ -248,7 +248,7 @@ decided class turn earlier is busy key pending service there reason =
     }
 
 -- so the record that is wanted is the one that the look back wants
-pub wanted-as : (class : Option (List ℕ)) (key : Key) (pending : Option Reason) (earlier : List Entry) (service : Service)
+pub wanted-as : (class : Option (List ℕ)) (key : Key) (pending : Option Reason) (earlier : List TranscriptEntry) (service : Service)
     (d : IsDecidedAs class key pending earlier service)
     → wanted_record service.holding (chosen_at (core_after class earlier) service) ≡ wanted_record d.right.held.object.holding d.right.choice
 wanted-as class key pending earlier service d =

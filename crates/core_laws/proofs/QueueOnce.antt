@@ -1,7 +1,7 @@
 -- The queue has each key once, and none that awaits a newer event or is being written.
-use Rattle.std.proofs.Common.{◌≡◌, ℕ, Bool, true, false, cond, not, ◌&&◌, ◌||◌, List, [], ◌∷◌, ◌++◌, filter, Option}
-use Rattle.std.proofs.Common.{Some, Less, Equal, is_eq, option_map, ◌⊎◌, inl, inr, ⊎_elim, refl, sym, ap, subst, ◌∙◌}
-use Rattle.std.proofs.lemmas.Bool.{true≢false}
+use Rattle.std.proofs.Common.{◌≡◌, ℕ, Bool, true, false, cond, not, ◌&&◌, ◌||◌, List, [], ◌∷◌, ◌++◌, filter}
+use Rattle.std.proofs.Common.{Option, Some, Less, Equal, is_eq, option_map, ⊎_elim, refl, sym, ap, subst, ◌∙◌}
+use Rattle.std.proofs.lemmas.Bool.{true≢false, or_cases, or_from, or_right, false_from_ne_true}
 use Rattle.std.specs.Cmp.{Equal-is, tied_itself}
 use Rattle.std.specs.List.{AllByRecursion}
 use Rattle.std.specs.List.Sorted.{IsStrictlySortedBy}
@@ -10,47 +10,31 @@ use Rattle.kube_model.specs.declared.key.Key.{Key}
 use Rattle.kube_model.specs.declared.service.Service.{Service}
 use Rattle.kube_model.specs.Service.{is_handled}
 use Rattle.versioned_map.specs.declared.map.Versioned.{Versioned}
-use Rattle.versioned_map.specs.Entries.{held_at, object_at}
+use Rattle.versioned_map.specs.Objects.{held_at, object_at}
 use Rattle.kube_model.specs.Keys.{key_cmp, same_key, has_key}
-use Rattle.kube_model.proofs.KeyLaws.{key_cmp-total, key_cmp-exact, same_key-is, same_key-itself}
-use Rattle.object_cache.specs.Told.{passing}
+use Rattle.kube_model.proofs.KeyLaws.{key_cmp-total, key_cmp-exact, same_key-is, same_key-itself, same_key-flip}
+use Rattle.object_cache.specs.Stays.{passing}
 use Rattle.kube_model.specs.Records.{empty_record, same_record}
 use Rattle.core_rules.specs.Core.{waits, waiting}
 use Rattle.core_laws.specs.Queue.{AreApart, NoneAmong}
-use Rattle.core_laws.proofs.Awaiting.{has_key-kept, flip}
+use Rattle.core_laws.proofs.Awaiting.{has_key-kept}
 use Rattle.core_laws.proofs.QuietReplies.{apart}
 use Rattle.core_laws.proofs.Rows.{has_key-append, passing-cons}
 
-pub or-either : (a b : Bool) → (a || b) ≡ true → (a ≡ true) ⊎ (b ≡ true)
-or-either true b e = inl refl
-or-either false b e = inr e
-
-or-false : (a b : Bool) → a ≡ false → b ≡ false → (a || b) ≡ false
-or-false true b x y = x
-or-false false b x y = y
-
--- nothing is both so and not so
-pub no-true : (b : Bool) → (b ≡ true → ⊥) → b ≡ false
-no-true true n = absurd (n refl)
-no-true false n = refl
-
 pub among-append : (xs ys others : List Key) → NoneAmong xs others → NoneAmong ys others → NoneAmong (xs ++ ys) others
 among-append xs ys others x y key there =
-    ⊎_elim (λ here. x key here) (λ here. y key here) (or-either (has_key xs key) (has_key ys key) (sym (has_key-append xs ys key) ∙ there))
+    ⊎_elim (λ here. x key here) (λ here. y key here) (or_cases (has_key xs key) (has_key ys key) (sym (has_key-append xs ys key) ∙ there))
 
 apart-by : (xs ys : List Key) (k : Key) → has_key xs k ≡ false → has_key ys k ≡ false → has_key (xs ++ ys) k ≡ false
-apart-by xs ys k x y = has_key-append xs ys k ∙ or-false (has_key xs k) (has_key ys k) x y
+apart-by xs ys k x y = has_key-append xs ys k ∙ or_from (has_key xs k) (has_key ys k) x y
 
 head-false : (xs ys : List Key) (k : Key) → NoneAmong ys (k ∷ xs) → has_key ys k ≡ false
 head-false xs ys k none =
-    no-true (has_key ys k) (λ there. true≢false (sym (ap (λ b. b || has_key xs k) (same_key-itself k)) ∙ none k there))
+    false_from_ne_true (has_key ys k) (λ there. true≢false (sym (ap (λ b. b || has_key xs k) (same_key-itself k)) ∙ none k there))
 
 tail-none : (xs ys : List Key) (k : Key) → NoneAmong ys (k ∷ xs) → NoneAmong ys xs
-tail-none xs ys k none key there = no-true (has_key xs key) (λ here. true≢false (sym (or-there (same_key k key) (has_key xs key) here) ∙ none key there))
-  where
-    or-there : (a b : Bool) → b ≡ true → (a || b) ≡ true
-    or-there true b e = refl
-    or-there false b e = e
+tail-none xs ys k none key there =
+    false_from_ne_true (has_key xs key) (λ here. true≢false (sym (or_right (same_key k key) (has_key xs key) here) ∙ none key there))
 
 pub apart-append : (xs ys : List Key) → AreApart xs → AreApart ys → NoneAmong ys xs → AreApart (xs ++ ys)
 apart-append [] ys x y none = y
@@ -92,7 +76,7 @@ less-by false k y b l = refl
 
 below-by : (b : Bool) (e : Key × Versioned Service) (rest : List Key) (k : Key) → same_key e.0 k ≡ false → has_key rest k ≡ false
     → has_key (cond b (e.0 ∷ rest) rest) k ≡ false
-below-by true e rest k x y = or-false (same_key e.0 k) (has_key rest k) x y
+below-by true e rest k x y = or_from (same_key e.0 k) (has_key rest k) x y
 below-by false e rest k x y = y
 
 module _ (test : Key → Service → Bool) where
@@ -134,7 +118,7 @@ pub eq-by : (b : Bool) (k key : Key) → b ≡ is_eq (key_cmp key k) → b ≡ s
 eq-by true k key b =
     let is : key ≡ k = key_cmp-exact key k ((Equal-is (key_cmp key k)).0 (sym b)) in
     sym (subst (λ x. same_key k x ≡ true) (sym is) (same_key-itself k))
-eq-by false k key b = sym (apart key k (sym b)) ∙ flip key k
+eq-by false k key b = sym (apart key k (sym b)) ∙ same_key-flip key k
 
 map-cond : (b : Bool) (v : Versioned Service) (found : Option (Versioned Service))
     → option_map (λ (h : Versioned Service). h.object) (cond b (Some v) found) ≡ cond b (Some v.object) (option_map (λ (h : Versioned Service). h.object) found)
@@ -154,14 +138,6 @@ passing-found test (e ∷ es) s key there =
     (passing-found test es s.1 key)
     (ap (λ (ks : List Key). has_key ks key) (sym (passing-of test e es)) ∙ there) in
     (found.0, map-cond (is_eq (key_cmp key e.0)) e.1 (held_at key_cmp es key) ∙ found.1, found.2)
-
-pub and-left : (a b : Bool) → (a && b) ≡ true → (a ≡ true) × (b ≡ true)
-and-left true b e = (refl, e)
-and-left false b e = absurd (cc)
-
-pub not-true : (b : Bool) → not b ≡ true → b ≡ false
-not-true true e = absurd (cc)
-not-true false e = refl
 
 pub free-parts : (q a : Bool) → (not q && not a) ≡ true → (q ≡ false) × (a ≡ false)
 free-parts false false e = (refl, refl)

@@ -5,9 +5,11 @@ use Rattle.std.specs.Cmp.{tied_itself}
 use Rattle.std.specs.Option.{option_map_or}
 use Rattle.std.specs.List.Sorted.{IsStrictlySortedBy}
 use Rattle.std.specs.Map.{keys_of}
+use Rattle.std.proofs.lemmas.Bool.{or_right, or_cases}
+use Rattle.std.proofs.Math.Bool.{or-false}
 use Rattle.kube_model.specs.declared.event.Event.{Event}
 use Rattle.kube_model.specs.declared.event.Event.TheVariants.{Deleted, ListEnd}
-use Rattle.kube_model.specs.declared.event.Group.TheVariants as groups
+use Rattle.kube_model.specs.declared.event.ListGroup.TheVariants as groups
 use Rattle.kube_model.specs.declared.key.Key.{Key}
 use Rattle.kube_model.specs.declared.object.Kind.TheVariants as kinds
 use Rattle.kube_model.specs.declared.put.Put.{Put}
@@ -15,9 +17,9 @@ use Rattle.kube_model.specs.declared.reply.PutReply.{PutReply}
 use Rattle.kube_model.specs.declared.reply.PutReply.TheVariants.{Ok as StoredReply, Stale, Missing, Unknown}
 use Rattle.kube_model.specs.declared.service.Service.{Service}
 use Rattle.kube_model.specs.Keys.{key_cmp, same_key, has_key, without}
-use Rattle.kube_model.proofs.KeyLaws.{key_cmp-total, key_cmp-exact, same_key-is}
+use Rattle.kube_model.proofs.KeyLaws.{key_cmp-total, key_cmp-exact, same_key-is, same_key-flip}
 use Rattle.versioned_map.specs.declared.map.Versioned.{Versioned}
-use Rattle.versioned_map.specs.Entries.{held_at, object_at, version_at, is_newer, listed, shown}
+use Rattle.versioned_map.specs.Objects.{held_at, object_at, version_at, is_newer, listed, shown}
 use Rattle.versioned_map.proofs.HeldLaws.{held_at-shown}
 use Rattle.object_history.specs.Cache.{cached_after, held_after}
 use Rattle.object_history.specs.Observations.{Observation, Watched, WatchExpired, Written}
@@ -25,20 +27,20 @@ use Rattle.object_history.specs.Kinds.{service_resource}
 use Rattle.object_history.specs.LookBack.{deletes_key, ends_list, held_on, newer_than, object_in, version_of}
 use Rattle.object_history.proofs.Held.{held_at-held_after, ascending-held_after}
 use Rattle.object_cache.specs.Change.{applied}
-use Rattle.object_cache.specs.Told.{passing}
+use Rattle.object_cache.specs.Stays.{passing}
 use Rattle.claim_index.specs.Claims.{loses, has_claims}
 use Rattle.core_rules.specs.Core.{State, is_ready, is_free_with, all_free, waits, waiting, shown_terms}
 use Rattle.core_rules.specs.Keys.{own_key}
 use Rattle.core_rules.specs.Take.{core_by, core_take, no_key, is_unlisted, listed_keys, have_claims, listed_and_free, own_and_waiting, wakes, shows}
 use Rattle.core_rules.specs.Turn.{turn_of, rest_of, put_in}
 use Rattle.core_rules.specs.Replied.{replied_to, put_terms}
-use Rattle.core_rules.specs.Run.{Entry, Took, Expired, Turned, Heard, core_after, IsRun, observed}
+use Rattle.core_rules.specs.Run.{TranscriptEntry, Took, Expired, Turned, Heard, core_after, IsRun, observed}
 use Rattle.core_rules.proofs.Effects.{by_effect, config-services}
 use Rattle.core_rules.proofs.Runs.{core_holds_what_was_observed, took-out, heard-out}
 use Rattle.core_laws.specs.Queue.{IsHeld, QueuesAreOrderly}
-use Rattle.core_laws.proofs.Awaiting.{has_key-kept, has_key-without, flip}
+use Rattle.core_laws.proofs.Awaiting.{has_key-kept, has_key-without}
 use Rattle.core_laws.proofs.Free.{runs-orderly}
-use Rattle.core_laws.proofs.QueueOnce.{AreNew, or-either, cond-true, eq-by, passing-found, waiting-new}
+use Rattle.core_laws.proofs.QueueOnce.{AreNew, cond-true, eq-by, passing-found, waiting-new}
 use Rattle.core_laws.proofs.Orderly.{own-same, sorted-services}
 use Rattle.core_laws.proofs.Puts.{IsWanted, wanted-of}
 use Rattle.core_laws.proofs.QuietRuns.{wants-some, none-some}
@@ -86,7 +88,7 @@ none-in services key there = absurd (cc)
 
 append-in : (services : List (Key × Versioned Service)) (xs ys : List Key) → AllIn services xs → AllIn services ys → AllIn services (xs ++ ys)
 append-in services xs ys x y key there =
-    ⊎_elim (λ here. x key here) (λ here. y key here) (or-either (has_key xs key) (has_key ys key) (sym (has_key-append xs ys key) ∙ there))
+    ⊎_elim (λ here. x key here) (λ here. y key here) (or_cases (has_key xs key) (has_key ys key) (sym (has_key-append xs ys key) ∙ there))
 
 passing-in : (test : Key → Service → Bool) (services : List (Key × Versioned Service)) → IsStrictlySortedBy key_cmp (keys_of services)
     → AllIn services (passing test services)
@@ -151,7 +153,7 @@ other-stays : (gone key : Key) (services : List (Key × Versioned Service)) → 
     → IsIn services key → IsIn (held_after service_resource (Watched (Deleted kinds.Service gone)) services) key
 other-stays gone key services sorted other there =
     stays (Watched (Deleted kinds.Service gone)) services sorted key
-    (ap (λ b. b || false) (eq-by (is_eq (key_cmp gone key)) key gone refl ∙ flip key gone ∙ other)) there
+    (ap (λ b. b || false) (eq-by (is_eq (key_cmp gone key)) key gone refl ∙ same_key-flip key gone ∙ other)) there
 
 cond-left : (b x : Bool) → cond b false x ≡ true → b ≡ false
 cond-left true x e = absurd (cc)
@@ -216,23 +218,15 @@ pub record AreHeld (s : State) : Type 0 where
   pub queued : (key : Key) → has_key s.queue key ≡ true → IsHeld s key
   pub out : (put : Put) → s.out ≡ Some put → IsHeld s put.key
 
-there-behind : (a b : Bool) → b ≡ true → (a || b) ≡ true
-there-behind true b e = refl
-there-behind false b e = e
-
 rest-in : (services : List (Key × Versioned Service)) (queue : List Key) → AllIn services queue → AllIn services (rest_of queue)
 rest-in services [] all = all
-rest-in services (k ∷ keys) all = λ key there. all key (there-behind (same_key k key) (has_key keys key) there)
+rest-in services (k ∷ keys) all = λ key there. all key (or_right (same_key k key) (has_key keys key) there)
 
 turned-in : (s : State) → AllIn s.held.services s.queue → (put : Put) → put_in (turn_of s s.queue) ≡ Some put → IsHeld s put.key
 turned-in s all put e =
     let wants = wants-some (turn_of s s.queue) put e in
     let w : IsWanted s put wants.0 s.queue = wanted-of s s.queue put wants.0 (sym wants.1) in
     ap is_some w.found
-
-only-one : (a : Bool) → (a || false) ≡ true → a ≡ true
-only-one true e = refl
-only-one false e = absurd (cc)
 
 heard-in : (out : Option Put) (reply : PutReply) (s : State) → IsStrictlySortedBy key_cmp (keys_of s.held.services) → AreHeld s → s.out ≡ out
     → AllIn (replied_to out s reply).held.services (replied_to out s reply).queue
@@ -247,16 +241,12 @@ heard-in (Some put) Stale s sorted held o = held.queued
 heard-in (Some put) Missing s sorted held o = held.queued
 heard-in (Some put) Unknown s sorted held o =
     append-in s.held.services s.queue (put.key ∷ []) held.queued
-    (λ key there. subst (IsIn s.held.services) (same_key-is put.key key (only-one (same_key put.key key) there)) (held.out put o))
+    (λ key there. subst (IsIn s.held.services) (same_key-is put.key key (sym (or-false (same_key put.key key)) ∙ there)) (held.out put o))
 
 no-out : (s : State) → s.out ≡ None → AllIn s.held.services s.queue → AreHeld s
 no-out s n all = record { queued = all; out = λ put e. absurd (none-some s.out put n e) }
 
-expired-in : (b : Bool) (services : List (Key × Versioned Service)) (queue : List Key) → AllIn services queue → AllIn services (cond b queue [])
-expired-in true services queue all = all
-expired-in false services queue all = none-in services
-
-pub runs-held : (class : Option (List ℕ)) (run : List Entry) → IsRun class run → AreHeld (core_after class run)
+pub runs-held : (class : Option (List ℕ)) (run : List TranscriptEntry) → IsRun class run → AreHeld (core_after class run)
 runs-held class [] is = no-out (core_after class []) refl (none-in [])
 runs-held class (Took event ∷ earlier) is =
     let s = core_after class earlier in
@@ -266,7 +256,7 @@ runs-held class (Expired group ∷ earlier) is =
     let s = core_after class earlier in
     let sorted = sorted-services s (observed earlier) (core_holds_what_was_observed class earlier is.1).0 in
     no-out (core_after class (Expired group ∷ earlier)) is.0
-    (expired-in (is_ready (cached_after (WatchExpired group) s.held)) (held_after service_resource (WatchExpired group) s.held.services) s.queue
+    (if-in (is_ready (cached_after (WatchExpired group) s.held)) (held_after service_resource (WatchExpired group) s.held.services) s.queue
     (λ key there. stays (WatchExpired group) s.held.services sorted key refl ((runs-held class earlier is.1).queued key there)))
 runs-held class (Turned turn ∷ earlier) is =
     let s = core_after class earlier in

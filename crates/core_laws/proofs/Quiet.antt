@@ -7,10 +7,10 @@ use Rattle.kube_model.specs.declared.reason.Reason.{Reason}
 use Rattle.kube_model.specs.declared.service.Service.{Service}
 use Rattle.kube_model.specs.Service.{is_handled, same_class}
 use Rattle.versioned_map.specs.declared.map.Versioned.{Versioned}
-use Rattle.versioned_map.specs.Entries.{object_at, version_at}
+use Rattle.versioned_map.specs.Objects.{object_at, version_at}
 use Rattle.object_history.specs.Cache.{Cached}
 use Rattle.kube_model.specs.Keys.{key_cmp, same_key, has_key}
-use Rattle.object_cache.specs.Told.{passing}
+use Rattle.object_cache.specs.Stays.{passing}
 use Rattle.alloc_book.specs.declared.choice.Choice.TheVariants.{Pending}
 use Rattle.alloc_book.specs.Asking.{Offer}
 use Rattle.alloc_book.specs.Chosen.{IsChosen}
@@ -26,7 +26,7 @@ use Rattle.core_rules.specs.Core.{State, is_ready, service_of, offer_in, is_sett
 use Rattle.core_rules.specs.Turn.{wanted_record, reason_in, chosen_at, turn_at, turn_of, rest_of, put_in, after_turn}
 use Rattle.core_laws.specs.Quiet.{MeetsRow, is_put_of, IsQuiet}
 use Rattle.core_laws.proofs.Classes.{same_class-is}
-use Rattle.core_laws.proofs.Rows.{passing-has}
+use Rattle.core_laws.proofs.Rows.{passing-has, handled-by}
 
 -- ---- settled
 settled-by : (r f q a : Bool) → (r && f && (not q && not a)) ≡ true → (r ≡ true) × (q ≡ false) × (a ≡ false)
@@ -106,11 +106,6 @@ turned-quiet s o quiet key service settled out found =
     found parts.1 out
 
 -- ---- what waits is queued where a claim is lost
-pending-balancer : (balancer same : Bool) → (balancer ≡ true → same ≡ false → ⊥) → (balancer ≡ false → ⊥) → (balancer && same) ≡ true
-pending-balancer true true one two = refl
-pending-balancer true false one two = absurd (one refl refl)
-pending-balancer false same one two = absurd (two refl)
-
 -- a lost claim and a place that isn't taken can't be, where the service waits
 pub waits-queued : (class : Option (List ℕ)) (told : Key → Bool) (queue awaiting : List Key) (services : List (Key × Versioned Service)) (key : Key)
     (service : Service)
@@ -126,8 +121,8 @@ pub pending-handled : (has : Holders) (o : Offer) (class : Option (List ℕ)) (s
 pending-handled has o class service reason =
     case-has _ _ _ _ (λ _ is. absurd (cc)) (λ one.
     case-has _ _ _ _ (λ _ is. absurd (cc)) (λ two _.
-    pending-balancer service.balancer (same_class class service.class)
-    (λ b s. one (b, fails (same_class class service.class) (same_class-is class service.class) s)) two))
+    handled-by service.balancer (same_class class service.class) (λ b s. one (b, fails (same_class class service.class) (same_class-is class service.class) s))
+    two))
 
 -- a row that waits is one of a handled service with an empty record
 pub row-handled : (class : Option (List ℕ)) (held : Cached) (has : Holders) (service : Service) (row : MeetsRow class (offer_in held) has service)

@@ -1,7 +1,7 @@
 -- After the end of a list, or a change of the configuration or of a namespace, the settled services meet their rows.
 use Rattle.std.proofs.Common.{arith, ◌≡◌, ℕ, Bool, true, false, cond, leb, eqb, not, ◌&&◌, ◌||◌, List, [], ◌∷◌, ◌++◌, filter, Option}
 use Rattle.std.proofs.Common.{Some, None, is_some, Result, Ok, Err, Ordering, Less, Equal, Greater, option_map, refl, sym, ap, ◌∙◌}
-use Rattle.std.proofs.lemmas.Bool.{true≢false}
+use Rattle.std.proofs.lemmas.Bool.{true≢false, and_parts, and_from, or_parts}
 use Rattle.std.proofs.lemmas.Bool.Decides.{nat_tests}
 use Rattle.std.specs.Ordering.{match_ordering}
 use Rattle.std.specs.Map.{remove_entry}
@@ -10,15 +10,14 @@ use Rattle.std.specs.List.{Contains, list_all}
 use Rattle.kube_model.specs.declared.config_fault.ConfigFault.{ConfigFault}
 use Rattle.kube_model.specs.declared.event.Event.{Event}
 use Rattle.kube_model.specs.declared.event.Event.TheVariants.{Changed, Deleted, ListEnd, Expired, Members, Frame, Ignored}
-use Rattle.kube_model.specs.declared.event.Group.TheVariants as groups
+use Rattle.kube_model.specs.declared.event.ListGroup.TheVariants as groups
 use Rattle.kube_model.specs.declared.key.Key.{Key}
 use Rattle.kube_model.specs.declared.namespace.Namespace.{Namespace}
 use Rattle.kube_model.specs.declared.object.Kind.TheVariants as kinds
 use Rattle.kube_model.specs.declared.object.Object.TheVariants as objects
 use Rattle.kube_model.specs.declared.service.Service.{Service}
 use Rattle.versioned_map.specs.declared.map.Versioned.{Versioned}
-use Rattle.versioned_map.specs.declared.map.Shown.TheVariants.{Held as HeldNow, PassedOver}
-use Rattle.versioned_map.specs.Entries.{held_at, object_at, version_at, is_listed, listed}
+use Rattle.versioned_map.specs.Objects.{held_at, object_at, version_at, is_listed, listed}
 use Rattle.pool_config.specs.ConfigValue.{ConfigValue}
 use Rattle.pool_config.specs.Compile.{compiled}
 use Rattle.kube_labels.specs.Names.{name_cmp}
@@ -28,25 +27,25 @@ use Rattle.kube_model.specs.Keys.{key_cmp, same_key, has_key}
 use Rattle.object_history.specs.Kinds.{service_resource, namespace_resource}
 use Rattle.object_history.specs.LookBack.{seen_after, version_of}
 use Rattle.object_cache.specs.declared.change.TakeNote.TheVariants.{Quiet as QuietNote}
-use Rattle.object_cache.specs.Change.{applied, note_in, namespace_change}
-use Rattle.object_cache.specs.Told.{passing}
+use Rattle.object_cache.specs.Change.{applied, note_in}
+use Rattle.object_cache.specs.Stays.{passing}
 use Rattle.sharing_terms.specs.declared.terms.Terms.{Terms}
 use Rattle.mlb_base.proofs.Among.{any-contains}
+use Rattle.mlb_base.proofs.Lists.{filter-keeps}
 use Rattle.alloc_book.specs.Asking.{asker_of}
 use Rattle.claim_index.specs.Claims.{ClaimValue, holders}
 use Rattle.kube_model.specs.Records.{is_assigned}
 use Rattle.alloc_book.specs.Granted.{IsTighter}
 use Rattle.alloc_book.proofs.BookLaws.{kept-more}
-use Rattle.pool_choice.proofs.Filters.{filter-keeps}
 use Rattle.alloc_book.proofs.PendingLaws.{more-tighter}
 use Rattle.kube_model.proofs.KeyLaws.{same_key-is}
 use Rattle.core_rules.specs.Core.{State, is_ready, service_of, offer_in, is_free_with, all_free}
-use Rattle.core_rules.specs.Take.{Configures, effect_of, no_key, is_unlisted, listed_keys, listed_claims, have_claims}
-use Rattle.core_rules.specs.Take.{listed_and_free, with_services_listed, is_accepted, is_namespace, wakes, configured}
+use Rattle.core_rules.specs.Take.{Configures, effect_of, no_key, is_unlisted, listed_keys, listed_claims}
+use Rattle.core_rules.specs.Take.{have_claims, listed_and_free, with_services_listed, is_accepted, wakes, configured}
 use Rattle.core_rules.proofs.Claims.{ended-version}
 use Rattle.core_rules.proofs.Effects.{config-services}
 use Rattle.core_laws.specs.Quiet.{MeetsRow, IsQuiet}
-use Rattle.core_laws.proofs.Rows.{has_key-append, neither, passing-has, row-on}
+use Rattle.core_laws.proofs.Rows.{has_key-append, passing-has, row-on}
 use Rattle.core_laws.proofs.Quiet.{settled-parts, settled-from, waits-queued, row-handled, row-empty}
 use Rattle.core_laws.proofs.QuietReplies.{not-lost}
 use Rattle.core_laws.proofs.QuietServices.{no-out}
@@ -61,11 +60,11 @@ free-there-by : (b : Bool) (queue awaiting : List Key) (services : List (Key × 
     → b ≡ is_assigned service.holding → object_at key_cmp services key ≡ Some service
     → has_key queue key ≡ false → has_key awaiting key ≡ false → has_key (all_free queue awaiting services) key ≡ false → ⊥
 free-there-by true queue awaiting services key service b found q a out =
-    let both = neither
+    let both = or_parts
     _ _ (sym (has_key-append (passing (is_free_with queue awaiting true) services) (passing (is_free_with queue awaiting false) services) key) ∙ out) in
     true≢false (sym (passing-has (is_free_with queue awaiting true) services key service found (free-by true queue awaiting key service b q a)) ∙ both.0)
 free-there-by false queue awaiting services key service b found q a out =
-    let both = neither
+    let both = or_parts
     _ _ (sym (has_key-append (passing (is_free_with queue awaiting true) services) (passing (is_free_with queue awaiting false) services) key) ∙ out) in
     true≢false (sym (passing-has (is_free_with queue awaiting false) services key service found (free-by false queue awaiting key service b q a)) ∙ both.1)
 
@@ -147,7 +146,7 @@ module _ (s : State) (seen : (key : Key)
       let listed_here : is_unlisted (listed s.held.services) key ≡ false = unlisted-same key ∙ here.1 in
       let parts = settled-parts (with_services_listed s) key is_set in
       let now : (s.held.config_ended && is_some s.held.config) ≡ true = ready-listed s.held.config_ended true (is_some s.held.config) parts.0 in
-      let both = neither _ _ (sym (has_key-append (listed_keys (listed s.held.services) s.queue)
+      let both = or_parts _ _ (sym (has_key-append (listed_keys (listed s.held.services) s.queue)
       (listed_and_free (is_ready s.held) (s.held.config_ended && is_some s.held.config) (have_claims s.held.services s.claims) s) key) ∙ parts.1) in
       listed-by (is_ready s.held) (s.held.config_ended && is_some s.held.config) key service refl now
       (sym (kept-keys (is_unlisted (listed s.held.services)) s.queue key listed_here) ∙ both.0)
@@ -197,22 +196,20 @@ config-kept Ignored s c e = absurd (cc)
 abbrev Namespaces : Type 0
 Namespaces = List (List ℕ × Versioned Namespace)
 
-kept-shown : (old : Bool) (es : Namespaces) (namespace : Namespace) (v : Versioned Namespace) (name : List ℕ)
-    → is_namespace (namespace_change name (cond old (PassedOver namespace) (HeldNow (object_at name_cmp es name)))) ≡ false
-    → cond old es (insert_entry name_cmp es name v) ≡ es
-kept-shown true es namespace v name e = refl
-kept-shown false es namespace v name e = absurd (cc)
+kept-shown : (old : Bool) (es : Namespaces) (v : Versioned Namespace) (name : List ℕ) → not old ≡ false → cond old es (insert_entry name_cmp es name v) ≡ es
+kept-shown true es v name e = refl
+kept-shown false es v name e = absurd (cc)
 
-namespaces-kept : (event : Event) (s : Cached) → effect_of event ≡ Configures → listed s.namespaces ≡ s.namespaces
-    → is_namespace (applied s event).change ≡ false → (cached_after (Watched event) s).namespaces ≡ s.namespaces
+namespaces-kept : (event : Event) (s : Cached) → effect_of event ≡ Configures → listed s.namespaces ≡ s.namespaces → (applied s event).namespace_changed ≡ false
+    → (cached_after (Watched event) s).namespaces ≡ s.namespaces
 namespaces-kept (Changed version (objects.Service service)) s c l e = absurd (cc)
 namespaces-kept (Changed version (objects.Pool pool)) s c l e = refl
 namespaces-kept (Changed version (objects.L2 adv)) s c l e = refl
 namespaces-kept (Changed version (objects.Bgp adv)) s c l e = refl
 namespaces-kept (Changed version (objects.Peer peer)) s c l e = refl
 namespaces-kept (Changed version (objects.Community community)) s c l e = refl
-namespaces-kept (Changed version (objects.Namespace namespace)) s c l e = kept-shown (leb version (version_at name_cmp s.namespaces namespace.name))
-    s.namespaces namespace (record { version = version; object = namespace }) namespace.name e
+namespaces-kept (Changed version (objects.Namespace namespace)) s c l e =
+    kept-shown (leb version (version_at name_cmp s.namespaces namespace.name)) s.namespaces (record { version = version; object = namespace }) namespace.name e
 namespaces-kept (Changed version (objects.Node node)) s c l e = absurd (cc)
 namespaces-kept (Changed version (objects.Slice slice)) s c l e = absurd (cc)
 namespaces-kept (Deleted kinds.Service key) s c l e = absurd (cc)
@@ -258,11 +255,11 @@ woken-by : (b : Bool) (s : State) (event : Event) (key : Key) (service : Service
     → service_of s.held key ≡ Some service
     → MeetsRow s.class (offer_in (cached_after (Watched event) s.held)) (holders s.claims) service
 woken-by true s event key service b c fresh o quiet ready q a found =
-    let both = neither _ _ (sym (has_key-append s.queue (all_free s.queue s.awaiting s.held.services) key) ∙ q) in
+    let both = or_parts _ _ (sym (has_key-append s.queue (all_free s.queue s.awaiting s.held.services) key) ∙ q) in
     absurd (free-there s.queue s.awaiting s.held.services key service found both.0 a both.1)
 woken-by false s event key service b c fresh o quiet ready q a found =
     let rest = not-woken (is_ready (cached_after (Watched event) s.held)) (is_ready s.held) (is_accepted (applied s.held event).note)
-    (is_namespace (applied s.held event).change) ready (sym b) in
+    (applied s.held event).namespace_changed ready (sym b) in
     let ended : s.held.config_ended ≡ true = ended-by s.held.config_ended s.held.services_ended (is_some s.held.config) rest.0 in
     let row = quiet key service (settled-from s key service rest.0 found q a) (no-out s key o) found in
     row-on s.class s.held (cached_after (Watched event) s.held) (holders s.claims) (holders s.claims) service row
@@ -296,37 +293,29 @@ all-listed : (es : Namespaces) → list_all is_listed (listed es) ≡ true
 all-listed [] = refl
 all-listed (e ∷ es) = all-listed-by (is_listed e) e (listed es) refl (all-listed es)
 
-and-parts : (a b : Bool) → (a && b) ≡ true → (a ≡ true) × (b ≡ true)
-and-parts true b e = (refl, e)
-and-parts false b e = absurd (cc)
-
-and-both : (a b : Bool) → a ≡ true → b ≡ true → (a && b) ≡ true
-and-both true b x y = y
-and-both false b x y = absurd (cc)
-
 all-inserted-by : (r : Ordering) (e : List ℕ × Versioned Namespace) (es more : Namespaces) (k : List ℕ) (v : Versioned Namespace) → not (eqb v.version 0) ≡ true
     → is_listed e ≡ true → list_all is_listed es ≡ true → list_all is_listed more ≡ true
     → list_all is_listed (match_ordering r ((k, v) ∷ e ∷ es) ((e.0, v) ∷ es) (e ∷ more)) ≡ true
-all-inserted-by Less e es more k v new first rest ih = and-both (not (eqb v.version 0)) _ new (and-both (is_listed e) (list_all is_listed es) first rest)
-all-inserted-by Equal e es more k v new first rest ih = and-both (not (eqb v.version 0)) (list_all is_listed es) new rest
-all-inserted-by Greater e es more k v new first rest ih = and-both (is_listed e) (list_all is_listed more) first ih
+all-inserted-by Less e es more k v new first rest ih = and_from (not (eqb v.version 0)) _ new (and_from (is_listed e) (list_all is_listed es) first rest)
+all-inserted-by Equal e es more k v new first rest ih = and_from (not (eqb v.version 0)) (list_all is_listed es) new rest
+all-inserted-by Greater e es more k v new first rest ih = and_from (is_listed e) (list_all is_listed more) first ih
 
 all-inserted : (es : Namespaces) (k : List ℕ) (v : Versioned Namespace) → not (eqb v.version 0) ≡ true → list_all is_listed es ≡ true
     → list_all is_listed (insert_entry name_cmp es k v) ≡ true
-all-inserted [] k v new all = and-both (not (eqb v.version 0)) true new refl
+all-inserted [] k v new all = and_from (not (eqb v.version 0)) true new refl
 all-inserted (e ∷ es) k v new all =
-    let parts = and-parts (is_listed e) (list_all is_listed es) all in
+    let parts = and_parts (is_listed e) (list_all is_listed es) all in
     all-inserted-by (name_cmp k e.0) e es (insert_entry name_cmp es k v) k v new parts.0 parts.1 (all-inserted es k v new parts.1)
 
 all-removed-by : (b : Bool) (e : List ℕ × Versioned Namespace) (es less : Namespaces) → is_listed e ≡ true → list_all is_listed es ≡ true
     → list_all is_listed less ≡ true → list_all is_listed (cond b es (e ∷ less)) ≡ true
 all-removed-by true e es less first rest ih = rest
-all-removed-by false e es less first rest ih = and-both (is_listed e) (list_all is_listed less) first ih
+all-removed-by false e es less first rest ih = and_from (is_listed e) (list_all is_listed less) first ih
 
 all-removed : (test : List ℕ → Bool) (es : Namespaces) → list_all is_listed es ≡ true → list_all is_listed (remove_entry test es) ≡ true
 all-removed test [] all = refl
 all-removed test (e ∷ es) all =
-    let parts = and-parts (is_listed e) (list_all is_listed es) all in
+    let parts = and_parts (is_listed e) (list_all is_listed es) all in
     all-removed-by (test e.0) e es (remove_entry test es) parts.0 parts.1 (all-removed test es parts.1)
 
 newer-positive : (version held : ℕ) → leb version held ≡ false → not (eqb version 0) ≡ true

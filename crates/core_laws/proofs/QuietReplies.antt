@@ -1,8 +1,9 @@
 -- After a reply the settled services meet their rows.
 use Rattle.std.proofs.Common.{◌≡◌, ◌≢◌, ℕ, Bool, true, false, cond, List, [], ◌∷◌, ◌++◌, Option, Some, None, is_eq, option_map, refl, sym, ap, subst, ◌∙◌}
-use Rattle.std.proofs.lemmas.Bool.{true≢false}
+use Rattle.std.proofs.lemmas.Bool.{true≢false, or_parts}
 use Rattle.std.specs.Cmp.{Equal-is, tied_itself}
 use Rattle.std.specs.List.{Contains}
+use Rattle.std.proofs.lemmas.Option.{same_Some}
 use Rattle.kube_model.specs.declared.key.Key.{Key}
 use Rattle.kube_model.specs.declared.put.Put.{Put}
 use Rattle.kube_model.specs.declared.record.Record.{Record}
@@ -10,7 +11,7 @@ use Rattle.kube_model.specs.declared.reply.PutReply.{PutReply}
 use Rattle.kube_model.specs.declared.reply.PutReply.TheVariants.{Ok as StoredReply, Stale, Missing, Unknown}
 use Rattle.kube_model.specs.declared.service.Service.{Service}
 use Rattle.versioned_map.specs.declared.map.Versioned.{Versioned}
-use Rattle.versioned_map.specs.Entries.{held_at, object_at, amended}
+use Rattle.versioned_map.specs.Objects.{held_at, object_at, amended}
 use Rattle.kube_model.specs.Keys.{key_cmp, same_key, has_key}
 use Rattle.object_history.specs.Kinds.{service_resource}
 use Rattle.kube_model.specs.Service.{with_holding}
@@ -21,7 +22,7 @@ use Rattle.sharing_terms.specs.declared.terms.Terms.{Terms}
 use Rattle.alloc_book.specs.Asking.{asker_of}
 use Rattle.claim_index.specs.Claims.{AreAssigned, ClaimValue, holders, claims_of, claim_of, settled, doubted, loses}
 use Rattle.alloc_book.specs.Book.{HasLost}
-use Rattle.object_cache.specs.Told.{passing}
+use Rattle.object_cache.specs.Stays.{passing}
 use Rattle.alloc_book.specs.Chosen.{IsChosen}
 use Rattle.alloc_book.specs.Granted.{IsTighter}
 use Rattle.alloc_book.proofs.BookLaws.{settled-lost, settled-more, doubted-more}
@@ -32,7 +33,7 @@ use Rattle.core_rules.specs.Core.{State, service_of, offer_in, is_settled, waiti
 use Rattle.core_rules.specs.Turn.{wanted_record, chosen_at}
 use Rattle.core_rules.specs.Replied.{stored, refused, in_doubt, replied_to, put_terms}
 use Rattle.core_laws.specs.Quiet.{MeetsRow, is_put_of, IsQuiet}
-use Rattle.core_laws.proofs.Rows.{has_key-append, neither, row-on}
+use Rattle.core_laws.proofs.Rows.{has_key-append, row-on}
 use Rattle.core_laws.proofs.Quiet.{settled-parts, settled-from, waits-queued, row-handled, row-empty}
 
 -- The put is what is chosen now.
@@ -45,8 +46,8 @@ pub record PutIsChosen (s : State) (put : Put) : Type 0 where
 -- ---- others
 behind : (keys : List Key) (k key : Key) → has_key (keys ++ k ∷ []) key ≡ false → (has_key keys key ≡ false) × (same_key k key ≡ false)
 behind keys k key e =
-    let parts = neither (has_key keys key) (has_key (k ∷ []) key) (sym (has_key-append keys (k ∷ []) key) ∙ e) in
-    (parts.0, (neither (same_key k key) false parts.1).0)
+    let parts = or_parts (has_key keys key) (has_key (k ∷ []) key) (sym (has_key-append keys (k ∷ []) key) ∙ e) in
+    (parts.0, (or_parts (same_key k key) false parts.1).0)
 
 not-out : (s : State) (put : Put) (key : Key) → s.out ≡ Some put → same_key put.key key ≡ false → is_put_of s.out key ≡ false
 not-out s put key o apart = ap (λ (p : Option Put). is_put_of p key) o ∙ apart
@@ -151,9 +152,6 @@ own-row s put version chosen =
           (subst (IsChosen (holders s.claims) (offer_in s.held chosen.service) s.class chosen.service) is is_chosen);
     }
 
-same-some : (x y : Service) → Some x ≡ Some y → x ≡ y
-same-some x y e = cc
-
 stored-by : (b : Bool) (s : State) (put : Put) (version : ℕ) (key : Key) (service : Service) → b ≡ is_eq (key_cmp put.key key) → s.out ≡ Some put → IsQuiet s
     → PutIsChosen s put → AreAssigned s.claims
     → is_settled (stored s put version) key ≡ true → service_of (stored s put version).held key ≡ Some service
@@ -162,7 +160,7 @@ stored-by true s put version key service b o quiet chosen a is_set found =
     let same : put.key ≡ key = key_cmp-exact put.key key ((Equal-is (key_cmp put.key key)).0 (sym b)) in
     let found_here : service_of s.held key ≡ Some chosen.service = subst (λ x. service_of s.held x ≡ Some chosen.service) same chosen.found in
     let is : with_holding put.holding chosen.service ≡ service =
-    same-some (with_holding put.holding chosen.service) service
+    same_Some (with_holding put.holding chosen.service) service
     (sym (over-own (held_at key_cmp s.held.services key) key version put.holding chosen.service found_here)
     ∙ sym (seen-stored s.held.services put.key key version put.holding true b) ∙ found) in
     subst (λ (x : Service). MeetsRow s.class (offer_in (stored s put version).held) (holders (stored s put version).claims) x) is (own-row s put version chosen)
@@ -171,7 +169,7 @@ stored-by false s put version key service b o quiet chosen a is_set found =
     let before : service_of s.held key ≡ Some service =
     sym (over-other (held_at key_cmp s.held.services key) key) ∙ sym (seen-stored s.held.services put.key key version put.holding false b) ∙ found in
     let parts = settled-parts (stored s put version) key is_set in
-    let queues = neither (has_key s.queue key) _ (sym (has_key-append s.queue
+    let queues = or_parts (has_key s.queue key) _ (sym (has_key-append s.queue
     (waiting (loses put.key put.holding (put_terms s.held put) s.claims) s.class (same_key put.key) s.queue s.awaiting s.held.services) key) ∙ parts.1) in
     let row = quiet key service (settled-from s key service parts.0 before queues.0 parts.2) (not-out s put key o apart_key) before in
     row-on s.class s.held (stored s put version).held (holders s.claims) (holders (settled put.key put.holding (put_terms s.held put) s.claims)) service row

@@ -5,15 +5,15 @@ use Rattle.std.specs.List.Sorted.{IsStrictlySortedBy}
 use Rattle.std.specs.Map.{keys_of}
 use Rattle.kube_model.specs.declared.event.Event.{Event}
 use Rattle.kube_model.specs.declared.event.Event.TheVariants.{Deleted, ListEnd, Expired as ExpiredEvent}
-use Rattle.kube_model.specs.declared.event.Group.{Group}
-use Rattle.kube_model.specs.declared.event.Group.TheVariants as groups
+use Rattle.kube_model.specs.declared.event.ListGroup.{ListGroup}
+use Rattle.kube_model.specs.declared.event.ListGroup.TheVariants as groups
 use Rattle.kube_model.specs.declared.key.Key.{Key}
 use Rattle.kube_model.specs.declared.object.Kind.TheVariants as kinds
 use Rattle.kube_model.specs.declared.put.Put.{Put}
 use Rattle.kube_model.specs.declared.reason.Reason.{Reason}
 use Rattle.kube_model.specs.declared.service.Service.{Service}
 use Rattle.versioned_map.specs.declared.map.Versioned.{Versioned}
-use Rattle.versioned_map.specs.Entries.{held_at, listed}
+use Rattle.versioned_map.specs.Objects.{held_at, listed}
 use Rattle.object_history.specs.Cache.{Cached, cached, held_after}
 use Rattle.object_history.specs.Observations.{Observation, Watched}
 use Rattle.kube_model.specs.Keys.{key_cmp}
@@ -28,7 +28,7 @@ use Rattle.core_rules.specs.declared.turn.Turn.TheVariants.{Idle, NoPut, Wants}
 use Rattle.core_rules.specs.Core.{State, is_ready, service_of, is_settled}
 use Rattle.core_rules.specs.Take.{Expires, core_by, core_take, core_expired, without_service}
 use Rattle.core_rules.specs.Turn.{core_turn, put_in, after_turn}
-use Rattle.core_rules.specs.Run.{Entry, Took, Expired, Turned, Heard, core_after, IsRun, observed}
+use Rattle.core_rules.specs.Run.{TranscriptEntry, Took, Expired, Turned, Heard, core_after, IsRun, observed}
 use Rattle.core_rules.proofs.Effects.{by_effect}
 use Rattle.core_rules.proofs.Runs.{core_holds_what_was_observed}
 use Rattle.core_laws.specs.Quiet.{IsQuiet, RunsAreQuiet}
@@ -75,7 +75,7 @@ not-ready : (a b : Bool) → (a && false && b) ≡ true → ⊥
 not-ready true b e = absurd (cc)
 not-ready false b e = absurd (cc)
 
-expired-quiet : (s : State) (group : Group) → IsQuiet s → IsQuiet (core_expired s group)
+expired-quiet : (s : State) (group : ListGroup) → IsQuiet s → IsQuiet (core_expired s group)
 expired-quiet s groups.Config quiet key service is_set out found =
     let parts = settled-parts (core_expired s groups.Config) key is_set in
     absurd (cc)
@@ -97,7 +97,8 @@ wants-some (Wants other pending) put e =
     let is : other ≡ put = cc in
     (pending, ap (λ (p : Put). Wants p pending) is)
 
-turned-chosen : (class : Option (List ℕ)) (earlier : List Entry) → IsRun class earlier → (put : Put) → put_in (core_turn (core_after class earlier)) ≡ Some put
+turned-chosen : (class : Option (List ℕ)) (earlier : List TranscriptEntry) → IsRun class earlier → (put : Put)
+    → put_in (core_turn (core_after class earlier)) ≡ Some put
     → PutIsChosen (after_turn (core_after class earlier)) put
 turned-chosen class earlier is put e =
     let s = core_after class earlier in
@@ -115,7 +116,7 @@ none-some None put n e = absurd (cc)
 none-some (Some other) put n e = absurd (cc)
 
 -- a put is out after a turn alone
-out-chosen : (class : Option (List ℕ)) (run : List Entry) → IsRun class run → (put : Put) → (core_after class run).out ≡ Some put
+out-chosen : (class : Option (List ℕ)) (run : List TranscriptEntry) → IsRun class run → (put : Put) → (core_after class run).out ≡ Some put
     → PutIsChosen (core_after class run) put
 out-chosen class [] is put e = absurd (cc)
 out-chosen class (Took event ∷ earlier) is put e =

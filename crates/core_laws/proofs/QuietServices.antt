@@ -1,6 +1,6 @@
 -- After an event of a service the settled services meet their rows.
 use Rattle.std.proofs.Common.{◌≡◌, ℕ, Bool, true, false, cond, leb, not, ◌&&◌, ◌||◌, List, [], ◌∷◌, ◌++◌, Option, Some, None, is_eq, refl, sym, ap, subst, ◌∙◌}
-use Rattle.std.proofs.lemmas.Bool.{true≢false}
+use Rattle.std.proofs.lemmas.Bool.{true≢false, or_parts}
 use Rattle.std.specs.Cmp.{Equal-is}
 use Rattle.std.specs.List.{Contains}
 use Rattle.kube_model.specs.declared.event.Event.{Event}
@@ -9,37 +9,36 @@ use Rattle.kube_model.specs.declared.key.Key.{Key}
 use Rattle.kube_model.specs.declared.object.Kind.TheVariants as kinds
 use Rattle.kube_model.specs.declared.put.Put.{Put}
 use Rattle.kube_model.specs.declared.service.Service.{Service}
-use Rattle.versioned_map.specs.Entries.{version_at}
+use Rattle.versioned_map.specs.Objects.{version_at}
 use Rattle.object_history.specs.Cache.{Cached, cached, cached_after}
 use Rattle.object_history.specs.Observations.{Observation, Watched}
 use Rattle.kube_model.specs.Keys.{key_cmp, same_key, has_key, without}
 use Rattle.kube_model.proofs.KeyLaws.{key_cmp-exact, same_key-is, same_key-itself}
-use Rattle.object_cache.specs.Change.{change_by}
-use Rattle.object_cache.specs.Told.{tells_of}
-use Rattle.object_cache.proofs.Passing.{changes_are_told}
+use Rattle.object_cache.specs.Stays.{changes_service}
+use Rattle.object_cache.proofs.Passing.{other_services_stay}
 use Rattle.sharing_terms.specs.declared.terms.Terms.{Terms}
 use Rattle.mlb_base.proofs.Among.{any-contains}
+use Rattle.mlb_base.proofs.Lists.{filter-keeps}
 use Rattle.alloc_book.specs.Asking.{asker_of}
 use Rattle.claim_index.specs.Claims.{AreAssigned, ClaimValue, holders, settled, others, loses, has_claims}
 use Rattle.alloc_book.specs.Granted.{IsTighter}
 use Rattle.alloc_book.proofs.BookLaws.{kept-more}
-use Rattle.pool_choice.proofs.Filters.{filter-keeps}
 use Rattle.alloc_book.proofs.PendingLaws.{more-tighter}
 use Rattle.core_rules.specs.Core.{offer_in, State, is_ready, service_of, is_settled, waiting, shown_terms}
 use Rattle.core_rules.specs.Keys.{own_key}
 use Rattle.core_rules.specs.Take.{shows, with_service, without_service, own_and_waiting}
 use Rattle.core_laws.specs.Quiet.{MeetsRow, is_put_of, IsQuiet}
-use Rattle.core_laws.proofs.Rows.{has_key-append, neither, row-on}
+use Rattle.core_laws.proofs.Rows.{has_key-append, row-on}
 use Rattle.core_laws.proofs.Quiet.{settled-parts, settled-from, waits-queued, row-handled, row-empty}
 use Rattle.core_laws.proofs.QuietReplies.{not-lost, settled-tighter, apart}
 
--- ---- what an event doesn't tell of
+-- ---- what an event doesn't change
 pub untold-same : (s : State) (observations : List Observation) → s.held ≡ cached observations → (event : Event) (key : Key)
-    → tells_of key (change_by s.held event) ≡ false
+    → changes_service s.held event key ≡ false
     → service_of (cached_after (Watched event) s.held) key ≡ service_of s.held key
 untold-same s observations e event key untold =
     subst (λ (h : Cached). service_of (cached_after (Watched event) h) key ≡ service_of h key) (sym e)
-    (changes_are_told observations event key (subst (λ (h : Cached). tells_of key (change_by h event) ≡ false) e untold))
+    (other_services_stay observations event key (subst (λ (h : Cached). changes_service h event key ≡ false) e untold))
 
 pub no-out : (s : State) (key : Key) → s.out ≡ None → is_put_of s.out key ≡ false
 no-out s key o = ap (λ (p : Option Put). is_put_of p key) o
@@ -71,8 +70,8 @@ own-there false queue more own r = absurd (cc)
 more-by : (ready : Bool) (queue own more : List Key) (key : Key) → ready ≡ true → has_key (queue ++ cond ready (own ++ more) []) key ≡ false
     → (has_key queue key ≡ false) × (has_key more key ≡ false)
 more-by true queue own more key r e =
-    let first = neither (has_key queue key) (has_key (own ++ more) key) (sym (has_key-append queue (own ++ more) key) ∙ e) in
-    (first.0, (neither (has_key own key) (has_key more key) (sym (has_key-append own more key) ∙ first.1)).1)
+    let first = or_parts (has_key queue key) (has_key (own ++ more) key) (sym (has_key-append queue (own ++ more) key) ∙ e) in
+    (first.0, (or_parts (has_key own key) (has_key more key) (sym (has_key-append own more key) ∙ first.1)).1)
 more-by false queue own more key r e = absurd (cc)
 
 -- what is held of a newer service
@@ -94,7 +93,7 @@ held-newer s version service old = rw old refl
 
 tells-other : (s : State) (version : ℕ) (service : Service) (key : Key) → leb version (version_at key_cmp s.held.services service.key) ≡ false
     → is_eq (key_cmp service.key key) ≡ false
-    → tells_of key (change_by s.held (shows version service)) ≡ false
+    → changes_service s.held (shows version service) key ≡ false
 tells-other s version service key new e = rw new e
 
 held-by : (b : Bool) (s : State) (observations : List Observation) (version : ℕ) (new : Service) (key : Key) (service : Service)
@@ -168,7 +167,7 @@ dropped-by false s observations gone key service b e none o quiet is_set found =
     let before : service_of s.held key ≡ Some service = sym (untold-same s observations e (Deleted kinds.Service gone) key (sym b)) ∙ found in
     let parts = settled-parts (without_service s gone) key is_set in
     let more = waiting (is_ready s.held && has_claims gone s.claims) s.class (same_key gone) s.queue s.awaiting s.held.services in
-    let both = neither (has_key (without gone s.queue) key) (has_key more key) (sym (has_key-append (without gone s.queue) more key) ∙ parts.1) in
+    let both = or_parts (has_key (without gone s.queue) key) (has_key more key) (sym (has_key-append (without gone s.queue) more key) ∙ parts.1) in
     let queue : has_key s.queue key ≡ false = sym (without-other gone key s.queue apart_key) ∙ both.0 in
     let free : has_key s.awaiting key ≡ false = sym (without-other gone key s.awaiting apart_key) ∙ parts.2 in
     let row = quiet key service (settled-from s key service parts.0 before queue free) (no-out s key o) before in

@@ -16,7 +16,7 @@ use Rattle.claim_index.specs.Claims.{holders, Holders}
 use Rattle.alloc_book.proofs.PendingLaws.{holders-same}
 use Rattle.core_rules.specs.Core.{is_ready, is_settled, offer_at, offer_in, pools_in, labels_of, service_of}
 use Rattle.core_rules.specs.Keys.{is_free}
-use Rattle.core_rules.specs.Run.{Entry, core_after, IsRun, put_out, observed, claims_shown}
+use Rattle.core_rules.specs.Run.{TranscriptEntry, core_after, IsRun, put_out, observed, claims_shown}
 use Rattle.core_rules.proofs.Claims.{shown-held, claims_are_shown}
 use Rattle.core_rules.proofs.Runs.{core_holds_what_was_observed}
 use Rattle.core_laws.specs.Puts.{IsReadyBy}
@@ -39,7 +39,7 @@ free-all queue awaiting key none unasked = rw (none, unasked) refl
 no-put : (out : Option Put) (key : Key) → out ≡ None → is_put_of out key ≡ false
 no-put out key e = rw e refl
 
-module _ (class : Option (List ℕ)) (run : List Entry) (is : IsRun class run) (idle : (core_after class run).queue ≡ []) (none : put_out run ≡ None)
+module _ (class : Option (List ℕ)) (run : List TranscriptEntry) (is : IsRun class run) (idle : (core_after class run).queue ≡ []) (none : put_out run ≡ None)
     (ready : IsReadyBy (observed run)) where
   holds : (core_after class run).held ≡ cached (observed run)
   holds = (core_holds_what_was_observed class run is).0

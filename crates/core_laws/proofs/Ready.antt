@@ -1,10 +1,10 @@
 -- While a core isn't ready nothing is queued and no put is out.
 use Rattle.std.proofs.Common.{◌≡◌, ℕ, Bool, true, false, cond, ◌&&◌, List, [], ◌∷◌, ◌++◌, Option, Some, None, is_some, Result, Ok, Err, refl, sym, ◌∙◌}
-use Rattle.std.proofs.lemmas.Bool.{true≢false}
+use Rattle.mlb_base.proofs.Bools.{false_before}
 use Rattle.kube_model.specs.declared.config_fault.ConfigFault.{ConfigFault}
 use Rattle.kube_model.specs.declared.event.Event.{Event}
 use Rattle.kube_model.specs.declared.event.Event.TheVariants.{Changed, Deleted, ListEnd, Expired as ExpiredEvent, Members, Frame, Ignored}
-use Rattle.kube_model.specs.declared.event.Group.TheVariants as groups
+use Rattle.kube_model.specs.declared.event.ListGroup.TheVariants as groups
 use Rattle.kube_model.specs.declared.key.Key.{Key}
 use Rattle.kube_model.specs.declared.object.Kind.TheVariants as kinds
 use Rattle.kube_model.specs.declared.object.Object.TheVariants as objects
@@ -13,7 +13,7 @@ use Rattle.kube_model.specs.declared.reply.PutReply.{PutReply}
 use Rattle.kube_model.specs.declared.reply.PutReply.TheVariants.{Ok as StoredReply, Stale, Missing, Unknown}
 use Rattle.kube_model.specs.declared.service.Service.{Service}
 use Rattle.versioned_map.specs.declared.map.Versioned.{Versioned}
-use Rattle.versioned_map.specs.Entries.{is_newer, listed}
+use Rattle.versioned_map.specs.Objects.{is_newer, listed}
 use Rattle.pool_config.specs.ConfigValue.{ConfigValue}
 use Rattle.object_history.specs.Cache.{Cached, cached_after, objects_after, in_force}
 use Rattle.object_history.specs.Observations.{Watched, WatchExpired}
@@ -24,7 +24,7 @@ use Rattle.core_rules.specs.Core.{State, is_ready, shown_terms}
 use Rattle.core_rules.specs.Take.{Configures, effect_of, core_by, core_take, own_and_waiting, listed_and_free, listed_keys, have_claims}
 use Rattle.core_rules.specs.Turn.{turn_of, rest_of, put_in}
 use Rattle.core_rules.specs.Replied.{replied_to}
-use Rattle.core_rules.specs.Run.{Entry, Took, Expired, Turned, Heard, core_after, IsRun}
+use Rattle.core_rules.specs.Run.{TranscriptEntry, Took, Expired, Turned, Heard, core_after, IsRun}
 use Rattle.core_rules.proofs.Effects.{by_effect}
 
 abbrev pub IsIdle : Bool → List Key → Option Put → Type 0
@@ -93,10 +93,6 @@ not-configured : (a : Bool) (c : Option ConfigValue) → (a && true && is_some c
 not-configured true c e = e
 not-configured false c e = refl
 
-before-ready : (b after : Bool) → (b ≡ true → after ≡ true) → after ≡ false → b ≡ false
-before-ready true after stays n = absurd (true≢false (sym (stays refl) ∙ n))
-before-ready false after stays n = refl
-
 took-idle : (s : State) → IsIdle (is_ready s.held) s.queue s.out → s.out ≡ None → (event : Event)
     → IsIdle (is_ready (core_take s event).held) (core_take s event).queue (core_take s event).out
 took-idle s idle o = by_effect (λ event c. IsIdle (is_ready (core_by c s event).held) (core_by c s event).queue (core_by c s event).out)
@@ -111,7 +107,7 @@ took-idle s idle o = by_effect (λ event c. IsIdle (is_ready (core_by c s event)
           (idle (not-ready s.held.config_ended s.held.services_ended s.held.config n)).0 (not-configured s.held.config_ended s.held.config n),
       o,
     ))
-    (λ event c n. ((rw n refl) ∙ (idle (before-ready (is_ready s.held) (is_ready (cached_after (Watched event) s.held)) (config-ready event s.held c) n)).0, o))
+    (λ event c n. ((rw n refl) ∙ (idle (false_before (is_ready s.held) (is_ready (cached_after (Watched event) s.held)) (config-ready event s.held c) n)).0, o))
     (λ n. (refl, o))
     (λ event. idle)
 
@@ -134,7 +130,7 @@ some-none : (out : Option Put) → is_some out ≡ true → out ≡ None → ⊥
 some-none None s n = absurd (cc)
 some-none (Some put) s n = absurd (cc)
 
-pub runs-idle : (class : Option (List ℕ)) (run : List Entry) → IsRun class run
+pub runs-idle : (class : Option (List ℕ)) (run : List TranscriptEntry) → IsRun class run
     → IsIdle (is_ready (core_after class run).held) (core_after class run).queue (core_after class run).out
 runs-idle class [] is n = (refl, refl)
 runs-idle class (Took event ∷ earlier) is n = took-idle (core_after class earlier) (runs-idle class earlier is.1) is.0 event n

@@ -3,15 +3,16 @@ use Rattle.std.proofs.Common.{◌≡◌, ℕ, Bool, true, false, cond, ◌&&◌,
 use Rattle.std.proofs.Common.{Some, is_eq, option_map, filter, map, refl, sym, ap, subst, ◌∙◌}
 use Rattle.std.proofs.lemmas.Bool.{true≢false}
 use Rattle.std.specs.Cmp.{Equal-is}
+use Rattle.std.proofs.Math.Bool.{or-true, or_assoc}
 use Rattle.kube_model.specs.declared.key.Key.{Key}
 use Rattle.kube_model.specs.declared.reason.Reason.{Reason}
 use Rattle.kube_model.specs.declared.service.Service.{Service}
 use Rattle.versioned_map.specs.declared.map.Versioned.{Versioned}
-use Rattle.versioned_map.specs.Entries.{held_at, object_at}
+use Rattle.versioned_map.specs.Objects.{held_at, object_at}
 use Rattle.object_history.specs.Cache.{Cached}
 use Rattle.kube_model.specs.Keys.{key_cmp, same_key, has_key}
 use Rattle.kube_model.proofs.KeyLaws.{key_cmp-exact, same_key-itself}
-use Rattle.object_cache.specs.Told.{passing}
+use Rattle.object_cache.specs.Stays.{passing}
 use Rattle.alloc_book.specs.declared.choice.Choice.TheVariants.{Pending}
 use Rattle.alloc_book.specs.Asking.{Offer, asker_of}
 use Rattle.claim_index.specs.Claims.{Holders}
@@ -22,21 +23,9 @@ use Rattle.core_rules.specs.Core.{offer_in}
 use Rattle.core_laws.specs.Quiet.{MeetsRow}
 
 -- ---- lists of keys
-either-assoc : (a b c : Bool) → (a || (b || c)) ≡ ((a || b) || c)
-either-assoc true b c = refl
-either-assoc false b c = refl
-
 pub has_key-append : (xs ys : List Key) (key : Key) → has_key (xs ++ ys) key ≡ (has_key xs key || has_key ys key)
 has_key-append [] ys key = refl
-has_key-append (x ∷ xs) ys key = ap (λ b. same_key x key || b) (has_key-append xs ys key) ∙ either-assoc (same_key x key) (has_key xs key) (has_key ys key)
-
-pub neither : (a b : Bool) → (a || b) ≡ false → (a ≡ false) × (b ≡ false)
-neither true b e = absurd (cc)
-neither false b e = (refl, e)
-
-or-true : (a : Bool) → (a || true) ≡ true
-or-true true = refl
-or-true false = refl
+has_key-append (x ∷ xs) ys key = ap (λ b. same_key x key || b) (has_key-append xs ys key) ∙ sym (or_assoc (same_key x key) (has_key xs key) (has_key ys key))
 
 found-by : (here passes : Bool) (e : Key × Versioned Service) (key : Key) (service : Service) (test : Key → Service → Bool) (rest : List Key)
     (found : Option (Versioned Service))
@@ -70,7 +59,7 @@ passing-has test (e ∷ es) key service found t =
     (λ f. passing-has test es key service f t)
 
 -- ---- what is pending is handled
-handled-by : (balancer same : Bool) → (balancer ≡ true → same ≡ false → ⊥) → (balancer ≡ false → ⊥) → (balancer && same) ≡ true
+pub handled-by : (balancer same : Bool) → (balancer ≡ true → same ≡ false → ⊥) → (balancer ≡ false → ⊥) → (balancer && same) ≡ true
 handled-by true true one two = refl
 handled-by true false one two = absurd (one refl refl)
 handled-by false same one two = absurd (two refl)

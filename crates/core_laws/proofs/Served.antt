@@ -5,6 +5,7 @@ use Rattle.std.proofs.lemmas.Slice.Eq.{bytes_eq-Decides}
 use Rattle.std.specs.List.{Contains, AllZip}
 use Rattle.std.specs.Option.{option_to_list}
 use Rattle.std.specs.Str.{bytes_eq}
+use Rattle.std.proofs.lemmas.Bool.{true_from_ne_false}
 use Rattle.ip_ranges.specs.declared.family.Family.{Family}
 use Rattle.ip_ranges.specs.Values.{AddressValue, same_family}
 use Rattle.kube_model.specs.declared.reason.Reason.{Reason}
@@ -79,10 +80,6 @@ named-from (p ∷ pools) name pool e = named-by (bytes_eq p.name name) name p po
 only-first : (P : CompiledPool → Type 0) (found : Option CompiledPool) (pool : CompiledPool) → IsFirst P (option_to_list found) pool → found ≡ Some pool
 only-first P None pool first = absurd first
 only-first P (Some p) pool first = ⊎_elim (λ here. ap (λ (x : CompiledPool). Some x) (sym here.1)) (λ there. absurd there.1) first
-
-true-unless : (b : Bool) → (b ≡ false → ⊥) → b ≡ true
-true-unless true n = refl
-true-unless false n = absurd (n refl)
 
 module _ (has : Holders) (o : Offer) (q : Asker) where
   for-pending : (r : Record) (reason : Reason) (c : Choice) → c ≡ Pending reason → IsFor r c → ⊥
@@ -189,7 +186,7 @@ module _ (has : Holders) (o : Offer) (q : Asker) where
       (λ families pool first.
       let found : named o.pools q.pool_asked ≡ Some pool = only-first (HasEach has q families) (named o.pools q.pool_asked) pool first in
       let from = named-from o.pools q.pool_asked pool found in
-      (from.0, true-unless (o.serves pool) (λ refused. six (asks, (pool, found, refused))), λ _. from.1))
+      (from.0, true_from_ne_false (o.serves pool) (λ refused. six (asks, (pool, found, refused))), λ _. from.1))
       gives for)
       (λ unasked unasked_pool gives. served-new o.eligible Exhausted r c unasked
       (λ families pool first. let from = offered pool (first-stands (HasEach has q families) o.eligible pool first) in

@@ -33,7 +33,7 @@ use Rattle.alloc_book.proofs.ChosenLaws.{chosen_for-granted}
 use Rattle.core_rules.specs.declared.turn.Turn.TheVariants.{Wants}
 use Rattle.core_rules.specs.Core.{offer_at}
 use Rattle.core_rules.specs.Turn.{wanted_record}
-use Rattle.core_rules.specs.Run.{Entry, Turned, core_after, IsRun, put_out, observed, terms_shown, claims_shown}
+use Rattle.core_rules.specs.Run.{TranscriptEntry, Turned, core_after, IsRun, put_out, observed, terms_shown, claims_shown}
 use Rattle.core_rules.proofs.Runs.{core_holds_what_was_observed}
 use Rattle.core_laws.specs.Puts.{IsRightDecision, IsRightPut, labels_shown}
 use Rattle.core_laws.specs.Shared.{claim_out, may_have, has_claim, age_of, ClaimsMayShare, CameShown, AreSharedOrShown, AllShowTerms, RunsAreShared}
@@ -43,10 +43,10 @@ use Rattle.core_laws.proofs.Ages.{has-is, has-from, has-not, age-none, age-some,
 use Rattle.core_laws.proofs.Came.{Came, came}
 
 -- no put is out where an event is taken or a turn is made
-pub none-out : (class : Option (List ℕ)) (run : List Entry) → IsRun class run → (core_after class run).out ≡ None → put_out run ≡ None
+pub none-out : (class : Option (List ℕ)) (run : List TranscriptEntry) → IsRun class run → (core_after class run).out ≡ None → put_out run ≡ None
 none-out class run is e = sym (core_holds_what_was_observed class run is).1 ∙ e
 
-pub alone : (key : Key) (run : List Entry) → put_out run ≡ None → may_have key run ≡ claims_shown key run
+pub alone : (key : Key) (run : List TranscriptEntry) → put_out run ≡ None → may_have key run ≡ claims_shown key run
 alone key run e = ap (λ (o : Option Put). claims_shown key run ++ claim_out key o (terms_shown key run)) e ∙ append-nil (claims_shown key run)
 
 -- ---- a put leaves each address to whoever else has it
@@ -77,7 +77,8 @@ terms-kept service holding =
 typed-kept : (key : Key) (service : Service) (holding : Record) → Typed key service → Typed key (with_holding holding service)
 typed-kept key service holding t = subst AreTerms (sym (terms-kept service holding)) t
 
-pub put-shared : (class : Option (List ℕ)) (put : Put) (pending : Option Reason) (earlier : List Entry) → IsRun class (Turned (Wants put pending) ∷ earlier)
+pub put-shared : (class : Option (List ℕ)) (put : Put) (pending : Option Reason) (earlier : List TranscriptEntry)
+    → IsRun class (Turned (Wants put pending) ∷ earlier)
     → AllShowTerms earlier
     → (a : AddressValue) → Contains put.holding.addresses a
     → (t : Terms) × IsMarkOf t put.holding.mark
@@ -111,7 +112,7 @@ turned c d s = may_share-turned c.terms d.terms s
 same-some : (key other : Key) → Some key ≡ Some other → key ≡ other
 same-some key other e = cc
 
-module _ (class : Option (List ℕ)) (x : Entry) (earlier : List Entry) (is : IsRun class (x ∷ earlier)) (all : AllShowTerms earlier) where
+module _ (class : Option (List ℕ)) (x : TranscriptEntry) (earlier : List TranscriptEntry) (is : IsRun class (x ∷ earlier)) (all : AllShowTerms earlier) where
   -- what came first stays so
   older : (key other : Key) (r q : ClaimValue) → has_claim key r earlier ≡ true → has_claim key r (x ∷ earlier) ≡ true → has_claim other q earlier ≡ true
       → has_claim other q (x ∷ earlier) ≡ true
@@ -134,7 +135,7 @@ module _ (class : Option (List ℕ)) (x : Entry) (earlier : List Entry) (is : Is
       (λ event. let younger : age_of key r (x ∷ earlier) < age_of other q (x ∷ earlier) = suc-less 0 (age_of other q earlier) _ _ mine theirs since in
       inr (younger, was-new key r x earlier new ∙ event))
       (λ p.
-      let run : IsRun class (Turned (Wants p.0 p.1) ∷ earlier) = subst (λ (y : Entry). IsRun class (y ∷ earlier)) p.2 is in
+      let run : IsRun class (Turned (Wants p.0 p.1) ∷ earlier) = subst (λ (y : TranscriptEntry). IsRun class (y ∷ earlier)) p.2 is in
       let in_put : Contains p.0.holding.addresses a = subst (λ (y : Record). Contains y.addresses a) (sym p.3.holding_is) in_r in
       let shares = put-shared class p.0 p.1 earlier run all a in_put in
       let terms : r.terms ≡ shares.0 = sym p.3.terms_is ∙ terms_under-marked p.0.holding (terms_shown key earlier) shares.0 shares.1 in

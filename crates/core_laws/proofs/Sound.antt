@@ -3,7 +3,7 @@ use Rattle.std.proofs.Common.{ℕ, List, [], ◌∷◌, Option, refl, sym, ◌�
 use Rattle.kube_model.proofs.KeyLaws.{same_key-itself}
 use Rattle.core_rules.specs.declared.turn.Turn.{Turn}
 use Rattle.core_rules.specs.declared.turn.Turn.TheVariants.{Idle, NoPut, Wants}
-use Rattle.core_rules.specs.Run.{Entry, Took, Expired, Turned, Heard, IsRun, core_after}
+use Rattle.core_rules.specs.Run.{TranscriptEntry, Took, Expired, Turned, Heard, IsRun, core_after}
 use Rattle.core_rules.proofs.Runs.{core_holds_what_was_observed}
 use Rattle.core_laws.specs.Sound.{IsRightTurn, IsRightEntry, RunsAreSound}
 use Rattle.core_laws.proofs.NoPuts.{no_puts_are_right}
@@ -13,7 +13,7 @@ use Rattle.core_laws.proofs.Shared.{runs_are_shared}
 use Rattle.core_laws.proofs.Telling.{reasons_are_right}
 use Rattle.core_laws.proofs.Free.{turns_are_of_free_keys}
 
-turn-right : (class : Option (List ℕ)) (turn : Turn) (earlier : List Entry) → IsRun class (Turned turn ∷ earlier) → IsRightTurn class turn earlier
+turn-right : (class : Option (List ℕ)) (turn : Turn) (earlier : List TranscriptEntry) → IsRun class (Turned turn ∷ earlier) → IsRightTurn class turn earlier
 turn-right class Idle earlier is =
     let s = core_after class earlier in
     runs_are_quiet_as_shown class earlier is.1 (idle-queue s s.queue (sym is.0.1)) (sym (core_holds_what_was_observed class earlier is.1).1 ∙ is.0.0)
@@ -34,7 +34,8 @@ turn-right class (Wants put pending) earlier is = (
   puts_are_right class put pending earlier is,
 )
 
-entry-right : (class : Option (List ℕ)) (entry : Entry) (earlier : List Entry) → IsRun class (entry ∷ earlier) → IsRightEntry class entry earlier
+entry-right : (class : Option (List ℕ)) (entry : TranscriptEntry) (earlier : List TranscriptEntry) → IsRun class (entry ∷ earlier)
+    → IsRightEntry class entry earlier
 entry-right class (Took event) earlier is = tt
 entry-right class (Expired group) earlier is = tt
 entry-right class (Turned turn) earlier is = turn-right class turn earlier is

@@ -1,5 +1,6 @@
 -- A service that waits is pending: the record that it has doesn't matter.
-use Rattle.std.proofs.Common.{◌≡◌, ◌≢◌, ℕ, suc, true, cond, List, [], ◌∷◌, map, length, filter, Option, inl, inr, ⊎_elim, refl, sym, ap, subst, ◌∙◌}
+use Rattle.std.proofs.Common.{◌≡◌, ◌≢◌, ℕ, suc, true, false, cond, List, [], ◌∷◌, map, length, filter, Option}
+use Rattle.std.proofs.Common.{inl, inr, ⊎_elim, refl, sym, ap, subst, ◌∙◌}
 use Rattle.std.proofs.lemmas.Bool.{and_parts, true≢false}
 use Rattle.ip_ranges.specs.declared.family.Family.{Family}
 use Rattle.ip_ranges.specs.Values.{AddressValue, same_family}
@@ -119,43 +120,44 @@ handled-parts class service e =
     let parts = and_parts service.balancer (same_class class service.class) e in
     (parts.0, (same_class-is class service.class).0 parts.1)
 
+-- it is no reason and no record
+abbrev IsBare : Choice → Type 0
+IsBare Foreign = Unit {0}
+IsBare Clear = Unit {0}
+IsBare (Pending reason) = ⊥
+IsBare (Keep holding) = ⊥
+IsBare (New holding) = ⊥
+
+given-bare : (has : Holders) (q : Asker) (c : Choice) → IsBare c → (pools : List CompiledPool) (reason : Reason) → Gives has q pools reason c → ⊥
+given-bare has q c bare pools reason gives = ⊎_elim (λ new. subst IsBare new.2 bare) (λ full. subst IsBare full.1 bare) gives
+
+-- such a choice is made by the type and the class alone
+bare-chosen : (has : Holders) (o : Offer) (class : Option (List ℕ)) (service : Service) (q : Asker) (c : Choice) → IsBare c
+    → ((service.balancer ≡ true) × (service.class ≢ class) → c ≡ Foreign → ⊥) → (service.balancer ≡ false → c ≡ Clear → ⊥) → IsChosenFor has o class service q c
+    → ⊥
+bare-chosen has o class service q c bare foreign clear =
+    case-has _ _ _ _ foreign (λ _.
+    case-has _ _ _ _ clear (λ _.
+    case-has _ _ _ _ (λ _ is. subst IsBare is bare) (λ _.
+    case-has _ _ _ _ (λ _ is. subst IsBare is bare) (λ _.
+    case-has _ _ _ _ (λ _ is. subst IsBare is bare) (λ _.
+    case-has _ _ _ _ (λ _ is. subst IsBare is bare) (λ _.
+    case-has _ _ _ _ (λ _ kept. subst IsBare kept.2 bare) (λ _.
+    case-has _ _ _ _ (λ _ is. subst IsBare is bare) (λ _.
+    case-has _ _ _ _ (λ _ is. subst IsBare is bare) (λ _.
+    case-has _ _ _ _ (λ _ home. subst IsBare home.3 bare) (λ _.
+    case-has _ _ _ _ (λ _ gives. given-bare has q c bare _ _ gives) (λ _.
+    case-has _ _ _ _ (λ _ is. subst IsBare is bare) (λ _ gives. given-bare has q c bare _ _ gives))))))))))))
+
 pub not-foreign : (has : Holders) (o : Offer) (class : Option (List ℕ)) (service : Service) (q : Asker) → is_handled class service ≡ true
     → IsChosenFor has o class service q Foreign → ⊥
 not-foreign has o class service q handled =
-    case-has _ _ _ _ (λ one _. one.1 (handled-parts class service handled).1) (λ _.
-    case-has _ _ _ _ (λ _ is. absurd (cc)) (λ _.
-    case-has _ _ _ _ (λ _ is. absurd (cc)) (λ _.
-    case-has _ _ _ _ (λ _ is. absurd (cc)) (λ _.
-    case-has _ _ _ _ (λ _ is. absurd (cc)) (λ _.
-    case-has _ _ _ _ (λ _ is. absurd (cc)) (λ _.
-    case-has _ _ _ _ (λ _ kept. let is = kept.2 in absurd (cc)) (λ _.
-    case-has _ _ _ _ (λ _ is. absurd (cc)) (λ _.
-    case-has _ _ _ _ (λ _ is. absurd (cc)) (λ _.
-    case-has _ _ _ _ (λ _ home. let is = home.3 in absurd (cc)) (λ _.
-    case-has _ _ _ _ (λ _ gives. given _ _ gives) (λ _.
-    case-has _ _ _ _ (λ _ is. absurd (cc)) (λ _ gives. given _ _ gives))))))))))))
-  where
-    given : (pools : List CompiledPool) (reason : Reason) → Gives has q pools reason Foreign → ⊥
-    given pools reason gives = ⊎_elim (λ new. let is = new.2 in absurd (cc)) (λ full. let is = full.1 in absurd (cc)) gives
+    bare-chosen has o class service q Foreign tt (λ other _. other.1 (handled-parts class service handled).1) (λ _ is. absurd (cc))
 
 pub not-cleared : (has : Holders) (o : Offer) (class : Option (List ℕ)) (service : Service) (q : Asker) → is_handled class service ≡ true
     → IsChosenFor has o class service q Clear → ⊥
 not-cleared has o class service q handled =
-    case-has _ _ _ _ (λ _ is. absurd (cc)) (λ _.
-    case-has _ _ _ _ (λ two _. true≢false (sym (handled-parts class service handled).0 ∙ two)) (λ _.
-    case-has _ _ _ _ (λ _ is. absurd (cc)) (λ _.
-    case-has _ _ _ _ (λ _ is. absurd (cc)) (λ _.
-    case-has _ _ _ _ (λ _ is. absurd (cc)) (λ _.
-    case-has _ _ _ _ (λ _ is. absurd (cc)) (λ _.
-    case-has _ _ _ _ (λ _ kept. let is = kept.2 in absurd (cc)) (λ _.
-    case-has _ _ _ _ (λ _ is. absurd (cc)) (λ _.
-    case-has _ _ _ _ (λ _ is. absurd (cc)) (λ _.
-    case-has _ _ _ _ (λ _ home. let is = home.3 in absurd (cc)) (λ _.
-    case-has _ _ _ _ (λ _ gives. given _ _ gives) (λ _.
-    case-has _ _ _ _ (λ _ is. absurd (cc)) (λ _ gives. given _ _ gives))))))))))))
-  where
-    given : (pools : List CompiledPool) (reason : Reason) → Gives has q pools reason Clear → ⊥
-    given pools reason gives = ⊎_elim (λ new. let is = new.2 in absurd (cc)) (λ full. let is = full.1 in absurd (cc)) gives
+    bare-chosen has o class service q Clear tt (λ _ is. absurd (cc)) (λ bare _. true≢false (sym (handled-parts class service handled).0 ∙ bare))
 
 -- the asker with another record
 asker-with : (service : Service) (holding : Record) → asker_of (with_holding holding service) ≡ record (asker_of service) { recorded = holding.addresses }

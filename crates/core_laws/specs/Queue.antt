@@ -4,7 +4,7 @@ use Rattle.kube_model.specs.declared.key.Key.{Key}
 use Rattle.kube_model.specs.declared.put.Put.{Put}
 use Rattle.kube_model.specs.Keys.{has_key}
 use Rattle.core_rules.specs.Core.{State, is_ready, service_of}
-use Rattle.core_rules.specs.Run.{Entry, core_after, IsRun}
+use Rattle.core_rules.specs.Run.{TranscriptEntry, core_after, IsRun}
 
 -- each key stands in the list once
 abbrev pub AreApart : List Key → Type 0
@@ -30,4 +30,4 @@ pub record IsOrderlyQueue (s : State) : Type 0 where
 
 -- so it is at each moment of every run
 abbrev pub QueuesAreOrderly : Type 0
-QueuesAreOrderly = (class : Option (List ℕ)) (run : List Entry) → IsRun class run → IsOrderlyQueue (core_after class run)
+QueuesAreOrderly = (class : Option (List ℕ)) (run : List TranscriptEntry) → IsRun class run → IsOrderlyQueue (core_after class run)

@@ -13,7 +13,7 @@ use Rattle.claim_index.specs.Claims.{holders, Holders}
 use Rattle.kube_model.specs.Keys.{same_key}
 use Rattle.core_rules.specs.Core.{State, service_of, offer_in, is_settled}
 use Rattle.core_rules.specs.Turn.{wanted_record}
-use Rattle.core_rules.specs.Run.{Entry, core_after, IsRun}
+use Rattle.core_rules.specs.Run.{TranscriptEntry, core_after, IsRun}
 
 -- The service has the record that was chosen for it, by what there is for it now (the configuration in force and the labels of
 -- its namespace). Where nothing could be chosen, nothing can be chosen by the claims as they are now either.
@@ -37,4 +37,4 @@ IsQuiet s = (key : Key) (service : Service) → is_settled s key ≡ true → is
     → MeetsRow s.class (offer_in s.held) (holders s.claims) service
 
 abbrev pub RunsAreQuiet : Type 0
-RunsAreQuiet = (class : Option (List ℕ)) (run : List Entry) → IsRun class run → IsQuiet (core_after class run)
+RunsAreQuiet = (class : Option (List ℕ)) (run : List TranscriptEntry) → IsRun class run → IsQuiet (core_after class run)

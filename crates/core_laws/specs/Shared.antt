@@ -10,7 +10,7 @@ use Rattle.sharing_terms.specs.Marked.{AreTerms}
 use Rattle.sharing_terms.specs.Sharing.{MayShare}
 use Rattle.sharing_terms.specs.Terms.{terms_of}
 use Rattle.claim_index.specs.Claims.{ClaimValue, is_under, claim_of, terms_under}
-use Rattle.core_rules.specs.Run.{Entry, Took, Expired, Turned, Heard, IsRun, put_out, claims_shown, terms_shown}
+use Rattle.core_rules.specs.Run.{TranscriptEntry, Took, Expired, Turned, Heard, IsRun, put_out, claims_shown, terms_shown}
 use Rattle.core_laws.specs.Shown.{HoldsOfShown}
 
 -- the claim of the record that is being written, where it is the key's
@@ -19,7 +19,7 @@ claim_out key None adopted = []
 claim_out key (Some put) adopted = if same_key put.key key then claim_of put.key put.holding (terms_under put.holding adopted) else []
 
 -- the claims that the key has or may have, one of a record that is being written included
-abbrev pub may_have : Key → List Entry → List ClaimValue
+abbrev pub may_have : Key → List TranscriptEntry → List ClaimValue
 may_have key run = claims_shown key run ++ claim_out key (put_out run) (terms_shown key run)
 
 -- whether the claims are one
@@ -27,22 +27,22 @@ abbrev pub same_claim : ClaimValue → ClaimValue → Bool
 same_claim a b = same_key a.key b.key && is_under b.holding b.terms a
 
 -- the key has the claim, or may have it
-abbrev pub has_claim : Key → ClaimValue → List Entry → Bool
+abbrev pub has_claim : Key → ClaimValue → List TranscriptEntry → Bool
 has_claim key c run = list_any (same_claim c) (may_have key run)
 
 -- for how many of the newest entries the key has had the claim, or may have had it, without a break
-abbrev pub age_of : Key → ClaimValue → List Entry → ℕ
+abbrev pub age_of : Key → ClaimValue → List TranscriptEntry → ℕ
 age_of key c [] = 0
 age_of key c (e ∷ earlier) = if has_claim key c (e ∷ earlier) then suc (age_of key c earlier) else 0
 
-abbrev pub is_event : Entry → Bool
+abbrev pub is_event : TranscriptEntry → Bool
 is_event (Took event) = true
 is_event (Expired group) = false
 is_event (Turned turn) = false
 is_event (Heard reply) = false
 
 -- the key came to the claim by an event: the cluster showed it
-abbrev pub was_shown : Key → ClaimValue → List Entry → Bool
+abbrev pub was_shown : Key → ClaimValue → List TranscriptEntry → Bool
 was_shown key c [] = false
 was_shown key c (e ∷ earlier) = if has_claim key c earlier then was_shown key c earlier else is_event e
 
@@ -51,21 +51,21 @@ abbrev pub ClaimsMayShare : ClaimValue → ClaimValue → Type 0
 ClaimsMayShare c d = MayShare c.terms d.terms
 
 -- the key came to its claim later than the other came to its own, and by an event
-abbrev pub CameShown : Key → ClaimValue → Key → ClaimValue → List Entry → Type 0
+abbrev pub CameShown : Key → ClaimValue → Key → ClaimValue → List TranscriptEntry → Type 0
 CameShown key c other d run = (age_of key c run < age_of other d run) × (was_shown key c run ≡ true)
 
 -- Of two services that have, or may have, one address, both share it by their terms, or the one that came to it later, or came later to
 -- its terms, was shown with it so by an event, and given it by no put.
-abbrev pub AreSharedOrShown : List Entry → Type 0
+abbrev pub AreSharedOrShown : List TranscriptEntry → Type 0
 AreSharedOrShown run =
     (key other : Key) → key ≢ other → (c d : ClaimValue) → Contains (may_have key run) c → Contains (may_have other run) d
     → (a : AddressValue) → Contains c.holding.addresses a → Contains d.holding.addresses a
     → ClaimsMayShare c d ⊎ CameShown key c other d run ⊎ CameShown other d key c run
 
 -- the services that events show have terms that there can be: their texts are texts, and their ports are ports
-abbrev pub AllShowTerms : List Entry → Type 0
+abbrev pub AllShowTerms : List TranscriptEntry → Type 0
 AllShowTerms run = HoldsOfShown (λ key service. AreTerms (terms_of service)) run
 
 -- so it is at each moment of every run
 abbrev pub RunsAreShared : Type 0
-RunsAreShared = (class : Option (List ℕ)) (run : List Entry) → IsRun class run → AllShowTerms run → AreSharedOrShown run
+RunsAreShared = (class : Option (List ℕ)) (run : List TranscriptEntry) → IsRun class run → AllShowTerms run → AreSharedOrShown run

@@ -3,7 +3,7 @@ use Rattle.std.specs.Prelude.{List, [], ◌∷◌, ⊤}
 use Rattle.kube_model.specs.declared.key.Key.{Key}
 use Rattle.kube_model.specs.declared.service.Service.{Service}
 use Rattle.core_rules.specs.Take.{Effect, Shows, Drops, EndsServices, Configures, Expires, Nothing, effect_of}
-use Rattle.core_rules.specs.Run.{Entry, Took, Expired, Turned, Heard}
+use Rattle.core_rules.specs.Run.{TranscriptEntry, Took, Expired, Turned, Heard}
 
 module _ (P : Key → Service → Type 0) where
   abbrev pub OfEffect : Effect → Type 0
@@ -14,13 +14,13 @@ module _ (P : Key → Service → Type 0) where
   OfEffect Expires = ⊤
   OfEffect Nothing = ⊤
 
-  abbrev pub OfEntry : Entry → Type 0
+  abbrev pub OfEntry : TranscriptEntry → Type 0
   OfEntry (Took event) = OfEffect (effect_of event)
   OfEntry (Expired group) = ⊤
   OfEntry (Turned turn) = ⊤
   OfEntry (Heard reply) = ⊤
 
   -- it holds of each service that an event shows, under its key
-  abbrev pub HoldsOfShown : List Entry → Type 0
+  abbrev pub HoldsOfShown : List TranscriptEntry → Type 0
   HoldsOfShown [] = ⊤
   HoldsOfShown (e ∷ earlier) = OfEntry e × HoldsOfShown earlier

@@ -20,12 +20,12 @@ use Rattle.alloc_book.specs.Chosen.{IsChosen}
 use Rattle.core_rules.specs.declared.turn.Turn.{Turn}
 use Rattle.core_rules.specs.declared.turn.Turn.TheVariants.{Idle, NoPut, Wants}
 use Rattle.core_rules.specs.Take.{core_note}
-use Rattle.core_rules.specs.Run.{Entry, Turned, IsRun, core_after, observed, claims_shown}
+use Rattle.core_rules.specs.Run.{TranscriptEntry, Turned, IsRun, core_after, observed, claims_shown}
 use Rattle.core_laws.specs.QuietShown.{offer_shown}
 
 -- The key's service is held as it was last shown, and it is pending for this reason: the first case of the table that holds, by the
 -- claims that the look back shows, the configuration in force and its namespace's labels as they were last shown.
-pub record IsRightReason (class : Option (List ℕ)) (key : Key) (reason : Reason) (earlier : List Entry) : Type 0 where
+pub record IsRightReason (class : Option (List ℕ)) (key : Key) (reason : Reason) (earlier : List TranscriptEntry) : Type 0 where
   pub held : Versioned Service
   pub shown : IsLastShown service_resource key held (observed earlier)
   pub config : ConfigValue
@@ -41,7 +41,8 @@ Tells (Wants put pending) key reason = (put.key ≡ key) × (pending ≡ Some re
 -- each reason that is told is right
 abbrev pub ReasonsAreRight : Type 0
 ReasonsAreRight =
-    (class : Option (List ℕ)) (turn : Turn) (key : Key) (reason : Reason) (earlier : List Entry) → IsRun class (Turned turn ∷ earlier) → Tells turn key reason
+    (class : Option (List ℕ)) (turn : Turn) (key : Key) (reason : Reason) (earlier : List TranscriptEntry) → IsRun class (Turned turn ∷ earlier)
+    → Tells turn key reason
     → IsRightReason class key reason earlier
 
 -- The event has a configuration compiled, of the objects as they are shown then, and this is its first fault.
@@ -60,5 +61,5 @@ IsRightNote (Refused fault) event earlier = IsRefused fault event earlier
 -- what is noted of each event is right
 abbrev pub NotesAreRight : Type 0
 NotesAreRight =
-    (class : Option (List ℕ)) (event : Event) (earlier : List Entry) → IsRun class earlier
+    (class : Option (List ℕ)) (event : Event) (earlier : List TranscriptEntry) → IsRun class earlier
     → IsRightNote (core_note (core_after class earlier) event) event (observed earlier)

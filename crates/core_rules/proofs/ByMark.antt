@@ -4,10 +4,10 @@ use Rattle.std.proofs.lemmas.List.Elements.{Contains-append_cases}
 use Rattle.std.specs.List.{Contains}
 use Rattle.std.specs.Option.{unwrap_or}
 use Rattle.mlb_base.proofs.Among.{contains-none}
-use Rattle.pool_choice.proofs.Filters.{filter-contains}
+use Rattle.mlb_base.proofs.Lists.{filter-contains}
 use Rattle.kube_model.specs.declared.event.Event.{Event}
 use Rattle.kube_model.specs.declared.event.Event.TheVariants.{ListEnd}
-use Rattle.kube_model.specs.declared.event.Group.TheVariants as groups
+use Rattle.kube_model.specs.declared.event.ListGroup.TheVariants as groups
 use Rattle.kube_model.specs.declared.key.Key.{Key}
 use Rattle.kube_model.specs.declared.put.Put.{Put}
 use Rattle.kube_model.specs.declared.record.Record.{Record}
@@ -18,7 +18,7 @@ use Rattle.sharing_terms.specs.declared.terms.Terms.{Terms}
 use Rattle.sharing_terms.specs.Marked.{IsMarkOf}
 use Rattle.sharing_terms.specs.Terms.{terms_of}
 use Rattle.sharing_terms.proofs.ReadBack.{recorded-exact}
-use Rattle.versioned_map.specs.Entries.{is_newer}
+use Rattle.versioned_map.specs.Objects.{is_newer}
 use Rattle.claim_index.specs.Claims.{ClaimValue, terms_under, others, claim_of, settled, claims_it}
 use Rattle.alloc_book.proofs.BookLaws.{claim_of-is}
 use Rattle.core_rules.specs.Core.{State, shown_terms, terms_in}

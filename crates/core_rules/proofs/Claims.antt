@@ -2,9 +2,10 @@
 use Rattle.std.proofs.Common.{◌≡◌, ℕ, Bool, true, false, cond, eqb, leb, ◌&&◌, not, List, [], ◌∷◌, Option}
 use Rattle.std.proofs.Common.{Some, None, option_map, filter, refl, sym, ap, subst, ◌∙◌}
 use Rattle.std.specs.Option.{option_map_or}
+use Rattle.mlb_base.proofs.Bools.{cond-same}
 use Rattle.kube_model.specs.declared.event.Event.{Event}
 use Rattle.kube_model.specs.declared.event.Event.TheVariants.{ListEnd}
-use Rattle.kube_model.specs.declared.event.Group.TheVariants as groups
+use Rattle.kube_model.specs.declared.event.ListGroup.TheVariants as groups
 use Rattle.kube_model.specs.declared.key.Key.{Key}
 use Rattle.kube_model.specs.declared.put.Put.{Put}
 use Rattle.kube_model.specs.declared.record.Record.{Record}
@@ -14,7 +15,7 @@ use Rattle.kube_model.specs.declared.reply.PutReply.{PutReply}
 use Rattle.kube_model.specs.declared.reply.PutReply.TheVariants.{Ok as StoredReply, Stale, Missing, Unknown}
 use Rattle.kube_model.specs.declared.service.Service.{Service}
 use Rattle.versioned_map.specs.declared.map.Versioned.{Versioned}
-use Rattle.versioned_map.specs.Entries.{held_at, version_at}
+use Rattle.versioned_map.specs.Objects.{held_at, version_at}
 use Rattle.object_history.specs.Cache.{Cached}
 use Rattle.object_history.specs.Observations.{Watched}
 use Rattle.kube_model.specs.Keys.{key_cmp, same_key}
@@ -27,26 +28,22 @@ use Rattle.claim_index.proofs.ClaimLaws.{claims_of-settled, claims_of-doubted, c
 use Rattle.core_rules.specs.Core.{State, no_terms, terms_in, shown_terms}
 use Rattle.core_rules.specs.Take.{effect_of, core_by, core_take, is_unlisted}
 use Rattle.core_rules.specs.Replied.{put_terms, replied_to}
-use Rattle.core_rules.specs.Run.{Entry, Took, Expired, Turned, Heard, core_after, IsRun, observed, version_shown}
+use Rattle.core_rules.specs.Run.{TranscriptEntry, Took, Expired, Turned, Heard, core_after, IsRun, observed, version_shown}
 use Rattle.core_rules.specs.Run.{terms_shown, claims_told, claims_heard, claims_shown, ClaimsAreShown}
 use Rattle.core_rules.proofs.Effects.{by_effect}
 use Rattle.core_rules.proofs.Runs.{core_holds_what_was_observed}
 
 -- what is held of a key, and at which version
-pub shown-held : (class : Option (List ℕ)) (run : List Entry) → IsRun class run → (key : Key)
+pub shown-held : (class : Option (List ℕ)) (run : List TranscriptEntry) → IsRun class run → (key : Key)
     → held_at key_cmp (core_after class run).held.services key ≡ last_shown service_resource key (observed run)
 shown-held class run is key =
     ap (λ (h : Cached). held_at key_cmp h.services key) (core_holds_what_was_observed class run is).0
     ∙ ap (λ (es : List (Key × Versioned Service)). held_at key_cmp es key) (services-held (observed run))
     ∙ held_at-held_of service_resource key_cmp-total key_cmp-exact (observed run) key
 
-pub version-held : (class : Option (List ℕ)) (run : List Entry) → IsRun class run → (key : Key)
+pub version-held : (class : Option (List ℕ)) (run : List TranscriptEntry) → IsRun class run → (key : Key)
     → version_at key_cmp (core_after class run).held.services key ≡ version_shown key run
 version-held class run is key = ap (λ (h : Option (Versioned Service)). option_map_or (λ (v : Versioned Service). v.version) h 0) (shown-held class run is key)
-
-either_same : (b : Bool) (rs : List ClaimValue) → rs ≡ cond b rs rs
-either_same true rs = refl
-either_same false rs = refl
 
 kept_by : (x y z : Bool) (c : ClaimValue) (key : Key) (cs rest : List ClaimValue) → y ≡ same_key c.key key → (y ≡ true → x ≡ z)
     → claims_of key rest ≡ cond z [] (claims_of key cs)
@@ -61,7 +58,7 @@ kept_by false false z c key cs rest s same ih = rw (← s) ih
 -- the claims of some keys go
 pub claims_of-kept : (test : Key → Bool) (cs : List ClaimValue) (key : Key)
     → claims_of key (filter (λ (c : ClaimValue). not (test c.key)) cs) ≡ cond (test key) [] (claims_of key cs)
-claims_of-kept test [] key = either_same (test key) []
+claims_of-kept test [] key = sym (cond-same (test key) [])
 claims_of-kept test (c ∷ cs) key =
     kept_by (test c.key) (same_key c.key key) (test key) c key cs (filter (λ (c : ClaimValue). not (test c.key)) cs) refl
     (λ s. ap test (same_key-is c.key key s)) (claims_of-kept test cs key)
@@ -107,7 +104,8 @@ terms-within None = refl
 terms-within (Some h) = refl
 
 -- the terms of the held service are those that the look back shows
-pub terms-held : (class : Option (List ℕ)) (run : List Entry) → IsRun class run → (key : Key) → terms_in (core_after class run).held key ≡ terms_shown key run
+pub terms-held : (class : Option (List ℕ)) (run : List TranscriptEntry) → IsRun class run → (key : Key)
+    → terms_in (core_after class run).held key ≡ terms_shown key run
 terms-held class run is key =
     terms-within (held_at key_cmp (core_after class run).held.services key)
     ∙ ap (λ (h : Option (Versioned Service)). option_map_or (λ (v : Versioned Service). terms_of v.object) h no_terms) (shown-held class run is key)

@@ -2,7 +2,7 @@
 use Rattle.std.proofs.Common.{◌≡◌, ℕ, refl}
 use Rattle.kube_model.specs.declared.event.Event.{Event}
 use Rattle.kube_model.specs.declared.event.Event.TheVariants.{Changed, Deleted, ListEnd, Expired, Members, Frame, Ignored}
-use Rattle.kube_model.specs.declared.event.Group.TheVariants as groups
+use Rattle.kube_model.specs.declared.event.ListGroup.TheVariants as groups
 use Rattle.kube_model.specs.declared.key.Key.{Key}
 use Rattle.kube_model.specs.declared.object.Kind.TheVariants as kinds
 use Rattle.kube_model.specs.declared.object.Object.TheVariants as objects
@@ -46,89 +46,47 @@ module _ (P : Event → Effect → Type 0)
     by_effect (Frame interface bytes) = other (Frame interface bytes)
     by_effect Ignored = other Ignored
 
--- an event of the configuration or of a namespace leaves the services and their list as they were
-pub config-services : (event : Event) (s : Cached) → effect_of event ≡ Configures → (cached_after (Watched event) s).services ≡ s.services
-config-services (Changed version (objects.Service service)) s e = absurd (cc)
-config-services (Changed version (objects.Pool pool)) s e = refl
-config-services (Changed version (objects.L2 adv)) s e = refl
-config-services (Changed version (objects.Bgp adv)) s e = refl
-config-services (Changed version (objects.Peer peer)) s e = refl
-config-services (Changed version (objects.Community community)) s e = refl
-config-services (Changed version (objects.Namespace namespace)) s e = refl
-config-services (Changed version (objects.Node node)) s e = absurd (cc)
-config-services (Changed version (objects.Slice slice)) s e = absurd (cc)
-config-services (Deleted kinds.Service key) s e = absurd (cc)
-config-services (Deleted kinds.Pool key) s e = refl
-config-services (Deleted kinds.L2 key) s e = refl
-config-services (Deleted kinds.Bgp key) s e = refl
-config-services (Deleted kinds.Peer key) s e = refl
-config-services (Deleted kinds.Community key) s e = refl
-config-services (Deleted kinds.Namespace key) s e = refl
-config-services (Deleted kinds.Node key) s e = absurd (cc)
-config-services (Deleted kinds.Slice key) s e = absurd (cc)
-config-services (ListEnd groups.Service) s e = absurd (cc)
-config-services (ListEnd groups.Config) s e = refl
-config-services (ListEnd groups.Endpoint) s e = absurd (cc)
-config-services Expired s e = absurd (cc)
-config-services (Members names) s e = absurd (cc)
-config-services (Frame interface bytes) s e = absurd (cc)
-config-services Ignored s e = absurd (cc)
-
-pub config-services_ended : (event : Event) (s : Cached) → effect_of event ≡ Configures → (cached_after (Watched event) s).services_ended ≡ s.services_ended
-config-services_ended (Changed version (objects.Service service)) s e = absurd (cc)
-config-services_ended (Changed version (objects.Pool pool)) s e = refl
-config-services_ended (Changed version (objects.L2 adv)) s e = refl
-config-services_ended (Changed version (objects.Bgp adv)) s e = refl
-config-services_ended (Changed version (objects.Peer peer)) s e = refl
-config-services_ended (Changed version (objects.Community community)) s e = refl
-config-services_ended (Changed version (objects.Namespace namespace)) s e = refl
-config-services_ended (Changed version (objects.Node node)) s e = absurd (cc)
-config-services_ended (Changed version (objects.Slice slice)) s e = absurd (cc)
-config-services_ended (Deleted kinds.Service key) s e = absurd (cc)
-config-services_ended (Deleted kinds.Pool key) s e = refl
-config-services_ended (Deleted kinds.L2 key) s e = refl
-config-services_ended (Deleted kinds.Bgp key) s e = refl
-config-services_ended (Deleted kinds.Peer key) s e = refl
-config-services_ended (Deleted kinds.Community key) s e = refl
-config-services_ended (Deleted kinds.Namespace key) s e = refl
-config-services_ended (Deleted kinds.Node key) s e = absurd (cc)
-config-services_ended (Deleted kinds.Slice key) s e = absurd (cc)
-config-services_ended (ListEnd groups.Service) s e = absurd (cc)
-config-services_ended (ListEnd groups.Config) s e = refl
-config-services_ended (ListEnd groups.Endpoint) s e = absurd (cc)
-config-services_ended Expired s e = absurd (cc)
-config-services_ended (Members names) s e = absurd (cc)
-config-services_ended (Frame interface bytes) s e = absurd (cc)
-config-services_ended Ignored s e = absurd (cc)
-
 -- what is held of endpoints, and whether their list has ended, is as it was
 abbrev pub HasSameEndpoints : Cached → Cached → Type 0
 HasSameEndpoints after before = (after.slices ≡ before.slices) × (after.endpoints_ended ≡ before.endpoints_ended)
 
--- an event of the configuration or of a namespace leaves them so
+-- and so it is with services
+abbrev HasSameOthers : Cached → Cached → Type 0
+HasSameOthers after before = (after.services ≡ before.services) × (after.services_ended ≡ before.services_ended) × HasSameEndpoints after before
+
+-- an event of the configuration or of a namespace leaves all of these so
+config-leaves : (event : Event) (s : Cached) → effect_of event ≡ Configures → HasSameOthers (cached_after (Watched event) s) s
+config-leaves (Changed version (objects.Service service)) s e = absurd (cc)
+config-leaves (Changed version (objects.Pool pool)) s e = (refl, refl, (refl, refl))
+config-leaves (Changed version (objects.L2 adv)) s e = (refl, refl, (refl, refl))
+config-leaves (Changed version (objects.Bgp adv)) s e = (refl, refl, (refl, refl))
+config-leaves (Changed version (objects.Peer peer)) s e = (refl, refl, (refl, refl))
+config-leaves (Changed version (objects.Community community)) s e = (refl, refl, (refl, refl))
+config-leaves (Changed version (objects.Namespace namespace)) s e = (refl, refl, (refl, refl))
+config-leaves (Changed version (objects.Node node)) s e = absurd (cc)
+config-leaves (Changed version (objects.Slice slice)) s e = absurd (cc)
+config-leaves (Deleted kinds.Service key) s e = absurd (cc)
+config-leaves (Deleted kinds.Pool key) s e = (refl, refl, (refl, refl))
+config-leaves (Deleted kinds.L2 key) s e = (refl, refl, (refl, refl))
+config-leaves (Deleted kinds.Bgp key) s e = (refl, refl, (refl, refl))
+config-leaves (Deleted kinds.Peer key) s e = (refl, refl, (refl, refl))
+config-leaves (Deleted kinds.Community key) s e = (refl, refl, (refl, refl))
+config-leaves (Deleted kinds.Namespace key) s e = (refl, refl, (refl, refl))
+config-leaves (Deleted kinds.Node key) s e = absurd (cc)
+config-leaves (Deleted kinds.Slice key) s e = absurd (cc)
+config-leaves (ListEnd groups.Service) s e = absurd (cc)
+config-leaves (ListEnd groups.Config) s e = (refl, refl, (refl, refl))
+config-leaves (ListEnd groups.Endpoint) s e = absurd (cc)
+config-leaves Expired s e = absurd (cc)
+config-leaves (Members names) s e = absurd (cc)
+config-leaves (Frame interface bytes) s e = absurd (cc)
+config-leaves Ignored s e = absurd (cc)
+
+pub config-services : (event : Event) (s : Cached) → effect_of event ≡ Configures → (cached_after (Watched event) s).services ≡ s.services
+config-services event s e = (config-leaves event s e).0
+
+pub config-services_ended : (event : Event) (s : Cached) → effect_of event ≡ Configures → (cached_after (Watched event) s).services_ended ≡ s.services_ended
+config-services_ended event s e = (config-leaves event s e).1
+
 pub config-endpoints : (event : Event) (s : Cached) → effect_of event ≡ Configures → HasSameEndpoints (cached_after (Watched event) s) s
-config-endpoints (Changed version (objects.Service service)) s e = absurd (cc)
-config-endpoints (Changed version (objects.Pool pool)) s e = (refl, refl)
-config-endpoints (Changed version (objects.L2 adv)) s e = (refl, refl)
-config-endpoints (Changed version (objects.Bgp adv)) s e = (refl, refl)
-config-endpoints (Changed version (objects.Peer peer)) s e = (refl, refl)
-config-endpoints (Changed version (objects.Community community)) s e = (refl, refl)
-config-endpoints (Changed version (objects.Namespace namespace)) s e = (refl, refl)
-config-endpoints (Changed version (objects.Node node)) s e = absurd (cc)
-config-endpoints (Changed version (objects.Slice slice)) s e = absurd (cc)
-config-endpoints (Deleted kinds.Service key) s e = absurd (cc)
-config-endpoints (Deleted kinds.Pool key) s e = (refl, refl)
-config-endpoints (Deleted kinds.L2 key) s e = (refl, refl)
-config-endpoints (Deleted kinds.Bgp key) s e = (refl, refl)
-config-endpoints (Deleted kinds.Peer key) s e = (refl, refl)
-config-endpoints (Deleted kinds.Community key) s e = (refl, refl)
-config-endpoints (Deleted kinds.Namespace key) s e = (refl, refl)
-config-endpoints (Deleted kinds.Node key) s e = absurd (cc)
-config-endpoints (Deleted kinds.Slice key) s e = absurd (cc)
-config-endpoints (ListEnd groups.Service) s e = absurd (cc)
-config-endpoints (ListEnd groups.Config) s e = (refl, refl)
-config-endpoints (ListEnd groups.Endpoint) s e = absurd (cc)
-config-endpoints Expired s e = absurd (cc)
-config-endpoints (Members names) s e = absurd (cc)
-config-endpoints (Frame interface bytes) s e = absurd (cc)
-config-endpoints Ignored s e = absurd (cc)
+config-endpoints event s e = (config-leaves event s e).2

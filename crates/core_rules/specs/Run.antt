@@ -1,8 +1,8 @@
 -- Runs of the core, and what a look back over them shows. The newest stands first.
 use Rattle.std.specs.Prelude.{◌≡◌, ℕ, true, ◌&&◌, ◌==◌, not, nat_le, if◌then◌else◌, List, [], ◌∷◌, Option, Some, None, is_some, ⊤}
 use Rattle.kube_model.specs.declared.event.Event.{Event}
-use Rattle.kube_model.specs.declared.event.Group.{Group}
-use Rattle.kube_model.specs.declared.event.Group.TheVariants as groups
+use Rattle.kube_model.specs.declared.event.ListGroup.{ListGroup}
+use Rattle.kube_model.specs.declared.event.ListGroup.TheVariants as groups
 use Rattle.kube_model.specs.declared.key.Key.{Key}
 use Rattle.kube_model.specs.declared.put.Put.{Put}
 use Rattle.kube_model.specs.declared.reply.PutReply.{PutReply}
@@ -25,36 +25,36 @@ use Rattle.core_rules.specs.Turn.{core_turn, after_turn, put_in}
 use Rattle.core_rules.specs.Replied.{core_reply}
 
 -- what arrives at a core, and what it was made to do
-pub data Entry : Type 0 where
-  Took : (event : Event) → Entry  -- an event was taken
-  Expired : (group : Group) → Entry  -- the watch of one list has expired
-  Turned : (turn : Turn) → Entry  -- a turn was made, and came to this
-  Heard : (reply : PutReply) → Entry  -- the put that was out was answered
+pub data TranscriptEntry : Type 0 where
+  Took : (event : Event) → TranscriptEntry  -- an event was taken
+  Expired : (group : ListGroup) → TranscriptEntry  -- the watch of one list has expired
+  Turned : (turn : Turn) → TranscriptEntry  -- a turn was made, and came to this
+  Heard : (reply : PutReply) → TranscriptEntry  -- the put that was out was answered
 
-abbrev pub entered : Entry → State → State
+abbrev pub entered : TranscriptEntry → State → State
 entered (Took event) s = core_take s event
 entered (Expired group) s = core_expired s group
 entered (Turned turn) s = after_turn s
 entered (Heard reply) s = core_reply s reply
 
-abbrev pub core_after : Option (List ℕ) → List Entry → State
+abbrev pub core_after : Option (List ℕ) → List TranscriptEntry → State
 core_after class [] = fresh class
 core_after class (e ∷ earlier) = entered e (core_after class earlier)
 
 -- events are taken and turns are made while no put is out; a reply comes to a put that is out; each turn is the core's
-abbrev pub MayEnter : Entry → State → Type 0
+abbrev pub MayEnter : TranscriptEntry → State → Type 0
 MayEnter (Took event) s = s.out ≡ None
 MayEnter (Expired group) s = s.out ≡ None
 MayEnter (Turned turn) s = (s.out ≡ None) × (turn ≡ core_turn s)
 MayEnter (Heard reply) s = is_some s.out ≡ true
 
-abbrev pub IsRun : Option (List ℕ) → List Entry → Type 0
+abbrev pub IsRun : Option (List ℕ) → List TranscriptEntry → Type 0
 IsRun class [] = ⊤
 IsRun class (e ∷ earlier) = MayEnter e (core_after class earlier) × IsRun class earlier
 
 -- ---- the look back
 -- the put that has no reply yet
-abbrev pub put_out : List Entry → Option Put
+abbrev pub put_out : List TranscriptEntry → Option Put
 put_out [] = None
 put_out (Took event ∷ earlier) = put_out earlier
 put_out (Expired group ∷ earlier) = put_out earlier
@@ -80,7 +80,7 @@ heard_by None reply earlier = earlier
 heard_by (Some put) reply earlier = heard_of put reply earlier
 
 -- what observed to what is held
-abbrev pub observed : List Entry → List Observation
+abbrev pub observed : List TranscriptEntry → List Observation
 observed [] = []
 observed (Took event ∷ earlier) = told_by (effect_of event) event (observed earlier)
 observed (Expired group ∷ earlier) = WatchExpired group ∷ observed earlier
@@ -88,11 +88,11 @@ observed (Turned turn ∷ earlier) = observed earlier
 observed (Heard reply ∷ earlier) = heard_by (put_out earlier) reply (observed earlier)
 
 -- the version that was last shown for the key, and 0 where none was
-abbrev pub version_shown : Key → List Entry → ℕ
+abbrev pub version_shown : Key → List TranscriptEntry → ℕ
 version_shown key run = version_last_shown service_resource key (observed run)
 
 -- the terms of the key's service, as the last newer event shows it
-abbrev pub terms_shown : Key → List Entry → Terms
+abbrev pub terms_shown : Key → List TranscriptEntry → Terms
 terms_shown key run = option_map_or (λ h. terms_of h.object) (last_shown service_resource key (observed run)) no_terms
 
 abbrev pub claims_told : Key → Effect → ℕ → List ClaimValue → List ClaimValue
@@ -118,7 +118,7 @@ claims_heard key (Some put) reply adopted before = claims_replied key put reply 
 -- The records that the key has, or may have: that of its last newer event or of its last put that was answered ok, whichever came
 -- later, and those of the puts since then that were answered unknown; none after its deletion. Each is claimed under the terms of its
 -- mark, and where it is the mark of none under those of the service as the last newer event showed it.
-abbrev pub claims_shown : Key → List Entry → List ClaimValue
+abbrev pub claims_shown : Key → List TranscriptEntry → List ClaimValue
 claims_shown key [] = []
 claims_shown key (Took event ∷ earlier) = claims_told key (effect_of event) (version_shown key earlier) (claims_shown key earlier)
 claims_shown key (Expired group ∷ earlier) = claims_shown key earlier
@@ -128,15 +128,15 @@ claims_shown key (Heard reply ∷ earlier) = claims_heard key (put_out earlier) 
 -- ---- laws
 -- whatever arrives, the core holds what observed
 abbrev pub HoldsWhatWasObserved : Type 0
-HoldsWhatWasObserved = (class : Option (List ℕ)) (run : List Entry) → IsRun class run
+HoldsWhatWasObserved = (class : Option (List ℕ)) (run : List TranscriptEntry) → IsRun class run
     → ((core_after class run).held ≡ cached (observed run)) × ((core_after class run).out ≡ put_out run)
 
 -- whatever arrives, where the record of a claim is marked, the claim's terms are those of the mark
 abbrev pub ClaimsAreByMark : Type 0
-ClaimsAreByMark = (class : Option (List ℕ)) (run : List Entry) → (c : ClaimValue) → Contains (core_after class run).claims c
+ClaimsAreByMark = (class : Option (List ℕ)) (run : List TranscriptEntry) → (c : ClaimValue) → Contains (core_after class run).claims c
     → (t : Terms) → IsMarkOf t c.holding.mark → c.terms ≡ t
 
 -- whatever arrives, each key has the claims that the look back shows
 abbrev pub ClaimsAreShown : Type 0
-ClaimsAreShown = (class : Option (List ℕ)) (run : List Entry) → IsRun class run → (key : Key)
+ClaimsAreShown = (class : Option (List ℕ)) (run : List TranscriptEntry) → IsRun class run → (key : Key)
     → claims_of key (core_after class run).claims ≡ claims_shown key run

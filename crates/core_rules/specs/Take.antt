@@ -3,8 +3,8 @@ use Rattle.std.specs.Prelude.{ℕ, Bool, true, false, ◌&&◌, ◌||◌, ◌==�
 use Rattle.std.specs.List.{list_any}
 use Rattle.kube_model.specs.declared.event.Event.{Event}
 use Rattle.kube_model.specs.declared.event.Event.TheVariants.{Changed, Deleted, ListEnd, Expired, Members, Frame, Ignored}
-use Rattle.kube_model.specs.declared.event.Group.{Group}
-use Rattle.kube_model.specs.declared.event.Group.TheVariants as groups
+use Rattle.kube_model.specs.declared.event.ListGroup.{ListGroup}
+use Rattle.kube_model.specs.declared.event.ListGroup.TheVariants as groups
 use Rattle.kube_model.specs.declared.key.Key.{Key}
 use Rattle.kube_model.specs.declared.object.Kind.{Kind}
 use Rattle.kube_model.specs.declared.object.Kind.TheVariants as kinds
@@ -12,12 +12,10 @@ use Rattle.kube_model.specs.declared.object.Object.{Object}
 use Rattle.kube_model.specs.declared.object.Object.TheVariants as objects
 use Rattle.kube_model.specs.declared.service.Service.{Service}
 use Rattle.versioned_map.specs.declared.map.Versioned.{Versioned}
-use Rattle.versioned_map.specs.Entries.{is_newer, listed, version_at}
+use Rattle.versioned_map.specs.Objects.{is_newer, listed, version_at}
 use Rattle.object_history.specs.Cache.{Cached, cached_after}
 use Rattle.object_history.specs.Observations.{Watched, WatchExpired}
 use Rattle.kube_model.specs.Keys.{key_cmp, same_key, without}
-use Rattle.object_cache.specs.declared.change.Change.{Change}
-use Rattle.object_cache.specs.declared.change.Change.TheVariants.{Service as ServiceChange, Services, Namespace as NamespaceChange, Other}
 use Rattle.object_cache.specs.declared.change.TakeNote.{TakeNote}
 use Rattle.object_cache.specs.declared.change.TakeNote.TheVariants.{Quiet, Accepted, Refused}
 use Rattle.object_cache.specs.declared.change.Applied.{Applied}
@@ -58,7 +56,7 @@ deleted_effect kinds.Peer key = Configures
 deleted_effect kinds.Community key = Configures
 deleted_effect kinds.Namespace key = Configures
 
-abbrev pub listed_effect : Group → Effect
+abbrev pub listed_effect : ListGroup → Effect
 listed_effect groups.Config = Configures
 listed_effect groups.Service = EndsServices
 listed_effect groups.Endpoint = Nothing
@@ -144,15 +142,9 @@ is_accepted Accepted = true
 is_accepted Quiet = false
 is_accepted (Refused fault) = false
 
-abbrev pub is_namespace : Change → Bool
-is_namespace (NamespaceChange name) = true
-is_namespace (ServiceChange key before) = false
-is_namespace (Services unlisted) = false
-is_namespace Other = false
-
 -- the core becomes ready, a configuration is accepted, or a namespace changes
 abbrev pub wakes : Cached → Applied → Cached → Bool
-wakes before by after = is_ready after && (not (is_ready before) || is_accepted by.note || is_namespace by.change)
+wakes before by after = is_ready after && (not (is_ready before) || is_accepted by.note || by.namespace_changed)
 
 -- the configuration or a namespace changes
 abbrev pub configured : State → Event → State
@@ -205,7 +197,7 @@ limits s event = limits_by (effect_of event) s
 
 -- The watch of one list has expired. What is held of it is at version 0 from now on, and where it was the list of the
 -- configuration or of the services, the queue is empty.
-abbrev pub core_expired : State → Group → State
+abbrev pub core_expired : State → ListGroup → State
 core_expired s group =
     let after = cached_after (WatchExpired group) s.held in
     record s { held = after; queue = if is_ready after then s.queue else [] }

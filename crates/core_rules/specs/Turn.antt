@@ -5,7 +5,7 @@ use Rattle.kube_model.specs.declared.put.Put.{Put}
 use Rattle.kube_model.specs.declared.reason.Reason.{Reason}
 use Rattle.kube_model.specs.declared.record.Record.{Record}
 use Rattle.kube_model.specs.declared.service.Service.{Service}
-use Rattle.versioned_map.specs.Entries.{version_at}
+use Rattle.versioned_map.specs.Objects.{version_at}
 use Rattle.kube_model.specs.Keys.{key_cmp}
 use Rattle.alloc_book.specs.declared.choice.Choice.{Choice}
 use Rattle.alloc_book.specs.declared.choice.Choice.TheVariants.{Foreign, Clear, Pending, Keep, New}

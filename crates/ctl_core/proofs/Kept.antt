@@ -7,17 +7,17 @@ use Rattle.std.specs.BTreeMap.{is_at}
 use Rattle.std.specs.Option.{option_map_or}
 use Rattle.std.specs.Prelude.{⊤}
 use Rattle.kube_model.specs.declared.event.Event.TheVariants.{Deleted, ListEnd}
-use Rattle.kube_model.specs.declared.event.Group.TheVariants as groups
+use Rattle.kube_model.specs.declared.event.ListGroup.TheVariants as groups
 use Rattle.kube_model.specs.declared.key.Key.{Key}
 use Rattle.kube_model.specs.declared.object.Kind.TheVariants as kinds
 use Rattle.kube_model.specs.declared.service.Service.{Service}
 use Rattle.kube_model.specs.Keys.{key_cmp, same_key, without}
 use Rattle.kube_model.proofs.KeyLaws.{key_cmp-total, same_key-flip}
 use Rattle.versioned_map.specs.declared.map.Versioned.{Versioned}
-use Rattle.versioned_map.specs.Entries.{held_at, is_listed, listed}
+use Rattle.versioned_map.specs.Objects.{held_at, is_listed, listed}
 use Rattle.object_history.specs.Cache.{Cached, cached_after}
 use Rattle.object_history.specs.Observations.{Watched}
-use Rattle.object_cache.specs.Told.{passing}
+use Rattle.object_cache.specs.Stays.{passing}
 use Rattle.claim_index.specs.Claims.{ClaimValue, others, has_claims}
 use Rattle.core_rules.specs.Core.{State, is_ready, is_free_with, all_free, waits, waiting}
 use Rattle.core_rules.specs.Take.{no_key, is_unlisted, listed_keys, listed_claims, have_claims, listed_and_free, without_service, with_services_listed}

@@ -4,7 +4,7 @@ use Rattle.std.specs.Prelude.{IsSome, OnOk, OnErr}
 use Rattle.std.specs.List.Sorted.{IsStrictlySortedBy}
 use Rattle.std.specs.Map.{keys_of}
 use Rattle.kube_model.specs.declared.event.Event.{Event}
-use Rattle.kube_model.specs.declared.event.Group.{Group}
+use Rattle.kube_model.specs.declared.event.ListGroup.{ListGroup}
 use Rattle.kube_model.specs.declared.reply.PutReply.{PutReply}
 use Rattle.kube_model.specs.Keys.{key_cmp}
 use Rattle.object_history.specs.Cache.{cached}
@@ -13,7 +13,7 @@ use Rattle.core_rules.specs.Core.{State, fresh, is_ready}
 use Rattle.core_rules.specs.Replied.{core_reply}
 use Rattle.core_rules.specs.Take.{core_take, core_expired}
 use Rattle.core_rules.specs.Turn.{core_turn, after_turn}
-use Rattle.core_rules.specs.Run.{Entry, Took, Expired, Turned, Heard, MayEnter, core_after, entered, observed}
+use Rattle.core_rules.specs.Run.{TranscriptEntry, Took, Expired, Turned, Heard, MayEnter, core_after, entered, observed}
 use Rattle.core_rules.proofs.Runs.{core_holds_what_was_observed}
 use Rattle.core_laws.specs.Quiet.{IsQuiet}
 use Rattle.core_laws.proofs.Free.{IsOrderly, runs-orderly}
@@ -27,7 +27,7 @@ pub reached-fresh : (class : Option (List ℕ)) → IsReached (fresh class)
 reached-fresh class = record { class = class; run = []; is = tt; leads = refl }
 
 -- what may enter leads from a reached state to a reached one
-goes_on : (s : State) (e : Entry) → IsReached s → MayEnter e s → IsReached (entered e s)
+goes_on : (s : State) (e : TranscriptEntry) → IsReached s → MayEnter e s → IsReached (entered e s)
 goes_on s e r may = record {
   class = r.class;
   run = e ∷ r.run;
@@ -80,5 +80,5 @@ module _ {T E : Type 0} (result : Result T E) (s t : State) (before : IsReached 
   pub reached-reply : (reply : PutReply) → IsSome s.out → OnOk result (t ≡ core_reply s reply) → OnErr result (t ≡ s) → IsReached t
   reached-reply reply some ok err = by_result result s t (core_reply s reply) before (goes_on s (Heard reply) before (some-out s.out some)) ok err
 
-pub reached-expired : (s t : State) (group : Group) → IsReached s → s.out ≡ None → t ≡ core_expired s group → IsReached t
+pub reached-expired : (s t : State) (group : ListGroup) → IsReached s → s.out ≡ None → t ≡ core_expired s group → IsReached t
 reached-expired s t group before none is = subst IsReached (sym is) (goes_on s (Expired group) before none)

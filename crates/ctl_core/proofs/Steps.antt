@@ -2,7 +2,7 @@
 use Rattle.std.proofs.Common.{◌≡◌, ℕ, true, false, leb, List, ◌++◌, refl}
 use Rattle.kube_model.specs.declared.key.Key.{Key}
 use Rattle.kube_model.specs.declared.service.Service.{Service}
-use Rattle.versioned_map.specs.Entries.{version_at}
+use Rattle.versioned_map.specs.Objects.{version_at}
 use Rattle.kube_model.specs.Keys.{key_cmp, without}
 use Rattle.object_history.specs.Cache.{Cached, cached_after}
 use Rattle.object_history.specs.Observations.{Watched}
@@ -22,10 +22,12 @@ pub held-newer : (s : State) (version : ℕ) (service : Service) → leb version
 held-newer s version service old = rw old refl
 
 -- what was prepared was done
-pub prepared-held : (s : State) (version : ℕ) (service : Service) (p : Prepared) (held : Cached) (queue awaiting : List Key) (claims : List ClaimValue)
+pub prepared-held : (s : State) (version : ℕ) (service : Service) (p : Prepared) (held : Cached) (queue awaiting : List Key)
+    (reserved claims : List ClaimValue) (key : Key)
     → IsPrepared s service p
     → held ≡ cached_after (Watched (shows version service)) s.held → queue ≡ s.queue ++ p.more.items
-    → claims ≡ settled p.claim.key p.claim.holding p.claim.terms s.claims → awaiting ≡ without service.key s.awaiting
+    → reserved ≡ s.claims → claims ≡ settled p.claim.key p.claim.holding p.claim.terms reserved
+    → key ≡ p.claim.key → awaiting ≡ without key s.awaiting
     → record s { held = held; claims = claims; queue = queue; awaiting = awaiting } ≡ held_service s version service
-prepared-held s version service p held queue awaiting claims prepared held_is queue_is claims_is awaiting_is =
-    rw (claims_is, awaiting_is, queue_is, held_is, prepared.more_is, prepared.claim_is) refl
+prepared-held s version service p held queue awaiting reserved claims key prepared held_is queue_is reserved_is claims_is key_is awaiting_is =
+    rw (claims_is, reserved_is, awaiting_is, key_is, queue_is, held_is, prepared.more_is, prepared.claim_is) refl

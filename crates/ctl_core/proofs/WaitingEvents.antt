@@ -1,7 +1,7 @@
 -- Which services wait after an event.
 use Rattle.std.proofs.Common.{◌≡◌, ℕ, Bool, true, false, cond, eqb, leb, not, ◌&&◌, ◌||◌, List, [], ◌∷◌, ◌++◌}
 use Rattle.std.proofs.Common.{Option, Some, None, is_eq, is_some, option_map, refl, sym, ap, subst, ◌∙◌}
-use Rattle.std.proofs.lemmas.Bool.{true≢false}
+use Rattle.std.proofs.lemmas.Bool.{true≢false, false_from_ne_true}
 use Rattle.std.proofs.lemmas.Map.Entries.{option_filter}
 use Rattle.std.specs.BTreeSet.{BTreeSet, contains}
 use Rattle.std.specs.List.Sorted.{IsStrictlySortedBy}
@@ -9,8 +9,8 @@ use Rattle.std.specs.Map.{keys_of}
 use Rattle.std.specs.Option.{option_map_or}
 use Rattle.kube_model.specs.declared.event.Event.{Event}
 use Rattle.kube_model.specs.declared.event.Event.TheVariants.{ListEnd, Deleted}
-use Rattle.kube_model.specs.declared.event.Group.{Group}
-use Rattle.kube_model.specs.declared.event.Group.TheVariants as groups
+use Rattle.kube_model.specs.declared.event.ListGroup.{ListGroup}
+use Rattle.kube_model.specs.declared.event.ListGroup.TheVariants as groups
 use Rattle.kube_model.specs.declared.key.Key.{Key}
 use Rattle.kube_model.specs.declared.object.Kind.TheVariants as kinds
 use Rattle.kube_model.specs.declared.service.Service.{Service}
@@ -18,23 +18,22 @@ use Rattle.kube_model.specs.Keys.{key_cmp, same_key, has_key, without}
 use Rattle.kube_model.specs.Records.{is_assigned}
 use Rattle.kube_model.proofs.KeyLaws.{key_cmp-total, is_eq-key_cmp, same_key-is, same_key-itself, same_key-flip}
 use Rattle.versioned_map.specs.declared.map.Versioned.{Versioned}
-use Rattle.versioned_map.specs.Entries.{held_at, object_at, version_at, listed, shown}
+use Rattle.versioned_map.specs.Objects.{held_at, object_at, version_at, listed, shown}
 use Rattle.versioned_map.proofs.HeldLaws.{held_at-shown, held_at-removed, held_at-listed}
 use Rattle.object_history.specs.Cache.{cached_after, held_after}
 use Rattle.object_history.specs.Kinds.{service_resource}
 use Rattle.object_history.specs.Observations.{Watched, WatchExpired}
 use Rattle.object_history.proofs.Held.{ascending-held_after}
 use Rattle.object_cache.specs.Change.{applied}
-use Rattle.object_cache.specs.Told.{passing}
+use Rattle.object_cache.specs.Stays.{passing}
 use Rattle.claim_index.specs.Claims.{loses, has_claims}
 use Rattle.core_rules.specs.Core.{State, is_ready, service_of, is_free_with, all_free, waits, waiting, shown_terms}
 use Rattle.core_rules.specs.Keys.{own_key}
 use Rattle.core_rules.specs.Take.{Configures, effect_of, no_key, is_unlisted, listed_keys, have_claims, listed_and_free}
-use Rattle.core_rules.specs.Take.{without_service, with_services_listed, is_accepted, is_namespace, wakes, configured, core_expired}
+use Rattle.core_rules.specs.Take.{without_service, with_services_listed, is_accepted, wakes, configured, core_expired}
 use Rattle.core_rules.proofs.Effects.{config-services}
 use Rattle.core_laws.proofs.Awaiting.{has_key-kept, has_key-without}
 use Rattle.core_laws.proofs.Orderly.{own-same}
-use Rattle.core_laws.proofs.QueueOnce.{no-true}
 use Rattle.core_laws.proofs.Ready.{config-ready}
 use Rattle.core_laws.proofs.Rows.{has_key-append}
 use Rattle.ctl_core.specs.Holding.{held_service}
@@ -169,7 +168,7 @@ own-out false queue more own a l = refl
 
 not-own : (queue : List Key) (own key : Key) → same_key own key ≡ false → has_key (own_key own queue) key ≡ false
 not-own queue own key apart_key =
-    no-true (has_key (own_key own queue) key) (λ there. true≢false (sym (own-same (has_key queue own) own key there).1 ∙ apart_key))
+    false_from_ne_true (has_key (own_key own queue) key) (λ there. true≢false (sym (own-same (has_key queue own) own key there).1 ∙ apart_key))
 
 others-behind : (ready : Bool) (queue more : List Key) (own key : Key) → same_key own key ≡ false
     → has_key (queue ++ cond ready (own_key own queue ++ more) []) key ≡ (has_key queue key || (ready && has_key more key))
@@ -443,7 +442,7 @@ configured-at false s event old new key sorted b c waits_old new_is =
     new_is ∙ waits_old key
     ∙ ap (λ b. b && waits_at s.class s.queue s.awaiting key (service_of s.held key))
     (as-ready (is_ready s.held) (is_ready (cached_after (Watched event) s.held)) (is_accepted (applied s.held event).note)
-    (is_namespace (applied s.held event).change)
+    (applied s.held event).namespace_changed
     (config-ready event s.held c) (sym b))
 
 pub configured-wait : (s : State) (event : Event) (woken : Bool) (old new : BTreeSet Key) → IsReached s → effect_of event ≡ Configures → WaitIn s old
@@ -464,7 +463,7 @@ not-ended true false c b e = absurd (cc)
 not-ended false b c e e' = absurd (cc)
 
 -- where the core is ready afterwards, what waits is as before
-pub expired-wait : (group : Group) (s : State) (keys : BTreeSet Key) → is_ready (cached_after (WatchExpired group) s.held) ≡ true → WaitIn s keys
+pub expired-wait : (group : ListGroup) (s : State) (keys : BTreeSet Key) → is_ready (cached_after (WatchExpired group) s.held) ≡ true → WaitIn s keys
     → WaitIn (core_expired s group) keys
 expired-wait groups.Config s keys ready waits_old = absurd (true≢false (sym ready))
 expired-wait groups.Service s keys ready waits_old = absurd (not-ended s.held.config_ended false (is_some s.held.config) refl ready)

@@ -1,6 +1,6 @@
 -- The keys that wait, as a set and as a list: which they are, and that they stand in the same order.
 use Rattle.std.proofs.Common.{◌≡◌, ℕ, Bool, true, false, cond, eqb, not, ◌&&◌, ◌||◌, List, [], ◌∷◌, ◌++◌, Option, Some, None, option_map, refl, sym, ap, ◌∙◌}
-use Rattle.std.proofs.lemmas.Bool.{true≢false, or_left, or_right}
+use Rattle.std.proofs.lemmas.Bool.{true≢false, or_left, or_right, false_from_ne_true}
 use Rattle.std.proofs.lemmas.List.Kept.{IsStrictlySortedBy-filter}
 use Rattle.std.proofs.lemmas.Map.Entries.{option_filter}
 use Rattle.std.proofs.lemmas.Map.Lookups.{btree_set_from_contains}
@@ -18,17 +18,17 @@ use Rattle.kube_model.specs.Keys.{key_cmp, same_key, has_key, without}
 use Rattle.kube_model.specs.Records.{empty_record, same_record}
 use Rattle.kube_model.proofs.KeyLaws.{key_cmp-total, key_cmp-exact, same_key-flip, same_key-itself, same_key-left}
 use Rattle.versioned_map.specs.declared.map.Versioned.{Versioned}
-use Rattle.versioned_map.specs.Entries.{held_at, listed, object_at}
+use Rattle.versioned_map.specs.Objects.{held_at, listed, object_at}
 use Rattle.versioned_map.proofs.HeldLaws.{ascending-listed, held_at-listed}
 use Rattle.key_queue.specs.Queue.{AreNew, queued_all}
 use Rattle.key_queue.proofs.QueueLaws.{queued_all-new}
 use Rattle.object_history.specs.Cache.{Cached}
-use Rattle.object_cache.specs.Told.{passing}
+use Rattle.object_cache.specs.Stays.{passing}
 use Rattle.core_rules.specs.Core.{is_ready, service_of, waits, waiting}
 use Rattle.core_rules.specs.Take.{no_key, is_unlisted, listed_keys}
 use Rattle.core_laws.specs.Queue.{AreApart, NoneAmong}
 use Rattle.core_laws.proofs.Awaiting.{has_key-kept, has_key-without}
-use Rattle.core_laws.proofs.QueueOnce.{passing-found, no-true}
+use Rattle.core_laws.proofs.QueueOnce.{passing-found}
 use Rattle.core_laws.proofs.Rows.{passing-has}
 use Rattle.ctl_core.specs.Waiting.{AreWaiting, others_where, waits_at}
 use Rattle.ctl_core.proofs.KeyLists.{has-at, any-has}
@@ -62,7 +62,7 @@ passing-by : (b : Bool) (test : Key → Service → Bool) (es : List (Key × Ver
     → b ≡ passes_at test key (object_at key_cmp es key)
 passing-by true test es sorted key is = let found = passing-found test es sorted key is in sym (ap (passes_at test key) found.1 ∙ found.2)
 passing-by false test es sorted key is =
-    sym (no-true (passes_at test key (object_at key_cmp es key))
+    sym (false_from_ne_true (passes_at test key (object_at key_cmp es key))
     (λ passes. true≢false (sym (finds-at (object_at key_cmp es key) test es key refl passes) ∙ is)))
 
 -- a key is among them where its service is held and passes

@@ -1,10 +1,10 @@
 -- What is queued at an event: which keys these are, and that they are queued as they are.
 use Rattle.std.proofs.Common.{◌≡◌, ℕ, Bool, true, false, cond, not, ◌&&◌, ◌||◌, List, [], ◌∷◌, ◌++◌, Option, Some, None, refl, sym, ap, subst, ◌∙◌}
-use Rattle.std.proofs.lemmas.Bool.{true≢false}
+use Rattle.std.proofs.lemmas.Bool.{true≢false, false_from_ne_true}
 use Rattle.std.specs.BTreeSet.{BTreeSet, IsOrdered}
 use Rattle.std.specs.List.Sorted.{IsStrictlySortedBy}
 use Rattle.std.specs.Map.{keys_of}
-use Rattle.kube_model.specs.declared.event.Group.TheVariants as groups
+use Rattle.kube_model.specs.declared.event.ListGroup.TheVariants as groups
 use Rattle.kube_model.specs.declared.event.Event.TheVariants.{ListEnd}
 use Rattle.kube_model.specs.declared.key.Key.{Key}
 use Rattle.kube_model.specs.declared.service.Service.{Service}
@@ -12,18 +12,18 @@ use Rattle.kube_model.specs.Keys.{key_cmp, same_key, has_key}
 use Rattle.kube_model.specs.Records.{is_assigned}
 use Rattle.kube_model.proofs.KeyLaws.{key_cmp-total, same_key-is}
 use Rattle.versioned_map.specs.declared.map.Versioned.{Versioned}
-use Rattle.versioned_map.specs.Entries.{object_at, is_newer, listed}
+use Rattle.versioned_map.specs.Objects.{object_at, is_newer, listed}
 use Rattle.object_history.specs.Kinds.{service_resource}
 use Rattle.object_history.specs.Observations.{Watched}
 use Rattle.object_history.proofs.Held.{ascending-held_after}
-use Rattle.object_cache.specs.Told.{passing}
+use Rattle.object_cache.specs.Stays.{passing}
 use Rattle.claim_index.specs.Claims.{loses, has_claims}
 use Rattle.core_rules.specs.Core.{State, is_ready, is_free_with, all_free, waiting, shown_terms}
 use Rattle.core_rules.specs.Keys.{own_key}
 use Rattle.core_rules.specs.Take.{no_key, listed_keys, listed_and_free, own_and_waiting, shows}
 use Rattle.core_laws.specs.Queue.{AreApart}
 use Rattle.core_laws.proofs.Orderly.{took-order}
-use Rattle.core_laws.proofs.QueueOnce.{AreNew, no-true, apart-append, passing-apart, waiting-new}
+use Rattle.core_laws.proofs.QueueOnce.{AreNew, apart-append, passing-apart, waiting-new}
 use Rattle.core_laws.proofs.Rows.{has_key-append}
 use Rattle.ctl_core.specs.Queued.{GoBehind}
 use Rattle.ctl_core.specs.Reached.{IsReached}
@@ -51,7 +51,7 @@ behind-apart (k ∷ queue) more apart =
     let front = λ (key : Key) (there : has_key more key ≡ true) (same : same_key k key ≡ true).
     true≢false (sym (has_key-append queue more k
     ∙ in-either (has_key queue k) (has_key more k) (subst (λ x. has_key more x ≡ true) (sym (same_key-is k key same)) there)) ∙ apart.0) in
-    (rest.0, λ key there. in-neither (same_key k key) (has_key queue key) (no-true (same_key k key) (front key there)) (rest.1 key there))
+    (rest.0, λ key there. in-neither (same_key k key) (has_key queue key) (false_from_ne_true (same_key k key) (front key there)) (rest.1 key there))
 
 -- ---- where a newer service is held
 pub held-behind : (s : State) (version : ℕ) (service : Service) → IsReached s → is_newer key_cmp s.held.services service.key version ≡ true

@@ -1,7 +1,7 @@
 -- Which services wait after a turn, and after the reply to a put.
 use Rattle.std.proofs.Common.{◌≡◌, ℕ, Bool, true, false, cond, not, ◌&&◌, ◌||◌, List, [], ◌∷◌, ◌++◌, drop}
 use Rattle.std.proofs.Common.{Option, Some, None, is_eq, option_map, refl, sym, ap, subst, ◌∙◌}
-use Rattle.std.proofs.lemmas.Bool.{true≢false, and_from, or_from}
+use Rattle.std.proofs.lemmas.Bool.{true≢false, and_from, or_from, false_from_ne_true}
 use Rattle.std.specs.BTreeSet.{BTreeSet, IsOrdered, contains}
 use Rattle.std.specs.List.Sorted.{IsStrictlySortedBy}
 use Rattle.std.specs.Map.{keys_of}
@@ -15,20 +15,20 @@ use Rattle.kube_model.specs.Keys.{key_cmp, same_key, has_key}
 use Rattle.kube_model.specs.Service.{with_holding}
 use Rattle.kube_model.proofs.KeyLaws.{key_cmp-total, key_cmp-exact, is_eq-key_cmp, same_key-is, same_key-itself}
 use Rattle.versioned_map.specs.declared.map.Versioned.{Versioned}
-use Rattle.versioned_map.specs.Entries.{held_at, object_at, amended}
+use Rattle.versioned_map.specs.Objects.{held_at, object_at, amended}
 use Rattle.object_history.specs.Cache.{Cached, cached_after}
 use Rattle.object_history.specs.Kinds.{service_resource}
 use Rattle.object_history.specs.LookBack.{written_over}
 use Rattle.object_history.specs.Observations.{Written}
 use Rattle.object_history.proofs.Held.{amended_seen}
-use Rattle.object_cache.specs.Told.{passing}
+use Rattle.object_cache.specs.Stays.{passing}
 use Rattle.claim_index.specs.Claims.{ClaimValue, settled, doubted, loses}
 use Rattle.core_rules.specs.Core.{State, is_ready, service_of, waits, waiting}
 use Rattle.core_rules.specs.Keys.{is_free}
 use Rattle.core_rules.specs.Replied.{replied, stored, in_doubt, put_terms, core_reply}
 use Rattle.core_rules.specs.Turn.{rest_of}
 use Rattle.core_laws.proofs.Orderly.{IsInOrder}
-use Rattle.core_laws.proofs.QueueOnce.{no-true, waiting-new}
+use Rattle.core_laws.proofs.QueueOnce.{waiting-new}
 use Rattle.core_laws.proofs.QuietRuns.{none-some}
 use Rattle.core_laws.proofs.Ready.{IsIdle}
 use Rattle.core_laws.proofs.Rows.{has_key-append, passing-has}
@@ -213,7 +213,7 @@ module _ (class : Option (List ℕ)) (held : Cached) (queue awaiting : List Key)
       (now : (k : Key) → contains key_cmp after k ≡ ((same_key put.key k || not lost) && contains key_cmp middle k)) where
     untold : has_key others put.key ≡ false
     untold =
-        no-true (has_key others put.key) (λ there.
+        false_from_ne_true (has_key others put.key) (λ there.
         true≢false (sym (same_key-itself put.key) ∙ (waiting-new lost class (same_key put.key) queue awaiting held.services sorted).untold put.key there))
 
     own-lacks : lacks_record class (service_of stored_cache put.key) ≡ lacks_with class put.holding (service_of held put.key)

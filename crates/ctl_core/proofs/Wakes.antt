@@ -4,13 +4,13 @@ use Rattle.std.proofs.lemmas.Bool.{and_parts, and_from, or_left, or_right, trueâ
 use Rattle.std.proofs.lemmas.List.{take_at}
 use Rattle.kube_model.specs.declared.event.Event.{Event}
 use Rattle.kube_model.specs.declared.event.Event.TheVariants.{Changed, Deleted, ListEnd, Expired, Members, Frame, Ignored}
-use Rattle.kube_model.specs.declared.event.Group.TheVariants as groups
+use Rattle.kube_model.specs.declared.event.ListGroup.TheVariants as groups
 use Rattle.kube_model.specs.declared.key.Key.{Key}
 use Rattle.object_history.specs.Cache.{Cached, cached_after}
 use Rattle.object_history.specs.Observations.{Watched}
 use Rattle.object_cache.specs.Change.{applied}
 use Rattle.core_rules.specs.Core.{State, is_ready, all_free}
-use Rattle.core_rules.specs.Take.{Configures, effect_of, is_accepted, is_namespace, wakes, configured}
+use Rattle.core_rules.specs.Take.{Configures, effect_of, is_accepted, wakes, configured}
 use Rattle.core_rules.proofs.Effects.{config-services_ended}
 use Rattle.ctl_core.specs.Waking.{ends_config, may_wake}
 
@@ -55,5 +55,5 @@ pub woken-configured : (s : State) (event : Event) (held : Cached) (wake : Bool)
 woken-configured s event held wake len more queued queue c wake_is len_is more_is held_is queued_is queue_is =
     rw (queue_is, queued_is, held_is, more_is, len_is, wake_is)
     (ap (Î» (ks : List Key). record s { held = cached_after (Watched event) s.held; queue = ks })
-    (woken event s.held (not (is_ready s.held) || is_accepted (applied s.held event).note || is_namespace (applied s.held event).change) s.queue
+    (woken event s.held (not (is_ready s.held) || is_accepted (applied s.held event).note || (applied s.held event).namespace_changed) s.queue
     (all_free s.queue s.awaiting s.held.services) c))

@@ -8,7 +8,7 @@ use Rattle.kube_model.specs.Keys.{key_cmp, same_key, without}
 use Rattle.kube_model.specs.Records.{empty_record, same_record}
 use Rattle.kube_model.specs.Service.{is_handled}
 use Rattle.versioned_map.specs.declared.map.Versioned.{Versioned}
-use Rattle.versioned_map.specs.Entries.{object_at}
+use Rattle.versioned_map.specs.Objects.{object_at}
 use Rattle.object_history.specs.Cache.{Cached}
 use Rattle.core_rules.specs.Core.{is_ready, service_of, waits}
 use Rattle.core_rules.specs.Take.{no_key}

@@ -1,8 +1,8 @@
 //! Lists of keys.
 ghost use Rattle.std.specs.Prelude.{◌≡◌, ◌++◌, if◌then◌else◌, [], not, IfOk};
 ghost use Rattle.std.specs.Option.{option_copied};
-ghost use Rattle.object_cache.specs.Told.{passing};
-ghost use Rattle.versioned_map.specs.Entries.{listed, object_at};
+ghost use Rattle.object_cache.specs.Stays.{passing};
+ghost use Rattle.versioned_map.specs.Objects.{listed, object_at};
 ghost use Rattle.std.specs.BTreeSet.{IsOrdered};
 ghost use Rattle.kube_model.specs.Keys.{key_cmp, has_key, without};
 ghost use Rattle.kube_model.specs.Records.{empty_record, same_record};

@@ -11,7 +11,7 @@ ghost use Rattle.core_rules.specs.Turn.{core_turn, after_turn};
 use crate::state::CoreState;
 use core_rules::{TakeFault, Turn};
 use kube_labels::Text;
-use kube_model::{Event, Group, Key, Put, PutReply, Record};
+use kube_model::{Event, Key, ListGroup, Put, PutReply, Record};
 use mlb_base::NoMemory;
 use object_cache::TakeNote;
 use std::alloc::Global;
@@ -95,7 +95,7 @@ impl Core {
     }
 
     /// The watch of this list has expired, and begins anew. It takes no memory.
-    pub fn take_expired(&mut self, group: Group)
+    pub fn take_expired(&mut self, group: ListGroup)
         requires { self.old.out ≡ None }
         ensures core { self.new ≡ core_expired self.old group }
         ensures quiet { IsQuiet self.new }

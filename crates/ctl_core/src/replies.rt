@@ -4,7 +4,7 @@ ghost use Rattle.std.specs.BTreeSet.{contains};
 ghost use Rattle.std.specs.Option.{option_copied};
 ghost use Rattle.kube_model.specs.declared.key.Key.{Key as KeyValue};
 ghost use Rattle.kube_model.specs.Keys.{key_cmp, same_key};
-ghost use Rattle.versioned_map.specs.Entries.{object_at};
+ghost use Rattle.versioned_map.specs.Objects.{object_at};
 ghost use Rattle.core_rules.specs.Replied.{core_reply, replied, stored, refused, in_doubt};
 ghost use Rattle.ctl_core.specs.Queued.{GoBehind};
 ghost use Rattle.ctl_core.specs.Reached.{IsReached};

@@ -8,7 +8,7 @@ use crate::keys::{Keys, is_free};
 use crate::waiting::WaitingKeys;
 use alloc_book::Book;
 use kube_labels::Text;
-use kube_model::{Group, Key, Put, Record};
+use kube_model::{Key, ListGroup, Put, Record};
 use mlb_base::NoMemory;
 use object_cache::ObjectCache;
 use std::alloc::Global;
@@ -108,5 +108,7 @@ impl CoreState {
 pub(crate) fn is_ready(cache: &ObjectCache) -> bool
     ensures { result ≡ is_ready cache.now }
 {
-    cache.has_ended(Group::Config) && cache.has_ended(Group::Service) && cache.config().is_some()
+    cache.has_ended(ListGroup::Config)
+        && cache.has_ended(ListGroup::Service)
+        && cache.config().is_some()
 }

@@ -6,11 +6,11 @@ ghost use Rattle.object_history.specs.Cache.{cached_after};
 ghost use Rattle.object_cache.specs.Change.{applied};
 ghost use Rattle.object_cache.specs.Limits.{passes, most_services};
 ghost use Rattle.object_cache.specs.declared.change.TakeNote.TheVariants.{Quiet as QuietNote};
-ghost use Rattle.versioned_map.specs.Entries.{is_newer};
+ghost use Rattle.versioned_map.specs.Objects.{is_newer};
 ghost use Rattle.claim_index.specs.Claims.{has_claims};
 ghost use Rattle.core_rules.specs.Core.{all_free, is_ready};
 ghost use Rattle.core_rules.specs.Take.{Configures, effect_of, core_take, core_note, core_expired, limits, with_service, without_service};
-ghost use Rattle.core_rules.specs.Take.{with_services_listed, all_expired, listed_and_free, have_claims, shows, is_accepted, is_namespace, configured};
+ghost use Rattle.core_rules.specs.Take.{with_services_listed, all_expired, listed_and_free, have_claims, shows, is_accepted, configured};
 ghost use Rattle.ctl_core.specs.Holding.{IsPrepared, held_service};
 ghost use Rattle.ctl_core.specs.Queued.{GoBehind};
 ghost use Rattle.ctl_core.specs.Reached.{IsReached};
@@ -23,9 +23,9 @@ use crate::room::{append_new, truncate_unless};
 use crate::state::{CoreState, is_ready};
 use alloc_book::Claim;
 use core_rules::TakeFault;
-use kube_model::{Event, Group, Key, Kind, Object, Service};
+use kube_model::{Event, Key, Kind, ListGroup, Object, Service};
 use mlb_base::NoMemory;
-use object_cache::{Applied, Change, MOST_SERVICES, ObjectCache, TakeNote};
+use object_cache::{Applied, MOST_SERVICES, ObjectCache, TakeNote};
 
 /// What there is to do where a service is held: its claim, and the keys that are queued.
 #[derive(Drop)]
@@ -62,7 +62,7 @@ impl CoreState {
                 Ok(TakeNote::Quiet)
             }
             Event::ListEnd {
-                group: Group::Service,
+                group: ListGroup::Service,
             } => {
                 self.end_services()?;
                 Ok(TakeNote::Quiet)
@@ -80,7 +80,7 @@ impl CoreState {
                 ..
             }
             | Event::ListEnd {
-                group: Group::Endpoint,
+                group: ListGroup::Endpoint,
             }
             | Event::Members { .. }
             | Event::Frame { .. }
@@ -93,7 +93,7 @@ impl CoreState {
     }
 
     /// The watch of this list has expired, and begins anew.
-    pub(crate) fn take_expired(&mut self, group: Group)
+    pub(crate) fn take_expired(&mut self, group: ListGroup)
         requires { self.old.out ≡ None }
         ensures { self.new ≡ core_expired self.old group }
     {
@@ -278,7 +278,7 @@ impl CoreState {
         let wakes = wakes(was_ready, &applied, is_ready(&self.cache));
         truncate_unless(wakes, &mut self.queue, queued);
         self.waiting.clear_where(wakes);
-        Ok(note_of(applied))
+        Ok(applied.note)
     }
 
     /// The keys that are queued where the event wakes them: every free key, and none while it can't.
@@ -367,7 +367,8 @@ fn queue_and_apply(
 fn may_wake(cache: &ObjectCache, event: &Event) -> bool
     ensures { result ≡ may_wake cache.now event.now }
 {
-    cache.has_ended(Group::Service) && (cache.has_ended(Group::Config) || ends_config(event))
+    cache.has_ended(ListGroup::Service)
+        && (cache.has_ended(ListGroup::Config) || ends_config(event))
 }
 
 fn ends_config(event: &Event) -> bool
@@ -376,29 +377,20 @@ fn ends_config(event: &Event) -> bool
     matches!(
         event,
         Event::ListEnd {
-            group: Group::Config
+            group: ListGroup::Config
         }
     )
-}
-
-fn note_of(applied: Applied) -> TakeNote
-    ensures { result ≡ applied.note }
-{
-    drop(applied.change);
-    applied.note
 }
 
 fn is_configured(cache: &ObjectCache) -> bool
     ensures { result ≡ (cache.now.config_ended && is_some cache.now.config) }
 {
-    cache.has_ended(Group::Config) && cache.config().is_some()
+    cache.has_ended(ListGroup::Config) && cache.config().is_some()
 }
 
 fn wakes(was_ready: bool, applied: &Applied, is_ready: bool) -> bool
-    ensures { result ≡ (is_ready && (not was_ready || is_accepted applied.now.note || is_namespace applied.now.change)) }
+    ensures { result ≡ (is_ready && (not was_ready || is_accepted applied.now.note || applied.now.namespace_changed)) }
 {
     is_ready
-        && (!was_ready
-            || matches!(applied.note, TakeNote::Accepted)
-            || matches!(applied.change, Change::Namespace { .. }))
+        && (!was_ready || matches!(applied.note, TakeNote::Accepted) || applied.namespace_changed)
 }

@@ -1,22 +1,23 @@
 -- The tests say which steps there are, and which would pass a limit.
-use Rattle.std.proofs.Common.{◌≡◌, ◌≢◌, ℕ, Bool, true, false, ◌&&◌, not, cond, eqb, List, [], ◌∷◌, Option, Some, None, is_some, refl, sym, ap, ◌∙◌}
-use Rattle.std.proofs.lemmas.Bool.{true≢false}
+use Rattle.std.proofs.Common.{◌≡◌, ◌≢◌, ℕ, Bool, true, false, ◌&&◌, cond, eqb, List, [], ◌∷◌, Option, Some, None, is_some, refl, sym, ap, ◌∙◌}
+use Rattle.std.proofs.lemmas.Bool.{true≢false, eqb-true, not-true, and_parts, not-false}
 use Rattle.std.specs.Prelude.{IfSome}
 use Rattle.mlb_base.specs.Items.{is_nil}
-use Rattle.kube_model.specs.declared.event.Group.{Group}
-use Rattle.kube_model.specs.declared.event.Group.TheVariants as groups
+use Rattle.mlb_base.proofs.Bools.{none_from}
+use Rattle.mlb_base.proofs.Lists.{Decides-nil}
+use Rattle.kube_model.specs.declared.event.ListGroup.{ListGroup}
+use Rattle.kube_model.specs.declared.event.ListGroup.TheVariants as groups
 use Rattle.kube_model.specs.declared.key.Key.{Key}
 use Rattle.kube_model.specs.declared.record.Record.{Record}
 use Rattle.kube_model.specs.declared.service.Service.{Service}
 use Rattle.kube_model.specs.Keys.{key_cmp}
 use Rattle.kube_model.specs.Records.{is_assigned, same_record}
-use Rattle.versioned_map.specs.Entries.{version_at}
+use Rattle.versioned_map.specs.Objects.{version_at}
 use Rattle.alloc_book.specs.declared.choice.Choice.{Choice}
 use Rattle.status_store.specs.declared.change.Edit.{Edit}
 use Rattle.status_store.specs.declared.change.Edit.TheVariants.{Set, Reset, Delete}
 use Rattle.status_store.specs.Changes.{IsWellFormed, DeletesNothing, record_of}
 use Rattle.status_store.proofs.EditLaws.{edit-absent}
-use Rattle.status_store.proofs.ChangeLaws.{same-version}
 use Rattle.core_rules.specs.declared.turn.Turn.TheVariants.{Idle, NoPut, Wants}
 use Rattle.core_rules.specs.Core.{State, service_of}
 use Rattle.core_rules.specs.Turn.{wanted_record, reason_in, chosen_at, turn_at, turn_of, core_turn}
@@ -27,37 +28,17 @@ use Rattle.ctl_world.specs.Steps.{is_enabled, is_used_up, may_edit, has_turn, ha
 
 -- ---- tests
 
-both : (a b : Bool) → a && b ≡ true → (a ≡ true) × (b ≡ true)
-both true b e = (refl, e)
-both false b e = absurd (true≢false (sym e))
-
 not-both : (a b : Bool) → a && b ≡ false → a ≡ true → b ≡ false
 not-both true b e is = e
 not-both false b e is = absurd (true≢false (sym is))
-
-not-true : (b : Bool) → not b ≡ true → b ≡ false
-not-true true e = absurd (true≢false (sym e))
-not-true false e = refl
-
-not-false : (b : Bool) → not b ≡ false → b ≡ true
-not-false true e = refl
-not-false false e = absurd (true≢false e)
 
 is-there : {X : Type 0} (o : Option X) → is_some o ≡ true → o ≢ None
 is-there None e = absurd (true≢false (sym e))
 is-there (Some x) e = λ none. absurd (cc)
 
-isn't-there : {X : Type 0} (o : Option X) → is_some o ≡ false → o ≡ None
-isn't-there None e = refl
-isn't-there (Some x) e = absurd (true≢false e)
-
 is-filled : {X : Type 0} (xs : List X) → is_nil xs ≡ false → xs ≢ []
 is-filled [] e = absurd (true≢false e)
 is-filled (x ∷ xs) e = λ none. absurd (cc)
-
-isn't-filled : {X : Type 0} (xs : List X) → is_nil xs ≡ true → xs ≡ []
-isn't-filled [] e = refl
-isn't-filled (x ∷ xs) e = absurd (true≢false (sym e))
 
 -- ---- turns
 
@@ -89,12 +70,12 @@ no-turns (Some s) e turns = absurd (turns (idle s s.queue (not-false (is_nil s.q
 
 -- ---- lanes
 
-lanes-there : (group : Group) → has_lane group ≡ true → HasLane group
+lanes-there : (group : ListGroup) → has_lane group ≡ true → HasLane group
 lanes-there groups.Config e = λ other. absurd (cc)
 lanes-there groups.Service e = λ other. absurd (cc)
 lanes-there groups.Endpoint e = absurd (true≢false (sym e))
 
-no-lanes : (group : Group) → has_lane group ≡ false → group ≡ groups.Endpoint
+no-lanes : (group : ListGroup) → has_lane group ≡ false → group ≡ groups.Endpoint
 no-lanes groups.Config e = absurd (true≢false e)
 no-lanes groups.Service e = absurd (true≢false e)
 no-lanes groups.Endpoint e = refl
@@ -116,13 +97,13 @@ no-edits (Delete kind key) w kept e = λ is. is.0 ((edit-absent (Delete kind key
 pub enabled : (step : Step) (w : WorldValue) → IsWellFormed w.store → is_enabled step w ≡ true → IsEnabled step w
 enabled (Edits edit) w kept e = edits-there edit w kept e
 enabled (Take group) w kept e =
-    let parts = both (is_some w.core) _ e in
+    let parts = and_parts (is_some w.core) _ e in
     (is-there w.core parts.0, is-filled (lane_of group w) (not-true (is_nil (lane_of group w)) parts.1))
 enabled (Turns outcome) w kept e = turns-there w.core e
 enabled (Crash applied) w kept e = is-there w.core e
-enabled (Restart order) w kept e = isn't-there w.core (not-true (is_some w.core) e)
+enabled (Restart order) w kept e = none_from w.core (not-true (is_some w.core) e)
 enabled (Expire group order) w kept e =
-    let parts = both (is_some w.core) (has_lane group) e in
+    let parts = and_parts (is_some w.core) (has_lane group) e in
     (is-there w.core parts.0, lanes-there group parts.1)
 
 up : {X : Type 0} (o : Option X) → o ≢ None → is_some o ≡ true
@@ -134,18 +115,18 @@ down-then o b e is = not-both (is_some o) b e (up o is)
 
 pub disabled : (step : Step) (w : WorldValue) → IsWellFormed w.store → is_enabled step w ≡ false → ¬ (IsEnabled step w)
 disabled (Edits edit) w kept e = no-edits edit w kept e
-disabled (Take group) w kept e = λ is. is.1 (isn't-filled (lane_of group w) (not-false (is_nil (lane_of group w)) (down-then w.core _ e is.0)))
+disabled (Take group) w kept e = λ is. is.1 ((Decides-nil (lane_of group w)).0 (not-false (is_nil (lane_of group w)) (down-then w.core _ e is.0)))
 disabled (Turns outcome) w kept e = λ is. is.0 (no-turns w.core e is.1)
-disabled (Crash applied) w kept e = λ is. is (isn't-there w.core e)
+disabled (Crash applied) w kept e = λ is. is (none_from w.core e)
 disabled (Restart order) w kept e = λ is. true≢false (sym (not-false (is_some w.core) e) ∙ ap is_some is)
 disabled (Expire group order) w kept e = λ is. is.1 (no-lanes group (down-then w.core (has_lane group) e is.0))
 
 -- ---- limits
 
 pub used-up : (step : Step) (w : WorldValue) → is_used_up step w ≡ true → IsLimited step w
-used-up (Edits edit) w e = same-version w.store.counter most_versions e
+used-up (Edits edit) w e = eqb-true w.store.counter most_versions e
 used-up (Take group) w e = absurd (true≢false (sym e))
-used-up (Turns outcome) w e = same-version w.store.counter most_versions e
-used-up (Crash applied) w e = let parts = both applied (eqb w.store.counter most_versions) e in (parts.0, same-version w.store.counter most_versions parts.1)
+used-up (Turns outcome) w e = eqb-true w.store.counter most_versions e
+used-up (Crash applied) w e = let parts = and_parts applied (eqb w.store.counter most_versions) e in (parts.0, eqb-true w.store.counter most_versions parts.1)
 used-up (Restart order) w e = absurd (true≢false (sym e))
 used-up (Expire group order) w e = absurd (true≢false (sym e))

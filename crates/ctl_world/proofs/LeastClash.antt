@@ -1,6 +1,6 @@
 -- Where no pair is found no two services clash, and the pair that is found is the least that do.
-use Rattle.std.proofs.Common.{◌≡◌, ◌≢◌, ⊎_elim, Bool, true, false, ◌&&◌, not, cond, List, [], ◌∷◌, ◌++◌}
-use Rattle.std.proofs.Common.{Option, Some, None, Ordering, Less, Equal, Greater, refl, sym, ap, subst, ◌∙◌}
+use Rattle.std.proofs.Common.{◌≡◌, ◌≢◌, ⊎_elim, Bool, true, false, ◌&&◌, not, cond, List, [], ◌∷◌, ◌++◌, Option, Some}
+use Rattle.std.proofs.Common.{None, Ordering, Less, Equal, Greater, refl, sym, ap, subst, ◌∙◌, flat_map, ◌⊎◌, inl, inr}
 use Rattle.std.proofs.lemmas.Bool.{and_parts, and_from, not-true, true≢false}
 use Rattle.std.proofs.lemmas.List.Elements.{Contains-append_cases, Contains-append_left, Contains-append_right}
 use Rattle.std.specs.Cmp.{tied_itself}
@@ -23,11 +23,11 @@ use Rattle.sharing_terms.specs.Sharing.{MayShare, may_share}
 use Rattle.sharing_terms.specs.Spelled.{recorded_terms}
 use Rattle.sharing_terms.proofs.ReadBack.{recorded-exact}
 use Rattle.sharing_terms.proofs.SharingLaws.{may_share-is, may_share-from}
-use Rattle.std.specs.List.Sorted.{IsStrictlySortedBy}
 use Rattle.status_store.specs.declared.stored.Stored.{Stored}
 use Rattle.status_store.specs.Changes.{StoreValue, record_of}
-use Rattle.status_store.specs.Objects.{IsAscending, places_of}
-use Rattle.status_store.specs.Places.{Place, place_of, place_cmp, service_at}
+use Rattle.status_store.specs.Objects.{IsAscending}
+use Rattle.status_store.specs.Places.{Place, place_of, service_at}
+use Rattle.status_store.proofs.ServicesByKey.{GivesOne, IsBelow as StandAbove, AreByKey as StandByKey, by_key as services-by_key}
 use Rattle.world_rules.specs.Clash.{Clash, IsLeastClash}
 use Rattle.world_rules.specs.Safe.{IsSafe, IsRecorded}
 use Rattle.world_rules.proofs.Clash.{safe_without_clash}
@@ -239,58 +239,34 @@ clash-from store a b there there_too e =
 
 -- ---- marked services stand by key
 
--- the key is below each of these
 abbrev IsBelow : Key → List Marked → Type 0
-IsBelow key services = AllByRecursion (λ a. key_cmp key a.key ≡ Less) services
+IsBelow = StandAbove (λ (m : Marked). m.key)
 
 abbrev AreByKey : List Marked → Type 0
-AreByKey [] = Unit {0}
-AreByKey (a ∷ more) = IsBelow a.key more × AreByKey more
+AreByKey = StandByKey (λ (m : Marked). m.key)
 
-below_under : (key : Key) (service : Service) (found : Option Terms) (rest : List Marked)
-    → place_cmp (service_at key) (place_of (objects.Service service)) ≡ Less → IsBelow key rest → IsBelow key (under service found ++ rest)
-below_under key service None rest first others = others
-below_under key service (Some terms) rest first others = (first, others)
+one-under : (service : Service) (found : Option Terms)
+    → (under service found ≡ []) ⊎ ((m : Marked) × (under service found ≡ m ∷ []) × (place_of (objects.Service service) ≡ service_at m.key))
+one-under service None = inl refl
+one-under service (Some terms) = inr (record { key = service.key; addresses = service.holding.addresses; terms = terms }, refl, refl)
 
-below_by : (key : Key) (object : Object) (rest : List Marked) → place_cmp (service_at key) (place_of object) ≡ Less → IsBelow key rest
-    → IsBelow key (marked_of object ++ rest)
-below_by key (objects.Service service) rest first others = below_under key service (recorded_terms service.holding.mark) rest first others
-below_by key (objects.Pool pool) rest first others = others
-below_by key (objects.L2 adv) rest first others = others
-below_by key (objects.Bgp adv) rest first others = others
-below_by key (objects.Peer peer) rest first others = others
-below_by key (objects.Community community) rest first others = others
-below_by key (objects.Namespace namespace) rest first others = others
-below_by key (objects.Node node) rest first others = others
-below_by key (objects.Slice slice) rest first others = others
+one-marked : GivesOne (λ (m : Marked). m.key) marked_of
+one-marked (objects.Service service) = one-under service (recorded_terms service.holding.mark)
+one-marked (objects.Pool pool) = inl refl
+one-marked (objects.L2 adv) = inl refl
+one-marked (objects.Bgp adv) = inl refl
+one-marked (objects.Peer peer) = inl refl
+one-marked (objects.Community community) = inl refl
+one-marked (objects.Namespace namespace) = inl refl
+one-marked (objects.Node node) = inl refl
+one-marked (objects.Slice slice) = inl refl
 
-below : (key : Key) (stored : List Stored) → AllByRecursion (λ place. place_cmp (service_at key) place ≡ Less) (places_of stored)
-    → IsBelow key (marked_in stored)
-below key [] all = tt
-below key (held ∷ more) all = below_by key held.object (marked_in more) all.0 (below key more all.1)
-
-by_key_under : (service : Service) (found : Option Terms) (rest : List Marked) → IsBelow service.key rest → AreByKey rest
-    → AreByKey (under service found ++ rest)
-by_key_under service None rest first others = others
-by_key_under service (Some terms) rest first others = (first, others)
-
-by_key_by : (object : Object) (more : List Stored) → AllByRecursion (λ place. place_cmp (place_of object) place ≡ Less) (places_of more)
-    → AreByKey (marked_in more) → AreByKey (marked_of object ++ marked_in more)
-by_key_by (objects.Service service) more all others =
-    by_key_under service (recorded_terms service.holding.mark) (marked_in more) (below service.key more all) others
-by_key_by (objects.Pool pool) more all others = others
-by_key_by (objects.L2 adv) more all others = others
-by_key_by (objects.Bgp adv) more all others = others
-by_key_by (objects.Peer peer) more all others = others
-by_key_by (objects.Community community) more all others = others
-by_key_by (objects.Namespace namespace) more all others = others
-by_key_by (objects.Node node) more all others = others
-by_key_by (objects.Slice slice) more all others = others
+all-marked : (stored : List Stored) → flat_map (λ (held : Stored). marked_of held.object) stored ≡ marked_in stored
+all-marked [] = refl
+all-marked (held ∷ more) = ap (λ (services : List Marked). marked_of held.object ++ services) (all-marked more)
 
 by_key : (stored : List Stored) → IsAscending stored → AreByKey (marked_in stored)
-unfolding IsStrictlySortedBy
-by_key [] s = tt
-by_key (held ∷ more) s = by_key_by held.object more s.0 (by_key more s.1)
+by_key stored s = subst AreByKey (all-marked stored) (services-by_key (λ (m : Marked). m.key) marked_of one-marked stored s)
 
 -- what holds of each holds of one of them
 at_member : (P : Marked → Type 0) (services : List Marked) (a : Marked) → AllByRecursion P services → Contains services a → P a

@@ -1,8 +1,8 @@
 -- Which steps there are, as tests.
 use Rattle.std.specs.Prelude.{◌≡◌, Bool, true, false, ◌&&◌, ◌==◌, not, Option, None, Some, is_some, IfSome, IsSome}
 use Rattle.mlb_base.specs.Items.{is_nil}
-use Rattle.kube_model.specs.declared.event.Group.{Group}
-use Rattle.kube_model.specs.declared.event.Group.TheVariants as groups
+use Rattle.kube_model.specs.declared.event.ListGroup.{ListGroup}
+use Rattle.kube_model.specs.declared.event.ListGroup.TheVariants as groups
 use Rattle.kube_model.specs.Records.{is_assigned}
 use Rattle.status_store.specs.declared.change.Edit.{Edit}
 use Rattle.status_store.specs.declared.change.Edit.TheVariants.{Set, Reset, Delete}
@@ -20,7 +20,7 @@ may_edit (Reset object) store = not (is_assigned (record_of object))
 may_edit (Delete kind key) store = is_some (stored_at store.objects (kind, key))
 
 -- whether an event of the group is pending
-abbrev pub has_event : Group → WorldValue → Bool
+abbrev pub has_event : ListGroup → WorldValue → Bool
 has_event group w = not (is_nil (lane_of group w))
 
 -- whether the controller is up, with a service queued
@@ -29,7 +29,7 @@ has_turn None = false
 has_turn (Some s) = not (is_nil s.queue)
 
 -- whether what is stored of the group is shown to the controller
-abbrev pub has_lane : Group → Bool
+abbrev pub has_lane : ListGroup → Bool
 has_lane groups.Config = true
 has_lane groups.Service = true
 has_lane groups.Endpoint = false

@@ -8,7 +8,7 @@ ghost use Rattle.ctl_world.specs.Clashes.{under, marked_of, marked_in, clash, co
 
 use crate::starts::StartFault;
 use ip_ranges::{Address, AddressList};
-use kube_model::{Key, Object, Service};
+use kube_model::{Key, Object, Service, both};
 use mlb_base::{NoMemory, TryCopy};
 use sharing_terms::{Terms, may_share, read_mark};
 use status_store::Stored;
@@ -25,11 +25,17 @@ pub(crate) struct Marked {
 fn under(service: &Service, terms: Terms) -> Result<Marked, NoMemory>
     ensures { IfOk result (λ marked. marked ∷ [] ≡ under service.now (Some terms)) }
 {
-    Ok(Marked {
-        key: service.key.copy()?,
-        addresses: service.holding.addresses.copy()?,
-        terms,
-    })
+    match both(service.key.copy(), service.holding.addresses.copy()) {
+        Ok((key, addresses)) => Ok(Marked {
+            key,
+            addresses,
+            terms,
+        }),
+        Err(NoMemory) => {
+            drop(terms);
+            Err(NoMemory)
+        }
+    }
 }
 
 /// Appends the service, where its record is marked.

@@ -10,7 +10,7 @@ ghost use Rattle.ctl_world.specs.Steps.{may_edit};
 
 use crate::lanes::push_reserved;
 use crate::state::WorldState;
-use kube_model::{Event, Group, Key, Kind, Object, Record, Service};
+use kube_model::{Event, Key, Kind, ListGroup, Object, Record, Service};
 use mlb_base::{NoMemory, TryCopy};
 use status_store::{Edit, Store};
 use std::alloc::Global;
@@ -41,9 +41,9 @@ impl WorldState {
         ensures err { OnErr result (self.new ≡ self.old) }
     {
         match group_of(&edit) {
-            Group::Config => edit_shown(&mut self.store, &mut self.config_lane, edit, shown),
-            Group::Service => edit_shown(&mut self.store, &mut self.service_lane, edit, shown),
-            Group::Endpoint => {
+            ListGroup::Config => edit_shown(&mut self.store, &mut self.config_lane, edit, shown),
+            ListGroup::Service => edit_shown(&mut self.store, &mut self.service_lane, edit, shown),
+            ListGroup::Endpoint => {
                 drop(shown);
                 edit_unseen(&mut self.store, edit)
             }
@@ -63,7 +63,7 @@ impl WorldState {
     }
 }
 
-fn group_of(edit: &Edit) -> Group
+fn group_of(edit: &Edit) -> ListGroup
     ensures { result ≡ group_of (edited_place edit.now).0 }
 {
     match edit {

@@ -4,7 +4,7 @@ ghost use Rattle.std.specs.VecDeque.{deque_capacity, deque_len};
 ghost use Rattle.world_rules.specs.World.{as_shown, in_order, listing};
 ghost use Rattle.ctl_world.specs.Listed.{shown_in, listed};
 
-use kube_model::{Event, Group};
+use kube_model::{Event, ListGroup};
 use mlb_base::{NoMemory, TryCopy};
 use status_store::{Store, Stored};
 use std::alloc::Global;
@@ -21,14 +21,14 @@ pub(crate) fn as_shown(stored: &Stored) -> Result<Event, NoMemory>
     })
 }
 
-fn is_of_group(group: Group, stored: &Stored) -> bool
+fn is_of_group(group: ListGroup, stored: &Stored) -> bool
     ensures { result ≡ Rattle.world_rules.specs.World.is_of_group group stored.now }
 {
     stored.object.kind().group() == group
 }
 
 /// Appends what is stored here, as it is shown, where it is of the group.
-fn push_shown(lane: &mut VecDeque<Event>, stored: &Stored, group: Group) -> Result<(), NoMemory>
+fn push_shown(lane: &mut VecDeque<Event>, stored: &Stored, group: ListGroup) -> Result<(), NoMemory>
     ensures { OnOk result (lane.new.items ≡ lane.old.items ++ shown_in group stored.now) }
 {
     if is_of_group(group, stored) {
@@ -41,7 +41,7 @@ fn push_shown(lane: &mut VecDeque<Event>, stored: &Stored, group: Group) -> Resu
 fn push_all_shown(
     lane: &mut VecDeque<Event>,
     objects: &[Stored],
-    group: Group,
+    group: ListGroup,
 ) -> Result<(), NoMemory>
     ensures { OnOk result (lane.new.items ≡ lane.old.items ++ listed group objects.now) }
 {
@@ -52,7 +52,7 @@ fn push_all_shown(
 }
 
 /// Puts what is stored here first, as it is shown, where it is of the group.
-fn push_first(lane: &mut VecDeque<Event>, stored: &Stored, group: Group) -> Result<(), NoMemory>
+fn push_first(lane: &mut VecDeque<Event>, stored: &Stored, group: ListGroup) -> Result<(), NoMemory>
     ensures { OnOk result (lane.new.items ≡ shown_in group stored.now ++ lane.old.items) }
 {
     if is_of_group(group, stored) {
@@ -65,7 +65,7 @@ fn push_first(lane: &mut VecDeque<Event>, stored: &Stored, group: Group) -> Resu
 fn push_all_first(
     lane: &mut VecDeque<Event>,
     objects: &[Stored],
-    group: Group,
+    group: ListGroup,
 ) -> Result<(), NoMemory>
     ensures { OnOk result (lane.new.items ≡ reverse (listed group objects.now) ++ lane.old.items) }
 {
@@ -79,7 +79,7 @@ fn push_all_first(
 fn push_in_order(
     lane: &mut VecDeque<Event>,
     objects: &[Stored],
-    group: Group,
+    group: ListGroup,
     order: ListOrder,
 ) -> Result<(), NoMemory>
     requires { lane.old.items ≡ [] }
@@ -95,7 +95,7 @@ fn push_in_order(
 pub(crate) fn listing(
     alloc: Global,
     store: &Store,
-    group: Group,
+    group: ListGroup,
     order: ListOrder,
 ) -> Result<VecDeque<Event>, NoMemory>
     ensures { IfOk result (λ lane. lane.items ≡ listing order group store.now) }

@@ -2,7 +2,7 @@
 ghost use Rattle.std.specs.Prelude.{◌≡◌, None, OnOk, OnErr, IfOk, IsErrOf};
 ghost use Rattle.kube_model.specs.declared.key.Key.{Key as KeyValue};
 ghost use Rattle.core_rules.specs.Core.{fresh};
-ghost use Rattle.kube_model.specs.declared.event.Group.TheVariants as groups;
+ghost use Rattle.kube_model.specs.declared.event.ListGroup.TheVariants as groups;
 ghost use Rattle.world_rules.specs.Clash.{IsLeastClash};
 ghost use Rattle.world_rules.specs.Good.{IsGoodStore};
 ghost use Rattle.world_rules.specs.World.{started, restarted, listing, records_store, store_of};
@@ -13,7 +13,7 @@ use crate::lanes::listing;
 use crate::state::WorldState;
 use ctl_core::Core;
 use kube_labels::Text;
-use kube_model::{Event, Group, Key, ObjectList};
+use kube_model::{Event, Key, ListGroup, ObjectList};
 use mlb_base::{NoMemory, TryCopy};
 use status_store::{Edit, Store};
 use std::alloc::Global;
@@ -94,11 +94,11 @@ fn begun(
     ensures core { IfOk result (λ b. b.2 ≡ fresh class.now) }
 {
     let core = Core::new(alloc, class.copy()?)?;
-    let Ok(config_lane) = listing(alloc, store, Group::Config, order) else {
+    let Ok(config_lane) = listing(alloc, store, ListGroup::Config, order) else {
         drop(core);
         return Err(NoMemory);
     };
-    let Ok(service_lane) = listing(alloc, store, Group::Service, order) else {
+    let Ok(service_lane) = listing(alloc, store, ListGroup::Service, order) else {
         drop(core);
         drop(config_lane);
         return Err(NoMemory);

@@ -6,7 +6,7 @@ ghost use Rattle.ctl_world.specs.Steps.{is_enabled, is_used_up, may_edit, has_ev
 
 use ctl_core::Core;
 use kube_labels::Text;
-use kube_model::{Event, Group, Object};
+use kube_model::{Event, ListGroup, Object};
 use status_store::{Edit, Store};
 use std::alloc::Global;
 use std::collections::VecDeque;
@@ -63,13 +63,13 @@ impl WorldState {
         }
     }
 
-    fn has_event(&self, group: Group) -> bool
+    fn has_event(&self, group: ListGroup) -> bool
         ensures { result ≡ has_event group self.now }
     {
         match group {
-            Group::Config => !self.config_lane.is_empty(),
-            Group::Service => !self.service_lane.is_empty(),
-            Group::Endpoint => false,
+            ListGroup::Config => !self.config_lane.is_empty(),
+            ListGroup::Service => !self.service_lane.is_empty(),
+            ListGroup::Endpoint => false,
         }
     }
 
@@ -101,12 +101,12 @@ fn is_assigned(object: &Object) -> bool
     }
 }
 
-fn has_lane(group: Group) -> bool
+fn has_lane(group: ListGroup) -> bool
     ensures { result ≡ has_lane group }
 {
     match group {
-        Group::Config | Group::Service => true,
-        Group::Endpoint => false,
+        ListGroup::Config | ListGroup::Service => true,
+        ListGroup::Endpoint => false,
     }
 }
 

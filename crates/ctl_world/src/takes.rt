@@ -1,6 +1,6 @@
 //! The controller takes the next event of a lane, or a watch of its own expires.
 ghost use Rattle.std.specs.Prelude.{◌≡◌, ◌≢◌, None, true, false, IsErrOf, OnOk, OnErr};
-ghost use Rattle.kube_model.specs.declared.event.Group.TheVariants as groups;
+ghost use Rattle.kube_model.specs.declared.event.ListGroup.TheVariants as groups;
 ghost use Rattle.core_rules.specs.Take.{core_take, limits};
 ghost use Rattle.world_rules.specs.World.{told, untold, PassesLimit, after_take, after_expiry, expired_core, lane_of, listed_anew};
 ghost use Rattle.ctl_world.specs.Steps.{HasNoneOut};
@@ -9,7 +9,7 @@ use crate::lanes::listing;
 use crate::state::WorldState;
 use core_rules::TakeFault;
 use ctl_core::Core;
-use kube_model::{Event, Group};
+use kube_model::{Event, ListGroup};
 use mlb_base::{NoMemory, TryCopy};
 use status_store::Store;
 use std::alloc::Global;
@@ -19,7 +19,7 @@ use world_rules::{ListOrder, StepFault};
 
 impl WorldState {
     /// The controller takes the next event of the lane, if there is one.
-    pub(crate) fn take(&mut self, group: Group) -> Result<(), StepFault>
+    pub(crate) fn take(&mut self, group: ListGroup) -> Result<(), StepFault>
         requires { HasNoneOut self.old.core }
         ensures ok { OnOk result (self.new ≡ after_take group self.old) }
         ensures passed { OnOk result (¬ (PassesLimit self.old.core (lane_of group self.old))) }
@@ -28,21 +28,21 @@ impl WorldState {
         ensures err { OnErr result (self.new ≡ self.old) }
     {
         match group {
-            Group::Config => take_first(&mut self.core, &mut self.config_lane),
-            Group::Service => take_first(&mut self.core, &mut self.service_lane),
-            Group::Endpoint => Ok(()),
+            ListGroup::Config => take_first(&mut self.core, &mut self.config_lane),
+            ListGroup::Service => take_first(&mut self.core, &mut self.service_lane),
+            ListGroup::Endpoint => Ok(()),
         }
     }
 
     /// The watch of the lane expires: what was pending in it is lost, and the list is going to be shown anew, in this order.
-    pub(crate) fn expire(&mut self, group: Group, order: ListOrder) -> Result<(), NoMemory>
+    pub(crate) fn expire(&mut self, group: ListGroup, order: ListOrder) -> Result<(), NoMemory>
         requires out { HasNoneOut self.old.core }
         requires lane { group ≢ groups.Endpoint }
         ensures ok { OnOk result (self.new ≡ after_expiry group order self.old) }
         ensures err { OnErr result (self.new ≡ self.old) }
     {
         match group {
-            Group::Config => relist(
+            ListGroup::Config => relist(
                 self.alloc,
                 &self.store,
                 group,
@@ -50,7 +50,7 @@ impl WorldState {
                 &mut self.core,
                 &mut self.config_lane,
             ),
-            Group::Service => relist(
+            ListGroup::Service => relist(
                 self.alloc,
                 &self.store,
                 group,
@@ -58,7 +58,7 @@ impl WorldState {
                 &mut self.core,
                 &mut self.service_lane,
             ),
-            Group::Endpoint => Ok(()),
+            ListGroup::Endpoint => Ok(()),
         }
     }
 }
@@ -108,7 +108,7 @@ fn take_first(core: &mut Option<Core>, lane: &mut VecDeque<Event>) -> Result<(),
 fn relist(
     alloc: Global,
     store: &Store,
-    group: Group,
+    group: ListGroup,
     order: ListOrder,
     core: &mut Option<Core>,
     lane: &mut VecDeque<Event>,

@@ -170,11 +170,26 @@ impl WorldState {
     {
         match step {
             Step::Edit { edit } => Ok(self.edit(edit)?),
-            Step::Take { group } => self.take(group),
-            Step::Turn { outcome } => Ok(self.turn(outcome)?),
-            Step::Crash { applied } => Ok(self.crash(applied)?),
-            Step::Restart { order } => Ok(self.restart(order)?),
-            Step::Expire { group, order } => Ok(self.expire(group, order)?),
+            Step::Take { group } => {
+                drop(step);
+                self.take(group)
+            }
+            Step::Turn { outcome } => {
+                drop(step);
+                Ok(self.turn(outcome)?)
+            }
+            Step::Crash { applied } => {
+                drop(step);
+                Ok(self.crash(applied)?)
+            }
+            Step::Restart { order } => {
+                drop(step);
+                Ok(self.restart(order)?)
+            }
+            Step::Expire { group, order } => {
+                drop(step);
+                Ok(self.expire(group, order)?)
+            }
         }
     }
 }

@@ -14,7 +14,7 @@ use Rattle.mlb_base.specs.Items.{IsIn}
 use Rattle.kube_labels.specs.Names.{name_cmp}
 use Rattle.kube_labels.proofs.NameLaws.{name_cmp-total, name_cmp-exact}
 use Rattle.kube_model.specs.declared.event.Event.TheVariants.{Frame, Ignored}
-use Rattle.kube_model.specs.declared.event.Group.{Group}
+use Rattle.kube_model.specs.declared.event.ListGroup.{ListGroup}
 use Rattle.kube_model.specs.declared.object.Kind.{Kind}
 use Rattle.kube_events.specs.Members.{names_with, distinct_names, members_of}
 use Rattle.kube_events.specs.Frame.{bytes_of, interface_field, bytes_field, frame_of}
@@ -34,7 +34,7 @@ bookmark_read line kind d tells = rw (tells.spells, tells.of_type, tells.has_obj
 no_list : (ends : Bool) → list_end None ends ≡ Ignored
 no_list ends = refl
 
-not_ended : (group : Option Group) → list_end group false ≡ Ignored
+not_ended : (group : Option ListGroup) → list_end group false ≡ Ignored
 not_ended (Some group) = refl
 not_ended None = refl
 

@@ -16,7 +16,7 @@ use Rattle.json_fields.specs.Reading.{◌>>=◌, within, where_there, some_of, o
 use Rattle.kube_model.specs.declared.event.Event.{Event}
 use Rattle.kube_model.specs.declared.event.Event.TheVariants.{Changed, Deleted, Members, Frame}
 use Rattle.kube_model.specs.declared.event.EventFault.{EventFault}
-use Rattle.kube_model.specs.declared.event.Group.{Group}
+use Rattle.kube_model.specs.declared.event.ListGroup.{ListGroup}
 use Rattle.kube_model.specs.declared.object.Kind.{Kind}
 use Rattle.kube_model.specs.declared.object.Object.{Object}
 use Rattle.kube_model.specs.declared.key.Key.{Key}
@@ -131,7 +131,7 @@ gone_sets : (kind : Kind) (d : Data) → SetsVersion (deleted_event kind d)
 unfolding deleted_of
 gone_sets kind d = gone_by kind (key_of kind d) (version_field d)
 
-list_end_sets : (group : Option Group) (ends : Bool) → SetsVersion (Ok (list_end group ends))
+list_end_sets : (group : Option ListGroup) (ends : Bool) → SetsVersion (Ok (list_end group ends))
 list_end_sets (Some group) true n object e = absurd cc
 list_end_sets (Some group) false n object e = absurd cc
 list_end_sets None ends n object e = absurd cc

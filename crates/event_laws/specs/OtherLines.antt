@@ -6,7 +6,7 @@ use Rattle.serde_json.specs.Data.{Data, string}
 use Rattle.mlb_base.specs.Items.{IsIn}
 use Rattle.kube_labels.specs.Names.{name_cmp}
 use Rattle.kube_model.specs.declared.event.Event.TheVariants.{ListEnd, Members, Frame, Ignored}
-use Rattle.kube_model.specs.declared.event.Group.{Group}
+use Rattle.kube_model.specs.declared.event.ListGroup.{ListGroup}
 use Rattle.kube_model.specs.declared.object.Kind.{Kind}
 use Rattle.kube_events.specs.Members.{members_field}
 use Rattle.kube_events.specs.Event.{text_in, listed_in, end_annotation, event_of_line}
@@ -17,7 +17,7 @@ use Rattle.event_laws.specs.Telling.{Tells}
 
 -- A bookmark of a kind that has a list ends it where the annotation is true, and else says nothing.
 pub record BookmarkIsRead (line : List ℕ) (kind : Kind) (d : Data) : Type 0 where
-  pub ends : (group : Group) → listed_in kind ≡ Some group → end_annotation d ≡ Some (codes "true") → event_of_line line ≡ Ok (ListEnd group)
+  pub ends : (group : ListGroup) → listed_in kind ≡ Some group → end_annotation d ≡ Some (codes "true") → event_of_line line ≡ Ok (ListEnd group)
   pub other_kind : listed_in kind ≡ None → event_of_line line ≡ Ok Ignored
   pub not_true : end_annotation d ≢ Some (codes "true") → event_of_line line ≡ Ok Ignored
 

@@ -6,8 +6,8 @@ use Rattle.kube_model.specs.declared.event.Event.{Event as Said}
 use Rattle.kube_model.specs.declared.event.Event.TheVariants.{Changed, Deleted, ListEnd, Expired, Members as Speakers, Frame, Ignored}
 use Rattle.kube_model.specs.declared.event.EventFault.{EventFault}
 use Rattle.kube_model.specs.declared.event.EventFault.TheVariants.{NotJson, NotEvent, Field, NoMemory}
-use Rattle.kube_model.specs.declared.event.Group.{Group}
-use Rattle.kube_model.specs.declared.event.Group.TheVariants as groups
+use Rattle.kube_model.specs.declared.event.ListGroup.{ListGroup}
+use Rattle.kube_model.specs.declared.event.ListGroup.TheVariants as groups
 use Rattle.kube_model.specs.declared.key.Key.{Key}
 use Rattle.kube_model.specs.declared.object.Kind.{Kind}
 use Rattle.kube_model.specs.declared.object.Kind.TheVariants as kinds
@@ -86,7 +86,7 @@ namespace_in kinds.Node key = None
 namespace_in kinds.Slice key = Some key.namespace
 
 -- the kind whose bookmark ends the lists of the group
-abbrev pub ending_kind : Group → Kind
+abbrev pub ending_kind : ListGroup → Kind
 ending_kind groups.Config = kinds.Pool
 ending_kind groups.Service = kinds.Service
 ending_kind groups.Endpoint = kinds.Slice

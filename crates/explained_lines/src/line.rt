@@ -8,7 +8,7 @@ ghost use Rattle.explained_lines.specs.Lines.{path_data, reason_data, refused_da
 use crate::explained::Explained;
 use admission_reviews::{Change, Review, written};
 use kube_labels::Text;
-use kube_model::{Event, EventFault, Group, Key, Kind, Object};
+use kube_model::{Event, EventFault, Key, Kind, ListGroup, Object};
 use mlb_base::NoMemory;
 use serde_json::{Value, json};
 use std::alloc::Global;
@@ -123,13 +123,13 @@ fn namespace_in(kind: Kind, key: &Key) -> Option<&Text>
 }
 
 /// The kind whose bookmark ends the lists of the group.
-fn ending_kind(group: Group) -> Kind
+fn ending_kind(group: ListGroup) -> Kind
     ensures { result ≡ ending_kind group }
 {
     match group {
-        Group::Config => Kind::Pool,
-        Group::Service => Kind::Service,
-        Group::Endpoint => Kind::Slice,
+        ListGroup::Config => Kind::Pool,
+        ListGroup::Service => Kind::Service,
+        ListGroup::Endpoint => Kind::Slice,
     }
 }
 

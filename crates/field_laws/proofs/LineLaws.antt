@@ -12,8 +12,8 @@ use Rattle.kube_model.specs.declared.event.Event.{Event}
 use Rattle.kube_model.specs.declared.event.Event.TheVariants.{ListEnd, Expired, Ignored}
 use Rattle.kube_model.specs.declared.event.EventFault.{EventFault}
 use Rattle.kube_model.specs.declared.event.EventFault.TheVariants.{NotJson, NotEvent}
-use Rattle.kube_model.specs.declared.event.Group.{Group}
-use Rattle.kube_model.specs.declared.event.Group.TheVariants as groups
+use Rattle.kube_model.specs.declared.event.ListGroup.{ListGroup}
+use Rattle.kube_model.specs.declared.event.ListGroup.TheVariants as groups
 use Rattle.kube_model.specs.declared.object.Kind.{Kind}
 use Rattle.kube_model.specs.declared.object.Kind.TheVariants as kinds
 use Rattle.kube_model.specs.Named.{kind_named}
@@ -269,7 +269,7 @@ expired_is : (line : Data) → HasText (codes "type") line (codes "ERROR") → e
 unfolding event_of
 expired_is line has = rw has refl
 
-list_end_is : (line d : Data) (kind : List ℕ) (group : Group) → IsAbout line (codes "BOOKMARK") d kind → EndsList kind group → SaysEnd d
+list_end_is : (line d : Data) (kind : List ℕ) (group : ListGroup) → IsAbout line (codes "BOOKMARK") d kind → EndsList kind group → SaysEnd d
     → event_of line ≡ Ok (ListEnd group)
 list_end_is line d kind groups.Config about is says = bookmark_is line d kind about ∙ rw (kind_named_so kind kinds.Pool is, ends d says) refl
 list_end_is line d kind groups.Service about is says = bookmark_is line d kind about ∙ rw (kind_named_so kind kinds.Service is, ends d says) refl
@@ -317,12 +317,13 @@ frame_sorted line = subst (λ it. IsSorted line (in_field it)) (sym (frames_as_t
     (field_sorted line frame_with (rows_told frame_rows line) (λ told e. absurd cc) (λ told e. absurd cc))
 
 -- a list ends, or nothing matters here
-end_sorted : (line : Data) (group : Option Group) (ends : Bool) → (list_end group ends ≡ Ignored → IsPassedBy line) → IsSorted line (Ok (list_end group ends))
+end_sorted : (line : Data) (group : Option ListGroup) (ends : Bool) → (list_end group ends ≡ Ignored → IsPassedBy line)
+    → IsSorted line (Ok (list_end group ends))
 end_sorted line (Some group) true passed = record { no_event = λ e. absurd cc; ignored = λ e. absurd cc; expired = λ e. absurd cc; json = λ e. absurd cc }
 end_sorted line (Some group) false passed = record { no_event = λ e. absurd cc; ignored = λ e. passed refl; expired = λ e. absurd cc; json = λ e. absurd cc }
 end_sorted line None ends passed = record { no_event = λ e. absurd cc; ignored = λ e. passed refl; expired = λ e. absurd cc; json = λ e. absurd cc }
 
-listed : (text : List ℕ) (kind : Kind) → Names text kind → IsIn ending_kinds text → (group : Group) × (listed_in kind ≡ Some group)
+listed : (text : List ℕ) (kind : Kind) → Names text kind → IsIn ending_kinds text → (group : ListGroup) × (listed_in kind ≡ Some group)
 listed text kinds.Pool is ending = (_, refl)
 listed text kinds.Service is ending = (_, refl)
 listed text kinds.Slice is ending = (_, refl)
@@ -333,7 +334,7 @@ listed text kinds.Community is ending = absurd (no_ending text (codes "Community
 listed text kinds.Namespace is ending = absurd (no_ending text (codes "Namespace") is ending refl refl refl)
 listed text kinds.Node is ending = absurd (no_ending text (codes "Node") is ending refl refl refl)
 
-ends_ignored : (group : Group) → list_end (Some group) true ≡ Ignored → ⊥
+ends_ignored : (group : ListGroup) → list_end (Some group) true ≡ Ignored → ⊥
 ends_ignored group e = absurd cc
 
 bookmark_sorted : (line : Data) (d : Data) (text : List ℕ) (kind : Kind) → Names text kind → IsAbout line (codes "BOOKMARK") d text

@@ -6,8 +6,8 @@ use Rattle.serde_json.specs.Find.{get}
 use Rattle.json_fields.specs.Line.{value_of_line}
 use Rattle.kube_model.specs.declared.event.Event.TheVariants.{ListEnd, Expired, Ignored}
 use Rattle.kube_model.specs.declared.event.EventFault.TheVariants.{NotJson, NotEvent}
-use Rattle.kube_model.specs.declared.event.Group.{Group}
-use Rattle.kube_model.specs.declared.event.Group.TheVariants as groups
+use Rattle.kube_model.specs.declared.event.ListGroup.{ListGroup}
+use Rattle.kube_model.specs.declared.event.ListGroup.TheVariants as groups
 use Rattle.kube_model.specs.declared.object.Kind.{Kind}
 use Rattle.kube_model.specs.declared.object.Kind.TheVariants as kinds
 use Rattle.kube_events.specs.Event.{in_field, event_of, event_of_line}
@@ -61,7 +61,7 @@ SaysEnd d = (metadata annotations : Data) × (get (codes "metadata") d ≡ Some 
     × HasText (codes "k8s.io/initial-events-end") annotations (codes "true")
 
 -- the list that a bookmark of an object of this kind may end
-abbrev pub EndsList : List ℕ → Group → Type 0
+abbrev pub EndsList : List ℕ → ListGroup → Type 0
 EndsList kind groups.Config = kind ≡ codes "IPAddressPool"
 EndsList kind groups.Service = kind ≡ codes "Service"
 EndsList kind groups.Endpoint = kind ≡ codes "EndpointSlice"
@@ -83,7 +83,7 @@ pub record OthersArePassedBy (line : Data) : Type 0 where
   pub no_event : (event_of line ≡ Err NotEvent) ↔ IsNoEvent line
   pub ignored : (event_of line ≡ Ok Ignored) ↔ IsPassedBy line
   pub expired : (event_of line ≡ Ok Expired) ↔ HasText (codes "type") line (codes "ERROR")
-  pub list_end : (d : Data) (kind : List ℕ) (group : Group) → IsAbout line (codes "BOOKMARK") d kind → EndsList kind group → SaysEnd d
+  pub list_end : (d : Data) (kind : List ℕ) (group : ListGroup) → IsAbout line (codes "BOOKMARK") d kind → EndsList kind group → SaysEnd d
       → event_of line ≡ Ok (ListEnd group)
 
 -- A line is an event, or none, as the value is that its bytes are the text of (RFC 8259); what is no such text is no JSON.

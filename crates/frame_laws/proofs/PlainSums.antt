@@ -2,10 +2,12 @@
 use Rattle.std.proofs.Common.{◌≡◌, ◌≢◌, ◌↔◌, ℕ, zero, suc, ◌+◌, ◌-◌, ◌*◌, ◌/◌, ◌<◌, ◌≤◌, List, [], ◌∷◌}
 use Rattle.std.proofs.Common.{◌++◌, length, get_or, take, drop, refl, sym, ◌∙◌, ap, subst, arith}
 use Rattle.std.specs.Prelude.{nat_lt, slice_range, true}
-use Rattle.std.specs.Int.{w32, to_be_bytes}
+use Rattle.std.specs.Int.{w32, bytes_high_first, to_be_bytes}
 use Rattle.std.specs.List.{list_all}
 use Rattle.std.proofs.lemmas.Bool.{and_parts, ltb-true}
 use Rattle.std.proofs.lemmas.List.{length-take, length-drop}
+use Rattle.mlb_base.proofs.Lists.{all-take, all-drop, all-append}
+use Rattle.ip_ranges.proofs.BytesLemmas.{AreBytes-high_first}
 use Rattle.neigh_frames.specs.Checksum.{ones_sum, plus, sum_from, with_pseudo_header}
 use Rattle.neigh_frames.specs.Solicitation.{HasRightChecksum}
 use Rattle.frame_laws.specs.Sums.{AreOctets, ChecksumsArePlainSums, FramesAreSummed, IsMultiple, message_length, plain_sum, summed}
@@ -59,18 +61,13 @@ octets-literal (x ∷ octets) all =
     (ltb-true x 0x100 parts.0, octets-literal octets parts.1)
 
 pub octets-append : (front back : List ℕ) → AreOctets front → AreOctets back → AreOctets (front ++ back)
-octets-append [] back f b = b
-octets-append (x ∷ front) back f b = (f.0, octets-append front back f.1 b)
+octets-append = all-append (λ (octet : ℕ). octet < 0x100)
 
 pub octets-take : (n : ℕ) (octets : List ℕ) → AreOctets octets → AreOctets (take n octets)
-octets-take zero octets all = tt
-octets-take (suc n) [] all = tt
-octets-take (suc n) (x ∷ octets) all = (all.0, octets-take n octets all.1)
+octets-take = all-take (λ (octet : ℕ). octet < 0x100)
 
 pub octets-drop : (n : ℕ) (octets : List ℕ) → AreOctets octets → AreOctets (drop n octets)
-octets-drop zero octets all = all
-octets-drop (suc n) [] all = tt
-octets-drop (suc n) (x ∷ octets) all = octets-drop n octets all.1
+octets-drop = all-drop (λ (octet : ℕ). octet < 0x100)
 
 pub octet-at : (n : ℕ) (octets : List ℕ) → AreOctets octets → get_or octets n 0 < 0x100
 octet-at n [] all = omega arith
@@ -81,8 +78,9 @@ octet-at (suc n) (x ∷ octets) all = octet-at n octets all.1
 four : (n : ℕ) → n < 65536 → plain_sum (to_be_bytes w32 n) ≡ n
 four n few = omega arith
 
-four-octets : (n : ℕ) → AreOctets (to_be_bytes w32 n)
-four-octets n = (omega arith, (omega arith, (omega arith, (omega arith, tt))))
+pub octets-high_first : (k n : ℕ) → AreOctets (bytes_high_first k n)
+octets-high_first zero n = tt
+octets-high_first (suc k) n = (AreBytes-high_first (suc k) n zero, octets-high_first k n)
 
 module _ (frame : List ℕ) (all : AreOctets frame) (whole : 54 + message_length frame ≤ length frame) where
   abbrev addresses : List ℕ
@@ -110,7 +108,7 @@ module _ (frame : List ℕ) (all : AreOctets frame) (whole : 54 + message_length
   octets =
       octets-append addresses (to_be_bytes w32 (length message) ++ ((0 ∷ 0 ∷ 0 ∷ 58 ∷ []) ++ message))
       (octets-take 32 (drop 22 frame) (octets-drop 22 frame all))
-      (octets-append (to_be_bytes w32 (length message)) ((0 ∷ 0 ∷ 0 ∷ 58 ∷ []) ++ message) (four-octets (length message))
+      (octets-append (to_be_bytes w32 (length message)) ((0 ∷ 0 ∷ 0 ∷ 58 ∷ []) ++ message) (octets-high_first 4 (length message))
       (octets-append (0 ∷ 0 ∷ 0 ∷ 58 ∷ []) message (octets-literal (0 ∷ 0 ∷ 0 ∷ 58 ∷ []) refl)
       (octets-take (54 + message_length frame - 54) (drop 54 frame) (octets-drop 54 frame all))))
 

@@ -5,15 +5,16 @@ use Rattle.std.specs.Prelude.{slice_index, slice_range}
 use Rattle.std.specs.Int.{w128, to_be_bytes}
 use Rattle.std.specs.List.{AllByRecursion, find}
 use Rattle.std.specs.Option.{option_map}
-use Rattle.std.proofs.lemmas.List.{get_or-append-add, length-take, length-drop}
+use Rattle.std.proofs.lemmas.List.{length-take, length-drop}
 use Rattle.neigh_frames.specs.Advertisement.{advertisement, all_nodes, checksum_of, header, ndp_reply, reply_to, to_all_nodes, unasked_ndp_of}
 use Rattle.neigh_frames.specs.Options.{NdpOption, hardware_of, options_behind, options_of, sender_in, states_hardware}
 use Rattle.neigh_frames.specs.Solicitation.{is_unspecified, options_in, source_of, target_of}
 use Rattle.neigh_frames.proofs.Carry.{AreBytes}
-use Rattle.neigh_frames.proofs.RightSums.{ndp_reply-HasRightChecksum}
+use Rattle.neigh_frames.proofs.RightSums.{ndp_reply-HasRightChecksum, framed as regrouped}
+use Rattle.neigh_frames.proofs.Places.{get_or-front}
 use Rattle.frame_laws.specs.Sums.{AreOctets, message_length}
 use Rattle.frame_laws.specs.Valid.{AnswersAreValid, IsHardware, IsValidAdvertisement, UnsolicitedAreValid}
-use Rattle.frame_laws.proofs.PlainSums.{frames-summed, octet-at, octets-append, octets-drop, octets-literal, octets-take}
+use Rattle.frame_laws.proofs.PlainSums.{frames-summed, octet-at, octets-append, octets-drop, octets-high_first, octets-literal, octets-take}
 
 -- an IPv6 address in octets
 abbrev IsIpv6 : List ℕ → Type 0
@@ -22,15 +23,9 @@ IsIpv6 address = (length address ≡ 16) × AreOctets address
 bytes-of : (octets : List ℕ) → AreOctets octets → AreBytes octets
 bytes-of octets all i = octet-at i octets all
 
-behind : (front back : List ℕ) (n k : ℕ) → length front ≡ n → get_or (front ++ back) (n + k) 0 ≡ get_or back k 0
-behind front back n k is = rw (sym is) (get_or-append-add front back k 0)
-
 first-of : (front back : List ℕ) → 1 ≤ length front → get_or (front ++ back) 0 0 ≡ get_or front 0 0
 first-of [] back some = absurd (omega arith)
 first-of (x ∷ front) back some = refl
-
-regrouped : (a b h t d m : List ℕ) → a ++ b ++ h ++ t ++ d ++ m ≡ (a ++ b) ++ (h ++ (t ++ (d ++ m)))
-regrouped a b h t d m = simp append_assoc refl
 
 module _ (mac hardware target destination : List ℕ) (flags : ℕ) (m : IsHardware mac) (h : IsHardware hardware) (t : IsIpv6 target) (d : IsIpv6 destination)
     (flag : flags < 0x100)
@@ -50,18 +45,18 @@ module _ (mac hardware target destination : List ℕ) (flags : ℕ) (m : IsHardw
   -- the octets behind the Ethernet addresses, behind the IPv6 header, and of the message
   in-header : (k : ℕ) → get_or frame (12 + k) 0 ≡ get_or (header ++ (target ++ (destination ++ message))) k 0
   in-header k = ap (λ octets. get_or octets (12 + k) 0) framed
-      ∙ behind (hardware ++ mac) (header ++ (target ++ (destination ++ message))) 12 k (omega (arith, length-append hardware mac, h.0, m.0))
+      ∙ get_or-front (hardware ++ mac) (header ++ (target ++ (destination ++ message))) 12 k (omega (arith, length-append hardware mac, h.0, m.0))
 
   in-destination : get_or frame 38 0 ≡ get_or destination 0 0
-  in-destination = in-header 26 ∙ behind target (destination ++ message) 16 0 t.0 ∙ first-of destination message (omega (arith, d.0))
+  in-destination = in-header 26 ∙ get_or-front target (destination ++ message) 16 0 t.0 ∙ first-of destination message (omega (arith, d.0))
 
   in-message : (k : ℕ) → get_or frame (54 + k) 0 ≡ get_or message k 0
   in-message k =
       ap (λ n. get_or frame n 0) (omega arith) ∙ in-header (42 + k)
       ∙ ap (λ n. get_or (header ++ (target ++ (destination ++ message))) n 0) (omega arith)
-      ∙ behind header (target ++ (destination ++ message)) 10 (32 + k) refl
-      ∙ ap (λ n. get_or (target ++ (destination ++ message)) n 0) (omega arith) ∙ behind target (destination ++ message) 16 (16 + k) t.0
-      ∙ behind destination message 16 k d.0
+      ∙ get_or-front header (target ++ (destination ++ message)) 10 (32 + k) refl
+      ∙ ap (λ n. get_or (target ++ (destination ++ message)) n 0) (omega arith) ∙ get_or-front target (destination ++ message) 16 (16 + k) t.0
+      ∙ get_or-front destination message 16 k d.0
 
   in-target : get_or frame 62 0 ≡ get_or target 0 0
   in-target =
@@ -70,8 +65,8 @@ module _ (mac hardware target destination : List ℕ) (flags : ℕ) (m : IsHardw
   in-option : (k : ℕ) → get_or frame (78 + k) 0 ≡ get_or ((2 ∷ 1 ∷ []) ++ mac) k 0
   in-option k =
       ap (λ n. get_or frame n 0) (omega arith) ∙ in-message (24 + k)
-      ∙ ap (λ n. get_or message n 0) (omega arith) ∙ behind (136 ∷ 0 ∷ to_checksum) ((target ++ 2 ∷ 1 ∷ []) ++ mac) 8 (16 + k) refl
-      ∙ ap (λ octets. get_or octets (16 + k) 0) (append_assoc target (2 ∷ 1 ∷ []) mac) ∙ behind target ((2 ∷ 1 ∷ []) ++ mac) 16 k t.0
+      ∙ ap (λ n. get_or message n 0) (omega arith) ∙ get_or-front (136 ∷ 0 ∷ to_checksum) ((target ++ 2 ∷ 1 ∷ []) ++ mac) 8 (16 + k) refl
+      ∙ ap (λ octets. get_or octets (16 + k) 0) (append_assoc target (2 ∷ 1 ∷ []) mac) ∙ get_or-front target ((2 ∷ 1 ∷ []) ++ mac) 16 k t.0
     where
       to_checksum : List ℕ
       to_checksum = drop 2 (take 8 message)
@@ -162,32 +157,7 @@ to-all-valid mac target flags m t flag unicast clear =
 pub unsolicited-valid : UnsolicitedAreValid
 unfolding unasked_ndp_of
 unsolicited-valid mac number m unicast =
-    to-all-valid mac (to_be_bytes w128 number) 0x20 m (refl, number-octets number) (omega arith) unicast refl
-  where
-    number-octets : (n : ℕ) → AreOctets (to_be_bytes w128 n)
-    number-octets n =
-        ((
-          omega arith,
-          (
-            omega arith,
-            (
-              omega arith,
-              (
-                omega arith,
-                (
-                  omega arith,
-                  (
-                    omega arith,
-                    (
-                      omega arith,
-                      (omega arith, (omega arith, (omega arith, (omega arith, (omega arith, (omega arith, (omega arith, (omega arith, (omega arith, tt))))))))),
-                    ),
-                  ),
-                ),
-              ),
-            ),
-          ),
-        ))
+    to-all-valid mac (to_be_bytes w128 number) 0x20 m (refl, octets-high_first 16 number) (omega arith) unicast refl
 
 -- ---- answers
 -- the hardware address that options state, or that of the frame

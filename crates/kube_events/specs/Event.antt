@@ -10,8 +10,8 @@ use Rattle.kube_model.specs.declared.event.Event.{Event}
 use Rattle.kube_model.specs.declared.event.Event.TheVariants.{ListEnd, Expired, Ignored}
 use Rattle.kube_model.specs.declared.event.EventFault.{EventFault}
 use Rattle.kube_model.specs.declared.event.EventFault.TheVariants.{NotJson, NotEvent, Field, NoMemory}
-use Rattle.kube_model.specs.declared.event.Group.{Group}
-use Rattle.kube_model.specs.declared.event.Group.TheVariants as groups
+use Rattle.kube_model.specs.declared.event.ListGroup.{ListGroup}
+use Rattle.kube_model.specs.declared.event.ListGroup.TheVariants as groups
 use Rattle.kube_model.specs.declared.object.Kind.{Kind}
 use Rattle.kube_model.specs.declared.object.Kind.TheVariants as kinds
 use Rattle.kube_events.specs.declared.reading.EventType.{EventType}
@@ -42,7 +42,7 @@ GivesEvent (Err fault) read = FailsEvent fault read
 -- ---- bookmarks
 
 -- the group whose list a bookmark of this kind may end
-abbrev pub listed_in : Kind → Option Group
+abbrev pub listed_in : Kind → Option ListGroup
 listed_in kinds.Pool = Some groups.Config
 listed_in kinds.Service = Some groups.Service
 listed_in kinds.Slice = Some groups.Endpoint
@@ -65,7 +65,7 @@ end_annotation d =
 unfoldable pub ends_list : Data → Bool
 ends_list d = is_text (end_annotation d) (codes "true")
 
-abbrev pub list_end : Option Group → Bool → Event
+abbrev pub list_end : Option ListGroup → Bool → Event
 list_end (Some group) true = ListEnd group
 list_end (Some group) false = Ignored
 list_end None ends = Ignored

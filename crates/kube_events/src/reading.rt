@@ -8,7 +8,7 @@ use crate::frame::frame_from;
 use crate::members::members_from;
 use crate::object_fields::{changed_from, deleted_from};
 use json_fields::read_value;
-use kube_model::{Event, EventFault, Group, Kind};
+use kube_model::{Event, EventFault, Kind, ListGroup};
 use serde_json::Value;
 use std::alloc::Global;
 
@@ -21,13 +21,13 @@ enum EventType {
 }
 
 /// The group whose list a bookmark of this kind may end.
-fn listed_in(kind: Kind) -> Option<Group>
+fn listed_in(kind: Kind) -> Option<ListGroup>
     ensures { result ≡ listed_in kind }
 {
     match kind {
-        Kind::Pool => Some(Group::Config),
-        Kind::Service => Some(Group::Service),
-        Kind::Slice => Some(Group::Endpoint),
+        Kind::Pool => Some(ListGroup::Config),
+        Kind::Service => Some(ListGroup::Service),
+        Kind::Slice => Some(ListGroup::Endpoint),
         Kind::L2 | Kind::Bgp | Kind::Peer | Kind::Community | Kind::Namespace | Kind::Node => None,
     }
 }

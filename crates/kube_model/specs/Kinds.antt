@@ -3,8 +3,8 @@ use Rattle.kube_model.specs.declared.object.Object.{Object}
 use Rattle.kube_model.specs.declared.object.Object.TheVariants as objects
 use Rattle.kube_model.specs.declared.object.Kind.{Kind}
 use Rattle.kube_model.specs.declared.object.Kind.TheVariants as kinds
-use Rattle.kube_model.specs.declared.event.Group.{Group}
-use Rattle.kube_model.specs.declared.event.Group.TheVariants as groups
+use Rattle.kube_model.specs.declared.event.ListGroup.{ListGroup}
+use Rattle.kube_model.specs.declared.event.ListGroup.TheVariants as groups
 
 abbrev pub kind_of : Object → Kind
 kind_of (objects.Service service) = kinds.Service
@@ -18,7 +18,7 @@ kind_of (objects.Node node) = kinds.Node
 kind_of (objects.Slice slice) = kinds.Slice
 
 -- Services and endpoint slices have lists of their own.
-abbrev pub group_of : Kind → Group
+abbrev pub group_of : Kind → ListGroup
 group_of kinds.Service = groups.Service
 group_of kinds.Slice = groups.Endpoint
 group_of kinds.Pool = groups.Config

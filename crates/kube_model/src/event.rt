@@ -10,7 +10,7 @@ use thiserror::Error;
 
 /// The lists that a watch begins with.
 #[derive(Clone, Copy, Debug, PartialEq, Eq)]
-pub enum Group {
+pub enum ListGroup {
     Config,
     Service,
     Endpoint,
@@ -24,7 +24,7 @@ pub enum Event {
     /// The object isn't there any more.
     Deleted { kind: Kind, key: Key },
     /// The list of the group has been shown whole.
-    ListEnd { group: Group },
+    ListEnd { group: ListGroup },
     /// The watch has expired; the lists begin anew.
     Expired,
     /// The speakers that are active, their names distinct and ascending where they were read from a line.

@@ -34,7 +34,7 @@ pub use bgp::BgpAdv;
 pub use community::CommunityList;
 pub use config_fault::{Cause, ConfigFault};
 pub use copies::both;
-pub use event::{Event, EventFault, Group};
+pub use event::{Event, EventFault, ListGroup};
 pub use families::FamilyList;
 pub use key::Key;
 pub use kube_labels::{ExpressionList, Labels, Text, TextList};

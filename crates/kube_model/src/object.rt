@@ -6,7 +6,7 @@ ghost use Rattle.kube_model.specs.LineWords.{kind_text};
 
 use crate::bgp::BgpAdv;
 use crate::community::CommunityList;
-use crate::event::Group;
+use crate::event::ListGroup;
 use crate::l2::L2Adv;
 use crate::namespace::Namespace;
 use crate::node::Node;
@@ -85,19 +85,19 @@ impl Kind {
     }
 
     /// The list that objects of this kind come in.
-    pub fn group(self) -> Group
+    pub fn group(self) -> ListGroup
         ensures { result ≡ group_of self }
     {
         match self {
-            Kind::Service => Group::Service,
-            Kind::Slice => Group::Endpoint,
+            Kind::Service => ListGroup::Service,
+            Kind::Slice => ListGroup::Endpoint,
             Kind::Pool
             | Kind::L2
             | Kind::Bgp
             | Kind::Peer
             | Kind::Community
             | Kind::Namespace
-            | Kind::Node => Group::Config,
+            | Kind::Node => ListGroup::Config,
         }
     }
 

@@ -3,6 +3,7 @@ use Rattle.std.proofs.Common.{◌≡◌, ℕ, Bool, true, ◌&&◌, List, Contai
 use Rattle.std.proofs.lemmas.Bool.{and_parts, and_from}
 use Rattle.std.proofs.lemmas.Bool.Decides.{Decides-and}
 use Rattle.mlb_base.proofs.Among.{any-found, any-contains}
+use Rattle.mlb_base.proofs.Lists.{filter-contains, filter-keeps}
 use Rattle.ip_ranges.specs.Values.{AddressValue, has_address}
 use Rattle.ip_ranges.proofs.AddressLaws.{has_address-is, has_address-from}
 use Rattle.kube_model.specs.declared.service.Service.{Service}
@@ -15,7 +16,6 @@ use Rattle.speaker_view.specs.Endpoints.{announced_from, can_announce, node_labe
 use Rattle.speaker_view.proofs.Serving.{can_announce-Decides}
 use Rattle.speaker_view.specs.ViewValue.{ViewValue}
 use Rattle.l2_elect.specs.Eligible.{advertises, is_advertised, is_eligible, IsAdvertised, IsRecorded, IsEligible}
-use Rattle.l2_elect.proofs.Filters.{Contains-filter, filter-Contains}
 use Rattle.l2_elect.proofs.Passing.{passing, passes-where}
 
 module _ (v : ViewValue) (address : AddressValue) (node : List ℕ) where
@@ -70,11 +70,11 @@ module _ (v : ViewValue) (address : AddressValue) (node : List ℕ) where
   -- the eligible nodes are the members that pass
   pub eligible-member : IsEligible v address node → Contains (filter (is_eligible v address) v.members) node
   eligible-member e =
-      Contains-filter (is_eligible v address) v.members node e.member
+      filter-keeps (is_eligible v address) v.members node e.member
       (and_from (is_advertised v node address) (announced_from v address node) (means-advertised e.advertised) (means-recorded e.recorded))
 
   pub member-eligible : Contains (filter (is_eligible v address) v.members) node → IsEligible v address node
   member-eligible there =
-      let passed = filter-Contains (is_eligible v address) v.members node there in
+      let passed = filter-contains (is_eligible v address) v.members node there in
       let both = and_parts (is_advertised v node address) (announced_from v address node) passed.1 in
       record { member = passed.0; advertised = advertised-means both.0; recorded = recorded-means both.1 }

@@ -1,7 +1,7 @@
 -- What is held of the announcers after one address or some were renewed.
 use Rattle.std.proofs.Common.{◌≡◌, ℕ, Bool, true, false, cond, ◌||◌, List, [], Option, take, length, get_or}
 use Rattle.std.proofs.Common.{◌<◌, ◌+◌, Contains, Ordering, refl, sym, ap, subst, ◌∙◌}
-use Rattle.std.proofs.lemmas.Bool.{false≢true}
+use Rattle.std.proofs.lemmas.Bool.{false≢true, false_from_ne_true}
 use Rattle.std.proofs.lemmas.List.Folds.{list_any_more}
 use Rattle.std.specs.BTreeMap.{is_at}
 use Rattle.std.specs.List.Sorted.{IsStrictlySortedBy}
@@ -17,18 +17,18 @@ use Rattle.speaker_view.specs.ViewValue.{ViewValue}
 use Rattle.speaker_view.proofs.AddressOrder.{address_cmp-is, same-at}
 use Rattle.speaker_view.proofs.Indexed.{has-recorded_addresses}
 use Rattle.l2_elect.specs.Election.{announcer_of}
-use Rattle.l2_elect.specs.Kept.{AreKeptBut, AreKeptFor, AreRenewed, AreRightBut, IsHeldNow, held_for}
+use Rattle.l2_elect.specs.Kept.{AreKeptBut, AreKeptFor, AreRenewed, AreRightBut, IsKeptNow, kept_announcer}
 use Rattle.l2_elect.proofs.Unrecorded.{announcer-stays, unrecorded-none}
 
 abbrev Entries : Type 0
 Entries = List (AddressValue × List ℕ)
 
 -- an order finds what is held for an address
-looked-up : (entries : Entries) (a : AddressValue) → lookup (is_at (address_cmp a)) entries ≡ held_for entries a
+looked-up : (entries : Entries) (a : AddressValue) → lookup (is_at (address_cmp a)) entries ≡ kept_announcer entries a
 looked-up entries a = λ i. lookup (λ b. same-at a b i) entries
 
 pub found : (entries : Entries) (a : AddressValue) (answer : Option (List ℕ)) → answer ≡ lookup (is_at (derived.cmp-value.it a)) entries
-    → answer ≡ held_for entries a
+    → answer ≡ kept_announcer entries a
 found entries a answer is = is ∙ ap (λ (R : AddressValue → AddressValue → Ordering). lookup (is_at (R a)) entries) address_cmp-is ∙ looked-up entries a
 
 -- an order finds what was held, but at an address this
@@ -36,7 +36,7 @@ abbrev pub Finds : (AddressValue → AddressValue → Ordering) → Entries → 
 Finds R old new name address = (a : AddressValue) → lookup (is_at (R a)) new ≡ cond (is_at (R address) a) name (lookup (is_at (R a)) old)
 
 pub held-now : (old new : Entries) (name : Option (List ℕ)) (address : AddressValue) → Finds derived.cmp-value.it old new name address
-    → IsHeldNow address name old new
+    → IsKeptNow address name old new
 held-now old new name address finds a =
     let by : Finds address_cmp old new name address =
     subst (λ (R : AddressValue → AddressValue → Ordering). Finds R old new name address) address_cmp-is finds in
@@ -59,18 +59,18 @@ renewed-none v addresses entries a = refl
 
 pub renewed-more : (v : ViewValue) (addresses : List AddressValue) (i : ℕ) (address : AddressValue) → i < length addresses
     → get_or addresses i address ≡ address
-    → (old now new : Entries) → AreRenewed (take i addresses) v old now → IsHeldNow address (announcer_of v address) now new
+    → (old now new : Entries) → AreRenewed (take i addresses) v old now → IsKeptNow address (announcer_of v address) now new
     → AreRenewed (take (i + 1) addresses) v old new
 renewed-more v addresses i address below at old now new so_far here a =
     let before = has_address (take i addresses) a in
     let more : has_address (take (i + 1) addresses) a ≡ (before || same_address a address) =
     list_any_more (same_address a) addresses i address below ∙ ap (λ b. before || same_address a b) at in
     here a
-    ∙ at_same (same_address a address) (announcer_of v address) (announcer_of v a) (held_for now a)
+    ∙ at_same (same_address a address) (announcer_of v address) (announcer_of v a) (kept_announcer now a)
     (λ e. ap (announcer_of v) (sym (same_address-is a address e)))
     ∙ ap (λ (held : Option (List ℕ)). cond (same_address a address) (announcer_of v a) held) (so_far a)
-    ∙ renewed_by before (same_address a address) (announcer_of v a) (held_for old a)
-    ∙ ap (λ b. cond b (announcer_of v a) (held_for old a)) (sym more)
+    ∙ renewed_by before (same_address a address) (announcer_of v a) (kept_announcer old a)
+    ∙ ap (λ b. cond b (announcer_of v a) (kept_announcer old a)) (sym more)
 
 -- ---- all
 all_by : {X : Type 0} (b : Bool) (now was : X) → (b ≡ false → was ≡ now) → cond b now was ≡ now
@@ -84,17 +84,13 @@ pub kept-all : (v : ViewValue) (addresses : List AddressValue) (old new : Entrie
     → IsStrictlySortedBy address_cmp (keys_of new) → AreKeptFor new v
 kept-all v addresses old new but renewed ascend = record {
   ascend = ascend;
-  each = λ a. renewed a ∙ all_by (has_address addresses a) (announcer_of v a) (held_for old a) (λ e. but a (hasnt addresses a e));
+  each = λ a. renewed a ∙ all_by (has_address addresses a) (announcer_of v a) (kept_announcer old a) (λ e. but a (hasnt addresses a e));
 }
 
 -- nothing is held for the addresses that no service records
-no_true : (b : Bool) → ¬ (b ≡ true) → b ≡ false
-no_true true never = absurd (never refl)
-no_true false never = refl
-
 pub nothing-but : (v : ViewValue) → AreKeptBut (recorded_addresses v) [] v
 nothing-but v a none =
-    sym (unrecorded-none v a (no_true (is_recorded_in v a) (λ e. none (has-recorded_addresses v a e))))
+    sym (unrecorded-none v a (false_from_ne_true (is_recorded_in v a) (λ e. none (has-recorded_addresses v a e))))
 
 -- where an event leaves all that decides at the addresses that it doesn't list, the announcers are right but at these
 pub right-but : (entries : Entries) (v w : ViewValue) (change : ViewChange) → AreKeptFor entries v → OthersStay v w change → AreRightBut change entries w

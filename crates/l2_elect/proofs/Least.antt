@@ -5,7 +5,7 @@ use Rattle.std.specs.Prelude.{IfNone}
 use Rattle.std.specs.Option.{option_copied}
 use Rattle.std.specs.declared.cmp.Ordering.{Ordering}
 use Rattle.std.specs.declared.cmp.Ordering.TheVariants.{Less, Equal, Greater}
-use Rattle.std.specs.Ordering.{nat_cmp, is_lt, is_eq, ordering_reverse, ordering_then}
+use Rattle.std.specs.Ordering.{nat_cmp, is_lt, is_eq, ordering_reverse}
 use Rattle.std.specs.Cmp.{IsTotalOrder, IsStrictWeakOrder, then_total, on_total}
 use Rattle.std.specs.Cmp.Lexicographic.{slice_cmp, nat_list_cmp_total, texts_ties}
 use Rattle.std.specs.List.{best_of}
@@ -15,6 +15,7 @@ use Rattle.std.proofs.lemmas.List.{get_or_default}
 use Rattle.std.proofs.lemmas.Bool.{false≢true}
 use Rattle.std.proofs.lemmas.Slice.Eq.{bytes_eq-Decides}
 use Rattle.mlb_base.proofs.Among.{contains-none}
+use Rattle.mlb_base.proofs.Orders.{both_equal}
 use Rattle.ip_ranges.specs.AddressText.{canonical_text}
 use Rattle.ip_ranges.specs.Values.{AddressValue}
 use Rattle.speaker_view.specs.ViewValue.{ViewValue}
@@ -59,18 +60,13 @@ level Greater Less e h k = cc
 level Greater Equal e h k = cc
 level Greater Greater e h k = cc
 
-second_equal : (r s : Ordering) → ordering_then r s ≡ Equal → s ≡ Equal
-second_equal Less s h = cc
-second_equal Equal s h = h
-second_equal Greater s h = cc
-
 module _ (v : ViewValue) (address : AddressValue) where
   -- no two are the least
   announcer-one : (m n : List ℕ) → IsAnnouncer v address m → IsAnnouncer v address n → m ≡ n
   announcer-one m n hm hn =
       let text = canonical_text address in
       let order = rank_total text in
-      tied m n (second_equal _ _ (level (rank_cmp text m n) (rank_cmp text n m) (order.antisymm m n) (hn.least m hm.eligible) (hm.least n hn.eligible)))
+      tied m n (both_equal _ _ (level (rank_cmp text m n) (rank_cmp text n m) (order.antisymm m n) (hn.least m hm.eligible) (hm.least n hn.eligible))).1
 
   elected-least : (node : List ℕ) → announcer_of v address ≡ Some node → IsAnnouncer v address node
   elected-least node is =

@@ -1,7 +1,6 @@
 pub mod Best
 pub mod ByPool
 pub mod Eligibility
-pub mod Filters
 pub mod Keeping
 pub mod Least
 pub mod ListenLaws

@@ -1,13 +1,11 @@
 -- The test of listening decides what it should.
-use Rattle.std.proofs.Common.{◌≡◌, ◌↔◌, ℕ, Bool, true, List, [], refl, sym, ◌∙◌, subst, Contains, ◌⊎◌, Decides}
-use Rattle.std.specs.Str.{bytes_eq}
+use Rattle.std.proofs.Common.{◌≡◌, ◌↔◌, ℕ, Bool, true, List, [], sym, ◌∙◌, Contains, ◌⊎◌, Decides}
 use Rattle.std.proofs.lemmas.Bool.{and_parts, and_from}
 use Rattle.std.proofs.lemmas.Bool.Decides.{Decides-or}
-use Rattle.std.proofs.lemmas.Slice.Eq.{bytes_eq-Decides}
 use Rattle.mlb_base.specs.Items.{is_nil}
-use Rattle.mlb_base.proofs.Among.{any-found, any-contains}
 use Rattle.mlb_base.proofs.Lists.{Decides-nil}
 use Rattle.kube_labels.specs.Names.{has_text}
+use Rattle.kube_labels.proofs.NameLaws.{has_text-Decides}
 use Rattle.ip_ranges.specs.Values.{AddressValue}
 use Rattle.speaker_view.specs.ViewValue.{ViewValue}
 use Rattle.l2_elect.specs.Eligible.{advertises}
@@ -16,14 +14,6 @@ use Rattle.l2_elect.specs.Listening.{names_interface, listens_by, is_listened, l
 use Rattle.l2_elect.proofs.Eligibility.{advertises-Decides}
 use Rattle.l2_elect.proofs.Least.{announces-announcer, announcer-announces}
 use Rattle.l2_elect.proofs.Passing.{passing, passes-where}
-
-has_text-Decides : (texts : List (List ℕ)) (text : List ℕ) → Decides (has_text texts text) (Contains texts text)
-has_text-Decides texts text = (
-  λ e.
-      let found = any-found (λ (t : List ℕ). bytes_eq t text) texts e in
-      subst (λ (t : List ℕ). Contains texts t) ((bytes_eq-Decides found.0 text).0 found.2) found.1,
-  λ there. any-contains (λ (t : List ℕ). bytes_eq t text) texts text there ((bytes_eq-Decides text text).1 refl),
-)
 
 names-Decides : (interfaces : List (List ℕ)) (interface : List ℕ)
     → Decides (names_interface interfaces interface) ((interfaces ≡ []) ⊎ Contains interfaces interface)

@@ -1,7 +1,7 @@
 -- An address that is announced from no node has no announcer, so one that no service records has none; and where all stays that decides who may announce one,
 -- its announcer does.
-use Rattle.std.proofs.Common.{◌≡◌, ◌↔◌, ℕ, Bool, true, false, ◌&&◌, ◌||◌, List, [], ◌∷◌, filter, None, Contains, refl, sym, ap, subst}
-use Rattle.std.proofs.lemmas.Bool.{or_parts}
+use Rattle.std.proofs.Common.{◌≡◌, ◌↔◌, ℕ, Bool, false, ◌&&◌, ◌||◌, List, [], ◌∷◌, filter, None, Contains, refl, sym, ap, subst}
+use Rattle.std.proofs.lemmas.Bool.{or_parts, and_right}
 use Rattle.std.specs.List.{list_any}
 use Rattle.ip_ranges.specs.AddressText.{canonical_text}
 use Rattle.ip_ranges.specs.Values.{AddressValue, has_address}
@@ -24,10 +24,6 @@ neither p q (x ∷ xs) e =
     let later = neither p q xs parts.1 in
     λ i. (here i && q x) || later i
 
-no_more : (b c : Bool) → c ≡ false → (b && c) ≡ false
-no_more true c e = e
-no_more false c e = refl
-
 pub none-pass : {X : Type 0} (p : X → Bool) (xs : List X) → ((x : X) → p x ≡ false) → filter p xs ≡ []
 none-pass p [] none = refl
 none-pass p (x ∷ xs) none = rw (none x) (none-pass p xs none)
@@ -35,7 +31,7 @@ none-pass p (x ∷ xs) none = rw (none x) (none-pass p xs none)
 pub unannounced-none : (v : ViewValue) (a : AddressValue) → ((node : List ℕ) → announced_from v a node ≡ false) → announcer_of v a ≡ None
 unannounced-none v a unannounced =
     ap (best_from (canonical_text a) None)
-    (none-pass (is_eligible v a) v.members (λ node. no_more (is_advertised v node a) (announced_from v a node) (unannounced node)))
+    (none-pass (is_eligible v a) v.members (λ node. and_right (is_advertised v node a) (announced_from v a node) (unannounced node)))
 
 pub unrecorded-none : (v : ViewValue) (a : AddressValue) → is_recorded_in v a ≡ false → announcer_of v a ≡ None
 unrecorded-none v a e =

@@ -5,7 +5,7 @@ ghost use Rattle.std.specs.Map.{keys_of};
 ghost use Rattle.std.specs.Option.{option_copied};
 ghost use Rattle.speaker_view.specs.Addresses.{address_cmp};
 ghost use Rattle.l2_elect.specs.Election.{announcer_of};
-ghost use Rattle.l2_elect.specs.Kept.{AreKeptBut, AreKeptFor, AreRenewed, IsHeldNow, held_for};
+ghost use Rattle.l2_elect.specs.Kept.{AreKeptBut, AreKeptFor, AreRenewed, IsKeptNow, kept_announcer};
 
 use crate::election::first;
 use ip_ranges::{Address, AddressList};
@@ -76,7 +76,7 @@ impl Announcers {
 
     /// The announcer of the address, where one is held. It takes no memory.
     pub fn of(&self, address: &Address) -> Option<&Text>
-        ensures { option_copied result ≡ held_for self.now address.now }
+        ensures { option_copied result ≡ kept_announcer self.now address.now }
     {
         self.names.get(address)
     }
@@ -111,7 +111,7 @@ impl Announcers {
     }
 
     fn renew_at(&mut self, view: &View, address: &Address) -> Result<(), NoMemory>
-        ensures { OnOk result (IsHeldNow address.now (announcer_of view.now address.now) self.old self.new) }
+        ensures { OnOk result (IsKeptNow address.now (announcer_of view.now address.now) self.old self.new) }
     {
         match first(view, address) {
             Some(node) => self.put(address, node),
@@ -123,7 +123,7 @@ impl Announcers {
     }
 
     fn put(&mut self, address: &Address, node: &Text) -> Result<(), NoMemory>
-        ensures { OnOk result (IsHeldNow address.now (Some node.now) self.old self.new) }
+        ensures { OnOk result (IsKeptNow address.now (Some node.now) self.old self.new) }
     {
         let node = node.copy()?;
         drop(self.names.insert(*address, node)?);
@@ -131,7 +131,7 @@ impl Announcers {
     }
 
     fn remove(&mut self, address: &Address)
-        ensures { IsHeldNow address.now None self.old self.new }
+        ensures { IsKeptNow address.now None self.old self.new }
     {
         drop(self.names.remove(address));
     }

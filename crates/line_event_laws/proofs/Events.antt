@@ -14,7 +14,7 @@ use Rattle.json_text_laws.proofs.Values.{value_texts}
 use Rattle.kube_model.specs.declared.event.Event.{Event}
 use Rattle.kube_model.specs.declared.event.Event.TheVariants.{Changed, Deleted, ListEnd, Expired, Members, Frame, Ignored}
 use Rattle.kube_model.specs.declared.event.EventFault.{EventFault}
-use Rattle.kube_model.specs.declared.event.Group.{Group}
+use Rattle.kube_model.specs.declared.event.ListGroup.{ListGroup}
 use Rattle.kube_model.specs.declared.key.Key.{Key}
 use Rattle.kube_model.specs.declared.object.Kind.{Kind}
 use Rattle.kube_model.specs.declared.object.Object.{Object}
@@ -34,7 +34,7 @@ Makes P make = (version : ℕ) (key : Key) (labels : Pairs) → HasText key → 
 -- it holds of every event that shows no object
 pub record HoldsOfOthers (P : Event → Type 0) : Type 0 where
   pub deleted : (kind : Kind) (key : Key) → P (Deleted kind key)
-  pub ended : (group : Group) → P (ListEnd group)
+  pub ended : (group : ListGroup) → P (ListEnd group)
   pub expired : P Expired
   pub members : (names : List (List ℕ)) → P (Members names)
   pub frame : (interface bytes : List ℕ) → P (Frame interface bytes)
@@ -75,7 +75,7 @@ module _ (P : Event → Type 0) (made : (kind : Kind) → Reads (Makes P) (body_
   deleted_holds : SaysSuch deleted_event
   deleted_holds kind d h = field_holds (deleted_of kind d) (reads-deleted_of kind d h)
 
-  list_end_holds : (group : Option Group) (ends : Bool) → P (list_end group ends)
+  list_end_holds : (group : Option ListGroup) (ends : Bool) → P (list_end group ends)
   list_end_holds None ends = others.ignored
   list_end_holds (Some group) false = others.ignored
   list_end_holds (Some group) true = others.ended group

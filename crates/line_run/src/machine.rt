@@ -18,13 +18,13 @@ pub trait Machine {
     ghost State: { Type 0 };
 
     /// What its transcript is made of.
-    ghost Entry: { Type 0 };
+    ghost TranscriptEntry: { Type 0 };
 
     /// The state that it has.
     ghost state: { Self → State };
 
     /// What a line and the end of the input are to a state, and what is written of an entry.
-    ghost rules: { Rules State Entry };
+    ghost rules: { Rules State TranscriptEntry };
 
     /// What is so where a run stops with this status, whatever is known of its lines. It holds nowhere of a
     /// status that the machine never gives.

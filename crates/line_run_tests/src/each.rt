@@ -48,7 +48,7 @@ impl Machine for Each {
 
     ghost State = { ⊤ };
 
-    ghost Entry = { ℕ };
+    ghost TranscriptEntry = { ℕ };
 
     ghost state = { λ _. tt };
 

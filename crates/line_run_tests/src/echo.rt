@@ -17,7 +17,7 @@ impl Machine for Echo {
 
     ghost State = { ℕ };
 
-    ghost Entry = { List ℕ };
+    ghost TranscriptEntry = { List ℕ };
 
     ghost state = { λ echo. echo.left };
 

@@ -11,7 +11,7 @@ use Rattle.neigh_frames.specs.Solicitation.{HasRightChecksum, message_of, payloa
 drop-front : (front back : List ℕ) (n k : ℕ) → length front ≡ n → drop (n + k) (front ++ back) ≡ drop k back
 drop-front front back n k is = rw (sym is) (drop-append-add front back k)
 
-get_or-front : (front back : List ℕ) (n k : ℕ) → length front ≡ n → get_or (front ++ back) (n + k) 0 ≡ get_or back k 0
+pub get_or-front : (front back : List ℕ) (n k : ℕ) → length front ≡ n → get_or (front ++ back) (n + k) 0 ≡ get_or back k 0
 get_or-front front back n k is = rw (sym is) (get_or-append-add front back k 0)
 
 take-front : (front back : List ℕ) (n : ℕ) → length front ≡ n → take n (front ++ back) ≡ front

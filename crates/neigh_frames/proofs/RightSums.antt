@@ -13,7 +13,7 @@ regrouped : (a l n x c y t z m : List ℕ) → a ++ (l ++ (n ++ (x ++ c ++ y ++ 
 regrouped a l n x c y t z m = simp append_assoc refl
 
 -- a frame's places among the parts
-framed : (a b h t d m : List ℕ) → a ++ b ++ h ++ t ++ d ++ m ≡ (a ++ b) ++ (h ++ (t ++ (d ++ m)))
+pub framed : (a b h t d m : List ℕ) → a ++ b ++ h ++ t ++ d ++ m ≡ (a ++ b) ++ (h ++ (t ++ (d ++ m)))
 framed a b h t d m = simp append_assoc refl
 
 -- an advertisement of the target, by these flags, from mac to the destination

@@ -32,7 +32,7 @@ pub fn arp_answer(
     ensures value { result ≡ arp_answer_of (listens_of view.now node.now interface.now) mac.now frame.now }
     ensures meaning { (answer : List ℕ) → (result ≡ Some answer) ↔ IsArpAnswer view.now node.now interface.now mac.now frame.now answer }
 {
-    answer_if_asked(view, None, node, interface, mac, frame)
+    arp_answer_known(view, None, node, interface, mac, frame)
 }
 
 /// The same, by the announcers of the view where they are known: then no election is held. It takes no memory.
@@ -51,6 +51,7 @@ pub fn arp_answer_known(
     answer_if_asked(view, announcers, node, interface, mac, frame)
 }
 
+/// The reply, where one is asked for of a node that listens.
 fn answer_if_asked(
     view: &View,
     announcers: Option<&Announcers>,

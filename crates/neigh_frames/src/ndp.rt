@@ -33,7 +33,7 @@ pub fn ndp_answer(
     ensures meaning { (answer : List ℕ) → (result ≡ Some answer) ↔ IsNdpAnswer view.now node.now interface.now mac.now frame.now answer }
     ensures checksum { IfSome result HasRightChecksum }
 {
-    answer_if_asked(view, None, node, interface, mac, frame)
+    ndp_answer_known(view, None, node, interface, mac, frame)
 }
 
 /// The same, by the announcers of the view where they are known: then no election is held. It takes no memory.
@@ -53,6 +53,7 @@ pub fn ndp_answer_known(
     answer_if_asked(view, announcers, node, interface, mac, frame)
 }
 
+/// The advertisement, where the solicitation asks for an address that is listened to.
 fn answer_if_asked(
     view: &View,
     announcers: Option<&Announcers>,

@@ -9,7 +9,7 @@ use Rattle.std.specs.BTreeMap.{insert_entry, is_at}
 use Rattle.std.specs.Cmp.{IsTotalOrder}
 use Rattle.kube_model.specs.declared.event.Event.{Event}
 use Rattle.kube_model.specs.declared.event.Event.TheVariants.{Changed, Deleted, ListEnd, Expired, Members, Frame, Ignored}
-use Rattle.kube_model.specs.declared.event.Group.TheVariants as groups
+use Rattle.kube_model.specs.declared.event.ListGroup.TheVariants as groups
 use Rattle.kube_model.specs.declared.object.Kind.{Kind}
 use Rattle.kube_model.specs.declared.object.Kind.TheVariants as kinds
 use Rattle.kube_model.specs.declared.object.Object.TheVariants as objects
@@ -19,7 +19,7 @@ use Rattle.kube_model.specs.Keys.{key_cmp}
 use Rattle.kube_model.specs.Service.{with_holding}
 use Rattle.kube_model.proofs.KeyLaws.{key_cmp-total}
 use Rattle.versioned_map.specs.declared.map.Versioned.{Versioned}
-use Rattle.versioned_map.specs.Entries.{held_at, version_at, shown, expired, listed}
+use Rattle.versioned_map.specs.Objects.{held_at, version_at, shown, expired, listed}
 use Rattle.versioned_map.proofs.Lengths.{length-insert_entry, length-remove_entry, length-listed, length-expired, length-amended}
 use Rattle.object_history.specs.Observations.{Observation, Watched, WatchExpired, Written, same_group}
 use Rattle.object_history.specs.Kinds.{Resource, service_resource, node_resource}

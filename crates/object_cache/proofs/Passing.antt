@@ -1,6 +1,6 @@
 -- What an event leaves as it was.
-use Rattle.std.proofs.Common.{◌≡◌, ℕ, Bool, true, false, cond, leb, eqb, not, List, [], ◌∷◌, Option, Some, None}
-use Rattle.std.proofs.Common.{option_map, Ordering, Less, Equal, Greater, is_eq, filter, map, refl, sym, ap, ◌∙◌}
+use Rattle.std.proofs.Common.{◌≡◌, ℕ, Bool, true, false, cond, leb, eqb, not, ◌&&◌, List, [], ◌∷◌, Option, Some}
+use Rattle.std.proofs.Common.{None, option_map, Ordering, Less, Equal, Greater, is_eq, filter, map, refl, sym, ap, ◌∙◌}
 use Rattle.std.specs.List.{list_any}
 use Rattle.std.specs.List.Sorted.{IsStrictlySortedBy}
 use Rattle.std.specs.Ordering.{match_ordering}
@@ -11,22 +11,20 @@ use Rattle.std.proofs.lemmas.Map.Entries.{option_filter}
 use Rattle.std.proofs.lemmas.Bool.{or_right, or_parts}
 use Rattle.kube_model.specs.declared.event.Event.{Event}
 use Rattle.kube_model.specs.declared.event.Event.TheVariants.{Changed, Deleted, ListEnd, Expired, Members, Frame, Ignored}
-use Rattle.kube_model.specs.declared.event.Group.TheVariants as groups
+use Rattle.kube_model.specs.declared.event.ListGroup.TheVariants as groups
 use Rattle.kube_model.specs.declared.key.Key.{Key}
 use Rattle.kube_model.specs.declared.object.Kind.TheVariants as kinds
 use Rattle.kube_model.specs.declared.object.Object.TheVariants as objects
 use Rattle.kube_model.specs.declared.service.Service.{Service}
 use Rattle.versioned_map.specs.declared.map.Versioned.{Versioned}
-use Rattle.versioned_map.specs.declared.map.Shown.TheVariants.{Held as HeldNow, PassedOver as Passed}
-use Rattle.versioned_map.specs.Entries.{held_at, object_at, version_at, at_version, expired, listed, unlisted_keys}
+use Rattle.versioned_map.specs.Objects.{held_at, object_at, version_at, at_version, expired, listed, unlisted_keys}
 use Rattle.versioned_map.proofs.HeldLaws.{held_at-shown, held_at-removed, held_at-expired, held_at-listed}
 use Rattle.object_history.specs.Cache.{Cached, cached, held_after_event}
 use Rattle.kube_model.specs.Keys.{key_cmp}
 use Rattle.object_history.specs.Kinds.{service_resource}
 use Rattle.kube_model.proofs.KeyLaws.{key_cmp-total}
 use Rattle.object_history.proofs.Force.{all_is_as_shown}
-use Rattle.object_cache.specs.Change.{change_by, service_change}
-use Rattle.object_cache.specs.Told.{tells_of, passing, NeverPasses, OthersPassAsBefore, ChangesAreTold}
+use Rattle.object_cache.specs.Stays.{changes_service, passing, NeverPasses, OthersPassAsBefore, OtherServicesStay}
 
 abbrev Entries : Type 0
 Entries = List (Key × Versioned Service)
@@ -95,13 +93,12 @@ module _ (test : Key → Service → Bool) where
   passing-listed (e ∷ es) fails = listed_by (eqb e.1.version 0) e es fails (passing-listed es)
 
   shown_by : (old : Bool) (es : Entries) (service : Service) (version : ℕ)
-      → ((key : Key) (s : Service) → tells_of key (service_change service.key (cond old (Passed service) (HeldNow (object_at key_cmp es service.key)))) ≡ true
-      → test key s ≡ false)
+      → ((key : Key) (s : Service) → (not old && is_eq (key_cmp service.key key)) ≡ true → test key s ≡ false)
       → passing test (cond old es (insert_entry key_cmp es service.key (record { version = version; object = service }))) ≡ passing test es
   shown_by true es service version never = refl
   shown_by false es service version never = passing-inserted es service.key (record { version = version; object = service }) never
 
-  held_after_event-passing : (s : Cached) (event : Event) → NeverPasses test (change_by s event)
+  held_after_event-passing : (s : Cached) (event : Event) → NeverPasses test s event
       → passing test (held_after_event service_resource event s.services) ≡ passing test s.services
   held_after_event-passing s (Changed version (objects.Service service)) never =
       shown_by (leb version (version_at key_cmp s.services service.key)) s.services service version never
@@ -146,7 +143,7 @@ same_object None = refl
 same_object (Some h) = refl
 
 object_shown : (old : Bool) (es : Entries) (service : Service) (version : ℕ) (key : Key)
-    → tells_of key (service_change service.key (cond old (Passed service) (HeldNow (object_at key_cmp es service.key)))) ≡ false
+    → (not old && is_eq (key_cmp service.key key)) ≡ false
     → option_map (λ (h : Versioned Service). h.object) (cond old (held_at key_cmp es key)
     (cond (is_eq (key_cmp key service.key)) (Some (record { version = version; object = service })) (held_at key_cmp es key)))
     ≡ object_at key_cmp es key
@@ -194,7 +191,7 @@ object_listed : (es : Entries) (key : Key) → IsStrictlySortedBy key_cmp (keys_
 object_listed es key s none =
     rw (held_at-listed key_cmp-total es key s) (listed_stays (held_at key_cmp es key) (λ h found. unlisted-none es key h found none))
 
-object_told : (s : Cached) (event : Event) (key : Key) → IsStrictlySortedBy key_cmp (keys_of s.services) → tells_of key (change_by s event) ≡ false
+object_told : (s : Cached) (event : Event) (key : Key) → IsStrictlySortedBy key_cmp (keys_of s.services) → changes_service s event key ≡ false
     → object_at key_cmp (held_after_event service_resource event s.services) key ≡ object_at key_cmp s.services key
 object_told s (Changed version (objects.Service service)) key a apart =
     rw (held_at-shown key_cmp-total s.services service.key key version service)
@@ -224,5 +221,5 @@ object_told s (Members names) key a apart = refl
 object_told s (Frame interface bytes) key a apart = refl
 object_told s Ignored key a apart = refl
 
-pub changes_are_told : ChangesAreTold
-changes_are_told observations event key apart = object_told (cached observations) event key (all_is_as_shown observations).services.ascend apart
+pub other_services_stay : OtherServicesStay
+other_services_stay observations event key apart = object_told (cached observations) event key (all_is_as_shown observations).services.ascend apart

@@ -1,3 +1,3 @@
 pub mod Change
 pub mod Limits
-pub mod Told
+pub mod Stays

@@ -10,7 +10,7 @@ use Rattle.kube_model.specs.declared.object.Object.TheVariants as objects
 use Rattle.kube_labels.specs.Names.{name_cmp}
 use Rattle.kube_model.specs.Keys.{key_cmp}
 use Rattle.versioned_map.specs.declared.map.Versioned.{Versioned}
-use Rattle.versioned_map.specs.Entries.{held_at}
+use Rattle.versioned_map.specs.Objects.{held_at}
 use Rattle.object_history.specs.Observations.{Observation, Watched, WatchExpired, Written}
 use Rattle.object_history.specs.Cache.{Cached, cached}
 

@@ -1,9 +1,9 @@
 //! What is held of a cluster.
-ghost use Rattle.std.specs.Prelude.{◌≡◌, ◌↔◌, ◌&&◌, ℕ, true, Some, IfOk, OnOk, OnErr, IsErrOf};
+ghost use Rattle.std.specs.Prelude.{◌≡◌, ◌↔◌, ◌&&◌, ℕ, true, false, Some, IfOk, OnOk, OnErr, IsErrOf};
 ghost use Rattle.std.specs.Option.{option_copied};
 ghost use Rattle.kube_model.specs.declared.event.Event.TheVariants.{Changed, Deleted, ListEnd, Expired as ExpiredEvent};
 ghost use Rattle.kube_model.specs.declared.object.Kind.{Kind};
-ghost use Rattle.versioned_map.specs.Entries.{object_at, version_at};
+ghost use Rattle.versioned_map.specs.Objects.{object_at, version_at};
 ghost use Rattle.kube_labels.specs.Names.{name_cmp};
 ghost use Rattle.kube_model.specs.Keys.{key_cmp};
 ghost use Rattle.pool_config.specs.Objects.{set_shown, set_shows, set_without, set_listed};
@@ -12,16 +12,16 @@ ghost use Rattle.object_history.specs.Cache.{Cached, nothing, cached_after};
 ghost use Rattle.object_cache.specs.Change.{applied, config_applied, with_objects, has_ended};
 ghost use Rattle.object_cache.specs.Limits.{limit_of, object_limit, most_services, passes};
 
-use crate::change::{Applied, ApplyFault, Change, TakeNote};
+use crate::change::{Applied, ApplyFault, TakeNote};
 use crate::kinds::{
     copy_with, is_newer, show_namespace, show_node, show_service, show_slice, store_record,
 };
 use crate::limits::{MOST_NODES, MOST_SERVICES, passes};
 use kube_labels::Text;
 use kube_model::{
-    EndpointSlice, Event, Group, Key, Kind, Namespace, Node, Object, Record, Service,
+    EndpointSlice, Event, Key, Kind, ListGroup, Namespace, Node, Object, Record, Service,
 };
-use mlb_base::{NoMemory, Sequence, TryCopy};
+use mlb_base::{NoMemory, TryCopy};
 use pool_config::{CompileFault, Config, ObjectSet, compile};
 use std::alloc::Global;
 use std::marker::Model;
@@ -123,13 +123,13 @@ impl ObjectCache {
     }
 
     /// Whether the list of the group has ended, and its watch hasn't expired since.
-    pub fn has_ended(&self, group: Group) -> bool
+    pub fn has_ended(&self, group: ListGroup) -> bool
         ensures { result ≡ has_ended self.now group }
     {
         match group {
-            Group::Config => self.config_ended,
-            Group::Service => self.services_ended,
-            Group::Endpoint => self.endpoints_ended,
+            ListGroup::Config => self.config_ended,
+            ListGroup::Service => self.services_ended,
+            ListGroup::Endpoint => self.endpoints_ended,
         }
     }
 
@@ -142,13 +142,13 @@ impl ObjectCache {
 
     /// The watch of this list has expired, and begins anew: what came in it is held at version 0, and the list hasn't ended.
     /// This takes no memory.
-    pub fn expire(&mut self, group: Group)
+    pub fn expire(&mut self, group: ListGroup)
         ensures { self.new ≡ cached_after (WatchExpired group) self.old }
     {
         match group {
-            Group::Config => self.expire_config(),
-            Group::Service => self.expire_services(),
-            Group::Endpoint => self.expire_endpoints(),
+            ListGroup::Config => self.expire_config(),
+            ListGroup::Service => self.expire_services(),
+            ListGroup::Endpoint => self.expire_endpoints(),
         }
     }
 
@@ -162,7 +162,7 @@ impl ObjectCache {
     }
 
     fn expire_config(&mut self)
-        ensures { self.new ≡ cached_after (WatchExpired Group.Config) self.old }
+        ensures { self.new ≡ cached_after (WatchExpired ListGroup.Config) self.old }
     {
         self.objects.expire();
         self.namespaces.expire();
@@ -171,14 +171,14 @@ impl ObjectCache {
     }
 
     fn expire_services(&mut self)
-        ensures { self.new ≡ cached_after (WatchExpired Group.Service) self.old }
+        ensures { self.new ≡ cached_after (WatchExpired ListGroup.Service) self.old }
     {
         self.services.expire();
         self.services_ended = false;
     }
 
     fn expire_endpoints(&mut self)
-        ensures { self.new ≡ cached_after (WatchExpired Group.Endpoint) self.old }
+        ensures { self.new ≡ cached_after (WatchExpired ListGroup.Endpoint) self.old }
     {
         self.slices.expire();
         self.endpoints_ended = false;
@@ -204,8 +204,7 @@ impl ObjectCache {
         ensures ok { OnOk result (self.new ≡ cached_after (Watched (Changed version (Object.Service service))) self.old) }
         ensures err { OnErr result (self.new ≡ self.old) }
     {
-        drop(show_service(&mut self.services, version, service)?);
-        Ok(())
+        show_service(&mut self.services, version, service)
     }
 
     /// A service is deleted, held or not. This takes no memory.
@@ -217,7 +216,7 @@ impl ObjectCache {
 
     /// The list of services has ended: those that weren't listed aren't held any more. This takes no memory.
     pub fn end_services(&mut self)
-        ensures { self.new ≡ cached_after (Watched (ListEnd Group.Service)) self.old }
+        ensures { self.new ≡ cached_after (Watched (ListEnd ListGroup.Service)) self.old }
     {
         self.services.drop_unlisted();
         self.services_ended = true;
@@ -296,11 +295,11 @@ impl ObjectCache {
             Event::Expired => {
                 drop(event);
                 self.expire_all();
-                Ok(quietly(Change::Other))
+                Ok(quietly())
             }
             Event::Members { .. } | Event::Frame { .. } | Event::Ignored => {
                 drop(event);
-                Ok(quietly(Change::Other))
+                Ok(quietly())
             }
         }
     }
@@ -312,20 +311,20 @@ impl ObjectCache {
     {
         match object {
             Object::Service(service) => {
-                Ok(quietly(show_service(&mut self.services, version, service)?))
+                self.show_service(version, service)?;
+                Ok(quietly())
             }
-            Object::Namespace(namespace) => Ok(quietly(show_namespace(
-                &mut self.namespaces,
-                version,
-                namespace,
-            )?)),
+            Object::Namespace(namespace) => Ok(Applied {
+                namespace_changed: show_namespace(&mut self.namespaces, version, namespace)?,
+                note: TakeNote::Quiet,
+            }),
             Object::Node(node) => {
                 show_node(&mut self.nodes, version, node)?;
-                Ok(quietly(Change::Other))
+                Ok(quietly())
             }
             Object::Slice(slice) => {
                 show_slice(&mut self.slices, version, slice)?;
-                Ok(quietly(Change::Other))
+                Ok(quietly())
             }
             Object::Pool(_)
             | Object::L2(_)
@@ -347,11 +346,11 @@ impl ObjectCache {
     {
         if !is_newer(&self.objects, version, &object) {
             drop(object);
-            return Ok(quietly(Change::Other));
+            return Ok(quietly());
         }
         if !self.config_ended {
             let _is_held = self.objects.show(version, object)?;
-            return Ok(quietly(Change::Other));
+            return Ok(quietly());
         }
         let objects = copy_with(&self.objects, version, object)?;
         self.compile_objects(objects)
@@ -367,17 +366,11 @@ impl ObjectCache {
             Ok(config) => {
                 drop(mem::replace(&mut self.objects, objects));
                 drop(self.config.replace(config));
-                Ok(Applied {
-                    change: Change::Other,
-                    note: TakeNote::Accepted,
-                })
+                Ok(noting(TakeNote::Accepted))
             }
             Err(CompileFault::Refused { fault }) => {
                 drop(mem::replace(&mut self.objects, objects));
-                Ok(Applied {
-                    change: Change::Other,
-                    note: TakeNote::Refused { fault },
-                })
+                Ok(noting(TakeNote::Refused { fault }))
             }
             Err(CompileFault::NoMemory) => {
                 drop(objects);
@@ -393,22 +386,27 @@ impl ObjectCache {
     {
         match kind {
             Kind::Service => {
-                let before = self.services.remove(&key);
-                Ok(quietly(Change::Service { key, before }))
+                self.delete_service(&key);
+                drop(key);
+                Ok(quietly())
             }
             Kind::Namespace => {
                 drop(self.namespaces.remove(&key.name));
-                Ok(quietly(Change::Namespace { name: key.name }))
+                drop(key);
+                Ok(Applied {
+                    namespace_changed: true,
+                    note: TakeNote::Quiet,
+                })
             }
             Kind::Node => {
                 drop(self.nodes.remove(&key.name));
                 drop(key);
-                Ok(quietly(Change::Other))
+                Ok(quietly())
             }
             Kind::Slice => {
                 drop(self.slices.remove(&key));
                 drop(key);
-                Ok(quietly(Change::Other))
+                Ok(quietly())
             }
             Kind::Pool | Kind::L2 | Kind::Bgp | Kind::Peer | Kind::Community => {
                 let applied = self.delete_config(kind, &key.name);
@@ -428,38 +426,35 @@ impl ObjectCache {
     {
         if !self.config_ended {
             self.objects.remove(kind, name);
-            return Ok(quietly(Change::Other));
+            return Ok(quietly());
         }
         let mut objects = self.objects.copy()?;
         objects.remove(kind, name);
         self.compile_objects(objects)
     }
 
-    fn end_list(&mut self, group: Group) -> Result<Applied, NoMemory>
+    fn end_list(&mut self, group: ListGroup) -> Result<Applied, NoMemory>
         ensures applied { IfOk result (λ a. a ≡ applied self.old (ListEnd group)) }
         ensures ok { OnOk result (self.new ≡ cached_after (Watched (ListEnd group)) self.old) }
         ensures err { OnErr result (self.new ≡ self.old) }
     {
         match group {
-            Group::Config => self.end_config(),
-            Group::Service => {
-                let unlisted = self.services.unlisted(self.alloc)?;
+            ListGroup::Config => self.end_config(),
+            ListGroup::Service => {
                 self.end_services();
-                Ok(quietly(Change::Services {
-                    unlisted: Sequence::from_vec(unlisted),
-                }))
+                Ok(quietly())
             }
-            Group::Endpoint => {
+            ListGroup::Endpoint => {
                 self.slices.drop_unlisted();
                 self.endpoints_ended = true;
-                Ok(quietly(Change::Other))
+                Ok(quietly())
             }
         }
     }
 
     fn end_config(&mut self) -> Result<Applied, NoMemory>
-        ensures applied { IfOk result (λ a. a ≡ applied self.old (ListEnd Group.Config)) }
-        ensures ok { OnOk result (self.new ≡ cached_after (Watched (ListEnd Group.Config)) self.old) }
+        ensures applied { IfOk result (λ a. a ≡ applied self.old (ListEnd ListGroup.Config)) }
+        ensures ok { OnOk result (self.new ≡ cached_after (Watched (ListEnd ListGroup.Config)) self.old) }
         ensures err { OnErr result (self.new ≡ self.old) }
     {
         let mut objects = self.objects.copy()?;
@@ -472,11 +467,19 @@ impl ObjectCache {
     }
 }
 
-fn quietly(change: Change) -> Applied
-    ensures { result ≡ record { change = change; note = TakeNote.Quiet } }
+/// There is nothing to tell.
+fn quietly() -> Applied
+    ensures { result ≡ record { namespace_changed = false; note = TakeNote.Quiet } }
+{
+    noting(TakeNote::Quiet)
+}
+
+/// This is to be told, and no namespace changed.
+fn noting(note: TakeNote) -> Applied
+    ensures { result ≡ record { namespace_changed = false; note = note } }
 {
     Applied {
-        change,
-        note: TakeNote::Quiet,
+        namespace_changed: false,
+        note,
     }
 }

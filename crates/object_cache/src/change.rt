@@ -1,8 +1,7 @@
 //! What an event comes to.
 
-use kube_labels::Text;
-use kube_model::{ConfigFault, Key, Kind, Service};
-use mlb_base::{NoMemory, Sequence};
+use kube_model::{ConfigFault, Kind};
+use mlb_base::NoMemory;
 use thiserror::Error;
 
 /// What is to be told of an event.
@@ -15,23 +14,11 @@ pub enum TakeNote {
     Refused { fault: ConfigFault },
 }
 
-/// What changed of what is held.
-#[derive(Drop)]
-pub enum Change {
-    /// A service was shown or deleted, also one that wasn't held. This was held of it before.
-    Service { key: Key, before: Option<Service> },
-    /// The list of services has ended. These weren't listed, and aren't held any more; they ascend.
-    Services { unlisted: Sequence<Key> },
-    /// A namespace was shown or deleted, also one that wasn't held.
-    Namespace { name: Text },
-    /// Something else, or nothing.
-    Other,
-}
-
 /// What an event came to.
 #[derive(Drop)]
 pub struct Applied {
-    pub change: Change,
+    /// A namespace was shown that is newer than what was held, or was deleted, also one that wasn't held.
+    pub namespace_changed: bool,
     pub note: TakeNote,
 }
 

@@ -1,73 +1,55 @@
 //! One kind's objects.
 ghost use Rattle.std.specs.Prelude.{◌≡◌, IfOk, IsOkAnd, OnOk, OnErr};
-ghost use Rattle.versioned_map.specs.Entries.{shown, shown_note, amended};
+ghost use Rattle.versioned_map.specs.Objects.{is_held, is_newer, shown, shown_note, amended};
 ghost use Rattle.kube_labels.specs.Names.{name_cmp};
 ghost use Rattle.kube_model.specs.Keys.{key_cmp};
 ghost use Rattle.kube_model.specs.Service.{with_holding};
 ghost use Rattle.pool_config.specs.Objects.{set_shown, set_shows};
-ghost use Rattle.object_cache.specs.Change.{service_change, namespace_change};
 
-use crate::change::Change;
 use kube_labels::Text;
 use kube_model::{EndpointSlice, Key, Namespace, Node, Object, Record, Service};
 use mlb_base::{NoMemory, TryCopy};
 use pool_config::ObjectSet;
 use versioned_map::{Shown, VersionedMap};
 
-/// A service is shown, and what changes by that.
+/// A service is shown.
 pub(crate) fn show_service(
     services: &mut VersionedMap<Key, Service>,
     version: u64,
     service: Service,
-) -> Result<Change, NoMemory>
-    ensures change { IfOk result (λ change.
-        change ≡ service_change service.key (shown_note key_cmp services.old service.key version service)) }
+) -> Result<(), NoMemory>
     ensures ok { OnOk result (services.new ≡ shown key_cmp services.old service.key version service) }
     ensures err { OnErr result (services.new ≡ services.old) }
 {
-    let (key, shown) = show_keyed(services, service.key.copy(), version, service)?;
-    Ok(service_change(key, shown))
+    drop(show_under(services, service.key.copy(), version, service)?);
+    Ok(())
 }
 
-fn service_change(key: Key, shown: Shown<Service>) -> Change
-    ensures { result ≡ service_change key shown }
-{
-    match shown {
-        Shown::Held { before } => Change::Service { key, before },
-        Shown::PassedOver { object } => {
-            drop(object);
-            Change::Other
-        }
-    }
-}
-
-/// A namespace is shown, and what changes by that.
+/// A namespace is shown. Whether it is newer than what was held.
 pub(crate) fn show_namespace(
     namespaces: &mut VersionedMap<Text, Namespace>,
     version: u64,
     namespace: Namespace,
-) -> Result<Change, NoMemory>
-    ensures change { IfOk result (λ change.
-        change ≡ namespace_change namespace.name
-        (shown_note name_cmp namespaces.old namespace.name version namespace)) }
+) -> Result<bool, NoMemory>
+    ensures newer { IfOk result (λ newer. newer ≡ is_newer name_cmp namespaces.old namespace.name version) }
     ensures ok { OnOk result (namespaces.new ≡ shown name_cmp namespaces.old namespace.name version namespace) }
     ensures err { OnErr result (namespaces.new ≡ namespaces.old) }
 {
-    let (name, shown) = show_keyed(namespaces, namespace.name.copy(), version, namespace)?;
-    Ok(namespace_change(name, shown))
+    let shown = show_under(namespaces, namespace.name.copy(), version, namespace)?;
+    Ok(is_held(shown))
 }
 
-fn namespace_change(name: Text, shown: Shown<Namespace>) -> Change
-    ensures { result ≡ namespace_change name shown }
+fn is_held(shown: Shown<Namespace>) -> bool
+    ensures { result ≡ is_held shown }
 {
     match shown {
         Shown::Held { before } => {
             drop(before);
-            Change::Namespace { name }
+            true
         }
         Shown::PassedOver { object } => {
             drop(object);
-            Change::Other
+            false
         }
     }
 }
@@ -110,23 +92,6 @@ fn show_under<K: Ord + Drop, T: Drop>(
     ensures err { OnErr result (held.new ≡ held.old) }
 {
     held.show(key?, version, object)
-}
-
-/// An object is shown under a copy of the key, which is handed back with what that comes to.
-fn show_keyed<K: Ord + TryCopy + Drop, T: Drop>(
-    held: &mut VersionedMap<K, T>,
-    key: Result<K, NoMemory>,
-    version: u64,
-    object: T,
-) -> Result<(K, Shown<T>), NoMemory>
-    ensures key { IfOk result (λ r. IsOkAnd key (λ k. r.0 ≡ k)) }
-    ensures note { IfOk result (λ r. IsOkAnd key (λ k. r.1 ≡ shown_note K.cmp held.old k version object)) }
-    ensures ok { OnOk result (IsOkAnd key (λ k. held.new ≡ shown K.cmp held.old k version object)) }
-    ensures err { OnErr result (held.new ≡ held.old) }
-{
-    let key = key?;
-    let shown = show_under(held, key.copy(), version, object)?;
-    Ok((key, shown))
 }
 
 /// A copy of the objects, in which one more is shown.

@@ -1,14 +1,13 @@
 //! What holds of every history.
 ghost use Rattle.object_cache.specs.Limits.{LimitsAreExact};
-ghost use Rattle.object_cache.specs.Told.{ChangesAreTold, OthersPassAsBefore};
+ghost use Rattle.object_cache.specs.Stays.{OtherServicesStay, OthersPassAsBefore};
 
-/// Whatever was observed, an event leaves each service as it was that its change doesn't tell of.
-pub fn changes_are_told()
-    ensures { ChangesAreTold }
+/// Whatever was observed, an event leaves each service as it was but the one that it shows or deletes, and those that its list lacks.
+pub fn other_services_stay()
+    ensures { OtherServicesStay }
 {}
 
-/// Whatever was observed, of the services that the change of an event doesn't tell of the same pass a test as before it, in the
-/// same order.
+/// Whatever was observed, of the services that an event doesn't change the same pass a test as before it, in the same order.
 pub fn others_pass_as_before()
     ensures { OthersPassAsBefore }
 {}

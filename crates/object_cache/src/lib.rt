@@ -8,6 +8,6 @@ mod laws;
 mod limits;
 
 pub use cache::ObjectCache;
-pub use change::{Applied, ApplyFault, Change, TakeNote};
-pub use laws::{changes_are_told, limits_are_exact, others_pass_as_before};
+pub use change::{Applied, ApplyFault, TakeNote};
+pub use laws::{limits_are_exact, other_services_stay, others_pass_as_before};
 pub use limits::{MOST_NODES, MOST_SERVICES};

@@ -6,10 +6,10 @@ use Rattle.std.specs.Cmp.{IsTotalOrder}
 use Rattle.std.proofs.lemmas.Map.Lookups.{CmpEqualImpliesEq}
 use Rattle.std.proofs.Math.Bool.{or-true}
 use Rattle.kube_model.specs.declared.event.Event.TheVariants.{Changed, Deleted, ListEnd, Expired, Members, Frame, Ignored}
-use Rattle.kube_model.specs.declared.event.Group.{Group}
-use Rattle.kube_model.specs.declared.event.Group.TheVariants as groups
+use Rattle.kube_model.specs.declared.event.ListGroup.{ListGroup}
+use Rattle.kube_model.specs.declared.event.ListGroup.TheVariants as groups
 use Rattle.versioned_map.specs.declared.map.Versioned.{Versioned}
-use Rattle.versioned_map.specs.Entries.{held_at}
+use Rattle.versioned_map.specs.Objects.{held_at}
 use Rattle.kube_labels.proofs.NameLaws.{name_cmp-total, name_cmp-exact}
 use Rattle.object_history.specs.Kinds.{Resource, service_resource, pool_resource, l2_resource, bgp_resource, peer_resource}
 use Rattle.object_history.specs.Kinds.{community_resource, namespace_resource, node_resource, slice_resource}
@@ -101,7 +101,7 @@ objects-as_shown observations =
     }
 
 -- ---- lists that have ended
-pub same_group-is : (a b : Group) → same_group a b ≡ true → a ≡ b
+pub same_group-is : (a b : ListGroup) → same_group a b ≡ true → a ≡ b
 same_group-is groups.Config groups.Config e = refl
 same_group-is groups.Config groups.Service e = absurd (cc)
 same_group-is groups.Config groups.Endpoint e = absurd (cc)
@@ -112,33 +112,34 @@ same_group-is groups.Endpoint groups.Endpoint e = refl
 same_group-is groups.Endpoint groups.Config e = absurd (cc)
 same_group-is groups.Endpoint groups.Service e = absurd (cc)
 
-pub same_group-itself : (a : Group) → same_group a a ≡ true
+pub same_group-itself : (a : ListGroup) → same_group a a ≡ true
 same_group-itself groups.Config = refl
 same_group-itself groups.Service = refl
 same_group-itself groups.Endpoint = refl
 
-abbrev pub ended_of : Group → List Observation → Bool
+abbrev pub ended_of : ListGroup → List Observation → Bool
 ended_of group [] = false
 ended_of group (observation ∷ earlier) = ended_after group observation (ended_of group earlier)
 
-ended_on : (group : Group) (observation : Observation) (earlier : List Observation) → expires group observation ≡ false → HasEnded group earlier
+ended_on : (group : ListGroup) (observation : Observation) (earlier : List Observation) → expires group observation ≡ false → HasEnded group earlier
     → HasEnded group (observation ∷ earlier)
 ended_on group observation earlier stays i =
     record { later = observation ∷ i.later; earlier = i.earlier; split = ap (λ (l : List Observation). observation ∷ l) i.split; lasts = (stays, i.lasts) }
 
-ends_now : (same : Bool) (group g : Group) (earlier : List Observation) → same ≡ same_group g group → ((ended_of group earlier ≡ true) → HasEnded group earlier)
+ends_now : (same : Bool) (group g : ListGroup) (earlier : List Observation) → same ≡ same_group g group
+    → ((ended_of group earlier ≡ true) → HasEnded group earlier)
     → (same || ended_of group earlier) ≡ true → HasEnded group (Watched (ListEnd g) ∷ earlier)
 ends_now true group g earlier e ih ended =
     let is : g ≡ group = same_group-is g group (sym e) in
-    record { later = []; earlier = earlier; split = ap (λ (k : Group). Watched (ListEnd k) ∷ earlier) is; lasts = tt }
+    record { later = []; earlier = earlier; split = ap (λ (k : ListGroup). Watched (ListEnd k) ∷ earlier) is; lasts = tt }
 ends_now false group g earlier e ih ended = ended_on group (Watched (ListEnd g)) earlier refl (ih ended)
 
-expired_not : (same : Bool) (group g : Group) (earlier : List Observation) → same ≡ same_group g group
+expired_not : (same : Bool) (group g : ListGroup) (earlier : List Observation) → same ≡ same_group g group
     → ((ended_of group earlier ≡ true) → HasEnded group earlier) → cond same false (ended_of group earlier) ≡ true → HasEnded group (WatchExpired g ∷ earlier)
 expired_not true group g earlier e ih ended = absurd (cc)
 expired_not false group g earlier e ih ended = ended_on group (WatchExpired g) earlier (sym e) (ih ended)
 
-pub ended_of-is : (group : Group) (observations : List Observation) → ended_of group observations ≡ true → HasEnded group observations
+pub ended_of-is : (group : ListGroup) (observations : List Observation) → ended_of group observations ≡ true → HasEnded group observations
 ended_of-is group [] e = absurd (cc)
 ended_of-is group (Watched (Changed version object) ∷ earlier) e = ended_on group _ earlier refl (ended_of-is group earlier e)
 ended_of-is group (Watched (Deleted kind key) ∷ earlier) e = ended_on group _ earlier refl (ended_of-is group earlier e)
@@ -150,7 +151,7 @@ ended_of-is group (Watched Ignored ∷ earlier) e = ended_on group _ earlier ref
 ended_of-is group (WatchExpired g ∷ earlier) e = expired_not (same_group g group) group g earlier refl (ended_of-is group earlier) e
 ended_of-is group (Written key version holding ∷ earlier) e = ended_on group _ earlier refl (ended_of-is group earlier e)
 
-ended_stays : (group : Group) (observation : Observation) → expires group observation ≡ false → ended_after group observation true ≡ true
+ended_stays : (group : ListGroup) (observation : Observation) → expires group observation ≡ false → ended_after group observation true ≡ true
 ended_stays group (Watched (Changed version object)) e = refl
 ended_stays group (Watched (Deleted kind key)) e = refl
 ended_stays group (Watched (ListEnd g)) e = or-true (same_group g group)
@@ -161,13 +162,13 @@ ended_stays group (Watched Ignored) e = refl
 ended_stays group (WatchExpired g) e = rw e refl
 ended_stays group (Written key version holding) e = refl
 
-ended_through : (group : Group) (later earlier : List Observation) → NoneExpires group later
+ended_through : (group : ListGroup) (later earlier : List Observation) → NoneExpires group later
     → ended_of group (later ++ Watched (ListEnd group) ∷ earlier) ≡ true
 ended_through group [] earlier stays = rw (same_group-itself group) refl
 ended_through group (observation ∷ later) earlier stays =
     ap (ended_after group observation) (ended_through group later earlier stays.1) ∙ ended_stays group observation stays.0
 
-pub is-ended_of : (group : Group) (observations : List Observation) → HasEnded group observations → ended_of group observations ≡ true
+pub is-ended_of : (group : ListGroup) (observations : List Observation) → HasEnded group observations → ended_of group observations ≡ true
 is-ended_of group observations i = ap (ended_of group) i.split ∙ ended_through group i.later i.earlier i.lasts
 
 pub config_ended-is : (observations : List Observation) → (cached observations).config_ended ≡ ended_of groups.Config observations
@@ -182,6 +183,6 @@ pub endpoints_ended-is : (observations : List Observation) → (cached observati
 endpoints_ended-is [] = refl
 endpoints_ended-is (observation ∷ earlier) = ap (ended_after groups.Endpoint observation) (endpoints_ended-is earlier)
 
-pub ended_both : (ended : Bool) (group : Group) (observations : List Observation) → ended ≡ ended_of group observations
+pub ended_both : (ended : Bool) (group : ListGroup) (observations : List Observation) → ended ≡ ended_of group observations
     → (ended ≡ true) ↔ HasEnded group observations
 ended_both ended group observations e = (λ t. ended_of-is group observations (sym e ∙ t), λ i. e ∙ is-ended_of group observations i)

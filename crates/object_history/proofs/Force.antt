@@ -8,15 +8,15 @@ use Rattle.kube_model.specs.declared.bgp.BgpAdv.{BgpAdv}
 use Rattle.kube_model.specs.declared.community.CommunityList.{CommunityList}
 use Rattle.kube_model.specs.declared.config_fault.ConfigFault.{ConfigFault}
 use Rattle.kube_model.specs.declared.event.Event.TheVariants.{Changed, Deleted, ListEnd, Expired, Members, Frame, Ignored}
-use Rattle.kube_model.specs.declared.event.Group.{Group}
-use Rattle.kube_model.specs.declared.event.Group.TheVariants as groups
+use Rattle.kube_model.specs.declared.event.ListGroup.{ListGroup}
+use Rattle.kube_model.specs.declared.event.ListGroup.TheVariants as groups
 use Rattle.kube_model.specs.declared.l2.L2Adv.{L2Adv}
 use Rattle.kube_model.specs.declared.object.Object.{Object}
 use Rattle.kube_model.specs.declared.object.Object.TheVariants as objects
 use Rattle.kube_model.specs.declared.peer.BgpPeer.{BgpPeer}
 use Rattle.kube_model.specs.declared.pool.Pool.{Pool}
 use Rattle.versioned_map.specs.declared.map.Versioned.{Versioned}
-use Rattle.versioned_map.specs.Entries.{held_at, version_at, is_newer}
+use Rattle.versioned_map.specs.Objects.{held_at, version_at, is_newer}
 use Rattle.pool_config.specs.ConfigValue.{ConfigValue}
 use Rattle.pool_config.specs.declared.object_set.ObjectSet.{ObjectSet}
 use Rattle.pool_config.specs.Compile.{compiled}
@@ -91,7 +91,7 @@ never false b Q e = (λ t. absurd (cc), λ w. absurd w.0)
 kind_holds : (a b : Bool) (Q : Type 0) → (b ≡ true) ↔ Q → ((a && b) ≡ true) ↔ ((a ≡ true) × Q)
 kind_holds a b Q q = both_hold a b (a ≡ true) Q (λ t. t, λ t. t) q
 
-end_compiles : (group : Group) → (same_group group groups.Config ≡ true) ↔ (group ≡ groups.Config)
+end_compiles : (group : ListGroup) → (same_group group groups.Config ≡ true) ↔ (group ≡ groups.Config)
 end_compiles group = (same_group-is group groups.Config, λ e. rw e refl)
 
 never_compiles : (false ≡ true) ↔ ⊥

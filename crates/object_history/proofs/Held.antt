@@ -10,7 +10,7 @@ use Rattle.std.proofs.lemmas.Map.Lookups.{CmpEqualImpliesEq}
 use Rattle.mlb_base.proofs.Entries.{ascending-remove_entry}
 use Rattle.kube_model.specs.declared.event.Event.TheVariants.{Changed, Deleted, ListEnd, Expired, Members, Frame, Ignored}
 use Rattle.versioned_map.specs.declared.map.Versioned.{Versioned}
-use Rattle.versioned_map.specs.Entries.{held_at, version_at, at_version, expired, listed, amended_at}
+use Rattle.versioned_map.specs.Objects.{held_at, version_at, at_version, expired, listed, amended_at}
 use Rattle.versioned_map.proofs.HeldLaws.{held_at-shown, held_at-removed, held_at-expired, held_at-listed, held_at-amended}
 use Rattle.versioned_map.proofs.HeldLaws.{ascending-shown, ascending-expired, ascending-listed, ascending-amended}
 use Rattle.object_history.specs.Kinds.{Resource}

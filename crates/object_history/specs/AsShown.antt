@@ -1,8 +1,8 @@
 -- What is held is what the look back shows.
 use Rattle.std.specs.Prelude.{◌≡◌, ◌↔◌, true, List, Some}
 use Rattle.versioned_map.specs.declared.map.Versioned.{Versioned}
-use Rattle.versioned_map.specs.Entries.{version_at}
-use Rattle.kube_model.specs.declared.event.Group.TheVariants as groups
+use Rattle.versioned_map.specs.Objects.{version_at}
+use Rattle.kube_model.specs.declared.event.ListGroup.TheVariants as groups
 use Rattle.pool_config.specs.ConfigValue.{ConfigValue}
 use Rattle.object_history.specs.Observations.{Observation}
 use Rattle.object_history.specs.Kinds.{Resource, service_resource, pool_resource, l2_resource, bgp_resource, peer_resource}

@@ -5,15 +5,15 @@ use Rattle.std.specs.BTreeMap.{is_at}
 use Rattle.kube_model.specs.declared.config_fault.ConfigFault.{ConfigFault}
 use Rattle.kube_model.specs.declared.event.Event.{Event}
 use Rattle.kube_model.specs.declared.event.Event.TheVariants.{Changed, Deleted, ListEnd, Expired, Members, Frame, Ignored}
-use Rattle.kube_model.specs.declared.event.Group.{Group}
-use Rattle.kube_model.specs.declared.event.Group.TheVariants as groups
+use Rattle.kube_model.specs.declared.event.ListGroup.{ListGroup}
+use Rattle.kube_model.specs.declared.event.ListGroup.TheVariants as groups
 use Rattle.kube_model.specs.declared.key.Key.{Key}
 use Rattle.kube_model.specs.declared.namespace.Namespace.{Namespace}
 use Rattle.kube_model.specs.declared.node.Node.{Node}
 use Rattle.kube_model.specs.declared.service.Service.{Service}
 use Rattle.kube_model.specs.declared.slice.EndpointSlice.{EndpointSlice}
 use Rattle.versioned_map.specs.declared.map.Versioned.{Versioned}
-use Rattle.versioned_map.specs.Entries.{shown, expired, listed, amended}
+use Rattle.versioned_map.specs.Objects.{shown, expired, listed, amended}
 use Rattle.pool_config.specs.ConfigValue.{ConfigValue}
 use Rattle.pool_config.specs.declared.object_set.ObjectSet.{ObjectSet}
 use Rattle.pool_config.specs.Compile.{compiled}
@@ -83,7 +83,7 @@ nothing = record {
 }
 
 -- whether the list of the group has ended, after an event
-abbrev pub ended_after_event : Group → Event → Bool → Bool
+abbrev pub ended_after_event : ListGroup → Event → Bool → Bool
 ended_after_event group (Changed version object) before = before
 ended_after_event group (Deleted kind key) before = before
 ended_after_event group (ListEnd g) before = same_group g group || before
@@ -93,7 +93,7 @@ ended_after_event group (Frame interface bytes) before = before
 ended_after_event group Ignored before = before
 
 -- after an observation
-abbrev pub ended_after : Group → Observation → Bool → Bool
+abbrev pub ended_after : ListGroup → Observation → Bool → Bool
 ended_after group (Watched event) before = ended_after_event group event before
 ended_after group (WatchExpired g) before = if same_group g group then false else before
 ended_after group (Written key version holding) before = before

@@ -4,7 +4,7 @@ use Rattle.std.specs.declared.cmp.Ordering.{Ordering}
 use Rattle.std.specs.Bool.{then_some}
 use Rattle.kube_model.specs.declared.bgp.BgpAdv.{BgpAdv}
 use Rattle.kube_model.specs.declared.community.CommunityList.{CommunityList}
-use Rattle.kube_model.specs.declared.event.Group.{Group}
+use Rattle.kube_model.specs.declared.event.ListGroup.{ListGroup}
 use Rattle.kube_model.specs.declared.key.Key.{Key}
 use Rattle.kube_model.specs.declared.l2.L2Adv.{L2Adv}
 use Rattle.kube_model.specs.declared.namespace.Namespace.{Namespace}
@@ -27,7 +27,7 @@ use Rattle.object_history.specs.Observations.{same_kind}
 -- how the objects T of a kind are keyed, by K, and listed
 pub record Resource (K T : Type 0) : Type 0 where
   pub cmp : K → K → Ordering  -- how keys are ordered
-  pub group : Group  -- the list that the objects come in
+  pub group : ListGroup  -- the list that the objects come in
   pub shown : Object → Option (K × T)  -- the object under its key, where it is of this kind
   pub deleted : Kind → Key → Option K  -- the key, where it is of this kind
   pub recorded : Key → Record → Option (K × (T → T))  -- the key, and what a written record makes of its object, where this kind has records

@@ -6,12 +6,12 @@ use Rattle.std.specs.Map.{keys_of}
 use Rattle.std.specs.List.Sorted.{IsStrictlySortedBy}
 use Rattle.kube_model.specs.declared.event.Event.{Event}
 use Rattle.kube_model.specs.declared.event.Event.TheVariants.{Changed, Deleted, ListEnd, Expired, Members, Frame, Ignored}
-use Rattle.kube_model.specs.declared.event.Group.{Group}
-use Rattle.kube_model.specs.declared.event.Group.TheVariants as groups
+use Rattle.kube_model.specs.declared.event.ListGroup.{ListGroup}
+use Rattle.kube_model.specs.declared.event.ListGroup.TheVariants as groups
 use Rattle.kube_model.specs.declared.object.Object.{Object}
 use Rattle.kube_model.specs.declared.object.Object.TheVariants as objects
 use Rattle.versioned_map.specs.declared.map.Versioned.{Versioned}
-use Rattle.versioned_map.specs.Entries.{at_version, held_at}
+use Rattle.versioned_map.specs.Objects.{at_version, held_at}
 use Rattle.pool_config.specs.ConfigValue.{ConfigValue}
 use Rattle.pool_config.specs.declared.object_set.ObjectSet.{ObjectSet}
 use Rattle.pool_config.specs.Compile.{compiled}
@@ -29,13 +29,13 @@ event_expires (Frame interface bytes) = false
 event_expires Ignored = false
 
 -- the observation says that the watch of the group has expired
-abbrev pub expires : Group → Observation → Bool
+abbrev pub expires : ListGroup → Observation → Bool
 expires group (Watched event) = event_expires event
 expires group (WatchExpired g) = same_group g group
 expires group (Written key version holding) = false
 
 -- the event is the end of the group's list
-abbrev pub event_ends_list : Group → Event → Bool
+abbrev pub event_ends_list : ListGroup → Event → Bool
 event_ends_list group (ListEnd g) = same_group g group
 event_ends_list group (Changed version object) = false
 event_ends_list group (Deleted kind key) = false
@@ -45,7 +45,7 @@ event_ends_list group (Frame interface bytes) = false
 event_ends_list group Ignored = false
 
 -- so is the observation
-abbrev pub ends_list : Group → Observation → Bool
+abbrev pub ends_list : ListGroup → Observation → Bool
 ends_list group (Watched event) = event_ends_list group event
 ends_list group (WatchExpired g) = false
 ends_list group (Written key version holding) = false
@@ -180,12 +180,12 @@ pub record AreAsShown {K T : Type 0} (resource : Resource K T) (entries : List (
   pub each : (key : K) → HoldsShown resource entries observations key
 
 -- none of the observations says that the watch of the group has expired
-abbrev pub NoneExpires : Group → List Observation → Type 0
+abbrev pub NoneExpires : ListGroup → List Observation → Type 0
 NoneExpires group [] = ⊤
 NoneExpires group (observation ∷ later) = (expires group observation ≡ false) × NoneExpires group later
 
 -- The list of the group has ended, and its watch hasn't expired since.
-pub record HasEnded (group : Group) (observations : List Observation) : Type 0 where
+pub record HasEnded (group : ListGroup) (observations : List Observation) : Type 0 where
   pub later : List Observation
   pub earlier : List Observation
   pub split : observations ≡ later ++ Watched (ListEnd group) ∷ earlier

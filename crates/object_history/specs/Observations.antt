@@ -1,8 +1,8 @@
 -- What is observed of a cluster.
 use Rattle.std.specs.Prelude.{ℕ, Bool, true, false, ◌==◌}
 use Rattle.kube_model.specs.declared.event.Event.{Event}
-use Rattle.kube_model.specs.declared.event.Group.{Group}
-use Rattle.kube_model.specs.declared.event.Group.TheVariants as groups
+use Rattle.kube_model.specs.declared.event.ListGroup.{ListGroup}
+use Rattle.kube_model.specs.declared.event.ListGroup.TheVariants as groups
 use Rattle.kube_model.specs.declared.key.Key.{Key}
 use Rattle.kube_model.specs.declared.object.Kind.{Kind}
 use Rattle.kube_model.specs.declared.object.Kind.TheVariants as kinds
@@ -11,16 +11,16 @@ use Rattle.kube_model.specs.declared.record.Record.{Record}
 -- one thing that is observed
 pub data Observation : Type 0 where
   Watched : (event : Event) → Observation  -- an event of a watch; `Expired` is that of all watches
-  WatchExpired : (group : Group) → Observation  -- the watch of this list has expired
+  WatchExpired : (group : ListGroup) → Observation  -- the watch of this list has expired
   Written : (key : Key) → (version : ℕ) → (holding : Record) → Observation  -- the service's record was replaced, which made it this version
 
-abbrev pub group_number : Group → ℕ
+abbrev pub group_number : ListGroup → ℕ
 group_number groups.Config = 0
 group_number groups.Service = 1
 group_number groups.Endpoint = 2
 
 -- whether the lists are one
-abbrev pub same_group : Group → Group → Bool
+abbrev pub same_group : ListGroup → ListGroup → Bool
 same_group a b = group_number a == group_number b
 
 abbrev pub kind_number : Kind → ℕ

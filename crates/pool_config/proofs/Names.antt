@@ -11,7 +11,7 @@ use Rattle.kube_model.specs.declared.object.Object.TheVariants as objects
 use Rattle.kube_model.specs.declared.object.Kind.{Kind}
 use Rattle.kube_model.specs.declared.object.Kind.TheVariants as kinds
 use Rattle.versioned_map.specs.declared.map.Versioned.{Versioned}
-use Rattle.versioned_map.specs.Entries.{shown, expired, listed, is_listed, version_at}
+use Rattle.versioned_map.specs.Objects.{shown, expired, listed, is_listed, version_at}
 use Rattle.pool_config.specs.declared.object_set.ObjectSet.{ObjectSet}
 use Rattle.pool_config.specs.Laws.{AreNamed, IsNamed, NamesAreKept}
 use Rattle.pool_config.specs.Objects.{set_put, set_shown, set_without}

@@ -14,7 +14,7 @@ use Rattle.kube_labels.proofs.NameLaws.{name_cmp-total, name_cmp-exact}
 use Rattle.kube_model.specs.declared.object.Kind.{Kind}
 use Rattle.kube_model.specs.declared.object.Kind.TheVariants as kinds
 use Rattle.versioned_map.specs.declared.map.Versioned.{Versioned}
-use Rattle.versioned_map.specs.Entries.{version_at}
+use Rattle.versioned_map.specs.Objects.{version_at}
 use Rattle.mlb_base.proofs.Entries.{lookup-insert_entry}
 use Rattle.pool_config.specs.declared.object_set.ObjectSet.{ObjectSet}
 use Rattle.pool_config.specs.ConfigValue.{Ascend}

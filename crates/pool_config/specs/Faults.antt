@@ -189,8 +189,8 @@ Clash pools a b =
     × Has (λ pool. (ChoosesPool a pool × ChoosesPool b pool) × Has (HaveEqualLength a b) pool.spans) pools
 
 -- all entries of the lists of communities, in order, each with the name of its list
-abbrev pub community_entries : List (List ℕ × CommunityList) → List (List ℕ × List ℕ)
-community_entries communities = flat_map (λ c. map (λ v. (c.0, v.0)) c.1.values) communities
+abbrev pub community_aliases : List (List ℕ × CommunityList) → List (List ℕ × List ℕ)
+community_aliases communities = flat_map (λ c. map (λ v. (c.0, v.0)) c.1.values) communities
 
 abbrev pub IsCommunityName : List (List ℕ × CommunityList) → List ℕ → Type 0
 IsCommunityName communities text = Has (λ c. Has (λ v. v.0 ≡ text) c.1.values) communities
@@ -249,7 +249,7 @@ FaultAt o BadValue i j name =
     FaultyItem key_of (λ c. Has (λ v. IsNoCommunity v.1) c.1.values) o.communities i j name
 FaultAt o BadText i j name = FaultyItem key_of (λ e. Has IsBadText e.1.communities) o.bgps i j name
 FaultAt o TwiceNamed i j name =
-    let entries = community_entries o.communities in
+    let entries = community_aliases o.communities in
     FaultyItem key_of (StoodBefore entries i) entries i j name
 FaultAt o UnknownPeer i j name =
     FaultyItem key_of (λ e. Has (λ peer. ¬ IsIn (map key_of o.peers) peer) e.1.peers) o.bgps i j name

@@ -13,7 +13,7 @@ use Rattle.kube_model.specs.declared.object.Object.TheVariants as objects
 use Rattle.kube_model.specs.declared.object.Kind.{Kind}
 use Rattle.kube_model.specs.declared.object.Kind.TheVariants as kinds
 use Rattle.versioned_map.specs.declared.map.Versioned.{Versioned}
-use Rattle.versioned_map.specs.Entries.{shown, is_newer, version_at, expired, listed}
+use Rattle.versioned_map.specs.Objects.{shown, is_newer, version_at, expired, listed}
 use Rattle.pool_config.specs.declared.object_set.ObjectSet.{ObjectSet}
 
 -- the objects of a kind, each under its name

@@ -2,7 +2,7 @@
 ghost use Rattle.std.specs.Prelude.{◌≡◌, [], IfOk, IsOkAnd, OnOk, OnErr};
 ghost use Rattle.kube_labels.specs.Names.{name_cmp};
 ghost use Rattle.pool_config.specs.Objects.{no_objects, set_shown, set_shows, set_put, put_at, set_without, set_expired, set_listed};
-ghost use Rattle.versioned_map.specs.Entries.{is_newer, shown};
+ghost use Rattle.versioned_map.specs.Objects.{is_newer, shown};
 
 use kube_labels::Text;
 use kube_model::{BgpAdv, BgpPeer, CommunityList, Kind, L2Adv, Object, Pool, both};

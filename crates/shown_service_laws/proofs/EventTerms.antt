@@ -1,8 +1,8 @@
 -- An event that a line is read as shows terms and families.
 use Rattle.std.proofs.Common.{ℕ, List}
 use Rattle.kube_model.specs.declared.event.Event.TheVariants.{Changed, Deleted, ListEnd}
-use Rattle.kube_model.specs.declared.event.Group.{Group}
-use Rattle.kube_model.specs.declared.event.Group.TheVariants as groups
+use Rattle.kube_model.specs.declared.event.ListGroup.{ListGroup}
+use Rattle.kube_model.specs.declared.event.ListGroup.TheVariants as groups
 use Rattle.kube_model.specs.declared.key.Key.{Key}
 use Rattle.kube_model.specs.declared.object.Kind.{Kind}
 use Rattle.kube_model.specs.declared.object.Kind.TheVariants as kinds
@@ -22,7 +22,7 @@ gone kinds.Peer key = (tt, tt)
 gone kinds.Community key = (tt, tt)
 gone kinds.Namespace key = (tt, tt)
 
-ended : (group : Group) → ShowsWhole (ListEnd group)
+ended : (group : ListGroup) → ShowsWhole (ListEnd group)
 ended groups.Config = (tt, tt)
 ended groups.Service = (tt, tt)
 ended groups.Endpoint = (tt, tt)

@@ -26,7 +26,7 @@ use Rattle.line_event_laws.proofs.Shown.{lines_show_numbers}
 use Rattle.bgp_reading.specs.Update.{IsLarge}
 use Rattle.large_numbers.specs.declared.numbers.LargeCommunity.{LargeCommunity}
 use Rattle.versioned_map.specs.declared.map.Versioned.{Versioned}
-use Rattle.versioned_map.specs.Entries.{shown, version_at, expired, listed, is_listed}
+use Rattle.versioned_map.specs.Objects.{shown, version_at, expired, listed, is_listed}
 use Rattle.pool_config.specs.Compile.{compiled}
 use Rattle.pool_config.specs.ConfigValue.{ConfigValue}
 use Rattle.pool_config.specs.declared.compiled.CompiledBgp.{CompiledBgp}

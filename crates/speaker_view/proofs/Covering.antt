@@ -20,7 +20,7 @@ use Rattle.object_history.specs.Cache.{Cached, cached_after, deleted_in, held_af
 use Rattle.object_history.specs.Kinds.{Resource, service_resource, slice_resource, show_service, show_slice}
 use Rattle.object_history.specs.Observations.{Watched, same_group}
 use Rattle.versioned_map.specs.declared.map.Versioned.{Versioned}
-use Rattle.versioned_map.specs.Entries.{at_version, expired, held_at, listed, object_at, version_at}
+use Rattle.versioned_map.specs.Objects.{at_version, expired, held_at, listed, object_at, version_at}
 use Rattle.versioned_map.proofs.HeldLaws.{held_at-shown, held_at-removed, held_at-expired, held_at-listed}
 use Rattle.speaker_view.specs.declared.index.Index.{Index}
 use Rattle.speaker_view.specs.Endpoints.{is_slice_of}

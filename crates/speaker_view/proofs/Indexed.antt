@@ -23,7 +23,7 @@ use Rattle.kube_model.specs.declared.service.Policy.{Policy}
 use Rattle.kube_model.specs.declared.service.Service.{Service}
 use Rattle.kube_model.specs.declared.slice.EndpointSlice.{EndpointSlice}
 use Rattle.object_history.specs.Cache.{Cached}
-use Rattle.versioned_map.specs.Entries.{object_at}
+use Rattle.versioned_map.specs.Objects.{object_at}
 use Rattle.speaker_view.specs.declared.index.Index.{Index}
 use Rattle.speaker_view.specs.Addresses.{address_cmp}
 use Rattle.speaker_view.specs.Endpoints.{announced_from, can_announce, has_usable, is_recorded_in, is_served_in}

@@ -12,7 +12,7 @@ use Rattle.std.specs.List.Sorted.{IsStrictlySortedBy}
 use Rattle.std.specs.Map.{keys_of}
 use Rattle.mlb_base.proofs.Among.{any-found, any-contains}
 use Rattle.versioned_map.specs.declared.map.Versioned.{Versioned}
-use Rattle.versioned_map.specs.Entries.{held_at, object_at}
+use Rattle.versioned_map.specs.Objects.{held_at, object_at}
 use Rattle.speaker_view.specs.Held.{objects_of}
 use Rattle.speaker_view.specs.Index.{passes}
 

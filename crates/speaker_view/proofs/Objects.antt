@@ -8,7 +8,7 @@ use Rattle.std.specs.Option.{option_map}
 use Rattle.std.specs.Map.{lookup, remove_entry}
 use Rattle.std.specs.BTreeMap.{insert_entry, is_at}
 use Rattle.versioned_map.specs.declared.map.Versioned.{Versioned}
-use Rattle.versioned_map.specs.Entries.{held_at, object_at, version_at, shown, expired, at_version}
+use Rattle.versioned_map.specs.Objects.{held_at, object_at, version_at, shown, expired, at_version}
 use Rattle.versioned_map.proofs.HeldLaws.{held_at-expired}
 use Rattle.speaker_view.specs.Held.{objects_of}
 

@@ -14,7 +14,7 @@ use Rattle.kube_model.specs.declared.key.Key.{Key}
 use Rattle.kube_model.specs.declared.service.Service.{Service}
 use Rattle.kube_model.specs.declared.slice.EndpointSlice.{EndpointSlice}
 use Rattle.versioned_map.specs.declared.map.Versioned.{Versioned}
-use Rattle.versioned_map.specs.Entries.{held_at, object_at}
+use Rattle.versioned_map.specs.Objects.{held_at, object_at}
 use Rattle.speaker_view.specs.Change.{recorded_by}
 use Rattle.speaker_view.specs.Endpoints.{is_slice_of}
 use Rattle.speaker_view.specs.Grouped.{service_of}

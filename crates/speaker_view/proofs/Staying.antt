@@ -28,7 +28,7 @@ use Rattle.pool_config.specs.Compile.{compiled}
 use Rattle.pool_config.specs.ConfigValue.{ConfigValue}
 use Rattle.pool_config.specs.declared.object_set.ObjectSet.{ObjectSet}
 use Rattle.versioned_map.specs.declared.map.Versioned.{Versioned}
-use Rattle.versioned_map.specs.Entries.{object_at, version_at}
+use Rattle.versioned_map.specs.Objects.{object_at, version_at}
 use Rattle.speaker_view.specs.declared.change.ViewChange.{ViewChange}
 use Rattle.speaker_view.specs.Change.{changed_addresses, change_of, is_accepted, recorded_at, recorded_by, reaches_all}
 use Rattle.speaker_view.specs.Change.{served_at, served_by, shown_addresses, OthersStay, UnchangedAddressesStay}

@@ -16,7 +16,7 @@ use Rattle.kube_model.specs.declared.slice.EndpointSlice.{EndpointSlice}
 use Rattle.object_cache.specs.declared.change.TakeNote.{TakeNote}
 use Rattle.object_cache.specs.declared.change.TakeNote.TheVariants.{Quiet, Accepted, Refused}
 use Rattle.pool_config.specs.KeySets.{keys_with}
-use Rattle.versioned_map.specs.Entries.{is_newer, object_at}
+use Rattle.versioned_map.specs.Objects.{is_newer, object_at}
 use Rattle.speaker_view.specs.declared.change.ViewChange.{ViewChange}
 use Rattle.speaker_view.specs.Addresses.{address_cmp}
 use Rattle.speaker_view.specs.Endpoints.{announced_from, is_slice_of, node_labels}

@@ -13,7 +13,7 @@ use Rattle.kube_model.specs.declared.object.Object.{Object}
 use Rattle.kube_model.specs.declared.object.Object.TheVariants as objects
 use Rattle.kube_model.specs.declared.service.Service.{Service}
 use Rattle.kube_model.specs.declared.slice.EndpointSlice.{EndpointSlice}
-use Rattle.versioned_map.specs.Entries.{object_at}
+use Rattle.versioned_map.specs.Objects.{object_at}
 use Rattle.grouped_keys.specs.Grouped.{in_group}
 use Rattle.object_history.specs.Cache.{Cached, cached_after}
 use Rattle.object_history.specs.Observations.{Watched}

@@ -3,7 +3,7 @@ ghost use Rattle.std.specs.Prelude.{◌≡◌, ◌++◌, ◌||◌, [], if◌then
 ghost use Rattle.kube_labels.specs.Names.{name_cmp};
 ghost use Rattle.kube_model.specs.Keys.{key_cmp};
 ghost use Rattle.pool_config.specs.KeySets.{keys_with};
-ghost use Rattle.versioned_map.specs.Entries.{is_newer};
+ghost use Rattle.versioned_map.specs.Objects.{is_newer};
 ghost use Rattle.speaker_view.specs.Addresses.{address_cmp};
 ghost use Rattle.speaker_view.specs.Change.{changed_addresses, deleted_addresses, is_accepted, is_node, reaches_all};
 ghost use Rattle.speaker_view.specs.Change.{recorded_at, served_at, served_by, shown_addresses, is_node_shown};

@@ -6,7 +6,7 @@ ghost use Rattle.std.specs.Map.{keys_of};
 ghost use Rattle.ip_ranges.specs.Values.{AddressValue, has_address, same_address};
 ghost use Rattle.kube_model.specs.Keys.{key_cmp, same_key};
 ghost use Rattle.kube_model.specs.declared.key.Key.{Key as KeyValue};
-ghost use Rattle.versioned_map.specs.Entries.{object_at};
+ghost use Rattle.versioned_map.specs.Objects.{object_at};
 ghost use Rattle.object_history.specs.Cache.{nothing};
 ghost use Rattle.grouped_keys.specs.Grouped.{is_in};
 ghost use Rattle.speaker_view.specs.Endpoints.{is_slice_of, slice_serves, some_serves};
@@ -18,13 +18,12 @@ use crate::endpoints::{is_slice_of, slice_serves};
 use grouped_keys::GroupedKeys;
 use ip_ranges::Address;
 use kube_labels::Text;
-use kube_model::{EndpointSlice, Event, Group, Key, Kind, Object, Policy, Service};
+use kube_model::{EndpointSlice, Event, Key, Kind, ListGroup, Object, Policy, Service};
 use mlb_base::{NoMemory, TryCopy};
 use object_cache::ObjectCache;
 use std::alloc::Global;
 use std::collections::BTreeSet;
 use std::collections::btree_map::Keys;
-use versioned_map::VersionedMap;
 
 /// Which held services record an address, and which held endpoint slices are of a service, by their keys. Keys of others may stand
 /// there too: what is found by one is looked at before it counts.
@@ -309,33 +308,23 @@ impl Stale {
     }
 
     /// What isn't listed is dropped at the end of the list.
-    fn add_unlisted(&mut self, cache: &ObjectCache, group: Group) -> Result<(), NoMemory> {
+    fn add_unlisted(&mut self, cache: &ObjectCache, group: ListGroup) -> Result<(), NoMemory> {
         match group {
-            Group::Config => Ok(()),
-            Group::Service => self.add_unlisted_services(cache.services()),
-            Group::Endpoint => self.add_unlisted_slices(cache.slices()),
-        }
-    }
-
-    fn add_unlisted_services(
-        &mut self,
-        services: &VersionedMap<Key, Service>,
-    ) -> Result<(), NoMemory> {
-        for (_, held) in services.iter() {
-            if held.version == 0 {
-                self.add_service(&held.object)?;
+            ListGroup::Config => {}
+            ListGroup::Service => {
+                let unlisted = cache
+                    .services()
+                    .iter()
+                    .filter(|(_, held)| held.version == 0);
+                for (_, held) in unlisted {
+                    self.add_service(&held.object)?;
+                }
             }
-        }
-        Ok(())
-    }
-
-    fn add_unlisted_slices(
-        &mut self,
-        slices: &VersionedMap<Key, EndpointSlice>,
-    ) -> Result<(), NoMemory> {
-        for (_, held) in slices.iter() {
-            if held.version == 0 {
-                self.add_slice(&held.object)?;
+            ListGroup::Endpoint => {
+                let unlisted = cache.slices().iter().filter(|(_, held)| held.version == 0);
+                for (_, held) in unlisted {
+                    self.add_slice(&held.object)?;
+                }
             }
         }
         Ok(())

@@ -12,7 +12,7 @@ ghost use Rattle.ip_ranges.specs.Values.{has_address};
 ghost use Rattle.kube_model.specs.Keys.{key_cmp};
 ghost use Rattle.kube_model.specs.declared.slice.EndpointSlice.{EndpointSlice as SliceValue};
 ghost use Rattle.pool_config.specs.KeySets.{keys_with};
-ghost use Rattle.versioned_map.specs.Entries.{object_at};
+ghost use Rattle.versioned_map.specs.Objects.{object_at};
 ghost use Rattle.speaker_view.specs.Addresses.{address_cmp};
 ghost use Rattle.speaker_view.specs.Change.{OthersStay, change_of, recorded_at, served_by};
 ghost use Rattle.speaker_view.specs.Grouped.{service_of};
@@ -28,7 +28,7 @@ use ip_ranges::{Address, AddressList};
 use kube_labels::{Labels, Text, TextList};
 use kube_model::{EndpointSlice, Event, Key, Kind, Node, Policy, Service};
 use mlb_base::NoMemory;
-use object_cache::{Applied, ApplyFault, ObjectCache, TakeNote};
+use object_cache::{ApplyFault, ObjectCache, TakeNote};
 use pool_config::Config;
 use std::alloc::Global;
 use std::collections::BTreeSet;
@@ -442,17 +442,9 @@ fn apply_within(
     let _ascending = cache.services().len();
     let _ascend = cache.slices().len();
     match cache.apply(event) {
-        Ok(applied) => Ok(note_in(applied)),
+        Ok(applied) => Ok(applied.note),
         Err(fault) => Err(fault),
     }
-}
-
-fn note_in(applied: Applied) -> TakeNote
-    ensures { result ≡ applied.note }
-{
-    let Applied { change, note } = applied;
-    drop(change);
-    note
 }
 
 /// Whether nodes with these labels aren't kept from load balancers (Kubernetes, "Well-Known Labels").

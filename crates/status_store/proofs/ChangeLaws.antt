@@ -23,9 +23,6 @@ use Rattle.status_store.proofs.Searching.{with_stored-at, without_stored-at, sto
 
 -- ---- tests of versions
 
-pub same-version : (a b : ℕ) → eqb a b ≡ true → a ≡ b
-same-version a b e = grind (arith, nat_tests)
-
 pub version-same : (a b : ℕ) → a ≡ b → eqb a b ≡ true
 version-same a b e = grind (arith, nat_tests)
 

@@ -5,4 +5,5 @@ pub mod PlaceLaws
 pub mod PutLaws
 pub mod Results
 pub mod Searching
+pub mod ServicesByKey
 pub mod StoredLaws

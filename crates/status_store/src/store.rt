@@ -146,7 +146,10 @@ impl Store {
         ensures err { OnErr result (self.new ≡ self.old) }
     {
         let stored = &self.objects.as_slice()[at];
-        let holding = copy_record(self.alloc, &stored.object)?;
+        let Ok(holding) = copy_record(self.alloc, &stored.object) else {
+            drop(object);
+            return Err(NoMemory);
+        };
         set_record(&mut object, holding);
         self.replace_whole(at, object)
     }

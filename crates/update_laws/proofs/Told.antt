@@ -7,10 +7,10 @@ use Rattle.std.specs.Map.{keys_of}
 use Rattle.ip_ranges.specs.declared.family.Family.{Family}
 use Rattle.ip_ranges.specs.declared.family.Family.TheVariants.{V4, V6}
 use Rattle.ip_ranges.specs.Values.{PrefixValue}
-use Rattle.bgp_updates.specs.declared.route.Group.{Group}
+use Rattle.bgp_updates.specs.declared.route.RouteGroup.{RouteGroup}
 use Rattle.bgp_updates.specs.declared.route.Terms.{Terms}
 use Rattle.bgp_updates.specs.declared.route.Peering.{Peering}
-use Rattle.bgp_updates.specs.Between.{AreFew, IsGroup, messages_for, update_octets}
+use Rattle.bgp_updates.specs.Between.{AreFew, IsRouteGroup, messages_for, update_octets}
 use Rattle.bgp_updates.specs.Laws.{updates_for}
 use Rattle.bgp_updates.specs.Message.{Fits, announced_part, front_of, in_messages, large_attribute, part_bytes}
 use Rattle.bgp_updates.specs.Message.{prefixes_bytes, reach_attribute, room_of, unreach_attribute, withdrawn_part}
@@ -99,7 +99,7 @@ read-append : (family : Family) (peering : Peering) (a b : List Update) → AllB
 read-append family peering [] b first second = second
 read-append family peering (update ∷ a) b first second = (first.0, read-append family peering a b first.1 second)
 
-groups-read : (family : Family) (peering : Peering) (groups : List Group) → AllByRecursion IsGroup groups
+groups-read : (family : Family) (peering : Peering) (groups : List RouteGroup) → AllByRecursion IsRouteGroup groups
     → AllByRecursion (IsReadAs family peering)
     (flat_map (λ group. announcements group.terms (in_messages (room_of (announced_part family peering group.terms)) group.prefixes)) groups)
 groups-read family peering [] are = tt
@@ -118,12 +118,12 @@ updates-read : (family : Family) (peering : Peering) (old new : List (PrefixValu
 updates-read family peering old new old_table new_table few =
     let most : ℕ = room_of (withdrawn_part family) in
     let gone_parts : List (List PrefixValue) = in_messages most (keys_of (gone old new)) in
-    let groups : List Group = groups_from same_terms [] (changed same_terms old new) in
+    let groups : List RouteGroup = groups_from same_terms [] (changed same_terms old new) in
     read-append family peering (withdrawals gone_parts)
     (flat_map (λ group. announcements group.terms (in_messages (room_of (announced_part family peering group.terms)) group.prefixes)) groups)
     (withdrawals-read family peering gone_parts (sized-in_messages most (keys_of (gone old new)) (omega (arith, size-withdrawn family))
     (recursion_from_All Fits (keys_of (gone old new)) (short-gone old new old_table))))
-    (groups-read family peering groups (recursion_from_All IsGroup groups (small-changed old new new_table few)))
+    (groups-read family peering groups (recursion_from_All IsRouteGroup groups (small-changed old new new_table few)))
 
 pub messages-read : MessagesAreRead
 messages-read = record {

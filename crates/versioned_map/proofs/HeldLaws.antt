@@ -11,7 +11,7 @@ use Rattle.std.proofs.lemmas.Map.Keys.{IsDistinct-from_sorted}
 use Rattle.std.proofs.lemmas.Map.Made.{lookup-map_values, keys_of-map_values}
 use Rattle.mlb_base.proofs.Entries.{lookup-insert_entry, ascending-insert_entry, ascending-filter}
 use Rattle.versioned_map.specs.declared.map.Versioned.{Versioned}
-use Rattle.versioned_map.specs.Entries.{held_at, version_at, at_version, shown, expired, listed, amended, amended_at}
+use Rattle.versioned_map.specs.Objects.{held_at, version_at, at_version, shown, expired, listed, amended, amended_at}
 
 module _ {K : Type 0} {cmp : K → K → Ordering} (o : IsTotalOrder cmp) where
   -- a key in place of one that it is tied with

@@ -12,7 +12,7 @@ use Rattle.std.proofs.lemmas.Map.{lookup-none, length-set_value}
 use Rattle.std.proofs.lemmas.Map.Entries.{none_below_head}
 use Rattle.std.proofs.lemmas.Map.Keys.{sorted_tail}
 use Rattle.versioned_map.specs.declared.map.Versioned.{Versioned}
-use Rattle.versioned_map.specs.Entries.{held_at, at_version, is_listed, expired, listed, amended, amended_at}
+use Rattle.versioned_map.specs.Objects.{held_at, at_version, is_listed, expired, listed, amended, amended_at}
 
 one_more : (there : Bool) (n : ℕ) → suc (cond there n (suc n)) ≡ cond there (suc n) (suc (suc n))
 one_more true n = refl

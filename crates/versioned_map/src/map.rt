@@ -7,7 +7,7 @@ ghost use Rattle.std.specs.List.Sorted.{IsStrictlySortedBy};
 ghost use Rattle.std.specs.Map.Iter.{ShowsInOrder, deref_pair};
 ghost use Rattle.std.specs.Fn.{FnOnceReturnsAtMut};
 ghost use Rattle.versioned_map.specs.declared.map.Versioned.{Versioned};
-ghost use Rattle.versioned_map.specs.Entries.{version_at, object_at, shown, shown_note, expired, listed, unlisted_keys, Amends};
+ghost use Rattle.versioned_map.specs.Objects.{version_at, object_at, shown, shown_note, expired, listed, unlisted_keys, Amends};
 
 use mlb_base::{NoMemory, TryCopy};
 use std::alloc::Global;

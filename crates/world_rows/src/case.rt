@@ -3,11 +3,13 @@
 use crate::crashes::crash_lines;
 use crate::steps::{make, recorded_world, world_of};
 use crate::stored::{held_text, store_text};
+use answer_lines::Answering;
 use ctl_world::{ListOrder, StartFault, World};
 use kube_labels::Text;
 use kube_model::Key;
 use mlb_base::NoMemory;
 use std::alloc::Global;
+use std::mem;
 
 /// The lines of a case, and the world that they lead to.
 #[derive(Drop)]
@@ -112,7 +114,7 @@ impl Case {
     }
 
     /// What is written at the line.
-    pub fn take(&mut self, line: &str) -> Result<String, NoMemory> {
+    fn take(&mut self, line: &str) -> Result<String, NoMemory> {
         if let Some(name) = line.strip_prefix("held ") {
             return self.held(name);
         }
@@ -124,5 +126,15 @@ impl Case {
             _ if self.world.is_none() => self.add(line),
             _ => self.happen(line),
         }
+    }
+}
+
+impl Answering for Case {
+    fn answer(&mut self, alloc: Global, line: &str) -> anyhow::Result<String> {
+        if line.as_bytes().starts_with(b"#") {
+            drop(mem::replace(self, Case::new(alloc)));
+            return Ok(format!(in alloc; "{line}\n")?);
+        }
+        Ok(self.take(line)?)
     }
 }

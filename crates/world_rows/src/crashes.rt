@@ -5,7 +5,7 @@ use crate::steps::{make, world_of};
 use crate::stored::store_text;
 use ctl_world::{ListOrder, Outcome, Step, StepFault, World};
 use kube_labels::Text;
-use kube_model::Group;
+use kube_model::ListGroup;
 use mlb_base::NoMemory;
 use std::alloc::Global;
 
@@ -22,7 +22,7 @@ fn was_made(step: Result<(), StepFault>) -> Result<bool, StepFault> {
 }
 
 /// Whether an event was taken, where all are.
-fn take_all(world: &mut World, group: Group) -> Result<bool, StepFault> {
+fn take_all(world: &mut World, group: ListGroup) -> Result<bool, StepFault> {
     let mut some = false;
     for _ in 0..MOST_STEPS {
         if !was_made(world.step(Step::Take { group }))? {
@@ -49,8 +49,8 @@ fn turn_all(world: &mut World) -> Result<bool, StepFault> {
 /// Events are taken and turns are made until nothing is left.
 fn finish(world: &mut World) -> Result<(), StepFault> {
     for _ in 0..MOST_STEPS {
-        let config = take_all(world, Group::Config)?;
-        let service = take_all(world, Group::Service)?;
+        let config = take_all(world, ListGroup::Config)?;
+        let service = take_all(world, ListGroup::Service)?;
         let turned = turn_all(world)?;
         if !config && !service && !turned {
             return Ok(());

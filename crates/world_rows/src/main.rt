@@ -15,39 +15,15 @@ mod judged;
 mod steps;
 mod stored;
 
+use answer_lines::answer_lines;
 use case::Case;
-use mlb_base::NoMemory;
-use std::alloc::Global;
-use std::io::Input;
-use std::{io, mem};
-
-fn written(alloc: Global, case: &mut Case, line: &str) -> Result<String, NoMemory> {
-    if line.as_bytes().starts_with(b"#") {
-        drop(mem::replace(case, Case::new(alloc)));
-        return Ok(format!(in alloc; "{line}\n")?);
-    }
-    case.take(line)
-}
-
-fn take_line(rt: &impl Print, alloc: Global, case: &mut Case, line: &str) -> io::Result<()> {
-    match written(alloc, case, line) {
-        Ok(text) => print!(rt; "{text}"),
-        Err(_) => println!(rt; "out of memory"),
-    }
-}
+use std::io;
 
 /// The case is dropped in one place: each way out of a function that holds one would drop it anew.
-fn take_lines(rt: &(impl Print + Input), alloc: Global, case: &mut Case) -> io::Result<()> {
-    for line in rt.lines(alloc) {
-        take_line(rt, alloc, case, line?.as_str())?;
-    }
-    Ok(())
-}
-
 fn main(rt: HostRuntime) -> io::Result<()> {
     let alloc = rt.alloc();
     let mut case = Case::new(alloc);
-    let outcome = take_lines(&rt, alloc, &mut case);
+    let outcome = answer_lines(&rt, alloc, &mut case);
     drop(case);
     outcome
 }

@@ -3,7 +3,7 @@
 use ctl_world::{Edit, ListOrder, Outcome, StartFault, Step, StepFault, World};
 use kube_events::read_event;
 use kube_labels::Text;
-use kube_model::{Event, EventFault, Group, Object};
+use kube_model::{Event, EventFault, ListGroup, Object};
 use mlb_base::{NoMemory, Sequence};
 use std::alloc::Global;
 
@@ -34,7 +34,13 @@ fn edit_of(event: Event) -> Option<Edit> {
 }
 
 fn reset_of(event: Event) -> Option<Edit> {
-    object_of(event).map(|object| Edit::Reset { object })
+    match edit_of(event) {
+        Some(Edit::Set { object }) => Some(Edit::Reset { object }),
+        other => {
+            drop(other);
+            None
+        }
+    }
 }
 
 /// The edit that the line shows: an event line behind `reset ` sets its object with its own record.
@@ -46,11 +52,11 @@ fn edit_step(alloc: Global, line: &str) -> Result<Option<Step>, NoMemory> {
     Ok(edit.map(|edit| Step::Edit { edit }))
 }
 
-fn group_of(word: &str) -> Option<Group> {
+fn group_of(word: &str) -> Option<ListGroup> {
     match word {
-        "config" => Some(Group::Config),
-        "service" => Some(Group::Service),
-        "endpoint" => Some(Group::Endpoint),
+        "config" => Some(ListGroup::Config),
+        "service" => Some(ListGroup::Service),
+        "endpoint" => Some(ListGroup::Endpoint),
         _ => None,
     }
 }
@@ -100,20 +106,13 @@ fn step_of(alloc: Global, line: &str, order: ListOrder) -> Result<Option<Step>, 
     }
 }
 
-fn object_of(event: Event) -> Option<Object> {
-    match event {
-        Event::Changed { object, .. } => Some(object),
+fn read_object(alloc: Global, line: &Text, objects: &mut Sequence<Object>) -> Result<(), NoMemory> {
+    match event_of(alloc, line.as_str())? {
+        Some(Event::Changed { object, .. }) => objects.push(object),
         other => {
             drop(other);
-            None
+            Ok(())
         }
-    }
-}
-
-fn read_object(alloc: Global, line: &Text, objects: &mut Sequence<Object>) -> Result<(), NoMemory> {
-    match event_of(alloc, line.as_str())?.and_then(object_of) {
-        None => Ok(()),
-        Some(object) => objects.push(object),
     }
 }
 

@@ -1,5 +1,6 @@
 //! What is stored and held, as lines.
 
+use answer_lines::push_item;
 use ctl_core::Core;
 use ctl_world::{Store, World};
 use ip_ranges::{Address, print_address};
@@ -15,11 +16,7 @@ fn addresses(alloc: Global, addresses: &[Address]) -> Result<String, NoMemory> {
     }
     let mut text = String::new(alloc);
     for address in addresses {
-        if !text.is_empty() {
-            text.push(',')?;
-        }
-        let printed = print_address(alloc, address)?;
-        text.push_str(printed.as_str())?;
+        push_item(&mut text, print_address(alloc, address)?.as_str())?;
     }
     Ok(text)
 }

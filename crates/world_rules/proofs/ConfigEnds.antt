@@ -1,9 +1,10 @@
 -- The end of the list of the configuration is pending once, until it is taken.
 use Rattle.std.proofs.Common.{◌≡◌, ◌≢◌, Bool, true, false, cond, List, [], ◌∷◌, ◌++◌, map, filter, is_some, inl, inr, refl, sym, subst}
+use Rattle.mlb_base.proofs.Lists.{all-append}
 use Rattle.kube_model.specs.declared.event.Event.{Event}
 use Rattle.kube_model.specs.declared.event.Event.TheVariants.{Changed, Deleted, ListEnd, Expired, Members, Frame, Ignored}
-use Rattle.kube_model.specs.declared.event.Group.{Group}
-use Rattle.kube_model.specs.declared.event.Group.TheVariants as groups
+use Rattle.kube_model.specs.declared.event.ListGroup.{ListGroup}
+use Rattle.kube_model.specs.declared.event.ListGroup.TheVariants as groups
 use Rattle.kube_model.specs.declared.object.Kind.TheVariants as kinds
 use Rattle.kube_model.specs.declared.object.Object.TheVariants as objects
 use Rattle.object_history.specs.Cache.{ended_after_event}
@@ -18,7 +19,7 @@ use Rattle.core_rules.specs.Take.{core_take}
 use Rattle.world_rules.specs.Good.{IsOfGroup, ends_config, NoneEnds, OneEnds, ConfigEnds}
 use Rattle.world_rules.specs.declared.step.ListOrder.{ListOrder}
 use Rattle.world_rules.specs.World.{as_shown, is_of_group, in_order, listing, shown_edit, to_lane}
-use Rattle.world_rules.proofs.Lanes.{all-append, all-ordered}
+use Rattle.world_rules.proofs.Lanes.{all-ordered}
 
 -- ---- more events
 one-append : (lane more : List Event) → OneEnds lane → NoneEnds more → OneEnds (lane ++ more)
@@ -44,7 +45,7 @@ none-edit (Delete kind key) store = none-gone (is_some (stored_at store.objects 
     none-gone false = tt
 
 -- an edit shows no end
-pub ends-edited : (ended : Bool) (lane : List Event) (group : Group) (edit : Edit) (store : StoreValue) → ConfigEnds ended lane
+pub ends-edited : (ended : Bool) (lane : List Event) (group : ListGroup) (edit : Edit) (store : StoreValue) → ConfigEnds ended lane
     → ConfigEnds ended (lane ++ to_lane groups.Config group (shown_edit edit store))
 ends-edited ended lane group edit store ends =
     ends-append ended lane (to_lane groups.Config group (shown_edit edit store)) ends

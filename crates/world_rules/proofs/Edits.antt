@@ -3,8 +3,9 @@ use Rattle.std.proofs.Common.{◌≡◌, ℕ, ◌+◌, Bool, true, false, cond, 
 use Rattle.std.proofs.Common.{option_map, is_some, is_eq, IfSome, refl, sym, ap, subst, ◌∙◌, append-nil}
 use Rattle.std.proofs.lemmas.Bool.{true≢false}
 use Rattle.std.specs.List.{AllByRecursion}
+use Rattle.mlb_base.proofs.Lists.{all-append}
 use Rattle.kube_model.specs.declared.event.Event.TheVariants.{Changed, Deleted}
-use Rattle.kube_model.specs.declared.event.Group.TheVariants as groups
+use Rattle.kube_model.specs.declared.event.ListGroup.TheVariants as groups
 use Rattle.kube_model.specs.declared.key.Key.{Key}
 use Rattle.kube_model.specs.declared.object.Kind.{Kind}
 use Rattle.kube_model.specs.declared.object.Kind.TheVariants as kinds
@@ -34,7 +35,7 @@ use Rattle.world_rules.specs.World.{WorldValue, as_shown, shown_edit, while_up, 
 use Rattle.world_rules.specs.Good.{stored_as, stored_of, held_of, notices_in, IsTrackedIn, IsOfGroup, IsFollowed, IsGood}
 use Rattle.world_rules.proofs.Following.{at_next, stays-bare}
 use Rattle.world_rules.proofs.Tracking.{tracked-other, tracked-set, tracked-create, tracked-delete}
-use Rattle.world_rules.proofs.Lanes.{all-append, all-either, notices_in-push, tracked-as, of-lane, here-same}
+use Rattle.world_rules.proofs.Lanes.{all-either, notices_in-push, tracked-as, of-lane, here-same}
 use Rattle.world_rules.proofs.Storing.{set_store, good-set_store, good-delete}
 
 -- ---- a service is set or deleted, this one or another

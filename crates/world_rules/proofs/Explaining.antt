@@ -3,8 +3,8 @@ use Rattle.std.proofs.Common.{◌≡◌, ℕ, true, List, [], ◌∷◌, ◌++�
 use Rattle.std.specs.List.{AllByRecursion}
 use Rattle.kube_model.specs.declared.event.Event.{Event}
 use Rattle.kube_model.specs.declared.event.Event.TheVariants.{Changed, Deleted, ListEnd, Expired as WatchesExpired, Members, Frame, Ignored}
-use Rattle.kube_model.specs.declared.event.Group.{Group}
-use Rattle.kube_model.specs.declared.event.Group.TheVariants as groups
+use Rattle.kube_model.specs.declared.event.ListGroup.{ListGroup}
+use Rattle.kube_model.specs.declared.event.ListGroup.TheVariants as groups
 use Rattle.kube_model.specs.declared.key.Key.{Key}
 use Rattle.kube_model.specs.declared.object.Kind.{Kind}
 use Rattle.kube_model.specs.declared.object.Kind.TheVariants as kinds
@@ -20,7 +20,7 @@ use Rattle.core_rules.specs.Core.{State}
 use Rattle.core_rules.specs.Take.{core_take, core_expired}
 use Rattle.core_rules.specs.Turn.{core_turn, after_turn, put_in, rest_of}
 use Rattle.core_rules.specs.Replied.{core_reply}
-use Rattle.core_rules.specs.Run.{Entry, Took, Expired, Turned, Heard, core_after, put_out, MayEnter, IsRun}
+use Rattle.core_rules.specs.Run.{TranscriptEntry, Took, Expired, Turned, Heard, core_after, put_out, MayEnter, IsRun}
 use Rattle.core_rules.proofs.Runs.{core_holds_what_was_observed, took-out, heard-out}
 use Rattle.core_laws.proofs.Expired.{expired_is_both}
 use Rattle.core_laws.proofs.Puts.{idle-queue}
@@ -36,12 +36,12 @@ use Rattle.world_rules.specs.Safe.{IsSafe}
 use Rattle.world_rules.specs.World.{WorldValue, told, turned, after_turning}
 
 -- ---- the same run, without what is passed over
-abbrev normal_shown : Group → Event → List Entry
+abbrev normal_shown : ListGroup → Event → List TranscriptEntry
 normal_shown groups.Config event = Took event ∷ []
 normal_shown groups.Service event = Took event ∷ []
 normal_shown groups.Endpoint event = []
 
-abbrev normal_event : Event → List Entry
+abbrev normal_event : Event → List TranscriptEntry
 normal_event (Changed version object) = normal_shown (group_of (kind_of object)) (Changed version object)
 normal_event (Deleted kind key) = normal_shown (group_of kind) (Deleted kind key)
 normal_event (ListEnd group) = normal_shown group (ListEnd group)
@@ -50,34 +50,35 @@ normal_event (Members names) = []
 normal_event (Frame interface bytes) = []
 normal_event Ignored = []
 
-abbrev normal_turn : Turn → List Entry
+abbrev normal_turn : Turn → List TranscriptEntry
 normal_turn Idle = []
 normal_turn (NoPut key pending) = Turned (NoPut key pending) ∷ []
 normal_turn (Wants put pending) = Turned (Wants put pending) ∷ []
 
-abbrev normal_entry : Entry → List Entry
+abbrev normal_entry : TranscriptEntry → List TranscriptEntry
 normal_entry (Took event) = normal_event event
 normal_entry (Expired group) = Expired group ∷ []
 normal_entry (Turned turn) = normal_turn turn
 normal_entry (Heard reply) = Heard reply ∷ []
 
-abbrev normal : List Entry → List Entry
+abbrev normal : List TranscriptEntry → List TranscriptEntry
 normal [] = []
 normal (entry ∷ earlier) = normal_entry entry ++ normal earlier
 
 -- what an entry of it is
-abbrev act_of : Entry → Act
+abbrev act_of : TranscriptEntry → Act
 act_of (Took event) = Shown event
 act_of (Expired group) = ListExpired group
 act_of (Turned turn) = Decided
 act_of (Heard reply) = Answered reply
 
-shown-acts : (group : Group) (event : Event) (more : List Entry) → map act_of (normal_shown group event ++ more) ≡ shown_of group event ++ map act_of more
+shown-acts : (group : ListGroup) (event : Event) (more : List TranscriptEntry)
+    → map act_of (normal_shown group event ++ more) ≡ shown_of group event ++ map act_of more
 shown-acts groups.Config event more = refl
 shown-acts groups.Service event more = refl
 shown-acts groups.Endpoint event more = refl
 
-event-acts : (event : Event) (more : List Entry) → map act_of (normal_event event ++ more) ≡ acts_of_event event ++ map act_of more
+event-acts : (event : Event) (more : List TranscriptEntry) → map act_of (normal_event event ++ more) ≡ acts_of_event event ++ map act_of more
 event-acts (Changed version object) more = shown-acts (group_of (kind_of object)) (Changed version object) more
 event-acts (Deleted kind key) more = shown-acts (group_of kind) (Deleted kind key) more
 event-acts (ListEnd group) more = shown-acts group (ListEnd group) more
@@ -86,28 +87,28 @@ event-acts (Members names) more = refl
 event-acts (Frame interface bytes) more = refl
 event-acts Ignored more = refl
 
-turn-acts : (turn : Turn) (more : List Entry) → map act_of (normal_turn turn ++ more) ≡ acts_of_turn turn ++ map act_of more
+turn-acts : (turn : Turn) (more : List TranscriptEntry) → map act_of (normal_turn turn ++ more) ≡ acts_of_turn turn ++ map act_of more
 turn-acts Idle more = refl
 turn-acts (NoPut key pending) more = refl
 turn-acts (Wants put pending) more = refl
 
-entry-acts : (entry : Entry) (more : List Entry) → map act_of (normal_entry entry ++ more) ≡ acts_of_entry entry ++ map act_of more
+entry-acts : (entry : TranscriptEntry) (more : List TranscriptEntry) → map act_of (normal_entry entry ++ more) ≡ acts_of_entry entry ++ map act_of more
 entry-acts (Took event) more = event-acts event more
 entry-acts (Expired group) more = refl
 entry-acts (Turned turn) more = turn-acts turn more
 entry-acts (Heard reply) more = refl
 
-acts-normal : (run : List Entry) → map act_of (normal run) ≡ acts_of run
+acts-normal : (run : List TranscriptEntry) → map act_of (normal run) ≡ acts_of run
 acts-normal [] = refl
 acts-normal (entry ∷ earlier) = entry-acts entry (normal earlier) ∙ ap (λ (acts : List Act). acts_of_entry entry ++ acts) (acts-normal earlier)
 
 -- its puts are the same
-shown-puts : (group : Group) (event : Event) (more : List Entry) → puts_of (normal_shown group event ++ more) ≡ puts_of more
+shown-puts : (group : ListGroup) (event : Event) (more : List TranscriptEntry) → puts_of (normal_shown group event ++ more) ≡ puts_of more
 shown-puts groups.Config event more = refl
 shown-puts groups.Service event more = refl
 shown-puts groups.Endpoint event more = refl
 
-event-puts : (event : Event) (more : List Entry) → puts_of (normal_event event ++ more) ≡ puts_of more
+event-puts : (event : Event) (more : List TranscriptEntry) → puts_of (normal_event event ++ more) ≡ puts_of more
 event-puts (Changed version object) more = shown-puts (group_of (kind_of object)) (Changed version object) more
 event-puts (Deleted kind key) more = shown-puts (group_of kind) (Deleted kind key) more
 event-puts (ListEnd group) more = shown-puts group (ListEnd group) more
@@ -116,7 +117,7 @@ event-puts (Members names) more = refl
 event-puts (Frame interface bytes) more = refl
 event-puts Ignored more = refl
 
-entry-puts : (entry : Entry) (more : List Entry) → puts_of (normal_entry entry ++ more) ≡ puts_of_entry entry ++ puts_of more
+entry-puts : (entry : TranscriptEntry) (more : List TranscriptEntry) → puts_of (normal_entry entry ++ more) ≡ puts_of_entry entry ++ puts_of more
 entry-puts (Took event) more = event-puts event more
 entry-puts (Expired group) more = refl
 entry-puts (Turned Idle) more = refl
@@ -124,7 +125,7 @@ entry-puts (Turned (NoPut key pending)) more = refl
 entry-puts (Turned (Wants put pending)) more = refl
 entry-puts (Heard reply) more = refl
 
-puts-normal : (run : List Entry) → puts_of (normal run) ≡ puts_of run
+puts-normal : (run : List TranscriptEntry) → puts_of (normal run) ≡ puts_of run
 puts-normal [] = refl
 puts-normal (entry ∷ earlier) = entry-puts entry (normal earlier) ∙ ap (λ (puts : List Put). puts_of_entry entry ++ puts) (puts-normal earlier)
 
@@ -140,10 +141,10 @@ idle-same s none idle =
 
 module _ (class : Option (List ℕ)) where
   -- a run, and the core behind it
-  abbrev LeadsTo : List Entry → State → Type 0
+  abbrev LeadsTo : List TranscriptEntry → State → Type 0
   LeadsTo run s = IsRun class run × (core_after class run ≡ s)
 
-  object-leads : (version : ℕ) (object : Object) (n : List Entry) → IsRun class n → (core_after class n).out ≡ None
+  object-leads : (version : ℕ) (object : Object) (n : List TranscriptEntry) → IsRun class n → (core_after class n).out ≡ None
       → LeadsTo (normal_event (Changed version object) ++ n) (core_take (core_after class n) (Changed version object))
   object-leads version (objects.Service service) n is none = ((none, is), refl)
   object-leads version (objects.Pool pool) n is none = ((none, is), refl)
@@ -155,7 +156,7 @@ module _ (class : Option (List ℕ)) where
   object-leads version (objects.Node node) n is none = ((none, is), refl)
   object-leads version (objects.Slice slice) n is none = (is, refl)
 
-  deletion-leads : (kind : Kind) (key : Key) (n : List Entry) → IsRun class n → (core_after class n).out ≡ None
+  deletion-leads : (kind : Kind) (key : Key) (n : List TranscriptEntry) → IsRun class n → (core_after class n).out ≡ None
       → LeadsTo (normal_event (Deleted kind key) ++ n) (core_take (core_after class n) (Deleted kind key))
   deletion-leads kinds.Service key n is none = ((none, is), refl)
   deletion-leads kinds.Pool key n is none = ((none, is), refl)
@@ -167,7 +168,7 @@ module _ (class : Option (List ℕ)) where
   deletion-leads kinds.Node key n is none = ((none, is), refl)
   deletion-leads kinds.Slice key n is none = (is, refl)
 
-  event-leads : (event : Event) (n : List Entry) → IsRun class n → (core_after class n).out ≡ None
+  event-leads : (event : Event) (n : List TranscriptEntry) → IsRun class n → (core_after class n).out ≡ None
       → LeadsTo (normal_event event ++ n) (core_take (core_after class n) event)
   event-leads (Changed version object) n is none = object-leads version object n is none
   event-leads (Deleted kind key) n is none = deletion-leads kind key n is none
@@ -179,13 +180,13 @@ module _ (class : Option (List ℕ)) where
   event-leads (Frame interface bytes) n is none = (is, refl)
   event-leads Ignored n is none = (is, refl)
 
-  turn-leads : (turn : Turn) (n : List Entry) → IsRun class n → (core_after class n).out ≡ None → turn ≡ core_turn (core_after class n)
+  turn-leads : (turn : Turn) (n : List TranscriptEntry) → IsRun class n → (core_after class n).out ≡ None → turn ≡ core_turn (core_after class n)
       → LeadsTo (normal_turn turn ++ n) (after_turn (core_after class n))
   turn-leads Idle n is none e = (is, sym (idle-same (core_after class n) none e))
   turn-leads (NoPut key pending) n is none e = (((none, e), is), refl)
   turn-leads (Wants put pending) n is none e = (((none, e), is), refl)
 
-  normal-leads : (run : List Entry) → IsRun class run → LeadsTo (normal run) (core_after class run)
+  normal-leads : (run : List TranscriptEntry) → IsRun class run → LeadsTo (normal run) (core_after class run)
   normal-leads [] is = (tt, refl)
   normal-leads (Took event ∷ earlier) is =
       let ih = normal-leads earlier is.1 in
@@ -203,7 +204,7 @@ module _ (class : Option (List ℕ)) where
       ((ap (λ (s : State). is_some s.out) ih.1 ∙ is.0, ih.0), ap (λ (s : State). core_reply s reply) ih.1)
 
   -- ---- what happens decides the run
-  same-entry : (x y : Entry) (s : State) → MayEnter x s → MayEnter y s → act_of x ≡ act_of y → x ≡ y
+  same-entry : (x y : TranscriptEntry) (s : State) → MayEnter x s → MayEnter y s → act_of x ≡ act_of y → x ≡ y
   same-entry (Took event) (Took other) s p q e = let same : event ≡ other = cc in ap Took same
   same-entry (Took event) (Expired group) s p q e = absurd (cc)
   same-entry (Took event) (Turned turn) s p q e = absurd (cc)
@@ -221,7 +222,7 @@ module _ (class : Option (List ℕ)) where
   same-entry (Heard reply) (Turned turn) s p q e = absurd (cc)
   same-entry (Heard reply) (Heard other) s p q e = let same : reply ≡ other = cc in ap Heard same
 
-  same-runs : (n m : List Entry) → IsRun class n → IsRun class m → map act_of n ≡ map act_of m → n ≡ m
+  same-runs : (n m : List TranscriptEntry) → IsRun class n → IsRun class m → map act_of n ≡ map act_of m → n ≡ m
   same-runs [] [] p q e = refl
   same-runs [] (y ∷ m) p q e = absurd (cc)
   same-runs (x ∷ n) [] p q e = absurd (cc)
@@ -229,25 +230,26 @@ module _ (class : Option (List ℕ)) where
       let tails : map act_of n ≡ map act_of m = cc in
       let heads : act_of x ≡ act_of y = cc in
       let rest : n ≡ m = same-runs n m p.1 q.1 tails in
-      let may : MayEnter x (core_after class m) = subst (λ (r : List Entry). MayEnter x (core_after class r)) rest p.0 in
+      let may : MayEnter x (core_after class m) = subst (λ (r : List TranscriptEntry). MayEnter x (core_after class r)) rest p.0 in
       let first : x ≡ y = same-entry x y (core_after class m) may q.0 heads in
-      ap (λ (z : Entry). z ∷ n) first ∙ ap (λ (r : List Entry). y ∷ r) rest
+      ap (λ (z : TranscriptEntry). z ∷ n) first ∙ ap (λ (r : List TranscriptEntry). y ∷ r) rest
 
   -- ---- the run of a world's core
-  pub record GoesThrough (w : WorldValue) (run : List Entry) : Type 0 where
+  pub record GoesThrough (w : WorldValue) (run : List TranscriptEntry) : Type 0 where
     pub class_is : w.class ≡ class
     pub is : IsRun class run
     pub core : w.core ≡ Some (core_after class run)
     pub none : (core_after class run).out ≡ None
 
-  taken-through : (lane : List Event) (run : List Entry) → IsRun class run → (core_after class run).out ≡ None
+  taken-through : (lane : List Event) (run : List TranscriptEntry) → IsRun class run → (core_after class run).out ≡ None
       → IsRun class (entries_taken (Some (core_after class run)) lane ++ run)
       × (told (Some (core_after class run)) lane ≡ Some (core_after class (entries_taken (Some (core_after class run)) lane ++ run)))
       × ((core_after class (entries_taken (Some (core_after class run)) lane ++ run)).out ≡ None)
   taken-through [] run is none = (is, refl, none)
   taken-through (event ∷ more) run is none = ((none, is), refl, took-out (core_after class run) event ∙ none)
 
-  put-through : (p : Option Put) (outcome : Outcome) (w : WorldValue) (run : List Entry) → p ≡ put_in (core_turn (core_after class run)) → GoesThrough w run
+  put-through : (p : Option Put) (outcome : Outcome) (w : WorldValue) (run : List TranscriptEntry) → p ≡ put_in (core_turn (core_after class run))
+      → GoesThrough w run
       → GoesThrough (turned (after_turn (core_after class run)) p outcome w)
       ((entries_put p outcome w.store ++ Turned (core_turn (core_after class run)) ∷ []) ++ run)
   put-through None outcome w run e g = record { class_is = g.class_is; is = ((g.none, refl), g.is); core = refl; none = sym e }
@@ -261,7 +263,7 @@ module _ (class : Option (List ℕ)) where
         none = heard-out (after_turn s).out (reply_to put outcome w.store) (after_turn s) out;
       }
 
-  move-through : (move : Move) (w : WorldValue) (run : List Entry) → IsRunning move → GoesThrough w run
+  move-through : (move : Move) (w : WorldValue) (run : List TranscriptEntry) → IsRunning move → GoesThrough w run
       → GoesThrough (after_move move w) (entries_of move w ++ run)
   move-through (Sets object holding) w run r g = record { class_is = g.class_is; is = g.is; core = g.core; none = g.none }
   move-through (Deletes kind key) w run r g = record { class_is = g.class_is; is = g.is; core = g.core; none = g.none }
@@ -282,13 +284,13 @@ module _ (class : Option (List ℕ)) where
       record { class_is = g.class_is; is = rw g.core (g.none, g.is); core = rw g.core refl; none = rw g.core g.none }
   move-through (EndsLater before event behind) w run r g = record { class_is = g.class_is; is = g.is; core = g.core; none = g.none }
 
-  moves-through : (moves : List Move) (w : WorldValue) (run : List Entry) → AllByRecursion IsRunning moves → GoesThrough w run
+  moves-through : (moves : List Move) (w : WorldValue) (run : List TranscriptEntry) → AllByRecursion IsRunning moves → GoesThrough w run
       → GoesThrough (after_moves moves w) (run_along moves w run)
   moves-through [] w run all g = g
   moves-through (move ∷ moves) w run all g = moves-through moves (after_move move w) (entries_of move w ++ run) all.1 (move-through move w run all.0 g)
 
   -- ---- a world that explains a run
-  answered-run : (run : List Entry) → IsRun class run → IsRun class (answered run)
+  answered-run : (run : List TranscriptEntry) → IsRun class run → IsRun class (answered run)
   answered-run [] is = is
   answered-run (Took event ∷ earlier) is = is
   answered-run (Expired group ∷ earlier) is = is
@@ -297,11 +299,11 @@ module _ (class : Option (List ℕ)) where
   answered-run (Turned (Wants put pending) ∷ earlier) is = is.1
   answered-run (Heard reply ∷ earlier) is = is
 
-  none-out : (run : List Entry) → IsRun class run → (core_after class run).out ≡ None → put_out run ≡ None
+  none-out : (run : List TranscriptEntry) → IsRun class run → (core_after class run).out ≡ None → put_out run ≡ None
   none-out run is none = sym (core_holds_what_was_observed class run is).1 ∙ none
 
   -- no put is out
-  quiescent : (w : WorldValue) (along run : List Entry) → w.core ≡ Some (core_after class run) → puts_of along ≡ puts_of run → answered run ≡ run
+  quiescent : (w : WorldValue) (along run : List TranscriptEntry) → w.core ≡ Some (core_after class run) → puts_of along ≡ puts_of run → answered run ≡ run
       → IsSafe w.store → put_out run ≡ None
       → IsExplained class w along run
   quiescent w along run core puts same safe none =
@@ -319,7 +321,8 @@ module _ (class : Option (List ℕ)) where
   turned-store c s put outcome w up wants = rw (up, wants) refl
 
   -- a put is out
-  about-put : (w : WorldValue) (along earlier : List Entry) (put : Put) → w.core ≡ Some (core_after class earlier) → puts_of along ≡ puts_of earlier → IsGood w
+  about-put : (w : WorldValue) (along earlier : List TranscriptEntry) (put : Put) → w.core ≡ Some (core_after class earlier) → puts_of along ≡ puts_of earlier
+      → IsGood w
       → (turn : Turn) → turn ≡ core_turn (core_after class earlier) → put_in turn ≡ Some put → answered (Turned turn ∷ earlier) ≡ earlier
       → IsExplained class w along (Turned turn ∷ earlier)
   about-put w along earlier put core puts good turn is wants same =
@@ -333,7 +336,7 @@ module _ (class : Option (List ℕ)) where
         last = λ other out outcome. subst IsSafe (turned-store w.core s other outcome w core (turns other out)) (good-turn outcome w good).stored.safe;
       }
 
-  explains : (w : WorldValue) (along run : List Entry) → IsRun class run → w.core ≡ Some (core_after class (answered run))
+  explains : (w : WorldValue) (along run : List TranscriptEntry) → IsRun class run → w.core ≡ Some (core_after class (answered run))
       → puts_of along ≡ puts_of (answered run) → IsGood w
       → IsExplained class w along run
   explains w along [] is core puts good = quiescent w along [] core puts refl good.stored.safe refl
@@ -348,7 +351,7 @@ module _ (class : Option (List ℕ)) where
   explains w along (Heard reply ∷ earlier) is core puts good = quiescent w along (Heard reply ∷ earlier) core puts refl good.stored.safe refl
 
 -- ---- what was shown had terms, and has them without what is passed over
-terms-event : (event : Event) (more : List Entry) → AllShowTerms (Took event ∷ more) → AllShowTerms (normal_event event ++ more)
+terms-event : (event : Event) (more : List TranscriptEntry) → AllShowTerms (Took event ∷ more) → AllShowTerms (normal_event event ++ more)
 terms-event (Changed version (objects.Service service)) more all = all
 terms-event (Changed version (objects.Pool pool)) more all = all
 terms-event (Changed version (objects.L2 adv)) more all = all
@@ -375,7 +378,7 @@ terms-event (Members names) more all = all.1
 terms-event (Frame interface bytes) more all = all.1
 terms-event Ignored more all = all.1
 
-event-terms : (event : Event) (more : List Entry) → AllShowTerms (normal_event event ++ more) → AllShowTerms (Took event ∷ more)
+event-terms : (event : Event) (more : List TranscriptEntry) → AllShowTerms (normal_event event ++ more) → AllShowTerms (Took event ∷ more)
 event-terms (Changed version (objects.Service service)) more all = all
 event-terms (Changed version (objects.Pool pool)) more all = all
 event-terms (Changed version (objects.L2 adv)) more all = all
@@ -402,7 +405,7 @@ event-terms (Members names) more all = (tt, all)
 event-terms (Frame interface bytes) more all = (tt, all)
 event-terms Ignored more all = (tt, all)
 
-terms-normal : (run : List Entry) → AllShowTerms run → AllShowTerms (normal run)
+terms-normal : (run : List TranscriptEntry) → AllShowTerms run → AllShowTerms (normal run)
 terms-normal [] all = tt
 terms-normal (Took event ∷ earlier) all = terms-event event (normal earlier) (all.0, terms-normal earlier all.1)
 terms-normal (Expired group ∷ earlier) all = (tt, terms-normal earlier all.1)
@@ -411,7 +414,7 @@ terms-normal (Turned (NoPut key pending) ∷ earlier) all = (tt, terms-normal ea
 terms-normal (Turned (Wants put pending) ∷ earlier) all = (tt, terms-normal earlier all.1)
 terms-normal (Heard reply ∷ earlier) all = (tt, terms-normal earlier all.1)
 
-normal-terms : (run : List Entry) → AllShowTerms (normal run) → AllShowTerms run
+normal-terms : (run : List TranscriptEntry) → AllShowTerms (normal run) → AllShowTerms run
 normal-terms [] all = tt
 normal-terms (Took event ∷ earlier) all =
     let here = event-terms event (normal earlier) all in
@@ -422,7 +425,7 @@ normal-terms (Turned (NoPut key pending) ∷ earlier) all = (tt, normal-terms ea
 normal-terms (Turned (Wants put pending) ∷ earlier) all = (tt, normal-terms earlier all.1)
 normal-terms (Heard reply ∷ earlier) all = (tt, normal-terms earlier all.1)
 
-terms-answered : (run : List Entry) → AllShowTerms run → AllShowTerms (answered run)
+terms-answered : (run : List TranscriptEntry) → AllShowTerms run → AllShowTerms (answered run)
 terms-answered [] all = all
 terms-answered (Took event ∷ earlier) all = all
 terms-answered (Expired group ∷ earlier) all = all

@@ -4,10 +4,11 @@ use Rattle.std.proofs.Common.{option_map, is_eq, Less, ◌⊎◌, inl, inr, refl
 use Rattle.std.proofs.lemmas.Grind.{reverse_onto}
 use Rattle.std.specs.List.{AllByRecursion}
 use Rattle.std.specs.List.Sorted.{IsStrictlySortedBy}
+use Rattle.mlb_base.proofs.Lists.{all-append}
 use Rattle.kube_model.specs.declared.event.Event.{Event}
 use Rattle.kube_model.specs.declared.event.Event.TheVariants.{ListEnd}
-use Rattle.kube_model.specs.declared.event.Group.{Group}
-use Rattle.kube_model.specs.declared.event.Group.TheVariants as groups
+use Rattle.kube_model.specs.declared.event.ListGroup.{ListGroup}
+use Rattle.kube_model.specs.declared.event.ListGroup.TheVariants as groups
 use Rattle.kube_model.specs.declared.key.Key.{Key}
 use Rattle.kube_model.specs.declared.object.Object.{Object}
 use Rattle.kube_model.specs.declared.object.Object.TheVariants as objects
@@ -30,19 +31,6 @@ use Rattle.world_rules.specs.declared.step.ListOrder.TheVariants.{Ascending, Des
 use Rattle.world_rules.specs.World.{as_shown, is_of_group, in_order, listing, to_lane}
 use Rattle.world_rules.specs.Good.{stored_as, stored_of, notices_of, notices_in, IsOfGroup, ShowsTerms}
 use Rattle.world_rules.proofs.Tracking.{listed_notices}
-
--- what holds of all of two lists holds of all of both together
-pub all-append : {X : Type 0} (P : X → Type 0) (xs ys : List X) → AllByRecursion P xs → AllByRecursion P ys → AllByRecursion P (xs ++ ys)
-all-append P [] ys all more = more
-all-append P (x ∷ xs) ys all more = (all.0, all-append P xs ys all.1 more)
-
-pub all-first : {X : Type 0} (P : X → Type 0) (xs ys : List X) → AllByRecursion P (xs ++ ys) → AllByRecursion P xs
-all-first P [] ys all = tt
-all-first P (x ∷ xs) ys all = (all.0, all-first P xs ys all.1)
-
-pub all-behind : {X : Type 0} (P : X → Type 0) (xs ys : List X) → AllByRecursion P (xs ++ ys) → AllByRecursion P ys
-all-behind P [] ys all = all
-all-behind P (x ∷ xs) ys all = all-behind P xs ys all.1
 
 -- one list or the other
 pub all-either : {X : Type 0} (b : Bool) (P : X → Type 0) (xs ys : List X) → AllByRecursion P xs → AllByRecursion P ys → AllByRecursion P (cond b xs ys)
@@ -165,16 +153,16 @@ pub all-ordered : (P : Event → Type 0) (order : ListOrder) (events : List Even
 all-ordered P order events all = all-any P events (in_order order events) (any-ordered order events) all
 
 -- ---- whose list it is of
-of_by : (b : Bool) (group : Group) (held : Stored) (rest : List Stored) → b ≡ is_of_group group held
+of_by : (b : Bool) (group : ListGroup) (held : Stored) (rest : List Stored) → b ≡ is_of_group group held
     → AllByRecursion (IsOfGroup group) (map as_shown rest) → AllByRecursion (IsOfGroup group) (map as_shown (cond b (held ∷ rest) rest))
 of_by true group held rest e all = (same_group-is (group_of (kind_of held.object)) group (sym e), all)
 of_by false group held rest e all = all
 
-of-each : (group : Group) (held : List Stored) → AllByRecursion (IsOfGroup group) (map as_shown (filter (is_of_group group) held))
+of-each : (group : ListGroup) (held : List Stored) → AllByRecursion (IsOfGroup group) (map as_shown (filter (is_of_group group) held))
 of-each group [] = tt
 of-each group (held ∷ more) = of_by (is_of_group group held) group held (filter (is_of_group group) more) refl (of-each group more)
 
-pub of-listing : (order : ListOrder) (group : Group) (store : StoreValue) → AllByRecursion (IsOfGroup group) (listing order group store)
+pub of-listing : (order : ListOrder) (group : ListGroup) (store : StoreValue) → AllByRecursion (IsOfGroup group) (listing order group store)
 of-listing order group store =
     let shown = map as_shown (filter (is_of_group group) store.objects) in
     all-append (IsOfGroup group) (in_order order shown) (ListEnd group ∷ []) (all-ordered (IsOfGroup group) order shown (of-each group store.objects))
@@ -185,27 +173,28 @@ typed_by : (b : Bool) (held : Stored) (rest : List Stored) → HasTerms held.obj
 typed_by true held rest t all = (t, all)
 typed_by false held rest t all = all
 
-typed-each : (group : Group) (held : List Stored) → AllByRecursion (λ (x : Stored). HasTerms x.object) held
+typed-each : (group : ListGroup) (held : List Stored) → AllByRecursion (λ (x : Stored). HasTerms x.object) held
     → AllByRecursion ShowsTerms (map as_shown (filter (is_of_group group) held))
 typed-each group [] all = tt
 typed-each group (held ∷ more) all = typed_by (is_of_group group held) held (filter (is_of_group group) more) all.0 (typed-each group more all.1)
 
-pub typed-listing : (order : ListOrder) (group : Group) (store : StoreValue) → AllByRecursion (λ (x : Stored). HasTerms x.object) store.objects
+pub typed-listing : (order : ListOrder) (group : ListGroup) (store : StoreValue) → AllByRecursion (λ (x : Stored). HasTerms x.object) store.objects
     → AllByRecursion ShowsTerms (listing order group store)
 typed-listing order group store all =
     let shown = map as_shown (filter (is_of_group group) store.objects) in
     all-append ShowsTerms (in_order order shown) (ListEnd group ∷ []) (all-ordered ShowsTerms order shown (typed-each group store.objects all)) (tt, tt)
 
-to_by : (b : Bool) (lane group : Group) (events : List Event) → (b ≡ true → group ≡ lane) → AllByRecursion (IsOfGroup group) events
+to_by : (b : Bool) (lane group : ListGroup) (events : List Event) → (b ≡ true → group ≡ lane) → AllByRecursion (IsOfGroup group) events
     → AllByRecursion (IsOfGroup lane) (cond b events [])
 to_by true lane group events same all = subst (λ g. AllByRecursion (IsOfGroup g) events) (same refl) all
 to_by false lane group events same all = tt
 
 -- what goes to a lane is of its group
-pub of-lane : (lane group : Group) (events : List Event) → AllByRecursion (IsOfGroup group) events → AllByRecursion (IsOfGroup lane) (to_lane lane group events)
+pub of-lane : (lane group : ListGroup) (events : List Event) → AllByRecursion (IsOfGroup group) events
+    → AllByRecursion (IsOfGroup lane) (to_lane lane group events)
 of-lane lane group events all = to_by (same_group group lane) lane group events (same_group-is group lane) all
 
-pub all-lane : (P : Event → Type 0) (lane group : Group) (events : List Event) → AllByRecursion P events → AllByRecursion P (to_lane lane group events)
+pub all-lane : (P : Event → Type 0) (lane group : ListGroup) (events : List Event) → AllByRecursion P events → AllByRecursion P (to_lane lane group events)
 all-lane P lane group events all = all-either (same_group group lane) P events [] all tt
 
 -- ---- the notices of a list in any order

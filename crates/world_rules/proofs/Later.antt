@@ -3,9 +3,10 @@ use Rattle.std.proofs.Common.{◌≡◌, ℕ, ◌<◌, Bool, true, false, cond, 
 use Rattle.std.proofs.Common.{Some, None, IfSome, refl, sym, ap, subst, ◌∙◌, append_assoc, arith, MatchBool}
 use Rattle.std.proofs.lemmas.Bool.{true≢false}
 use Rattle.std.specs.List.{AllByRecursion}
+use Rattle.mlb_base.proofs.Lists.{all-append, all-front, all-behind}
 use Rattle.kube_model.specs.declared.event.Event.{Event}
 use Rattle.kube_model.specs.declared.event.Event.TheVariants.{ListEnd}
-use Rattle.kube_model.specs.declared.event.Group.TheVariants as groups
+use Rattle.kube_model.specs.declared.event.ListGroup.TheVariants as groups
 use Rattle.kube_model.specs.declared.key.Key.{Key}
 use Rattle.kube_model.specs.declared.record.Record.{Record}
 use Rattle.claim_index.specs.Claims.{claimed_by, records_of}
@@ -17,7 +18,7 @@ use Rattle.world_rules.specs.World.{WorldValue}
 use Rattle.world_rules.proofs.Following.{eqb-apart, after_shows-newer, agrees-carried}
 use Rattle.world_rules.proofs.Rows.{after_end-held, newer-taken}
 use Rattle.world_rules.proofs.Tracking.{IsClaimed-bare, IsClaimed-shown}
-use Rattle.world_rules.proofs.Lanes.{all-append, all-first, all-behind, notices_in-append, tracked-as}
+use Rattle.world_rules.proofs.Lanes.{notices_in-append, tracked-as}
 
 -- ---- for one service
 shows-later : (c : Bool) (s h : Option Shown) (x : Shown) (more : List Notice) → leb x.version (version_at h) ≡ c → (is_unlisted h ≡ true → IsBare s)
@@ -179,7 +180,7 @@ module _ (before : List Event) (event : Event) (behind : List Event) where
   of-late all =
       let rest = all-behind (IsOfGroup groups.Service) before (ListEnd groups.Service ∷ event ∷ behind) all in
       all-append (IsOfGroup groups.Service) before (event ∷ ListEnd groups.Service ∷ behind)
-      (all-first (IsOfGroup groups.Service) before (ListEnd groups.Service ∷ event ∷ behind) all)
+      (all-front (IsOfGroup groups.Service) before (ListEnd groups.Service ∷ event ∷ behind) all)
       (rest.1.0, (rest.0, rest.1.1))
 
   late-by : (c : Option State) (w : WorldValue) → w.service_lane ≡ soon → IfSome c (IsFollowed w)

@@ -2,10 +2,11 @@
 use Rattle.std.proofs.Common.{◌≡◌, ◌≢◌, ℕ, ◌+◌, Bool, true, false, cond, List, [], ◌∷◌, ◌++◌, Option, Some, None, is_some, IfSome, refl, sym, ap, subst, ◌∙◌}
 use Rattle.std.proofs.lemmas.Bool.{true≢false}
 use Rattle.std.specs.List.{AllByRecursion}
+use Rattle.mlb_base.proofs.Lists.{all-append}
 use Rattle.kube_model.specs.declared.event.Event.{Event}
 use Rattle.kube_model.specs.declared.event.Event.TheVariants.{Deleted}
-use Rattle.kube_model.specs.declared.event.Group.{Group}
-use Rattle.kube_model.specs.declared.event.Group.TheVariants as groups
+use Rattle.kube_model.specs.declared.event.ListGroup.{ListGroup}
+use Rattle.kube_model.specs.declared.event.ListGroup.TheVariants as groups
 use Rattle.kube_model.specs.declared.key.Key.{Key}
 use Rattle.kube_model.specs.declared.object.Object.{Object}
 use Rattle.kube_model.specs.declared.object.Object.TheVariants as objects
@@ -51,7 +52,7 @@ use Rattle.world_rules.specs.World.{WorldValue, as_shown, listing, shown_edit, s
 use Rattle.world_rules.specs.World.{untold, after_edit, after_take, turned, after_turning, next_put, reached, after_crash}
 use Rattle.world_rules.specs.World.{restarted, expired_core, listed_anew, after_expiry, store_of, with_object, records_store}
 use Rattle.world_rules.proofs.ConfigEnds.{ends-edited, ends-taken, config-ended, config-unended, ends-listing, ends-expired}
-use Rattle.world_rules.proofs.Lanes.{all-append, all-either, of-lane, all-lane, of-listing, typed-listing, listing-list}
+use Rattle.world_rules.proofs.Lanes.{all-either, of-lane, all-lane, of-listing, typed-listing, listing-list}
 use Rattle.world_rules.proofs.Worlds.{starts_are_good, good-else}
 use Rattle.world_rules.proofs.Storing.{AreTyped, typed-record, typed-with_stored, typed-without_stored}
 
@@ -81,7 +82,7 @@ turned-typed : (c : Option State) (outcome : Outcome) (store : StoreValue) → A
 turned-typed None outcome store = tt
 turned-typed (Some s) outcome store = put-entries (put_in (core_turn s)) (core_turn s) outcome store
 
-expired_core-typed : (c : Option State) (group : Group) → AllShowTerms (entries_expired c group)
+expired_core-typed : (c : Option State) (group : ListGroup) → AllShowTerms (entries_expired c group)
 expired_core-typed None group = tt
 expired_core-typed (Some s) group = (tt, tt)
 
@@ -101,7 +102,7 @@ restart_leads order None w = refl
 restart_leads order (Some s) w = refl
 
 -- the world after the watch of a list has expired, where the controller is so
-abbrev expired_by : Group → ListOrder → Option State → WorldValue → WorldValue
+abbrev expired_by : ListGroup → ListOrder → Option State → WorldValue → WorldValue
 expired_by group order c w = record w {
   config_lane = listed_anew order groups.Config group w.store c w.config_lane;
   service_lane = listed_anew order groups.Service group w.store c w.service_lane;
@@ -190,7 +191,7 @@ while-all : (P : Event → Type 0) (c : Option State) (events : List Event) → 
 while-all P None events all = tt
 while-all P (Some s) events all = all
 
-edit_ends : (c : Option State) (lane : List Event) (group : Group) (edit : Edit) (store : StoreValue) → IfSome c (λ s. ConfigEnds s.held.config_ended lane)
+edit_ends : (c : Option State) (lane : List Event) (group : ListGroup) (edit : Edit) (store : StoreValue) → IfSome c (λ s. ConfigEnds s.held.config_ended lane)
     → IfSome c (λ s. ConfigEnds s.held.config_ended (lane ++ to_lane groups.Config group (while_up c (shown_edit edit store))))
 edit_ends None lane group edit store ends = tt
 edit_ends (Some s) lane group edit store ends = ends-edited s.held.config_ended lane group edit store ends
@@ -232,7 +233,7 @@ services-of : (c : Option State) (w : WorldValue) → IfSome c (IsFollowed w) �
 services-of None w up = tt
 services-of (Some s) w up = up.services
 
-own-take : (group : Group) (w : WorldValue) → IsGood w → IsOwn w → IsOwn (after_take group w)
+own-take : (group : ListGroup) (w : WorldValue) → IsGood w → IsOwn w → IsOwn (after_take group w)
 own-take groups.Config w good own = record {
   stored_typed = own.stored_typed;
   pending_typed = own.pending_typed;
@@ -317,19 +318,19 @@ restart_own order None w own = record {
 }
 restart_own order (Some s) w own = own
 
-anew-all : (P : Event → Type 0) (order : ListOrder) (lane group : Group) (store : StoreValue) (c : Option State) (pending : List Event)
+anew-all : (P : Event → Type 0) (order : ListOrder) (lane group : ListGroup) (store : StoreValue) (c : Option State) (pending : List Event)
     → AllByRecursion P (listing order lane store) → AllByRecursion P pending
     → AllByRecursion P (listed_anew order lane group store c pending)
 anew-all P order lane group store None pending list all = all
 anew-all P order lane group store (Some s) pending list all = all-either (same_group group lane) P (listing order lane store) pending list all
 
-expiry_ends : (order : ListOrder) (c : Option State) (group : Group) (store : StoreValue) (lane : List Event)
+expiry_ends : (order : ListOrder) (c : Option State) (group : ListGroup) (store : StoreValue) (lane : List Event)
     → IfSome c (λ s. ConfigEnds s.held.config_ended lane)
     → IfSome (expired_core group c) (λ s. ConfigEnds s.held.config_ended (listed_anew order groups.Config group store c lane))
 expiry_ends order None group store lane ends = tt
 expiry_ends order (Some s) group store lane ends = ends-expired (same_group group groups.Config) s.held.config_ended order store lane ends
 
-own-expiry : (group : Group) (order : ListOrder) (w : WorldValue) → IsOwn w → IsOwn (after_expiry group order w)
+own-expiry : (group : ListGroup) (order : ListOrder) (w : WorldValue) → IsOwn w → IsOwn (after_expiry group order w)
 own-expiry group order w own = record {
   stored_typed = own.stored_typed;
   pending_typed = anew-all ShowsTerms order groups.Service group w.store w.core w.service_lane (typed-listing order groups.Service w.store own.stored_typed)

@@ -2,11 +2,11 @@
 use Rattle.std.proofs.Common.{◌≡◌, ◌≢◌, ℕ, ◌<◌, Bool, true, false, cond, List, [], ◌∷◌, ◌++◌, Option, Some, None}
 use Rattle.std.proofs.Common.{◌⊎◌, inl, inr, ⊎_elim, option_map, refl, sym, ap, subst, ◌∙◌, arith, MatchBool, IfSome}
 use Rattle.std.specs.List.{Contains}
-use Rattle.std.proofs.lemmas.Bool.{true≢false}
+use Rattle.std.proofs.lemmas.Bool.{true≢false, false_from_ne_true}
 use Rattle.mlb_base.proofs.Among.{contains-none, contains-cons, contains-later, contains-first}
 use Rattle.kube_model.specs.declared.event.Event.{Event}
 use Rattle.kube_model.specs.declared.event.Event.TheVariants.{Changed, Deleted, ListEnd, Expired, Members, Frame, Ignored}
-use Rattle.kube_model.specs.declared.event.Group.TheVariants as groups
+use Rattle.kube_model.specs.declared.event.ListGroup.TheVariants as groups
 use Rattle.kube_model.specs.declared.key.Key.{Key}
 use Rattle.kube_model.specs.declared.object.Kind.TheVariants as kinds
 use Rattle.kube_model.specs.declared.object.Object.TheVariants as objects
@@ -16,7 +16,7 @@ use Rattle.kube_model.specs.Keys.{key_cmp, same_key}
 use Rattle.kube_model.specs.Records.{is_assigned}
 use Rattle.kube_model.proofs.KeyLaws.{same_key-is, same_key-itself, same_key-by}
 use Rattle.versioned_map.specs.declared.map.Versioned.{Versioned}
-use Rattle.versioned_map.specs.Entries.{held_at}
+use Rattle.versioned_map.specs.Objects.{held_at}
 use Rattle.status_store.specs.declared.stored.Stored.{Stored}
 use Rattle.status_store.specs.Places.{service_at}
 use Rattle.status_store.specs.Objects.{IsStored, stored_at}
@@ -39,8 +39,8 @@ use Rattle.world_rules.specs.Safe.{IsRecorded}
 use Rattle.world_rules.specs.World.{WorldValue}
 use Rattle.world_rules.proofs.Lanes.{notices_in-append}
 use Rattle.world_rules.proofs.Following.{Follows-old}
-use Rattle.world_rules.proofs.Rows.{has_end, held-up_to, pending-up_to, gone-bare, pending-behind, given-above, old-shows, current-stays}
-use Rattle.world_rules.proofs.Rows.{live-carried, IsListed, claimed-or-listed, IsComing, IsHeldAt, held-or-coming, IsBeforeEnd, unlisted-shown}
+use Rattle.world_rules.proofs.Rows.{has_end, held-up_to, pending-up_to, gone-bare, pending-behind, given-above, old-shows, current-stays, live-carried}
+use Rattle.world_rules.proofs.Rows.{IsListed, claimed-or-listed, IsComing, IsHeldAt, held-or-coming, IsBeforeEnd, unlisted-shown, ends-has_end}
 use Rattle.world_rules.proofs.ClaimRecords.{records-there}
 use Rattle.core_laws.specs.Claimed.{IsClaimedAs}
 use Rattle.core_laws.proofs.Claimed.{services_are_claimed}
@@ -279,10 +279,6 @@ there-end key (event ∷ lane) e =
     rest)
     (one-is key event)
 
-not-gone : (b : Bool) → (b ≡ true → ⊥) → b ≡ false
-not-gone true not = absurd (not refl)
-not-gone false not = refl
-
 true-false : (b : Bool) → b ≡ true → b ≡ false → ⊥
 true-false b t f = true≢false (sym t ∙ f)
 
@@ -292,12 +288,6 @@ ended-none [] e = refl
 ended-none (Shows x ∷ more) e = ended-none more e
 ended-none (Gone ∷ more) e = ended-none more e
 ended-none (End ∷ more) e = absurd e
-
-unended-some : (notices : List Notice) → EndsOnce false notices → has_end notices ≡ true
-unended-some [] e = absurd e
-unended-some (Shows x ∷ more) e = unended-some more e
-unended-some (Gone ∷ more) e = unended-some more e
-unended-some (End ∷ more) e = refl
 
 end-once : (before : List Notice) (behind : List Notice) (ended : Bool) → EndsOnce ended (before ++ End ∷ behind) → has_end behind ≡ false
 end-once [] behind true e = absurd e
@@ -481,7 +471,7 @@ module _ (w : WorldValue) (s : State) (stored : IsGoodStore w.store) (up : IsFol
       record {
         last = λ before behind version service pending is none.
             just-recorded (has_gone (notices_in service.key behind)) service.key service.holding (stored_of w.store service.key) refl
-            (not-gone (has_gone (notices_in service.key behind)) (λ e. none (there-gone service.key behind e)))
+            (false_from_ne_true (has_gone (notices_in service.key behind)) (λ e. none (there-gone service.key behind e)))
             (carried-at before behind version service pending is);
         gone = λ before behind version service pending is gone.
             bare-recorded (has_gone (notices_in service.key behind)) service.key service.holding (stored_of w.store service.key) refl
@@ -604,7 +594,7 @@ module _ (w : WorldValue) (s : State) (stored : IsGoodStore w.store) (up : IsFol
   ends =
       record {
         pending = λ unended. (let once : EndsOnce false (notices_in some_key w.service_lane) = subst (λ b. EndsOnce b (notices_in some_key w.service_lane))
-            unended (up.tracked some_key).ends in there-end some_key w.service_lane (unended-some (notices_in some_key w.service_lane) once));
+            unended (up.tracked some_key).ends in there-end some_key w.service_lane (ends-has_end (notices_in some_key w.service_lane) once));
         none = λ ended there. (let once : EndsOnce true (notices_in some_key w.service_lane) =
             subst (λ b. EndsOnce b (notices_in some_key w.service_lane)) ended (up.tracked some_key).ends in
             true-false (has_end (notices_in some_key w.service_lane)) (end-there some_key w.service_lane there)

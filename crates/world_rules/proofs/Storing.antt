@@ -1,10 +1,9 @@
 -- Edits and puts keep a good store.
-use Rattle.std.proofs.Common.{◌≡◌, ◌≢◌, ◌⊎◌, inl, inr, ⊎_elim, ℕ, ◌+◌, ◌≤◌, Bool, true, false, cond, List, [], ◌∷◌, Option}
-use Rattle.std.proofs.Common.{Some, None, is_some, is_eq, Less, Equal, Greater, Ordering, not, refl, sym, ap, subst, ◌∙◌, arith}
+use Rattle.std.proofs.Common.{◌≡◌, ◌≢◌, ◌⊎◌, inl, inr, ⊎_elim, ℕ, ◌+◌, ◌≤◌, Bool, true, false, cond, List, []}
+use Rattle.std.proofs.Common.{◌∷◌, Option, Some, None, is_some, is_eq, not, refl, sym, ap, subst, ◌∙◌, arith}
 use Rattle.std.proofs.lemmas.Bool.{true≢false, and_parts}
 use Rattle.std.specs.List.{AllByRecursion, Contains}
 use Rattle.std.specs.List.Sorted.{IsStrictlySortedBy}
-use Rattle.std.specs.Ordering.{match_ordering}
 use Rattle.mlb_base.specs.Items.{is_nil}
 use Rattle.mlb_base.proofs.Among.{contains-none}
 use Rattle.ip_ranges.specs.Values.{AddressValue}
@@ -30,7 +29,8 @@ use Rattle.status_store.specs.Objects.{is_of, stored_at, with_stored, without_st
 use Rattle.status_store.specs.Changes.{StoreValue, IsWellFormed, record_of, with_record, kept_record, edited}
 use Rattle.status_store.specs.Changes.{empty_store, recorded, arrives, is_at_version, is_made, with_put, after_put}
 use Rattle.status_store.proofs.ChangeLaws.{place_of-with_record, kept-with_stored}
-use Rattle.status_store.proofs.ListLaws.{stored_at-with_stored, stored_at-without_stored, ascending-without_stored, counted-less, counted-without_stored}
+use Rattle.status_store.proofs.ListLaws.{stored_at-with_stored, stored_at-without_stored, ascending-without_stored}
+use Rattle.status_store.proofs.ListLaws.{counted-less, counted-without_stored, all-with_stored, all-without_stored}
 use Rattle.status_store.proofs.StoredLaws.{is_of-is, found-stored, stored-found}
 use Rattle.world_rules.specs.Safe.{IsRecorded, IsSafe, ShareByMarks, HasTerms}
 use Rattle.world_rules.specs.Moves.{stored_with}
@@ -158,25 +158,11 @@ typed-record holding (objects.Slice slice) t = tt
 abbrev pub AreTyped : List Stored → Type 0
 AreTyped held = AllByRecursion (λ (x : Stored). HasTerms x.object) held
 
-typed_with_by : (r : Ordering) (added held : Stored) (more : List Stored) → HasTerms added.object → AreTyped (held ∷ more) → AreTyped (with_stored added more)
-    → AreTyped (match_ordering r (added ∷ held ∷ more) (added ∷ more) (held ∷ with_stored added more))
-typed_with_by Less added held more t all ih = (t, all)
-typed_with_by Equal added held more t all ih = (t, all.1)
-typed_with_by Greater added held more t all ih = (all.0, ih)
-
 pub typed-with_stored : (held : List Stored) (added : Stored) → HasTerms added.object → AreTyped held → AreTyped (with_stored added held)
-typed-with_stored [] added t all = (t, tt)
-typed-with_stored (held ∷ more) added t all =
-    typed_with_by (place_cmp (place_of added.object) (place_of held.object)) added held more t all (typed-with_stored more added t all.1)
-
-typed_without_by : (b : Bool) (place : Place) (held : Stored) (more : List Stored) → AreTyped (held ∷ more) → AreTyped (without_stored place more)
-    → AreTyped (cond b more (held ∷ without_stored place more))
-typed_without_by true place held more all ih = all.1
-typed_without_by false place held more all ih = (all.0, ih)
+typed-with_stored = all-with_stored (λ (x : Stored). HasTerms x.object)
 
 pub typed-without_stored : (held : List Stored) (place : Place) → AreTyped held → AreTyped (without_stored place held)
-typed-without_stored [] place all = tt
-typed-without_stored (held ∷ more) place all = typed_without_by (is_of place held) place held more all (typed-without_stored more place all.1)
+typed-without_stored = all-without_stored (λ (x : Stored). HasTerms x.object)
 
 -- ---- edits
 set_on : (c : Bool) (object : Object) (holding : Record) (store : StoreValue) (key : Key) → is_assigned holding ≡ c

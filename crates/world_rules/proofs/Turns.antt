@@ -1,15 +1,16 @@
 -- A turn, its put and the reply keep what holds of a world, and so does a crash.
 use Rattle.std.proofs.Common.{◌≡◌, ℕ, ◌+◌, Bool, true, false, cond, eqb, ◌&&◌, not, List, [], ◌∷◌, ◌++◌, Option, Some}
 use Rattle.std.proofs.Common.{None, option_map, is_some, IfSome, MatchBool, refl, sym, ap, subst, ◌∙◌, append-nil}
-use Rattle.std.proofs.lemmas.Bool.{true≢false, and_parts}
+use Rattle.std.proofs.lemmas.Bool.{true≢false, and_parts, eqb-true}
 use Rattle.std.proofs.lemmas.List.Elements.{Contains-append_left, Contains-append_right}
 use Rattle.std.specs.List.{AllByRecursion, Contains, list_any}
 use Rattle.std.specs.Option.{option_map_or}
 use Rattle.mlb_base.specs.Items.{is_nil}
 use Rattle.mlb_base.proofs.Among.{contains-none, contains-first, any-found}
+use Rattle.mlb_base.proofs.Lists.{all-append}
 use Rattle.ip_ranges.specs.Values.{AddressValue}
 use Rattle.kube_model.specs.declared.event.Event.{Event}
-use Rattle.kube_model.specs.declared.event.Group.TheVariants as groups
+use Rattle.kube_model.specs.declared.event.ListGroup.TheVariants as groups
 use Rattle.kube_model.specs.declared.key.Key.{Key}
 use Rattle.kube_model.specs.declared.object.Object.{Object}
 use Rattle.kube_model.specs.declared.put.Put.{Put}
@@ -24,7 +25,7 @@ use Rattle.kube_model.specs.Records.{is_assigned, same_record}
 use Rattle.kube_model.specs.Service.{with_holding}
 use Rattle.kube_model.proofs.KeyLaws.{key_cmp-total, same_key-is, same_key-itself, is_eq-key_cmp}
 use Rattle.versioned_map.specs.declared.map.Versioned.{Versioned}
-use Rattle.versioned_map.specs.Entries.{held_at, version_at as version_held, amended_at}
+use Rattle.versioned_map.specs.Objects.{held_at, version_at as version_held, amended_at}
 use Rattle.versioned_map.proofs.HeldLaws.{held_at-amended}
 use Rattle.claim_index.specs.Claims.{ClaimValue, is_under, claims_of, records_in, records_of, claim_of, claimed_by, doubted, added}
 use Rattle.claim_index.proofs.ClaimLaws.{claims_of-doubted, claim-of}
@@ -36,10 +37,8 @@ use Rattle.status_store.specs.Places.{Place, place_of, service_at}
 use Rattle.status_store.specs.Objects.{stored_at}
 use Rattle.status_store.specs.Changes.{StoreValue, record_of, with_record, kept_record, recorded, is_at_version}
 use Rattle.status_store.specs.Changes.{is_made, with_put, after_put, delivered_reply, reply_to}
-use Rattle.status_store.proofs.ChangeLaws.{same-version}
 use Rattle.status_store.proofs.StoredLaws.{found-stored}
-use Rattle.core_rules.specs.declared.turn.Turn.{Turn}
-use Rattle.core_rules.specs.declared.turn.Turn.TheVariants.{Idle, NoPut, Wants}
+use Rattle.core_rules.specs.declared.turn.Turn.TheVariants.{NoPut, Wants}
 use Rattle.core_rules.specs.Core.{State, is_ready}
 use Rattle.core_rules.specs.Turn.{turn_at, turn_of, core_turn, after_turn, put_in, chosen_at, wanted_record, reason_in}
 use Rattle.core_rules.specs.Replied.{replied, replied_to, core_reply, put_terms}
@@ -49,13 +48,14 @@ use Rattle.core_rules.proofs.Runs.{heard-out}
 use Rattle.core_laws.specs.Shared.{may_have}
 use Rattle.core_laws.proofs.Queued.{queues_are_orderly}
 use Rattle.core_laws.proofs.Shared.{put-shared, alone, none-out}
+use Rattle.core_laws.proofs.QuietRuns.{wants-some}
 use Rattle.world_rules.specs.Tracked.{Shown, Notice, Shows, IsClaimed, WillBeClaimed, IsTracked}
 use Rattle.world_rules.specs.World.{WorldValue, as_shown, shown_stored, shown_put, put_by, turned, after_turning, next_put, reached, after_crash}
 use Rattle.world_rules.specs.Good.{stored_as, stored_of, held_as, held_of, notices_in, notices_of}
 use Rattle.world_rules.specs.Good.{notices_shown, IsTrackedIn, IsOfGroup, IsFollowed, IsGoodStore, IsGood}
 use Rattle.world_rules.proofs.Following.{at_next}
 use Rattle.world_rules.proofs.Tracking.{Grows, tracked-other, tracked-accepted, tracked-lost, tracked-doubted}
-use Rattle.world_rules.proofs.Lanes.{all-append, all-either, notices_in-push, tracked-as}
+use Rattle.world_rules.proofs.Lanes.{all-either, notices_in-push, tracked-as}
 use Rattle.world_rules.proofs.Storing.{assigned_by, record_at, StandsBeside, service-at, given-record, stored_at-recorded, good-put}
 use Rattle.sharing_terms.specs.declared.terms.Terms.{Terms}
 use Rattle.sharing_terms.specs.Marked.{IsMarkOf}
@@ -65,13 +65,6 @@ use Rattle.alloc_book.proofs.BookLaws.{claim_of-stands}
 use Rattle.core_rules.proofs.ByMark.{claims_are_by_mark}
 
 -- ---- a turn that wants a put
-turn-wants : (turn : Turn) (put : Put) → put_in turn ≡ Some put → (pending : Option Reason) × (turn ≡ Wants put pending)
-turn-wants Idle put e = absurd (cc)
-turn-wants (NoPut key pending) put e = absurd (cc)
-turn-wants (Wants other pending) put e =
-    let same : other ≡ put = cc in
-    (pending, ap (λ (p : Put). Wants p pending) same)
-
 wanted_by : (b : Bool) (key : Key) (version : ℕ) (r : Record) (pending : Option Reason) (put : Put)
     → put_in (cond b (NoPut key pending) (Wants (record { key = key; version = version; holding = r }) pending)) ≡ Some put
     → (put.key ≡ key) × (put.version ≡ version)
@@ -343,7 +336,7 @@ module _ (w : WorldValue) (s : State) (put : Put) (h : Versioned Service) (held 
 
     delivered_on : (b : Bool) (g : Stored) → stored_at w.store.objects (service_at put.key) ≡ Some g → eqb g.version put.version ≡ b
         → Result b (Some g) (cond b (replies.Ok (w.store.counter + 1)) replies.Stale)
-    delivered_on true g found e = accepted-result g found (same-version g.version put.version e)
+    delivered_on true g found e = accepted-result g found (eqb-true g.version put.version e)
     delivered_on false g found e = stale-result (Some g)
 
     delivered_by : (found : Option Stored) → stored_at w.store.objects (service_at put.key) ≡ found
@@ -355,7 +348,7 @@ module _ (w : WorldValue) (s : State) (put : Put) (h : Versioned Service) (held 
         → Result b found replies.Unknown
     lost_on false found is made = doubt-result found
     lost_on true None is made = absurd (true≢false (sym (made refl)))
-    lost_on true (Some g) is made = lost-result g is (same-version g.version put.version (made refl))
+    lost_on true (Some g) is made = lost-result g is (eqb-true g.version put.version (made refl))
 
     put-tracked : (outcome : Outcome)
         → Result (is_made put outcome w.store.objects) (stored_at w.store.objects (service_at put.key)) (reply_to put outcome w.store)
@@ -396,7 +389,7 @@ module _ (w : WorldValue) (s : State) (put : Put) (wanted : put_in (core_turn s)
       let shown : claims_of other s.claims ≡ may_have other up.run =
       ap (λ (x : State). claims_of other x.claims) (sym up.leads) ∙ claims_are_shown w.class up.run up.is other
       ∙ sym (alone other up.run (none-out w.class up.run up.is out-none)) in
-      let turn = turn-wants (core_turn s) put wanted in
+      let turn = wants-some (core_turn s) put wanted in
       let run : IsRun w.class (Turned (Wants put turn.0) ∷ up.run) = ((out-none, sym turn.1 ∙ ap core_turn (sym up.leads)), up.is) in
       let shares = put-shared w.class put turn.0 up.run run up.typed a in_put in
       let stands : Contains (core_after w.class up.run).claims found.0 =
@@ -411,7 +404,7 @@ module _ (w : WorldValue) (s : State) (put : Put) (wanted : put_in (core_turn s)
   pub put-marked : is_assigned put.holding ≡ true → (t : Terms) × IsMarkOf t put.holding.mark
   put-marked has =
       let some = some-address put.holding.addresses has in
-      let turn = turn-wants (core_turn s) put wanted in
+      let turn = wants-some (core_turn s) put wanted in
       let run : IsRun w.class (Turned (Wants put turn.0) ∷ up.run) = ((out-none, sym turn.1 ∙ ap core_turn (sym up.leads)), up.is) in
       let shares = put-shared w.class put turn.0 up.run run up.typed some.0 some.1 in
       (shares.0, shares.1)

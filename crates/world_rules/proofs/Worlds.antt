@@ -1,19 +1,19 @@
 -- Every world is good, and so safe.
 use Rattle.std.proofs.Common.{◌≡◌, ℕ, ◌≤◌, ◌++◌, List, [], ◌∷◌, Option, Some, None, option_map, IfSome, refl, sym, ap, subst, ◌∙◌}
 use Rattle.kube_model.specs.declared.event.Event.{Event}
-use Rattle.kube_model.specs.declared.event.Group.TheVariants as groups
+use Rattle.kube_model.specs.declared.event.ListGroup.TheVariants as groups
 use Rattle.kube_model.specs.declared.key.Key.{Key}
 use Rattle.kube_model.specs.declared.service.Service.{Service}
 use Rattle.kube_model.specs.Keys.{key_cmp}
 use Rattle.versioned_map.specs.declared.map.Versioned.{Versioned}
-use Rattle.versioned_map.specs.Entries.{held_at, at_version}
+use Rattle.versioned_map.specs.Objects.{held_at, at_version}
 use Rattle.versioned_map.proofs.HeldLaws.{held_at-expired}
 use Rattle.claim_index.specs.Claims.{records_of}
 use Rattle.status_store.specs.Places.{service_at}
 use Rattle.status_store.specs.Changes.{StoreValue}
 use Rattle.core_rules.specs.Core.{State, fresh}
 use Rattle.core_rules.specs.Take.{core_expired}
-use Rattle.core_rules.specs.Run.{Entry, Expired}
+use Rattle.core_rules.specs.Run.{TranscriptEntry, Expired}
 use Rattle.core_laws.specs.Shared.{AllShowTerms}
 use Rattle.world_rules.specs.Tracked.{version_at, IsBehind}
 use Rattle.world_rules.specs.Moves.{Move, Sets, Deletes, Tells, Takes, Turns, Stops, Starts, ConfigExpires, ServicesExpire, EndsLater, IsMove}
@@ -136,20 +136,20 @@ steps_keep_good old new move step good =
     (subst IsGood (sym step.leads) (good-else (after_move move old) [] (good-move move old step.may step.typed good)))
 
 -- what a longer run was shown
-terms-first : (now earlier : List Entry) → AllShowTerms (now ++ earlier) → AllShowTerms now
+terms-first : (now earlier : List TranscriptEntry) → AllShowTerms (now ++ earlier) → AllShowTerms now
 terms-first [] earlier all = tt
 terms-first (entry ∷ now) earlier all = (all.0, terms-first now earlier all.1)
 
-terms-earlier : (now earlier : List Entry) → AllShowTerms (now ++ earlier) → AllShowTerms earlier
+terms-earlier : (now earlier : List TranscriptEntry) → AllShowTerms (now ++ earlier) → AllShowTerms earlier
 terms-earlier [] earlier all = all
 terms-earlier (entry ∷ now) earlier all = terms-earlier now earlier all.1
 
-terms-before : (moves : List Move) (w : WorldValue) (earlier : List Entry) → AllShowTerms (run_along moves w earlier) → AllShowTerms earlier
+terms-before : (moves : List Move) (w : WorldValue) (earlier : List TranscriptEntry) → AllShowTerms (run_along moves w earlier) → AllShowTerms earlier
 terms-before [] w earlier all = all
 terms-before (move ∷ moves) w earlier all =
     terms-earlier (entries_of move w) earlier (terms-before moves (after_move move w) (entries_of move w ++ earlier) all)
 
-pub good-moves : (moves : List Move) (w : WorldValue) (earlier : List Entry) → AreMoves moves w → AllShowTerms (run_along moves w earlier) → IsGood w
+pub good-moves : (moves : List Move) (w : WorldValue) (earlier : List TranscriptEntry) → AreMoves moves w → AllShowTerms (run_along moves w earlier) → IsGood w
     → IsGood (after_moves moves w)
 good-moves [] w earlier may typed good = good
 good-moves (move ∷ moves) w earlier may typed good =
@@ -159,7 +159,7 @@ good-moves (move ∷ moves) w earlier may typed good =
 safe-world : (w : WorldValue) → IsGood w → IsSafeWorld w
 safe-world w good = record { safe = good.stored.safe; kept = good.stored.kept; ordered = worlds_are_in_order w good }
 
-pub safe-along : (moves : List Move) (w : WorldValue) (earlier : List Entry) → AreMoves moves w → AllShowTerms (run_along moves w earlier) → IsGood w
+pub safe-along : (moves : List Move) (w : WorldValue) (earlier : List TranscriptEntry) → AreMoves moves w → AllShowTerms (run_along moves w earlier) → IsGood w
     → AreSafeAlong moves w
 safe-along [] w earlier may typed good = safe-world w good
 safe-along (move ∷ moves) w earlier may typed good =

@@ -3,8 +3,8 @@ use Rattle.std.specs.Prelude.{◌≡◌, ℕ, List, [], ◌∷◌, ◌++◌, Opt
 use Rattle.std.specs.List.{AllByRecursion}
 use Rattle.kube_model.specs.declared.event.Event.{Event}
 use Rattle.kube_model.specs.declared.event.Event.TheVariants.{Changed, Deleted, ListEnd, Expired as WatchesExpired, Members, Frame, Ignored}
-use Rattle.kube_model.specs.declared.event.Group.{Group}
-use Rattle.kube_model.specs.declared.event.Group.TheVariants as groups
+use Rattle.kube_model.specs.declared.event.ListGroup.{ListGroup}
+use Rattle.kube_model.specs.declared.event.ListGroup.TheVariants as groups
 use Rattle.kube_model.specs.declared.put.Put.{Put}
 use Rattle.kube_model.specs.declared.reply.PutReply.{PutReply}
 use Rattle.kube_model.specs.Kinds.{kind_of, group_of}
@@ -15,7 +15,7 @@ use Rattle.core_rules.specs.declared.turn.Turn.TheVariants.{Idle, NoPut, Wants}
 use Rattle.core_rules.specs.Core.{State}
 use Rattle.core_rules.specs.Turn.{core_turn, after_turn, put_in}
 use Rattle.core_laws.specs.Shared.{AllShowTerms}
-use Rattle.core_rules.specs.Run.{Entry, Took, Expired, Turned, Heard, core_after, put_out, IsRun}
+use Rattle.core_rules.specs.Run.{TranscriptEntry, Took, Expired, Turned, Heard, core_after, put_out, IsRun}
 use Rattle.world_rules.specs.Good.{IsGoodStore}
 use Rattle.world_rules.specs.Moves.{Move, Sets, Deletes, Tells, Takes, Turns, Stops, Starts, ConfigExpires}
 use Rattle.world_rules.specs.Moves.{ServicesExpire, EndsLater, IsListOf, AreMoves, after_moves, run_along, begun}
@@ -27,12 +27,12 @@ use Rattle.world_rules.specs.World.{WorldValue}
 
 pub data Act : Type 0 where
   Shown : (event : Event) → Act  -- an event was taken
-  ListExpired : (group : Group) → Act  -- the watch of one list has expired
+  ListExpired : (group : ListGroup) → Act  -- the watch of one list has expired
   Decided : Act  -- a turn was made
   Answered : (reply : PutReply) → Act  -- the put that was out was answered
 
 -- an event of a list that a controller is shown
-abbrev pub shown_of : Group → Event → List Act
+abbrev pub shown_of : ListGroup → Event → List Act
 shown_of groups.Config event = Shown event ∷ []
 shown_of groups.Service event = Shown event ∷ []
 shown_of groups.Endpoint event = []
@@ -54,19 +54,19 @@ acts_of_turn Idle = []
 acts_of_turn (NoPut key pending) = Decided ∷ []
 acts_of_turn (Wants put pending) = Decided ∷ []
 
-abbrev pub acts_of_entry : Entry → List Act
+abbrev pub acts_of_entry : TranscriptEntry → List Act
 acts_of_entry (Took event) = acts_of_event event
 acts_of_entry (Expired group) = ListExpired group ∷ []
 acts_of_entry (Turned turn) = acts_of_turn turn
 acts_of_entry (Heard reply) = Answered reply ∷ []
 
 -- what happened in a run, the newest first
-abbrev pub acts_of : List Entry → List Act
+abbrev pub acts_of : List TranscriptEntry → List Act
 acts_of [] = []
 acts_of (entry ∷ earlier) = acts_of_entry entry ++ acts_of earlier
 
 -- the run but for the turn whose put has no reply yet
-abbrev pub answered_by : Entry → List Entry → List Entry
+abbrev pub answered_by : TranscriptEntry → List TranscriptEntry → List TranscriptEntry
 answered_by (Took event) earlier = Took event ∷ earlier
 answered_by (Expired group) earlier = Expired group ∷ earlier
 answered_by (Turned Idle) earlier = Turned Idle ∷ earlier
@@ -74,12 +74,12 @@ answered_by (Turned (NoPut key pending)) earlier = Turned (NoPut key pending) �
 answered_by (Turned (Wants put pending)) earlier = earlier
 answered_by (Heard reply) earlier = Heard reply ∷ earlier
 
-abbrev pub answered : List Entry → List Entry
+abbrev pub answered : List TranscriptEntry → List TranscriptEntry
 answered [] = []
 answered (entry ∷ earlier) = answered_by entry earlier
 
 -- the puts of a run, the newest first
-abbrev pub puts_of_entry : Entry → List Put
+abbrev pub puts_of_entry : TranscriptEntry → List Put
 puts_of_entry (Took event) = []
 puts_of_entry (Expired group) = []
 puts_of_entry (Turned Idle) = []
@@ -87,7 +87,7 @@ puts_of_entry (Turned (NoPut key pending)) = []
 puts_of_entry (Turned (Wants put pending)) = put ∷ []
 puts_of_entry (Heard reply) = []
 
-abbrev pub puts_of : List Entry → List Put
+abbrev pub puts_of : List TranscriptEntry → List Put
 puts_of [] = []
 puts_of (entry ∷ earlier) = puts_of_entry entry ++ puts_of earlier
 
@@ -109,7 +109,7 @@ IsRunning (EndsLater before event behind) = ⊤
 -- A world explains a run of a core: a controller was started over a store that is safe, and was going to be shown a list of its services;
 -- moves were made; and what was shown and answered, and how often a turn was made, is what the run has, but for a last put that has no
 -- reply.
-pub record Explains (class : Option (List ℕ)) (store : StoreValue) (list : List Event) (moves : List Move) (run : List Entry) : Type 0 where
+pub record Explains (class : Option (List ℕ)) (store : StoreValue) (list : List Event) (moves : List Move) (run : List TranscriptEntry) : Type 0 where
   pub good : IsGoodStore store
   pub listed : IsListOf store list
   pub running : AllByRecursion IsRunning moves
@@ -117,7 +117,7 @@ pub record Explains (class : Option (List ℕ)) (store : StoreValue) (list : Lis
   pub same : acts_of (run_along moves (begun class store list) []) ≡ acts_of (answered run)
 
 -- The core is about to want the put, and then it is the run's.
-pub record IsAboutToPut (class : Option (List ℕ)) (core : Option State) (put : Put) (run : List Entry) : Type 0 where
+pub record IsAboutToPut (class : Option (List ℕ)) (core : Option State) (put : Put) (run : List TranscriptEntry) : Type 0 where
   pub state : State
   pub up : core ≡ Some state
   pub wants : put_in (core_turn state) ≡ Some put
@@ -125,7 +125,7 @@ pub record IsAboutToPut (class : Option (List ℕ)) (core : Option State) (put :
 
 -- The world's core is the run's, and its puts are the run's; its store is safe, and so it stays where the last put, which has no reply
 -- yet, reaches it, and where it doesn't.
-pub record IsExplained (class : Option (List ℕ)) (w : WorldValue) (along run : List Entry) : Type 0 where
+pub record IsExplained (class : Option (List ℕ)) (w : WorldValue) (along run : List TranscriptEntry) : Type 0 where
   pub puts : puts_of along ≡ puts_of (answered run)
   pub core : put_out run ≡ None → w.core ≡ Some (core_after class run)
   pub about : (put : Put) → put_out run ≡ Some put → IsAboutToPut class w.core put run
@@ -133,14 +133,14 @@ pub record IsExplained (class : Option (List ℕ)) (w : WorldValue) (along run :
   pub last : (put : Put) → put_out run ≡ Some put → (outcome : Outcome) → IsSafe (after_put put outcome w.store)
 
 -- so it is for every world that explains the run, and its store is safe before and behind each move
-abbrev pub IsSafeInWorlds : Option (List ℕ) → List Entry → Type 0
+abbrev pub IsSafeInWorlds : Option (List ℕ) → List TranscriptEntry → Type 0
 IsSafeInWorlds class run = (store : StoreValue) (list : List Event) (moves : List Move) → Explains class store list moves run
     → IsExplained class (after_moves moves (begun class store list)) (run_along moves (begun class store list) []) run
     × AreSafeAlong moves (begun class store list)
 
 -- and so for every run of a core that was shown terms that there can be
 abbrev pub RunsAreSafeInWorlds : Type 0
-RunsAreSafeInWorlds = (class : Option (List ℕ)) (run : List Entry) → IsRun class run → AllShowTerms run → IsSafeInWorlds class run
+RunsAreSafeInWorlds = (class : Option (List ℕ)) (run : List TranscriptEntry) → IsRun class run → AllShowTerms run → IsSafeInWorlds class run
 
 -- Whatever moves are made while it runs, a world explains the run of its own controller: so there are such worlds.
 abbrev pub WorldsExplainThemselves : Type 0

@@ -4,8 +4,8 @@ use Rattle.std.specs.Option.{option_map}
 use Rattle.std.specs.List.{AllByRecursion}
 use Rattle.kube_model.specs.declared.event.Event.{Event}
 use Rattle.kube_model.specs.declared.event.Event.TheVariants.{Changed, Deleted, ListEnd, Expired, Members, Frame, Ignored}
-use Rattle.kube_model.specs.declared.event.Group.{Group}
-use Rattle.kube_model.specs.declared.event.Group.TheVariants as groups
+use Rattle.kube_model.specs.declared.event.ListGroup.{ListGroup}
+use Rattle.kube_model.specs.declared.event.ListGroup.TheVariants as groups
 use Rattle.kube_model.specs.declared.key.Key.{Key}
 use Rattle.kube_model.specs.declared.object.Kind.{Kind}
 use Rattle.kube_model.specs.declared.object.Kind.TheVariants as kinds
@@ -15,14 +15,14 @@ use Rattle.kube_model.specs.declared.service.Service.{Service}
 use Rattle.kube_model.specs.Keys.{key_cmp, same_key}
 use Rattle.kube_model.specs.Kinds.{kind_of, group_of}
 use Rattle.versioned_map.specs.declared.map.Versioned.{Versioned}
-use Rattle.versioned_map.specs.Entries.{held_at}
+use Rattle.versioned_map.specs.Objects.{held_at}
 use Rattle.status_store.specs.declared.stored.Stored.{Stored}
 use Rattle.status_store.specs.Places.{service_at}
 use Rattle.status_store.specs.Objects.{stored_at}
 use Rattle.status_store.specs.Changes.{StoreValue, IsWellFormed, record_of}
 use Rattle.claim_index.specs.Claims.{records_of}
 use Rattle.core_rules.specs.Core.{State}
-use Rattle.core_rules.specs.Run.{Entry, core_after, IsRun}
+use Rattle.core_rules.specs.Run.{TranscriptEntry, core_after, IsRun}
 use Rattle.core_laws.specs.Shared.{AllShowTerms}
 use Rattle.world_rules.specs.Tracked.{Shown, Notice, Shows, Gone, End, IsTracked}
 use Rattle.world_rules.specs.Safe.{IsSafe, HasTerms}
@@ -72,7 +72,7 @@ notices_deleted key kinds.Node other = []
 notices_deleted key kinds.Slice other = []
 
 -- what the end of a list is
-abbrev pub notices_ended : Group → List Notice
+abbrev pub notices_ended : ListGroup → List Notice
 notices_ended groups.Service = End ∷ []
 notices_ended groups.Config = []
 notices_ended groups.Endpoint = []
@@ -100,7 +100,7 @@ IsTrackedIn w s key =
 -- ---- what is pending
 
 -- the event is of the list of the group
-abbrev pub IsOfGroup : Group → Event → Type 0
+abbrev pub IsOfGroup : ListGroup → Event → Type 0
 IsOfGroup group (Changed version object) = group_of (kind_of object) ≡ group
 IsOfGroup group (Deleted kind key) = group_of kind ≡ group
 IsOfGroup group (ListEnd g) = g ≡ group
@@ -142,7 +142,7 @@ ShowsTerms Ignored = ⊤
 -- What holds while the controller is up: some run leads to its core, which has no put out and was shown terms that there can be; its lane
 -- has events of the services alone; and each service is followed. Nothing is asked of what it is shown of the configuration.
 pub record IsFollowed (w : WorldValue) (s : State) : Type 0 where
-  pub run : List Entry
+  pub run : List TranscriptEntry
   pub is : IsRun w.class run
   pub leads : core_after w.class run ≡ s
   pub typed : AllShowTerms run

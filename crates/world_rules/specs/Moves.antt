@@ -4,8 +4,8 @@ use Rattle.std.specs.Prelude.{◌≡◌, ◌+◌, ℕ, Bool, true, List, [], ◌
 use Rattle.std.specs.Option.{option_map}
 use Rattle.kube_model.specs.declared.event.Event.{Event}
 use Rattle.kube_model.specs.declared.event.Event.TheVariants.{ListEnd}
-use Rattle.kube_model.specs.declared.event.Group.{Group}
-use Rattle.kube_model.specs.declared.event.Group.TheVariants as groups
+use Rattle.kube_model.specs.declared.event.ListGroup.{ListGroup}
+use Rattle.kube_model.specs.declared.event.ListGroup.TheVariants as groups
 use Rattle.kube_model.specs.declared.key.Key.{Key}
 use Rattle.kube_model.specs.declared.object.Kind.{Kind}
 use Rattle.kube_model.specs.declared.object.Object.{Object}
@@ -22,7 +22,7 @@ use Rattle.status_store.specs.Changes.{StoreValue, kept_record, with_record, rep
 use Rattle.core_rules.specs.Core.{State, fresh}
 use Rattle.core_rules.specs.Take.{core_take}
 use Rattle.core_rules.specs.Turn.{core_turn, put_in}
-use Rattle.core_rules.specs.Run.{Entry, Took, Expired, Turned, Heard}
+use Rattle.core_rules.specs.Run.{TranscriptEntry, Took, Expired, Turned, Heard}
 use Rattle.core_laws.specs.Shared.{AllShowTerms}
 use Rattle.world_rules.specs.Good.{IsOfGroup}
 use Rattle.world_rules.specs.World.{WorldValue, as_shown, is_of_group, while_up, to_lane, after_edit, after_take, after_turning, after_crash, expired_core}
@@ -107,27 +107,27 @@ after_move (EndsLater before event behind) w = record w { service_lane = before 
 -- ---- what each is to the core, the newest first
 
 -- it takes the first of these events
-abbrev pub entries_taken : Option State → List Event → List Entry
+abbrev pub entries_taken : Option State → List Event → List TranscriptEntry
 entries_taken None events = []
 entries_taken (Some s) [] = []
 entries_taken (Some s) (event ∷ more) = Took event ∷ []
 
 -- its put, if it wants one, is answered
-abbrev pub entries_put : Option Put → Outcome → StoreValue → List Entry
+abbrev pub entries_put : Option Put → Outcome → StoreValue → List TranscriptEntry
 entries_put None outcome store = []
 entries_put (Some put) outcome store = Heard (reply_to put outcome store) ∷ []
 
 -- it makes a turn
-abbrev pub entries_turned : Option State → Outcome → StoreValue → List Entry
+abbrev pub entries_turned : Option State → Outcome → StoreValue → List TranscriptEntry
 entries_turned None outcome store = []
 entries_turned (Some s) outcome store = entries_put (put_in (core_turn s)) outcome store ++ Turned (core_turn s) ∷ []
 
 -- the watch of a list expires
-abbrev pub entries_expired : Option State → Group → List Entry
+abbrev pub entries_expired : Option State → ListGroup → List TranscriptEntry
 entries_expired None group = []
 entries_expired (Some s) group = Expired group ∷ []
 
-abbrev pub entries_of : Move → WorldValue → List Entry
+abbrev pub entries_of : Move → WorldValue → List TranscriptEntry
 entries_of (Sets object holding) w = []
 entries_of (Deletes kind key) w = []
 entries_of (Tells event) w = entries_taken w.core (event ∷ [])
@@ -163,7 +163,7 @@ after_moves [] w = w
 after_moves (move ∷ moves) w = after_moves moves (after_move move w)
 
 -- all that the core was shown and did, behind an earlier run
-abbrev pub run_along : List Move → WorldValue → List Entry → List Entry
+abbrev pub run_along : List Move → WorldValue → List TranscriptEntry → List TranscriptEntry
 run_along [] w earlier = earlier
 run_along (move ∷ moves) w earlier = run_along moves (after_move move w) (entries_of move w ++ earlier)
 

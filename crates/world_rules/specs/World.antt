@@ -3,8 +3,8 @@ use Rattle.std.specs.Prelude.{◌≡◌, ◌≢◌, ◌+◌, ℕ, Bool, true, fa
 use Rattle.std.specs.Prelude.{filter, reverse, Option, Some, None, is_some, IfSome, IsTrue, ⊤}
 use Rattle.kube_model.specs.declared.event.Event.{Event}
 use Rattle.kube_model.specs.declared.event.Event.TheVariants.{Changed, Deleted, ListEnd}
-use Rattle.kube_model.specs.declared.event.Group.{Group}
-use Rattle.kube_model.specs.declared.event.Group.TheVariants as groups
+use Rattle.kube_model.specs.declared.event.ListGroup.{ListGroup}
+use Rattle.kube_model.specs.declared.event.ListGroup.TheVariants as groups
 use Rattle.kube_model.specs.declared.object.Object.{Object}
 use Rattle.kube_model.specs.declared.put.Put.{Put}
 use Rattle.kube_model.specs.Kinds.{kind_of, group_of}
@@ -36,7 +36,7 @@ pub record WorldValue : Type 0 where
   pub core : Option State  -- none while the controller is down
 
 -- what is still to be shown of a group; endpoint slices are stored, and shown to no controller
-abbrev pub lane_of : Group → WorldValue → List Event
+abbrev pub lane_of : ListGroup → WorldValue → List Event
 lane_of groups.Config w = w.config_lane
 lane_of groups.Service w = w.service_lane
 lane_of groups.Endpoint w = []
@@ -48,7 +48,7 @@ abbrev pub as_shown : Stored → Event
 as_shown held = Changed held.version held.object
 
 -- whether what is stored is of the group
-abbrev pub is_of_group : Group → Stored → Bool
+abbrev pub is_of_group : ListGroup → Stored → Bool
 is_of_group group held = same_group (group_of (kind_of held.object)) group
 
 -- in the order of a list: as they stand, or the other way round
@@ -57,7 +57,7 @@ in_order Ascending events = events
 in_order Descending events = reverse events
 
 -- the list of the group: each stored object of it, by kind and then by key or the other way round, and the end of the list
-abbrev pub listing : ListOrder → Group → StoreValue → List Event
+abbrev pub listing : ListOrder → ListGroup → StoreValue → List Event
 listing order group store = in_order order (map as_shown (filter (is_of_group group) store.objects)) ++ ListEnd group ∷ []
 
 -- what an edit has shown: the object as it is stored then, or that it was deleted
@@ -82,7 +82,7 @@ while_up None events = []
 while_up (Some s) events = events
 
 -- the events of one group go to its lane
-abbrev pub to_lane : Group → Group → List Event → List Event
+abbrev pub to_lane : ListGroup → ListGroup → List Event → List Event
 to_lane lane group events = if same_group group lane then events else []
 
 -- ---- what each step makes of a world
@@ -111,7 +111,7 @@ untold (Some s) [] = []
 untold (Some s) (event ∷ more) = more
 
 -- the controller takes the next event of a lane
-abbrev pub after_take : Group → WorldValue → WorldValue
+abbrev pub after_take : ListGroup → WorldValue → WorldValue
 after_take groups.Config w = record w { config_lane = untold w.core w.config_lane; core = told w.core w.config_lane }
 after_take groups.Service w = record w { service_lane = untold w.core w.service_lane; core = told w.core w.service_lane }
 after_take groups.Endpoint w = w
@@ -163,17 +163,17 @@ restarted order None w = record w {
 }
 
 -- the core after a watch of its own has expired
-abbrev pub expired_core : Group → Option State → Option State
+abbrev pub expired_core : ListGroup → Option State → Option State
 expired_core group None = None
 expired_core group (Some s) = Some (core_expired s group)
 
 -- the list of the group in place of what was pending
-abbrev pub listed_anew : ListOrder → Group → Group → StoreValue → Option State → List Event → List Event
+abbrev pub listed_anew : ListOrder → ListGroup → ListGroup → StoreValue → Option State → List Event → List Event
 listed_anew order lane group store None pending = pending
 listed_anew order lane group store (Some s) pending = if same_group group lane then listing order lane store else pending
 
 -- the watch of a lane expires: what was pending in it is lost, and the list is going to be shown anew
-abbrev pub after_expiry : Group → ListOrder → WorldValue → WorldValue
+abbrev pub after_expiry : ListGroup → ListOrder → WorldValue → WorldValue
 after_expiry group order w = record w {
   config_lane = listed_anew order groups.Config group w.store w.core w.config_lane;
   service_lane = listed_anew order groups.Service group w.store w.core w.service_lane;
@@ -196,7 +196,7 @@ abbrev pub IsUp : WorldValue → Type 0
 IsUp w = w.core ≢ None
 
 -- the group has a lane
-abbrev pub HasLane : Group → Type 0
+abbrev pub HasLane : ListGroup → Type 0
 HasLane group = group ≢ groups.Endpoint
 
 -- an object that is set with its own record has no address in it

@@ -1,6 +1,6 @@
 //! What happens in a world.
 
-use kube_model::Group;
+use kube_model::ListGroup;
 use mlb_base::NoMemory;
 use status_store::{Edit, Outcome};
 use thiserror::Error;
@@ -11,7 +11,7 @@ pub enum Step {
     /// Somebody changes an object of the cluster.
     Edit { edit: Edit },
     /// The controller takes the next event of a lane.
-    Take { group: Group },
+    Take { group: ListGroup },
     /// The controller makes a turn. Where it wants a put, the put goes so, and its reply is heard.
     Turn { outcome: Outcome },
     /// The controller stops. The put that its next turn would want has reached the store, if it is applied.
@@ -19,7 +19,7 @@ pub enum Step {
     /// The controller is started anew, and is shown the lists of what is stored, in this order.
     Restart { order: ListOrder },
     /// The watch of a lane expires: what was pending in it is lost, and the list of what is stored is shown anew, in this order.
-    Expire { group: Group, order: ListOrder },
+    Expire { group: ListGroup, order: ListOrder },
 }
 
 /// In which order a list shows what is stored. An API server owes none.

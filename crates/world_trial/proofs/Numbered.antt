@@ -1,13 +1,12 @@
 -- Each service that is stored in a trial is one of the 48.
-use Rattle.std.proofs.Common.{ℕ, ◌<◌, Bool, List, [], ◌∷◌, ◌++◌, Option, Some, None, is_some, Ordering, Less, Equal, Greater, refl}
+use Rattle.std.proofs.Common.{ℕ, ◌<◌, Bool, List, [], ◌∷◌, ◌++◌, Option, Some, None, is_some, refl}
 use Rattle.std.proofs.lemmas.Bool.{cond_both}
 use Rattle.std.specs.List.{AllByRecursion}
-use Rattle.std.specs.Ordering.{match_ordering}
 use Rattle.std.specs.Prelude.{IfSome, ⊤}
 use Rattle.ip_ranges.specs.Values.{AddressValue}
 use Rattle.kube_model.specs.declared.key.Key.{Key}
-use Rattle.kube_model.specs.declared.event.Group.{Group}
-use Rattle.kube_model.specs.declared.event.Group.TheVariants as groups
+use Rattle.kube_model.specs.declared.event.ListGroup.{ListGroup}
+use Rattle.kube_model.specs.declared.event.ListGroup.TheVariants as groups
 use Rattle.kube_model.specs.declared.object.Object.{Object}
 use Rattle.kube_model.specs.declared.object.Object.TheVariants as objects
 use Rattle.kube_model.specs.declared.put.Put.{Put}
@@ -21,7 +20,8 @@ use Rattle.status_store.specs.declared.change.Outcome.TheVariants.{Lost}
 use Rattle.status_store.specs.declared.stored.Stored.{Stored}
 use Rattle.status_store.specs.Changes.{StoreValue, with_record, kept_record, set_as, reset_as, edited, recorded, with_put, is_made, after_put}
 use Rattle.status_store.specs.Objects.{is_of, stored_at, with_stored, without_stored}
-use Rattle.status_store.specs.Places.{Place, place_of, place_cmp, service_at}
+use Rattle.status_store.specs.Places.{Place, place_of, service_at}
+use Rattle.status_store.proofs.ListLaws.{all-with_stored, all-without_stored}
 use Rattle.world_rules.specs.declared.step.Step.{Step}
 use Rattle.world_rules.specs.declared.step.ListOrder.{ListOrder}
 use Rattle.world_rules.specs.declared.step.Step.TheVariants.{Edit as Edits, Take, Turn, Crash, Restart, Expire}
@@ -61,21 +61,11 @@ ours-record holding (objects.Namespace namespace) is = tt
 ours-record holding (objects.Node node) is = tt
 ours-record holding (objects.Slice slice) is = tt
 
-ours-with_by : (r : Ordering) (added held : Stored) (more : List Stored) → IsOurs added.object → AreOurs (held ∷ more) → AreOurs (with_stored added more)
-    → AreOurs (match_ordering r (added ∷ held ∷ more) (added ∷ more) (held ∷ with_stored added more))
-ours-with_by Less added held more is all ih = (is, all)
-ours-with_by Equal added held more is all ih = (is, all.1)
-ours-with_by Greater added held more is all ih = (all.0, ih)
-
 ours-with : (stored : List Stored) (added : Stored) → IsOurs added.object → AreOurs stored → AreOurs (with_stored added stored)
-ours-with [] added is all = (is, tt)
-ours-with (held ∷ more) added is all =
-    ours-with_by (place_cmp (place_of added.object) (place_of held.object)) added held more is all (ours-with more added is all.1)
+ours-with = all-with_stored (λ (held : Stored). IsOurs held.object)
 
 ours-without : (stored : List Stored) (place : Place) → AreOurs stored → AreOurs (without_stored place stored)
-ours-without [] place all = tt
-ours-without (held ∷ more) place all =
-    cond_both (is_of place held) more (held ∷ without_stored place more) AreOurs (λ _. all.1) (λ _. (all.0, ours-without more place all.1))
+ours-without = all-without_stored (λ (held : Stored). IsOurs held.object)
 
 ours-at : (stored : List Stored) (place : Place) → AreOurs stored → IfSome (stored_at stored place) (λ held. IsOurs held.object)
 ours-at [] place all = tt
@@ -104,7 +94,7 @@ ours-edited (Delete kind key) store sets all = ours-without store.objects (kind,
 abbrev OursIn : WorldValue → Type 0
 OursIn w = AreOurs w.store.objects
 
-ours-take : (group : Group) (w : WorldValue) → OursIn w → OursIn (after_take group w)
+ours-take : (group : ListGroup) (w : WorldValue) → OursIn w → OursIn (after_take group w)
 ours-take groups.Config w all = all
 ours-take groups.Service w all = all
 ours-take groups.Endpoint w all = all

@@ -4,7 +4,7 @@ ghost use Rattle.world_trial.specs.Drawn.{edit_of, crash_of, step_up, step_down,
 
 use crate::service::{numbered, service_of};
 use ctl_world::{Edit, ListOrder, Outcome, Step};
-use kube_model::{Group, Kind, Object};
+use kube_model::{Kind, ListGroup, Object};
 use mlb_base::NoMemory;
 use std::alloc::Global;
 
@@ -43,10 +43,10 @@ fn step_up(k: u64, z: u64) -> Option<Step>
     ensures { result ≡ step_up k z }
 {
     if k < 8 {
-        let group = Group::Service;
+        let group = ListGroup::Service;
         Some(Step::Take { group })
     } else if k == 8 {
-        let group = Group::Config;
+        let group = ListGroup::Config;
         Some(Step::Take { group })
     } else if k < 14 {
         turn(Outcome::Delivered)

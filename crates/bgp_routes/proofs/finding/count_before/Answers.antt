@@ -1,6 +1,6 @@
 use Rattle.std.proofs.Common.{rules}
 use Rattle.std.proofs.lemmas.List.Sorted.{IsPartitionPoint-from_clause}
-use Rattle.bgp_routes.specs.Held.{is_before}
+use Rattle.bgp_routes.specs.KeptConfig.{is_before}
 use Rattle.bgp_routes.proofs.PeerHalves.{has-halves}
 use Rattle.bgp_routes.proofs.finding.count_before.Goals as goal
 

@@ -2,7 +2,7 @@ use Rattle.std.proofs.Common.{◌≡◌, length, Some, refl, subst, arith}
 use Rattle.std.proofs.lemmas.Option.{slice_get_read}
 use Rattle.std.specs.List.{slice_get}
 use Rattle.bgp_routes.specs.Contributors.{IsPutAt, aggregate_of}
-use Rattle.bgp_routes.specs.Held.{is_set}
+use Rattle.bgp_routes.specs.KeptConfig.{is_set}
 use Rattle.bgp_routes.proofs.Renewing.{IsPutUpTo, put-all, put-more}
 use Rattle.bgp_routes.proofs.touching.put_by_all.Goals as goal
 

@@ -1,6 +1,6 @@
 use Rattle.std.proofs.Common.{◌≡◌, ◌++◌}
-use Rattle.object_cache.specs.Told.{passing}
-use Rattle.versioned_map.specs.Entries.{listed}
+use Rattle.object_cache.specs.Stays.{passing}
+use Rattle.versioned_map.specs.Objects.{listed}
 use Rattle.core_rules.specs.Core.{is_free_with}
 use Rattle.ctl_core.proofs.keys.free_listed_with.Given as goal
 

@@ -1,5 +1,5 @@
 use Rattle.std.proofs.Common.{◌≡◌, ◌++◌}
-use Rattle.object_cache.specs.Told.{passing}
+use Rattle.object_cache.specs.Stays.{passing}
 use Rattle.core_rules.specs.Core.{is_free_with}
 use Rattle.ctl_core.proofs.keys.free_with.Given as goal
 

@@ -1,7 +1,7 @@
 use Rattle.std.proofs.Common.{◌≡◌}
 use Rattle.std.specs.List.{list_any}
 use Rattle.kube_model.specs.Keys.{key_cmp}
-use Rattle.versioned_map.specs.Entries.{object_at}
+use Rattle.versioned_map.specs.Objects.{object_at}
 use Rattle.speaker_view.specs.Endpoints.{slice_serves}
 use Rattle.speaker_view.specs.Index.{passes}
 use Rattle.speaker_view.proofs.index.any_serves.Given as goal

@@ -3,9 +3,9 @@ use Rattle.std.specs.List.{flat_map}
 use Rattle.std.specs.Option.{option_map}
 use Rattle.ip_ranges.specs.Values.{AddressValue}
 use Rattle.bgp_updates.specs.Tables.{HasFew}
-use Rattle.bgp_routes.specs.declared.held.Advertisement.{Advertisement}
+use Rattle.bgp_routes.specs.declared.kept_config.Advertisement.{Advertisement}
 use Rattle.bgp_routes.specs.Contributors.{of_address}
-use Rattle.bgp_routes.specs.Held.{is_held_of}
+use Rattle.bgp_routes.specs.KeptConfig.{is_kept_of}
 use Rattle.bgp_routes.specs.Kept.{AreKeptFor, KeptValue}
 use Rattle.bgp_routes.specs.Parts.{part_of}
 use Rattle.bgp_routes.specs.Peers.{table_found, tables_of}
@@ -18,7 +18,7 @@ pub returns-in_default-clause-part : goal.returns-in_default-clause-part
 returns-in_default-clause-part c = λ v right.
     let peer = c.args.peer.now in
     ap (option_map (part_of v c.args.addresses.now))
-    (none-told v c.args.self.now right peer (subst (λ (k : KeptValue). None ≡ find (is_held_of peer) k.held.peers) c.self.view_is c.in_default.ensures))
+    (none-told v c.args.self.now right peer (subst (λ (k : KeptValue). None ≡ find (is_kept_of peer) k.held.peers) c.self.view_is c.in_default.ensures))
 
 pub returns-clause-part : goal.returns-clause-part
 returns-clause-part c = λ v right.

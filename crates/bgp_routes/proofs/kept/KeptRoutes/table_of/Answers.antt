@@ -2,9 +2,9 @@ use Rattle.std.proofs.Common.{◌≡◌, List, [], find, Some, None, All, sym, a
 use Rattle.std.specs.List.{flat_map}
 use Rattle.std.specs.Map.{keys_of}
 use Rattle.bgp_updates.specs.Tables.{HasFew}
-use Rattle.bgp_routes.specs.declared.held.Advertisement.{Advertisement}
+use Rattle.bgp_routes.specs.declared.kept_config.Advertisement.{Advertisement}
 use Rattle.bgp_routes.specs.Contributors.{of_aggregate}
-use Rattle.bgp_routes.specs.Held.{is_held_of}
+use Rattle.bgp_routes.specs.KeptConfig.{is_kept_of}
 use Rattle.bgp_routes.specs.Kept.{AreKeptFor, KeptValue}
 use Rattle.bgp_routes.specs.Peers.{table_found, tables_of}
 use Rattle.bgp_routes.specs.Uniting.{with_contributions}
@@ -15,7 +15,7 @@ use Rattle.bgp_routes.proofs.kept.KeptRoutes.table_of.Goals as goal
 pub returns-in_default-clause-table : goal.returns-in_default-clause-table
 returns-in_default-clause-table c = λ v right.
     let peer = c.args.peer.now in
-    none-told v c.args.self.now right peer (subst (λ (k : KeptValue). None ≡ find (is_held_of peer) k.held.peers) c.self.view_is c.in_default.ensures)
+    none-told v c.args.self.now right peer (subst (λ (k : KeptValue). None ≡ find (is_kept_of peer) k.held.peers) c.self.view_is c.in_default.ensures)
 
 pub returns-clause-table : goal.returns-clause-table
 returns-clause-table c = λ v right.

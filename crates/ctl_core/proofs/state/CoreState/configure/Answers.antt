@@ -1,8 +1,8 @@
-use Rattle.std.proofs.Common.{◌≡◌, cond, [], sym, subst, ◌∙◌}
+use Rattle.std.proofs.Common.{◌≡◌, sym, subst}
 use Rattle.object_history.specs.Cache.{cached_after}
 use Rattle.object_history.specs.Observations.{Watched}
 use Rattle.object_cache.specs.Change.{applied}
-use Rattle.core_rules.specs.Core.{State, all_free}
+use Rattle.core_rules.specs.Core.{State}
 use Rattle.core_rules.specs.Take.{wakes}
 use Rattle.ctl_core.specs.Queued.{GoBehind}
 use Rattle.ctl_core.specs.Reached.{IsReached}

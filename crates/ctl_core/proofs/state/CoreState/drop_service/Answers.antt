@@ -1,8 +1,7 @@
-use Rattle.std.proofs.Common.{◌≡◌, ◌&&◌, sym, subst, ◌∙◌}
+use Rattle.std.proofs.Common.{◌&&◌, sym, subst, ◌∙◌}
 use Rattle.kube_model.specs.Keys.{same_key}
 use Rattle.claim_index.specs.Claims.{has_claims}
-use Rattle.core_rules.specs.Core.{State, is_ready, waiting}
-use Rattle.core_rules.specs.Take.{without_service}
+use Rattle.core_rules.specs.Core.{State, is_ready}
 use Rattle.ctl_core.specs.Queued.{GoBehind}
 use Rattle.ctl_core.specs.Reached.{IsReached}
 use Rattle.ctl_core.proofs.Kept.{service-dropped}

@@ -1,9 +1,7 @@
-use Rattle.std.proofs.Common.{◌≡◌, List, sym, ap, subst, ◌∙◌}
-use Rattle.kube_model.specs.declared.key.Key.{Key}
-use Rattle.kube_model.specs.Keys.{without}
-use Rattle.claim_index.specs.Claims.{ClaimValue, settled}
+use Rattle.std.proofs.Common.{sym, ap, subst, ◌∙◌}
+use Rattle.claim_index.specs.Claims.{ClaimValue}
 use Rattle.core_rules.specs.Core.{State}
-use Rattle.ctl_core.specs.Holding.{IsPrepared, held_service}
+use Rattle.ctl_core.specs.Holding.{IsPrepared}
 use Rattle.ctl_core.specs.Queued.{GoBehind}
 use Rattle.ctl_core.specs.Reached.{IsReached}
 use Rattle.ctl_core.proofs.Steps.{prepared-held}
@@ -26,12 +24,9 @@ invariant_of-self-2 c =
     let s : State = record { class = i.class; held = i.cache; claims = i.book.claims; queue = i.queue; awaiting = i.awaiting; out = i.out } in
     let reached : IsReached s = rw (← c.self.view_is) at c.requires.reached in
     let prepared : IsPrepared s c.args.service c.args.prepared = rw (← c.self.view_is) at c.requires.prepared in
-    let key_is = c.key.ensures ∙ ap (λ (x : ClaimValue). x.key) prepared.claim_is in
-    let state_is = prepared-held s c.args.version c.args.service c.args.prepared _ _ _ _ prepared
+    let state_is = prepared-held s c.args.version c.args.service c.args.prepared _ _ _ _ _ _ prepared
     c.in-Ok-queue_and_show.ensures.cache c.in-Ok-queue_and_show.ensures.queue
-    (c.settle_prepared.ensures.claims
-    ∙ ap (settled c.args.prepared.claim.key c.args.prepared.claim.holding c.args.prepared.claim.terms) c.reserve.ensures.claims)
-    (c.stop_awaiting.ensures ∙ ap (λ (k : Key). without k s.awaiting) key_is) in
+    c.reserve.ensures.claims c.settle_prepared.ensures.claims c.key.ensures c.stop_awaiting.ensures in
     subst (λ (t : State). WaitIn t c.release.new.self) (sym state_is)
     (held-wait s c.args.version c.args.service c.key-2.result.now c.args.prepared.is_lost i.waiting c.release.new.self reached c.self.invariant
     (c.key-2.ensures ∙ ap (λ (x : ClaimValue). x.key) prepared.claim_is) prepared.lost_is c.release.ensures)
@@ -42,10 +37,7 @@ returns-clause-ok c =
     let s : State = record { class = i.class; held = i.cache; claims = i.book.claims; queue = i.queue; awaiting = i.awaiting; out = i.out } in
     let reached : IsReached s = rw (← c.self.view_is) at c.requires.reached in
     let prepared : IsPrepared s c.args.service c.args.prepared = rw (← c.self.view_is) at c.requires.prepared in
-    let key_is = c.key.ensures ∙ ap (λ (x : ClaimValue). x.key) prepared.claim_is in
-    let state_is = prepared-held s c.args.version c.args.service c.args.prepared _ _ _ _ prepared
+    let state_is = prepared-held s c.args.version c.args.service c.args.prepared _ _ _ _ _ _ prepared
     c.in-Ok-queue_and_show.ensures.cache c.in-Ok-queue_and_show.ensures.queue
-    (c.settle_prepared.ensures.claims
-    ∙ ap (settled c.args.prepared.claim.key c.args.prepared.claim.holding c.args.prepared.claim.terms) c.reserve.ensures.claims)
-    (c.stop_awaiting.ensures ∙ ap (λ (k : Key). without k s.awaiting) key_is) in
+    c.reserve.ensures.claims c.settle_prepared.ensures.claims c.key.ensures c.stop_awaiting.ensures in
     rw (← c.self.view_is) state_is

@@ -1,6 +1,6 @@
 use Rattle.std.proofs.Common.{sym, ap, ◌∙◌}
 use Rattle.std.proofs.lemmas.Result.{IfOk-weaker}
-use Rattle.versioned_map.specs.Entries.{version_at}
+use Rattle.versioned_map.specs.Objects.{version_at}
 use Rattle.kube_model.specs.Keys.{key_cmp}
 use Rattle.core_rules.specs.Core.{State}
 use Rattle.core_rules.specs.Turn.{turn_for, chosen_at}

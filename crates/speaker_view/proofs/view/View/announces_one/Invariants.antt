@@ -2,7 +2,7 @@ use Rattle.std.proofs.Common.{◌≡◌, ◌&&◌}
 use Rattle.std.specs.List.{list_any}
 use Rattle.ip_ranges.specs.Values.{has_address}
 use Rattle.kube_model.specs.Keys.{key_cmp}
-use Rattle.versioned_map.specs.Entries.{object_at}
+use Rattle.versioned_map.specs.Objects.{object_at}
 use Rattle.speaker_view.specs.Endpoints.{can_announce}
 use Rattle.speaker_view.specs.Index.{passes}
 use Rattle.speaker_view.proofs.view.View.announces_one.Given as goal

@@ -13,7 +13,7 @@ use Rattle.status_store.proofs.store.Store.replace.Goals as goal
 pub replace_whole-requires-clause-found : goal.replace_whole-requires-clause-found
 replace_whole-requires-clause-found c =
     subst (λ (place : Place). IsAt c.args.self.now.objects place c.args.at)
-    (sym (ap place_of c.set_record.ensures ∙ place_of-with_record c.in_ok-holding.holding c.args.object)) c.requires.found
+    (sym (ap place_of c.set_record.ensures ∙ place_of-with_record c.in-Ok.holding c.args.object)) c.requires.found
 
 pub returns-clause-store : goal.returns-clause-store
 returns-clause-store c =
@@ -21,7 +21,7 @@ returns-clause-store c =
     let held : Stored = c.index-as_slice-at.result in
     let inside : held ≡ get_or c.self.inside.objects c.args.at held = rw c.as_slice.ensures at c.index-as_slice-at.is in
     let same : held ≡ get_or s.objects c.args.at held = inside ∙ ap (λ (v : StoreValue). get_or v.objects c.args.at held) c.self.view_is in
-    let own : c.in_ok-holding.holding ≡ record_of held.object = c.in_ok-holding.ensures in
+    let own : c.in-Ok.holding ≡ record_of held.object = c.in-Ok.ensures in
     let object : c.set_record.new.object ≡ with_record (record_of (get_or s.objects c.args.at held).object) c.args.object =
     c.set_record.ensures ∙ ap (λ (r : Record). with_record r c.args.object) own ∙ ap (λ (h : Stored). with_record (record_of h.object) c.args.object) same in
     let is : edited (Reset c.set_record.new.object) s ≡ edited (Set c.args.object) s =

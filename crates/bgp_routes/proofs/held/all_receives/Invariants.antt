@@ -1,6 +1,0 @@
-use Rattle.std.proofs.Common.{◌≡◌, ◌++◌, drop, map}
-use Rattle.bgp_routes.specs.Held.{receives}
-use Rattle.bgp_routes.proofs.held.all_receives.Given as goal
-
-abbrev pub invariant-loop-advertisement : goal.invariant-loop-advertisement
-invariant-loop-advertisement l = l.all ++ map (receives l.labels l.peer) (drop l.advertisement-index l.bgp) ≡ map (receives l.labels l.peer) l.bgp

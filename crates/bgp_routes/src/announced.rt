@@ -15,7 +15,7 @@ use ip_ranges::{Address, Family, mask};
 use kube_labels::Text;
 use kube_model::Service;
 use mlb_base::{NoMemory, TryCopy};
-use pool_config::{CompiledBgp, CompiledPeer, CompiledPool, Config};
+use pool_config::{ChoosesPools, CompiledBgp, CompiledPeer, CompiledPool, Config, SelectsNodes};
 use speaker_view::View;
 use std::alloc::Global;
 

@@ -20,7 +20,9 @@ use kube_labels::{Labels, Text};
 use kube_model::{LengthV4, LengthV6};
 use large_numbers::LargeNumbers;
 use mlb_base::{NoMemory, Sequence, TryCopy};
-use pool_config::{CommunityNumbers, CompiledBgp, CompiledPeer, CompiledPool};
+use pool_config::{
+    ChoosesPools, CommunityNumbers, CompiledBgp, CompiledPeer, CompiledPool, SelectsNodes,
+};
 use speaker_view::View;
 use std::alloc::Global;
 use std::cmp::Ordering;

@@ -4,6 +4,7 @@ use Rattle.std.proofs.Common.{◌∷◌, ◌++◌, length, filter, Some, refl, s
 use Rattle.std.proofs.lemmas.Bool.{and_parts, and_from, not-true, false_from_ne_true, true≢false}
 use Rattle.std.proofs.lemmas.Bool.Decides.{nat_tests, same_from_decides}
 use Rattle.std.proofs.lemmas.Map.Made.{Contains-values_of}
+use Rattle.std.proofs.lemmas.Option.{same_Some}
 use Rattle.std.proofs.lemmas.Slice.Eq.{bytes_eq-Decides}
 use Rattle.std.specs.List.{Contains, list_any, list_all}
 use Rattle.std.specs.Map.{values_of}
@@ -62,14 +63,11 @@ group-same a b key backend =
     ap (λ (k : List ℕ). mark_of (record { key = k; ports = []; backend = a.backend })) key
     ∙ ap (λ (x : Backend). mark_of (record { key = b.key; ports = []; backend = x })) backend
 
-some-is : {X : Type 0} (x y : X) → Some x ≡ Some y → x ≡ y
-some-is x y e = cc
-
 -- and those of one group have one sharing key and one backend
 group-is : (a b : Terms) → AreTerms (portless a) → AreTerms (portless b) → sharing_group_of a ≡ sharing_group_of b → portless a ≡ portless b
 unfolding sharing_group_of
 group-is a b has_a has_b same =
-    some-is (portless a) (portless b) (sym (mark-read (portless a) has_a) ∙ ap recorded_terms same ∙ mark-read (portless b) has_b)
+    same_Some (portless a) (portless b) (sym (mark-read (portless a) has_a) ∙ ap recorded_terms same ∙ mark-read (portless b) has_b)
 
 -- terms that are alike with others are of their group
 member-from_alike : (a b : Terms) → are_alike a b ≡ true → is_member (sharing_group_of b) a ≡ true

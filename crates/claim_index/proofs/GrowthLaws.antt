@@ -1,28 +1,31 @@
 -- A claim gets room in its slots, and is listed there, one slot after the other.
-use Rattle.std.proofs.Common.{◌≡◌, ℕ, ◌+◌, ◌<◌, ◌≤◌, zero, suc, Bool, true, false, ◌&&◌, ◌||◌, ◌==◌, if◌then◌else◌, List, [], ◌∷◌, ◌++◌, length, map, take}
+use Rattle.std.proofs.Common.{◌≡◌, ℕ, ◌+◌, ◌-◌, ◌<◌, ◌≤◌, zero, suc, Bool, true, false, ◌&&◌, ◌||◌, ◌==◌, if◌then◌else◌, List, [], ◌∷◌, ◌++◌, length, map, take}
 use Rattle.std.proofs.Common.{drop, get_or, Option, Some, None, Less, Greater, refl, sym, ap, subst, ◌∙◌, arith, add-one, append-nil, ⊎_elim}
-use Rattle.std.proofs.lemmas.Bool.{and_from, eq-eqb, or_cases, or_right, cases_Bool, false_from_ne_true, true≢false}
+use Rattle.std.proofs.lemmas.Bool.{or_cases, or_parts, or_right, cases_Bool, false_from_ne_true, true≢false}
 use Rattle.std.proofs.lemmas.Bool.Decides.{same_from_decides}
 use Rattle.std.proofs.lemmas.List.{take_all}
+use Rattle.std.proofs.lemmas.Option.{get_or_from_slice_get, slice_get_cases, slice_get_within}
 use Rattle.std.proofs.lemmas.List.Elements.{Contains-get_or}
 use Rattle.std.proofs.lemmas.List.Folds.{list_any-append}
 use Rattle.std.proofs.Math.Seq.{take-suc, drop-cons}
-use Rattle.std.specs.List.{AllByRecursion, Contains, list_any}
+use Rattle.std.specs.Bool.{⊤}
+use Rattle.std.specs.List.{AllByRecursion, Contains, list_any, slice_get}
 use Rattle.std.specs.List.Sorted.{IsStrictlySortedBy}
+use Rattle.std.specs.Option.{option_map}
 use Rattle.std.specs.Ordering.{ordering_reverse}
 use Rattle.ip_ranges.specs.declared.family.Family.{Family}
 use Rattle.ip_ranges.specs.Values.{AddressValue}
 use Rattle.kube_model.specs.declared.port.Port.{Port}
 use Rattle.kube_model.specs.declared.port.Protocol.TheVariants.{Tcp}
-use Rattle.mlb_base.proofs.Among.{contains-none, contains-cons, contains-first, contains-later, any-contains}
+use Rattle.mlb_base.proofs.Among.{contains-first, contains-later, any-contains}
 use Rattle.sharing_terms.specs.Ports.{port_cmp, AreAscending}
-use Rattle.sharing_terms.specs.Sharing.{same_port, has_port}
+use Rattle.sharing_terms.specs.Sharing.{same_port}
 use Rattle.sharing_terms.proofs.PortSets.{port_cmp-total}
 use Rattle.sharing_terms.proofs.SharingLaws.{same_port-is, same_port-itself}
 use Rattle.claim_index.specs.declared.slot.NumberedSlot.{NumberedSlot}
 use Rattle.claim_index.specs.declared.slot.NumberedSlot.TheVariants.{Any, OfPort, OfSharingGroup}
 use Rattle.claim_index.specs.Holders.{AddressHoldersValue, HasRoomAt, in_slot, claims_at, claims_having, claim_room, address_room}
-use Rattle.claim_index.specs.NumberedSlots.{same_slot, shared_slots, is_slot_by, AreApart}
+use Rattle.claim_index.specs.NumberedSlots.{same_slot, is_slot_by, slots_by}
 use Rattle.claim_index.proofs.SlotLaws.{same_slot-is, same_slot-itself}
 use Rattle.claim_index.proofs.IndexGrowth.{room-same}
 
@@ -32,85 +35,71 @@ pub or-none : (b : Bool) → (b || false) ≡ b
 or-none true = refl
 or-none false = refl
 
-or-along : (a b c : Bool) → (a || (b || c)) ≡ ((a || b) || c)
-or-along true b c = refl
-or-along false b c = refl
+-- whether the slot is one of these
+abbrev pub among : List NumberedSlot → NumberedSlot → Bool
+among slots s = list_any (λ x. same_slot x s) slots
 
--- no slot yet
-abbrev pub no_slot : NumberedSlot → Bool
-no_slot s = false
-
--- the slot of all claims, and these
-abbrev pub with_first : List NumberedSlot → NumberedSlot → Bool
-with_first slots s = same_slot Any s || list_any (λ x. same_slot x s) slots
-
--- the slot of all claims comes first
-pub slots-start : (s : NumberedSlot) → with_first [] s ≡ (no_slot s || same_slot Any s)
-slots-start s = or-none (same_slot Any s)
-
-or-none-of : (x y : Bool) → (x || y) ≡ false → (x ≡ false) × (y ≡ false)
-or-none-of true y e = absurd (true≢false e)
-or-none-of false y e = (refl, e)
-
-both-none : (a b c : Bool) → (a || c) ≡ false → b ≡ false → (a || (b || c)) ≡ false
-both-none a b c none other = ap (λ x. a || (x || c)) other ∙ none
+-- none of the slots stands twice
+abbrev pub AreApart : List NumberedSlot → Type 0
+AreApart [] = ⊤
+AreApart (slot ∷ slots) = (list_any (same_slot slot) slots ≡ false) × AreApart slots
 
 not-any : (test : NumberedSlot → Bool) (slots : List NumberedSlot) (i : ℕ) (d : NumberedSlot) → list_any test slots ≡ false → i < length slots
     → test (get_or slots i d) ≡ false
 not-any test [] i d none within = absurd (omega (arith, within))
-not-any test (x ∷ xs) zero d none within = (or-none-of (test x) (list_any test xs) none).0
-not-any test (x ∷ xs) (suc i) d none within = not-any test xs i d (or-none-of (test x) (list_any test xs) none).1 (omega (arith, within))
-
-module _ (slots : List NumberedSlot) (i : ℕ) (d : NumberedSlot) (within : i < length slots) where
-  abbrev next : NumberedSlot
-  next = get_or slots i d
-
-  slots-rest : drop i slots ≡ next ∷ drop (i + 1) slots
-  slots-rest = drop-cons slots i d within ∙ ap (λ n. next ∷ drop n slots) (sym (add-one i))
-
-  -- the slots up to this one
-  slots-more : (s : NumberedSlot) → with_first (take (i + 1) slots) s ≡ (with_first (take i slots) s || same_slot next s)
-  slots-more s =
-      ap (λ (xs : List NumberedSlot). with_first xs s) (ap (λ n. take n slots) (add-one i) ∙ take-suc slots i d within)
-      ∙ ap (λ b. same_slot Any s || b)
-      (list_any-append (λ x. same_slot x s) (take i slots) (next ∷ [])
-      ∙ ap (λ b. list_any (λ x. same_slot x s) (take i slots) || b) (or-none (same_slot next s)))
-      ∙ or-along (same_slot Any s) (list_any (λ x. same_slot x s) (take i slots)) (same_slot next s)
+not-any test (x ∷ xs) zero d none within = (or_parts (test x) (list_any test xs) none).0
+not-any test (x ∷ xs) (suc i) d none within = not-any test xs i d (or_parts (test x) (list_any test xs) none).1 (omega (arith, within))
 
 -- none of the slots before it is this one
-not-before : (slots : List NumberedSlot) (i : ℕ) (d : NumberedSlot) → i < length slots → AreApart slots → with_first (take i slots) (get_or slots i d) ≡ false
+not-before : (slots : List NumberedSlot) (i : ℕ) (d : NumberedSlot) → i < length slots → AreApart slots → among (take i slots) (get_or slots i d) ≡ false
 not-before [] i d within apart = absurd (omega (arith, within))
-not-before (x ∷ xs) zero d within apart = or-none (same_slot Any x) ∙ apart.0
+not-before (x ∷ xs) zero d within apart = refl
 not-before (x ∷ xs) (suc i) d within apart =
     let later : i < length xs = omega (arith, within) in
-    both-none (same_slot Any (get_or xs i d)) (same_slot x (get_or xs i d)) (list_any (λ y. same_slot y (get_or xs i d)) (take i xs))
-    (not-before xs i d later apart.2) (not-any (same_slot x) xs i d apart.1 later)
+    ap (λ b. b || among (take i xs) (get_or xs i d)) (not-any (same_slot x) xs i d apart.0 later) ∙ not-before xs i d later apart.1
 
 -- and none of those behind it
 behind-by : (slots : List NumberedSlot) (i : ℕ) (d s : NumberedSlot) → i < length slots → AreApart slots → Contains (drop (suc i) slots) s
     → same_slot (get_or slots i d) s ≡ false
 behind-by [] i d s within apart there = absurd (omega (arith, within))
 behind-by (x ∷ xs) zero d s within apart there =
-    false_from_ne_true (same_slot x s) (λ e. true≢false (sym (any-contains (same_slot x) xs s there e) ∙ apart.1))
-behind-by (x ∷ xs) (suc i) d s within apart there = behind-by xs i d s (omega (arith, within)) apart.2 there
+    false_from_ne_true (same_slot x s) (λ e. true≢false (sym (any-contains (same_slot x) xs s there e) ∙ apart.0))
+behind-by (x ∷ xs) (suc i) d s within apart there = behind-by xs i d s (omega (arith, within)) apart.1 there
 
-not-behind : (slots : List NumberedSlot) (i : ℕ) (d s : NumberedSlot) → i < length slots → AreApart slots → Contains (drop (i + 1) slots) s
-    → same_slot (get_or slots i d) s ≡ false
-not-behind slots i d s within apart there =
-    behind-by slots i d s within apart (subst (λ n. Contains (drop n slots) s) (add-one i) there)
+-- the slot that a walk comes to
+module _ (slots : List NumberedSlot) (i : ℕ) (x : NumberedSlot) (at : slice_get slots i ≡ Some x) where
+  within : i < length slots
+  within = slice_get_within slots i x at
 
-apart-first : (slots : List NumberedSlot) (s : NumberedSlot) → AreApart slots → Contains slots s → same_slot Any s ≡ false
-apart-first [] s apart there = absurd (contains-none s there)
-apart-first (x ∷ xs) s apart there =
-    ⊎_elim (λ first. ap (same_slot Any) (sym first) ∙ apart.0) (λ later. apart-first xs s apart.2 later) (contains-cons x xs s there)
+  is : get_or slots i x ≡ x
+  is = get_or_from_slice_get slots i x x at
 
--- the same of the slot that a walk comes to
-module _ (slots : List NumberedSlot) (i : ℕ) (x : NumberedSlot) (within : i < length slots) (is : x ≡ get_or slots i x) where
-  pub slots-next : (s : NumberedSlot) → with_first (take (i + 1) slots) s ≡ (with_first (take i slots) s || same_slot x s)
-  slots-next s = slots-more slots i x within s ∙ ap (λ (y : NumberedSlot). with_first (take i slots) s || same_slot y s) (sym is)
+  -- it and those behind it
+  slots-rest : drop i slots ≡ x ∷ drop (i + 1) slots
+  slots-rest = drop-cons slots i x within ∙ (λ j. is j ∷ drop (sym (add-one i) j) slots)
 
-  pub not-yet : AreApart slots → with_first (take i slots) x ≡ false
-  not-yet apart = ap (λ (y : NumberedSlot). with_first (take i slots) y) is ∙ not-before slots i x within apart
+  -- the slots up to it
+  pub slots-next : (s : NumberedSlot) → among (take (i + 1) slots) s ≡ (among (take i slots) s || same_slot x s)
+  slots-next s =
+      ap (λ (xs : List NumberedSlot). among xs s) (ap (λ n. take n slots) (add-one i) ∙ take-suc slots i x within)
+      ∙ list_any-append (λ y. same_slot y s) (take i slots) (get_or slots i x ∷ [])
+      ∙ ap (λ b. among (take i slots) s || b) (or-none (same_slot (get_or slots i x) s) ∙ ap (λ (y : NumberedSlot). same_slot y s) is)
+
+  pub not-yet : AreApart slots → among (take i slots) x ≡ false
+  not-yet apart = ap (λ (y : NumberedSlot). among (take i slots) y) (sym is) ∙ not-before slots i x within apart
+
+  pub contained : Contains slots x
+  contained = subst (λ (y : NumberedSlot). Contains slots y) is (Contains-get_or slots i x within)
+
+  not-behind : (s : NumberedSlot) → AreApart slots → Contains (drop (i + 1) slots) s → same_slot x s ≡ false
+  not-behind s apart there =
+      ap (λ (y : NumberedSlot). same_slot y s) (sym is)
+      ∙ behind-by slots i x s within apart (subst (λ n. Contains (drop n slots) s) (add-one i) there)
+
+-- where there is none at the index, the walk came to all
+pub slots-past : (slots : List NumberedSlot) (i : ℕ) → slice_get slots i ≡ None → take i slots ≡ slots
+slots-past slots i none =
+    ⊎_elim (λ some. let at = some.2 in absurd (cc)) (λ past. take_all i slots past.0) (slice_get_cases slots i).1
 
 -- ---- the slots of terms
 
@@ -146,13 +135,8 @@ over-ports : (group other : ℕ) (ports : List Port) (q : Port)
 over-ports group other [] q = refl
 over-ports group other (p ∷ ps) q = ap (λ b. (same_port p q && (group == other)) || b) (over-ports group other ps q)
 
--- the slots of the group of this number
-abbrev pub slots_by : Option ℕ → List Port → List NumberedSlot
-slots_by None ports = []
-slots_by (Some group) ports = shared_slots group ports
-
--- a claim is listed in the slot of all claims and in those of its group
-pub occupied : (group : Option ℕ) (ports : List Port) (s : NumberedSlot) → with_first (slots_by group ports) s ≡ is_slot_by group ports s
+-- the slots in which a claim is listed
+pub occupied : (group : Option ℕ) (ports : List Port) (s : NumberedSlot) → among (slots_by group ports) s ≡ is_slot_by group ports s
 occupied None ports Any = refl
 occupied (Some group) ports Any = refl
 occupied None ports (OfSharingGroup other) = refl
@@ -160,11 +144,9 @@ occupied None ports (OfPort q other) = refl
 occupied (Some group) ports (OfSharingGroup other) = ap (λ b. (group == other) || b) (no-group group other ports) ∙ or-none (group == other)
 occupied (Some group) ports (OfPort q other) = over-ports group other ports q ∙ port-by (group == other) ports q
 
--- it is listed in each of these
 pub occupied-each : (group : Option ℕ) (ports : List Port) (s : NumberedSlot) → Contains (slots_by group ports) s → is_slot_by group ports s ≡ true
 occupied-each group ports s there =
-    sym (occupied group ports s) ∙ or_right (same_slot Any s) (list_any (λ x. same_slot x s) (slots_by group ports))
-    (any-contains (λ x. same_slot x s) (slots_by group ports) s there (same_slot-itself s))
+    sym (occupied group ports s) ∙ any-contains (λ x. same_slot x s) (slots_by group ports) s there (same_slot-itself s)
 
 never-less : (port : Port) → port_cmp port port ≡ Less → ⊥
 never-less port less =
@@ -182,27 +164,49 @@ no-ports : (group : ℕ) (ports : List Port) → list_any (same_slot (OfSharingG
 no-ports group [] = refl
 no-ports group (p ∷ ps) = no-ports group ps
 
+not-all : (group : ℕ) (ports : List Port) → list_any (same_slot Any) (port_slots group ports) ≡ false
+not-all group [] = refl
+not-all group (p ∷ ps) = not-all group ps
+
 ports-apart : (group : ℕ) (ports : List Port) → AreAscending ports → AreApart (port_slots group ports)
 unfolding IsStrictlySortedBy
 ports-apart group [] up = tt
-ports-apart group (p ∷ ps) up = (refl, other-ports group p ps up.0, ports-apart group ps up.1)
+ports-apart group (p ∷ ps) up = (other-ports group p ps up.0, ports-apart group ps up.1)
 
 -- the slots of ports that ascend are apart
-pub shared-apart : (group : ℕ) (ports : List Port) → AreAscending ports → AreApart (shared_slots group ports)
-shared-apart group ports up = (refl, no-ports group ports, ports-apart group ports up)
+pub slots-apart : (group : Option ℕ) (ports : List Port) → AreAscending ports → AreApart (slots_by group ports)
+slots-apart None ports up = (refl, tt)
+slots-apart (Some group) ports up = (not-all group ports, (no-ports group ports, ports-apart group ports up))
 
--- the slots as a walk over the ports comes to them
-map-at : (group : ℕ) (ports : List Port) (i : ℕ) (port : Port) → get_or (port_slots group ports) i (OfPort port group) ≡ OfPort (get_or ports i port) group
-map-at group [] zero port = refl
-map-at group [] (suc i) port = refl
-map-at group (q ∷ ports) zero port = refl
-map-at group (q ∷ ports) (suc i) port = map-at group ports i port
+-- there are no more of them
+slots-few : (group : Option ℕ) (ports : List Port) → length (slots_by group ports) ≤ length ports + 2
+slots-few None ports = omega arith
+slots-few (Some group) ports = omega (arith, many ports)
+  where
+    many : (ps : List Port) → length (port_slots group ps) ≡ length ps
+    many [] = refl
+    many (p ∷ ps) = ap (λ n. suc n) (many ps)
 
-pub slot-at : (group : ℕ) (ports : List Port) (i : ℕ) (port : Port) → port ≡ get_or ports i port
-    → OfPort port group ≡ get_or (shared_slots group ports) (i + 1) (OfPort port group)
-slot-at group ports i port is =
-    ap (λ (p : Port). OfPort p group) is ∙ sym (map-at group ports i port)
-    ∙ ap (λ n. get_or (shared_slots group ports) n (OfPort port group)) (sym (add-one i))
+pub slots-all : (group : Option ℕ) (ports : List Port) (i : ℕ) → length ports + 2 ≤ i → take i (slots_by group ports) ≡ slots_by group ports
+slots-all group ports i passed = take_all i (slots_by group ports) (omega (arith, passed, slots-few group ports))
+
+-- the slot of a port
+port-at : (group : ℕ) (ports : List Port) (i : ℕ) → slice_get (port_slots group ports) i ≡ option_map (λ port. OfPort port group) (slice_get ports i)
+port-at group [] zero = refl
+port-at group [] (suc i) = refl
+port-at group (p ∷ ps) zero = refl
+port-at group (p ∷ ps) (suc i) = port-at group ps i
+
+pub slot-of_port : (group : Option ℕ) (n : ℕ) (ports : List Port) (i : ℕ) (port : Port) → group ≡ Some n → 2 ≤ i → slice_get ports (i - 2) ≡ Some port
+    → slice_get (slots_by group ports) i ≡ Some (OfPort port n)
+slot-of_port group n ports i port is behind here =
+    let place : i ≡ suc (suc (i - 2)) = omega (arith, behind) in
+    (λ j. slice_get (slots_by (is j) ports) (place j)) ∙ port-at n ports (i - 2) ∙ ap (λ (p : Option Port). option_map (λ q. OfPort q n) p) here
+
+-- what is answered for the ports as they are shown
+pub slot-shown : (group : Option ℕ) (ports shown : List Port) (i : ℕ) (o : Option NumberedSlot) → shown ≡ ports → o ≡ slice_get (slots_by group shown) i
+    → slice_get (slots_by group ports) i ≡ o
+slot-shown group ports shown i o are is = ap (λ (ps : List Port). slice_get (slots_by group ps) i) (sym are) ∙ sym is
 
 -- the port that a walk comes to
 abbrev pub no_port : Port
@@ -212,21 +216,6 @@ pub port-there : (ports : List Port) (i : ℕ) (d e : Port) → i < length ports
 port-there [] i d e within = absurd (omega (arith, within))
 port-there (p ∷ ps) zero d e within = refl
 port-there (p ∷ ps) (suc i) d e within = port-there ps i d e (omega (arith, within))
-
-pub slots-many : (group : ℕ) (ports : List Port) → length (shared_slots group ports) ≡ length ports + 1
-slots-many group ports = omega (arith, many ports)
-  where
-    many : (ps : List Port) → length (port_slots group ps) ≡ length ps
-    many [] = refl
-    many (p ∷ ps) = ap (λ n. suc n) (many ps)
-
--- a port of the walk is one of the ports, and its slot one of those of the group
-pub contains-at : (ports : List Port) (i : ℕ) (port : Port) → i < length ports → port ≡ get_or ports i port → Contains ports port
-contains-at ports i port within is = subst (λ (p : Port). Contains ports p) (sym is) (Contains-get_or ports i port within)
-
-pub occupied-port : (group : ℕ) (ports : List Port) (port : Port) → Contains ports port → is_slot_by (Some group) ports (OfPort port group) ≡ true
-occupied-port group ports port there =
-    and_from (group == group) (has_port ports port) (eq-eqb group group refl) (any-contains (same_port port) ports port there (same_port-itself port))
 
 -- ---- room
 
@@ -259,15 +248,15 @@ room-next before after more addresses slots grown x grows room claims families h
     (or_cases (slots s) (same_slot x s) (sym (grows s) ∙ e))
 
 -- there is no slot yet
-pub room-none : (h : AddressHoldersValue) (more : ℕ) (addresses : List AddressValue) → HasRoomIn h more addresses no_slot
+pub room-none : (h : AddressHoldersValue) (more : ℕ) (addresses : List AddressValue) → HasRoomIn h more addresses (among [])
 room-none h more addresses s e = absurd (true≢false (sym e))
 
 -- and where there is room in all slots of the claim, there is in each in which it is listed
 pub room-all : (h : AddressHoldersValue) (more : ℕ) (addresses : List AddressValue) (group : Option ℕ) (ports : List Port) (slots : List NumberedSlot)
-    → slots ≡ slots_by group ports → HasRoomIn h more addresses (with_first slots) → (s : NumberedSlot) → is_slot_by group ports s ≡ true
+    → slots ≡ slots_by group ports → HasRoomIn h more addresses (among slots) → (s : NumberedSlot) → is_slot_by group ports s ≡ true
     → HasRoomAt h more s addresses
-room-all h more addresses group ports slots is room s e =
-    room s (ap (λ (xs : List NumberedSlot). with_first xs s) is ∙ occupied group ports s ∙ e)
+room-all h more addresses group ports slots are room s e =
+    room s (ap (λ (xs : List NumberedSlot). among xs s) are ∙ occupied group ports s ∙ e)
 
 -- ---- the lists of claims
 
@@ -276,33 +265,20 @@ claims-same : (before after : AddressHoldersValue) (slot : NumberedSlot) → in_
     → claims_having after slot ≡ claims_having before slot
 claims-same before after slot same = λ i a. claims_at (same i a.family) a.number
 
--- room in the slots of the claim, once it is listed in that of all claims
-pub room-start : (before after : AddressHoldersValue) (more : ℕ) (addresses : List AddressValue) (group : Option ℕ) (ports : List Port)
-    → AreApart (slots_by group ports)
-    → ((s : NumberedSlot) → is_slot_by group ports s ≡ true → HasRoomAt before more s addresses)
-    → ((s : NumberedSlot) → same_slot Any s ≡ false → in_slot after s ≡ in_slot before s)
-    → (s : NumberedSlot) → Contains (slots_by group ports) s → HasRoomAt after more s addresses
-room-start before after more addresses group ports apart room others s there =
-    room-same before after more s addresses (others s (apart-first (slots_by group ports) s apart there)) (room s (occupied-each group ports s there))
+module _ (more : ℕ) (addresses : List AddressValue) (slots : List NumberedSlot) (i : ℕ) (x : NumberedSlot) (at : slice_get slots i ≡ Some x) where
+  -- there is room in the slot that comes next
+  pub room-here : (h : AddressHoldersValue) → ((s : NumberedSlot) → Contains (drop i slots) s → HasRoomAt h more s addresses) → HasRoomAt h more x addresses
+  room-here h room =
+      room x (subst (λ (xs : List NumberedSlot). Contains xs x) (sym (slots-rest slots i x at)) (contains-first x (drop (i + 1) slots)))
 
--- there is room in the slot that comes next
-pub room-here : (h : AddressHoldersValue) (more : ℕ) (addresses : List AddressValue) (slots : List NumberedSlot) (i : ℕ) (x : NumberedSlot) → i < length slots
-    → x ≡ get_or slots i x → ((s : NumberedSlot) → Contains (drop i slots) s → HasRoomAt h more s addresses) → HasRoomAt h more x addresses
-room-here h more addresses slots i x within is room =
-    let next : NumberedSlot = get_or slots i x in
-    subst (λ (s : NumberedSlot). HasRoomAt h more s addresses) (sym is)
-    (room next (subst (λ (xs : List NumberedSlot). Contains xs next) (sym (slots-rest slots i x within)) (contains-first next (drop (i + 1) slots))))
-
--- and then in those behind it
-pub room-behind : (before after : AddressHoldersValue) (more : ℕ) (addresses : List AddressValue) (slots : List NumberedSlot) (i : ℕ) (x : NumberedSlot)
-    → i < length slots → x ≡ get_or slots i x → AreApart slots
-    → ((s : NumberedSlot) → Contains (drop i slots) s → HasRoomAt before more s addresses)
-    → ((s : NumberedSlot) → same_slot x s ≡ false → in_slot after s ≡ in_slot before s)
-    → (s : NumberedSlot) → Contains (drop (i + 1) slots) s → HasRoomAt after more s addresses
-room-behind before after more addresses slots i x within is apart room others s there =
-    let next : NumberedSlot = get_or slots i x in
-    room-same before after more s addresses (others s (ap (λ (y : NumberedSlot). same_slot y s) is ∙ not-behind slots i x s within apart there))
-    (room s (subst (λ (xs : List NumberedSlot). Contains xs s) (sym (slots-rest slots i x within)) (contains-later next (drop (i + 1) slots) s there)))
+  -- and then in those behind it
+  pub room-behind : (before after : AddressHoldersValue) → AreApart slots
+      → ((s : NumberedSlot) → Contains (drop i slots) s → HasRoomAt before more s addresses)
+      → ((s : NumberedSlot) → same_slot x s ≡ false → in_slot after s ≡ in_slot before s)
+      → (s : NumberedSlot) → Contains (drop (i + 1) slots) s → HasRoomAt after more s addresses
+  room-behind before after apart room others s there =
+      room-same before after more s addresses (others s (not-behind slots i x at s apart there))
+      (room s (subst (λ (xs : List NumberedSlot). Contains xs s) (sym (slots-rest slots i x at)) (contains-later x (drop (i + 1) slots) s there)))
 
 module _ (more : AddressValue → List ℕ) where
   -- what is listed in the slot, and more where it is one of the slots
@@ -310,7 +286,7 @@ module _ (more : AddressValue → List ℕ) where
   with_more h slots s a = claims_having h s a ++ (if slots s then more a else [])
 
   -- nothing more yet
-  pub listed-none : (h : AddressHoldersValue) (s : NumberedSlot) → claims_having h s ≡ with_more h no_slot s
+  pub listed-none : (h : AddressHoldersValue) (s : NumberedSlot) → claims_having h s ≡ with_more h (among []) s
   listed-none h s = λ j a. sym (append-nil (claims_having h s a)) j
 
   -- the claim is listed in one slot more
@@ -346,14 +322,8 @@ module _ (more : AddressValue → List ℕ) where
 
   -- once no slot is left
   pub listed-each : (old h : AddressHoldersValue) (group : Option ℕ) (ports : List Port) (slots : List NumberedSlot) → slots ≡ slots_by group ports
-      → ((s : NumberedSlot) → claims_having h s ≡ with_more old (with_first slots) s) → (s : NumberedSlot)
+      → ((s : NumberedSlot) → claims_having h s ≡ with_more old (among slots) s) → (s : NumberedSlot)
       → claims_having h s ≡ with_more old (is_slot_by group ports) s
   listed-each old h group ports slots is listed s =
-      listed s ∙ ap (λ (xs : List NumberedSlot). with_more old (with_first xs) s) is
+      listed s ∙ ap (λ (xs : List NumberedSlot). with_more old (among xs) s) is
       ∙ (λ j a. claims_having old s a ++ (if occupied group ports s j then more a else []))
-
--- the slots of the group and of all ports, once none of these is left
-pub slots-all : (group : ℕ) (ports shown : List Port) (i : ℕ) → shown ≡ ports → length shown ≤ i
-    → take (i + 1) (shared_slots group shown) ≡ slots_by (Some group) ports
-slots-all group ports shown i are passed =
-    take_all (i + 1) (shared_slots group shown) (omega (arith, slots-many group shown)) ∙ ap (λ (ps : List Port). shared_slots group ps) are

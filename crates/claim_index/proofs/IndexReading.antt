@@ -7,7 +7,7 @@ use Rattle.std.specs.List.Sorted.{IsStrictlySortedBy}
 use Rattle.std.specs.Map.{lookup, keys_of, values_of}
 use Rattle.std.specs.Ordering.{nat_cmp}
 use Rattle.std.proofs.lemmas.Bool.Decides.{nat_tests}
-use Rattle.std.proofs.lemmas.Bool.{true≢false}
+use Rattle.std.proofs.lemmas.Bool.{eq-eqb, or_parts, true≢false}
 use Rattle.ip_ranges.specs.declared.family.Family.{Family}
 use Rattle.ip_ranges.specs.Values.{AddressValue, has_address, is_buggy}
 use Rattle.kube_model.specs.declared.key.Key.{Key}
@@ -25,11 +25,8 @@ use Rattle.claim_index.specs.Index.{numbers_of, numbered, numbers_at, is_taken, 
 use Rattle.claim_index.specs.Reading.{is_claim_under, gives_way, is_of, yields, leaves}
 
 -- ---- numbers and tests
-below-apart : (n m : ℕ) → nat_cmp n m ≡ Less → (n == m) ≡ false
+pub below-apart : (n m : ℕ) → nat_cmp n m ≡ Less → (n == m) ≡ false
 below-apart n m less = grind (arith, nat_tests)
-
-itself : (n : ℕ) → (n == n) ≡ true
-itself n = grind (arith, nat_tests)
 
 pub or-true : (b : Bool) → (b || true) ≡ true
 or-true true = refl
@@ -108,16 +105,12 @@ module _ (passes : ClaimValue → Bool) where
   found-sorted : (items : List (ℕ × ClaimValue)) → IsStrictlySortedBy nat_cmp (keys_of items) → AreFound passes (under items) items
   unfolding IsStrictlySortedBy
   found-sorted [] sorted = tt
-  found-sorted (p ∷ rest) sorted = (λ e. rw (itself p.0) refl, found-behind p.0 p.1 rest rest sorted.0 (found-sorted rest sorted.1))
-
-  found-none-by : (b : Bool) (h : Bool) → (b || h) ≡ false → (b ≡ false) × (h ≡ false)
-  found-none-by true h e = absurd (true≢false e)
-  found-none-by false h e = (refl, e)
+  found-sorted (p ∷ rest) sorted = (λ e. rw (eq-eqb p.0 p.0 refl) refl, found-behind p.0 p.1 rest rest sorted.0 (found-sorted rest sorted.1))
 
   found-none : (find : ℕ → Option ClaimValue) (items : List (ℕ × ClaimValue)) → list_any passes (values_of items) ≡ false → AreFound passes find items
   found-none find [] none = tt
   found-none find (p ∷ items) none =
-      let parts = found-none-by (passes p.1) (list_any passes (values_of items)) none in
+      let parts = or_parts (passes p.1) (list_any passes (values_of items)) none in
       (λ e. absurd (true≢false (sym e ∙ parts.0)), found-none find items parts.1)
 
   found-by : (b : Bool) (items : List (ℕ × ClaimValue)) → list_any passes (values_of items) ≡ b → (not b ≡ false → IsStrictlySortedBy nat_cmp (keys_of items))

@@ -1,12 +1,13 @@
 -- What is left of a claim in the index once it was removed.
 use Rattle.std.proofs.Common.{◌≡◌, ℕ, ◌+◌, ◌<◌, ◌==◌, Bool, true, false, cond, not, ◌||◌, List, [], ◌∷◌, ◌++◌, filter, take}
 use Rattle.std.proofs.Common.{length, get_or, Option, Some, None, Less, refl, sym, ap, ◌∙◌, subst, arith, ⊎_elim, ◌⊎◌, inr}
-use Rattle.std.proofs.lemmas.Bool.{true≢false, cases_Bool}
-use Rattle.std.proofs.lemmas.Bool.Decides.{nat_tests, same_from_decides}
+use Rattle.std.proofs.lemmas.Bool.{true≢false, cases_Bool, eq-eqb, eqb-true}
+use Rattle.std.proofs.lemmas.Bool.Decides.{same_from_decides}
 use Rattle.std.proofs.lemmas.List.{take_more}
 use Rattle.std.proofs.lemmas.List.Elements.{filter-append}
 use Rattle.std.proofs.lemmas.List.Folds.{list_any-append}
 use Rattle.std.proofs.lemmas.List.Kept.{IsStrictlySortedBy-filter}
+use Rattle.std.proofs.lemmas.Option.{same_Some}
 use Rattle.std.proofs.lemmas.Map.Keys.{sorted_head, sorted_tail}
 use Rattle.std.specs.BTreeMap.{is_at}
 use Rattle.std.specs.List.{Contains, AllByRecursion}
@@ -27,6 +28,7 @@ use Rattle.claim_index.specs.Index.{numbers_of, numbered, numbered_at, numbers_a
 use Rattle.claim_index.specs.Slots.{Slot}
 use Rattle.claim_index.specs.Slots.{occupies}
 use Rattle.claim_index.specs.Removal.{all_but, left_at}
+use Rattle.claim_index.proofs.IndexReading.{below-apart}
 
 -- ---- lists
 module _ {X : Type 0} (test : X → Bool) where
@@ -81,15 +83,6 @@ above n (q ∷ items) all p there =
     ⊎_elim (λ (same : q ≡ p). subst (λ (r : ℕ × ClaimValue). nat_cmp n r.0 ≡ Less) same all.0) (λ later. above n items all.1 p later)
     (contains-cons q items p there)
 
-apart-by : (n m : ℕ) → nat_cmp n m ≡ Less → (n == m) ≡ false
-apart-by n m less = grind (arith, nat_tests)
-
-pub itself : (n : ℕ) → (n == n) ≡ true
-itself n = grind (arith, nat_tests)
-
-pub same-number : (n m : ℕ) → (n == m) ≡ true → n ≡ m
-same-number n m e = grind (arith, nat_tests)
-
 -- each claim is found by its number
 abbrev pub AreFound : List (ℕ × ClaimValue) → Type 0
 AreFound items = (p : ℕ × ClaimValue) → Contains items p → lookup (λ n. n == p.0) items ≡ Some p.1
@@ -98,9 +91,9 @@ are-found : (items : List (ℕ × ClaimValue)) → IsStrictlySortedBy nat_cmp (k
 are-found [] sorted p there = absurd (contains-none p there)
 are-found (q ∷ items) sorted p there =
     ⊎_elim
-    (λ (same : q ≡ p). subst (λ (r : ℕ × ClaimValue). lookup (λ n. n == r.0) (q ∷ items) ≡ Some r.1) same (rw (itself q.0) refl))
+    (λ (same : q ≡ p). subst (λ (r : ℕ × ClaimValue). lookup (λ n. n == r.0) (q ∷ items) ≡ Some r.1) same (rw (eq-eqb q.0 q.0 refl) refl))
     (λ later.
-    let apart = apart-by q.0 p.0 (above q.0 items (sorted_head nat_cmp q.0 (keys_of items) sorted) p later) in
+    let apart = below-apart q.0 p.0 (above q.0 items (sorted_head nat_cmp q.0 (keys_of items) sorted) p later) in
     rw apart (are-found items (sorted_tail nat_cmp q.0 (keys_of items) sorted) p later))
     (contains-cons q items p there)
 
@@ -108,12 +101,9 @@ are-found (q ∷ items) sorted p there =
 abbrev pub IsOnly : ℕ → ClaimValue → List (ℕ × ClaimValue) → Type 0
 IsOnly n c items = (p : ℕ × ClaimValue) → Contains items p → (p.0 == n) ≡ true → p.1 ≡ c
 
-some-is : {X : Type 0} (x y : X) → Some x ≡ Some y → x ≡ y
-some-is x y e = cc
-
 is-only : (n : ℕ) (c : ClaimValue) (items : List (ℕ × ClaimValue)) → AreFound items → lookup (λ m. m == n) items ≡ Some c → IsOnly n c items
 is-only n c items found e p there same =
-    some-is p.1 c (sym (found p there) ∙ ap (λ (k : ℕ). lookup (λ m. m == k) items) (same-number p.0 n same) ∙ e)
+    same_Some p.1 c (sym (found p there) ∙ ap (λ (k : ℕ). lookup (λ m. m == k) items) (eqb-true p.0 n same) ∙ e)
 
 only-tail : (n : ℕ) (c : ClaimValue) (q : ℕ × ClaimValue) (items : List (ℕ × ClaimValue)) → IsOnly n c (q ∷ items) → IsOnly n c items
 only-tail n c q items only p there same = only p (contains-later q items p there) same

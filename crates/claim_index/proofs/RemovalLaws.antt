@@ -16,8 +16,8 @@ use Rattle.claim_index.specs.Holders.{AddressHoldersValue, AreFewer, in_slot, cl
 use Rattle.claim_index.specs.Index.{IsIndexed}
 use Rattle.claim_index.specs.Removal.{all_but, left_at}
 use Rattle.claim_index.specs.GroupNumbers.{GroupsValue, AreNumbered, number_for}
-use Rattle.claim_index.specs.NumberedSlots.{is_slot_by, same_slot}
-use Rattle.claim_index.proofs.GrowthLaws.{occupied, or-none, slots_by, with_first}
+use Rattle.claim_index.specs.NumberedSlots.{is_slot_by, same_slot, slots_by}
+use Rattle.claim_index.proofs.GrowthLaws.{among, occupied, or-none}
 use Rattle.claim_index.proofs.NumberLaws.{fewer-in, left-in, left-unused}
 use Rattle.claim_index.proofs.SlotLaws.{same_slot-is, same_slot-itself}
 use Rattle.claim_index.proofs.IndexRemoval.{filter-once, without, removed-assigned, removed-groups, removed-keys, removed-holders}
@@ -69,10 +69,10 @@ module _ (n : ℕ) (xs : List AddressValue) where
 -- and in all of those of the claim
 pub left-all : (start : NumberedSlot → AddressValue → List ℕ) (after : AddressHoldersValue) (n : ℕ) (xs : List AddressValue) (group : Option ℕ)
     (ports : List Port) (slots : List NumberedSlot)
-    → slots ≡ slots_by group ports → ((slot : NumberedSlot) → claims_having after slot ≡ left_in n xs (with_first slots) start slot)
+    → slots ≡ slots_by group ports → ((slot : NumberedSlot) → claims_having after slot ≡ left_in n xs (among slots) start slot)
     → (slot : NumberedSlot) → claims_having after slot ≡ left_in n xs (is_slot_by group ports) start slot
 left-all start after n xs group ports slots is each slot =
-    each slot ∙ ap (λ (ys : List NumberedSlot). left_in n xs (with_first ys) start slot) is
+    each slot ∙ ap (λ (ys : List NumberedSlot). left_in n xs (among ys) start slot) is
     ∙ ap (λ b. cond b (left_at n xs (start slot)) (start slot)) (occupied group ports slot)
 
 -- ---- the index without a claim

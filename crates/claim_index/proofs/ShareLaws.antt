@@ -59,7 +59,7 @@ module _ (claims : List ClaimValue) (t : Terms) (family : Family) where
   open-first low high none m first below = ap (λ b. b && true) (none m first below)
 
   -- one port more
-  pub open-next : (ports : List Port) (i : ℕ) (x : Port) (low from next : ℕ) → i < length ports → x ≡ get_or ports i x → NoneOpen (take i ports) low from
+  open-next : (ports : List Port) (i : ℕ) (x : Port) (low from next : ℕ) → i < length ports → x ≡ get_or ports i x → NoneOpen (take i ports) low from
       → ((m : ℕ) → from ≤ m → m < next
       → (is_shared group claims (address_of family m) && not (is_taken (OfPort x group) claims (address_of family m))) ≡ false)
       → NoneOpen (take (i + 1) ports) low next
@@ -104,13 +104,25 @@ module _ (items : List (ℕ × ClaimValue)) (h : AddressHoldersValue) (slot : Nu
       → is_shared group (values_of items) (address_of family m) ≡ false
   none-taken low high none m first below = sym (held-is items h slot (OfSharingGroup group) are (address_of family m)) ∙ none m first below
 
-  pub none-but : (fewer : NumberedSlot) (port : Port) (low high : ℕ) → claims_having h fewer ≡ (λ a. numbers_at (OfPort port group) a items)
+  none-but : (fewer : NumberedSlot) (port : Port) (low high : ℕ) → claims_having h fewer ≡ (λ a. numbers_at (OfPort port group) a items)
       → ((m : ℕ) → low ≤ m → m < high → is_held_but h slot fewer family m ≡ false) → (m : ℕ) → low ≤ m → m < high
       → (is_shared group (values_of items) (address_of family m) && not (is_taken (OfPort port group) (values_of items) (address_of family m))) ≡ false
   none-but fewer port low high fewer_are none m first below =
       (λ i. sym (held-is items h slot (OfSharingGroup group) are (address_of family m)) i
       && not (sym (held-is items h fewer (OfPort port group) fewer_are (address_of family m)) i))
       ∙ none m first below
+
+-- none is open to one port more, as far as none is listed in the slot of the group and not in that of the port
+pub open-beyond : (items : List (ℕ × ClaimValue)) (h : AddressHoldersValue) (slot fewer : NumberedSlot) (t : Terms) (family : Family)
+    (ports : List Port) (i : ℕ) (x : Port) (low from next : ℕ)
+    → claims_having h slot ≡ (λ a. numbers_at (OfSharingGroup (sharing_group_of t)) a items)
+    → claims_having h fewer ≡ (λ a. numbers_at (OfPort x (sharing_group_of t)) a items)
+    → i < length ports → x ≡ get_or ports i x → NoneOpen (values_of items) t family (take i ports) low from
+    → ((m : ℕ) → from ≤ m → m < next → is_held_but h slot fewer family m ≡ false)
+    → NoneOpen (values_of items) t family (take (i + 1) ports) low next
+open-beyond items h slot fewer t family ports i x low from next slot_are fewer_are within is before none =
+    open-next (values_of items) t family ports i x low from next within is before
+    (none-but items h slot (sharing_group_of t) slot_are family fewer x from next fewer_are none)
 
 -- where nothing is listed for the group no claim of it has an address
 pub none-listed : (items : List (ℕ × ClaimValue)) (group : List ℕ) → ◌≡◌ {A = AddressValue → List ℕ} (λ a. numbers_at (OfSharingGroup group) a items) (λ a. [])

@@ -1,6 +1,5 @@
 -- The slots of claims by the numbers of their groups.
-use Rattle.std.specs.Prelude.{◌≡◌, ℕ, Bool, true, false, ◌==◌, ◌&&◌, List, [], ◌∷◌, map, ⊤, Option, Some}
-use Rattle.std.specs.List.{list_any}
+use Rattle.std.specs.Prelude.{ℕ, Bool, true, false, ◌==◌, ◌&&◌, List, [], ◌∷◌, map, Option, Some, None}
 use Rattle.std.specs.Option.{option_map, option_map_or}
 use Rattle.kube_model.specs.declared.port.Port.{Port}
 use Rattle.sharing_terms.specs.Sharing.{has_port, same_port}
@@ -31,14 +30,11 @@ is_slot_by group ports Any = true
 is_slot_by group ports (OfSharingGroup n) = is_number group n
 is_slot_by group ports (OfPort port n) = is_number group n && has_port ports port
 
--- the slots of the group of this number and of each of the ports in it
-abbrev pub shared_slots : ℕ → List Port → List NumberedSlot
-shared_slots group ports = OfSharingGroup group ∷ map (λ port. OfPort port group) ports
-
--- none of the slots is that of all claims, and none stands twice
-abbrev pub AreApart : List NumberedSlot → Type 0
-AreApart [] = ⊤
-AreApart (slot ∷ slots) = (same_slot Any slot ≡ false) × (list_any (same_slot slot) slots ≡ false) × AreApart slots
+-- the slots in which a claim with these ports is listed: that of all claims, and where its group has a number that of the group and that of each
+-- of the ports in it
+abbrev pub slots_by : Option ℕ → List Port → List NumberedSlot
+slots_by None ports = Any ∷ []
+slots_by (Some group) ports = Any ∷ OfSharingGroup group ∷ map (λ port. OfPort port group) ports
 
 -- the slot with the number of its group, where that has one
 abbrev pub numbered_slot : GroupsValue → texts.Slot → Option NumberedSlot

@@ -10,7 +10,7 @@ ghost use Rattle.claim_index.specs.NumberedSlots.{is_slot_by, same_slot};
 
 use crate::address_holders::AddressHolders;
 use crate::claims::Claim;
-use crate::slot::NumberedSlot;
+use crate::slot::{NumberedSlot, slot_at, slots_with};
 use ip_ranges::Address;
 use mlb_base::NoMemory;
 
@@ -25,13 +25,11 @@ pub(crate) fn reserve_claim(
         → HasRoomAt holders.new (length claim.now.holding.addresses) slot claim.now.holding.addresses) }
 {
     let addresses = claim.addresses();
-    reserve_each(holders, &NumberedSlot::Any, addresses)?;
-    let Some(group) = group else {
-        return Ok(());
-    };
-    reserve_each(holders, &NumberedSlot::OfSharingGroup(group), addresses)?;
-    for port in claim.terms().ports.as_slice() {
-        let slot = NumberedSlot::OfPort { port: *port, group };
+    let ports = claim.terms().ports.as_slice();
+    for index in 0..slots_with(ports) {
+        let Some(slot) = slot_at(group, ports, index) else {
+            break;
+        };
         reserve_each(holders, &slot, addresses)?;
     }
     Ok(())
@@ -70,18 +68,11 @@ pub(crate) fn add_claim(
         ++ (if is_slot_by group claim.now.terms.ports slot then numbered number claim.now.holding.addresses a else [])) }
 {
     let addresses = claim.addresses();
-    add_each(holders, &NumberedSlot::Any, addresses, number);
-    let Some(group) = group else {
-        return;
-    };
-    add_each(
-        holders,
-        &NumberedSlot::OfSharingGroup(group),
-        addresses,
-        number,
-    );
-    for port in claim.terms().ports.as_slice() {
-        let slot = NumberedSlot::OfPort { port: *port, group };
+    let ports = claim.terms().ports.as_slice();
+    for index in 0..slots_with(ports) {
+        let Some(slot) = slot_at(group, ports, index) else {
+            break;
+        };
         add_each(holders, &slot, addresses, number);
     }
 }

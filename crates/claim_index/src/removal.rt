@@ -7,7 +7,7 @@ ghost use Rattle.claim_index.specs.NumberedSlots.{is_slot_by, same_slot};
 
 use crate::address_holders::AddressHolders;
 use crate::claims::Claim;
-use crate::slot::NumberedSlot;
+use crate::slot::{NumberedSlot, slot_at, slots_with};
 use ip_ranges::Address;
 
 /// The claim of that number isn't listed at its addresses any more, in no slot, where its group has this number. It takes no memory.
@@ -22,18 +22,11 @@ pub(crate) fn remove_claim(
         else claims_having holders.old slot) }
 {
     let addresses = claim.addresses();
-    remove_each(holders, &NumberedSlot::Any, addresses, number);
-    let Some(group) = group else {
-        return;
-    };
-    remove_each(
-        holders,
-        &NumberedSlot::OfSharingGroup(group),
-        addresses,
-        number,
-    );
-    for port in claim.terms().ports.as_slice() {
-        let slot = NumberedSlot::OfPort { port: *port, group };
+    let ports = claim.terms().ports.as_slice();
+    for index in 0..slots_with(ports) {
+        let Some(slot) = slot_at(group, ports, index) else {
+            break;
+        };
         remove_each(holders, &slot, addresses, number);
     }
 }

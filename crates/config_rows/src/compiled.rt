@@ -6,7 +6,8 @@ use anyhow::Result;
 use ip_ranges::{Address, Family, Span, print_address};
 use mlb_base::NoMemory;
 use pool_config::{
-    CompileFault, CompiledBgp, CompiledL2, CompiledPool, Config, LargeCommunity, ObjectSet, compile,
+    ChoosesPools, CompileFault, CompiledBgp, CompiledL2, CompiledPool, Config, LargeCommunity,
+    ObjectSet, compile,
 };
 use std::alloc::Global;
 
@@ -86,14 +87,8 @@ fn print_number(rt: &(impl Print + AllocGlobal), family: Family, number: u128) -
 
 /// The advertisement's name, and those of the pools that it chooses.
 fn print_l2(rt: &impl Print, advertisement: &CompiledL2, config: &Config) -> Result<()> {
-    print!(rt; "l2 {} chooses", advertisement.name)?;
-    for pool in config.pools.as_slice() {
-        if advertisement.chooses(pool) {
-            print!(rt; " {}", pool.name)?;
-        }
-    }
-    println!(rt; "")?;
-    Ok(())
+    print!(rt; "l2 {}", advertisement.name)?;
+    print_chosen(rt, advertisement, config)
 }
 
 fn print_large(rt: &impl Print, large: &LargeCommunity) -> Result<()> {
@@ -115,6 +110,11 @@ fn print_bgp(rt: &impl Print, advertisement: &CompiledBgp, config: &Config) -> R
     for large in advertisement.large.as_slice() {
         print_large(rt, large)?;
     }
+    print_chosen(rt, advertisement, config)
+}
+
+/// The names of the pools that the advertisement chooses, and the line's end.
+fn print_chosen(rt: &impl Print, advertisement: &impl ChoosesPools, config: &Config) -> Result<()> {
     print!(rt; " chooses")?;
     for pool in config.pools.as_slice() {
         if advertisement.chooses(pool) {

@@ -5,7 +5,7 @@ ghost use Rattle.l2_elect.specs.Eligible.{advertises, is_eligible_by};
 
 use ip_ranges::Address;
 use kube_labels::Text;
-use pool_config::{CompiledL2, CompiledPool};
+use pool_config::{ChoosesPools, CompiledL2, CompiledPool, SelectsNodes};
 use speaker_view::View;
 
 /// Whether the advertisement chooses the pool and selects the node.

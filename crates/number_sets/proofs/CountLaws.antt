@@ -357,7 +357,7 @@ module _ (a b : ℕ → Bool) (runs : List Run) (low index : ℕ) (up : IsLastUp
     -- what is sought among the numbers of the run that the other set doesn't have
     module _ (from to high : ℕ) (starts : (low ≤ from) × (r.first ≤ from) × ((m : ℕ) → low ≤ m → r.first ≤ m → from ≤ m))
         (ends : (to ≤ high) × (to ≤ r.last) × ((m : ℕ) → m ≤ high → m ≤ r.last → m ≤ to)) where
-      pub beyond-some : (found : Option ℕ) → IfSome found (λ n. IsLeastIn (λ m. not (b m)) from to n) → IfSome found (λ n. IsLeastIn beyond low high n)
+      beyond-some : (found : Option ℕ) → IfSome found (λ n. IsLeastIn (λ m. not (b m)) from to n) → IfSome found (λ n. IsLeastIn beyond low high n)
       beyond-some None least = tt
       beyond-some (Some n) least = (
         omega (arith, starts.0, least.0),
@@ -369,7 +369,7 @@ module _ (a b : ℕ → Bool) (runs : List Run) (low index : ℕ) (up : IsLastUp
             (cases_lt m r.first),
       )
 
-      pub beyond-nothing : (found : Option ℕ) → IfNone found (NonePasses (λ m. not (b m)) from to) → IfNone found (NonePasses beyond low high)
+      beyond-nothing : (found : Option ℕ) → IfNone found (NonePasses (λ m. not (b m)) from to) → IfNone found (NonePasses beyond low high)
       beyond-nothing (Some n) none = tt
       beyond-nothing None none = λ m first upto.
           let inside : (k : ℕ) → low ≤ k → r.first ≤ k → k ≤ r.last → k ≤ high → beyond k ≡ false =
@@ -382,6 +382,10 @@ module _ (a b : ℕ → Bool) (runs : List Run) (low index : ℕ) (up : IsLastUp
           (λ started. inside m first started ended upto)
           (cases_lt m r.first))
           (cases_lt r.last m)
+
+      pub beyond-found : (found : Option ℕ) → IfSome found (λ n. IsLeastIn (λ m. not (b m)) from to n) → IfNone found (NonePasses (λ m. not (b m)) from to)
+          → IfSome found (λ n. IsLeastIn beyond low high n) × IfNone found (NonePasses beyond low high)
+      beyond-found found least none = (beyond-some found least, beyond-nothing found none)
 
 -- the count of what one set has beyond another ascends with the runs
 pub beyond-ascends : (a b : ℕ → Bool) → ((n : ℕ) → b n ≡ true → a n ≡ true) → (runs : List Run) → AreRunsFrom 0 runs

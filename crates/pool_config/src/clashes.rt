@@ -7,6 +7,7 @@ ghost use Rattle.pool_config.specs.Clashing.{clashing_from, first_clashing};
 ghost use Rattle.pool_config.specs.Preferences.{KnowsPool, clashes_anywhere};
 
 use crate::advertised::length_for;
+use crate::choice::ChoosesPools;
 use crate::compiled::{CompiledBgp, CompiledPool};
 use crate::preferences::PoolPreferences;
 use kube_labels::Text;

@@ -1,8 +1,5 @@
 //! The objects of a configuration, with their entries, selectors and communities read.
-ghost use Rattle.std.specs.Prelude.{◌≡◌, ◌↔◌, IsTrue};
-ghost use Rattle.pool_config.specs.Choice.{Chooses, chooses, Selects, selects};
-
-use crate::choice::{chooses_pool, selects_node};
+use crate::choice::{ChoosesPools, SelectsNodes};
 use crate::numbers::CommunityNumbers;
 use ip_ranges::SpanList;
 use kube_labels::{Labels, SelectorList, Text, TextList};
@@ -93,56 +90,54 @@ pub type BgpList = Sequence<CompiledBgp>;
 /// A list of peers.
 pub type PeerList = Sequence<CompiledPeer>;
 
-impl CompiledL2 {
-    /// Whether it chooses the pool: it names it, or one of its pool selectors matches the pool's labels;
-    /// where it has neither names nor selectors, it chooses every pool. It takes no memory.
-    pub fn chooses(&self, pool: &CompiledPool) -> bool
-        ensures value { result ≡ chooses self.now.pools self.now.pool_selectors pool.now.name pool.now.labels }
-        ensures meaning { IsTrue result ↔ Chooses self.now.pools self.now.pool_selectors pool.now.name pool.now.labels }
-    {
-        chooses_pool(&self.pools, &self.pool_selectors, &pool.name, &pool.labels)
+impl ChoosesPools for CompiledL2 {
+    ghost pools = { λ a. a.pools };
+
+    ghost pool_selectors = { λ a. a.pool_selectors };
+
+    fn pools(&self) -> &TextList {
+        &self.pools
     }
 
-    /// Whether it selects the node of these labels: one of its node selectors matches them, or it has none.
-    /// It takes no memory.
-    #[tactic(auto, using(crate::proofs::Tests::selected))]
-    pub fn selects(&self, labels: &Labels) -> bool
-        ensures value { result ≡ selects self.now.node_selectors labels.now }
-        ensures meaning { IsTrue result ↔ Selects self.now.node_selectors labels.now }
-    {
-        selects_node(&self.node_selectors, labels)
+    fn pool_selectors(&self) -> &SelectorList {
+        &self.pool_selectors
     }
 }
 
-impl CompiledBgp {
-    /// Whether it chooses the pool: it names it, or one of its pool selectors matches the pool's labels;
-    /// where it has neither names nor selectors, it chooses every pool. It takes no memory.
-    pub fn chooses(&self, pool: &CompiledPool) -> bool
-        ensures value { result ≡ chooses self.now.pools self.now.pool_selectors pool.now.name pool.now.labels }
-        ensures meaning { IsTrue result ↔ Chooses self.now.pools self.now.pool_selectors pool.now.name pool.now.labels }
-    {
-        chooses_pool(&self.pools, &self.pool_selectors, &pool.name, &pool.labels)
-    }
+impl SelectsNodes for CompiledL2 {
+    ghost node_selectors = { λ a. a.node_selectors };
 
-    /// Whether it selects the node of these labels: one of its node selectors matches them, or it has none.
-    /// It takes no memory.
-    #[tactic(auto, using(crate::proofs::Tests::selected))]
-    pub fn selects(&self, labels: &Labels) -> bool
-        ensures value { result ≡ selects self.now.node_selectors labels.now }
-        ensures meaning { IsTrue result ↔ Selects self.now.node_selectors labels.now }
-    {
-        selects_node(&self.node_selectors, labels)
+    fn node_selectors(&self) -> &SelectorList {
+        &self.node_selectors
     }
 }
 
-impl CompiledPeer {
-    /// Whether it selects the node of these labels: one of its node selectors matches them, or it has none.
-    /// It takes no memory.
-    #[tactic(auto, using(crate::proofs::Tests::selected))]
-    pub fn selects(&self, labels: &Labels) -> bool
-        ensures value { result ≡ selects self.now.node_selectors labels.now }
-        ensures meaning { IsTrue result ↔ Selects self.now.node_selectors labels.now }
-    {
-        selects_node(&self.node_selectors, labels)
+impl ChoosesPools for CompiledBgp {
+    ghost pools = { λ a. a.pools };
+
+    ghost pool_selectors = { λ a. a.pool_selectors };
+
+    fn pools(&self) -> &TextList {
+        &self.pools
+    }
+
+    fn pool_selectors(&self) -> &SelectorList {
+        &self.pool_selectors
+    }
+}
+
+impl SelectsNodes for CompiledBgp {
+    ghost node_selectors = { λ a. a.node_selectors };
+
+    fn node_selectors(&self) -> &SelectorList {
+        &self.node_selectors
+    }
+}
+
+impl SelectsNodes for CompiledPeer {
+    ghost node_selectors = { λ a. a.node_selectors };
+
+    fn node_selectors(&self) -> &SelectorList {
+        &self.node_selectors
     }
 }

@@ -20,6 +20,7 @@ mod reading;
 mod selector_faults;
 mod span_index;
 
+pub use choice::{ChoosesPools, SelectsNodes};
 pub use compile_objects::{CompileFault, compile};
 pub use compiled::{
     BgpList, CompiledAllocation, CompiledBgp, CompiledL2, CompiledPeer, CompiledPool, L2List,

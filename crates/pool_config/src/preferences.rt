@@ -3,6 +3,7 @@ ghost use Rattle.std.specs.Prelude.{◌≡◌, ℕ, IfOk, OnOk};
 ghost use Rattle.std.specs.Option.{option_copied};
 ghost use Rattle.ip_ranges.specs.declared.family.Family.TheVariants.{V4, V6};
 
+use crate::choice::ChoosesPools;
 use crate::compiled::{CompiledBgp, CompiledPool};
 use ip_ranges::{Family, Span};
 use mlb_base::NoMemory;

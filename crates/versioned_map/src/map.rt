@@ -7,7 +7,7 @@ ghost use Rattle.std.specs.List.Sorted.{IsStrictlySortedBy};
 ghost use Rattle.std.specs.Map.Iter.{ShowsInOrder, deref_pair};
 ghost use Rattle.std.specs.Fn.{FnOnceReturnsAtMut};
 ghost use Rattle.versioned_map.specs.declared.map.Versioned.{Versioned};
-ghost use Rattle.versioned_map.specs.Objects.{version_at, object_at, shown, shown_note, expired, listed, unlisted_keys, Amends};
+ghost use Rattle.versioned_map.specs.Objects.{version_at, object_at, shown, shown_note, expired, listed, Amends};
 
 use mlb_base::{NoMemory, TryCopy};
 use std::alloc::Global;
@@ -163,21 +163,6 @@ impl<K: Ord + Drop, T: Drop> VersionedMap<K, T> {
             held.version = 0;
             true
         });
-    }
-
-    /// The keys of what is held at version 0, ascending.
-    pub fn unlisted(&self, alloc: Global) -> Result<Vec<K>, NoMemory>
-    where
-        K: TryCopy,
-        ensures { IfOk result (λ keys. keys.items ≡ unlisted_keys self.now) }
-    {
-        let mut keys = Vec::new(alloc);
-        for (key, held) in &self.held {
-            if held.version == 0 {
-                keys.push(key.copy()?)?;
-            }
-        }
-        Ok(keys)
     }
 
     /// The list has ended: what is held at version 0 wasn't listed, and is dropped. This takes no memory.

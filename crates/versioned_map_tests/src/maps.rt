@@ -3,7 +3,6 @@
 //! Each function here is proved: a map is let go by a call of `drop` in one place, and what can fail before takes it by reference.
 
 use mlb_base::TryCopy;
-use std::alloc::Global;
 use std::process::Abort;
 use std::test::Fail;
 use versioned_map::{Shown, VersionedMap};
@@ -36,17 +35,10 @@ fn copy(rt: &impl Abort, held: &Held) -> Result<(), Fail> {
     Ok(())
 }
 
-fn check_unlisted(rt: &impl Abort, alloc: Global, held: &Held) -> Result<(), Fail> {
-    let unlisted = held.unlisted(alloc)?;
-    assert_eq!(rt; unlisted.as_slice(), [5].as_slice());
-    drop(unlisted);
-    Ok(())
-}
-
-fn expire(rt: &impl Abort, alloc: Global, held: &mut Held) -> Result<(), Fail> {
+fn expire(rt: &impl Abort, held: &mut Held) -> Result<(), Fail> {
     held.expire();
     let _again = held.show(7, 1, 73)?;
-    check_unlisted(rt, alloc, held)?;
+    assert_eq!(rt; held.version_of(&5), 0);
     held.drop_unlisted();
     assert_eq!(rt; held.len(), 1);
     for (key, object) in held.iter() {
@@ -64,18 +56,18 @@ fn remove(rt: &impl Abort, held: &mut Held) -> Result<(), Fail> {
     Ok(())
 }
 
-fn check(rt: &impl Abort, alloc: Global, held: &mut Held) -> Result<(), Fail> {
+fn check(rt: &impl Abort, held: &mut Held) -> Result<(), Fail> {
     show(rt, held)?;
     look(rt, held);
     copy(rt, held)?;
-    expire(rt, alloc, held)?;
+    expire(rt, held)?;
     remove(rt, held)
 }
 
 #[test]
 fn objects_are_shown_and_dropped(rt: HostRuntime) -> Result<(), Fail> {
     let mut held = VersionedMap::new(rt.alloc());
-    let checked = check(&rt, rt.alloc(), &mut held);
+    let checked = check(&rt, &mut held);
     drop(held);
     checked
 }

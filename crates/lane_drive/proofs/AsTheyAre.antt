@@ -1,8 +1,7 @@
 -- Two lanes that send their events as they are, as two that turn each into itself.
 use Rattle.std.specs.Bool.{⊤}
-use Rattle.std.proofs.Common.{◌≡◌, ◌⊎◌, inl, inr, ℕ, Bool, true, false, if◌then◌else◌, List, [], ◌∷◌, ◌++◌, length, Option, Some}
-use Rattle.std.proofs.Common.{refl, sym, ap, ◌∙◌, subst, arith, append_assoc, length-append}
-use Rattle.std.proofs.lemmas.List.{append-nil}
+use Rattle.std.proofs.Common.{◌≡◌, inl, inr, ℕ, Bool, if◌then◌else◌, List, [], ◌∷◌, ◌++◌, length, Option, Some}
+use Rattle.std.proofs.Common.{refl, sym, ap, ◌∙◌, subst, arith, length-append}
 use Rattle.kube_model.specs.declared.event.Event.{Event}
 use Rattle.kube_model.specs.declared.status.Status.{Status}
 use Rattle.lane_mail.specs.declared.lane.Lane.{Lane}
@@ -18,18 +17,18 @@ use Rattle.lane_run.specs.Turned.{StopsTurned}
 use Rattle.lane_run.specs.Outside.{SourceState, Outside}
 use Rattle.lane_run.specs.Watched.{Begins, StopsAs}
 use Rattle.lane_run.proofs.Turning.{begins_unturned, ended_unturned, unturned}
-use Rattle.mlb_edge.specs.declared.lines.Line.{Line}
 use Rattle.mlb_edge.specs.InputLines.{Input}
 use Rattle.lane_drive.specs.Asking.{AsksMore, AsksOf}
 use Rattle.lane_drive.specs.Clauses.{AtDone, AtEnd, DoneOf, EndOf}
 use Rattle.lane_drive.specs.Complete.{AreReadable, AreSent, TakesFirst}
-use Rattle.lane_drive.specs.Drive.{Told, AreTaken}
+use Rattle.lane_drive.specs.Drive.{AreTaken}
 use Rattle.lane_drive.specs.Files.{FilesState}
 use Rattle.lane_drive.specs.LaneRules.{LaneRules}
 use Rattle.lane_drive.specs.Sending.{Sending, turned}
 use Rattle.lane_drive.specs.Stops.{AreBeginnings, WritesBegun, WritesUpTo, as_they_are}
 use Rattle.lane_drive.proofs.Carried.{Carries, asks_carried, done_carried, end_carried, writes_carried}
 use Rattle.lane_drive.proofs.Complete.{quiet_first, stops_told}
+use Rattle.lane_drive.proofs.Taken.{taken_first}
 
 -- ---- put together with what is still to come
 
@@ -56,46 +55,6 @@ begins_in belongs lane left bytes part told b =
 none_more : {T : Type 0} (xs ys : List T) → xs ≡ xs ++ ys → ys ≡ []
 none_more xs [] e = refl
 none_more xs (y ∷ ys) e = absurd (omega (arith, ap length e, length-append xs (y ∷ ys)))
-
-module _ {S E : Type 0} (rules : LaneRules S E) where
-  -- The first of these items are taken with the first of the replies, and then the others with the other replies.
-  record TakenFirst (items others : List Item) (lines : List Line) (s t : S) : Type 0 where
-    pub heard : List Line
-    pub rest : List Line
-    pub split : lines ≡ heard ++ rest
-    pub state : S
-    pub told : List (Told E)
-    pub taken : AreTaken rules items heard s state told
-    pub quiet : rules.waits state ≡ false
-    pub told' : List (Told E)
-    pub behind : AreTaken rules others rest state t told'
-
-  taken_first : (items others : List Item) (lines : List Line) (s t : S) (told : List (Told E)) → AreTaken rules (items ++ others) lines s t told
-      → rules.waits t ≡ false → TakenFirst items others lines s t
-  taken_first [] others lines s t told taken quiet = record {
-    heard = [];
-    rest = lines;
-    split = refl;
-    state = s;
-    told = [];
-    taken = (refl, refl, refl);
-    quiet = quiet_first rules others lines s t told taken quiet;
-    told' = told;
-    behind = taken;
-  }
-  taken_first (item ∷ items) others lines s t told (own, behind, next, entries, more, split, taken, rest, is) quiet =
-      let tail = taken_first items others behind next t more rest quiet in
-      record {
-        heard = own ++ tail.heard;
-        rest = tail.rest;
-        split = split ∙ (ap (λ (l : List Line). own ++ l) tail.split ∙ sym (append_assoc own tail.heard tail.rest));
-        state = tail.state;
-        told = (record { item = item; entries = entries }) ∷ tail.told;
-        taken = (own, tail.heard, next, entries, tail.told, refl, taken, tail.taken, refl);
-        quiet = tail.quiet;
-        told' = tail.told';
-        behind = tail.behind;
-      }
 
 module _ (belongs : Lane → Event → Bool) where
   -- each lane turns its events into themselves
@@ -164,7 +123,7 @@ module _ (belongs : Lane → Event → Bool) where
           (subst (λ (l : List Item). IsMerge (items ++ others) (items_of First items ++ firsts.0) l) (sym seconds.1)
           (merge_more items firsts.0 seconds.0)) in
           let can = ready.taken (items ++ others) merge in
-          let first_part = taken_first rules items others ready.lines start can.0 can.1 can.2 can.3 in
+          let first_part = taken_first rules items others ready.lines start can.0 can.1 can.2 in
           record {
             heard = first_part.heard;
             rest = first_part.rest;
@@ -172,7 +131,7 @@ module _ (belongs : Lane → Event → Bool) where
             state = first_part.state;
             told = first_part.told;
             taken = first_part.taken;
-            quiet = first_part.quiet;
+            quiet = quiet_first rules others first_part.rest first_part.state can.0 first_part.told' first_part.behind can.3;
             all = λ all all'.
                 let one = no_more First first e.one (items_of First items) firsts.0 e.first_is firsts.1 (stops_so First first (items_of First items) all) in
                 let two = no_more Second second e.two (items_of Second items) seconds.0 e.second_is seconds.1

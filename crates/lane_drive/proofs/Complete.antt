@@ -41,7 +41,8 @@ use Rattle.lane_drive.specs.Sending.{Sending, turned}
 use Rattle.lane_drive.specs.Stops.{StopsAtItem, StopsAtReply, StopsBehind, EndsAsLanes, TakesAll, EndsBy, status_of_lanes}
 use Rattle.lane_drive.proofs.Sent.{SendsLawfully, turned_lawful}
 use Rattle.lane_drive.proofs.Endings.{begins_all, begins_of}
-use Rattle.lane_drive.proofs.Heard.{hears_line, none_heard}
+use Rattle.lane_drive.proofs.Heard.{hears_line, never_waits, none_heard}
+use Rattle.lane_drive.proofs.Taken.{taken_first}
 use Rattle.lane_drive.proofs.Ways.{silent}
 
 -- ---- what is kept of failed readings
@@ -147,6 +148,26 @@ module _ {S E : Type 0} (rules : LaneRules S E) where
       hears_on own own' (behind ++ ys) (behind' ++ after) mine.next p q mine.rest theirs.rest mine.heard
       (subst (λ (x : S). AreHeard rules own' x q theirs.rest) (sym states) theirs.heard) quiet lines
 
+  -- Of the same items, taken twice with replies that are the first of the same lines: where more of them are heard than the first time before the items, so
+  -- it is behind them.
+  same_items : (items : List Item) (more : List Line) (gs : List E) (xs ys zs after : List Line) (p q u t : S) (told told' : List (Told E))
+      → AreHeard rules more p q gs → AreTaken rules items xs p u told → AreTaken rules items zs q t told' → rules.waits t ≡ false
+      → xs ++ ys ≡ more ++ (zs ++ after) → (rest : List Line) × (hs : List E) × AreHeard rules rest u t hs × (ys ≡ rest ++ after)
+  same_items [] more gs xs ys zs after p q u t told told' heard mine theirs quiet same = (
+    more,
+    gs,
+    rw (mine.1, theirs.1) heard,
+    sym (ap (λ (l : List Line). l ++ ys) mine.0) ∙ (same ∙ ap (λ (l : List Line). more ++ (l ++ after)) theirs.0),
+  )
+  same_items (item ∷ items) more gs xs ys zs after p q u t told told' heard (own, behind, next, entries, rest, split, taken, others, is)
+      (own', behind', next', entries', rest', split', taken', others', is') quiet same =
+      let none = none_heard rules p q more gs taken.quiet heard in
+      let quiet' : rules.waits next' ≡ false = quiet_first items behind' next' t rest' others' quiet in
+      let whole : zs ++ after ≡ xs ++ ys = sym (same ∙ ap (λ (l : List Line). l ++ (zs ++ after)) none.0) in
+      let on = same_item item own own' behind behind' xs ys zs after p next next' entries entries' taken
+      (subst (λ (x : S). IsTaken rules item own' x next' entries') none.1 taken') quiet' split split' whole in
+      same_items items on.0 on.1 behind ys behind' after next next' u t rest rest' on.2 others others' quiet on.3
+
   -- Behind some items more replies are heard, until none is awaited, and then the others are taken.
   pub record GoesOn (rest : List Item) (u t : S) (lines after : List Line) : Type 0 where
     pub more : List Line
@@ -161,118 +182,41 @@ module _ {S E : Type 0} (rules : LaneRules S E) where
 
   goes_on : (items rest : List Item) (xs ys zs after : List Line) (s u t : S) (told told' : List (Told E)) → AreTaken rules items xs s u told
       → AreTaken rules (items ++ rest) zs s t told' → rules.waits t ≡ false → zs ++ after ≡ xs ++ ys → GoesOn rest u t ys after
-  goes_on [] rest xs ys zs after s u t told told' mine theirs quiet same = record {
-    more = [];
-    entries = [];
-    state = s;
-    behind = zs;
-    told = told';
-    hears = (sym mine.1, refl);
-    lines_are = sym (same ∙ ap (λ (l : List Line). l ++ ys) mine.0);
-    taken = theirs;
-    quiet = quiet_first rest zs s t told' theirs quiet;
-  }
-  goes_on (item ∷ []) rest xs ys zs after s u t told told' (own, behind, next, entries, more, split, taken, (none, same, nothing), is) (
-    own',
-    behind',
-    next',
-    entries',
-    more',
-    split',
-    taken',
-    others',
-    is',
-  ) quiet whole =
-      let quiet' : rules.waits next' ≡ false = quiet_first rest behind' next' t more' others' quiet in
-      let on = same_item item own own' behind behind' xs ys zs after s next next' entries entries' taken taken' quiet' split split' whole in
+  goes_on items rest xs ys zs after s u t told told' mine theirs quiet same =
+      let first = taken_first rules items rest zs s t told' theirs in
+      let quiet' = quiet_first rest first.rest first.state t first.told' first.behind quiet in
+      let whole : xs ++ ys ≡ first.heard ++ (first.rest ++ after) =
+      sym same ∙ (ap (λ (l : List Line). l ++ after) first.split ∙ append_assoc first.heard first.rest after) in
+      let on = same_items items [] [] xs ys first.heard (first.rest ++ after) s s u first.state told first.told (refl, refl) mine first.taken quiet' whole in
       record {
         more = on.0;
         entries = on.1;
-        state = next';
-        behind = behind';
-        told = more';
-        hears = subst (λ (x : S). AreHeard rules on.0 x next' on.1) (sym same) on.2;
-        lines_are = ap (λ (l : List Line). l ++ ys) (sym none) ∙ on.3;
-        taken = others';
+        state = first.state;
+        behind = first.rest;
+        told = first.told';
+        hears = on.2;
+        lines_are = on.3;
+        taken = first.behind;
         quiet = quiet';
       }
-  goes_on (item ∷ other ∷ items) rest xs ys zs after s u t told told' (own, behind, next, entries, more, split, taken, others, is) (
-    own',
-    behind',
-    next',
-    entries',
-    more',
-    split',
-    taken',
-    others',
-    is',
-  ) quiet whole =
-      let quiet' : rules.waits next' ≡ false = quiet_first (other ∷ (items ++ rest)) behind' next' t more' others' quiet in
-      let on = same_item item own own' behind behind' xs ys zs after s next next' entries entries' taken taken' quiet' split split' whole in
-      let none = none_heard rules next next' on.0 on.1 others.6.quiet on.2 in
-      let tails : behind ++ ys ≡ behind' ++ after = on.3 ∙ ap (λ (l : List Line). l ++ (behind' ++ after)) none.0 in
-      goes_on (other ∷ items) rest behind ys behind' after next u t more more' others
-      (subst (λ (x : S). AreTaken rules (other ∷ (items ++ rest)) behind' x t more') none.1 others') quiet (sym tails)
 
   -- the same items, with replies that are both the first of the same lines, lead to one state that awaits none
   same_state : (items : List Item) (xs ys zs after : List Line) (s u t : S) (told told' : List (Told E)) → AreTaken rules items xs s u told
       → rules.waits u ≡ false → AreTaken rules items zs s t told' → rules.waits t ≡ false → zs ++ after ≡ xs ++ ys → t ≡ u
   same_state items xs ys zs after s u t told told' mine quiet theirs quiet' same =
-      let theirs' : AreTaken rules (items ++ []) zs s t told' = rw (append-nil items) theirs in
-      let on = goes_on items [] xs ys zs after s u t told told' mine theirs' quiet' same in
-      on.taken.1 ∙ (none_heard rules u on.state on.more on.entries quiet on.hears).1
-
-  -- Some items were taken, and then this one.
-  record TakesAt (front : List Item) (item : Item) (lines : List Line) (s : S) : Type 0 where
-    pub heard : List Line
-    pub rest : List Line
-    pub split : lines ≡ heard ++ rest
-    pub state : S
-    pub told : List (Told E)
-    pub taken : AreTaken rules front heard s state told
-    pub quiet : rules.waits state ≡ false
-    pub next : S
-    pub entries : List E
-    pub steps : rules.take state item ≡ Goes next entries
-
-  takes_at : (front : List Item) (item : Item) (others : List Item) (lines : List Line) (s t : S) (told : List (Told E))
-      → AreTaken rules (front ++ item ∷ others) lines s t told → TakesAt front item lines s
-  takes_at [] item others lines s t told (own, behind, next, entries, more, split, taken, rest, is) = record {
-    heard = [];
-    rest = lines;
-    split = refl;
-    state = s;
-    told = [];
-    taken = (refl, refl, refl);
-    quiet = taken.quiet;
-    next = taken.next;
-    entries = taken.first;
-    steps = taken.steps;
-  }
-  takes_at (one ∷ front) item others lines s t told (own, behind, next, entries, more, split, taken, rest, is) =
-      let tail = takes_at front item others behind next t more rest in
-      record {
-        heard = own ++ tail.heard;
-        rest = tail.rest;
-        split = split ∙ (ap (λ (l : List Line). own ++ l) tail.split ∙ sym (append_assoc own tail.heard tail.rest));
-        state = tail.state;
-        told = (record { item = one; entries = entries }) ∷ tail.told;
-        taken = (own, tail.heard, next, entries, tail.told, refl, taken, tail.taken, refl);
-        quiet = tail.quiet;
-        next = tail.next;
-        entries = tail.entries;
-        steps = tail.steps;
-      }
+      let on = same_items items [] [] xs ys zs after s s u t told told' (refl, refl) mine theirs quiet' (sym same) in
+      (none_heard rules u t on.0 on.1 quiet on.2).1
 
   -- for none of the items that were taken memory was wanting
   wants_not : (items : List Item) (xs ys lines : List Line) (s t : S) (told : List (Told E)) → AreTaken rules items xs s t told → lines ≡ xs ++ ys
       → WantsMemory rules s lines items → ⊥
   wants_not items xs ys lines s t told mine split w =
-      let at = takes_at w.front w.item w.others xs s t told (subst (λ (l : List Item). AreTaken rules l xs s t told) w.items_are mine) in
+      let at = taken_first rules w.front (w.item ∷ w.others) xs s t told (subst (λ (l : List Item). AreTaken rules l xs s t told) w.items_are mine) in
+      let taken = at.behind.6 in
       let whole : w.heard ++ w.rest ≡ at.heard ++ (at.rest ++ ys) =
       sym w.split ∙ (split ∙ (ap (λ (l : List Line). l ++ ys) at.split ∙ append_assoc at.heard at.rest ys)) in
-      let same = same_state w.front at.heard (at.rest ++ ys) w.heard w.rest s at.state w.state at.told w.told at.taken at.quiet w.taken w.quiet whole in
-      let goes : rules.take at.state w.item ≡ Goes at.next at.entries = at.steps in
+      let same = same_state w.front at.heard (at.rest ++ ys) w.heard w.rest s at.state w.state at.told w.told at.taken taken.quiet w.taken w.quiet whole in
+      let goes : rules.take at.state w.item ≡ Goes taken.next taken.first = taken.steps in
       let stops : rules.take at.state w.item ≡ Stops statuses.NoMemory = ap (λ (x : S). rules.take x w.item) (sym same) ∙ w.stops in
       absurd (cc)
 
@@ -408,9 +352,7 @@ module _ {S E U V : Type 0} (TurnsFirst : U → U → Event → Event → Type 0
 
   hears_there : (b : Bool) (s : S) → rules.hears ≡ b → rules.waits s ≡ true → rules.hears ≡ true
   hears_there true s is waits = is
-  hears_there false s is waits =
-      let quiet = never is s in
-      absurd (cc)
+  hears_there false s is waits = absurd (never_waits rules (never is) s waits)
 
   module _ (first first' second second' : SourceState) (before after : Outside) (fresh : before.reading ≡ unread)
       (ready : AreSent belongs rules start sending first.left second.left before.replies.left)

@@ -24,7 +24,7 @@ use Rattle.line_run.specs.Ended.{status_of_halt}
 use Rattle.line_run.specs.Machine.{Goes, Stops}
 use Rattle.line_run.specs.Steps.{HaltsAt, Refuses}
 use Rattle.line_run.specs.Text.{GrowsUpTo}
-use Rattle.line_run.proofs.Texts.{upto_all, upto_then, part_upto, nothing_more}
+use Rattle.line_run.proofs.Texts.{upto_all, upto_none, upto_then, part_upto, nothing_more}
 use Rattle.mlb_edge.specs.Causes.{Rose}
 use Rattle.mlb_edge.specs.declared.lines.Line.{Line}
 use Rattle.mlb_edge.specs.Reading.{Reading}
@@ -113,7 +113,38 @@ heard_all (Some bytes) reading None replies follows ends = absurd follows
 heard_all (Some bytes) reading (Some more) replies follows ends =
     (follows.0 ∙ (ap (λ (input : Input). replies ++ input.lines) ends ∙ append-nil replies), follows.1 ∙ ap (λ (input : Input). input.ending) ends)
 
+module _ {S E : Type 0} (rules : LaneRules S E) (s : S) (item : Item) (before after : Option (List ℕ)) where
+  -- of an item that was refused nothing was written, or it can be taken and a beginning of its text was
+  abbrev pub ItemBegun : Type 0
+  ItemBegun = Grows before after []
+      ⊎ ((next : S) × (entries : List E) × (rules.take s item ≡ Goes next entries) × GrowsUpTo before after (item_text rules item entries))
+
+  halted_begun : (halt : Halt) (writes writes' : ℕ) → HaltsItem halt rules s item before after writes writes' → ItemBegun
+  halted_begun halts.WriteFault writes writes' b = inr (b.next, b.entries, b.steps, part_upto before after (item_text rules item b.entries) b.halts.0)
+  halted_begun halts.NoMemory writes writes' (inl nothing) = inl nothing
+  halted_begun halts.NoMemory writes writes' (inr b) = inr (b.next, b.entries, b.steps, b.halts)
+
+  pub stopped_begun : (status : Status) (writes writes' : ℕ) → ((rules.take s item ≡ Stops status) × Grows before after [])
+      ⊎ ((halt : Halt) × (status ≡ status_of_halt halt) × HaltsItem halt rules s item before after writes writes') → ItemBegun
+  stopped_begun status writes writes' (inl stops) = inl stops.1
+  stopped_begun status writes writes' (inr (halt, is, h)) = halted_begun halt writes writes' h
+
 module _ {S E : Type 0} {sending : Sending} (laws : SendsLawfully sending) (rules : LaneRules S E) (start : S) where
+  -- nothing was written
+  abbrev pub writes_none : (first second : Option (List ℕ)) (now : Option Input) (before : Option (List ℕ)) → sending.Begins first second []
+      → WritesBegun sending rules start first second now before before
+  writes_none first second now before begin = record {
+    items = [];
+    replies = [];
+    next = now;
+    comes = Follows-refl now;
+    begin = begin;
+    state = start;
+    told = [];
+    taken = (refl, refl, refl);
+    wrote = upto_none before [];
+  }
+
   -- A beginning of the text of what was driven, and of the next item or reply, was written.
   module _ (quiet : rules.waits start ≡ false) (first second : Option (List ℕ)) (items : List Item) (state : S) (told : List (Told E)) (before mid : Outside)
       (drove : Drives rules items start state told before mid) (after : Option (List ℕ)) where
@@ -198,21 +229,19 @@ module _ {S E : Type 0} {sending : Sending} (laws : SendsLawfully sending) (rule
     upto_read status next held' left' reads reads' writes writes' begin (inr (inr u)) =
         upto_refused u.refusal u.line writes writes' next u.comes begin u.refuses
 
-    upto_unwritten : (halt : Halt) (item : Item) (writes writes' : ℕ) → sending.Begins first second items
-        → sending.Begins first second (items ++ item ∷ []) → rules.waits state ≡ false → HaltsItem halt rules state item mid.written after writes writes'
+    upto_begun : (item : Item) → sending.Begins first second items → sending.Begins first second (items ++ item ∷ [])
+        → rules.waits state ≡ false → ItemBegun rules state item mid.written after
         → WritesBegun sending rules start first second (to_come before.reading before.replies.left) before.written after
-    upto_unwritten halts.WriteFault item writes writes' begin begin' quiet' b =
-        upto_item item b.next b.entries begin' quiet' b.steps (part_upto mid.written after (item_text rules item b.entries) b.halts.0)
-    upto_unwritten halts.NoMemory item writes writes' begin begin' quiet' (inl nothing) = upto_still begin nothing
-    upto_unwritten halts.NoMemory item writes writes' begin begin' quiet' (inr b) = upto_item item b.next b.entries begin' quiet' b.steps b.halts
+    upto_begun item begin begin' quiet' (inl nothing) = upto_still begin nothing
+    upto_begun item begin begin' quiet' (inr (next, entries, steps, part)) = upto_item item next entries begin' quiet' steps part
 
     pub upto_stopped : (status : Status) (item : Item) (writes writes' : ℕ) → sending.Begins first second items
         → sending.Begins first second (items ++ item ∷ []) → rules.waits state ≡ false
         → ((rules.take state item ≡ Stops status) × Grows mid.written after [])
         ⊎ ((halt : Halt) × (status ≡ status_of_halt halt) × HaltsItem halt rules state item mid.written after writes writes')
         → WritesBegun sending rules start first second (to_come before.reading before.replies.left) before.written after
-    upto_stopped status item writes writes' begin begin' quiet' (inl stops) = upto_still begin stops.1
-    upto_stopped status item writes writes' begin begin' quiet' (inr (halt, is, h)) = upto_unwritten halt item writes writes' begin begin' quiet' h
+    upto_stopped status item writes writes' begin begin' quiet' why =
+        upto_begun item begin begin' quiet' (stopped_begun rules state item mid.written after status writes writes' why)
 
   -- a beginning of what both lanes sent
   pub begins_of : (first first' second second' : SourceState) (sent part rest : List Item) (end end' : LaneEnd)

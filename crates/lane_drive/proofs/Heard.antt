@@ -88,6 +88,12 @@ module _ {S E : Type 0} (rules : LaneRules S E) where
   none_heard s t [] entries quiet heard = (refl, heard.0)
   none_heard s t (line ∷ lines) entries quiet (next, first, rest, waits, goes, others, is) = absurd (cc)
 
+  -- where none is ever awaited, none is in this state
+  pub never_waits : ((x : S) → rules.waits x ≡ false) → (s : S) → rules.waits s ≡ true → ⊥
+  never_waits never s waits =
+      let quiet : rules.waits s ≡ false = never s in
+      absurd (cc)
+
   -- where none is awaited, none is heard
   pub hears_not : (s t : S) (before after : Outside) → rules.waits s ≡ false → HearsSome rules s t before after → (t ≡ s) × (after ≡ before)
   hears_not s t before after quiet hears =

@@ -1,27 +1,24 @@
 -- What a machine stands behind at last, which hears no replies.
-use Rattle.std.proofs.Common.{◌≡◌, ◌⊎◌, inl, inr, ℕ, Bool, false, true, List, [], ◌∷◌, ◌++◌, length, take, Option, Some, None, refl, subst, ◌∙◌}
+use Rattle.std.proofs.Common.{◌≡◌, ◌⊎◌, inl, inr, ℕ, Bool, false, List, [], ◌∷◌, ◌++◌, take, Option, Some, None, refl, subst, ◌∙◌}
 use Rattle.std.specs.Option.{option_to_list}
 use Rattle.kube_model.specs.declared.status.Status.{Status}
 use Rattle.lane_mail.specs.declared.item.Item.{Item}
 use Rattle.lane_run.specs.Reconciled.{LeavesOff, StandsBehind}
 use Rattle.lane_run.specs.Outside.{Outside}
-use Rattle.line_run.specs.declared.halt.Halt.{Halt}
-use Rattle.line_run.specs.declared.halt.Halt.TheVariants as halts
-use Rattle.line_run.specs.Ended.{status_of_halt, status_of_refusal}
-use Rattle.line_run.specs.Machine.{Goes, Stops}
-use Rattle.line_run.specs.Text.{GrowsUpTo}
-use Rattle.line_run.proofs.Texts.{nothing_more, part_upto, upto_none}
+use Rattle.line_run.specs.Ended.{status_of_refusal}
+use Rattle.line_run.proofs.Texts.{nothing_more}
 use Rattle.mlb_edge.specs.Failed.{IsOpened}
-use Rattle.mlb_edge.specs.InputLines.{Input, Follows-refl, to_come}
+use Rattle.mlb_edge.specs.InputLines.{Input, to_come}
 use Rattle.mlb_edge.specs.Reading.{Reading}
 use Rattle.mlb_edge.specs.Written.{Grows, Grows-none}
 use Rattle.lane_drive.specs.Clauses.{unread}
 use Rattle.lane_drive.specs.Drive.{Told, Drives, told_text}
 use Rattle.lane_drive.specs.Hearing.{DrivesItem, FailsBehind, FailsItem, RefusesNext}
-use Rattle.lane_drive.specs.LaneRules.{LaneRules, HaltsItem, item_text}
+use Rattle.lane_drive.specs.LaneRules.{LaneRules}
 use Rattle.lane_drive.specs.Sending.{Sending}
-use Rattle.lane_drive.specs.Stops.{LeavesMachine, WritesBegun}
-use Rattle.lane_drive.proofs.Endings.{upto_item, upto_still}
+use Rattle.lane_drive.specs.Stops.{LeavesMachine}
+use Rattle.lane_drive.proofs.Endings.{ItemBegun, stopped_begun, upto_item, upto_still, writes_none}
+use Rattle.lane_drive.proofs.Heard.{never_waits}
 use Rattle.lane_drive.proofs.Sent.{SendsLawfully}
 use Rattle.lane_drive.proofs.Taken.{drives_all}
 use Rattle.lane_drive.proofs.Ways.{why}
@@ -31,17 +28,7 @@ module _ {S E : Type 0} {sending : Sending} (laws : SendsLawfully sending) (rule
   pub left_none : (first second : Option (List ℕ)) (now : Option Input) (before : Option (List ℕ)) → sending.Begins first second [] → Stands [] None
       → LeavesMachine sending rules start Stands first second now before before
   left_none first second now before begin stands = record {
-    begun = record {
-      items = [];
-      replies = [];
-      next = now;
-      comes = Follows-refl now;
-      begin = begin;
-      state = start;
-      told = [];
-      taken = (refl, refl, refl);
-      wrote = upto_none before [];
-    };
+    begun = writes_none laws rules start first second now before begin;
     driven = [];
     refused = None;
     are = inl refl;
@@ -76,14 +63,13 @@ module _ {S E : Type 0} {sending : Sending} (laws : SendsLawfully sending) (rule
       }
 
   -- both sources are files that were just opened
-  pub left_with : (own own' : List ℕ) (bytes bytes' told : Option (List ℕ)) (safe known : Bool)
-      (name left : Option (List ℕ)) (faults : ℕ) (is_safe : Bool) (name' left' : Option (List ℕ)) (faults' : ℕ) (is_safe' : Bool)
+  pub left_with : {own own' : List ℕ} {bytes bytes' told : Option (List ℕ)} {safe known : Bool}
+      {name left : Option (List ℕ)} {faults : ℕ} {is_safe : Bool} {name' left' : Option (List ℕ)} {faults' : ℕ} {is_safe' : Bool}
       → IsOpened name left faults is_safe own bytes safe → IsOpened name' left' faults' is_safe' own' told known → told ≡ bytes'
-      → (reader : Reading) → reader ≡ unread → (replies before after : Option (List ℕ))
+      → {reader : Reading} → reader ≡ unread → (replies before after : Option (List ℕ))
       → LeavesMachine sending rules start Stands left left' (to_come reader replies) before after
       → LeavesMachine sending rules start Stands bytes bytes' (to_come unread replies) before after
-  left_with own own' bytes bytes' told safe known name left faults is_safe name' left' faults' is_safe' opened opened' same reader fresh replies before after
-      is =
+  left_with {bytes = bytes} {bytes' = bytes'} {left = left} {left' = left'} opened opened' same fresh replies before after is =
       subst (λ (o : Option (List ℕ)). LeavesMachine sending rules start Stands bytes o (to_come unread replies) before after) (opened'.whole ∙ same)
       (subst (λ (o : Option (List ℕ)). LeavesMachine sending rules start Stands o left' (to_come unread replies) before after) opened.whole
       (subst (λ (r : Reading). LeavesMachine sending rules start Stands left left' (to_come r replies) before after) fresh is))
@@ -118,8 +104,8 @@ module _ {S E : Type 0} {sending : Sending} (laws : SendsLawfully sending) (rule
       }
 
       module _ (item : Item) (sent : sending.Begins first second (driven ++ item ∷ [])) (stands : Stands driven (Some item)) where
-        left_still : Grows mid.written after.written [] → Left
-        left_still nothing = record {
+        left_begun : ItemBegun rules state item mid.written after.written → Left
+        left_begun (inl nothing) = record {
           begun = upto_still laws rules start quiet first second driven state told before mid drove after.written begin nothing;
           driven = driven;
           refused = Some item;
@@ -127,10 +113,7 @@ module _ {S E : Type 0} {sending : Sending} (laws : SendsLawfully sending) (rule
           sent = sent;
           stands = stands;
         }
-
-        left_item : (next : S) (entries : List E) → rules.take state item ≡ Goes next entries
-            → GrowsUpTo mid.written after.written (item_text rules item entries) → Left
-        left_item next entries steps part = record {
+        left_begun (inr (next, entries, steps, part)) = record {
           begun = upto_item laws rules start quiet first second driven state told before mid drove after.written item next entries sent still steps part;
           driven = driven;
           refused = Some item;
@@ -139,22 +122,11 @@ module _ {S E : Type 0} {sending : Sending} (laws : SendsLawfully sending) (rule
           stands = stands;
         }
 
-        left_halted : (halt : Halt) → HaltsItem halt rules state item mid.written after.written mid.faults after.faults → Left
-        left_halted halts.WriteFault b = left_item b.next b.entries b.steps (part_upto mid.written after.written (item_text rules item b.entries) b.halts.0)
-        left_halted halts.NoMemory (inl nothing) = left_still nothing
-        left_halted halts.NoMemory (inr b) = left_item b.next b.entries b.steps b.halts
-
-        left_stopped : (status : Status) → ((rules.take state item ≡ Stops status) × Grows mid.written after.written [])
-            ⊎ ((halt : Halt) × (status ≡ status_of_halt halt) × HaltsItem halt rules state item mid.written after.written mid.faults after.faults) → Left
-        left_stopped status (inl stops) = left_still stops.1
-        left_stopped status (inr (halt, is, h)) = left_halted halt h
-
         left_fails : (status : Status) → FailsItem rules status state item mid after ⊎ FailsBehind rules status state item mid after → Left
-        left_fails status (inl fails) = left_stopped (status_of_refusal fails.refusal) (why rules fails.refusal state item mid after fails.refuses)
-        left_fails status (inr fails) =
-            let waits : rules.waits fails.state ≡ true = fails.waits in
-            let quiet' : rules.waits fails.state ≡ false = never fails.state in
-            absurd (cc)
+        left_fails status (inl fails) =
+            left_begun (stopped_begun rules state item mid.written after.written (status_of_refusal fails.refusal) mid.faults after.faults
+            (why rules fails.refusal state item mid after fails.refuses))
+        left_fails status (inr fails) = absurd (never_waits rules never fails.state fails.waits)
 
       left_by : (refused : Option Item) → sending.Begins first second (driven ++ option_to_list refused) → LeavesOff (RefusesNext rules) refused state mid after
           → Stands driven refused → Left

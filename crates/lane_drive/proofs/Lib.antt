@@ -10,3 +10,4 @@ pub mod Complete
 pub mod Carried
 pub mod AsTheyAre
 pub mod Left
+pub mod Refusals

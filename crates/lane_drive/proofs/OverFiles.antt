@@ -3,7 +3,6 @@ use Rattle.std.proofs.Common.{◌≡◌, ◌≢◌, ◌⊎◌, inl, inr, ℕ, �
 use Rattle.std.proofs.Common.{Some, Result, Ok, Err, OnOk, OnErr, refl, ap, ◌∙◌, subst, arith}
 use Rattle.std.proofs.lemmas.List.{append-nil}
 use Rattle.mlb_base.specs.declared.memory.NoMemory.{NoMemory as MemoryEnd}
-use Rattle.kube_model.specs.declared.event.Event.{Event}
 use Rattle.kube_model.specs.declared.put.Put.{Put}
 use Rattle.kube_model.specs.declared.status.LaneName.{LaneName}
 use Rattle.kube_model.specs.declared.status.LaneName.TheVariants as lanes
@@ -12,7 +11,6 @@ use Rattle.kube_model.specs.declared.status.Status.TheVariants as statuses
 use Rattle.lane_mail.specs.declared.item.Item.{Item}
 use Rattle.lane_mail.specs.declared.lane.Lane.{Lane}
 use Rattle.lane_mail.specs.declared.lane.Lane.TheVariants.{First, Second}
-use Rattle.lane_run.specs.Ran.{TurnedBeginnings}
 use Rattle.lane_run.specs.Outside.{SourceState, Outside, lane_state, outside}
 use Rattle.line_run.specs.Machine.{Stops}
 use Rattle.mlb_edge.specs.Causes.{Rose}
@@ -107,17 +105,6 @@ of_files own own' bytes bytes' told safe safe' known name left faults is_safe na
     let y = subst (λ (v : SourceState). So (lane_state bytes (Some own) 0 safe) v reader) two x in
     subst (λ (r : Reading). So (lane_state bytes (Some own) 0 safe) (lane_state bytes' (Some own') 0 safe') r) fresh y
 
--- what was sent for a beginning of what both inputs carry was sent for one of what both files do
-pub begins_with : {U V : Type 0} (TurnsFirst : U → U → Event → Event → Type 0) (TurnsSecond : V → V → Event → Event → Type 0)
-    (belongs : Lane → Event → Bool) (u u' : U) (v v' : V) (items : List Item) (own own' : List ℕ) (bytes bytes' told : Option (List ℕ)) (safe known : Bool)
-    (name left : Option (List ℕ)) (faults : ℕ) (is_safe : Bool) (name' left' : Option (List ℕ)) (faults' : ℕ) (is_safe' : Bool)
-    → IsOpened name left faults is_safe own bytes safe → IsOpened name' left' faults' is_safe' own' told known → told ≡ bytes'
-    → TurnedBeginnings TurnsFirst TurnsSecond belongs left left' u u' v v' items → TurnedBeginnings TurnsFirst TurnsSecond belongs bytes bytes' u u' v v' items
-begins_with TurnsFirst TurnsSecond belongs u u' v v' items own own' bytes bytes' told safe known name left faults is_safe name' left' faults' is_safe' opened
-    opened' same begins =
-    subst (λ (o : Option (List ℕ)). TurnedBeginnings TurnsFirst TurnsSecond belongs bytes o u u' v v' items) (opened'.whole ∙ same)
-    (subst (λ (o : Option (List ℕ)). TurnedBeginnings TurnsFirst TurnsSecond belongs o left' u u' v v' items) opened.whole begins)
-
 module _ {S E : Type 0} {sending : Sending} (laws : SendsLawfully sending) (rules : LaneRules S E) (start : S) (quiet : rules.waits start ≡ false) where
   -- nothing was read or written
   pub ends_none : (file file' : List ℕ) (files files' : FilesState) (first second replies : SourceState) (before : Option (List ℕ)) (writes : ℕ)
@@ -135,11 +122,11 @@ module _ {S E : Type 0} {sending : Sending} (laws : SendsLawfully sending) (rule
   }
 
   -- both inputs were just opened, and the reader has read nothing
-  module _ (own own' : List ℕ) (bytes bytes' told : Option (List ℕ)) (safe safe' known : Bool) (name left : Option (List ℕ))
-      (faults : ℕ) (is_safe : Bool) (name' left' : Option (List ℕ)) (faults' : ℕ) (is_safe' : Bool) (opened : IsOpened name left faults is_safe own bytes safe)
+  module _ {own own' : List ℕ} {bytes bytes' told : Option (List ℕ)} {safe safe' known : Bool} {name left : Option (List ℕ)}
+      {faults : ℕ} {is_safe : Bool} {name' left' : Option (List ℕ)} {faults' : ℕ} {is_safe' : Bool} (opened : IsOpened name left faults is_safe own bytes safe)
       (opened' : IsOpened name' left' faults' is_safe' own' told known) (same : told ≡ bytes') (same' : known ≡ safe')
-      (reader : Reading) (fresh : reader ≡ unread) (first second replies : SourceState) (before : Option (List ℕ)) (writes : ℕ) (after : Outside)
-      (status : Status)
+      {reader : Reading} (fresh : reader ≡ unread) {first second replies : SourceState} {before : Option (List ℕ)} {writes : ℕ} {after : Outside}
+      {status : Status}
       (run : EndsBy sending rules start (lane_state left name faults is_safe) first (lane_state left' name' faults' is_safe') second
       (outside reader replies before writes) after status) where
     over_files : EndsBy sending rules start (lane_state bytes (Some own) 0 safe) first (lane_state bytes' (Some own') 0 safe') second

@@ -1,5 +1,5 @@
 -- What holds of what two lanes send.
-use Rattle.std.proofs.Common.{◌≡◌, ℕ, Bool, List, [], ◌++◌, Option, sym, subst}
+use Rattle.std.proofs.Common.{◌≡◌, Bool, List, subst}
 use Rattle.kube_model.specs.declared.event.Event.{Event}
 use Rattle.lane_mail.specs.declared.lane.Lane.{Lane}
 use Rattle.lane_mail.specs.declared.lane.Lane.TheVariants.{First, Second}

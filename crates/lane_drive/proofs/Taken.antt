@@ -62,6 +62,42 @@ module _ {S E : Type 0} (rules : LaneRules S E) where
     ap (λ (l : List (Told E)). l ++ told') told_are,
   )
 
+  -- The first of these items are taken with the first of the replies, and then the others with the other replies.
+  pub record TakenFirst (items others : List Item) (lines : List Line) (s t : S) : Type 0 where
+    pub heard : List Line
+    pub rest : List Line
+    pub split : lines ≡ heard ++ rest
+    pub state : S
+    pub told : List (Told E)
+    pub taken : AreTaken rules items heard s state told
+    pub told' : List (Told E)
+    pub behind : AreTaken rules others rest state t told'
+
+  pub taken_first : (items others : List Item) (lines : List Line) (s t : S) (told : List (Told E)) → AreTaken rules (items ++ others) lines s t told
+      → TakenFirst items others lines s t
+  taken_first [] others lines s t told taken = record {
+    heard = [];
+    rest = lines;
+    split = refl;
+    state = s;
+    told = [];
+    taken = (refl, refl, refl);
+    told' = told;
+    behind = taken;
+  }
+  taken_first (item ∷ items) others lines s t told (own, behind, next, entries, more, split, taken, rest, is) =
+      let tail = taken_first items others behind next t more rest in
+      record {
+        heard = own ++ tail.heard;
+        rest = tail.rest;
+        split = split ∙ (ap (λ (l : List Line). own ++ l) tail.split ∙ sym (append_assoc own tail.heard tail.rest));
+        state = tail.state;
+        told = (record { item = item; entries = entries }) ∷ tail.told;
+        taken = (own, tail.heard, next, entries, tail.told, refl, taken, tail.taken, refl);
+        told' = tail.told';
+        behind = tail.behind;
+      }
+
   -- One reply more behind the last of these items.
   pub hears_behind : (item : Item) (items : List Item) (lines : List Line) (s t u : S) (told : List (Told E)) (line : Line) (more : List E)
       → AreTaken rules (item ∷ items) lines s t told → rules.waits t ≡ true → rules.hear t line ≡ Goes u more

@@ -1,6 +1,6 @@
 -- How the run of two lanes that are open ends.
-use Rattle.std.proofs.Common.{◌≡◌, ◌≢◌, ◌⊎◌, inl, inr, ℕ, Bool, true, false, List, [], ◌∷◌, ◌++◌, Option}
-use Rattle.std.proofs.Common.{None, Some, Result, Ok, Err, refl, sym, ap, ◌∙◌, subst, append_assoc}
+use Rattle.std.proofs.Common.{◌≡◌, ◌≢◌, ◌⊎◌, inl, inr, ℕ, true, false, List, [], ◌∷◌, ◌++◌, Option}
+use Rattle.std.proofs.Common.{Result, Ok, Err, refl, sym, ap, ◌∙◌, subst, append_assoc}
 use Rattle.std.proofs.lemmas.List.{append-nil}
 use Rattle.kube_model.specs.declared.status.Status.{Status}
 use Rattle.kube_model.specs.declared.status.Status.TheVariants as statuses
@@ -16,19 +16,19 @@ use Rattle.line_run.specs.declared.halt.Refusal.{Refusal}
 use Rattle.line_run.specs.declared.halt.Refusal.TheVariants.{Stopped, Halted}
 use Rattle.line_run.specs.Ended.{status_of_halt, status_of_refusal}
 use Rattle.line_run.specs.Machine.{Stops}
-use Rattle.line_run.proofs.Texts.{upto_all, upto_none}
 use Rattle.mlb_edge.specs.declared.lines.Line.{Line}
-use Rattle.mlb_edge.specs.InputLines.{HoldsLine, Input, Whole, to_come, Follows-refl}
-use Rattle.mlb_edge.specs.Written.{Grows}
+use Rattle.mlb_edge.specs.InputLines.{HoldsLine, to_come}
+use Rattle.mlb_edge.specs.Written.{Grows, Grows-none}
 use Rattle.lane_drive.specs.Asking.{AsksOf}
 use Rattle.lane_drive.specs.LaneRules.{LaneRules, RefusesItem, HaltsItem}
-use Rattle.lane_drive.specs.Drive.{Told, AreHeard, AreTaken, Drives, told_text}
+use Rattle.lane_drive.specs.Drive.{Told, AreHeard, AreTaken, Drives}
 use Rattle.lane_drive.specs.Clauses.{LeavesInput}
 use Rattle.lane_drive.specs.Hearing.{DrivesItem, FailsItem, FailsBehind, RefusesNext, EndsHearing, GoesBehind}
 use Rattle.lane_drive.specs.Sending.{Sending}
 use Rattle.lane_drive.specs.Stops.{TakesAll, WritesBegun, EndsBy, status_of_lanes}
 use Rattle.lane_drive.proofs.Sent.{SendsLawfully}
-use Rattle.lane_drive.proofs.Endings.{begins_all, begins_of, upto_read, upto_stopped}
+use Rattle.lane_drive.proofs.Endings.{begins_all, begins_of, upto_read, upto_still, upto_stopped, writes_none}
+use Rattle.lane_drive.proofs.Heard.{never_waits}
 use Rattle.lane_drive.proofs.Taken.{drives_all, drives_more}
 
 -- where nothing was refused, all that was taken drove the reconciler
@@ -51,9 +51,7 @@ module _ {S E : Type 0} (rules : LaneRules S E) where
 
   never_heard : (lines : List Line) (s t : S) (entries : List E) → ((x : S) → rules.waits x ≡ false) → AreHeard rules lines s t entries → lines ≡ []
   never_heard [] s t entries never heard = refl
-  never_heard (line ∷ lines) s t entries never (next, first, rest, waits, goes, others, is) =
-      let quiet = never s in
-      absurd (cc)
+  never_heard (line ∷ lines) s t entries never (next, first, rest, waits, goes, others, is) = absurd (never_waits rules never s waits)
 
   -- where no reply is ever awaited, none is heard
   pub silent : (items : List Item) (replies : List Line) (s t : S) (told : List (Told E)) → ((x : S) → rules.waits x ≡ false)
@@ -66,20 +64,6 @@ module _ {S E : Type 0} (rules : LaneRules S E) where
 
 module _ {S E : Type 0} {sending : Sending} (laws : SendsLawfully sending) (rules : LaneRules S E) (start : S) (quiet : rules.waits start ≡ false) where
   -- for want of memory nothing was done
-  pub writes_none : (first second : Option (List ℕ)) (now : Option Input) (before : Option (List ℕ)) → sending.Begins first second []
-      → WritesBegun sending rules start first second now before before
-  writes_none first second now before begin = record {
-    items = [];
-    replies = [];
-    next = now;
-    comes = Follows-refl now;
-    begin = begin;
-    state = start;
-    told = [];
-    taken = (refl, refl, refl);
-    wrote = upto_none before [];
-  }
-
   pub ends_undriven : (first first' second second' : SourceState) (before after : Outside) → after.written ≡ before.written
       → sending.Begins first.left second.left [] → EndsBy sending rules start first first' second second' before after statuses.NoMemory
   ends_undriven first first' second second' before after same begin =
@@ -87,7 +71,7 @@ module _ {S E : Type 0} {sending : Sending} (laws : SendsLawfully sending) (rule
         refl,
         subst (λ (o : Option (List ℕ)). WritesBegun sending rules start first.left second.left (to_come before.reading
             before.replies.left) before.written o) (sym same)
-            (writes_none first.left second.left (to_come before.reading before.replies.left) before.written begin),
+            (writes_none laws rules start first.left second.left (to_come before.reading before.replies.left) before.written begin),
       ))))
 
   -- The items before this one drove the machine, which refused it or a reply behind it.
@@ -166,10 +150,7 @@ module _ {S E : Type 0} {sending : Sending} (laws : SendsLawfully sending) (rule
     leaves_fails : ((x : S) → rules.waits x ≡ false) → FailsItem rules status r.state r.item r.mid after ⊎ FailsBehind rules status r.state r.item r.mid after
         → after.replies ≡ before.replies
     leaves_fails never (inl fails) = fails.unread.1 ∙ (r.drove.unread (silent rules r.items r.drove.replies start r.state r.told never r.drove.taken)).1
-    leaves_fails never (inr fails) =
-        let waits : rules.waits fails.state ≡ true = fails.waits in
-        let quiet' : rules.waits fails.state ≡ false = never fails.state in
-        absurd (cc)
+    leaves_fails never (inr fails) = absurd (never_waits rules never fails.state fails.waits)
 
   -- the reconciler refused an item
   module _ (first first' second second' : SourceState) (before after : Outside) (t : S) (run : LaneRun)
@@ -215,41 +196,25 @@ module _ {S E : Type 0} {sending : Sending} (laws : SendsLawfully sending) (rule
         let drove : Drove (DrivesItem rules) (RefusesNext rules) ran.taken start t before mid well = rw done at ran.drove in
         drove_all (DrivesItem rules) (RefusesNext rules) ran.taken start t before mid tt drove
 
+    drove : (told : List (Told E)) × Drives rules ran.taken start t told before mid × (rules.waits t ≡ false)
+    drove = drives_all rules ran.taken start t before mid quiet all_driven
+
     pub quiet_then : rules.waits t ≡ false
-    quiet_then = (drives_all rules ran.taken start t before mid quiet all_driven).2
+    quiet_then = drove.2
 
     -- one of them ended for want of memory
     upto_done : EndsBy sending rules start first first' second second' before mid statuses.NoMemory
     upto_done =
-        let d = drives_all rules ran.taken start t before mid quiet all_driven in
+        let begin = begins_all laws rules start first first' second second' ran.taken run.first run.second ran.lanes in
         inr (inr (inr (inr (
           refl,
-          record {
-            items = ran.taken;
-            replies = d.1.replies;
-            next = to_come mid.reading mid.replies.left;
-            comes = d.1.comes;
-            begin = begins_all laws rules start first first' second second' ran.taken run.first run.second ran.lanes;
-            state = t;
-            told = d.0;
-            taken = d.1.taken;
-            wrote = upto_all before.written mid.written (told_text rules d.0) d.1.wrote;
-          },
+          upto_still laws rules start quiet first.left second.left ran.taken t drove.0 before mid drove.1 mid.written begin (Grows-none mid.written),
         ))))
 
     abbrev all_taken : (run.first ≢ NoMemory) × (run.second ≢ NoMemory)
         → TakesAll sending rules start first first' second second' before mid run.first run.second
     all_taken known =
-        let d = drives_all rules ran.taken start t before mid quiet all_driven in
-        record {
-          items = ran.taken;
-          lanes = ran.lanes;
-          state = t;
-          told = d.0;
-          drove = d.1;
-          quiet = d.2;
-          known = known;
-        }
+        record { items = ran.taken; lanes = ran.lanes; state = t; told = drove.0; drove = drove.1; quiet = drove.2; known = known }
 
     -- where there are replies, the end of the input may be asked for
     pub asks_behind : (run.first ≢ NoMemory) × (run.second ≢ NoMemory) → rules.hears ≡ true → (HoldsLine mid.reading → ⊥)
@@ -279,9 +244,7 @@ module _ {S E : Type 0} {sending : Sending} (laws : SendsLawfully sending) (rule
 
     -- where no reply is ever awaited, nothing was read
     leaves_driven : ((x : S) → rules.waits x ≡ false) → mid.replies ≡ before.replies
-    leaves_driven never =
-        let d = (drives_all rules ran.taken start t before mid quiet all_driven).1 in
-        (d.unread (silent rules ran.taken d.replies start t (drives_all rules ran.taken start t before mid quiet all_driven).0 never d.taken)).1
+    leaves_driven never = (drove.1.unread (silent rules ran.taken drove.1.replies start t drove.0 never drove.1.taken)).1
 
     pub leaves_lanes : (after : Outside) → (rules.hears ≡ false → (x : S) → rules.waits x ≡ false) → EndsHearing rules mid after → rules.hears ≡ false
         → LeavesInput before.replies after.replies

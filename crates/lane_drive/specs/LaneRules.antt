@@ -1,5 +1,5 @@
 -- What the items of two lanes, and the replies to what they come to, are to a machine.
-use Rattle.std.specs.Prelude.{◌≡◌, ◌⊎◌, ℕ, Bool, if◌then◌else◌, List, [], ◌++◌, Option}
+use Rattle.std.specs.Prelude.{◌≡◌, ◌⊎◌, ℕ, Bool, false, if◌then◌else◌, List, [], ◌++◌, Option}
 use Rattle.std.specs.List.{flat_map}
 use Rattle.kube_lines.specs.OutputLines.{took_text}
 use Rattle.kube_model.specs.declared.status.LaneName.{LaneName}
@@ -35,6 +35,18 @@ pub record LaneRules (S E : Type 0) : Type 0 where
   pub text : E → List ℕ
   -- the name of a lane
   pub name : Lane → LaneName
+
+-- a machine that awaits no reply: what an item is to it, what is written of an entry, and what its lanes are called; the input isn't read
+abbrev pub silent_rules : {S E : Type 0} → (S → Item → Transition S E) → (E → List ℕ) → (Lane → LaneName) → LaneRules S E
+silent_rules take text name = record {
+  take = take;
+  waits = λ s. false;
+  hear = λ s line. Stops (BadReply line.number line.bytes);
+  unanswered = λ s. Done;
+  hears = false;
+  text = text;
+  name = name;
+}
 
 -- the first number past a limit of what is held is told
 abbrev pub IsHeldLimit : Status → Type 0

@@ -20,7 +20,7 @@ use mlb_edge::Sink;
 use std::alloc::Global;
 use std::thread::Threads;
 
-/// Drives the machine by the items of the lines of both files, in the order in which they come; each file's come in its order.
+/// Drives the machine by the items of the lines of both files, by turns where both have some; each file's come in its order.
 /// Replies are the lines of `input`.
 ///
 /// Both files are opened first, and handed back in the end. Of several reasons to stop the one is answered that comes first: the first file
@@ -124,10 +124,10 @@ pub fn run_lane_files<
         rt,
         alloc,
         first,
+        &mut Unturned,
         second,
+        &mut Unturned,
         files,
-        &mut Unturned,
-        &mut Unturned,
         machine,
         input,
         out,

@@ -1,6 +1,5 @@
 //! The statuses of what stops a run over lanes.
 ghost use Rattle.std.specs.Prelude.{◌≡◌, ◌≢◌, IsTrue};
-ghost use Rattle.line_run.specs.Ended.{status_of_refusal};
 ghost use Rattle.lane_drive.specs.Stops.{status_of_lane, status_of_lanes};
 
 use crate::lane_machine::LaneMachine;

@@ -38,10 +38,10 @@ pub fn run_turned_files<
     rt: &R,
     alloc: Global,
     first: &str,
-    second: &str,
-    files: &mut F,
     first_turner: &mut A,
+    second: &str,
     second_turner: &mut B,
+    files: &mut F,
     machine: M,
     input: &mut I,
     out: &mut K,
@@ -113,15 +113,17 @@ pub fn run_turned_files<
     // Where a file isn't opened nothing is read, turned or written.
     ensures unopened { (lane : Name) → result.0 ≡ Status.OpenFault lane → (input.new ≡ input.old) × (out.new ≡ out.old)
         × (first_turner.new ≡ first_turner.old) × (second_turner.new ≡ second_turner.old) }
-    ensures unheard { M.rules.hears ≡ false → LeavesInput
-        (source_state (I.left input.old) (I.name input.old) (I.faults input.old))
-        (source_state (I.left input.new) (I.name input.new) (I.faults input.new)) }
+    ensures bytes { (file : List ℕ) → F.bytes files.new file ≡ F.bytes files.old file }
 
     // Of no other file an opening or a reading failed.
     ensures others { LeavesOthers first.now second.now
         (files_state (F.failed_opens files.old) (F.failed_reads files.old))
         (files_state (F.failed_opens files.new) (F.failed_reads files.new)) }
-    ensures bytes { (file : List ℕ) → F.bytes files.new file ≡ F.bytes files.old file }
+
+    // Where there are no replies nothing is read of the input.
+    ensures unheard { M.rules.hears ≡ false → LeavesInput
+        (source_state (I.left input.old) (I.name input.old) (I.faults input.old))
+        (source_state (I.left input.new) (I.name input.new) (I.faults input.new)) }
 {
     let Ok(mut reader) = LineReader::new(alloc) else {
         return (Status::NoMemory, machine);
@@ -144,11 +146,11 @@ pub fn run_turned_files<
     let status = run_opened(
         rt,
         alloc,
-        &mut first_input,
-        &mut second_input,
-        first_turner,
-        second_turner,
         &mut driver,
+        &mut first_input,
+        first_turner,
+        &mut second_input,
+        second_turner,
         &mut reader,
         input,
         out,

@@ -1,14 +1,13 @@
 -- Items that are told of, and come to nothing.
-use Rattle.std.specs.Prelude.{⊤, ℕ, Bool, true, false, not, List, []}
+use Rattle.std.specs.Prelude.{⊤, Bool, true, false, not, []}
 use Rattle.kube_model.specs.declared.event.Event.{Event}
 use Rattle.kube_model.specs.declared.event.Event.TheVariants.{Changed, Deleted, ListEnd, Expired, Members, Frame, Ignored}
 use Rattle.kube_model.specs.declared.status.LaneName.{LaneName}
 use Rattle.kube_model.specs.declared.status.LaneName.TheVariants as lanes
-use Rattle.kube_model.specs.declared.status.Status.TheVariants.{Done, BadReply}
 use Rattle.lane_mail.specs.declared.lane.Lane.{Lane}
 use Rattle.lane_mail.specs.declared.lane.Lane.TheVariants.{First, Second}
-use Rattle.line_run.specs.Machine.{Goes, Stops}
-use Rattle.lane_drive.specs.LaneRules.{LaneRules}
+use Rattle.line_run.specs.Machine.{Goes}
+use Rattle.lane_drive.specs.LaneRules.{LaneRules, silent_rules}
 
 abbrev pub is_members : Event → Bool
 is_members (Members names) = true
@@ -30,12 +29,4 @@ name_of Second = lanes.Frame
 
 -- no item is refused, and no reply is awaited
 abbrev pub teller_rules : LaneRules ⊤ ⊤
-teller_rules = record {
-  take = λ s item. Goes tt [];
-  waits = λ s. false;
-  hear = λ s line. Stops (BadReply line.number line.bytes);
-  unanswered = λ s. Done;
-  hears = false;
-  text = λ entry. [];
-  name = name_of;
-}
+teller_rules = silent_rules (λ s item. Goes tt []) (λ entry. []) name_of

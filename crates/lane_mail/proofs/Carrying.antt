@@ -9,10 +9,10 @@ use Rattle.crossbeam_queue.proofs.Lists.{at_set, at_snoc}
 use Rattle.lane_mail.specs.declared.lane.Lane.{Lane}
 use Rattle.lane_mail.specs.declared.lane.Lane.TheVariants.{First, Second}
 use Rattle.lane_mail.specs.declared.hand.Hand.{Hand}
-use Rattle.lane_mail.specs.Lanes.{is_lane, of_lane}
-use Rattle.lane_mail.specs.Hands.{may_send, opening, spent, sender, without, sent_also, got_also, gathered}
+use Rattle.lane_mail.specs.Lanes.{is_lane, other, of_lane}
+use Rattle.lane_mail.specs.Hands.{may_send, opening, spent, sender, without, taker, sent_also, got_also, gathered}
 use Rattle.lane_mail.specs.Carried.{Fits, Carries, Takes, IsWhole}
-use Rattle.lane_mail.proofs.LaneLists.{lane_cases, is_lane-same, is_lane-true, bool_cases, last_in, last_out, both_lengths}
+use Rattle.lane_mail.proofs.LaneLists.{lane_cases, other_cases, is_lane-same, is_lane-true, bool_cases, last_in, last_out, both_lengths}
 
 -- a spent pass sends for no lane
 spent_sends : (T : Type 0) (l : Lane) → may_send l (spent {T = T}) ≢ true
@@ -139,7 +139,12 @@ module _ {T : Type 0} (lane_of : T → Lane) (most : ℕ) where
                 takes = λ p. absurd (other ((theirs.takes p).0 ∙ sym (mine.takes may).0));
               }));
         },
-        record { got = refl; few = λ l. rw new (few_taken l (h.got ++ x ∷ []) items (rw all (h.few l))) },
+        record {
+          got = refl;
+          few = λ l. rw new (few_taken l (h.got ++ x ∷ []) items (rw all (h.few l)));
+          left = items;
+          own = λ l p. rw (new, all) (sym (mine.sends l (sym (may_send-got_also l v x) ∙ p)).1);
+        },
       )
 
   -- a lane gets a pass of its own
@@ -179,6 +184,25 @@ module _ {T : Type 0} (lane_of : T → Lane) (most : ℕ) where
               takes = λ p. absurd (true≢false (sym (ap (λ (y : Hand T). y.takes) is ∙ p)));
             })
             (at_snoc vs right u j e);
+      }
+
+  -- a pass that may do nothing is made of one
+  pub forks_beside : (pass : ℕ) (v : Hand T) → Forks (Carries lane_of most) pass v v spent
+  forks_beside pass v items views h at =
+      let Now : ℕ → Hand T → Type 0 = Fits lane_of h.seat h.inbox h.got (h.got ++ items) in
+      let vs : List (Hand T) = set views pass v in
+      let now : AllAt Now vs = all_set Now views pass v (h.fits pass v at) (λ j u other e. h.fits j u e) in
+      record {
+        seat = h.seat;
+        inbox = h.inbox;
+        got = h.got;
+        few = h.few;
+        fits = λ j u e. ⊎_elim (λ (x : get_elem? vs j ≡ some u). now j u x)
+            (λ (is : spent ≡ u). record {
+              sends = λ l p. absurd (spent_sends T l (ap (may_send l) is ∙ p));
+              takes = λ p. absurd (true≢false (sym (ap (λ (y : Hand T). y.takes) is ∙ p)));
+            })
+            (at_snoc vs spent u j e);
       }
 
   -- a pass takes in another
@@ -241,3 +265,34 @@ room_before lane_of lane most v w x taken e =
     let now : of_lane lane_of lane w.got ≡ of_lane lane_of lane v.got ++ x ∷ [] =
     ap (λ (y : Hand _). of_lane lane_of lane y.got) taken.got ∙ last_in lane_of lane [] v.got x (ap (is_lane lane) e ∙ is_lane-same lane) in
     omega (arith, taken.few lane, ap length now, length-append (of_lane lane_of lane v.got) (x ∷ []))
+
+-- the one that takes in a lane's own queue may send there for the other
+taker_sends : (T : Type 0) (lane : Lane) (got : List T) → may_send (other lane) (taker lane got) ≡ true
+taker_sends T First got = refl
+taker_sends T Second got = refl
+
+-- what it takes there is of the lane
+pub took_of : {T : Type 0} (lane_of : T → Lane) (lane : Lane) (most : ℕ) (v w : Hand T) (x : T) → v ≡ taker lane v.got → Takes lane_of most v x w
+    → lane_of x ≡ lane
+took_of {T} lane_of lane most v w x is taken = ⊎_elim (λ (e : lane_of x ≡ lane). e) (λ (e : lane_of x ≡ other lane). absurd (none e))
+    (other_cases lane (lane_of x))
+  where
+    sends : may_send (other lane) w ≡ true
+    sends = ap (may_send (other lane)) taken.got
+        ∙ (may_send-got_also (other lane) v x ∙ (ap (may_send (other lane)) is ∙ taker_sends T lane v.got))
+
+    none : lane_of x ≡ other lane → ⊥
+    none e =
+        let now : of_lane lane_of (other lane) w.got ≡ of_lane lane_of (other lane) v.got ++ x ∷ [] =
+        ap (λ (y : Hand T). of_lane lane_of (other lane) y.got) taken.got
+        ∙ last_in lane_of (other lane) [] v.got x (ap (is_lane (other lane)) e ∙ is_lane-same (other lane)) in
+        let sent : w.sent ≡ [] = ap (λ (y : Hand T). y.sent) taken.got ∙ ap (λ (y : Hand T). y.sent) is in
+        omega (
+          arith,
+          ap length (taken.own (other lane) sends),
+          ap length sent,
+          ap length (filter-append (λ y. is_lane (other lane) (lane_of y)) w.got taken.left),
+          length-append (of_lane lane_of (other lane) w.got) (of_lane lane_of (other lane) taken.left),
+          ap length now,
+          length-append (of_lane lane_of (other lane) v.got) (x ∷ []),
+        )

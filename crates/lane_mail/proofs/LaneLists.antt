@@ -4,7 +4,7 @@ use Rattle.std.proofs.lemmas.List.{append-nil}
 use Rattle.std.proofs.lemmas.List.Elements.{filter-append}
 use Rattle.lane_mail.specs.declared.lane.Lane.{Lane}
 use Rattle.lane_mail.specs.declared.lane.Lane.TheVariants.{First, Second}
-use Rattle.lane_mail.specs.Lanes.{is_lane, of_lane}
+use Rattle.lane_mail.specs.Lanes.{is_lane, other, of_lane}
 
 -- they are one lane or they aren't
 pub lane_cases : (a b : Lane) → (a ≡ b) ⊎ (is_lane a b ≡ false)
@@ -23,6 +23,12 @@ is_lane-true First First e = refl
 is_lane-true First Second e = absurd (cc)
 is_lane-true Second First e = absurd (cc)
 is_lane-true Second Second e = refl
+
+pub other_cases : (lane l : Lane) → (l ≡ lane) ⊎ (l ≡ other lane)
+other_cases First First = inl refl
+other_cases First Second = inr refl
+other_cases Second First = inr refl
+other_cases Second Second = inl refl
 
 pub bool_cases : (b : Bool) → (b ≡ true) ⊎ (b ≡ false)
 bool_cases true = inl refl

@@ -2,4 +2,5 @@ mod LaneLists
 mod Carrying
 mod Marks
 mod Settled
+pub mod Taking
 pub mod Merging

@@ -10,8 +10,8 @@ use Rattle.lane_mail.specs.declared.mark.Mark.{Mark}
 use Rattle.lane_mail.specs.Lanes.{is_lane, of_lane, item_lane, mark_lane, items_of}
 use Rattle.lane_mail.specs.declared.hand.Hand.{Hand}
 use Rattle.lane_mail.specs.Carried.{Takes}
-use Rattle.lane_mail.specs.Values.{EndStays}
-use Rattle.lane_mail.specs.Inside.{ItemPass, MarkPass, IsInbox, mark, marks_of}
+use Rattle.lane_mail.specs.Values.{EndStays, LaneReceiver}
+use Rattle.lane_mail.specs.Inside.{MarkPass, IsInbox, mark, marks_of}
 use Rattle.lane_mail.proofs.LaneLists.{is_lane-same, last_in, last_out}
 use Rattle.lane_mail.proofs.Carrying.{room_before}
 
@@ -37,16 +37,17 @@ pub marked_still : (lane : Lane) (v w : Hand Mark) (x : Mark) (end : Option ℕ)
 marked_still lane v w x end taken out is = ap (λ y. of_lane mark_lane lane y.got) taken.got ∙ (last_out mark_lane lane [] v.got x out ∙ is)
 
 -- what the inbox knows of the marks is all that changes when one comes
-pub got_mark : (items : ItemPass) (marks marks' : MarkPass) (x : Mark) (first_count second_count : ℕ) (first second first' second' : Option ℕ)
-    → IsInbox items marks first_count second_count first second → Takes mark_lane 1 (view marks) x (view marks')
-    → marks'.me.1 ≡ marks.me.1 → of_lane mark_lane First (view marks').got ≡ marks_of First first'
-    → of_lane mark_lane Second (view marks').got ≡ marks_of Second second' → IsInbox items marks' first_count second_count first' second'
-got_mark items marks marks' x first_count second_count first second first' second' old taken slots firsts seconds = record {
-  free = record { hand = old.free.hand; spare = old.free.spare; slots = slots ∙ old.free.slots };
-  takes = old.takes;
+pub got_mark : (first second : LaneReceiver) (marks marks' : MarkPass) (x : Mark) (end end' now now' : Option ℕ)
+    → IsInbox first second marks end end' → Takes mark_lane 1 (view marks) x (view marks')
+    → marks'.me.1 ≡ marks.me.1 → of_lane mark_lane First (view marks').got ≡ marks_of First now
+    → of_lane mark_lane Second (view marks').got ≡ marks_of Second now' → IsInbox first second marks' now now'
+got_mark first second marks marks' x end end' now now' old taken slots firsts seconds = record {
+  first_lane = old.first_lane;
+  second_lane = old.second_lane;
+  few_first = old.few_first;
+  few_second = old.few_second;
+  slots = slots ∙ old.slots;
   takes_marks = ap (λ (h : Hand Mark). h.takes) taken.got ∙ old.takes_marks;
-  first_counted = old.first_counted;
-  second_counted = old.second_counted;
   first_marked = firsts;
   second_marked = seconds;
 }

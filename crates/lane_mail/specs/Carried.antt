@@ -1,4 +1,4 @@
--- The rule of both queues: what a lane sent is what was taken of it, and then what the queue holds of it.
+-- The rule of each queue: what a lane sent is what was taken of it, and then what the queue holds of it.
 use Rattle.std.specs.Prelude.{◌≡◌, ℕ, ◌≤◌, true, List, ◌++◌, length}
 use mathlib.Core.Option.{some}
 use lib.ListN.{get_elem?}
@@ -20,11 +20,13 @@ pub record Carries {T : Type 0} (lane_of : T → Lane) (most : ℕ) (items : Lis
   pub few : (lane : Lane) → length (of_lane lane_of lane (got ++ items)) ≤ most
   pub fits : (pass : ℕ) (v : Hand T) → get_elem? views pass ≡ some v → Fits lane_of seat inbox got (got ++ items) pass v
 
--- x was taken, and no lane has more than so many of what was taken
-pub record Takes {T : Type 0} (lane_of : T → Lane) (most : ℕ) (v : Hand T) (x : T) (w : Hand T) : Type 0 where
-  pub got : w ≡ got_also v x
-  pub few : (lane : Lane) → length (of_lane lane_of lane w.got) ≤ most
-
 -- what was taken of a lane, and what the queue holds of it, is what was sent for it
 abbrev pub IsWhole : {T : Type 0} → (T → Lane) → Hand T → List T → Type 0
 IsWhole lane_of v items = (lane : Lane) → may_send lane v ≡ true → of_lane lane_of lane (v.got ++ items) ≡ v.sent
+
+-- x was taken, and no lane has more than so many of what was taken. Of a lane for which the taker itself may send there is just what it sent.
+pub record Takes {T : Type 0} (lane_of : T → Lane) (most : ℕ) (v : Hand T) (x : T) (w : Hand T) : Type 0 where
+  pub got : w ≡ got_also v x
+  pub few : (lane : Lane) → length (of_lane lane_of lane w.got) ≤ most
+  pub left : List T
+  pub own : IsWhole lane_of w left

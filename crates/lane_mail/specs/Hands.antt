@@ -31,6 +31,10 @@ module _ {T : Type 0} where
   abbrev pub without : Lane → Hand T → Hand T
   without lane v = hand (if is_lane First lane then false else v.first) (if is_lane Second lane then false else v.second) v.takes v.sent v.got
 
+  -- of the one that took these of a lane's own queue. It alone may send there for the other lane, and sent nothing.
+  abbrev pub taker : Lane → List T → Hand T
+  taker lane got = without lane (hand true true true [] got)
+
   -- after it sent one more
   abbrev pub sent_also : Hand T → T → Hand T
   sent_also v x = hand v.first v.second v.takes (v.sent ++ x ∷ []) v.got

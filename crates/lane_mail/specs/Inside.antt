@@ -1,5 +1,5 @@
 -- What is true of the fields of each pass.
-use Rattle.std.specs.Prelude.{◌≡◌, ℕ, true, Option, Some, None, List, [], ◌∷◌, length}
+use Rattle.std.specs.Prelude.{◌≡◌, ℕ, ◌^◌, ◌≤◌, true, Option, Some, None, List, [], ◌∷◌, length}
 use Rattle.crossbeam_queue.specs.Passes.{view}
 use Rattle.crossbeam_queue.specs.Passes as marks_pass
 use Rattle.atomic_blocks.specs.declared.web.Seat.{Seat as ItemSeat}
@@ -11,8 +11,8 @@ use Rattle.lane_mail.specs.declared.item.Item.{Item}
 use Rattle.lane_mail.specs.declared.mark.Mark.{Mark}
 use Rattle.lane_mail.specs.declared.hand.Hand.{Hand}
 use Rattle.lane_mail.specs.Lanes.{of_lane, mark_lane, items_of}
-use Rattle.lane_mail.specs.Hands.{sender}
-use Rattle.lane_mail.specs.Values.{MailId}
+use Rattle.lane_mail.specs.Hands.{sender, taker}
+use Rattle.lane_mail.specs.Values.{QueueId, MailId, LaneReceiver}
 
 -- a pass of the items' queue
 abbrev pub ItemPass : Type 0
@@ -26,9 +26,14 @@ MarkPass = marks_pass.Pass Mark (Hand Mark)
 abbrev pub hand_of : ItemPass → Hand Item
 hand_of pass = pass.me.view.client
 
--- the mail of which these are passes
-abbrev pub mail_of : ItemPass → MarkPass → MailId
-mail_of items marks = record { web = items.web; heap = items.heap; table = marks.table_id }
+-- the queue of which this is a pass
+abbrev pub queue_of : ItemPass → QueueId
+queue_of pass = record { web = pass.web; heap = pass.heap }
+
+-- the mail of which these are passes: of a lane's queue, of the other's, and of the marks'
+abbrev pub mail_of : Lane → ItemPass → ItemPass → MarkPass → MailId
+mail_of First items beside marks = record { first = queue_of items; second = queue_of beside; table = marks.table_id }
+mail_of Second items beside marks = record { first = queue_of beside; second = queue_of items; table = marks.table_id }
 
 -- the end mark of a lane that sent so many
 abbrev pub mark : Lane → ℕ → Mark
@@ -58,12 +63,21 @@ pub record IsDone (lane : Lane) (items : ItemPass) (marks : MarkPass) : Type 0 w
   pub sends : hand_of items ≡ sender lane (hand_of items).sent
   pub ended : view marks ≡ sender lane (mark lane (length (hand_of items).sent) ∷ [])
 
--- the inbox counts what it took of each lane, and holds the count of each mark that it took
-pub record IsInbox (items : ItemPass) (marks : MarkPass) (first_count second_count : ℕ) (first second : Option ℕ) : Type 0 where
-  pub free : IsFree items marks
-  pub takes : (hand_of items).takes ≡ true
+-- the inbox of a lane counts what it took, which is of that lane
+pub record IsLaneInbox (lane : Lane) (count : ℕ) (items : ItemPass) : Type 0 where
+  pub hand : items.me.hand ≡ None
+  pub spare : items.me.spare ≡ None
+  pub takes : hand_of items ≡ taker lane (hand_of items).got
+  pub only : items_of lane (hand_of items).got ≡ (hand_of items).got
+  pub counts : count ≡ length (hand_of items).got
+
+-- the inbox has one of each lane, and holds the count of each mark that it took
+pub record IsInbox (first second : LaneReceiver) (marks : MarkPass) (first_end second_end : Option ℕ) : Type 0 where
+  pub first_lane : first.lane ≡ First
+  pub second_lane : second.lane ≡ Second
+  pub few_first : length first.taken ≤ 2 ^ 61
+  pub few_second : length second.taken ≤ 2 ^ 61
+  pub slots : marks.me.1 ≡ []
   pub takes_marks : (view marks).takes ≡ true
-  pub first_counted : first_count ≡ length (items_of First (hand_of items).got)
-  pub second_counted : second_count ≡ length (items_of Second (hand_of items).got)
-  pub first_marked : of_lane mark_lane First (view marks).got ≡ marks_of First first
-  pub second_marked : of_lane mark_lane Second (view marks).got ≡ marks_of Second second
+  pub first_marked : of_lane mark_lane First (view marks).got ≡ marks_of First first_end
+  pub second_marked : of_lane mark_lane Second (view marks).got ≡ marks_of Second second_end

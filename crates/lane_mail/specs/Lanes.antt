@@ -12,6 +12,11 @@ is_lane First Second = false
 is_lane Second First = false
 is_lane Second Second = true
 
+-- the one that it isn't
+abbrev pub other : Lane → Lane
+other First = Second
+other Second = First
+
 -- the elements of a lane, in their order
 abbrev pub of_lane : {T : Type 0} → (T → Lane) → Lane → List T → List T
 of_lane lane_of lane xs = filter (λ x. is_lane lane (lane_of x)) xs

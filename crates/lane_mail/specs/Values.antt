@@ -2,17 +2,26 @@
 use Rattle.std.specs.Prelude.{◌≡◌, ℕ, Option, Some, List, [], ◌∷◌, ◌++◌, length}
 use Rattle.std.specs.declared.alloc.Global.{Global}
 use Rattle.atomic_table.specs.Seated.{TableId}
-use Rattle.atomic_blocks.specs.Laid.{WebId}
+use Rattle.crossbeam_queue.specs.SegTies.{SegId}
 use Rattle.lane_mail.specs.declared.lane.Lane.{Lane}
 use Rattle.lane_mail.specs.declared.lane.Lane.TheVariants.{First, Second}
 use Rattle.lane_mail.specs.declared.item.Item.{Item}
 use Rattle.lane_mail.specs.Lanes.{items_of}
 
--- which mail it is
+-- which queue of items it is
+abbrev pub QueueId : Type 0
+QueueId = SegId Global
+
+-- which mail it is: the queue of each lane, and that of the marks
 pub record MailId : Type 0 where
-  pub web : WebId
-  pub heap : Global
+  pub first : QueueId
+  pub second : QueueId
   pub table : TableId
+
+-- the queue of a lane
+abbrev pub lane_queue : Lane → MailId → QueueId
+lane_queue First mail = mail.first
+lane_queue Second mail = mail.second
 
 -- a lane's pass, before and after its end
 pub record Sender : Type 0 where
@@ -20,12 +29,19 @@ pub record Sender : Type 0 where
   pub lane : Lane
   pub sent : List Item
 
--- the pass that takes, with the counts of the end marks that came
+-- the pass that takes, with what was taken of each lane, and the counts of the end marks that came
 pub record Receiver : Type 0 where
   pub mail : MailId
-  pub taken : List Item
+  pub first : List Item
+  pub second : List Item
   pub first_end : Option ℕ
   pub second_end : Option ℕ
+
+-- the part of that pass that takes of one lane
+pub record LaneReceiver : Type 0 where
+  pub queue : QueueId
+  pub lane : Lane
+  pub taken : List Item
 
 -- what each lane sent
 pub record TwoLists : Type 0 where
@@ -36,14 +52,33 @@ pub record TwoLists : Type 0 where
 abbrev pub sent_more : Sender → Item → Sender
 sent_more s item = record s { sent = s.sent ++ item ∷ [] }
 
--- the pass once this item was taken too
+-- the part of one lane once this item was taken too
+abbrev pub got_more : LaneReceiver → Item → LaneReceiver
+got_more r item = record r { taken = r.taken ++ item ∷ [] }
+
+-- the pass once this item was taken too, which joins what was taken of its lane
 abbrev pub took_more : Receiver → Item → Receiver
-took_more r item = record r { taken = r.taken ++ item ∷ [] }
+took_more r item = record r { first = r.first ++ items_of First (item ∷ []); second = r.second ++ items_of Second (item ∷ []) }
+
+-- what was taken of a lane
+abbrev pub taken_of : Lane → Receiver → List Item
+taken_of First r = r.first
+taken_of Second r = r.second
+
+-- These items were taken, and each joined what was taken of its lane. The lists are else as before.
+pub record Took (items : List Item) (old new : Receiver) : Type 0 where
+  pub first : new.first ≡ old.first ++ items_of First items
+  pub second : new.second ≡ old.second ++ items_of Second items
+
+-- nothing was taken
+pub record TookNone (old new : Receiver) : Type 0 where
+  pub first : new.first ≡ old.first
+  pub second : new.second ≡ old.second
 
 -- both end marks came, and as many items of each lane were taken as its mark says
 pub record HasAll (r : Receiver) : Type 0 where
-  pub first : r.first_end ≡ Some (length (items_of First r.taken))
-  pub second : r.second_end ≡ Some (length (items_of Second r.taken))
+  pub first : r.first_end ≡ Some (length r.first)
+  pub second : r.second_end ≡ Some (length r.second)
 
 -- the count that was known is known still
 abbrev pub EndStays : Option ℕ → Option ℕ → Type 0

@@ -2,48 +2,55 @@
 ghost use Rattle.std.specs.Prelude.{◌≡◌, ◌↔◌, length, IsTrue};
 
 use crate::lane::Lane;
-use crate::rules::{ItemPass, MarkPass};
+use crate::lane_inbox::LaneInbox;
+use crate::rules::MarkPass;
 use std::marker::Model;
 
-/// The right to take, which contracts see as the mail, what was taken, and the counts of the end marks that came.
+/// The right to take, which contracts see as the mail, what was taken of each lane, and the counts of the end marks that came.
 #[derive(Drop)]
 pub struct InboxPass {
-    pub(crate) items: ItemPass,
+    pub(crate) first: LaneInbox,
+    pub(crate) second: LaneInbox,
     pub(crate) marks: MarkPass,
-    pub(crate) first_count: u64,
-    pub(crate) second_count: u64,
-    pub(crate) first: Option<u64>,
-    pub(crate) second: Option<u64>,
+    pub(crate) first_end: Option<u64>,
+    pub(crate) second_end: Option<u64>,
+    // Whose turn is next, which no contract sees.
+    pub(crate) next: Lane,
 }
 
 impl Model for InboxPass {
     ghost use Rattle.lane_mail.specs.Values.{Receiver};
-    ghost use Rattle.lane_mail.specs.Inside.{mail_of, hand_of, IsInbox};
+    ghost use Rattle.lane_mail.specs.Inside.{IsInbox};
 
     ghost Value = { Receiver };
 
-    ghost view = { λ p. record { mail = mail_of p.items p.marks; taken = (hand_of p.items).got; first_end = p.first; second_end = p.second } };
+    ghost view = { λ p. record {
+      mail = record { first = p.first.queue; second = p.second.queue; table = p.marks.table_id };
+      first = p.first.taken;
+      second = p.second.taken;
+      first_end = p.first_end;
+      second_end = p.second_end;
+    } };
 
-    ghost invariant = { λ p. IsInbox p.items p.marks p.first_count p.second_count p.first p.second };
+    ghost invariant = { λ p. IsInbox p.first p.second p.marks p.first_end p.second_end };
 }
 
 impl InboxPass {
-    ghost use Rattle.lane_mail.specs.Lanes.{items_of};
-    ghost use Rattle.lane_mail.specs.Values.{HasAll};
+    ghost use Rattle.lane_mail.specs.Values.{HasAll, taken_of};
 
     pub(crate) fn has_all(&self) -> bool
         ensures { IsTrue result ↔ HasAll self.now }
     {
-        self.first == Some(self.first_count) && self.second == Some(self.second_count)
+        self.first_end == Some(self.first.count()) && self.second_end == Some(self.second.count())
     }
 
     // How many items of the lane were taken.
     pub(crate) fn count_of(&self, lane: Lane) -> u64
-        ensures { result ≡ length (items_of lane self.now.taken) }
+        ensures { result ≡ length (taken_of lane self.now) }
     {
         match lane {
-            Lane::First => self.first_count,
-            Lane::Second => self.second_count,
+            Lane::First => self.first.count(),
+            Lane::Second => self.second.count(),
         }
     }
 }

@@ -9,6 +9,8 @@ use std::marker::Model;
 pub struct LaneDone {
     pub(crate) lane: Lane,
     pub(crate) items: ItemPass,
+    // It may do nothing, and names the other lane's queue.
+    pub(crate) beside: ItemPass,
     pub(crate) marks: MarkPass,
 }
 
@@ -18,7 +20,7 @@ impl Model for LaneDone {
 
     ghost Value = { Sender };
 
-    ghost view = { λ p. record { mail = mail_of p.items p.marks; lane = p.lane; sent = (hand_of p.items).sent } };
+    ghost view = { λ p. record { mail = mail_of p.lane p.items p.beside p.marks; lane = p.lane; sent = (hand_of p.items).sent } };
 
     ghost invariant = { λ p. IsDone p.lane p.items p.marks };
 }

@@ -12,6 +12,8 @@ pub struct LanePass {
     pub(crate) lane: Lane,
     pub(crate) count: u64,
     pub(crate) items: ItemPass,
+    // It may do nothing, and names the other lane's queue.
+    pub(crate) beside: ItemPass,
     pub(crate) marks: MarkPass,
 }
 
@@ -21,7 +23,7 @@ impl Model for LanePass {
 
     ghost Value = { Sender };
 
-    ghost view = { λ p. record { mail = mail_of p.items p.marks; lane = p.lane; sent = (hand_of p.items).sent } };
+    ghost view = { λ p. record { mail = mail_of p.lane p.items p.beside p.marks; lane = p.lane; sent = (hand_of p.items).sent } };
 
     ghost invariant = { λ p. IsLane p.lane p.count p.items p.marks };
 }

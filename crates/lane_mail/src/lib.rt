@@ -1,4 +1,8 @@
 //! The mail of two lanes: two threads put items, a third takes each lane's in its order, whole and once.
+//!
+//! Each lane has a queue of its own, and the lanes are taken in turn: behind an item of one lane comes the next of the other if it was put, and else the
+//! next of the same. So once an item is put, the other lane has at most one item more taken before it than its own lane has, however many lie there. No
+//! contract sees this: there the order of the two lanes is free.
 #![tactic(auto)]
 
 mod hand;
@@ -6,6 +10,7 @@ mod inbox_pass;
 mod item;
 mod lane;
 mod lane_done;
+mod lane_inbox;
 mod lane_pass;
 mod laws;
 mod lists;
@@ -14,6 +19,7 @@ mod mark;
 mod parking;
 mod put_back;
 mod rules;
+mod settling;
 mod taken;
 
 pub use inbox_pass::InboxPass;

@@ -1,16 +1,18 @@
-//! A queue of items, and beside it one of two end marks.
-ghost use Rattle.std.specs.Prelude.{◌≡◌, ◌^◌, ◌<◌, ◌≤◌, ◌↔◌, [], ◌∷◌, ◌++◌, length, Some, None, IfOk, OnOk, IfErr, IfSome, MatchOption};
+//! A queue of items for each lane, and beside them one of two end marks.
+ghost use Rattle.std.specs.Prelude.{◌≡◌, ◌^◌, ◌<◌, ◌≤◌, ◌↔◌, ◌+◌, [], ◌∷◌, length, Some, None, IfOk, OnOk, IfErr, IfSome, MatchOption};
 
 use crate::inbox_pass::InboxPass;
 use crate::item::Item;
 use crate::lane::Lane;
 use crate::lane_done::LaneDone;
+use crate::lane_inbox::LaneInbox;
 use crate::lane_pass::LanePass;
 use crate::lists::Lists;
 use crate::mark::Mark;
 use crate::parking::Parking;
 use crate::put_back::PutBack;
-use crate::rules::{FirstLane, Gather, Get, Items, Marks, Put, SecondLane, Whole};
+use crate::rules::{Beside, FirstLane, Get, Items, Marks, Put, SecondLane};
+use crate::settling::settle;
 use crate::taken::Taken;
 use mlb_base::NoMemory;
 use std::alloc::Global;
@@ -21,7 +23,8 @@ use std::sync::Wait;
 ///
 /// It is shared by reference, and what each thread may do with it is its pass.
 pub struct Mail {
-    items: Items,
+    first_items: Items,
+    second_items: Items,
     marks: Marks,
     parking: Parking,
 }
@@ -32,7 +35,7 @@ impl Model for Mail {
 
     ghost Value = { MailId };
 
-    ghost view = { λ m. record { web = m.items.web; heap = m.items.heap; table = m.marks.table.shared.table_id } };
+    ghost view = { λ m. record { first = m.first_items; second = m.second_items; table = m.marks.table.shared.table_id } };
 
     ghost invariant = { λ m. m.marks.cap ≡ 2 };
 }
@@ -40,56 +43,80 @@ impl Model for Mail {
 impl Drop for Mail {
     fn drop(self) {
         let Self {
-            items,
+            first_items,
+            second_items,
             marks: _,
             parking: _,
         } = self;
-        items.destroy();
+        first_items.destroy();
+        second_items.destroy();
     }
 }
 
 impl Mail {
-    ghost use Rattle.lane_mail.specs.Merges.{IsMerge};
-    ghost use Rattle.lane_mail.specs.Lanes.{items_of};
-    ghost use Rattle.lane_mail.specs.Values.{HasAll, EndsStay, sent_more, took_more};
+    ghost use Rattle.lane_mail.specs.Values.{HasAll, EndsStay, Took, TookNone, lane_queue, sent_more, took_more};
 
     /// A mail, the right to send of each lane, and the right to take.
     pub fn new(alloc: Global) -> Result<(Mail, LanePass, LanePass, InboxPass), NoMemory>
         ensures mail { IfOk result (λ m. (m.1.mail ≡ m.0) × (m.2.mail ≡ m.0) × (m.3.mail ≡ m.0)) }
         ensures lanes { IfOk result (λ m. (m.1.lane ≡ Lane.First) × (m.2.lane ≡ Lane.Second)) }
         ensures sent { IfOk result (λ m. (m.1.sent ≡ []) × (m.2.sent ≡ [])) }
-        ensures taken { IfOk result (λ m. m.3.taken ≡ []) }
+        ensures taken { IfOk result (λ m. (m.3.first ≡ []) × (m.3.second ≡ [])) }
         ensures ends { IfOk result (λ m. (m.3.first_end ≡ None) × (m.3.second_end ≡ None)) }
     {
         let (marks, mut inbox_marks) = Marks::ruled(alloc, 2)?;
-        let (items, mut inbox_items) = Items::with_rule(alloc)?;
+        let (first_items, mut first_inbox) = Items::with_rule(alloc)?;
+        let Ok((second_items, mut second_inbox)) = Items::with_rule(alloc) else {
+            first_items.destroy();
+            return Err(NoMemory);
+        };
         let first = LanePass {
             lane: Lane::First,
             count: 0,
-            items: items.another::<FirstLane>(&mut inbox_items),
+            items: first_items.another::<FirstLane>(&mut first_inbox),
+            beside: second_items.another::<Beside>(&mut second_inbox),
             marks: marks.another::<FirstLane>(&mut inbox_marks),
         };
         let second = LanePass {
             lane: Lane::Second,
             count: 0,
-            items: items.another::<SecondLane>(&mut inbox_items),
+            items: second_items.another::<SecondLane>(&mut second_inbox),
+            beside: first_items.another::<Beside>(&mut first_inbox),
             marks: marks.another::<SecondLane>(&mut inbox_marks),
         };
         let inbox = InboxPass {
-            items: inbox_items,
+            first: LaneInbox {
+                lane: Lane::First,
+                count: 0,
+                items: first_inbox,
+            },
+            second: LaneInbox {
+                lane: Lane::Second,
+                count: 0,
+                items: second_inbox,
+            },
             marks: inbox_marks,
-            first_count: 0,
-            second_count: 0,
-            first: None,
-            second: None,
+            first_end: None,
+            second_end: None,
+            next: Lane::First,
         };
-        let parking = Parking::new();
         let mail = Mail {
-            items,
+            first_items,
+            second_items,
             marks,
-            parking,
+            parking: Parking::new(),
         };
         Ok((mail, first, second, inbox))
+    }
+
+    // The queue of the lane.
+    fn items(&self, lane: Lane) -> &Items
+        ensures { result.now ≡ lane_queue lane self.now }
+    {
+        match lane {
+            Lane::First => &self.first_items,
+            Lane::Second => &self.second_items,
+        }
     }
 
     /// Sends the item, and waits until fewer than 65,536 items of the lane lie untaken. The item comes back only for want of memory, and then nothing was
@@ -104,7 +131,10 @@ impl Mail {
         ensures ok { OnOk result (pass.new ≡ sent_more pass.old item) }
         ensures err { IfErr result (λ back. (back.item ≡ item) × (pass.new ≡ pass.old)) }
     {
-        match self.items.push_as::<Put, R>(rt, &mut pass.items, item) {
+        match self
+            .items(pass.lane)
+            .push_as::<Put, R>(rt, &mut pass.items, item)
+        {
             Ok(()) => {
                 pass.count += 1;
                 self.parking.wake_taker();
@@ -124,6 +154,7 @@ impl Mail {
             lane,
             count,
             items,
+            beside,
             mut marks,
         } = pass;
         match self
@@ -132,37 +163,56 @@ impl Mail {
         {
             Ok(()) => {
                 self.parking.wake_taker();
-                LaneDone { lane, items, marks }
+                LaneDone {
+                    lane,
+                    items,
+                    beside,
+                    marks,
+                }
             }
             Err(_) => unreachable!(),
         }
     }
 
-    fn pop_item<R: Wait>(&self, rt: &R, pass: &mut InboxPass) -> Option<Item>
+    // The next item of the lane, if its queue holds one. The other lane's turn is next then.
+    fn pop_item<R: Wait>(&self, rt: &R, pass: &mut InboxPass, lane: Lane) -> Option<Item>
         requires { pass.old.mail ≡ self.now }
         ensures pass { MatchOption result (pass.new ≡ pass.old) (λ item. pass.new ≡ took_more pass.old item) }
-        ensures few { IfSome result (λ _. length pass.new.taken ≤ 2 ^ 62) }
+        ensures few { IfSome result (λ _. length pass.new.first + length pass.new.second ≤ 2 ^ 62) }
     {
-        let item = self.items.pop_as::<Get, R>(rt, &mut pass.items)?;
-        match item.lane {
-            Lane::First => pass.first_count += 1,
-            Lane::Second => pass.second_count += 1,
-        }
+        let item = match lane {
+            Lane::First => pass.first.pop(rt, &self.first_items)?,
+            Lane::Second => pass.second.pop(rt, &self.second_items)?,
+        };
+        pass.next = lane.other();
         Some(item)
+    }
+
+    // The next item of the lane whose turn it is, or else of the other.
+    fn pop_next<R: Wait>(&self, rt: &R, pass: &mut InboxPass) -> Option<Item>
+        requires { pass.old.mail ≡ self.now }
+        ensures pass { MatchOption result (pass.new ≡ pass.old) (λ item. pass.new ≡ took_more pass.old item) }
+        ensures few { IfSome result (λ _. length pass.new.first + length pass.new.second ≤ 2 ^ 62) }
+    {
+        let lane = pass.next;
+        match self.pop_item(rt, pass, lane) {
+            Some(item) => Some(item),
+            None => self.pop_item(rt, pass, lane.other()),
+        }
     }
 
     // Whether a mark was there.
     fn pop_mark<R: Wait>(&self, rt: &R, pass: &mut InboxPass) -> bool
         requires { pass.old.mail ≡ self.now }
         ensures mail { pass.new.mail ≡ pass.old.mail }
-        ensures taken { pass.new.taken ≡ pass.old.taken }
+        ensures taken { TookNone pass.old pass.new }
         ensures ends { EndsStay pass.old pass.new }
     {
         match self.marks.pop_as::<Get, R>(rt, &mut pass.marks) {
             Some(mark) => {
                 match mark.lane {
-                    Lane::First => pass.first = Some(mark.count),
-                    Lane::Second => pass.second = Some(mark.count),
+                    Lane::First => pass.first_end = Some(mark.count),
+                    Lane::Second => pass.second_end = Some(mark.count),
                 }
                 true
             }
@@ -172,15 +222,16 @@ impl Mail {
 
     /// The next item, or that both lanes have ended and each of their items was taken. It waits while neither is so.
     ///
-    /// Items of one lane come in their order. End marks may come at any call, and tell how many items of the lane there are.
+    /// Items of one lane come in their order, and the lanes in turn: behind an item the other lane's next one comes, if it was put. End marks may come at
+    /// any call, and tell how many items of the lane there are.
     pub fn take<R: Wait>(&self, rt: &R, pass: &mut InboxPass) -> Taken
         requires { pass.old.mail ≡ self.now }
         ensures mail { pass.new.mail ≡ pass.old.mail }
-        ensures item { (item : Item) → result ≡ Taken.Item item → pass.new.taken ≡ pass.old.taken ++ item ∷ [] }
-        ensures ended { (result ≡ Taken.AllEnded) ↔ ((pass.new.taken ≡ pass.old.taken) × HasAll pass.new) }
+        ensures item { (item : Item) → result ≡ Taken.Item item → Took (item ∷ []) pass.old pass.new }
+        ensures ended { (result ≡ Taken.AllEnded) ↔ (TookNone pass.old pass.new × HasAll pass.new) }
 
         // No lane sends more than 2^61 items.
-        ensures few { (item : Item) → result ≡ Taken.Item item → length pass.new.taken ≤ 2 ^ 62 }
+        ensures few { (item : Item) → result ≡ Taken.Item item → length pass.new.first + length pass.new.second ≤ 2 ^ 62 }
 
         // An end mark that came stays, and after the last item nothing changes any more.
         ensures ends { EndsStay pass.old pass.new }
@@ -191,7 +242,7 @@ impl Mail {
             if pass.has_all() {
                 return Taken::AllEnded;
             }
-            if let Some(item) = self.pop_item(rt, pass) {
+            if let Some(item) = self.pop_next(rt, pass) {
                 self.parking.tell_taken(item.lane, pass.count_of(item.lane));
                 return Taken::Item(item);
             }
@@ -213,32 +264,27 @@ impl Mail {
         requires mail { (inbox.mail ≡ self) × (first.mail ≡ self) × (second.mail ≡ self) }
         requires lanes { (first.lane ≡ Lane.First) × (second.lane ≡ Lane.Second) }
         requires ended { HasAll inbox }
-        ensures first { (result.first ≡ first.sent) × (items_of Lane.First inbox.taken ≡ first.sent) }
-        ensures second { (result.second ≡ second.sent) × (items_of Lane.Second inbox.taken ≡ second.sent) }
-        ensures merge { IsMerge inbox.taken first.sent second.sent }
+        ensures first { (result.first ≡ first.sent) × (inbox.first ≡ first.sent) }
+        ensures second { (result.second ≡ second.sent) × (inbox.second ≡ second.sent) }
     {
         let Mail {
-            items,
+            first_items,
+            second_items,
             marks,
             parking: _,
         } = self;
         let InboxPass {
-            items: mut taken,
+            first: first_inbox,
+            second: second_inbox,
             marks: mut ends,
-            first_count: _,
-            second_count: _,
-            first: _,
-            second: _,
+            first_end: _,
+            second_end: _,
+            next: _,
         } = inbox;
-        items.absorb::<Gather>(&mut taken, first.items);
-        items.len_as::<Whole, R>(rt, &mut taken);
-        marks.absorb::<Gather>(&mut ends, first.marks);
-        marks.learn_as::<Whole>(&mut ends);
-        items.absorb::<Gather>(&mut taken, second.items);
-        items.len_as::<Whole, R>(rt, &mut taken);
-        marks.absorb::<Gather>(&mut ends, second.marks);
-        marks.learn_as::<Whole>(&mut ends);
-        items.destroy();
-        Lists { items: taken }
+        let first = settle(rt, &first_items, first_inbox, &marks, &mut ends, first);
+        let second = settle(rt, &second_items, second_inbox, &marks, &mut ends, second);
+        first_items.destroy();
+        second_items.destroy();
+        Lists { first, second }
     }
 }

@@ -1,11 +1,11 @@
 //! How the threads of a mail wait for one another.
 //!
-//! No wake-up is lost. A token is left behind each put, and whoever takes looks into both queues behind each token that it took: what was put before is
-//! seen then, and what is put later leaves a token again. A sender that waits was told of 65,536 untaken items or more, so more than 64,512 are in the
-//! queue; whoever takes finds them without waiting, tells of the next 1,024 taken ones, and leaves a token behind that. The number told of only grows, and
-//! is looked at behind each token.
+//! No wake-up is lost. A token is left behind each put, and behind each token that it took, whoever takes looks into the queues of both lanes and into that
+//! of the end marks before it waits again: what was put before is seen then, and what is put later leaves a token again. A sender that waits was told of
+//! 65,536 untaken items or more, so more than 64,512 are in its lane's queue; whoever takes finds them without waiting, at each second item at the latest,
+//! tells of the next 1,024 taken ones, and leaves a token behind that. The number told of only grows, and is looked at behind each token.
 //!
-//! Nor do they wait for each other: whoever takes waits only where the queue is empty, and a sender only where it isn't.
+//! Nor do they wait for each other: whoever takes waits only where the queues of both lanes are empty, and a sender only where its own isn't.
 
 use crate::lane::Lane;
 use std::sync::Wait;

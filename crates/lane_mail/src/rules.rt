@@ -1,4 +1,4 @@
-//! The one rule of both queues, and what each step over them tells.
+//! The one rule of all three queues, and what each step over them tells.
 ghost use Rattle.std.specs.Prelude.{◌≡◌, ◌<◌, ◌^◌, ⊤, length};
 ghost use Rattle.lane_mail.specs.declared.lane.Lane.TheVariants.{First, Second};
 
@@ -8,7 +8,7 @@ use crate::mark::Mark;
 use crossbeam_queue::protocol::{Join, Lesson, Outcome, Protocol, Split};
 use crossbeam_queue::{Pass, RuledArrayQueue, RuledSegQueue, SegPass};
 
-/// The queue of the items.
+/// The queue of a lane's items.
 pub type Items = RuledSegQueue<Item, Hand<Item>, ItemRule>;
 
 /// The queue of the end marks, which has room for both.
@@ -64,6 +64,17 @@ impl<T> Split<Hand<T>> for SecondLane {
     ghost left = { without Second };
 
     ghost right = { λ v. sender Second v.sent };
+}
+
+/// The other lane gets a pass that may do nothing, and tells it which queue this is.
+pub struct Beside;
+
+impl<T> Split<Hand<T>> for Beside {
+    ghost use Rattle.lane_mail.specs.Hands.{spent};
+
+    ghost left = { λ v. v };
+
+    ghost right = { λ _. spent };
 }
 
 /// Whoever takes learns what the other sent.

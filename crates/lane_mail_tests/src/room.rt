@@ -1,4 +1,4 @@
-//! A lane that sends more than is taken.
+//! A lane that sends more than is taken, and more than the other.
 ghost use Rattle.std.specs.Prelude.{◌≡◌, length};
 ghost use Rattle.std.specs.Thread.{IsSync};
 
@@ -36,6 +36,16 @@ fn send_rest<R: Abort + Wait>(
     mail.end(rt, pass)
 }
 
+/// Takes the items behind the first, and looks for no more.
+fn take_behind<R: Abort + Wait>(rt: &R, mail: &Mail, inbox: &mut InboxPass)
+    requires { inbox.old.mail ≡ mail.now }
+{
+    for number in 1..COUNT {
+        check_next(rt, mail, inbox, Lane::First, number);
+    }
+    check_end(rt, mail, inbox);
+}
+
 /// Takes the items behind the first once the lane has come as far as it may.
 fn take_rest<R: Abort + Wait>(rt: &R, mail: &Mail, inbox: &mut InboxPass, reached: &AtomicU64)
     requires { inbox.old.mail ≡ mail.now }
@@ -51,10 +61,7 @@ fn take_rest<R: Abort + Wait>(rt: &R, mail: &Mail, inbox: &mut InboxPass, reache
         let last = reached.load(Ordering::SeqCst);
         assert_eq!(rt; last, UNTAKEN - 1);
     }
-    for number in 1..COUNT {
-        check_next(rt, mail, inbox, Lane::First, number);
-    }
-    check_end(rt, mail, inbox);
+    take_behind(rt, mail, inbox);
 }
 
 /// One thread sends, and one takes.
@@ -87,5 +94,34 @@ fn send_and_take<R: Threads + Abort + Wait + Sync>(
 fn a_lane_that_is_far_ahead_waits(rt: HostRuntime) -> Result<(), NoMemory> {
     let (mail, first, second, mut inbox) = Mail::new(rt.alloc())?;
     send_and_take(&rt, &mail, first, second, &mut inbox);
+    Ok(())
+}
+
+/// All of the first lane is sent, and then an item of the second. It is taken behind one of the first.
+fn send_both<R: Abort + Wait>(
+    rt: &R,
+    mail: &Mail,
+    mut first: LanePass,
+    mut second: LanePass,
+    inbox: &mut InboxPass,
+)
+    requires mail { (first.mail ≡ mail.now) × (second.mail ≡ mail.now) × (inbox.old.mail ≡ mail.now) }
+    requires lanes { (first.lane ≡ Lane.First) × (second.lane ≡ Lane.Second) }
+    requires sent { (length first.sent ≡ 0) × (length second.sent ≡ 0) }
+{
+    let reached = AtomicU64::new(0);
+    send(rt, mail, &mut first, Lane::First, 0);
+    let _first = send_rest(rt, mail, first, &reached);
+    send(rt, mail, &mut second, Lane::Second, 7);
+    let _second = mail.end(rt, second);
+    check_next(rt, mail, inbox, Lane::First, 0);
+    check_next(rt, mail, inbox, Lane::Second, 7);
+    take_behind(rt, mail, inbox);
+}
+
+#[test]
+fn a_lane_that_is_far_ahead_holds_up_no_other(rt: HostRuntime) -> Result<(), NoMemory> {
+    let (mail, first, second, mut inbox) = Mail::new(rt.alloc())?;
+    send_both(&rt, &mail, first, second, &mut inbox);
     Ok(())
 }

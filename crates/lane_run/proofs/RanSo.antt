@@ -1,21 +1,22 @@
 -- What follows of a run of two lanes.
 use Rattle.std.specs.Bool.{⊤}
-use Rattle.std.proofs.Common.{◌≡◌, ℕ, Bool, List, [], ◌++◌, Option, Result, Ok, Err, IfOk, refl, ap, ◌∙◌, subst}
-use Rattle.std.proofs.lemmas.List.Elements.{filter-append}
+use Rattle.std.proofs.Common.{◌≡◌, ℕ, Bool, List, [], Option, Result, Ok, Err, IfOk, refl, ap, ◌∙◌, subst}
 use Rattle.mlb_base.specs.declared.memory.NoMemory.{NoMemory as MemoryEnd}
 use Rattle.kube_model.specs.declared.event.Event.{Event}
 use Rattle.kube_model.specs.declared.status.Status.{Status}
 use Rattle.lane_mail.specs.declared.lane.Lane.{Lane}
 use Rattle.lane_mail.specs.declared.lane.Lane.TheVariants.{First, Second}
 use Rattle.lane_mail.specs.declared.item.Item.{Item}
-use Rattle.lane_mail.specs.Lanes.{is_lane, item_lane, items_of}
-use Rattle.lane_mail.specs.Merges.{IsMerge}
+use Rattle.lane_mail.specs.Lanes.{item_lane, items_of}
 use Rattle.lane_mail.specs.Values.{MailId, Sender}
+use Rattle.lane_mail.proofs.Merging.{merged}
+use Rattle.lane_mail.proofs.Taking.{items_append}
 use Rattle.lane_run.specs.declared.lane_end.LaneEnd.{LaneEnd}
 use Rattle.lane_run.specs.declared.lane_run.LaneRun.{LaneRun}
 use Rattle.lane_run.specs.Ran.{LanesTurned, Ran, RanBy, TurnedBeginnings}
 use Rattle.lane_run.specs.Turned.{BeginsTurned, EndedTurned, Watched}
 use Rattle.lane_run.specs.Outside.{SourceState, Outside}
+use Rattle.lane_run.specs.Together.{HasLanes, BeginsLanes}
 use Rattle.lane_run.specs.Watched.{Begins, IsBeginning}
 use Rattle.lane_run.proofs.LaneSoFar.{begins_none}
 use Rattle.lane_run.proofs.Turning.{begins_less, begins_turned, ended_unturned}
@@ -23,7 +24,7 @@ use Rattle.lane_run.proofs.Turning.{begins_less, begins_turned, ended_unturned}
 -- the items of a lane among those of a beginning are a beginning of them
 items_begin : (lane : Lane) (taken part : List Item) → IsBeginning part taken → IsBeginning (items_of lane part) (items_of lane taken)
 items_begin lane taken part split =
-    (items_of lane split.0, ap (items_of lane) split.1 ∙ filter-append (λ x. is_lane lane (item_lane x)) part split.0)
+    (items_of lane split.0, ap (items_of lane) split.1 ∙ items_append lane part split.0)
 
 -- a part of what a lane sent
 pub begins_part : (belongs : Lane → Event → Bool) (lane : Lane) (left : Option (List ℕ)) (taken part : List Item) → IsBeginning part taken
@@ -68,16 +69,24 @@ module _ {U V : Type 0} (TurnsFirst : U → U → Event → Event → Type 0) (T
     seconds = part_turned TurnsSecond belongs Second second second' v v' end' sent part split lanes.second_ended;
   }
 
-  -- the threads were joined
-  pub sent_of : (mail mail' : MailId) (taken : List Item) (one two : Sender) (end end' : LaneEnd)
+  -- the threads were joined, and these were taken of each lane
+  pub sent_of : (mail mail' : MailId) (taken firsts seconds : List Item) (one two : Sender) (end end' : LaneEnd)
       → Watched TurnsFirst belongs First mail first first' u u' one end → Watched TurnsSecond belongs Second mail' second second' v v' two end'
-      → items_of First taken ≡ one.sent → items_of Second taken ≡ two.sent → IsMerge taken one.sent two.sent
+      → HasLanes taken firsts seconds → firsts ≡ one.sent → seconds ≡ two.sent
       → LanesTurned TurnsFirst TurnsSecond belongs first first' second second' u u' v v' taken end end'
-  sent_of mail mail' taken one two end end' w w' e e' merge = record {
-    first_ended = ended_of TurnsFirst belongs First mail first first' u u' one end taken w e;
-    second_ended = ended_of TurnsSecond belongs Second mail' second second' v v' two end' taken w' e';
-    merge = rw (e, e') merge;
+  sent_of mail mail' taken firsts seconds one two end end' w w' lanes e e' = record {
+    first_ended = ended_of TurnsFirst belongs First mail first first' u u' one end taken w (lanes.first ∙ e);
+    second_ended = ended_of TurnsSecond belongs Second mail' second second' v v' two end' taken w' (lanes.second ∙ e');
+    merge = merged item_lane taken;
   }
+
+  -- and so a part of these
+  pub part_of : (mail mail' : MailId) (firsts seconds part : List Item) (one two : Sender) (end end' : LaneEnd)
+      → Watched TurnsFirst belongs First mail first first' u u' one end → Watched TurnsSecond belongs Second mail' second second' v v' two end'
+      → BeginsLanes firsts seconds part → firsts ≡ one.sent → seconds ≡ two.sent
+      → TurnedBeginnings TurnsFirst TurnsSecond belongs first.left second.left u u' v v' part
+  part_of mail mail' firsts seconds part one two end end' w w' b e e' =
+      turned_part b.whole part end end' b.begins (sent_of mail mail' b.whole firsts seconds one two end end' w w' b.lanes e e')
 
 -- where each event is sent as it is, these are the items of both lanes
 pub ran_unturned : {S : Type 0} (belongs : Lane → Event → Bool) (Drives : S → S → Item → Outside → Outside → Type 0)

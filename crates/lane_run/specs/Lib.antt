@@ -1,6 +1,7 @@
 pub mod Outside
 pub mod LaneInputs
 pub mod Watched
+pub mod Together
 pub mod Turned
 pub mod Steps
 pub mod Reconciled

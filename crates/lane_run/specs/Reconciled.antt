@@ -5,6 +5,7 @@ use Rattle.kube_model.specs.declared.status.Status.{Status}
 use Rattle.lane_mail.specs.declared.item.Item.{Item}
 use Rattle.lane_mail.specs.Values.{MailId, Receiver, HasAll}
 use Rattle.lane_run.specs.Outside.{Outside}
+use Rattle.lane_run.specs.Together.{HasLanes}
 use Rattle.lane_run.specs.Waiting.{MayBeAwaited}
 use Rattle.line_run.specs.Answered.{MayBeAsked}
 use Rattle.mlb_edge.specs.Reading.{Reading}
@@ -89,9 +90,11 @@ pub record StandsBehind {S : Type 0} (Drives : S → S → Item → Outside → 
   pub leaves : LeavesOff Refuses refused state mid after
   pub stands : Stands driven refused
 
--- Both lanes have ended and each of their items was taken, and these were driven.
+-- Both lanes have ended and each of their items was taken, and these were driven in the order in which they were taken.
 pub record Reconciled {S U : Type 0} (Drives : S → S → Item → Outside → Outside → Type 0) (Refuses : Status → S → Item → Outside → Outside → Type 0)
     (mail : MailId) (inbox : Receiver) (s t : S) (before after : Outside) (outcome : Result U Status) : Type 0 where
   pub mail_is : inbox.mail ≡ mail
   pub ended : HasAll inbox
-  pub drove : Drove Drives Refuses inbox.taken s t before after outcome
+  pub taken : List Item
+  pub lanes : HasLanes taken inbox.first inbox.second
+  pub drove : Drove Drives Refuses taken s t before after outcome

@@ -1,5 +1,5 @@
 -- What a lane has sent where it ends.
-use Rattle.std.specs.Prelude.{◌≡◌, ◌≤◌, ⊤, ℕ, Bool, false, List, [], ◌++◌, length, Option, Some, None}
+use Rattle.std.specs.Prelude.{◌≡◌, ◌≤◌, ⊤, ℕ, Bool, false, List, ◌++◌, length, Option, Some, None}
 use Rattle.std.specs.Io.KnownBytes.{IsAtEnd}
 use Rattle.kube_model.specs.declared.event.Event.{Event}
 use Rattle.lane_mail.specs.declared.lane.Lane.{Lane}
@@ -16,9 +16,6 @@ use Rattle.lane_run.specs.Outside.{SourceState}
 -- the whole begins with the part
 abbrev pub IsBeginning : {T : Type 0} → List T → List T → Type 0
 IsBeginning {T} part whole = (rest : List T) × (whole ≡ part ++ rest)
-
-abbrev pub BeginsWith : {T : Type 0} → List T → List T → Type 0
-BeginsWith whole part = IsBeginning part whole
 
 -- a beginning of what the lane carries
 pub record Begins (belongs : Lane → Event → Bool) (lane : Lane) (left : Option (List ℕ)) (items : List Item) : Type 0 where

@@ -1,11 +1,9 @@
 //! Waiting for lanes, only at times.
-ghost use Rattle.std.specs.Prelude.{◌≡◌, ◌^◌, ◌<◌, ◌≤◌, ◌↔◌, ◌++◌, ◌∷◌, [], ⊤, List, length, OnOk, IfErr};
-ghost use Rattle.lane_mail.specs.Lanes.{items_of};
-ghost use Rattle.lane_mail.specs.Merges.{IsMerge};
-ghost use Rattle.lane_mail.specs.Values.{HasAll, sent_more};
+ghost use Rattle.std.specs.Prelude.{◌≡◌, ◌+◌, ◌^◌, ◌<◌, ◌≤◌, ◌↔◌, ◌∷◌, [], ⊤, List, length, OnOk, IfErr};
+ghost use Rattle.lane_mail.specs.Values.{HasAll, Took, TookNone, sent_more};
 ghost use Rattle.lane_mail.specs.declared.item.Item.{Item};
 ghost use Rattle.lane_mail.specs.declared.lane.Lane.TheVariants.{First, Second};
-ghost use Rattle.lane_run.specs.Watched.{IsBeginning};
+ghost use Rattle.lane_run.specs.Waiting.{MayWaitNow};
 
 use lane_mail::{InboxPass, Item, LaneDone, LanePass, Lists, Mail, PutBack, Taken};
 use mlb_edge::Sink;
@@ -18,27 +16,27 @@ use std::sync::Wait;
 /// sink of that type than its own. So it shows, at each call that may wait for an item, that it may be waited for when its own sink stands so,
 /// and where it drops what the lanes send that this may be dropped.
 pub trait PacedWait<K: Sink> {
-    /// The next item may be waited for when these were taken, and this is the sink.
+    /// The next item may be waited for when these were taken, in this order, and this is the sink.
     ghost may_wait: { Self → List Item → K → Type 0 };
 
-    /// What the lanes still send may be dropped when these were taken, and this is the sink.
+    /// What the lanes still send may be dropped when these were taken, in this order, and this is the sink.
     ghost may_drop: { Self → List Item → K → Type 0 };
 
     /// The next item, as `Mail::take` gives it. `out` is the sink that the items taken before are answered to.
     fn take_next(&self, mail: &Mail, inbox: &mut InboxPass, out: &K) -> Taken
         requires mail { inbox.old.mail ≡ mail.now }
-        requires paced { may_wait self.now inbox.old.taken out.now }
+        requires paced { MayWaitNow may_wait self.now inbox.old.first inbox.old.second out.now }
         ensures mail { inbox.new.mail ≡ inbox.old.mail }
-        ensures item { (item : Item) → result ≡ Taken.Item item → inbox.new.taken ≡ inbox.old.taken ++ item ∷ [] }
-        ensures few { (item : Item) → result ≡ Taken.Item item → length inbox.new.taken ≤ 2 ^ 62 }
-        ensures ended { (result ≡ Taken.AllEnded) ↔ ((inbox.new.taken ≡ inbox.old.taken) × HasAll inbox.new) };
+        ensures item { (item : Item) → result ≡ Taken.Item item → Took (item ∷ []) inbox.old inbox.new }
+        ensures few { (item : Item) → result ≡ Taken.Item item → length inbox.new.first + length inbox.new.second ≤ 2 ^ 62 }
+        ensures ended { (result ≡ Taken.AllEnded) ↔ (TookNone inbox.old inbox.new × HasAll inbox.new) };
 
     /// Takes all that the lanes still send, and drops it unseen. `out` is the sink that the items taken before are answered to.
     fn drop_rest(&self, mail: &Mail, inbox: &mut InboxPass, out: &K)
         requires mail { inbox.old.mail ≡ mail.now }
-        requires paced { may_drop self.now inbox.old.taken out.now }
+        requires paced { MayWaitNow may_drop self.now inbox.old.first inbox.old.second out.now }
         ensures mail { inbox.new.mail ≡ inbox.old.mail }
-        ensures taken { IsBeginning inbox.old.taken inbox.new.taken }
+        ensures taken { (items : List Item) × Took items inbox.old inbox.new }
         ensures ended { HasAll inbox.new };
 }
 
@@ -62,9 +60,8 @@ pub trait MailWait {
         requires mail { (inbox.mail ≡ mail) × (first.mail ≡ mail) × (second.mail ≡ mail) }
         requires lanes { (first.lane ≡ First) × (second.lane ≡ Second) }
         requires ended { HasAll inbox }
-        ensures first { items_of First inbox.taken ≡ first.sent }
-        ensures second { items_of Second inbox.taken ≡ second.sent }
-        ensures merge { IsMerge inbox.taken first.sent second.sent };
+        ensures first { inbox.first ≡ first.sent }
+        ensures second { inbox.second ≡ second.sent };
 }
 
 /// What is a `Wait` may wait, and drop, at any time, beside any sink.

@@ -1,7 +1,7 @@
 //! The third thread: it takes what the lanes sent, and drives the reconciler.
 ghost use Rattle.std.specs.Prelude.{◌≡◌, [], None};
 ghost use Rattle.lane_run.specs.Reconciled.{MayReconcile, Reconciled, StandsBehind};
-ghost use Rattle.lane_run.specs.Watched.{BeginsWith};
+ghost use Rattle.lane_run.specs.Together.{BeginsLanes};
 ghost use Rattle.lane_run.specs.Outside.{outside, source_state};
 
 use crate::paced::PacedWait;
@@ -25,13 +25,13 @@ pub(crate) fn reconcile<M: Reconciler, R: PacedWait<K>, I: PacedSource<K>, K: Si
     out: &mut K,
 ) -> Result<(), Status>
     requires mail { inbox.old.mail ≡ mail.now }
-    requires fresh { inbox.old.taken ≡ [] }
+    requires fresh { (inbox.old.first ≡ []) × (inbox.old.second ≡ []) }
     requires may { MayReconcile M.Drives M.Refuses M.Asks (M.state machine.old) I.name I.may_read R.may_wait R.may_drop K.written
         (λ i r o. outside r (source_state (I.left i) (I.name i) (I.faults i)) (K.written o) (K.faults o))
         rt.now input.old reader.old out.old }
     ensures name { I.name input.new ≡ I.name input.old }
-    ensures behind { M.Behind machine.old [] None → StandsBehind M.Drives M.Refuses (M.Behind machine.new) (BeginsWith inbox.new.taken)
-        (M.state machine.old)
+    ensures behind { M.Behind machine.old [] None → StandsBehind M.Drives M.Refuses (M.Behind machine.new)
+        (BeginsLanes inbox.new.first inbox.new.second) (M.state machine.old)
         (outside reader.old (source_state (I.left input.old) (I.name input.old) (I.faults input.old))
         (K.written out.old) (K.faults out.old))
         (outside reader.new (source_state (I.left input.new) (I.name input.new) (I.faults input.new))

@@ -20,8 +20,8 @@ use mlb_edge::{LineReader, Sink};
 use std::alloc::Global;
 use std::thread::Threads;
 
-/// Drives the reconciler by the events of both sources' lines, in the order in which they come. Each lane's
-/// come in their order. `reader` reads the replies of `input` for the reconciler.
+/// Drives the reconciler by the events of both sources' lines: each lane's in their order, and the lanes in turn, as they come. `reader` reads the replies
+/// of `input` for the reconciler.
 ///
 /// A lane that ends at a fault doesn't end the other, and what was sent before is still driven. Once the
 /// reconciler refuses an item it is driven by no other, and the lanes are read to their ends all the same.
@@ -83,8 +83,8 @@ pub fn run_lanes<
         rt,
         alloc,
         first,
-        second,
         &mut Unturned,
+        second,
         &mut Unturned,
         machine,
         reader,
@@ -108,8 +108,8 @@ pub fn run_turned<
     rt: &R,
     alloc: Global,
     first: &mut S,
-    second: &mut S,
     first_turner: &mut A,
+    second: &mut S,
     second_turner: &mut B,
     machine: &mut M,
     reader: &mut LineReader,
@@ -165,16 +165,16 @@ pub fn run_turned<
         I,
         K,
     >(
+        &mail,
         rt,
         alloc,
-        &mail,
         first_pass,
-        second_pass,
-        &mut inbox,
         first,
-        second,
         first_turner,
+        second_pass,
+        second,
         second_turner,
+        &mut inbox,
         machine,
         reader,
         input,

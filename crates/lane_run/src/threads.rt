@@ -5,7 +5,7 @@ ghost use Rattle.lane_mail.specs.declared.lane.Lane.TheVariants.{First, Second};
 ghost use Rattle.lane_run.specs.Reconciled.{MayReconcile, Reconciled, StandsBehind};
 ghost use Rattle.lane_run.specs.Turned.{CanWatch, Watched};
 ghost use Rattle.lane_run.specs.Outside.{lane_state, outside, source_state};
-ghost use Rattle.lane_run.specs.Watched.{BeginsWith};
+ghost use Rattle.lane_run.specs.Together.{BeginsLanes};
 
 use crate::lane_end::LaneEnd;
 use crate::lanes::Lanes;
@@ -36,16 +36,16 @@ pub(crate) fn run_threads<
     I: PacedSource<K> + Send,
     K: Sink + Send,
 >(
+    mail: &Mail,
     rt: &R,
     alloc: Global,
-    mail: &Mail,
     first_pass: LanePass,
-    second_pass: LanePass,
-    inbox: &mut InboxPass,
     first: &mut S,
-    second: &mut S,
     first_turner: &mut A,
+    second_pass: LanePass,
+    second: &mut S,
     second_turner: &mut B,
+    inbox: &mut InboxPass,
     machine: &mut M,
     reader: &mut LineReader,
     input: &mut I,
@@ -53,17 +53,17 @@ pub(crate) fn run_threads<
 ) -> (Result<(), Status>, Watch, Watch)
     requires first { (first_pass.mail ≡ mail.now) × (first_pass.lane ≡ First) × (first_pass.sent ≡ []) }
     requires second { (second_pass.mail ≡ mail.now) × (second_pass.lane ≡ Second) × (second_pass.sent ≡ []) }
-    requires inbox { (inbox.old.mail ≡ mail.now) × (inbox.old.taken ≡ []) }
+    requires inbox { (inbox.old.mail ≡ mail.now) × (inbox.old.first ≡ []) × (inbox.old.second ≡ []) }
     requires may { MayReconcile M.Drives M.Refuses M.Asks (M.state machine.old) I.name I.may_read R.may_wait R.may_drop K.written
         (λ i r o. outside r (source_state (I.left i) (I.name i) (I.faults i)) (K.written o) (K.faults o))
         rt.now input.old reader.old out.old }
-    ensures name { I.name input.new ≡ I.name input.old }
-    ensures behind { M.Behind machine.old [] None → StandsBehind M.Drives M.Refuses (M.Behind machine.new) (BeginsWith inbox.new.taken)
-        (M.state machine.old)
+    ensures behind { M.Behind machine.old [] None → StandsBehind M.Drives M.Refuses (M.Behind machine.new)
+        (BeginsLanes inbox.new.first inbox.new.second) (M.state machine.old)
         (outside reader.old (source_state (I.left input.old) (I.name input.old) (I.faults input.old))
         (K.written out.old) (K.faults out.old))
         (outside reader.new (source_state (I.left input.new) (I.name input.new) (I.faults input.new))
         (K.written out.new) (K.faults out.new)) }
+    ensures name { I.name input.new ≡ I.name input.old }
     ensures inbox { Reconciled M.Drives M.Refuses mail.now inbox.new (M.state machine.old) (M.state machine.new)
         (outside reader.old (source_state (I.left input.old) (I.name input.old) (I.faults input.old))
         (K.written out.old) (K.faults out.old))
@@ -87,13 +87,13 @@ pub(crate) fn run_threads<
     let (outcome, (second_end, first_end)) = join_mut(
         rt,
         &mut || -> Result<(), Status>
-            requires inbox { (inbox.now.mail ≡ mail.now) × (inbox.now.taken ≡ []) }
+            requires inbox { (inbox.now.mail ≡ mail.now) × (inbox.now.first ≡ []) × (inbox.now.second ≡ []) }
             requires may { MayReconcile M.Drives M.Refuses M.Asks (M.state machine.now) I.name I.may_read R.may_wait R.may_drop K.written
                 (λ i r o. outside r (source_state (I.left i) (I.name i) (I.faults i)) (K.written o) (K.faults o))
                 rt.now input.now reader.now out.now }
             ensures name { I.name input.exit.now ≡ I.name input.entry.now }
             ensures behind { M.Behind machine.entry.now [] None → StandsBehind M.Drives M.Refuses (M.Behind machine.exit.now)
-                (BeginsWith inbox.exit.now.taken) (M.state machine.entry.now)
+                (BeginsLanes inbox.exit.now.first inbox.exit.now.second) (M.state machine.entry.now)
                 (outside reader.entry.now (source_state (I.left input.entry.now) (I.name input.entry.now) (I.faults input.entry.now))
                 (K.written out.entry.now) (K.faults out.entry.now))
                 (outside reader.exit.now (source_state (I.left input.exit.now) (I.name input.exit.now) (I.faults input.exit.now))

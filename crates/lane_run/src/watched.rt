@@ -129,14 +129,14 @@ pub trait WatchedFiles {
 
     /// `Files::close`.
     fn close(&mut self, input: Self::In) -> Result<(), NoMemory>
+        ensures bytes { (file : List ℕ) → bytes self.new file ≡ bytes self.old file }
+        ensures safe { (file : List ℕ) → safe self.new file ≡ safe self.old file }
         ensures opens { failed_opens self.new ≡ failed_opens self.old }
-        ensures ok { OnOk result (failed_reads self.new
-            ≡ with_closed (failed_reads self.old) (Self.In.name input) (Self.In.faults input)) }
-        ensures err { OnErr result (failed_reads self.new ≡ failed_reads self.old) }
         ensures faults { CountsFault (Self.In.name input) (IsOk result × (Self.In.faults input ≢ 0))
             (failed_reads self.old) (failed_reads self.new) }
-        ensures bytes { (file : List ℕ) → bytes self.new file ≡ bytes self.old file }
-        ensures safe { (file : List ℕ) → safe self.new file ≡ safe self.old file };
+        ensures ok { OnOk result (failed_reads self.new
+            ≡ with_closed (failed_reads self.old) (Self.In.name input) (Self.In.faults input)) }
+        ensures err { OnErr result (failed_reads self.new ≡ failed_reads self.old) };
 }
 
 /// All files can be watched, and opened at any time.

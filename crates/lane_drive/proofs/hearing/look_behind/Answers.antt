@@ -1,4 +1,4 @@
-use Rattle.std.proofs.Common.{◌≡◌, true, false, sym, ◌∙◌}
+use Rattle.std.proofs.Common.{◌≡◌, true, sym, ◌∙◌}
 use Rattle.lane_drive.proofs.hearing.look_behind.Goals as goal
 
 pub next_step-requires : goal.next_step-requires

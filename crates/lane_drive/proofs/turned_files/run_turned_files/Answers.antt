@@ -1,4 +1,4 @@
-use Rattle.std.proofs.Common.{ℕ, List, [], Err, inr, refl, ap, subst, ◌∙◌}
+use Rattle.std.proofs.Common.{ℕ, List, Err, inr, refl, ap, subst, ◌∙◌}
 use Rattle.mlb_edge.specs.Failed.{with_failed}
 use Rattle.mlb_edge.specs.Reading.{Reading}
 use Rattle.lane_run.specs.Outside.{outside, source_state}
@@ -8,7 +8,7 @@ use Rattle.lane_run.proofs.RanSo.{turned_none}
 use Rattle.lane_drive.proofs.Left.{left_none, left_with}
 use Rattle.lane_drive.proofs.Sent.{turned_lawful}
 use Rattle.lane_drive.proofs.Complete.{complete}
-use Rattle.lane_drive.proofs.Ways.{writes_none}
+use Rattle.lane_drive.proofs.Endings.{writes_none}
 use Rattle.lane_drive.proofs.OverFiles as files
 use Rattle.lane_drive.proofs.turned_files.run_turned_files.Goals as goal
 
@@ -51,7 +51,7 @@ returns-in_default-clause-ended g c =
 
 pub returns-in_default-clause-only : goal.returns-in_default-clause-only
 returns-in_default-clause-only g c =
-    writes_none turned_lawful g.M.LaneMachine.rules (g.M.LaneMachine.state c.args.machine) c.requires.quiet _ _ _ _
+    writes_none turned_lawful g.M.LaneMachine.rules (g.M.LaneMachine.state c.args.machine) _ _ _ _
     (turned_none g.A.Turner.Turns g.B.Turner.Turns g.M.Lanes.belongs _ _ _ _ _ _ refl refl)
 
 pub returns-in-Err-clause-ended : goal.returns-in-Err-clause-ended
@@ -62,7 +62,7 @@ returns-in-Err-clause-ended g c = λ other.
 
 pub returns-in-Err-clause-only : goal.returns-in-Err-clause-only
 returns-in-Err-clause-only g c =
-    writes_none turned_lawful g.M.LaneMachine.rules (g.M.LaneMachine.state c.args.machine) c.requires.quiet _ _ _ _
+    writes_none turned_lawful g.M.LaneMachine.rules (g.M.LaneMachine.state c.args.machine) _ _ _ _
     (turned_none g.A.Turner.Turns g.B.Turner.Turns g.M.Lanes.belongs _ _ _ _ _ _ refl refl)
 
 pub returns-in-Err-open-clause-ended : goal.returns-in-Err-open-clause-ended
@@ -73,7 +73,7 @@ returns-in-Err-open-clause-ended g c = λ other. files.ends_none turned_lawful g
 
 pub returns-in-Err-open-clause-only : goal.returns-in-Err-open-clause-only
 returns-in-Err-open-clause-only g c =
-    writes_none turned_lawful g.M.LaneMachine.rules (g.M.LaneMachine.state c.args.machine) c.requires.quiet _ _ _ _
+    writes_none turned_lawful g.M.LaneMachine.rules (g.M.LaneMachine.state c.args.machine) _ _ _ _
     (turned_none g.A.Turner.Turns g.B.Turner.Turns g.M.Lanes.belongs _ _ _ _ _ _ refl refl)
 
 pub returns-in-Ok-Ok-clause-ended : goal.returns-in-Ok-Ok-clause-ended
@@ -82,53 +82,47 @@ returns-in-Ok-Ok-clause-ended g c = λ other.
     let one = c.in-Ok-Ok.ensures.ok in
     let two = c.in-Ok-Ok.ensures'.ok in
     let names = c.run_opened-status.ensures.names in
-    files.ends_with turned_lawful g.M.LaneMachine.rules (g.M.LaneMachine.state c.args.machine) c.requires.quiet c.args.first.now c.args.second.now
-    _ _ _ _ _ _ _ _ _ _ _ _ _ _ c.in-Ok-open.ensures.opened
-    c.in-Ok-open-2.ensures.opened (c.open.ensures.bytes c.args.second.now) (c.open.ensures.safe c.args.second.now) c.in-Ok.reader c.in-Ok.ensures
-    _ _ _ _ _ _ c.run_opened-status.result c.run_opened-status.ensures.ended _ _
+    files.ends_with turned_lawful g.M.LaneMachine.rules (g.M.LaneMachine.state c.args.machine) c.requires.quiet
+    c.in-Ok-open.ensures.opened c.in-Ok-open-2.ensures.opened (c.open.ensures.bytes c.args.second.now) (c.open.ensures.safe c.args.second.now)
+    c.in-Ok.ensures c.run_opened-status.ensures.ended _ _
     (files.kept_so c.args.first.now c.args.second.now _ _ _ _ _ _ _ _ same one two (names.0 ∙ c.in-Ok-open.ensures.opened.named)
     (names.1 ∙ c.in-Ok-open-2.ensures.opened.named))
 
 pub returns-in-Ok-Ok-clause-done : goal.returns-in-Ok-Ok-clause-done
 returns-in-Ok-Ok-clause-done g c =
     let laws = g.met.M.LaneMachine g.world.𝓛 g.world.𝓜 g.world.𝓡 ((λ s x. x), (λ x. x), (λ x. x), λ x. x) in
-    files.done turned_lawful g.M.LaneMachine.rules (g.M.LaneMachine.state c.args.machine) c.requires.quiet c.args.first.now c.args.second.now
-    _ _ _ _ _ _ _ _ _ _ _ _ _ _ c.in-Ok-open.ensures.opened
-    c.in-Ok-open-2.ensures.opened (c.open.ensures.bytes c.args.second.now) (c.open.ensures.safe c.args.second.now) c.in-Ok.reader c.in-Ok.ensures
-    _ _ _ _ _ _ c.run_opened-status.result c.run_opened-status.ensures.ended laws.items_stop laws.replies_stop laws.unanswered_puts
+    files.done turned_lawful g.M.LaneMachine.rules (g.M.LaneMachine.state c.args.machine) c.requires.quiet
+    c.in-Ok-open.ensures.opened c.in-Ok-open-2.ensures.opened (c.open.ensures.bytes c.args.second.now) (c.open.ensures.safe c.args.second.now)
+    c.in-Ok.ensures c.run_opened-status.ensures.ended laws.items_stop laws.replies_stop laws.unanswered_puts
 
 pub returns-in-Ok-Ok-clause-only : goal.returns-in-Ok-Ok-clause-only
 returns-in-Ok-Ok-clause-only g c =
-    files.only turned_lawful g.M.LaneMachine.rules (g.M.LaneMachine.state c.args.machine) c.requires.quiet c.args.first.now c.args.second.now
-    _ _ _ _ _ _ _ _ _ _ _ _ _ _ c.in-Ok-open.ensures.opened
-    c.in-Ok-open-2.ensures.opened (c.open.ensures.bytes c.args.second.now) (c.open.ensures.safe c.args.second.now) c.in-Ok.reader c.in-Ok.ensures
-    _ _ _ _ _ _ c.run_opened-status.result c.run_opened-status.ensures.ended
+    files.only turned_lawful g.M.LaneMachine.rules (g.M.LaneMachine.state c.args.machine) c.requires.quiet
+    c.in-Ok-open.ensures.opened c.in-Ok-open-2.ensures.opened (c.open.ensures.bytes c.args.second.now) (c.open.ensures.safe c.args.second.now)
+    c.in-Ok.ensures c.run_opened-status.ensures.ended
 
 pub returns-in-Ok-Ok-clause-open_fault : goal.returns-in-Ok-Ok-clause-open_fault
 returns-in-Ok-Ok-clause-open_fault g c =
     let laws = g.met.M.LaneMachine g.world.𝓛 g.world.𝓜 g.world.𝓡 ((λ s x. x), (λ x. x), (λ x. x), λ x. x) in
     files.none_failed g.M.LaneMachine.rules.name c.args.first.now c.args.second.now c.run_opened-status.result _ _ _ _
-    (files.no_open_fault turned_lawful g.M.LaneMachine.rules (g.M.LaneMachine.state c.args.machine) c.requires.quiet c.args.first.now c.args.second.now
-    _ _ _ _ _ _ _ _ _ _ _ _ _ _ c.in-Ok-open.ensures.opened
-    c.in-Ok-open-2.ensures.opened (c.open.ensures.bytes c.args.second.now) (c.open.ensures.safe c.args.second.now) c.in-Ok.reader c.in-Ok.ensures
-    _ _ _ _ _ _ c.run_opened-status.result c.run_opened-status.ensures.ended laws.items_stop laws.replies_stop laws.unanswered_puts)
+    (files.no_open_fault turned_lawful g.M.LaneMachine.rules (g.M.LaneMachine.state c.args.machine) c.requires.quiet
+    c.in-Ok-open.ensures.opened c.in-Ok-open-2.ensures.opened (c.open.ensures.bytes c.args.second.now) (c.open.ensures.safe c.args.second.now)
+    c.in-Ok.ensures c.run_opened-status.ensures.ended laws.items_stop laws.replies_stop laws.unanswered_puts)
     (c.close-3.ensures.opens ∙ (c.close-2.ensures.opens ∙ ((rw c.in-Ok-open-2.is at c.open-2.ensures.opens) ∙ (rw c.in-Ok-open.is at c.open.ensures.opens))))
 
 pub returns-in-Ok-Ok-clause-unopened : goal.returns-in-Ok-Ok-clause-unopened
 returns-in-Ok-Ok-clause-unopened g c =
     let laws = g.met.M.LaneMachine g.world.𝓛 g.world.𝓜 g.world.𝓡 ((λ s x. x), (λ x. x), (λ x. x), λ x. x) in
-    λ lane is. absurd (files.no_open_fault turned_lawful g.M.LaneMachine.rules (g.M.LaneMachine.state c.args.machine) c.requires.quiet c.args.first.now
-    c.args.second.now _ _ _ _ _ _ _ _ _ _ _ _ _ _ c.in-Ok-open.ensures.opened
-    c.in-Ok-open-2.ensures.opened (c.open.ensures.bytes c.args.second.now) (c.open.ensures.safe c.args.second.now) c.in-Ok.reader c.in-Ok.ensures
-    _ _ _ _ _ _ c.run_opened-status.result c.run_opened-status.ensures.ended laws.items_stop laws.replies_stop laws.unanswered_puts lane is)
+    λ lane is. absurd (files.no_open_fault turned_lawful g.M.LaneMachine.rules (g.M.LaneMachine.state c.args.machine) c.requires.quiet
+    c.in-Ok-open.ensures.opened c.in-Ok-open-2.ensures.opened (c.open.ensures.bytes c.args.second.now) (c.open.ensures.safe c.args.second.now)
+    c.in-Ok.ensures c.run_opened-status.ensures.ended laws.items_stop laws.replies_stop laws.unanswered_puts lane is)
 
 pub returns-in-Ok-Ok-clause-write_fault : goal.returns-in-Ok-Ok-clause-write_fault
 returns-in-Ok-Ok-clause-write_fault g c =
     let laws = g.met.M.LaneMachine g.world.𝓛 g.world.𝓜 g.world.𝓡 ((λ s x. x), (λ x. x), (λ x. x), λ x. x) in
-    files.write_fault turned_lawful g.M.LaneMachine.rules (g.M.LaneMachine.state c.args.machine) c.requires.quiet c.args.first.now c.args.second.now
-    _ _ _ _ _ _ _ _ _ _ _ _ _ _ c.in-Ok-open.ensures.opened
-    c.in-Ok-open-2.ensures.opened (c.open.ensures.bytes c.args.second.now) (c.open.ensures.safe c.args.second.now) c.in-Ok.reader c.in-Ok.ensures
-    _ _ _ _ _ _ c.run_opened-status.result c.run_opened-status.ensures.ended laws.items_stop laws.replies_stop laws.unanswered_puts
+    files.write_fault turned_lawful g.M.LaneMachine.rules (g.M.LaneMachine.state c.args.machine) c.requires.quiet
+    c.in-Ok-open.ensures.opened c.in-Ok-open-2.ensures.opened (c.open.ensures.bytes c.args.second.now) (c.open.ensures.safe c.args.second.now)
+    c.in-Ok.ensures c.run_opened-status.ensures.ended laws.items_stop laws.replies_stop laws.unanswered_puts
 
 pub returns-in-Ok-Ok-clause-read_fault : goal.returns-in-Ok-Ok-clause-read_fault
 returns-in-Ok-Ok-clause-read_fault g c =
@@ -137,26 +131,23 @@ returns-in-Ok-Ok-clause-read_fault g c =
     let one = c.in-Ok-Ok.ensures.ok in
     let two = c.in-Ok-Ok.ensures'.ok in
     let names = c.run_opened-status.ensures.names in
-    files.read_fault turned_lawful g.M.LaneMachine.rules (g.M.LaneMachine.state c.args.machine) c.requires.quiet c.args.first.now c.args.second.now
-    _ _ _ _ _ _ _ _ _ _ _ _ _ _ c.in-Ok-open.ensures.opened
-    c.in-Ok-open-2.ensures.opened (c.open.ensures.bytes c.args.second.now) (c.open.ensures.safe c.args.second.now) c.in-Ok.reader c.in-Ok.ensures
-    _ _ _ _ _ _ c.run_opened-status.result c.run_opened-status.ensures.ended laws.items_stop laws.replies_stop laws.unanswered_puts _ _
+    files.read_fault turned_lawful g.M.LaneMachine.rules (g.M.LaneMachine.state c.args.machine) c.requires.quiet
+    c.in-Ok-open.ensures.opened c.in-Ok-open-2.ensures.opened (c.open.ensures.bytes c.args.second.now) (c.open.ensures.safe c.args.second.now)
+    c.in-Ok.ensures c.run_opened-status.ensures.ended laws.items_stop laws.replies_stop laws.unanswered_puts _ _
     (files.first_counted c.args.first.now _ _ _ _ _ _ _ _ same one two (names.0 ∙ c.in-Ok-open.ensures.opened.named))
     (files.second_counted c.args.second.now _ _ _ _ _ _ _ _ same one two (names.1 ∙ c.in-Ok-open-2.ensures.opened.named))
 
 pub returns-clause-ended : goal.returns-clause-ended
 returns-clause-ended g c =
-    λ other. files.ends_unkept turned_lawful g.M.LaneMachine.rules (g.M.LaneMachine.state c.args.machine) c.requires.quiet c.args.first.now
-    c.args.second.now _ _ _ _ _ _ _ _ _ _ _ _ _ _ c.in-Ok-open.ensures.opened
-    c.in-Ok-open-2.ensures.opened (c.open.ensures.bytes c.args.second.now) (c.open.ensures.safe c.args.second.now) c.in-Ok.reader c.in-Ok.ensures
-    _ _ _ _ _ _ c.run_opened-status.result c.run_opened-status.ensures.ended _ _
+    λ other. files.ends_unkept turned_lawful g.M.LaneMachine.rules (g.M.LaneMachine.state c.args.machine) c.requires.quiet
+    c.in-Ok-open.ensures.opened c.in-Ok-open-2.ensures.opened (c.open.ensures.bytes c.args.second.now) (c.open.ensures.safe c.args.second.now)
+    c.in-Ok.ensures c.run_opened-status.ensures.ended _ _
 
 pub returns-clause-only : goal.returns-clause-only
 returns-clause-only g c =
-    files.only turned_lawful g.M.LaneMachine.rules (g.M.LaneMachine.state c.args.machine) c.requires.quiet c.args.first.now c.args.second.now
-    _ _ _ _ _ _ _ _ _ _ _ _ _ _ c.in-Ok-open.ensures.opened
-    c.in-Ok-open-2.ensures.opened (c.open.ensures.bytes c.args.second.now) (c.open.ensures.safe c.args.second.now) c.in-Ok.reader c.in-Ok.ensures
-    _ _ _ _ _ _ c.run_opened-status.result c.run_opened-status.ensures.ended
+    files.only turned_lawful g.M.LaneMachine.rules (g.M.LaneMachine.state c.args.machine) c.requires.quiet
+    c.in-Ok-open.ensures.opened c.in-Ok-open-2.ensures.opened (c.open.ensures.bytes c.args.second.now) (c.open.ensures.safe c.args.second.now)
+    c.in-Ok.ensures c.run_opened-status.ensures.ended
 
 pub returns-in_default-clause-open_fault : goal.returns-in_default-clause-open_fault
 returns-in_default-clause-open_fault g c =
@@ -226,12 +217,10 @@ returns-in-Err-open-clause-behind g c = λ none fresh. left_none turned_lawful g
 
 pub returns-in-Ok-Ok-clause-behind : goal.returns-in-Ok-Ok-clause-behind
 returns-in-Ok-Ok-clause-behind g c = λ none fresh. left_with turned_lawful g.M.LaneMachine.rules (g.M.LaneMachine.state c.args.machine) _
-    c.args.first.now c.args.second.now _ _ _ _ _ _ _ _ _ _ _ _ _
-    c.in-Ok-open.ensures.opened c.in-Ok-open-2.ensures.opened (c.open.ensures.bytes c.args.second.now) c.in-Ok.reader c.in-Ok.ensures _ _ _
+    c.in-Ok-open.ensures.opened c.in-Ok-open-2.ensures.opened (c.open.ensures.bytes c.args.second.now) c.in-Ok.ensures _ _ _
     (c.run_opened-status.ensures.behind none fresh)
 
 pub returns-clause-behind : goal.returns-clause-behind
 returns-clause-behind g c = λ none fresh. left_with turned_lawful g.M.LaneMachine.rules (g.M.LaneMachine.state c.args.machine) _
-    c.args.first.now c.args.second.now _ _ _ _ _ _ _ _ _ _ _ _ _
-    c.in-Ok-open.ensures.opened c.in-Ok-open-2.ensures.opened (c.open.ensures.bytes c.args.second.now) c.in-Ok.reader c.in-Ok.ensures _ _ _
+    c.in-Ok-open.ensures.opened c.in-Ok-open-2.ensures.opened (c.open.ensures.bytes c.args.second.now) c.in-Ok.ensures _ _ _
     (c.run_opened-status.ensures.behind none fresh)

@@ -1,32 +1,34 @@
 use Rattle.std.proofs.Common.{[], ◌++◌, None, refl}
 use Rattle.std.specs.Option.{option_to_list}
-use Rattle.lane_run.proofs.RanSo.{sent_of, turned_none, turned_part}
+use Rattle.lane_run.proofs.RanSo.{sent_of, part_of, turned_none}
 use Rattle.lane_run.proofs.running.run_turned.Goals as goal
 
 pub returns-clause-ran : goal.returns-clause-ran
 returns-clause-ran g c =
     let run = c.run_threads-outcome in
+    let all = run.ensures.inbox in
     record {
-      taken = run.new.inbox.taken;
-      lanes = sent_of g.A.Turner.Turns g.B.Turner.Turns g.L.Lanes.belongs _ _ _ _ _ _ _ _ _ _ run.new.inbox.taken run.result.1.0 run.result.2.0 run.result.1.1
-          run.result.2.1 run.ensures.first run.ensures.second c.into_lists.ensures.first c.into_lists.ensures.second c.into_lists.ensures.merge;
-      drove = run.ensures.inbox.drove;
+      taken = all.taken;
+      lanes = sent_of g.A.Turner.Turns g.B.Turner.Turns g.L.Lanes.belongs _ _ _ _ _ _ _ _ _ _ all.taken run.new.inbox.first run.new.inbox.second
+          run.result.1.0 run.result.2.0 run.result.1.1 run.result.2.1 run.ensures.first run.ensures.second all.lanes c.into_lists.ensures.first
+          c.into_lists.ensures.second;
+      drove = all.drove;
     }
 
 pub returns-clause-behind : goal.returns-clause-behind
 returns-clause-behind g c fresh =
     let run = c.run_threads-outcome in
     let behind = run.ensures.behind fresh in
-    let all = sent_of g.A.Turner.Turns g.B.Turner.Turns g.L.Lanes.belongs _ _ _ _ _ _ _ _ _ _ run.new.inbox.taken run.result.1.0 run.result.2.0
-    run.result.1.1 run.result.2.1 run.ensures.first run.ensures.second c.into_lists.ensures.first c.into_lists.ensures.second c.into_lists.ensures.merge in
     record {
       driven = behind.driven;
       refused = behind.refused;
       sent = (
-        turned_part g.A.Turner.Turns g.B.Turner.Turns g.L.Lanes.belongs _ _ _ _ _ _ _ _ run.new.inbox.taken behind.driven
-            run.result.1.1 run.result.2.1 behind.sent.0 all,
-        turned_part g.A.Turner.Turns g.B.Turner.Turns g.L.Lanes.belongs _ _ _ _ _ _ _ _ run.new.inbox.taken
-            (behind.driven ++ option_to_list behind.refused) run.result.1.1 run.result.2.1 behind.sent.1 all,
+        part_of g.A.Turner.Turns g.B.Turner.Turns g.L.Lanes.belongs _ _ _ _ _ _ _ _ _ _ run.new.inbox.first run.new.inbox.second behind.driven run.result.1.0
+            run.result.2.0 run.result.1.1 run.result.2.1 run.ensures.first run.ensures.second behind.sent.0 c.into_lists.ensures.first
+            c.into_lists.ensures.second,
+        part_of g.A.Turner.Turns g.B.Turner.Turns g.L.Lanes.belongs _ _ _ _ _ _ _ _ _ _ run.new.inbox.first run.new.inbox.second
+            (behind.driven ++ option_to_list behind.refused) run.result.1.0 run.result.2.0 run.result.1.1 run.result.2.1 run.ensures.first run.ensures.second
+            behind.sent.1 c.into_lists.ensures.first c.into_lists.ensures.second,
       );
       state = behind.state;
       mid = behind.mid;

@@ -1,6 +1,7 @@
-use Rattle.std.proofs.Common.{◌≡◌, true, false, Result, Ok, Err, IfErr, OnOk, OnErr, refl, sym, subst, ◌∙◌}
+use Rattle.std.proofs.Common.{Result, Ok, Err, IfErr, OnOk, OnErr, refl, ◌∙◌}
 use Rattle.std.proofs.lemmas.Result.{on_ok_weaker, IfErr-weaker}
 use Rattle.lane_run.specs.Outside.{outside, source_state}
+use Rattle.lane_drive.proofs.Heard.{never_waits}
 use Rattle.lane_drive.proofs.Taken.{asks_not, awaits_behind, drives_item, fails_behind, fails_item, fails_not}
 use Rattle.lane_drive.proofs.driver.DriverReconciler.take.Goals as goal
 
@@ -69,9 +70,7 @@ pub returns-in-Err-clause-refused : goal.returns-in-Err-clause-refused
 returns-in-Err-clause-refused g c = λ items behind none.
     let laws = g.met.M.LaneMachine in
     let stops = c.in-Err.ensures.err in
-    let waits : g.M.LaneMachine.rules.waits stops.state ≡ true = stops.waits in
-    let quiet : g.M.LaneMachine.rules.waits stops.state ≡ false = laws.unheard none stops.state in
-    absurd (cc)
+    absurd (never_waits g.M.LaneMachine.rules (laws.unheard none) stops.state stops.waits)
 
 pub returns-in-Err-take_item-clause-refused : goal.returns-in-Err-take_item-clause-refused
 returns-in-Err-take_item-clause-refused g c = λ items behind none.
@@ -89,6 +88,4 @@ returns-clause-behind g c = on_ok_always c.hear_replies-2.result (λ items behin
 pub returns-clause-refused : goal.returns-clause-refused
 returns-clause-refused g c = err_then_never c.hear_replies-2.result _ _ c.hear_replies-2.ensures.err (λ status stops items behind none.
     let laws = g.met.M.LaneMachine in
-    let waits : g.M.LaneMachine.rules.waits stops.state ≡ true = stops.waits in
-    let quiet : g.M.LaneMachine.rules.waits stops.state ≡ false = laws.unheard none stops.state in
-    absurd (cc))
+    absurd (never_waits g.M.LaneMachine.rules (laws.unheard none) stops.state stops.waits))

@@ -1,10 +1,9 @@
-use Rattle.std.proofs.Common.{List, [], ◌∷◌, ◌++◌, refl, sym, ap, ◌∙◌, append_assoc}
-use Rattle.std.proofs.lemmas.List.{append-nil}
-use Rattle.lane_mail.specs.declared.item.Item.{Item}
+use Rattle.std.proofs.Common.{[], ◌∷◌, ◌++◌, refl, ◌∙◌}
+use Rattle.lane_mail.proofs.Taking.{Took-nil, Took-append}
 use Rattle.lane_run.proofs.paced.AnyPacedWait.drop_rest.Goals as goal
 
 pub loop-init : goal.loop-init
-loop-init g c = record { mail = refl; taken = ([], sym (append-nil c.args.inbox.now.taken)) }
+loop-init g c = record { mail = refl; taken = ([], Took-nil c.args.inbox.now c.args.inbox.now (record { first = refl; second = refl })) }
 
 pub loop-preserved : goal.loop-preserved
 loop-preserved g c =
@@ -14,6 +13,6 @@ loop-preserved g c =
       mail = c.take.ensures.mail ∙ i.mail;
       taken = (
         i.taken.0 ++ item ∷ [],
-        c.in-Item.ensures.item item refl ∙ (ap (λ (l : List Item). l ++ item ∷ []) i.taken.1 ∙ append_assoc c.args.inbox.now.taken i.taken.0 (item ∷ [])),
+        Took-append i.taken.0 (item ∷ []) c.args.inbox.now c.loop.inbox c.take.new.pass i.taken.1 (c.in-Item.ensures.item item refl),
       );
     }

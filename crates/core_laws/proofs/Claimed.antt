@@ -5,7 +5,7 @@ use Rattle.std.proofs.lemmas.Map.Entries.{option_filter}
 use Rattle.std.specs.List.{Contains, list_any}
 use Rattle.std.specs.List.Sorted.{IsStrictlySortedBy}
 use Rattle.std.specs.Map.{keys_of}
-use Rattle.std.specs.Option.{option_map_or}
+use Rattle.std.specs.Option.{option_map_or, unwrap_or}
 use Rattle.kube_model.specs.declared.event.Event.{Event}
 use Rattle.kube_model.specs.declared.event.ListGroup.{ListGroup}
 use Rattle.kube_model.specs.declared.event.ListGroup.TheVariants as groups
@@ -20,7 +20,10 @@ use Rattle.kube_model.specs.Records.{is_assigned}
 use Rattle.kube_model.specs.Service.{with_holding}
 use Rattle.kube_model.proofs.KeyLaws.{key_cmp-total, key_cmp-exact, same_key-is, same_key-flip, is_eq-key_cmp}
 use Rattle.sharing_terms.specs.declared.terms.Terms.{Terms}
+use Rattle.sharing_terms.specs.Marked.{IsMarkOf}
+use Rattle.sharing_terms.specs.Spelled.{recorded_terms}
 use Rattle.sharing_terms.specs.Terms.{terms_of}
+use Rattle.sharing_terms.proofs.ReadBack.{recorded-exact}
 use Rattle.versioned_map.specs.declared.map.Versioned.{Versioned}
 use Rattle.versioned_map.specs.Objects.{held_at, at_version, version_at, listed, expired}
 use Rattle.versioned_map.proofs.HeldLaws.{held_at-shown, held_at-removed, held_at-listed, held_at-expired}
@@ -35,12 +38,13 @@ use Rattle.core_rules.specs.Core.{State, no_terms, terms_in, shown_terms}
 use Rattle.core_rules.specs.Take.{core_by, core_take, core_expired, is_unlisted}
 use Rattle.core_rules.specs.Replied.{put_terms, replied_to}
 use Rattle.core_rules.specs.Run.{TranscriptEntry, Took, Expired, Turned, Heard, core_after, observed, IsRun}
+use Rattle.core_rules.proofs.ByMark.{terms_under-marked}
 use Rattle.core_rules.proofs.Claims.{claims_of-kept}
 use Rattle.core_rules.proofs.Effects.{by_effect, config-services}
 use Rattle.core_rules.proofs.Runs.{core_holds_what_was_observed}
 use Rattle.core_laws.specs.Claimed.{ServicesAreClaimed}
 use Rattle.core_laws.proofs.Orderly.{sorted-services}
-use Rattle.core_laws.proofs.Shared.{terms-kept}
+use Rattle.core_laws.proofs.Keyed.{terms-kept}
 use Rattle.core_laws.proofs.Puts.{held-of}
 
 -- one of the claims is the service's record under its terms
@@ -206,8 +210,21 @@ held-claims class (Heard reply ∷ earlier) is key =
     heard (core_after class earlier) (sorted-services (core_after class earlier) (observed earlier) (core_holds_what_was_observed class earlier is.1).0) key
     (held-claims class earlier is.1 key) (core_after class earlier).out reply
 
+-- ---- what it is claimed under
+adopted-by : (r : Record) (adopted : Terms) (found : Option Terms) → recorded_terms r.mark ≡ found → ((t : Terms) → ¬ (IsMarkOf t r.mark))
+    → unwrap_or found adopted ≡ adopted
+adopted-by r adopted None is none = refl
+adopted-by r adopted (Some t) is none = absurd (none t ((recorded-exact r.mark t).0 is))
+
 pub services_are_claimed : ServicesAreClaimed
 services_are_claimed class run is key service found has =
     let held = held-of (held_at key_cmp (core_after class run).held.services key) service found in
     let among = held-claims class run is key held.0 held.1 (subst (λ (x : Service). is_assigned x.holding ≡ true) (sym held.2) has) in
-    record { claim = among.0; stands = among.1; with_record = among.2 ∙ ap (λ (x : Service). x.holding) held.2; under = among.3 ∙ ap shown_terms held.2 }
+    let under : among.0.terms ≡ shown_terms service = among.3 ∙ ap shown_terms held.2 in
+    record {
+      claim = among.0;
+      stands = among.1;
+      with_record = among.2 ∙ ap (λ (x : Service). x.holding) held.2;
+      marked = λ t is_mark. under ∙ terms_under-marked service.holding (terms_of service) t is_mark;
+      adopted = λ none. under ∙ adopted-by service.holding (terms_of service) (recorded_terms service.holding.mark) refl none;
+    }

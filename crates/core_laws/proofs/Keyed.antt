@@ -1,5 +1,5 @@
 -- What holds of each service that an event shows, whatever its record is, holds of each that is held.
-use Rattle.std.proofs.Common.{◌≡◌, ℕ, Bool, true, false, cond, List, [], ◌∷◌, Option, Some, None, is_eq, option_map, refl, sym, subst, ◌∙◌}
+use Rattle.std.proofs.Common.{◌≡◌, ℕ, Bool, true, false, cond, List, [], ◌∷◌, Option, Some, None, is_eq, option_map, refl, sym, ap, subst, ◌∙◌}
 use Rattle.std.specs.Prelude.{⊤}
 use Rattle.std.specs.Cmp.{Equal-is}
 use Rattle.kube_model.specs.declared.event.Event.{Event}
@@ -10,10 +10,16 @@ use Rattle.kube_model.specs.declared.put.Put.{Put}
 use Rattle.kube_model.specs.declared.record.Record.{Record}
 use Rattle.kube_model.specs.declared.reply.PutReply.{PutReply}
 use Rattle.kube_model.specs.declared.reply.PutReply.TheVariants.{Ok as StoredReply, Stale, Missing, Unknown}
+use Rattle.kube_model.specs.declared.service.Policy.{Policy}
+use Rattle.kube_model.specs.declared.service.Policy.TheVariants.{Cluster as ClusterPolicy, Local as LocalPolicy}
 use Rattle.kube_model.specs.declared.service.Service.{Service}
 use Rattle.kube_model.specs.Keys.{key_cmp}
 use Rattle.kube_model.specs.Service.{with_holding}
 use Rattle.kube_model.proofs.KeyLaws.{key_cmp-exact}
+use Rattle.sharing_terms.specs.declared.terms.Backend.{Backend}
+use Rattle.sharing_terms.specs.declared.terms.Terms.{Terms}
+use Rattle.sharing_terms.specs.Ports.{ports_in}
+use Rattle.sharing_terms.specs.Terms.{terms_of, backend_by}
 use Rattle.versioned_map.specs.declared.map.Versioned.{Versioned}
 use Rattle.versioned_map.specs.Objects.{at_version, held_at}
 use Rattle.object_history.specs.Observations.{Observation, Watched, WatchExpired, Written}
@@ -159,3 +165,14 @@ own-keys (Heard reply ∷ earlier) = (tt, own-keys earlier)
 pub service-key : (class : Option (List ℕ)) (run : List TranscriptEntry) → IsRun class run → (key : Key) (service : Service)
     → service_of (core_after class run).held key ≡ Some service → service.key ≡ key
 service-key class run is key service found = held-holds (λ k s. s.key ≡ k) (λ k s holding p. p) class run is (own-keys run) key service found
+
+-- ---- terms
+backend-kept : (policy : Policy) (service : Service) (holding : Record) → backend_by policy (with_holding holding service) ≡ backend_by policy service
+backend-kept ClusterPolicy service holding = refl
+backend-kept LocalPolicy service holding = refl
+
+-- a record doesn't change the terms
+pub terms-kept : (service : Service) (holding : Record) → terms_of (with_holding holding service) ≡ terms_of service
+terms-kept service holding =
+    let with : Backend → Terms = λ backend. record { key = service.share_key; ports = ports_in service.ports; backend = backend } in
+    ap with (backend-kept service.policy service holding)

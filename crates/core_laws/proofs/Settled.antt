@@ -26,7 +26,7 @@ use Rattle.core_laws.specs.Settled.{OffersAreForServices, HeldAreServed, OthersA
 use Rattle.core_laws.specs.Waiting.{AreForService}
 use Rattle.core_laws.proofs.Served.{chosen_is_served}
 use Rattle.core_laws.proofs.ServedRows.{eligible-offered}
-use Rattle.core_laws.proofs.Shared.{terms-kept}
+use Rattle.core_laws.proofs.Keyed.{terms-kept}
 use Rattle.core_laws.proofs.Waiting.{not-foreign, not-cleared}
 
 -- ---- a record doesn't matter to what there is

@@ -27,7 +27,7 @@ use Rattle.core_laws.specs.Quiet.{MeetsRow}
 use Rattle.core_laws.specs.Waiting.{IgnoresRecords, WaitsInVain}
 use Rattle.core_laws.proofs.Classes.{same_class-is}
 use Rattle.core_laws.proofs.Served.{chosen-fits}
-use Rattle.core_laws.proofs.Shared.{terms-kept}
+use Rattle.core_laws.proofs.Keyed.{terms-kept}
 
 -- ---- no address is one of each family
 some-wanted : (families : List Family) → families ≢ [] → ¬ (IsOneOfEach families [])

@@ -1,16 +1,24 @@
--- Two services that have, or may have, one address: they share it by their terms, or the cluster showed it so.
+-- Two services that have, or may have, one address: they share it by their terms, or the cluster showed it so. What a put gives is shared by terms alone.
 use Rattle.std.specs.Prelude.{◌≡◌, ◌≢◌, ◌⊎◌, ◌<◌, ℕ, suc, Bool, true, false, ◌&&◌, if◌then◌else◌, List, [], ◌∷◌, ◌++◌, Option, Some, None}
 use Rattle.std.specs.List.{Contains, list_any}
 use Rattle.ip_ranges.specs.Values.{AddressValue}
 use Rattle.kube_model.specs.declared.key.Key.{Key}
 use Rattle.kube_model.specs.declared.put.Put.{Put}
+use Rattle.kube_model.specs.declared.reason.Reason.{Reason}
+use Rattle.kube_model.specs.declared.service.Service.{Service}
 use Rattle.kube_model.specs.Keys.{same_key}
+use Rattle.kube_model.specs.Records.{is_assigned}
 use Rattle.sharing_terms.specs.declared.terms.Terms.{Terms}
-use Rattle.sharing_terms.specs.Marked.{AreTerms}
+use Rattle.sharing_terms.specs.Marked.{AreTerms, IsMarkOf}
 use Rattle.sharing_terms.specs.Sharing.{MayShare}
 use Rattle.sharing_terms.specs.Terms.{terms_of}
+use Rattle.versioned_map.specs.declared.map.Versioned.{Versioned}
+use Rattle.object_history.specs.Kinds.{service_resource}
+use Rattle.object_history.specs.LookBack.{IsLastShown}
 use Rattle.claim_index.specs.Claims.{ClaimValue, is_under, claim_of, terms_under}
-use Rattle.core_rules.specs.Run.{TranscriptEntry, Took, Expired, Turned, Heard, IsRun, put_out, claims_shown, terms_shown}
+use Rattle.core_rules.specs.declared.turn.Turn.TheVariants.{Wants}
+use Rattle.core_rules.specs.Run.{TranscriptEntry, Took, Expired, Turned, Heard, IsRun, put_out, observed, claims_shown, terms_shown}
+use Rattle.core_laws.specs.Puts.{IsRightPut}
 use Rattle.core_laws.specs.Shown.{HoldsOfShown}
 
 -- the claim of the record that is being written, where it is the key's
@@ -69,3 +77,24 @@ AllShowTerms run = HoldsOfShown (λ key service. AreTerms (terms_of service)) ru
 -- so it is at each moment of every run
 abbrev pub RunsAreShared : Type 0
 RunsAreShared = (class : Option (List ℕ)) (run : List TranscriptEntry) → IsRun class run → AllShowTerms run → AreSharedOrShown run
+
+-- The terms share with the service as it is shown: with those of its record's mark, and where the record has no mark of this controller, as MetalLB
+-- leaves it, with those of the service itself.
+pub record MayShareWith (t : Terms) (service : Service) : Type 0 where
+  pub marked : (u : Terms) → IsMarkOf u service.holding.mark → MayShare t u
+  pub adopted : ((u : Terms) → ¬ (IsMarkOf u service.holding.mark)) → MayShare t (terms_of service)
+
+-- A put with an address is marked by the terms of its service. Whoever else has, or may have, one of its addresses shares it by these and the terms of
+-- its own claim, whoever came first; so each other service that was last shown with one shares it as it was shown.
+pub record SharesRightly (put : Put) (service : Service) (earlier : List TranscriptEntry) : Type 0 where
+  pub marked : is_assigned put.holding ≡ true → IsMarkOf (terms_of service) put.holding.mark
+  pub shares : (other : Key) → other ≢ put.key → (d : ClaimValue) → Contains (may_have other earlier) d → (a : AddressValue)
+      → Contains put.holding.addresses a → Contains d.holding.addresses a → MayShare (terms_of service) d.terms
+  pub shown : (other : Key) → other ≢ put.key → (held : Versioned Service) → IsLastShown service_resource other held (observed earlier) → (a : AddressValue)
+      → Contains put.holding.addresses a → Contains held.object.holding.addresses a → MayShareWith (terms_of service) held.object
+
+-- so it is of each put and the service that it is decided for
+abbrev pub PutsShareRightly : Type 0
+PutsShareRightly =
+    (class : Option (List ℕ)) (put : Put) (pending : Option Reason) (earlier : List TranscriptEntry) → IsRun class (Turned (Wants put pending) ∷ earlier)
+    → AllShowTerms earlier → (right : IsRightPut class put pending earlier) → SharesRightly put right.decision.held.object earlier

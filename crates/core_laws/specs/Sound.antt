@@ -7,7 +7,7 @@ use Rattle.core_rules.specs.declared.turn.Turn.TheVariants.{Idle, NoPut, Wants}
 use Rattle.core_rules.specs.Run.{TranscriptEntry, Took, Expired, Turned, Heard, IsRun, observed}
 use Rattle.core_laws.specs.Puts.{IsReadyBy, IsRightPut, IsRightNoPut}
 use Rattle.core_laws.specs.QuietShown.{IsQuietAsShown}
-use Rattle.core_laws.specs.Shared.{AllShowTerms, AreSharedOrShown}
+use Rattle.core_laws.specs.Shared.{AllShowTerms, AreSharedOrShown, SharesRightly}
 use Rattle.core_laws.specs.Telling.{IsRightReason}
 use Rattle.core_laws.specs.Waits.{awaits_shown}
 
@@ -18,11 +18,14 @@ pub record IsRightChoice (class : Option (List ℕ)) (key : Key) (pending : Opti
   pub free : awaits_shown key earlier ≡ false
   pub reason_is : (reason : Reason) → pending ≡ Some reason → IsRightReason class key reason earlier
 
--- What a turn came to is right. A turn is idle only where nothing is left waiting that could be served.
+-- What a turn came to is right. A turn is idle only where nothing is left waiting that could be served. What is put is right, and its addresses are shared by
+-- terms alone.
 abbrev pub IsRightTurn : Option (List ℕ) → Turn → List TranscriptEntry → Type 0
 IsRightTurn class Idle earlier = IsQuietAsShown class earlier
 IsRightTurn class (NoPut key pending) earlier = IsRightChoice class key pending earlier × IsRightNoPut class key pending earlier
-IsRightTurn class (Wants put pending) earlier = IsRightChoice class put.key pending earlier × IsRightPut class put pending earlier
+IsRightTurn class (Wants put pending) earlier =
+    IsRightChoice class put.key pending earlier
+    × ((right : IsRightPut class put pending earlier) × SharesRightly put right.decision.held.object earlier)
 
 -- what a run was made to do is right; what arrives isn't judged
 abbrev pub IsRightEntry : Option (List ℕ) → TranscriptEntry → List TranscriptEntry → Type 0

@@ -7,7 +7,7 @@ ghost use Rattle.core_laws.specs.Quiet.{RunsAreQuiet};
 ghost use Rattle.core_laws.specs.QuietShown.{RunsAreQuietAsShown};
 ghost use Rattle.core_laws.specs.Served.{ChosenIsServed, RowsAreServed};
 ghost use Rattle.core_laws.specs.Settled.{OffersAreForServices, HeldAreServed, OthersAreBare};
-ghost use Rattle.core_laws.specs.Shared.{RunsAreShared};
+ghost use Rattle.core_laws.specs.Shared.{RunsAreShared, PutsShareRightly};
 ghost use Rattle.core_laws.specs.Sound.{RunsAreSound};
 ghost use Rattle.core_laws.specs.Telling.{ReasonsAreRight, NotesAreRight};
 ghost use Rattle.core_laws.specs.Waiting.{WaitsInVain};
@@ -18,10 +18,12 @@ pub fn turns_are_of_ready_cores()
     ensures { TurnsAreReady }
 {}
 
-/// Each put is what is chosen for its service, by what the look back shows; and where a turn makes no put, none is due.
+/// Each put is what is chosen for its service, by what the look back shows; and where a turn makes no put, none is due. A put with an
+/// address is marked by the terms of its service, and whoever else has, or may have, one of its addresses shares it by these.
 pub fn puts_are_right()
     ensures puts { PutsAreRight }
     ensures no_puts { NoPutsAreRight }
+    ensures shares { PutsShareRightly }
 {}
 
 /// Whatever arrives, each key is queued once, is held and doesn't await a newer event, and none is queued while the core isn't
@@ -57,8 +59,8 @@ pub fn chosen_is_served()
     ensures rows { RowsAreServed }
 {}
 
-/// Whatever arrives, each held service with an address has a claim of its record: under the terms of its mark, and where it is the mark
-/// of none under those of the service.
+/// Whatever arrives, each held service with an address has a claim of its record: under the terms of its mark, and where it has no mark of
+/// this controller, as MetalLB leaves it, under those of the service as it is held now.
 pub fn services_are_claimed()
     ensures { ServicesAreClaimed }
 {}
@@ -96,8 +98,8 @@ pub fn what_is_told_is_right()
     ensures notes { NotesAreRight }
 {}
 
-/// Every run of the core is sound: at each moment what was done is right by what the look back shows, and services that have, or
-/// may have, one address share it, or the cluster showed it so.
+/// Every run of the core is sound: at each moment what was done is right by what the look back shows, whoever has, or may have, an
+/// address of a put shares it, and services that have, or may have, one address share it, or the cluster showed it so.
 pub fn runs_are_sound()
     ensures { RunsAreSound }
 {}

@@ -1,10 +1,9 @@
 -- Edits and puts keep a good store.
 use Rattle.std.proofs.Common.{◌≡◌, ◌≢◌, ◌⊎◌, inl, inr, ⊎_elim, ℕ, ◌+◌, ◌≤◌, Bool, true, false, cond, List, []}
-use Rattle.std.proofs.Common.{◌∷◌, Option, Some, None, is_some, is_eq, not, refl, sym, ap, subst, ◌∙◌, arith}
+use Rattle.std.proofs.Common.{◌∷◌, Option, Some, None, is_some, is_eq, refl, sym, ap, subst, ◌∙◌, arith}
 use Rattle.std.proofs.lemmas.Bool.{true≢false, and_parts}
 use Rattle.std.specs.List.{AllByRecursion, Contains}
 use Rattle.std.specs.List.Sorted.{IsStrictlySortedBy}
-use Rattle.mlb_base.specs.Items.{is_nil}
 use Rattle.mlb_base.proofs.Among.{contains-none}
 use Rattle.ip_ranges.specs.Values.{AddressValue}
 use Rattle.kube_model.specs.declared.key.Key.{Key}
@@ -20,7 +19,8 @@ use Rattle.kube_model.specs.Records.{is_assigned}
 use Rattle.kube_model.proofs.KeyLaws.{same_key-is, same_key-flip, is_eq-key_cmp}
 use Rattle.sharing_terms.specs.Marked.{AreTerms}
 use Rattle.sharing_terms.proofs.SharingLaws.{may_share-turned}
-use Rattle.core_laws.proofs.Shared.{terms-kept}
+use Rattle.core_laws.proofs.Keyed.{terms-kept}
+use Rattle.core_laws.proofs.Shared.{assigned_by}
 use Rattle.status_store.specs.declared.change.Edit.TheVariants.{Set, Delete}
 use Rattle.status_store.specs.declared.change.Outcome.{Outcome}
 use Rattle.status_store.specs.declared.stored.Stored.{Stored}
@@ -79,10 +79,6 @@ pub is-safe : (store : StoreValue) → IsWellFormed store → AreSafe (record_at
 is-safe store kept safe key other apart r q is is' a there there' =
     shared-by r q (record_at store key) (record_at store other) a (record-at store kept key r is) (record-at store kept other q is')
     (safe key other apart a) there there'
-
-pub assigned_by : (addresses : List AddressValue) (a : AddressValue) → Contains addresses a → not (is_nil addresses) ≡ true
-assigned_by [] a there = absurd (contains-none a there)
-assigned_by (x ∷ xs) a there = refl
 
 none-in : (r : Record) (a : AddressValue) → is_assigned r ≡ false → Contains r.addresses a → ⊥
 none-in r a e there = true≢false (sym (assigned_by r.addresses a there) ∙ e)

@@ -1,12 +1,11 @@
 -- A turn, its put and the reply keep what holds of a world, and so does a crash.
-use Rattle.std.proofs.Common.{◌≡◌, ℕ, ◌+◌, Bool, true, false, cond, eqb, ◌&&◌, not, List, [], ◌∷◌, ◌++◌, Option, Some}
+use Rattle.std.proofs.Common.{◌≡◌, ℕ, ◌+◌, Bool, true, false, cond, eqb, ◌&&◌, List, [], ◌∷◌, ◌++◌, Option, Some}
 use Rattle.std.proofs.Common.{None, option_map, is_some, IfSome, MatchBool, refl, sym, ap, subst, ◌∙◌, append-nil}
 use Rattle.std.proofs.lemmas.Bool.{true≢false, and_parts, eqb-true}
 use Rattle.std.proofs.lemmas.List.Elements.{Contains-append_left, Contains-append_right}
 use Rattle.std.specs.List.{AllByRecursion, Contains, list_any}
 use Rattle.std.specs.Option.{option_map_or}
-use Rattle.mlb_base.specs.Items.{is_nil}
-use Rattle.mlb_base.proofs.Among.{contains-none, contains-first, any-found}
+use Rattle.mlb_base.proofs.Among.{contains-none, any-found}
 use Rattle.mlb_base.proofs.Lists.{all-append}
 use Rattle.ip_ranges.specs.Values.{AddressValue}
 use Rattle.kube_model.specs.declared.event.Event.{Event}
@@ -47,7 +46,10 @@ use Rattle.core_rules.proofs.Claims.{claims_are_shown}
 use Rattle.core_rules.proofs.Runs.{heard-out}
 use Rattle.core_laws.specs.Shared.{may_have}
 use Rattle.core_laws.proofs.Queued.{queues_are_orderly}
-use Rattle.core_laws.proofs.Shared.{put-shared, alone, none-out}
+use Rattle.core_laws.specs.Puts.{IsRightPut}
+use Rattle.core_laws.specs.Shared.{SharesRightly}
+use Rattle.core_laws.proofs.Puts.{puts_are_right}
+use Rattle.core_laws.proofs.Shared.{assigned_by, puts_share_rightly, alone, none-out}
 use Rattle.core_laws.proofs.QuietRuns.{wants-some}
 use Rattle.world_rules.specs.Tracked.{Shown, Notice, Shows, IsClaimed, WillBeClaimed, IsTracked}
 use Rattle.world_rules.specs.World.{WorldValue, as_shown, shown_stored, shown_put, put_by, turned, after_turning, next_put, reached, after_crash}
@@ -56,11 +58,12 @@ use Rattle.world_rules.specs.Good.{notices_shown, IsTrackedIn, IsOfGroup, IsFoll
 use Rattle.world_rules.proofs.Following.{at_next}
 use Rattle.world_rules.proofs.Tracking.{Grows, tracked-other, tracked-accepted, tracked-lost, tracked-doubted}
 use Rattle.world_rules.proofs.Lanes.{all-either, notices_in-push, tracked-as}
-use Rattle.world_rules.proofs.Storing.{assigned_by, record_at, StandsBeside, service-at, given-record, stored_at-recorded, good-put}
+use Rattle.world_rules.proofs.Storing.{record_at, StandsBeside, service-at, given-record, stored_at-recorded, good-put}
 use Rattle.sharing_terms.specs.declared.terms.Terms.{Terms}
 use Rattle.sharing_terms.specs.Marked.{IsMarkOf}
 use Rattle.sharing_terms.specs.Sharing.{MayShare}
-use Rattle.sharing_terms.proofs.ReadBack.{recorded-exact}
+use Rattle.sharing_terms.specs.Terms.{terms_of}
+use Rattle.sharing_terms.proofs.ReadBack.{marks-apart}
 use Rattle.alloc_book.proofs.BookLaws.{claim_of-stands}
 use Rattle.core_rules.proofs.ByMark.{claims_are_by_mark}
 
@@ -133,10 +136,6 @@ records-doubted : (claims : List ClaimValue) (key q : Key) (r : Record) (terms :
     → records_of q (doubted key r terms claims) ≡ cond (same_key key q) (records_in (added key r terms (claims_of q claims))) (records_of q claims)
 records-doubted claims key q r terms =
     ap records_in (claims_of-doubted claims key q r terms) ∙ records-either (same_key key q) (added key r terms (claims_of q claims)) (claims_of q claims)
-
-some-address : (addresses : List AddressValue) → not (is_nil addresses) ≡ true → (a : AddressValue) × Contains addresses a
-some-address [] e = absurd (true≢false (sym e))
-some-address (a ∷ addresses) e = (a, contains-first a addresses)
 
 claimed_at : (found : Option Stored) (claims : List Record) (a : AddressValue) → IsClaimed (option_map stored_as found) claims
     → Contains (kept_record found).addresses a → Contains claims (kept_record found)
@@ -358,10 +357,6 @@ module _ (w : WorldValue) (s : State) (put : Put) (h : Versioned Service) (held 
         let there = stored_at w.store.objects (service_at put.key) in
         lost_on (applied && is_at_version put.version there) there refl (λ e. (and_parts applied (is_at_version put.version there) e).1)
 
--- a text is the mark of one value of terms
-mark-once : (text : List ℕ) (t u : Terms) → IsMarkOf t text → IsMarkOf u text → t ≡ u
-mark-once text t u is also = let same : Some t ≡ Some u = sym ((recorded-exact text t).1 is) ∙ (recorded-exact text u).1 also in cc
-
 -- ---- the core that wants the put
 module _ (w : WorldValue) (s : State) (put : Put) (wanted : put_in (core_turn s) ≡ Some put) (up : IsFollowed w s) where
   idle : is_ready s.held ≡ false → s.queue ≡ []
@@ -374,6 +369,22 @@ module _ (w : WorldValue) (s : State) (put : Put) (wanted : put_in (core_turn s)
 
   out-none : (core_after w.class up.run).out ≡ None
   out-none = ap (λ (t : State). t.out) up.leads ∙ up.none_out
+
+  abbrev turn : (pending : Option Reason) × (core_turn s ≡ Wants put pending)
+  turn = wants-some (core_turn s) put wanted
+
+  abbrev run : IsRun w.class (Turned (Wants put turn.0) ∷ up.run)
+  run = ((out-none, sym turn.1 ∙ ap core_turn (sym up.leads)), up.is)
+
+  abbrev right : IsRightPut w.class put turn.0 up.run
+  right = puts_are_right w.class put turn.0 up.run run
+
+  -- the terms of the service that it is put for
+  abbrev given : Terms
+  given = terms_of right.decision.held.object
+
+  shares : SharesRightly put right.decision.held.object up.run
+  shares = puts_share_rightly w.class put turn.0 up.run run up.typed right
 
   -- whoever else has an address of the put has it by a claim, and shares it
   beside : StandsBeside (record_at w.store) put.key put.holding
@@ -389,25 +400,17 @@ module _ (w : WorldValue) (s : State) (put : Put) (wanted : put_in (core_turn s)
       let shown : claims_of other s.claims ≡ may_have other up.run =
       ap (λ (x : State). claims_of other x.claims) (sym up.leads) ∙ claims_are_shown w.class up.run up.is other
       ∙ sym (alone other up.run (none-out w.class up.run up.is out-none)) in
-      let turn = wants-some (core_turn s) put wanted in
-      let run : IsRun w.class (Turned (Wants put turn.0) ∷ up.run) = ((out-none, sym turn.1 ∙ ap core_turn (sym up.leads)), up.is) in
-      let shares = put-shared w.class put turn.0 up.run run up.typed a in_put in
       let stands : Contains (core_after w.class up.run).claims found.0 =
       subst (λ (x : State). Contains x.claims found.0) (sym up.leads) (claim-of s.claims other found.0 found.1).0 in
       let theirs : found.0.terms ≡ u = claims_are_by_mark w.class up.run found.0 stands u (subst (λ (r : Record). IsMarkOf u r.mark) (sym found.2) marked') in
-      subst (λ (x : Terms). MayShare x u) (mark-once put.holding.mark shares.0 t shares.1 marked)
-      (subst (MayShare shares.0) theirs
-      (shares.2 other apart found.0 (subst (λ (cs : List ClaimValue). Contains cs found.0) shown found.1)
+      subst (λ (x : Terms). MayShare x u) (marks-apart given t put.holding.mark (shares.marked (assigned_by put.holding.addresses a in_put)) marked)
+      (subst (MayShare given) theirs
+      (shares.shares other apart found.0 (subst (λ (cs : List ClaimValue). Contains cs found.0) shown found.1) a in_put
       (subst (λ (r : Record). Contains r.addresses a) (sym found.2) in_other)))
 
   -- a put with an address is marked
   pub put-marked : is_assigned put.holding ≡ true → (t : Terms) × IsMarkOf t put.holding.mark
-  put-marked has =
-      let some = some-address put.holding.addresses has in
-      let turn = wants-some (core_turn s) put wanted in
-      let run : IsRun w.class (Turned (Wants put turn.0) ∷ up.run) = ((out-none, sym turn.1 ∙ ap core_turn (sym up.leads)), up.is) in
-      let shares = put-shared w.class put turn.0 up.run run up.typed some.0 some.1 in
-      (shares.0, shares.1)
+  put-marked has = (given, shares.marked has)
 
   put-stored : (outcome : Outcome) → IsGoodStore w.store → IsGoodStore (after_put put outcome w.store)
   put-stored outcome good = good-put put outcome w.store good beside

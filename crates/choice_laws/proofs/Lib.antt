@@ -1,0 +1,4 @@
+pub mod Options
+pub mod Pools
+pub mod Reasons
+pub mod Records

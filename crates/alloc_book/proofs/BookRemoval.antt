@@ -6,7 +6,7 @@ use Rattle.std.specs.Option.{option_map, option_and_then}
 use Rattle.std.specs.List.{AllByRecursion, Contains, find, list_any, slice_get}
 use Rattle.std.specs.List.Sorted.{IsStrictlySortedBy}
 use Rattle.std.specs.Map.{lookup, keys_of, values_of}
-use Rattle.std.proofs.lemmas.Bool.{true≢false, and_parts, not-true}
+use Rattle.std.proofs.lemmas.Bool.{true≢false, and_parts, eq-eqb, eqb-true, not-true}
 use Rattle.std.proofs.lemmas.Bool.Decides.{nat_tests}
 use Rattle.std.proofs.lemmas.List.Elements.{recursion_from_All}
 use Rattle.kube_model.specs.declared.key.Key.{Key}
@@ -93,12 +93,6 @@ module _ {X : Type 0} where
 abbrev pub Ascending : {X : Type 0} → List (ℕ × X) → Type 0
 Ascending items = IsStrictlySortedBy nat_cmp (keys_of items)
 
-same-number : (n m : ℕ) → (n == m) ≡ true → n ≡ m
-same-number n m e = grind (arith, nat_tests)
-
-number-itself : (n m : ℕ) → n ≡ m → (n == m) ≡ true
-number-itself n m e = grind (arith, nat_tests)
-
 number-apart : (n m : ℕ) → n < m → (n == m) ≡ false
 number-apart n m h = grind (arith, nat_tests)
 
@@ -159,7 +153,7 @@ module _ {X : Type 0} where
       → cond b (Some y) (lookup (λ k. k == n) items) ≡ Some x → Contains ((m, y) ∷ items) (n, x)
   lookup-by true n m y items x s ih e =
       let value : y ≡ x = cc in
-      let number : m ≡ n = same-number m n s in
+      let number : m ≡ n = eqb-true m n s in
       let with_number : ℕ → ℕ × X = λ k. (k, y) in
       let with_value : X → ℕ × X = λ z. (n, z) in
       let is : (m, y) ≡ (n, x) = ap with_number number ∙ ap with_value value in
@@ -176,7 +170,7 @@ module _ {X : Type 0} where
   lookup-here n (e ∷ items) x sorted there =
       ⊎_elim
       (λ same. let number : e.0 ≡ n = ap (λ (p : ℕ × X). p.0) same in let value : e.1 ≡ x = ap (λ (p : ℕ × X). p.1) same in
-      rw (number-itself e.0 n number) (ap (λ (y : X). Some y) value))
+      rw (eq-eqb e.0 n number) (ap (λ (y : X). Some y) value))
       (λ more. let below : e.0 < n = above-item e.0 items (n, x) sorted.0 more in rw (number-apart e.0 n below) (lookup-here n items x sorted.1 more))
       (contains-cons e items (n, x) there)
 
@@ -217,7 +211,7 @@ module _ {X : Type 0} where
       values-by false e kept rest ih = ih
 
   lookup-pushed : (items : List (ℕ × X)) (n : ℕ) (x : X) → AllByRecursion (λ p. p.0 < n) items → lookup (λ k. k == n) (items ++ (n, x) ∷ []) ≡ Some x
-  lookup-pushed [] n x fresh = rw (number-itself n n refl) refl
+  lookup-pushed [] n x fresh = rw (eq-eqb n n refl) refl
   lookup-pushed (e ∷ items) n x fresh = rw (number-apart e.0 n fresh.0) (lookup-pushed items n x fresh.1)
 
 -- ---- the claims of a key
@@ -247,7 +241,7 @@ numbers-contain key items p there own =
 own-number : (m : ℕ) (key : Key) (items : List (ℕ × ClaimValue)) (p : ℕ × ClaimValue) → Ascending items → IsNumberOf m key items → Contains items p
     → (p.0 == m) ≡ true → same_key p.1.key key ≡ true
 own-number m key items p sorted is there e =
-    let same : p.0 ≡ is.item.0 = same-number p.0 m e ∙ sym is.number in
+    let same : p.0 ≡ is.item.0 = eqb-true p.0 m e ∙ sym is.number in
     let item : p ≡ is.item = unique items p is.item sorted there is.stands same in
     ap (λ (q : ℕ × ClaimValue). same_key q.1.key key) item ∙ is.own
 
@@ -302,7 +296,7 @@ pub thinned-smaller : (n m : ℕ) (now : List (ℕ × ClaimValue)) → first_oth
 thinned-smaller n m now e =
     let other = other-is n m now e in
     let is = other.1.is in
-    filter-shorter (λ p. not (p.0 == m)) now is.item is.stands (ap not (number-itself is.item.0 m is.number))
+    filter-shorter (λ p. not (p.0 == m)) now is.item is.stands (ap not (eq-eqb is.item.0 m is.number))
 
 alone-by : (s t : Bool) → (s ≡ true → t ≡ true) → (not s || t) ≡ true
 alone-by true t is = is refl
@@ -371,7 +365,7 @@ pushed-by false t e kept rest c apart ih = ap (λ (l : List ClaimValue). e.1 ∷
 
 values-pushed : (items : List (ℕ × ClaimValue)) (n : ℕ) (c : ClaimValue) → AllByRecursion (λ p. p.0 < n) items
     → values_of (filter (is_alone n c.key) (items ++ (n, c) ∷ [])) ≡ others c.key (values_of items) ++ c ∷ []
-values-pushed [] n c fresh = rw (same_key-itself c.key, number-itself n n refl) refl
+values-pushed [] n c fresh = rw (same_key-itself c.key, eq-eqb n n refl) refl
 values-pushed (e ∷ items) n c fresh =
     pushed-by (same_key e.1.key c.key) (e.0 == n) e (filter (is_alone n c.key) (items ++ (n, c) ∷ [])) (others c.key (values_of items)) c
     (number-apart e.0 n fresh.0) (values-pushed items n c fresh.1)
@@ -473,7 +467,7 @@ module _ (lists : Key → Bool) where
   cleared-smaller from m now e =
       let due = due-is from m now e in
       let found = find-found (is_due from) now due.0 due.1 in
-      filter-shorter (λ p. not (p.0 == m)) now due.0 found.0 (ap not (number-itself due.0.0 m due.2))
+      filter-shorter (λ p. not (p.0 == m)) now due.0 found.0 (ap not (eq-eqb due.0.0 m due.2))
 
   leave-by : (b l : Bool) → (b ≡ true → l ≡ false) → (not b && l) ≡ l
   leave-by true l e = sym (e refl)
@@ -493,7 +487,7 @@ module _ (lists : Key → Bool) where
       record {
         kept = filter-twice (λ p. lists p.1.key) (λ p. not (p.0 == m)) (λ p. lists p.1.key) now
             (λ p there. leave-by (p.0 == m) (lists p.1.key)
-            (λ same. ap (λ (x : ℕ × ClaimValue). lists x.1.key) (unique now p due.0 sorted there found.0 (same-number p.0 m same ∙ sym due.2)) ∙ unlisted))
+            (λ same. ap (λ (x : ℕ × ClaimValue). lists x.1.key) (unique now p due.0 sorted there found.0 (eqb-true p.0 m same ∙ sym due.2)) ∙ unlisted))
             ∙ clear.kept;
         listed = λ p there below.
             let stood = filter-contains (λ (x : ℕ × ClaimValue). not (x.0 == m)) now p there in

@@ -8,7 +8,7 @@ use Rattle.std.proofs.lemmas.Slice.Eq.{bytes_eq-Decides}
 use Rattle.std.specs.List.{Contains, list_any, list_all}
 use Rattle.std.specs.List.Sorted.{IsStrictlySortedBy}
 use Rattle.std.specs.Map.{lookup, keys_of, values_of}
-use Rattle.std.specs.Option.{option_or, unwrap_or}
+use Rattle.std.specs.Option.{option_map, option_or, unwrap_or}
 use Rattle.std.specs.Ordering.{nat_cmp}
 use Rattle.std.specs.Str.{bytes_eq}
 use Rattle.ip_ranges.specs.declared.family.Family.{Family}
@@ -28,7 +28,7 @@ use Rattle.claim_index.specs.SharingGroups.{sharing_group_of, is_grouped}
 use Rattle.claim_index.specs.Index.{numbers_of, is_barred, is_shared, is_shareable, is_taken, NoneShareable}
 use Rattle.alloc_book.specs.Candidates.{is_claimed, is_own, is_offered, is_free, Covers}
 use Rattle.claim_index.specs.Reading.{leaves}
-use Rattle.alloc_book.specs.Search.{usable, numbered, least_between}
+use Rattle.alloc_book.specs.Search.{usable, numbered, least_between, least_in}
 use Rattle.claim_index.specs.Holders.{address_of}
 use Rattle.alloc_book.specs.Usable.{is_in}
 use Rattle.claim_index.specs.Slots.{OfPort, is_member, occupies}
@@ -36,6 +36,7 @@ use Rattle.alloc_book.proofs.LeastLaws.{numbered-is}
 use Rattle.claim_index.proofs.TermLaws.{backend-same}
 use Rattle.claim_index.proofs.IndexReading.{found-of}
 use Rattle.claim_index.proofs.GroupLaws.{group-same, yields-left}
+use Rattle.claim_index.proofs.ShareLaws.{nil-from_empty}
 
 -- the least number is the only one
 
@@ -584,3 +585,35 @@ least-number found_in claims key terms pool span family low high last later free
     let others_here = subst (λ (h : ℕ). Covers S test span.low h shared) later_here (subst (λ (l : ℕ). Covers S test l later shared) low_is others) in
     least-of_three claims key terms pool span family free own shared listed same some_here none_here owned_here others_here
     ∙ sym (found_is ∙ ap (λ (e : Option ℕ). option_or e free) either_is)
+
+-- an entry without a free address has none for a key without claims, whose terms have no sharing key
+pub full-unusable : (claims : List ClaimValue) (key : Key) (terms : Terms) (pool : CompiledPool) (span : SpanValue) (family : Family)
+    → has_claims key claims ≡ false → is_nil terms.key ≡ true → NonePasses (numbered (is_free claims pool) span.family) span.low span.high
+    → least_in (usable claims key terms pool) family span ≡ None
+full-unusable claims key terms pool span family unheld keyless none = go (same_family span.family family) refl
+  where
+    test : ℕ → Bool
+    test = numbered (usable claims key terms pool) family
+
+    fails : span.family ≡ family → (m : ℕ) → span.low ≤ m → m ≤ span.high → test m ≡ false
+    fails same m from upto =
+        let a = address_of family m in
+        let taken : is_free claims pool a ≡ false =
+        subst (λ (f : Family). numbered (is_free claims pool) f m ≡ false) same (none m from upto) in
+        false_from_ne_true (test m) (λ passes.
+        ⊎_elim
+        (λ first. ⊎_elim
+        (λ free. true≢false (sym free ∙ taken))
+        (λ own. true≢false (sym passes ∙ none-own claims key family test span.low span.high false (sym unheld) refl m from upto own))
+        first)
+        (λ offered. true≢false (sym passes
+        ∙ keyless-unusable claims key terms pool a (sym (nil-from_empty terms (eqb (length terms.key) 0) refl) ∙ keyless) offered))
+        (usable-candidate claims key terms pool a passes))
+
+    go : (same : Bool) → same_family span.family family ≡ same
+        → cond same (option_map (address_of family) (least_between test span.low (span.high + 1 - span.low))) None ≡ None
+    go true e =
+        ap (option_map (address_of family))
+        (least_between-nothing test (span.high + 1 - span.low) span.low
+        (λ m from below. fails (same_family-is span.family family e) m from (omega (arith, from, below))))
+    go false e = refl

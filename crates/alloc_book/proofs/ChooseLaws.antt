@@ -2,6 +2,7 @@
 use Rattle.std.proofs.Common.{Bor, slice_get, drop, drop-cons, get_or, add-one, append_assoc, ◌++◌, ◌+◌, ◌<◌, ◌≡◌, ◌≢◌, ℕ, Bool, true, false, not, ◌&&◌, ◌||◌}
 use Rattle.std.proofs.Common.{eqb, eqb-true, List, [], ◌∷◌, Option, Some, None, is_some, is_none, length, refl, sym, ap, ◌∙◌, subst, ◌⊎◌, inl, inr, ⊎_elim}
 use Rattle.std.proofs.lemmas.Bool.{or_cases, or_left, or_right, not-true, not-false, not_from_false, eq-eqb, true≢false}
+use Rattle.std.proofs.lemmas.Option.{same_Some}
 use Rattle.std.proofs.lemmas.Slice.Eq.{bytes_eq-Decides}
 use Rattle.std.specs.Bool.{Decides}
 use Rattle.std.proofs.lemmas.Bool.Decides.{Decides-and, Decides-not}
@@ -194,11 +195,8 @@ module _ (claims : List ClaimValue) (o : Offer) (q : Asker) where
   refused-is None = (λ e. absurd (true≢false (sym e)), λ h. let none = h.1 in absurd (cc))
   refused-is (Some pool) = (
     λ e. (pool, refl, not-true (o.serves pool) e),
-    λ h. let is : pool ≡ h.0 = same_some pool h.0 h.1 in not_from_false (o.serves pool) (ap o.serves is ∙ h.2),
+    λ h. let is : pool ≡ h.0 = same_Some pool h.0 h.1 in not_from_false (o.serves pool) (ap o.serves is ∙ h.2),
   )
-    where
-      same_some : (x y : CompiledPool) → Some x ≡ Some y → x ≡ y
-      same_some x y e = cc
 
   and-false : (a b : Bool) → a ≡ true → (a && b) ≡ false → b ≡ false
   and-false true b s e = e

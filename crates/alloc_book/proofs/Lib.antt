@@ -3,6 +3,7 @@ pub mod BookRemoval
 pub mod Candidates
 pub mod ChooseLaws
 pub mod ChosenLaws
+pub mod EntryLaws
 pub mod LeastLaws
 pub mod PendingLaws
 pub mod PoolLaws

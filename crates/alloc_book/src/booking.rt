@@ -18,6 +18,7 @@ ghost use Rattle.alloc_book.specs.Book.{HasLost, HasRoom, loss_of};
 ghost use Rattle.alloc_book.specs.Choose.{choose};
 ghost use Rattle.alloc_book.specs.Chosen.{IsChosen};
 ghost use Rattle.alloc_book.specs.Granted.{IsFor};
+ghost use Rattle.full_entries.specs.Entries.{AreThose};
 ghost use Rattle.alloc_book.specs.Least.{IsLeast};
 ghost use Rattle.alloc_book.specs.Usable.{IsUsable, IsUsableOf};
 
@@ -25,6 +26,7 @@ use crate::choice::{Choice, Loss};
 use crate::choosing::choose;
 use crate::search::{least_usable, usable};
 use claim_index::{Claim, ClaimIndex, GroupedTerms};
+use full_entries::EntryClaims;
 use ip_ranges::{Address, Family};
 use kube_labels::{Labels, Text};
 use kube_model::{Key, Record, Service};
@@ -42,7 +44,7 @@ use std::marker::Model;
 #[derive(Drop)]
 pub struct Book {
     alloc: Global,
-    index: ClaimIndex,
+    index: EntryClaims,
 }
 
 impl Model for Book {
@@ -51,7 +53,7 @@ impl Model for Book {
 
     ghost Value = { BookValue };
 
-    ghost view = { λ b. record { claims = values_of b.index.items; room = b.index.room } };
+    ghost view = { λ b. record { claims = values_of b.index.items; room = b.index.room; entries = b.index.entries } };
 }
 
 /// A list of objects, by which keys it shows.
@@ -72,21 +74,23 @@ fn loss_of(is_lost: bool) -> Loss
 }
 
 /// The key of the claim has this claim alone. It takes no memory.
-fn remove_others(index: &mut ClaimIndex, number: u64)
+fn remove_others(index: &mut EntryClaims, number: u64)
     ensures items { (c : ClaimValue) → lookup (λ n. n == number) index.old.items ≡ Some c
         → index.new.items ≡ filter (λ p. not (same_key p.1.key c.key) || (p.0 == number)) index.old.items }
     ensures ascending { IsStrictlySortedBy nat_cmp (keys_of index.old.items) }
+    ensures entries { index.new.entries ≡ index.old.entries }
 {
-    while let Some(other) = index.first_other(number) {
+    while let Some(other) = index.claims().first_other(number) {
         index.remove(other);
     }
 }
 
 /// The key has no claims. It takes no memory.
-fn remove_all(index: &mut ClaimIndex, key: &Key)
-    ensures { index.new.items ≡ filter (λ p. not (same_key p.1.key key.now)) index.old.items }
+fn remove_all(index: &mut EntryClaims, key: &Key)
+    ensures items { index.new.items ≡ filter (λ p. not (same_key p.1.key key.now)) index.old.items }
+    ensures entries { index.new.entries ≡ index.old.entries }
 {
-    let Some(number) = index.numbers_of(key).first() else {
+    let Some(number) = index.claims().numbers_of(key).first() else {
         return;
     };
     let number = *number;
@@ -110,11 +114,12 @@ fn first_unlisted<L: Listing>(index: &ClaimIndex, listing: &L, from: u64) -> Opt
 }
 
 /// The claims of the keys that the list shows stay, and no others. It takes no memory.
-fn remove_unlisted<L: Listing>(index: &mut ClaimIndex, listing: &L)
-    ensures { index.new.items ≡ filter (λ p. L.lists listing.now p.1.key) index.old.items }
+fn remove_unlisted<L: Listing>(index: &mut EntryClaims, listing: &L)
+    ensures items { index.new.items ≡ filter (λ p. L.lists listing.now p.1.key) index.old.items }
+    ensures entries { index.new.entries ≡ index.old.entries }
 {
     let mut from = 0;
-    while let Some(number) = first_unlisted(index, listing, from) {
+    while let Some(number) = first_unlisted(index.claims(), listing, from) {
         index.remove(number);
         from = number;
     }
@@ -123,18 +128,30 @@ fn remove_unlisted<L: Listing>(index: &mut ClaimIndex, listing: &L)
 impl Book {
     /// No claims, which takes no memory.
     pub fn new(alloc: Global) -> Book
-        ensures { result.claims ≡ [] }
+        ensures claims { result.claims ≡ [] }
+        ensures entries { result.entries ≡ [] }
     {
         Book {
             alloc,
-            index: ClaimIndex::new(alloc),
+            index: EntryClaims::new(alloc),
         }
+    }
+
+    /// Addresses are chosen from the pools of this configuration from now on: it is kept which of their entries are full, so that no
+    /// choice looks for a free address there. Where there is no memory it is kept of none.
+    pub fn enter(&mut self, config: &Config)
+        ensures claims { self.new.claims ≡ self.old.claims }
+        ensures room { self.new.room ≡ self.old.room }
+        ensures entries { AreThose config.now.pools self.new.entries }
+    {
+        self.index.enter(self.alloc, config.pools.as_slice());
     }
 
     /// Makes room for the claim. Where there is no memory all claims stay.
     pub fn reserve(&mut self, claim: &Claim) -> Result<(), NoMemory>
         ensures claims { self.new.claims ≡ self.old.claims }
         ensures room { OnOk result (HasRoom self.new claim.now) }
+        ensures entries { self.new.entries ≡ self.old.entries }
     {
         if claim.holding().is_assigned() {
             self.index.reserve(claim)?;
@@ -147,8 +164,9 @@ impl Book {
         ensures claims { self.new.claims ≡ settled claim.key claim.holding claim.terms self.old.claims }
         ensures loss { result ≡ loss_of (loses claim.key claim.holding claim.terms self.old.claims) }
         ensures assigned { AreAssigned self.old.claims }
+        ensures entries { self.new.entries ≡ self.old.entries }
     {
-        let is_lost = self.index.loses(&claim);
+        let is_lost = self.index().loses(&claim);
         if claim.holding().is_assigned() {
             let number = self.index.add(claim);
             remove_others(&mut self.index, number);
@@ -165,6 +183,7 @@ impl Book {
         requires { HasRoom self.old claim }
         ensures claims { self.new.claims ≡ settled claim.key claim.holding claim.terms self.old.claims }
         ensures loss { (result ≡ Loss.Lost) ↔ HasLost self.old.claims self.new.claims }
+        ensures entries { self.new.entries ≡ self.old.entries }
     {
         self.put(claim)
     }
@@ -176,6 +195,7 @@ impl Book {
         ensures ok { OnOk result (self.new.claims ≡ settled key.now holding.now (terms_under holding.now adopted.now) self.old.claims) }
         ensures loss { IfOk result (λ loss. (loss ≡ Loss.Lost) ↔ HasLost self.old.claims self.new.claims) }
         ensures err { OnErr result (self.new.claims ≡ self.old.claims) }
+        ensures entries { self.new.entries ≡ self.old.entries }
     {
         let claim = Claim::adopting(self.alloc, key, holding, adopted)?;
         let Ok(()) = self.reserve(&claim) else {
@@ -189,9 +209,10 @@ impl Book {
     /// no memory.
     pub fn doubt_prepared(&mut self, claim: Claim)
         requires { HasRoom self.old claim }
-        ensures { self.new.claims ≡ doubted claim.key claim.holding claim.terms self.old.claims }
+        ensures claims { self.new.claims ≡ doubted claim.key claim.holding claim.terms self.old.claims }
+        ensures entries { self.new.entries ≡ self.old.entries }
     {
-        let stands = self.index.claims_it(&claim);
+        let stands = self.index().claims_it(&claim);
         if !stands && claim.holding().is_assigned() {
             let _number = self.index.add(claim);
         } else {
@@ -202,6 +223,7 @@ impl Book {
     fn doubt_claim(&mut self, claim: Claim) -> Result<(), NoMemory>
         ensures ok { OnOk result (self.new.claims ≡ doubted claim.key claim.holding claim.terms self.old.claims) }
         ensures err { OnErr result (self.new.claims ≡ self.old.claims) }
+        ensures entries { self.new.entries ≡ self.old.entries }
     {
         let Ok(()) = self.reserve(&claim) else {
             drop(claim);
@@ -216,6 +238,7 @@ impl Book {
     pub fn doubt(&mut self, key: &Key, holding: &Record) -> Result<(), NoMemory>
         ensures ok { OnOk result (self.new.claims ≡ doubted_by key.now holding.now (recorded_terms holding.now.mark) self.old.claims) }
         ensures err { OnErr result (self.new.claims ≡ self.old.claims) }
+        ensures entries { self.new.entries ≡ self.old.entries }
     {
         match Claim::marked(self.alloc, key, holding)? {
             Some(claim) => self.doubt_claim(claim),
@@ -226,8 +249,9 @@ impl Book {
     fn remove(&mut self, key: &Key) -> Loss
         ensures claims { self.new.claims ≡ others key.now self.old.claims }
         ensures loss { result ≡ loss_of (has_claims key.now self.old.claims) }
+        ensures entries { self.new.entries ≡ self.old.entries }
     {
-        let is_lost = self.index.has_claims(key);
+        let is_lost = self.index().has_claims(key);
         remove_all(&mut self.index, key);
         loss_of(is_lost)
     }
@@ -236,13 +260,15 @@ impl Book {
     pub fn drop_name(&mut self, key: &Key) -> Loss
         ensures claims { self.new.claims ≡ others key.now self.old.claims }
         ensures loss { (result ≡ Loss.Lost) ↔ HasLost self.old.claims self.new.claims }
+        ensures entries { self.new.entries ≡ self.old.entries }
     {
         self.remove(key)
     }
 
     /// The claims of the keys that the list shows stay, and no others. It takes no memory.
     pub fn drop_unlisted<L: Listing>(&mut self, listing: &L)
-        ensures { self.new.claims ≡ filter (λ c. L.lists listing.now c.key) self.old.claims }
+        ensures claims { self.new.claims ≡ filter (λ c. L.lists listing.now c.key) self.old.claims }
+        ensures entries { self.new.entries ≡ self.old.entries }
     {
         remove_unlisted(&mut self.index, listing);
     }
@@ -251,7 +277,7 @@ impl Book {
     pub fn has_unlisted<L: Listing>(&self, listing: &L) -> bool
         ensures { result ≡ list_any (λ c. not (L.lists listing.now c.key)) self.now.claims }
     {
-        first_unlisted(&self.index, listing, 0).is_some()
+        first_unlisted(self.index(), listing, 0).is_some()
     }
 
     /// Whether the claim's key has a claim that settling this one gives up: another one.
@@ -259,19 +285,27 @@ impl Book {
         ensures value { result ≡ loses claim.now.key claim.now.holding claim.now.terms self.now.claims }
         ensures meaning { IsTrue result ↔ HasLost self.now.claims (settled claim.now.key claim.now.holding claim.now.terms self.now.claims) }
     {
-        self.index.loses(claim)
+        self.index().loses(claim)
     }
 
     /// Whether the key has a claim.
     pub fn has_claims(&self, key: &Key) -> bool
         ensures { result ≡ has_claims key.now self.now.claims }
     {
-        self.index.has_claims(key)
+        self.index().has_claims(key)
     }
 
     /// The claims, and by what each is found.
     pub(crate) fn index(&self) -> &ClaimIndex
         ensures claims { values_of result.now.items ≡ self.now.claims }
+    {
+        self.index.claims()
+    }
+
+    /// The claims, and which entries of pools they leave no address of.
+    pub(crate) fn entry_claims(&self) -> &EntryClaims
+        ensures claims { values_of result.now.items ≡ self.now.claims }
+        ensures entries { result.now.entries ≡ self.now.entries }
     {
         &self.index
     }
@@ -307,7 +341,7 @@ impl Book {
     }
 
     /// What is chosen for the service, whose namespace has these labels, by the claims of the book: the first case of the table
-    /// that holds. A chosen record has the mark of the service's terms.
+    /// that holds. A chosen record has the mark of the service's terms. The configuration is the one that was entered, if one was.
     pub fn choose(
         &self,
         config: &Config,
@@ -315,6 +349,7 @@ impl Book {
         service: &Service,
         namespace: &Labels,
     ) -> Result<Choice, NoMemory>
+        requires { AreThose config.now.pools self.now.entries }
         ensures value { IfOk result (λ c. c
             ≡ choose self.now.claims (offer_of config.now.pools service.now namespace.now) (option_copied class.entry) service.now) }
         ensures chosen { IfOk result (IsChosen (holders self.now.claims)

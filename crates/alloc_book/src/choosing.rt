@@ -1,13 +1,15 @@
 //! What is chosen for a service: the first case of the table that holds.
 ghost use Rattle.std.specs.Prelude.{◌≡◌, IfOk, OnOk, map, filter_map, slice_get};
+ghost use Rattle.std.specs.List.{All, Contains};
 ghost use Rattle.std.specs.Option.{option_copied};
 ghost use Rattle.sharing_terms.specs.Marked.{AreTerms};
 ghost use Rattle.sharing_terms.specs.Terms.{terms_of};
+ghost use Rattle.full_entries.specs.Entries.{AreThose};
 ghost use Rattle.pool_choice.specs.Eligible.{eligible};
 ghost use Rattle.alloc_book.specs.Asking.{offer_of};
 ghost use Rattle.alloc_book.specs.Choose.{new_or, is_unusable, is_refused, asked_from, kept_from, from_asked};
+ghost use Rattle.alloc_book.specs.Choosing.{IsEntered, claims_in, offer_for, asker_in};
 ghost use Rattle.alloc_book.specs.Choose.{from_eligible, unasked, anew, granted, pooled, fitting, choose_for, choose};
-ghost use Rattle.alloc_book.specs.Choosing.{claims_in, offer_for, asker_in};
 
 use crate::booking::Book;
 use crate::choice::Choice;
@@ -54,6 +56,7 @@ impl<'a> Choosing<'a> {
 
     /// A new record from the pool that is asked for.
     fn from_asked(&self) -> Result<Choice, NoMemory>
+        requires { IsEntered self.now }
         ensures { IfOk result (λ c. c ≡ from_asked (claims_in self.now) (offer_for self.now) (asker_in self.now)) }
     {
         let reason = Reason::PoolExhausted;
@@ -68,6 +71,7 @@ impl<'a> Choosing<'a> {
 
     /// A new record from the first eligible pool that can give one.
     fn from_eligible(&self) -> Result<Choice, NoMemory>
+        requires { IsEntered self.now }
         ensures { IfOk result (λ c. c ≡ from_eligible (claims_in self.now) (offer_for self.now) (asker_in self.now)) }
     {
         let pools = eligible_pools(self.alloc, self.config, self.service, self.namespace)?;
@@ -89,6 +93,7 @@ impl<'a> Choosing<'a> {
 
     /// Cases 11 to 13: no addresses are asked for.
     fn unasked(&self) -> Result<Choice, NoMemory>
+        requires { IsEntered self.now }
         ensures { IfOk result (λ c. c ≡ unasked (claims_in self.now) (offer_for self.now) (asker_in self.now)) }
     {
         if is_given(&self.service.pool_asked) {
@@ -137,6 +142,7 @@ impl<'a> Choosing<'a> {
 
     /// Cases 8 to 13: the recorded addresses may not stay.
     fn anew(&self) -> Result<Choice, NoMemory>
+        requires { IsEntered self.now }
         ensures { IfOk result (λ c. c ≡ anew (claims_in self.now) (offer_for self.now) (asker_in self.now)) }
     {
         if !is_asked(&self.service.wanted) {
@@ -158,6 +164,7 @@ impl<'a> Choosing<'a> {
 
     /// Cases 7 to 13: what is asked for can be read, and the pool asked for may be used.
     fn granted(&self) -> Result<Choice, NoMemory>
+        requires { IsEntered self.now }
         ensures { IfOk result (λ c. c ≡ granted (claims_in self.now) (offer_for self.now) (asker_in self.now)) }
     {
         let kept = kept_in(
@@ -185,6 +192,7 @@ impl<'a> Choosing<'a> {
 
     /// Cases 5 to 13: what is asked for is one address of each family of some option.
     fn pooled(&self) -> Result<Choice, NoMemory>
+        requires { IsEntered self.now }
         ensures { IfOk result (λ c. c ≡ pooled (claims_in self.now) (offer_for self.now) (asker_in self.now)) }
     {
         let asked = named(self.pools(), &self.service.pool_asked);
@@ -203,6 +211,7 @@ impl<'a> Choosing<'a> {
 
     /// Cases 4 to 13: what is asked for can be read.
     fn fitting(&self) -> Result<Choice, NoMemory>
+        requires { IsEntered self.now }
         ensures { IfOk result (λ c. c ≡ fitting (claims_in self.now) (offer_for self.now) (asker_in self.now)) }
     {
         let wanted = &self.service.wanted;
@@ -216,6 +225,7 @@ impl<'a> Choosing<'a> {
 
     /// The whole table, where services of this class are handled.
     fn choose(&self, class: Option<&Text>) -> Result<Choice, NoMemory>
+        requires { IsEntered self.now }
         ensures { IfOk result
             (λ c. c ≡ choose_for (claims_in self.now) (offer_for self.now) (option_copied class.entry) self.now.service.now (asker_in self.now)) }
     {
@@ -246,7 +256,8 @@ fn pools_at<'a>(
     pools: &'a [CompiledPool],
     places: &[usize],
 ) -> Result<Vec<&'a CompiledPool>, NoMemory>
-    ensures { IfOk result (λ found. map (λ p. p.now) found.items ≡ filter_map (slice_get pools.now) places.now) }
+    ensures places { IfOk result (λ found. map (λ p. p.now) found.items ≡ filter_map (slice_get pools.now) places.now) }
+    ensures among { IfOk result (λ found. All (λ p. Contains pools.now p.now) found.items) }
 {
     let mut found = Vec::new(alloc);
     for place in places {
@@ -265,7 +276,8 @@ fn eligible_pools<'a>(
     service: &Service,
     namespace: &Labels,
 ) -> Result<Vec<&'a CompiledPool>, NoMemory>
-    ensures { IfOk result (λ found. map (λ p. p.now) found.items ≡ eligible service.now namespace.now config.now.pools) }
+    ensures eligible { IfOk result (λ found. map (λ p. p.now) found.items ≡ eligible service.now namespace.now config.now.pools) }
+    ensures among { IfOk result (λ found. All (λ p. Contains config.now.pools p.now) found.items) }
 {
     let places = eligible(alloc, config, service, namespace)?;
     pools_at(alloc, config.pools.as_slice(), places.as_slice())
@@ -280,6 +292,7 @@ pub(crate) fn choose(
     service: &Service,
     namespace: &Labels,
 ) -> Result<Choice, NoMemory>
+    requires { AreThose config.now.pools book.now.entries }
     ensures value { IfOk result (λ c. c
         ≡ choose book.now.claims (offer_of config.now.pools service.now namespace.now) (option_copied class.entry) service.now) }
     ensures terms { OnOk result (AreTerms (terms_of service.now)) }

@@ -1,16 +1,17 @@
 //! The addresses that claims leave, and the least of them.
+ghost use Rattle.std.specs.Prelude.{ℕ, Some, None, length, slice_get};
 ghost use Rattle.std.specs.Prelude.{◌≡◌, ◌≤◌, ◌<◌, ◌^◌, ◌↔◌, ◌&&◌, ◌∷◌, [], nat_le, IsTrue, IfOk, IfSome, IfNone, map, ◌+◌, ◌-◌};
-ghost use Rattle.std.specs.Option.{option_map};
-ghost use Rattle.std.specs.List.{Contains};
+ghost use Rattle.std.specs.Option.{option_copied, option_map};
+ghost use Rattle.std.specs.List.{All, Contains};
 ghost use Rattle.std.specs.Map.{values_of};
-ghost use Rattle.ip_ranges.specs.Values.{AddressValue, has_address, is_buggy, same_family, width_of};
+ghost use Rattle.ip_ranges.specs.Values.{AddressValue, SpanValue, has_address, is_buggy, same_family, width_of};
 ghost use Rattle.sharing_terms.specs.declared.terms.Terms.{Terms};
 ghost use Rattle.sharing_terms.specs.Marks.{mark_of};
 ghost use Rattle.alloc_book.specs.Asking.{asking};
 ghost use Rattle.claim_index.specs.SharingGroups.{sharing_group_of};
 ghost use Rattle.alloc_book.specs.Candidates.{is_own, is_offered, is_free, Covers};
 ghost use Rattle.number_sets.specs.Least.{IsLeastIn, NonePasses};
-ghost use Rattle.alloc_book.specs.Searching.{KnowsHolder, claims_for, usable_by};
+ghost use Rattle.alloc_book.specs.Searching.{AreAmong, CanShareNone, KnowsHolder, KnowsPlace, StandAt, claims_for, usable_by};
 ghost use Rattle.alloc_book.specs.Search.{usable, numbered, least_between, least_in, least_usable, least_each, first_pool, first_of, first_option};
 ghost use Rattle.claim_index.specs.Holders.{address_of};
 ghost use Rattle.claim_index.specs.Claims.{holders};
@@ -100,6 +101,8 @@ struct AddressSearch<'a> {
     family: Family,
     /// Whether the key has a claim.
     is_holder: bool,
+    /// From which place on the pool's entries stand among those of which the book keeps whether they are full, where it is known.
+    first: Option<usize>,
 }
 
 impl<'a> AddressSearch<'a> {
@@ -196,6 +199,35 @@ impl<'a> AddressSearch<'a> {
         Some(Address { family, number })
     }
 
+    /// Whether the service can have free addresses alone: its key has no claim, and its terms have no sharing key.
+    fn is_alone(&self) -> bool
+        requires { KnowsHolder self.now }
+        ensures { IsTrue result → CanShareNone self.now }
+    {
+        !self.is_holder && self.terms.terms().key.as_str().is_empty()
+    }
+
+    /// From this entry of the pool on the first one that may have an address for the service: those in front of it have none.
+    fn next_entry(&self, from: usize) -> usize
+        requires holder { KnowsHolder self.now }
+        requires place { KnowsPlace self.now }
+        ensures within { from ≤ result }
+        ensures passed { (k : ℕ) (span : SpanValue) → from ≤ k → k < result → slice_get self.now.pool.now.spans k ≡ Some span
+            → least_in (usable_by self.now) self.now.family span ≡ None }
+    {
+        let Some(first) = self.first else {
+            return from;
+        };
+        if !self.is_alone() {
+            return from;
+        }
+        let Some(place) = first.checked_add(from) else {
+            return from;
+        };
+        let end = first.saturating_add(self.pool.spans.as_slice().len());
+        self.book.entry_claims().first_open(place, end) - first
+    }
+
     /// The least address of one range of the pool that may be used.
     fn least_in(&self, span: &Span) -> Option<Address>
         requires listed { Contains self.now.pool.now.spans span.now }
@@ -208,19 +240,48 @@ impl<'a> AddressSearch<'a> {
         self.least_number(span)
     }
 
-    /// The first address of the family that may be used, entry by entry.
+    /// The first address of the family that may be used, entry by entry. Where the service can have free addresses alone, entries that are
+    /// known to be full are passed over by runs.
     fn least_listed(&self) -> Option<Address>
-        requires { KnowsHolder self.now }
+        requires holder { KnowsHolder self.now }
+        requires place { KnowsPlace self.now }
         ensures { result ≡ least_usable (claims_for self.now) self.now.key.now self.now.terms.now self.now.pool.now self.now.family }
     {
-        for span in self.pool.spans.as_slice() {
+        let spans = self.pool.spans.as_slice();
+        let mut at = self.next_entry(0);
+        while let Some(span) = span_at(spans, at) {
             let least = self.least_in(span);
             if least.is_some() {
                 return least;
             }
+            at = self.next_entry(at + 1);
         }
         None
     }
+}
+
+/// From which place on the pool's entries stand among those of which the book keeps whether they are full; `None` where it is kept of none.
+fn first_place(book: &Book, pool: &CompiledPool) -> Option<usize>
+    requires { AreAmong book.now.entries pool.now }
+    ensures { IfSome result (StandAt book.now.entries pool.now) }
+{
+    let entries = book.entry_claims();
+    if entries.is_empty() {
+        return None;
+    }
+    let span = span_at(pool.spans.as_slice(), 0)?;
+    let address = Address {
+        family: span.family,
+        number: span.low,
+    };
+    entries.place_of(&address)
+}
+
+fn span_at(spans: &[Span], at: usize) -> Option<&Span>
+    ensures item { option_copied result ≡ slice_get spans.now at }
+    ensures within { IfSome result (λ span. at < length spans.now) }
+{
+    spans.get(at)
 }
 
 /// The first address of the family that may be used: entries as listed, addresses of an entry ascending. It takes no
@@ -236,6 +297,21 @@ pub fn least_usable(
     ensures least { IfSome result (IsLeast (holders book.now.claims) key.now terms.now pool.now family) }
     ensures none { IfNone result ((a : AddressValue) → ¬ (IsUsableOf (holders book.now.claims) key.now terms.now pool.now family a)) }
 {
+    least_past_full(book, pool, key, terms, family, None)
+}
+
+/// The same, where the pool's entries stand from this place on among those of which the book keeps whether they are full.
+fn least_past_full(
+    book: &Book,
+    pool: &CompiledPool,
+    key: &Key,
+    terms: &GroupedTerms,
+    family: Family,
+    first: Option<usize>,
+) -> Option<Address>
+    requires { IfSome first (StandAt book.now.entries pool.now) }
+    ensures { result ≡ least_usable book.now.claims key.now terms.now pool.now family }
+{
     let search = AddressSearch {
         book,
         pool,
@@ -243,6 +319,7 @@ pub fn least_usable(
         terms,
         family,
         is_holder: book.has_claims(key),
+        first,
     };
     search.least_listed()
 }
@@ -256,11 +333,13 @@ fn least_each(
     service: &Service,
     terms: &MarkedTerms,
 ) -> Result<Option<AddressList>, NoMemory>
+    requires { AreAmong book.now.entries pool.now }
     ensures { IfOk result (λ found. found ≡ least_each book.now.claims service.now.key terms.now pool.now families.now) }
 {
+    let first = first_place(book, pool);
     let mut addresses = AddressList::new(alloc);
     for family in families {
-        match least_usable(book, pool, &service.key, terms.terms(), *family) {
+        match least_past_full(book, pool, &service.key, terms.terms(), *family, first) {
             Some(address) => addresses.push(address)?,
             None => return Ok(None),
         }
@@ -293,6 +372,7 @@ fn first_pool(
     service: &Service,
     terms: &MarkedTerms,
 ) -> Result<Option<Record>, NoMemory>
+    requires { All (λ p. AreAmong book.now.entries p.now) pools.now }
     ensures { IfOk result (λ found. found ≡ first_pool book.now.claims (asking service.now terms.now) families.now (map (λ p. p.now) pools.now)) }
 {
     for pool in pools {
@@ -312,6 +392,7 @@ fn first_alone(
     service: &Service,
     terms: &MarkedTerms,
 ) -> Result<Option<Record>, NoMemory>
+    requires { All (λ p. AreAmong book.now.entries p.now) pools.now }
     ensures { IfOk result (λ found. found
         ≡ first_of book.now.claims (asking service.now terms.now) (map (λ p. p.now) pools.now) (map (λ family. family ∷ []) families.now)) }
 {
@@ -332,6 +413,7 @@ pub(crate) fn first_option(
     service: &Service,
     terms: &MarkedTerms,
 ) -> Result<Option<Record>, NoMemory>
+    requires { All (λ p. AreAmong book.now.entries p.now) pools.now }
     ensures { IfOk result (λ found. found ≡ first_option book.now.claims (asking service.now terms.now) (map (λ p. p.now) pools.now)) }
 {
     let families = service.families.as_slice();

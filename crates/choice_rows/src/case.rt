@@ -1,4 +1,6 @@
 //! One case of the table.
+ghost use Rattle.std.specs.Prelude.{◌≡◌};
+ghost use Rattle.full_entries.specs.Entries.{AreThose};
 
 use crate::written::choice_line;
 use alloc_book::{Book, Choice};
@@ -46,7 +48,9 @@ fn choose(
     config: &Config,
     namespaces: &[Namespace],
     service: &Service,
-) -> Result<Choice, NoMemory> {
+) -> Result<Choice, NoMemory>
+    requires { AreThose config.now.pools book.now.entries }
+{
     let none = Labels::new(alloc);
     let labels = labels_of(namespaces, &service.key.namespace).unwrap_or(&none);
     let choice = book.choose(config, None, service, labels);
@@ -60,7 +64,9 @@ fn settle(
     book: &mut Book,
     service: &Service,
     holding: &Record,
-) -> Result<(), NoMemory> {
+) -> Result<(), NoMemory>
+    ensures { book.new.entries ≡ book.old.entries }
+{
     let adopted = terms_of(alloc, service)?;
     let settled = book.settle(&service.key, holding, &adopted);
     drop(adopted);
@@ -73,7 +79,9 @@ fn settle_chosen(
     book: &mut Book,
     service: &Service,
     choice: &Choice,
-) -> Result<String, NoMemory> {
+) -> Result<String, NoMemory>
+    ensures { book.new.entries ≡ book.old.entries }
+{
     if let Some(holding) = chosen(choice) {
         settle(alloc, book, service, holding)?;
     }
@@ -86,11 +94,31 @@ fn serve(
     config: &Config,
     namespaces: &[Namespace],
     service: &Service,
-) -> Result<String, NoMemory> {
+) -> Result<String, NoMemory>
+    requires { AreThose config.now.pools book.old.entries }
+    ensures { book.new.entries ≡ book.old.entries }
+{
     let choice = choose(alloc, book, config, namespaces, service)?;
     let line = settle_chosen(alloc, book, service, &choice);
     drop(choice);
     line
+}
+
+/// The lines of the services in order, by the configuration that is in force from now on.
+fn serve_all(
+    alloc: Global,
+    book: &mut Book,
+    config: &Config,
+    namespaces: &[Namespace],
+    services: &[Service],
+) -> Result<String, NoMemory> {
+    let mut text = String::new(alloc);
+    book.enter(config);
+    for service in services {
+        let line = serve(alloc, book, config, namespaces, service)?;
+        text.push_str(line.as_str())?;
+    }
+    Ok(text)
 }
 
 /// What is written where the objects aren't compiled.
@@ -135,15 +163,16 @@ impl Case {
     }
 
     fn choose_all(&mut self, alloc: Global) -> Result<String, NoMemory> {
-        let mut text = String::new(alloc);
-        let Some(config) = &self.config else {
-            return Ok(text);
-        };
-        for service in &self.services {
-            let line = serve(alloc, &mut self.book, config, &self.namespaces, service)?;
-            text.push_str(line.as_str())?;
+        match &self.config {
+            Some(config) => serve_all(
+                alloc,
+                &mut self.book,
+                config,
+                &self.namespaces,
+                &self.services,
+            ),
+            None => Ok(String::new(alloc)),
         }
-        Ok(text)
     }
 
     fn hold_pool(&mut self, pool: Pool) -> Result<(), NoMemory> {

@@ -1,3 +1,4 @@
+pub mod Entered
 pub mod Kept
 pub mod KeyLists
 pub mod KeySets

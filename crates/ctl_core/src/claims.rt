@@ -69,7 +69,8 @@ pub(crate) fn have_claims(book: &Book, services: &Services) -> bool
 
 /// The claims of the services that are held and were listed stay, and no others.
 pub(crate) fn keep_listed_claims(book: &mut Book, services: &Services)
-    ensures { book.new.claims ≡ listed_claims services.now book.old.claims }
+    ensures claims { book.new.claims ≡ listed_claims services.now book.old.claims }
+    ensures entries { book.new.entries ≡ book.old.entries }
 {
     book.drop_unlisted(&Listed { services });
 }

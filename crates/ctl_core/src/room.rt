@@ -23,6 +23,7 @@ pub(crate) fn reserved_claim(
     ensures claim { IfOk result (λ c. c ≡ record { key = put.now.key; holding = put.now.holding; terms = put_terms cache.now put.now }) }
     ensures room { IfOk result (HasRoom book.new) }
     ensures claims { book.new.claims ≡ book.old.claims }
+    ensures entries { book.new.entries ≡ book.old.entries }
 {
     let claim = claim_of(alloc, cache, put)?;
     let Ok(()) = book.reserve(&claim) else {

@@ -1,7 +1,7 @@
 //! What the core holds, and what it still has to decide.
-ghost use Rattle.std.specs.Prelude.{◌≡◌, ◌↔◌, ◌<◌, length, IfOk, IsTrue};
+ghost use Rattle.std.specs.Prelude.{◌≡◌, ◌↔◌, ◌<◌, [], length, IfOk, IsTrue};
 ghost use Rattle.std.specs.Option.{option_copied};
-ghost use Rattle.core_rules.specs.Core.{fresh, is_ready, record_of, is_settled};
+ghost use Rattle.core_rules.specs.Core.{fresh, is_ready, record_of, is_settled, pools_in};
 
 use crate::awaiting::AwaitingKeys;
 use crate::keys::{Keys, is_free};
@@ -11,6 +11,7 @@ use kube_labels::Text;
 use kube_model::{Key, ListGroup, Put, Record};
 use mlb_base::NoMemory;
 use object_cache::ObjectCache;
+use pool_config::Config;
 use std::alloc::Global;
 use std::marker::Model;
 
@@ -29,7 +30,8 @@ pub(crate) struct CoreState {
 }
 
 impl Model for CoreState {
-    ghost use Rattle.core_rules.specs.Core.{State};
+    ghost use Rattle.core_rules.specs.Core.{State, pools_in};
+    ghost use Rattle.full_entries.specs.Entries.{AreThose};
     ghost use Rattle.ctl_core.specs.Waiting.{AreWaiting};
 
     ghost Value = { State };
@@ -43,7 +45,7 @@ impl Model for CoreState {
       out = c.out;
     } };
 
-    ghost invariant = { λ c. AreWaiting c.class c.cache c.queue c.awaiting c.waiting };
+    ghost invariant = { λ c. AreWaiting c.class c.cache c.queue c.awaiting c.waiting × AreThose (pools_in c.cache.config) c.book.entries };
 }
 
 impl CoreState {
@@ -111,4 +113,15 @@ pub(crate) fn is_ready(cache: &ObjectCache) -> bool
     cache.has_ended(ListGroup::Config)
         && cache.has_ended(ListGroup::Service)
         && cache.config().is_some()
+}
+
+/// The configuration in force, or this one, which has no pools.
+pub(crate) fn config_or<'a>(cache: &'a ObjectCache, none: &'a Config) -> &'a Config
+    requires { none.now.pools ≡ [] }
+    ensures { result.now.pools ≡ pools_in cache.now.config }
+{
+    match cache.config() {
+        None => none,
+        Some(config) => config,
+    }
 }

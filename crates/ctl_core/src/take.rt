@@ -1,5 +1,6 @@
 //! Events that are taken.
-ghost use Rattle.std.specs.Prelude.{◌≡◌, ◌↔◌, ◌⊎◌, ◌+◌, ◌++◌, ◌&&◌, ◌||◌, [], if◌then◌else◌, not, is_some, None, true, IsErrOf, OnOk, OnErr, IfOk, IfErr};
+ghost use Rattle.std.specs.Prelude.{◌≡◌, ◌↔◌, ◌⊎◌, ◌+◌, ◌++◌, ◌&&◌, ◌||◌, [], if◌then◌else◌, not, is_some, None, true, false};
+ghost use Rattle.std.specs.Prelude.{IsErrOf, OnOk, OnErr, IfOk, IfErr};
 ghost use Rattle.kube_model.specs.Keys.{key_cmp};
 ghost use Rattle.object_history.specs.Observations.{Watched, WatchExpired};
 ghost use Rattle.object_history.specs.Cache.{cached_after};
@@ -8,9 +9,10 @@ ghost use Rattle.object_cache.specs.Limits.{passes, most_services};
 ghost use Rattle.object_cache.specs.declared.change.TakeNote.TheVariants.{Quiet as QuietNote};
 ghost use Rattle.versioned_map.specs.Objects.{is_newer};
 ghost use Rattle.claim_index.specs.Claims.{has_claims};
-ghost use Rattle.core_rules.specs.Core.{all_free, is_ready};
+ghost use Rattle.core_rules.specs.Core.{all_free, is_ready, pools_in};
 ghost use Rattle.core_rules.specs.Take.{Configures, effect_of, core_take, core_note, core_expired, limits, with_service, without_service};
 ghost use Rattle.core_rules.specs.Take.{with_services_listed, all_expired, listed_and_free, have_claims, shows, is_accepted, configured};
+ghost use Rattle.full_entries.specs.Entries.{AreThose};
 ghost use Rattle.ctl_core.specs.Holding.{IsPrepared, held_service};
 ghost use Rattle.ctl_core.specs.Queued.{GoBehind};
 ghost use Rattle.ctl_core.specs.Reached.{IsReached};
@@ -20,12 +22,14 @@ use crate::awaiting::{keep_awaiting, stop_awaiting};
 use crate::claims::{have_claims, keep_listed_claims, shown_claim};
 use crate::keys::{Keys, all_free, drop_key, keep_listed, listed_and_free, own_and_waiting};
 use crate::room::{append_new, truncate_unless};
-use crate::state::{CoreState, is_ready};
-use alloc_book::Claim;
+use crate::state::{CoreState, config_or, is_ready};
+use alloc_book::{Book, Claim};
 use core_rules::TakeFault;
 use kube_model::{Event, Key, Kind, ListGroup, Object, Service};
 use mlb_base::NoMemory;
 use object_cache::{Applied, MOST_SERVICES, ObjectCache, TakeNote};
+use pool_config::Config;
+use std::alloc::Global;
 
 /// What there is to do where a service is held: its claim, and the keys that are queued.
 #[derive(Drop)]
@@ -275,6 +279,7 @@ impl CoreState {
             return Err(NoMemory);
         };
         let applied = queue_and_apply(&mut self.queue, &mut self.cache, woken, event)?;
+        enter_accepted(self.alloc, &mut self.book, &self.cache, &applied);
         let wakes = wakes(was_ready, &applied, is_ready(&self.cache));
         truncate_unless(wakes, &mut self.queue, queued);
         self.waiting.clear_where(wakes);
@@ -361,6 +366,20 @@ fn queue_and_apply(
             Err(NoMemory)
         }
     }
+}
+
+/// Where a configuration was accepted, addresses are chosen from its pools from now on.
+fn enter_accepted(alloc: Global, book: &mut Book, cache: &ObjectCache, applied: &Applied)
+    ensures claims { book.new.claims ≡ book.old.claims }
+    ensures accepted { is_accepted applied.now.note ≡ true → AreThose (pools_in cache.now.config) book.new.entries }
+    ensures others { is_accepted applied.now.note ≡ false → book.new.entries ≡ book.old.entries }
+{
+    if !matches!(applied.note, TakeNote::Accepted) {
+        return;
+    }
+    let no_config = Config::empty(alloc);
+    book.enter(config_or(cache, &no_config));
+    drop(no_config);
 }
 
 /// Whether the core may be ready after an event of the configuration.

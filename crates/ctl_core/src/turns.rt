@@ -1,7 +1,7 @@
 //! Turns.
 ghost use Rattle.std.specs.Prelude.{◌≡◌, ◌||◌, [], IfOk, OnOk, OnErr, None};
 ghost use Rattle.kube_model.specs.declared.record.Record.{Record};
-ghost use Rattle.core_rules.specs.Core.{service_of, pools_in, labels_of};
+ghost use Rattle.core_rules.specs.Core.{service_of, labels_of};
 ghost use Rattle.std.specs.BTreeSet.{contains};
 ghost use Rattle.std.specs.Option.{option_copied};
 ghost use Rattle.kube_model.specs.declared.key.Key.{Key as KeyValue};
@@ -11,7 +11,7 @@ ghost use Rattle.ctl_core.specs.Waiting.{is_front_lacking};
 ghost use Rattle.core_rules.specs.Turn.{wanted_record, reason_in, turn_for, put_in, core_turn, after_turn, turn_at, chosen_at};
 
 use crate::keys::{Keys, Services, lacks_record};
-use crate::state::CoreState;
+use crate::state::{CoreState, config_or};
 use crate::waiting::WaitingKeys;
 use alloc_book::Choice;
 use core_rules::Turn;
@@ -86,7 +86,7 @@ impl CoreState {
     {
         let no_config = Config::empty(self.alloc);
         let no_labels = Labels::new(self.alloc);
-        let config = self.config_or(&no_config);
+        let config = config_or(&self.cache, &no_config);
         let labels = self.labels_or(&no_labels, &service.key.namespace);
         let choice = self
             .book
@@ -94,17 +94,6 @@ impl CoreState {
         drop(no_labels);
         drop(no_config);
         choice
-    }
-
-    /// The configuration in force, or this one, which has no pools.
-    fn config_or<'a>(&'a self, none: &'a Config) -> &'a Config
-        requires { none.now.pools ≡ [] }
-        ensures { result.now.pools ≡ pools_in self.now.held.config }
-    {
-        match self.cache.config() {
-            None => none,
-            Some(config) => config,
-        }
     }
 
     /// The labels of the namespace; one that isn't held has none.

@@ -6,9 +6,9 @@ use Rattle.claim_index.specs.Claims.{ClaimValue}
 use Rattle.alloc_book.proofs.BookRemoval.{values-filter}
 use Rattle.alloc_book.proofs.booking.Book.drop_unlisted.Goals as goal
 
-pub returns : goal.returns
-returns g c =
+pub returns-clause-claims : goal.returns-clause-claims
+returns-clause-claims g c =
     let lists : Key → Bool = g.L.Listing.lists c.args.listing.now in
-    ap (λ (items : List (ℕ × ClaimValue)). values_of items) c.remove_unlisted.ensures
+    ap (λ (items : List (ℕ × ClaimValue)). values_of items) c.remove_unlisted.ensures.items
     ∙ values-filter (λ (x : ClaimValue). lists x.key) c.self.inside.index.items
     ∙ ap (λ (b : BookValue). filter (λ (x : ClaimValue). lists x.key) b.claims) c.self.view_is

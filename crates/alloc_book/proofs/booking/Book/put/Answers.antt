@@ -23,6 +23,14 @@ returns-clause-claims c =
       | else-is_assigned w ↦
           ap (λ (b : BookValue). b.claims) w.self-is
           ∙ settled-unassigned items w.remove_all.new.index.items claim.key claim.holding claim.terms (is ∙ w.if-is_assigned.false)
-          (w.remove_all.ensures ∙ ap (λ (k : Key). filter (λ (p : ℕ × ClaimValue). not (same_key p.1.key k)) items) w.key.ensures)
+          (w.remove_all.ensures.items ∙ ap (λ (k : Key). filter (λ (p : ℕ × ClaimValue). not (same_key p.1.key k)) items) w.key.ensures)
           ∙ before
+    ]
+
+pub returns-clause-entries : goal.returns-clause-entries
+returns-clause-entries c =
+    let entries = λ (b : BookValue). b.entries in
+    elim c.if-is_assigned.branch [
+      | then-is_assigned w ↦ ap entries w.self-is ∙ w.remove_others.ensures.entries ∙ w.add-number.ensures.entries ∙ ap entries c.self.view_is
+      | else-is_assigned w ↦ ap entries w.self-is ∙ w.remove_all.ensures.entries ∙ ap entries c.self.view_is
     ]

@@ -7,6 +7,7 @@ use Rattle.core_rules.specs.Take.{wakes}
 use Rattle.ctl_core.specs.Queued.{GoBehind}
 use Rattle.ctl_core.specs.Reached.{IsReached}
 use Rattle.ctl_core.specs.Waking.{may_wake}
+use Rattle.ctl_core.proofs.Entered.{entered}
 use Rattle.ctl_core.proofs.WaitingEvents.{WaitIn, configured-wait}
 use Rattle.ctl_core.proofs.WaitingQueued.{woken-behind}
 use Rattle.ctl_core.proofs.Wakes.{woken-configured}
@@ -31,7 +32,10 @@ invariant_of-self-2 c =
     rw (c.is_ready.ensures, c.is_ready-was_ready.ensures, c.in_ok-applied.ensures.applied, c.in_ok-applied.ensures.cache) at c.wakes-wakes.ensures in
     let state_is = woken-configured s event c.queue_and_apply.new.cache c.wakes-wakes.result c.len-queued.result c.in-Ok.woken.items _ _ c.requires.configures
     wakes_is c.len-queued.ensures
-    more_is c.in_ok-applied.ensures.cache c.in_ok-applied.ensures.queue c.truncate_unless.ensures in
-    subst (λ (t : State). WaitIn t c.clear_where.new.self) (sym state_is)
-    (configured-wait s event c.wakes-wakes.result i.waiting c.clear_where.new.self reached c.requires.configures c.self.invariant wakes_is
-    c.clear_where.ensures)
+    more_is c.in_ok-applied.ensures.cache c.in_ok-applied.ensures.queue c.truncate_unless.ensures in (
+      subst (λ (t : State). WaitIn t c.clear_where.new.self) (sym state_is)
+          (configured-wait s event c.wakes-wakes.result i.waiting c.clear_where.new.self reached c.requires.configures c.self.invariant.0 wakes_is
+          c.clear_where.ensures),
+      entered event i.cache c.queue_and_apply.new.cache c.in_ok-applied.applied i.book.entries c.enter_accepted.new.book.entries
+          c.in_ok-applied.ensures.cache c.in_ok-applied.ensures.applied c.enter_accepted.ensures.accepted c.enter_accepted.ensures.others c.self.invariant.1,
+    )

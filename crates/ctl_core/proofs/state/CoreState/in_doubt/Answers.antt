@@ -6,6 +6,7 @@ use Rattle.core_rules.specs.Core.{State}
 use Rattle.core_rules.specs.Replied.{put_terms}
 use Rattle.ctl_core.specs.Reached.{IsReached}
 use Rattle.ctl_core.specs.Waiting.{AreWaiting}
+use Rattle.ctl_core.proofs.Entered.{still-those}
 use Rattle.ctl_core.proofs.Reaches.{reached-orderly}
 use Rattle.ctl_core.proofs.WaitingTurns.{waiting-in_doubt, in_doubt-is}
 use Rattle.ctl_core.proofs.state.CoreState.in_doubt.Goals as goal
@@ -20,9 +21,11 @@ push_new-requires c =
 pub invariant_of-self-2 : goal.invariant_of-self-2
 invariant_of-self-2 c =
     let i = c.self.inside in
-    let queue_is = c.in-Ok-push_new.ensures.ok ∙ ap (λ (k : Key). i.queue ++ k ∷ []) c.in-Ok-copy.ensures in
-    subst (λ (keys : List Key). AreWaiting i.class i.cache keys i.awaiting c.remove.new.self) (sym queue_is)
-    (waiting-in_doubt i.class i.cache i.queue i.awaiting c.args.put.key i.waiting c.remove.new.self c.self.invariant c.remove.ensures)
+    let queue_is = c.in-Ok-push_new.ensures.ok ∙ ap (λ (k : Key). i.queue ++ k ∷ []) c.in-Ok-copy.ensures in (
+      subst (λ (keys : List Key). AreWaiting i.class i.cache keys i.awaiting c.remove.new.self) (sym queue_is)
+          (waiting-in_doubt i.class i.cache i.queue i.awaiting c.args.put.key i.waiting c.remove.new.self c.self.invariant.0 c.remove.ensures),
+      still-those i.cache i.cache i.book.entries _ refl (c.doubt_prepared.ensures.entries ∙ c.reserved_claim.ensures.entries) c.self.invariant.1,
+    )
 
 pub returns-clause-ok : goal.returns-clause-ok
 returns-clause-ok c =
@@ -31,7 +34,7 @@ returns-clause-ok c =
     let queue_is = c.in-Ok-push_new.ensures.ok ∙ ap (λ (k : Key). i.queue ++ k ∷ []) c.in-Ok-copy.ensures in
     let put = c.args.put in
     let unset : i.out ≡ None = rw (← c.self.view_is) at c.requires.out in
-    let claims_are : c.doubt_prepared.new.self.claims ≡ doubted put.key put.holding (put_terms s.held put) s.claims = c.doubt_prepared.ensures
+    let claims_are : c.doubt_prepared.new.self.claims ≡ doubted put.key put.holding (put_terms s.held put) s.claims = c.doubt_prepared.ensures.claims
     ∙ ap (λ (x : ClaimValue). doubted x.key x.holding x.terms c.reserved_claim.new.book.claims) c.in-Ok.ensures.claim
     ∙ ap (doubted put.key put.holding (put_terms s.held put)) c.reserved_claim.ensures.claims in
     rw (← c.self.view_is, unset) (in_doubt-is s put c.doubt_prepared.new.self.claims c.push_new.new.keys claims_are queue_is)

@@ -16,6 +16,6 @@ returns c =
     let now = s.held.config_ended && is_some s.held.config in
     rw (← c.self.view_is)
     (IfOk-weaker c.listed_and_free.result _ _
-    (λ more is. is ∙ listed-and-others s i.waiting reached c.self.invariant c.listed_and_free.ensures.ordered now c.args.is_lost
+    (λ more is. is ∙ listed-and-others s i.waiting reached c.self.invariant.0 c.listed_and_free.ensures.ordered now c.args.is_lost
     ∙ ap (λ lost. listed_and_free (is_ready s.held) now lost s) lost_is)
     keys)

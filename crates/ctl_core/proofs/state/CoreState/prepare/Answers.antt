@@ -22,7 +22,7 @@ returns c =
       lost_is = lost_is;
       more_is = c.in-Ok.ensures.keys
           ∙ ap (λ ready. cond ready (own_key service.key s.queue ++ others_where lost service.key i.waiting.keys) []) c.is_ready.ensures
-          ∙ own-and-others s i.waiting reached c.self.invariant c.in-Ok.ensures.ordered lost service.key
+          ∙ own-and-others s i.waiting reached c.self.invariant.0 c.in-Ok.ensures.ordered lost service.key
           ∙ ap (λ l. own_and_waiting (is_ready s.held) l s service.key) lost_is;
     } in
     rw (← c.self.view_is) prepared

@@ -18,9 +18,11 @@ await_newer-requires c =
 pub invariant_of-self-2 : goal.invariant_of-self-2
 invariant_of-self-2 c =
     let i = c.self.inside in
-    let awaiting_are = c.in-Ok-await_newer.ensures.ok ∙ ap (λ (k : Key). i.awaiting ++ k ∷ []) c.in-Ok.ensures in
-    subst (λ (keys : List Key). AreWaiting i.class i.cache i.queue keys c.remove.new.self) (sym awaiting_are)
-    (waiting-refused i.class i.cache i.queue i.awaiting c.args.put.key i.waiting c.remove.new.self c.self.invariant c.remove.ensures)
+    let awaiting_are = c.in-Ok-await_newer.ensures.ok ∙ ap (λ (k : Key). i.awaiting ++ k ∷ []) c.in-Ok.ensures in (
+      subst (λ (keys : List Key). AreWaiting i.class i.cache i.queue keys c.remove.new.self) (sym awaiting_are)
+          (waiting-refused i.class i.cache i.queue i.awaiting c.args.put.key i.waiting c.remove.new.self c.self.invariant.0 c.remove.ensures),
+      c.self.invariant.1,
+    )
 
 pub returns-clause-ok : goal.returns-clause-ok
 returns-clause-ok c =

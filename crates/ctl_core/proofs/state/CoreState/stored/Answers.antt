@@ -1,10 +1,12 @@
 use Rattle.std.proofs.Common.{◌≡◌, List, Some, None, refl, sym, ap, subst, ◌∙◌}
 use Rattle.kube_model.specs.Keys.{same_key}
 use Rattle.claim_index.specs.Claims.{ClaimValue, loses, settled}
+use Rattle.object_history.specs.Cache.{Cached}
 use Rattle.core_rules.specs.Core.{State, waiting}
 use Rattle.core_rules.specs.Replied.{put_terms}
 use Rattle.ctl_core.specs.Queued.{GoBehind}
 use Rattle.ctl_core.specs.Reached.{IsReached}
+use Rattle.ctl_core.proofs.Entered.{still-those}
 use Rattle.ctl_core.proofs.WaitingQueued.{waiting-behind}
 use Rattle.ctl_core.proofs.WaitingTurns.{others-out, stored-waits, stored-is}
 use Rattle.ctl_core.proofs.state.CoreState.stored.Goals as goal
@@ -15,7 +17,7 @@ queue_and_let_wait-requires c =
     let s : State = record { class = i.class; held = i.cache; claims = i.book.claims; queue = i.queue; awaiting = i.awaiting; out = Some c.args.put } in
     let reached : IsReached s = rw (← c.self.view_is) at c.requires.reached in
     let others = c.in-Ok-others_where.ensures.keys
-    ∙ others-out s reached c.args.put refl c.loses-is_lost.result i.waiting c.self.invariant c.in-Ok-others_where.ensures.ordered in
+    ∙ others-out s reached c.args.put refl c.loses-is_lost.result i.waiting c.self.invariant.0 c.in-Ok-others_where.ensures.ordered in
     subst (λ more. GoBehind more s.queue) (sym others) (waiting-behind c.loses-is_lost.result (same_key c.args.put.key) s reached)
 
 pub invariant_of-self-2 : goal.invariant_of-self-2
@@ -24,13 +26,16 @@ invariant_of-self-2 c =
     let s : State = record { class = i.class; held = i.cache; claims = i.book.claims; queue = i.queue; awaiting = i.awaiting; out = Some c.args.put } in
     let reached : IsReached s = rw (← c.self.view_is) at c.requires.reached in
     let others = c.in-Ok-others_where.ensures.keys
-    ∙ others-out s reached c.args.put refl c.loses-is_lost.result i.waiting c.self.invariant c.in-Ok-others_where.ensures.ordered in
-    stored-waits s reached c.args.put refl c.args.version c.loses-is_lost.result i.waiting c.queue_and_let_wait.new.waiting c.release_others.new.self
-    c.store.new.self
-    c.queue_and_let_wait.new.queue c.in-Ok-others_where.more.items c.self.invariant
-    (λ k. rw (← c.as_ref.ensures.value, ← c.services-services.ensures) (c.in-Ok-queue_and_let_wait.ensures.waiting k))
-    (λ k. c.release_others.ensures k)
-    c.store.ensures c.in-Ok-queue_and_let_wait.ensures.queue others
+    ∙ others-out s reached c.args.put refl c.loses-is_lost.result i.waiting c.self.invariant.0 c.in-Ok-others_where.ensures.ordered in (
+      stored-waits s reached c.args.put refl c.args.version c.loses-is_lost.result i.waiting c.queue_and_let_wait.new.waiting c.release_others.new.self
+          c.store.new.self
+          c.queue_and_let_wait.new.queue c.in-Ok-others_where.more.items c.self.invariant.0
+          (λ k. rw (← c.as_ref.ensures.value, ← c.services-services.ensures) (c.in-Ok-queue_and_let_wait.ensures.waiting k))
+          (λ k. c.release_others.ensures k)
+          c.store.ensures c.in-Ok-queue_and_let_wait.ensures.queue others,
+      still-those i.cache c.store.new.self i.book.entries _ (ap (λ (h : Cached). h.config) c.store.ensures)
+          (c.settle_prepared.ensures.entries ∙ c.reserved_claim.ensures.entries) c.self.invariant.1,
+    )
 
 pub returns-clause-ok : goal.returns-clause-ok
 returns-clause-ok c =
@@ -38,7 +43,7 @@ returns-clause-ok c =
     let s : State = record { class = i.class; held = i.cache; claims = i.book.claims; queue = i.queue; awaiting = i.awaiting; out = Some c.args.put } in
     let reached : IsReached s = rw (← c.self.view_is) at c.requires.reached in
     let others = c.in-Ok-others_where.ensures.keys
-    ∙ others-out s reached c.args.put refl c.loses-is_lost.result i.waiting c.self.invariant c.in-Ok-others_where.ensures.ordered in
+    ∙ others-out s reached c.args.put refl c.loses-is_lost.result i.waiting c.self.invariant.0 c.in-Ok-others_where.ensures.ordered in
     let put = c.args.put in
     let unset : i.out ≡ None = rw (← c.self.view_is) at c.requires.out in
     let claim_is = c.in-Ok.ensures.claim in

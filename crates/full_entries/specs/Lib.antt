@@ -1,0 +1,4 @@
+pub mod Entries
+pub mod Full
+pub mod Known
+pub mod Places

@@ -8,14 +8,14 @@ use Rattle.speaker_view.specs.ViewValue.{ViewValue}
 use Rattle.view_board.specs.Answers.{IsAnswer as IsViewAnswer, NoArp, NoNdp}
 use Rattle.view_board.specs.declared.answer.Answer.{Answer}
 use Rattle.view_board.specs.declared.answer.Answer.TheVariants.{Arp, Ndp, Silent}
-use Rattle.mlb_speaker.specs.declared.local_node.Interface.{Interface}
-use Rattle.mlb_speaker.specs.declared.local_node.LocalNode.{LocalNode}
-use Rattle.mlb_speaker.specs.Meant.{IsAnswer}
+use Rattle.speaker_machine.specs.declared.local_node.Interface.{Interface}
+use Rattle.speaker_machine.specs.declared.local_node.LocalNode.{LocalNode}
+use Rattle.speaker_machine.specs.Sends.{interface_of}
+use Rattle.speaker_machine.specs.Stream.{Received}
+use Rattle.speaker_laws.specs.Meant.{IsAnswer}
+use Rattle.speaker_laws.proofs.Meant.{find-is, find-none}
 use Rattle.mlb_speaker.specs.Responding.{IsAnsweredBy}
 use Rattle.mlb_speaker.specs.ResponderSeen.{octets_of}
-use Rattle.mlb_speaker.specs.Sends.{interface_of}
-use Rattle.mlb_speaker.specs.Stream.{Received}
-use Rattle.mlb_speaker.proofs.Meant.{find-is, find-none}
 
 module _ (v : ViewValue) (local : LocalNode) (received : Received) where
   -- where neither protocol has an answer with one hardware address there is none with another

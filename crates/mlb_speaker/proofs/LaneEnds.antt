@@ -31,13 +31,13 @@ use Rattle.line_run.specs.Clauses.{CanPass}
 use Rattle.line_run.proofs.Texts.{upto_none}
 use Rattle.mlb_edge.specs.InputLines.{Whole, Follows-refl, to_come}
 use Rattle.speaker_view.specs.View.{limit_by}
-use Rattle.mlb_speaker.specs.Causes.{limit_cause}
+use Rattle.speaker_machine.specs.Causes.{limit_cause}
+use Rattle.speaker_machine.specs.Lanes.{belongs_to, lane_rules, name_of}
+use Rattle.speaker_machine.specs.Stream.{SpeakerState, Received, IsLimit, IsCause, frame_in, limit_step, step_by, what_of}
 use Rattle.mlb_speaker.specs.LaneClauses.{CanEndLanes, IsLane}
-use Rattle.mlb_speaker.specs.Lanes.{belongs_to, lane_rules, name_of}
 use Rattle.mlb_speaker.specs.ResponderClauses.{answering}
 use Rattle.mlb_speaker.specs.Responding.{ShownState, seen_in, shown_rules, shown_step_at, told_answer}
 use Rattle.mlb_speaker.specs.ShownCauses.{answer_stops, stops_as}
-use Rattle.mlb_speaker.specs.Stream.{SpeakerState, Received, IsLimit, IsCause, frame_in, limit_step, step_by, what_of}
 
 is_lane : (lane : Lane) → IsLane (name_of lane)
 is_lane First = inl refl

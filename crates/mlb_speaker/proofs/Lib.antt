@@ -1,12 +1,6 @@
-pub mod Begun
 pub mod Unseen
-pub mod ChangesTold
-pub mod Meant
-pub mod NamedPeers
-pub mod Steps
-pub mod Parts
 pub mod AnsweredBy
-pub mod Quiet
+pub mod AnswersTaken
 pub mod Responded
 pub mod RespondedComplete
 pub mod RespondedLines
@@ -16,9 +10,4 @@ pub mod RespondedShown
 pub mod ShownRun
 pub mod ShownSteps
 pub mod ShownTaken
-pub mod Telling
-pub mod Written
-pub mod Heard
-pub mod Fitting
-pub mod LaneLines
 pub mod LaneEnds

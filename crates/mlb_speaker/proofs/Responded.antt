@@ -19,11 +19,11 @@ use Rattle.lane_mail.specs.declared.lane.Lane.{Lane}
 use Rattle.lane_mail.specs.declared.lane.Lane.TheVariants.{First, Second}
 use Rattle.lane_run.specs.Turned.{AreTurned}
 use Rattle.lane_run.specs.Watched.{Begins}
+use Rattle.speaker_machine.specs.Lanes.{belongs_to}
+use Rattle.speaker_machine.specs.Stream.{SpeakerState, Received, frame_in}
 use Rattle.mlb_speaker.proofs.ShownSteps.{IsFrame}
-use Rattle.mlb_speaker.specs.Lanes.{belongs_to}
 use Rattle.mlb_speaker.specs.ResponderClauses.{AnswersAreTold}
 use Rattle.mlb_speaker.specs.Responding.{Answering, Answers, AreAnswered, Turns, TurnsInto, answer_octets, seen_in}
-use Rattle.mlb_speaker.specs.Stream.{SpeakerState, Received, frame_in}
 
 -- ---- octets
 -- what is read of an answer's octets is what was put in

@@ -13,12 +13,12 @@ use Rattle.lane_mail.specs.declared.item.Item.{Item}
 use Rattle.lane_mail.specs.declared.lane.Lane.TheVariants.{First}
 use Rattle.line_run.specs.Machine.{Goes, Stops}
 use Rattle.mlb_edge.specs.declared.lines.Line.{Line}
-use Rattle.mlb_speaker.proofs.Quiet.{item_goes, item_taken}
+use Rattle.speaker_machine.specs.Lanes.{belongs_to}
+use Rattle.speaker_machine.specs.Stream.{SpeakerState, Received, frame_in}
+use Rattle.speaker_laws.proofs.Quiet.{item_goes, item_taken}
 use Rattle.mlb_speaker.proofs.RespondedShown.{IsLaned, firsts_begin, items_laned, turned_by}
-use Rattle.mlb_speaker.specs.Lanes.{belongs_to}
 use Rattle.mlb_speaker.specs.ResponderClauses.{AreApplicable}
 use Rattle.mlb_speaker.specs.Responding.{Answering, ShownEntry, ShownState, seen_in, shown_rules, shown_step_at, told_answer, unshown}
-use Rattle.mlb_speaker.specs.Stream.{SpeakerState, Received, frame_in}
 
 -- All items are taken.
 record Taken (s : ShownState) (items : List Item) : Type 0 where

@@ -18,14 +18,16 @@ use Rattle.line_run.specs.Machine.{Goes}
 use Rattle.line_run.specs.Run.{AreTaken}
 use Rattle.mlb_edge.specs.declared.lines.Line.{Line}
 use Rattle.shown_board.specs.Boarded.{Boarded}
-use Rattle.mlb_speaker.proofs.Quiet.{item_goes}
+use Rattle.speaker_view.specs.View.{limit_by}
+use Rattle.speaker_machine.specs.Lanes.{belongs_to}
+use Rattle.speaker_machine.specs.Stream.{SpeakerState, Received, frame_in, line_step, speaker_rules, state_after}
+use Rattle.speaker_machine.specs.declared.transcript.TranscriptEntry.{TranscriptEntry}
+use Rattle.speaker_laws.proofs.Quiet.{item_goes}
+use Rattle.speaker_laws.proofs.Telling.{limit_goes}
 use Rattle.mlb_speaker.proofs.Responded.{AreFrames, AreOf, items_are_of}
 use Rattle.mlb_speaker.proofs.ShownSteps.{IsSided, IsWatched, frame_first, frame_step, shows_watched, watched_first, watched_step}
-use Rattle.mlb_speaker.specs.Lanes.{belongs_to}
 use Rattle.mlb_speaker.specs.ResponderClauses.{WatchIsAsLines, told_at, told_of_watch, tells}
-use Rattle.mlb_speaker.specs.Responding.{AreAnswered, ShownEntry, ShownState, Tells, shown_rules, unshown, watch_events}
-use Rattle.mlb_speaker.specs.Stream.{SpeakerState, Received, frame_in, line_step, speaker_rules}
-use Rattle.mlb_speaker.specs.declared.transcript.TranscriptEntry.{TranscriptEntry}
+use Rattle.mlb_speaker.specs.Responding.{AreAnswered, ShownEntry, ShownState, Tells, shown_rules, unshown, view_after_all, watch_events}
 
 -- ---- what both lanes send
 none_there : {A : Type 0} (o : Option A) → is_none o ≡ true → o ≡ None
@@ -68,13 +70,14 @@ tells_map : (entries : List TranscriptEntry) → tells (map Tells entries) ≡ e
 tells_map [] = refl
 tells_map (entry ∷ entries) = ap (λ (es : List TranscriptEntry). entry ∷ es) (tells_map entries)
 
--- These lines have the watched events of the items, are taken so in one stream, and just these events are published.
+-- These lines have the watched events of the items, are taken so in one stream, just these events are published, and the view is that after them.
 record Lined (items : List Item) (s t : ShownState) (told : List (Told ShownEntry)) : Type 0 where
   lines : List Line
   events : map (λ line. event_of_line line.bytes) lines ≡ map (λ event. Ok event) (watch_events items)
   taken : AreTaken speaker_rules lines s.speaker t.speaker (told_of_watch told)
   published : t.board.published ≡ s.board.published ++ watch_events items
   no_pending : t.board.pending ≡ []
+  view : t.speaker.view ≡ view_after_all s.speaker.view (watch_events items)
 
 -- one item more
 module _ (item : Item) (items : List Item) (s next t : ShownState) (entries : List ShownEntry) (more : List (Told ShownEntry))
@@ -89,6 +92,8 @@ module _ (item : Item) (items : List Item) (s next t : ShownState) (entries : Li
       let rest = others (ap (λ (b : Boarded Event). b.pending) p.board) in
       let line : Line = record { number = item.number; bytes = read.bytes } in
       let goes : line_step s.speaker line ≡ Goes next.speaker p.told = rw read.read p.steps in
+      let moved : next.speaker ≡ state_after s.speaker item.event =
+      (limit_goes (limit_by s.speaker.view item.event) s.speaker next.speaker item.event p.told p.steps).0 in
       let own : told_at (frame_in item.event) entries ≡ p.told =
       ap (λ (frame : Option Received). told_at frame entries) none ∙ ap tells p.are ∙ tells_map p.told in
       record {
@@ -99,6 +104,8 @@ module _ (item : Item) (items : List Item) (s next t : ShownState) (entries : Li
         taken = (next.speaker, p.told, told_of_watch more, goes, rest.taken, ap (λ (es : List TranscriptEntry). es ++ told_of_watch more) own);
         published = rest.published ∙ shows_watched s next item items none no_pending p.board;
         no_pending = rest.no_pending;
+        view = rest.view ∙ ap (λ (u : SpeakerState). view_after_all u.view (watch_events items)) moved
+            ∙ ap (λ (events : List Event). view_after_all s.speaker.view events) (sym (watched_first item items none));
       }
 
   lined_frame : (received : Received) → frame_in item.event ≡ Some received → (next.board.pending ≡ [] → Lined items next t more)
@@ -114,6 +121,7 @@ module _ (item : Item) (items : List Item) (s next t : ShownState) (entries : Li
             (ap (λ (frame : Option Received). told_at frame entries ++ told_of_watch more) (sym is)) rest.taken;
         published = rest.published ∙ ap (λ (events : List Event). s.board.published ++ events) (sym (frame_first item items received is));
         no_pending = rest.no_pending;
+        view = rest.view ∙ ap (λ (events : List Event). view_after_all s.speaker.view events) (sym (frame_first item items received is));
       }
 
 lined : (items : List Item) (replies : List Line) (s t : ShownState) (told : List (Told ShownEntry)) → AllByRecursion IsSided items → s.board.pending ≡ []
@@ -124,6 +132,7 @@ lined [] replies s t told sides no_pending (none, same, nothing) = record {
   taken = (ap (λ (u : ShownState). u.speaker) same, ap told_of_watch nothing);
   published = ap (λ (u : ShownState). u.board.published) same ∙ sym (append-nil s.board.published);
   no_pending = ap (λ (u : ShownState). u.board.pending) same ∙ no_pending;
+  view = ap (λ (u : ShownState). u.speaker.view) same;
 }
 lined (item ∷ items) replies s t told sides no_pending (own, behind, next, entries, more, split, taken, others, is) =
     let steps = item_goes shown_rules (λ u. refl) item own s next entries taken in
@@ -145,4 +154,10 @@ watch_as_lines start first second items replies t told (firsts, seconds) taken =
     let answers = seconds.answered in
     let frames = answers_are_frames start answers.events 0 seconds.items (items_of Second items) answers.answered in
     let l = lined items replies (unshown start) t told (sided first items firsts frames) refl taken in
-    record { lines = l.lines; events = l.events; taken = l.taken; published = l.published }
+    record {
+      lines = l.lines;
+      events = l.events;
+      taken = l.taken;
+      published = l.published;
+      view = l.view ∙ ap (λ (events : List Event). view_after_all start.view events) (sym l.published);
+    }

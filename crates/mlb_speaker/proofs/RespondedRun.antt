@@ -11,14 +11,14 @@ use Rattle.lane_drive.specs.Complete.{CompleteOf}
 use Rattle.lane_drive.specs.Files.{FilesState}
 use Rattle.lane_run.specs.Outside.{SourceState}
 use Rattle.mlb_edge.specs.InputLines.{to_come}
+use Rattle.speaker_machine.specs.Lanes.{belongs_to}
+use Rattle.speaker_machine.specs.Stream.{SpeakerState}
 use Rattle.mlb_speaker.proofs.LaneEnds.{ends_short, shown_none, shown_plain, writes_none_of}
 use Rattle.mlb_speaker.proofs.RespondedComplete.{sent_applicable}
 use Rattle.mlb_speaker.proofs.RespondedShown.{Opens, shown_carries, turned_by}
 use Rattle.mlb_speaker.specs.LaneClauses.{opened}
-use Rattle.mlb_speaker.specs.Lanes.{belongs_to}
 use Rattle.mlb_speaker.specs.ResponderClauses.{AreOfWatch, RespondsSo, answering}
 use Rattle.mlb_speaker.specs.Responding.{Answering, shown_rules, unshown}
-use Rattle.mlb_speaker.specs.Stream.{SpeakerState}
 
 module _ (start : SpeakerState) (files : LaneNames) (bytes : List ℕ → Option (List ℕ)) (safe : List ℕ → Bool) (seen seen' : FilesState)
     (input input' : SourceState) (before after : Option (List ℕ)) (writes writes' : ℕ) where

@@ -17,14 +17,14 @@ use Rattle.mlb_base.proofs.Lists.{all-front}
 use Rattle.mlb_edge.specs.InputLines.{Input}
 use Rattle.mlb_edge.specs.declared.lines.Line.{Line}
 use Rattle.shown_board.specs.Boarded.{Boarded}
-use Rattle.mlb_speaker.proofs.Quiet.{item_goes}
+use Rattle.speaker_machine.specs.Stream.{SpeakerState, Received, frame_in}
+use Rattle.speaker_laws.proofs.Quiet.{item_goes}
 use Rattle.mlb_speaker.proofs.Responded.{IsSeenUpTo, answered_up_to}
 use Rattle.mlb_speaker.proofs.RespondedShown.{Opens, answered_from, firsts_begin, frames_turned, items_sided, published_long, published_of_watch}
 use Rattle.mlb_speaker.proofs.RespondedShown.{seconds_later, turned_by}
 use Rattle.mlb_speaker.proofs.ShownSteps.{IsSided, frame_first, frame_step, shows_watched, watched_step}
 use Rattle.mlb_speaker.specs.ResponderClauses.{answering}
 use Rattle.mlb_speaker.specs.Responding.{Answering, HasShown, ShownEntry, ShownState, shown_rules, unshown, watch_events}
-use Rattle.mlb_speaker.specs.Stream.{SpeakerState, Received, frame_in}
 
 -- ---- how many events the answers may be by that are taken
 no_frame : (item : Item) (answered : Received) → frame_in item.event ≡ None → frame_in item.event ≡ Some answered → ⊥

@@ -25,13 +25,13 @@ use Rattle.lane_run.specs.declared.lane_end.LaneEnd.{LaneEnd}
 use Rattle.lane_run.specs.declared.lane_end.LaneEnd.TheVariants.{Done, ReadFault, LineLimit, InputLimit, BadLine, NoMemory}
 use Rattle.mlb_base.proofs.Lists.{all-front}
 use Rattle.shown_board.specs.Boarded.{Boarded}
+use Rattle.speaker_machine.specs.Lanes.{belongs_to}
+use Rattle.speaker_machine.specs.Stream.{SpeakerState, Received, frame_in}
 use Rattle.mlb_speaker.proofs.Responded.{AreFrames, AreOf, answered_by, frames_begin, frames_sent, items_are_of, seen_later, turn_later}
 use Rattle.mlb_speaker.proofs.RespondedLines.{sided, watched_sides}
 use Rattle.mlb_speaker.proofs.ShownSteps.{IsSided, IsWatched, watched-append}
-use Rattle.mlb_speaker.specs.Lanes.{belongs_to}
 use Rattle.mlb_speaker.specs.ResponderClauses.{AreOfWatch, IsAnswered, answering}
 use Rattle.mlb_speaker.specs.Responding.{Answering, AreAnswered, HasShown, Turns, watch_events}
-use Rattle.mlb_speaker.specs.Stream.{SpeakerState, Received, frame_in}
 
 -- ---- the two lanes
 -- the watched lane sends its events as they are
@@ -62,7 +62,7 @@ frames_laned [] all of = tt
 frames_laned (item ∷ items) all of =
     (ap (λ (frame : Option Received). is_none frame) all.0.1 ∙ sym (ap (is_lane First) of.0), frames_laned items all.1 of.1)
 
-laned : (first : Option (List ℕ)) (items : List Item) → Begins belongs_to First first (items_of First items) → AreFrames (items_of Second items)
+pub laned : (first : Option (List ℕ)) (items : List Item) → Begins belongs_to First first (items_of First items) → AreFrames (items_of Second items)
     → AllByRecursion IsLaned items
 laned first items firsts seconds =
     let watched = items_of First items in
@@ -71,7 +71,7 @@ laned first items firsts seconds =
     (frames_laned (items_of Second items) seconds (items_are_of Second items))
 
 -- the events but the frames are those of the first lane
-events_of_first : (items : List Item) → AllByRecursion IsLaned items → watch_events items ≡ map (λ item. item.event) (items_of First items)
+pub events_of_first : (items : List Item) → AllByRecursion IsLaned items → watch_events items ≡ map (λ item. item.event) (items_of First items)
 events_of_first [] all = refl
 events_of_first (item ∷ items) all = by (is_lane First item.lane) (is_none (frame_in item.event)) all.0 (events_of_first items all.1) where
   by : (b c : Bool) → c ≡ b → watch_events items ≡ map (λ item. item.event) (items_of First items)

@@ -12,18 +12,18 @@ use Rattle.lane_drive.specs.Stops.{LeavesMachine}
 use Rattle.lane_run.specs.Outside.{SourceState}
 use Rattle.mlb_edge.specs.InputLines.{to_come}
 use Rattle.shown_board.specs.Boarded.{Boarded}
+use Rattle.speaker_machine.specs.Lanes.{belongs_to}
+use Rattle.speaker_machine.specs.Stream.{SpeakerState}
 use Rattle.mlb_speaker.specs.LaneClauses.{opened}
-use Rattle.mlb_speaker.specs.Lanes.{belongs_to}
 use Rattle.mlb_speaker.specs.ResponderClauses.{RespondsSo}
 use Rattle.mlb_speaker.specs.Responding.{Answering, HasShown, ShownState, shown_rules, unseen, unshown}
-use Rattle.mlb_speaker.specs.Stream.{SpeakerState}
 use Rattle.mlb_speaker.proofs.RespondedRun.{responds_short, responds_shown}
 use Rattle.mlb_speaker.proofs.RespondedShort.{writes_short}
 use Rattle.mlb_speaker.proofs.RespondedShown.{published_of_watch, turned_by}
 use Rattle.mlb_speaker.proofs.Unseen.{opens_unseen}
 
-module _ (start : SpeakerState) (files : LaneNames) (bytes : List ℕ → Option (List ℕ)) (safe : List ℕ → Bool) (seen seen' : FilesState)
-    (input input' : SourceState) (before after : Option (List ℕ)) (writes writes' : ℕ) (s : ShownState) (is : s ≡ unshown start)
+module _ {start : SpeakerState} {files : LaneNames} {bytes : List ℕ → Option (List ℕ)} {safe : List ℕ → Bool} {seen seen' : FilesState}
+    {input input' : SourceState} {before after : Option (List ℕ)} {writes writes' : ℕ} (s : ShownState) (is : s ≡ unshown start)
     (v w : Answering) (fresh : v ≡ unseen start) (board : Boarded Event)
     (left : LeavesMachine (turned_by v w) shown_rules s (HasShown board) (bytes files.first) (bytes files.second) (to_come drive.unread input.left)
     before after) where

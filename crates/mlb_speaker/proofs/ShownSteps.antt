@@ -11,11 +11,11 @@ use Rattle.lane_drive.specs.Laws.{IsRead}
 use Rattle.lane_mail.specs.declared.item.Item.{Item}
 use Rattle.line_run.specs.Machine.{Transition, Goes, Stops}
 use Rattle.shown_board.specs.Boarded.{Boarded}
-use Rattle.mlb_speaker.specs.Lanes.{belongs_to}
+use Rattle.speaker_machine.specs.Lanes.{belongs_to}
+use Rattle.speaker_machine.specs.Stream.{SpeakerState, Received, frame_in, step_by}
+use Rattle.speaker_machine.specs.declared.transcript.TranscriptEntry.{TranscriptEntry as SpeakerEntry}
 use Rattle.mlb_speaker.specs.Responding.{ShownEntry, ShownState, Tells, published_step, seen_in, shown_of, shown_step, shown_step_at, told_answer}
 use Rattle.mlb_speaker.specs.Responding.{watch_events, with_published}
-use Rattle.mlb_speaker.specs.Stream.{SpeakerState, Received, frame_in, step_by}
-use Rattle.mlb_speaker.specs.declared.transcript.TranscriptEntry.{TranscriptEntry as SpeakerEntry}
 
 -- ---- the two sides
 -- the item is a frame

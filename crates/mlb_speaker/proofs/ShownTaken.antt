@@ -20,11 +20,11 @@ use Rattle.line_run.specs.declared.halt.Refusal.{Refusal}
 use Rattle.line_run.specs.declared.halt.Refusal.TheVariants.{Stopped, Halted}
 use Rattle.mlb_edge.specs.Written.{Grows, Grows-none}
 use Rattle.shown_board.specs.Boarded.{Boarded}
-use Rattle.mlb_speaker.specs.Lanes.{name_of}
+use Rattle.speaker_machine.specs.Lanes.{name_of}
+use Rattle.speaker_machine.specs.Stream.{SpeakerState, Received, IsUnapplied, frame_in, speaker_rules, step_by}
+use Rattle.speaker_machine.specs.declared.transcript.TranscriptEntry.{TranscriptEntry}
 use Rattle.mlb_speaker.specs.Responding.{HasShown, ShownEntry, ShownState, Tells, answer_in, answer_step, published_step, seen_in, sent_answer, shown_of}
 use Rattle.mlb_speaker.specs.Responding.{shown_rules, shown_step_at, shown_text, told_answer, watch_events, with_published}
-use Rattle.mlb_speaker.specs.Stream.{SpeakerState, Received, IsUnapplied, frame_in, speaker_rules, step_by}
-use Rattle.mlb_speaker.specs.declared.transcript.TranscriptEntry.{TranscriptEntry}
 use Rattle.mlb_speaker.proofs.ShownSteps.{frame_first, watched-append, watched_first}
 
 -- ---- answers

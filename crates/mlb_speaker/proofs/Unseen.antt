@@ -2,8 +2,8 @@
 use Rattle.std.proofs.Common.{◌≡◌, ◌≢◌, ◌<◌, List, [], length, None, refl, arith}
 use mathlib.Core.List.{IsPrefix}
 use Rattle.kube_model.specs.declared.event.Event.{Event}
+use Rattle.speaker_machine.specs.Stream.{SpeakerState}
 use Rattle.mlb_speaker.specs.Responding.{Answering, HasShown, ShownState, unseen, unshown}
-use Rattle.mlb_speaker.specs.Stream.{SpeakerState}
 use Rattle.mlb_speaker.proofs.RespondedShown.{Opens}
 
 pub opens_unseen : (start : SpeakerState) (v : Answering) → v ≡ unseen start → Opens start v

@@ -1,56 +1,13 @@
 -- What the speaker owes at each status where all comes by one stream: the clauses of a run over lines, with the speaker's rules and the words' node and class.
-use Rattle.std.specs.Prelude.{◌≡◌, ◌⊎◌, ℕ, Bool, false, if◌then◌else◌, List, [], String, Option, Some, None}
-use Rattle.std.specs.List.{AllZip}
-use Rattle.ip_ranges.specs.Values.{AddressValue}
+use Rattle.std.specs.Prelude.{◌≡◌, ◌⊎◌, ℕ, List, String, Option, None}
 use Rattle.kube_model.specs.declared.status.Status.{Status}
 use Rattle.kube_model.specs.declared.status.Status.TheVariants.{Usage}
-use Rattle.command_options.specs.Lanes.{LaneNames}
 use Rattle.command_options.specs.Options.{texts_of}
 use Rattle.line_run.specs.Answered.{IsAnswered, MayBeAsked}
 use Rattle.line_run.specs.Clauses as run
 use Rattle.mlb_edge.specs.Reading.{Reading}
-use Rattle.mlb_speaker.specs.declared.local_node.Interface.{Interface}
-use Rattle.mlb_speaker.specs.Stream.{SpeakerState, first_state, speaker_rules, IsCause}
-use Rattle.mlb_speaker.specs.Heard as heard
-use Rattle.mlb_speaker.specs.Meant as meant
-use Rattle.mlb_speaker.specs.Told as told
-use Rattle.mlb_speaker.specs.Written as in_lines
-use Rattle.speaker_view.specs.View.{fresh}
-use Rattle.speaker_words.specs.Interface.{InterfaceValue}
-use Rattle.speaker_words.specs.Reading.{said_in}
-use Rattle.speaker_words.specs.Words.{Said, Say}
-
-abbrev pub nothing_said : Said
-nothing_said = record { node = []; class = None; interfaces = []; next_hop = None; next_hop_v6 = None; lanes = None; responder = false }
-
--- where the words aren't of the table there is no run
-abbrev pub begun_with : Option Said → SpeakerState
-begun_with None = first_state nothing_said
-begun_with (Some said) = first_state said
-
--- the state that a run begins with
-abbrev pub begun_by : {Z : Type 0} → List (String Z) → SpeakerState
-begun_by words = begun_with (said_in (texts_of words))
-
--- the lane files that words name; there are none where the words aren't of the table
-abbrev pub lanes_in : Option Said → Option LaneNames
-lanes_in None = None
-lanes_in (Some said) = said.lanes
-
-abbrev pub lanes_of : List (List ℕ) → Option LaneNames
-lanes_of words = lanes_in (said_in words)
-
--- whether words ask for a responder
-abbrev pub responds_in : Option Said → Bool
-responds_in None = false
-responds_in (Some said) = said.responder
-
--- the lane files where words ask for a responder, and where they don't
-abbrev pub responder_lanes_of : List (List ℕ) → Option LaneNames
-responder_lanes_of words = if responds_in (said_in words) then lanes_of words else None
-
-abbrev pub plain_lanes_of : List (List ℕ) → Option LaneNames
-plain_lanes_of words = if responds_in (said_in words) then None else lanes_of words
+use Rattle.speaker_machine.specs.Stream.{speaker_rules, IsCause}
+use Rattle.speaker_laws.specs.Clauses.{begun_by, lanes_of}
 
 -- so it is where the words name no lane files: all comes by one stream
 abbrev pub InStream : {Z : Type 0} → List (String Z) → Type 0 → Type 0
@@ -67,56 +24,3 @@ MayAskAnswered words name left may_read told input out =
 -- but the input, and there are no puts
 abbrev pub CanEnd : Status → Type 0
 CanEnd status = (status ≡ Usage) ⊎ run.CanEnd IsCause status
-
--- an interface of the speaker is one that the words name, with its hardware address
-abbrev pub IsNamed : Interface → InterfaceValue → Type 0
-IsNamed interface word = (interface.name ≡ word.name) × (interface.mac ≡ word.mac)
-
--- A run that begins so is that of what the words say: of the node and the class, by the interfaces in their order, with the next hops and over the
--- lane files. Nothing was shown yet.
-pub record SpeaksFor (said : Said) (s : SpeakerState) (lanes : Option LaneNames) : Type 0 where
-  pub node : s.local.node ≡ said.node
-  pub class : s.view ≡ fresh said.class
-  pub interfaces : AllZip IsNamed s.local.interfaces said.interfaces
-  pub hops : (hop : AddressValue) → said.next_hop ≡ Some hop → s.local.next_hops ≡ Some (record { v4 = hop; v6 = said.next_hop_v6 })
-  pub no_hops : said.next_hop ≡ None → s.local.next_hops ≡ None
-  pub begun : s ≡ first_state said
-  pub files : lanes ≡ said.lanes
-
-abbrev pub SpeaksForNamed : {Z : Type 0} → List (String Z) → Type 0
-SpeaksForNamed words = (said : Said) → Say (texts_of words) said → SpeaksFor said (begun_by words) (lanes_of (texts_of words))
-
--- after each line of a run the addresses with an announce line and no later withdraw line are those that the node announces
-abbrev pub TellsWhatIsAnnounced : {Z : Type 0} → List (String Z) → Type 0
-TellsWhatIsAnnounced words = told.TellsWhatIsAnnounced (begun_by words)
-
--- at each line of a run just what its event changes for the node is told, in its order
-abbrev pub TellsWhatChanges : {Z : Type 0} → List (String Z) → Type 0
-TellsWhatChanges words = told.TellsWhatChanges (begun_by words)
-
--- at each line of a run just the frames are sent that are meant of its event
-abbrev pub SendsWhatIsMeant : {Z : Type 0} → List (String Z) → Type 0
-SendsWhatIsMeant words = meant.SendsWhatIsMeant (begun_by words)
-
--- after each line of a run, with a next hop, what a peer of the configuration in force was told since it came, or since its AS numbers last
--- changed, makes its routes of the empty table
-abbrev pub TellsPeersTheirRoutes : {Z : Type 0} → List (String Z) → Type 0
-TellsPeersTheirRoutes words = heard.HearsItsRoutes (begun_by words)
-
--- of the lines that are written, as they stand in the text: they tell so what is announced
-abbrev pub WritesWhatIsAnnounced : {Z : Type 0} → List (String Z) → Type 0
-WritesWhatIsAnnounced words = in_lines.WritesWhatIsAnnounced (begun_by words)
-
--- and the update lines carry each peer's routes
-abbrev pub WritesPeersTheirRoutes : {Z : Type 0} → List (String Z) → Type 0
-WritesPeersTheirRoutes words = in_lines.WritesPeersTheirRoutes (begun_by words)
-
--- So is each run that the words begin, whatever its lines: it is that of what they say, and so much is told and written of them.
-pub record RunsTell {Z : Type 0} (words : List (String Z)) : Type 0 where
-  pub named : SpeaksForNamed words
-  pub told : TellsWhatIsAnnounced words
-  pub changes : TellsWhatChanges words
-  pub sends : SendsWhatIsMeant words
-  pub routes : TellsPeersTheirRoutes words
-  pub told_written : WritesWhatIsAnnounced words
-  pub routes_written : WritesPeersTheirRoutes words

@@ -16,10 +16,9 @@ use Rattle.lane_run.specs.Opening.{MayBeOpened}
 use Rattle.lane_run.specs.Outside.{SourceState, lane_state, outside}
 use Rattle.lane_run.specs.Waiting.{MayBeAwaited}
 use Rattle.line_run.specs.Clauses.{CanPass}
-use Rattle.mlb_speaker.specs.Clauses.{begun_by, lanes_of, plain_lanes_of}
-use Rattle.mlb_speaker.specs.LaneLaws as laws
-use Rattle.mlb_speaker.specs.Lanes.{belongs_to, lane_rules, name_of}
-use Rattle.mlb_speaker.specs.Stream.{IsCause}
+use Rattle.speaker_machine.specs.Lanes.{belongs_to, lane_rules, name_of}
+use Rattle.speaker_machine.specs.Stream.{IsCause}
+use Rattle.speaker_laws.specs.Clauses.{begun_by, lanes_of, plain_lanes_of}
 
 -- so it is of the two files that the words name
 abbrev pub OverLanes : {Z : Type 0} → List (String Z) → (LaneNames → Type 0) → Type 0
@@ -112,32 +111,3 @@ CanEndLanes NoMemory = ⊤
 
 abbrev pub LanesCanEnd : {Z : Type 0} → List (String Z) → Status → Type 0
 LanesCanEnd words status = OverLanes words (λ files. CanEndLanes status)
-
--- whatever items are taken, there are lines with their events, one for each, that are taken so in one stream; so what holds of what is told of
--- any lines holds of what is told over lanes
-abbrev pub LanesAreAsLines : {Z : Type 0} → List (String Z) → Type 0
-LanesAreAsLines words = laws.ItemsAreAsLines (begun_by words)
-
--- after any items the addresses with an announce line and no later withdraw line are those that the node announces
-abbrev pub LanesTellWhatIsAnnounced : {Z : Type 0} → List (String Z) → Type 0
-LanesTellWhatIsAnnounced words = laws.ItemsTellWhatIsAnnounced (begun_by words)
-
--- at each item just the frames are sent that are meant of its event
-abbrev pub LanesSendWhatIsMeant : {Z : Type 0} → List (String Z) → Type 0
-LanesSendWhatIsMeant words = laws.ItemsSendWhatIsMeant (begun_by words)
-
--- at each item just what its event changes for the node is told
-abbrev pub LanesTellWhatChanges : {Z : Type 0} → List (String Z) → Type 0
-LanesTellWhatChanges words = laws.ItemsTellWhatChanges (begun_by words)
-
--- after any items, with a next hop, each peer of the configuration in force has heard its routes
-abbrev pub LanesMakeRoutes : {Z : Type 0} → List (String Z) → Type 0
-LanesMakeRoutes words = laws.ItemsMakeRoutes (begun_by words)
-
--- So is each run over lanes that the words begin, whatever its items: it is as one in one stream, and so much is told of them.
-pub record LanesTell {Z : Type 0} (words : List (String Z)) : Type 0 where
-  pub as_lines : LanesAreAsLines words
-  pub told : LanesTellWhatIsAnnounced words
-  pub changes : LanesTellWhatChanges words
-  pub sends : LanesSendWhatIsMeant words
-  pub routes : LanesMakeRoutes words

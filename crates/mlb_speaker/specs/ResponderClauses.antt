@@ -1,6 +1,6 @@
 -- What the speaker owes where its words name two lane files and ask for a responder: the clauses of a run over lane files, where the frame lane sends
 -- the answers to its frames.
-use Rattle.std.specs.Prelude.{◌≡◌, ◌<◌, ◌^◌, ℕ, Bool, List, [], ◌∷◌, map, String, Option, Some, None, Ok}
+use Rattle.std.specs.Prelude.{◌≡◌, ◌≤◌, ◌<◌, ◌^◌, ℕ, Bool, List, [], ◌∷◌, ◌++◌, length, map, take, String, Option, Some, None, Ok}
 use Rattle.std.specs.List.{flat_map}
 use Rattle.command_options.specs.Options.{texts_of}
 use Rattle.command_options.specs.Lanes.{LaneNames}
@@ -23,15 +23,17 @@ use Rattle.lane_run.specs.Ran.{BothEnded}
 use Rattle.lane_run.specs.Outside.{SourceState, outside}
 use Rattle.lane_run.specs.Waiting.{MayBeAwaited}
 use Rattle.lane_run.specs.Watched.{Begins, Ended, StopsAs}
+use Rattle.line_run.specs.Machine.{Goes}
 use Rattle.line_run.specs.Run.{AreTaken}
+use Rattle.mlb_base.specs.Items.{IsIn}
 use Rattle.mlb_edge.specs.declared.lines.Line.{Line}
-use Rattle.mlb_speaker.specs.declared.transcript.TranscriptEntry.{TranscriptEntry}
-use Rattle.mlb_speaker.specs.Clauses.{begun_by, responder_lanes_of}
+use Rattle.speaker_machine.specs.declared.transcript.TranscriptEntry.{TranscriptEntry}
+use Rattle.speaker_machine.specs.Lanes.{belongs_to}
+use Rattle.speaker_machine.specs.Stream.{SpeakerState, Received, frame_in, speaker_rules}
+use Rattle.speaker_laws.specs.Clauses.{begun_by, responder_lanes_of}
 use Rattle.mlb_speaker.specs.LaneClauses.{opened}
-use Rattle.mlb_speaker.specs.Lanes.{belongs_to}
-use Rattle.mlb_speaker.specs.Responding.{AreAnswered, ShownEntry, Tells, Seen, ShownState, shown_rules, unshown, watch_events}
-use Rattle.mlb_speaker.specs.Responding.{answer_octets, seen_in, answer_in}
-use Rattle.mlb_speaker.specs.Stream.{SpeakerState, Received, frame_in, speaker_rules}
+use Rattle.mlb_speaker.specs.Responding.{AreAnswered, IsAnsweredBy, ShownEntry, Tells, Seen, ShownState, shown_rules, told_answer, unshown, watch_events}
+use Rattle.mlb_speaker.specs.Responding.{answer_octets, seen_in, answer_in, view_after_all}
 
 -- so it is of the two files that the words name, where they ask for a responder
 abbrev pub WithResponder : {Z : Type 0} → List (String Z) → (LaneNames → Type 0) → Type 0
@@ -129,13 +131,14 @@ told_at (Some received) entries = []
 abbrev pub told_of_watch : List (Told ShownEntry) → List TranscriptEntry
 told_of_watch told = flat_map (λ one. told_at (frame_in one.item.event) one.entries) told
 
--- Of items that are taken, there are lines with the events of the watched objects, one for each, that are taken so in one stream; and just these
--- events are published.
+-- Of items that are taken, there are lines with the events of the watched objects, one for each, that are taken so in one stream; just these events
+-- are published; and the speaker's view, by which addresses are announced, is that after them, so that an answer by all of them is one by this view.
 pub record IsAsLines (start : SpeakerState) (items : List Item) (t : ShownState) (told : List (Told ShownEntry)) : Type 0 where
   pub lines : List Line
   pub events : map (λ line. event_of_line line.bytes) lines ≡ map (λ event. Ok event) (watch_events items)
   pub taken : AreTaken speaker_rules lines start t.speaker (told_of_watch told)
   pub published : t.board.published ≡ watch_events items
+  pub view : t.speaker.view ≡ view_after_all start.view t.board.published
 
 -- so it is whatever items are taken, and so what holds of what is told of any lines holds of what is told of the watched objects
 abbrev pub WatchIsAsLines : SpeakerState → Type 0
@@ -150,3 +153,34 @@ ResponderIsAsLines words = WatchIsAsLines (begun_by words)
 abbrev pub AnswersAreTold : Type 0
 AnswersAreTold = (seen : ℕ) (answer : List ℕ) → seen < 2 ^ 64
     → (seen_in (answer_octets seen answer) ≡ seen) × (answer_in (answer_octets seen answer) ≡ answer)
+
+-- An item of the frame lane is taken behind these: its number and its answer are told, the events of that number were taken before it, and it is the
+-- answer by the view after them to the frame that the lane carries under the item's number.
+pub record AnswersBehind (start : SpeakerState) (second : Option (List ℕ)) (items : List Item) (item : Item) (answered : Received)
+    (entries : List ShownEntry) : Type 0 where
+  pub told : entries ≡ told_answer answered
+  pub few : seen_in answered.frame ≤ length (watch_events items)
+  pub frames : List Item
+  pub begins : Begins belongs_to Second second frames
+  pub frame : Item
+  pub inside : IsIn frames frame
+  pub number : item.number ≡ frame.number
+  pub received : Received
+  pub read : frame_in frame.event ≡ Some received
+  pub interface : answered.interface ≡ received.interface
+  pub right : IsAnsweredBy (view_after_all start.view (take (seen_in answered.frame) (watch_events items))) start.local received (answer_in answered.frame)
+
+-- So it is behind whatever items are taken, where the watched file tells its bytes.
+abbrev pub AnswersWhatIsTaken : SpeakerState → Type 0
+AnswersWhatIsTaken start = (bytes : List ℕ) (second : Option (List ℕ)) (items : List Item) (item : Item) (replies : List Line) (s t : ShownState)
+    (told : List (Told ShownEntry)) (answered : Received) (entries : List ShownEntry)
+    → (answering start (Some bytes)).Begins (Some bytes) second (items ++ item ∷ []) → AreItemsTaken shown_rules items replies (unshown start) s told
+    → shown_rules.take s item ≡ Goes t entries → frame_in item.event ≡ Some answered → AnswersBehind start second items item answered entries
+
+abbrev pub ResponderAnswers : {Z : Type 0} → List (String Z) → Type 0
+ResponderAnswers words = AnswersWhatIsTaken (begun_by words)
+
+-- So is each run with a responder that the words begin, whatever its items.
+pub record ResponderTells {Z : Type 0} (words : List (String Z)) : Type 0 where
+  pub as_lines : ResponderIsAsLines words
+  pub answers : ResponderAnswers words

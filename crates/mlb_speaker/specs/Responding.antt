@@ -14,13 +14,13 @@ use Rattle.line_run.specs.Text.{line_of}
 use Rattle.shown_board.specs.Boarded.{Boarded, Sight}
 use Rattle.speaker_view.specs.View.{view_after}
 use Rattle.speaker_view.specs.ViewValue.{ViewValue}
-use Rattle.mlb_speaker.specs.declared.transcript.TranscriptEntry.{TranscriptEntry as SpeakerEntry}
-use Rattle.mlb_speaker.specs.declared.transcript.TranscriptEntry.TheVariants.{Sent}
-use Rattle.mlb_speaker.specs.declared.local_node.LocalNode.{LocalNode}
-use Rattle.mlb_speaker.specs.Transcript.{entry_text}
-use Rattle.mlb_speaker.specs.Lanes.{name_of}
-use Rattle.mlb_speaker.specs.Meant.{IsAnswer}
-use Rattle.mlb_speaker.specs.Stream.{SpeakerState, Received, frame_in, step_by}
+use Rattle.speaker_machine.specs.declared.transcript.TranscriptEntry.{TranscriptEntry as SpeakerEntry}
+use Rattle.speaker_machine.specs.declared.transcript.TranscriptEntry.TheVariants.{Sent}
+use Rattle.speaker_machine.specs.declared.local_node.LocalNode.{LocalNode}
+use Rattle.speaker_machine.specs.Transcript.{entry_text}
+use Rattle.speaker_machine.specs.Lanes.{name_of}
+use Rattle.speaker_machine.specs.Stream.{SpeakerState, Received, frame_in, step_by}
+use Rattle.speaker_laws.specs.Meant.{IsAnswer}
 
 -- ---- what the frame lane sends
 -- by how many events a frame was answered, in eight octets, the most significant first, and the frame that is sent in answer, if there is one

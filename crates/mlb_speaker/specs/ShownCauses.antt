@@ -8,10 +8,10 @@ use Rattle.kube_model.specs.declared.status.Status.TheVariants.{NoMemory}
 use Rattle.lane_drive.specs.LaneRules.{IsItemLimit}
 use Rattle.lane_mail.specs.declared.item.Item.{Item}
 use Rattle.line_run.specs.Machine.{Transition, Goes, Stops}
-use Rattle.mlb_speaker.specs.declared.transcript.TranscriptEntry.{TranscriptEntry}
-use Rattle.mlb_speaker.specs.Causes.{item_causes}
+use Rattle.speaker_machine.specs.declared.transcript.TranscriptEntry.{TranscriptEntry}
+use Rattle.speaker_machine.specs.Causes.{item_causes}
+use Rattle.speaker_machine.specs.Stream.{SpeakerState, Received, frame_in, step_by}
 use Rattle.mlb_speaker.specs.Responding.{ShownState, ShownEntry, published_step, seen_in, shown_step, shown_step_at, shown_rules, told_answer}
-use Rattle.mlb_speaker.specs.Stream.{SpeakerState, Received, frame_in, step_by}
 
 -- where the event is published and the run stops at it, it stops so in one stream
 pub stops_as : (s : ShownState) (event : Event) (status : Status) (step : Transition SpeakerState TranscriptEntry) → published_step s event step ≡ Stops status

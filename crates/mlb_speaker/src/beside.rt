@@ -9,17 +9,15 @@ ghost use Rattle.lane_run.specs.Opening.{MayBeOpened};
 ghost use Rattle.lane_run.specs.Outside.{outside, source_state};
 ghost use Rattle.lane_run.specs.Waiting.{MayBeAwaited};
 ghost use Rattle.line_run.specs.Clauses.{AtWriteFault};
+ghost use Rattle.speaker_words.specs.Seen.{said_seen};
+ghost use Rattle.speaker_machine.specs.Lanes.{name_of};
+ghost use Rattle.speaker_machine.specs.Stream.{first_state};
 ghost use Rattle.mlb_speaker.specs.LaneClauses.{CanEndLanes};
-ghost use Rattle.mlb_speaker.specs.Lanes.{name_of};
 ghost use Rattle.mlb_speaker.specs.ResponderClauses.{RespondsSo};
 ghost use Rattle.mlb_speaker.specs.Responding.{shown_of, shown_rules, unseen, unshown};
-ghost use Rattle.mlb_speaker.specs.Stream.{first_state};
-ghost use Rattle.speaker_words.specs.Seen.{said_seen};
 
-use crate::local_node::LocalNode;
 use crate::responder::FrameAnswerer;
 use crate::shown::ShownSpeaker;
-use crate::speaker::Speaker;
 use command_options::LaneFiles;
 use kube_model::{Event, Status};
 use lane_drive::run_turned_files;
@@ -28,6 +26,7 @@ use line_run::PacedSource;
 use mlb_base::NoMemory;
 use mlb_edge::Sink;
 use program_exit::owned_word;
+use speaker_machine::{LocalNode, Speaker};
 use speaker_words::SpeakerWords;
 use std::alloc::Global;
 use std::thread::Threads;
@@ -89,10 +88,10 @@ pub(crate) fn run_responder<
         rt,
         alloc,
         lanes.first,
-        lanes.second,
-        files,
         &mut Unturned,
+        lanes.second,
         &mut answerer,
+        files,
         shown,
         input,
         out,

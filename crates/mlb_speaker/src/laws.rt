@@ -1,36 +1,7 @@
-//! What holds of every run, and of every view.
-ghost use Rattle.mlb_speaker.specs.Clauses.{RunsTell};
-ghost use Rattle.mlb_speaker.specs.Heard.{PeersHearTheirRoutes};
-ghost use Rattle.mlb_speaker.specs.LaneClauses.{LanesTell};
-ghost use Rattle.mlb_speaker.specs.Meant.{AllSendWhatIsMeant};
-ghost use Rattle.mlb_speaker.specs.Told.{LinesTellWhatIsAnnounced};
+//! What holds of every run with a responder.
+ghost use Rattle.mlb_speaker.specs.ResponderClauses.{ResponderTells};
 
-/// After any lines that are taken, the addresses with an announce line and no later withdraw line are exactly those that the node
-/// announces.
-pub fn lines_tell_what_is_announced()
-    ensures { LinesTellWhatIsAnnounced }
+/// The watched items are taken as lines of one stream, and answers are by events that were taken before them.
+pub(crate) fn responder_tells(words: &[String])
+    ensures { ResponderTells words.now }
 {}
-
-/// At each line just the frames are sent that are meant of its event: of a received frame its answer, of others the unsolicited frames
-/// of what is announced with it.
-pub fn all_send_what_is_meant()
-    ensures { AllSendWhatIsMeant }
-{}
-
-/// After any lines that are taken, with a next hop, what a peer of the configuration in force was told since it came, or since its
-/// AS numbers last changed, makes its routes of the empty table.
-pub fn peers_hear_their_routes()
-    ensures { PeersHearTheirRoutes }
-{}
-
-/// Each run that the words begin is that of what they say, and just what is so is told and written of its lines.
-pub(crate) fn runs_tell(words: &[String])
-    ensures { RunsTell words.now }
-{}
-
-/// And so is each run over two lanes.
-pub(crate) fn lanes_tell(words: &[String])
-    ensures { LanesTell words.now }
-{
-    runs_tell(words);
-}

@@ -2,20 +2,11 @@
 #![tactic(auto)]
 
 mod beside;
-mod changes;
-mod events;
-mod lanes;
 mod laws;
-mod local_node;
-mod output;
-mod peers;
 mod responder;
 mod run;
-mod sends;
 mod shown;
-mod speaker;
 mod stream;
-mod transcript;
 
 use program_exit::{exit_code, given_by};
 use run::run_speaker;

@@ -2,15 +2,15 @@
 ghost use Rattle.std.specs.Prelude.{◌≡◌, ◌+◌, ◌^◌, ◌<◌, ◌≤◌, ◌++◌, length, vec_len, vec_capacity, IfOk, IfSome, IfNone, OnErr};
 ghost use Rattle.std.specs.Int.{w64, to_be_bytes};
 ghost use mathlib.Core.List.{IsPrefix};
+ghost use Rattle.speaker_view.specs.View.{fresh};
 ghost use Rattle.mlb_speaker.specs.Responding.{Answers, IsAnsweredBy, Turns, view_after_all};
 ghost use Rattle.mlb_speaker.specs.ResponderSeen.{octets_of};
-ghost use Rattle.speaker_view.specs.View.{fresh};
 
-use crate::local_node::LocalNode;
 use kube_labels::Text;
 use kube_model::Event;
 use lane_run::Turner;
 use mlb_base::{ByteList, NoMemory};
+use speaker_machine::LocalNode;
 use std::alloc::Global;
 use std::marker::Model;
 use view_board::{Answer, Classed, Reply, Responder};
@@ -26,8 +26,8 @@ pub(crate) struct FrameAnswerer<J: Classed> {
 }
 
 impl<J: Classed> Model for FrameAnswerer<J> {
-    ghost use Rattle.mlb_speaker.specs.Responding.{Answering};
     ghost use Rattle.speaker_view.specs.View.{fresh};
+    ghost use Rattle.mlb_speaker.specs.Responding.{Answering};
 
     ghost Value = { Answering };
 

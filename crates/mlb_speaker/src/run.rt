@@ -5,24 +5,26 @@ ghost use Rattle.lane_drive.specs.Files.{files_state};
 ghost use Rattle.lane_run.specs.Outside.{source_state};
 ghost use Rattle.line_run.specs.Clauses.{AtReadFault, AtWriteFault, RunOwes};
 ghost use Rattle.command_options.specs.Options.{texts_of};
-ghost use Rattle.mlb_speaker.specs.Clauses.{begun_by, InStream, MayAskAnswered, CanEnd, SpeaksForNamed, TellsWhatIsAnnounced, TellsWhatChanges};
-ghost use Rattle.mlb_speaker.specs.Clauses.{SendsWhatIsMeant, TellsPeersTheirRoutes, WritesWhatIsAnnounced, WritesPeersTheirRoutes};
-ghost use Rattle.mlb_speaker.specs.LaneClauses.{EndsLanes, LanesMayOpen, LanesMayWait, LanesMayDrop, LanesComplete, LanesDone, LanesWriteOnly};
-ghost use Rattle.mlb_speaker.specs.LaneClauses.{AtLaneOpenFault, AtLaneReadFault, LeavesOtherFiles, LeavesInput, LanesCanEnd, LanesAreAsLines};
-ghost use Rattle.mlb_speaker.specs.LaneClauses.{LanesTellWhatIsAnnounced, LanesTellWhatChanges, LanesSendWhatIsMeant, LanesMakeRoutes};
-ghost use Rattle.mlb_speaker.specs.ResponderClauses.{AnswersAreTold, ResponderIsAsLines, ResponderMayDrop, ResponderMayWait, ResponderOwes};
-ghost use Rattle.mlb_speaker.specs.Stream.{IsCause, speaker_rules};
 ghost use Rattle.speaker_words.specs.Words.{AreKnown};
+ghost use Rattle.speaker_machine.specs.Stream.{IsCause, speaker_rules};
+ghost use Rattle.speaker_laws.specs.Clauses.{begun_by, SpeaksForNamed, TellsWhatIsAnnounced, TellsWhatChanges};
+ghost use Rattle.speaker_laws.specs.Clauses.{SendsWhatIsMeant, TellsPeersTheirRoutes, WritesWhatIsAnnounced, WritesPeersTheirRoutes};
+ghost use Rattle.speaker_laws.specs.LaneClauses.{LanesAreAsLines, LanesTellWhatIsAnnounced, LanesTellWhatChanges, LanesSendWhatIsMeant, LanesMakeRoutes};
+ghost use Rattle.mlb_speaker.specs.Clauses.{InStream, MayAskAnswered, CanEnd};
+ghost use Rattle.mlb_speaker.specs.LaneClauses.{EndsLanes, LanesMayOpen, LanesMayWait, LanesMayDrop, LanesComplete, LanesDone, LanesWriteOnly};
+ghost use Rattle.mlb_speaker.specs.LaneClauses.{AtLaneOpenFault, AtLaneReadFault, LeavesOtherFiles, LeavesInput, LanesCanEnd};
+ghost use Rattle.mlb_speaker.specs.ResponderClauses.{AnswersAreTold, ResponderAnswers, ResponderIsAsLines, ResponderMayDrop, ResponderMayWait, ResponderOwes};
 
 use crate::beside::run_responder;
-use crate::laws::{lanes_tell, runs_tell};
-use crate::speaker::Speaker;
+use crate::laws::responder_tells;
 use crate::stream::stream_speaker;
 use kube_model::Status;
 use lane_drive::run_lane_files;
 use lane_run::{MailWait, PacedWait, WatchedFiles};
 use line_run::PacedSource;
 use mlb_edge::Sink;
+use speaker_laws::{lanes_tell, runs_tell};
+use speaker_machine::Speaker;
 use speaker_words::speaker_words;
 use std::alloc::Global;
 use std::marker::Brand;
@@ -98,7 +100,7 @@ pub fn run_speaker<
     ensures told_written { WritesWhatIsAnnounced words.now }
     ensures routes_written { WritesPeersTheirRoutes words.now }
 
-    // Over two lane files: how the run ended, once both are open. The items of both are taken in the order in which they come, and of each the
+    // Over two lane files: how the run ended, once both are open. The items of both are taken, each file's in its order, and of each the
     // line that tells of it is written, and then what it comes to.
     ensures lanes { EndsLanes words.now result (F.bytes files.old) (F.safe files.old)
         (files_state (F.failed_opens files.old) (F.failed_reads files.old))
@@ -143,9 +145,13 @@ pub fn run_speaker<
         K.written K.faults out.old out.new }
 
     // What is told of an answer is what the item has; and whatever items are taken, there are lines with the watched events, one for each, that are taken
-    // so in one stream. So the clauses `told`, `changes`, `sends` and `routes` hold of what is told of the watched objects.
+    // so in one stream. So the clauses `told`, `changes`, `sends` and `routes` hold of what is told of the watched objects. The view by which addresses
+    // are announced is that after just the events that are published.
     ensures answers { AnswersAreTold }
     ensures responder_as_lines { ResponderIsAsLines words.now }
+
+    // Where the watched file tells its bytes, an answer that is taken is told as one by the events of items that were taken before it.
+    ensures answers_taken { ResponderAnswers words.now }
 
     // A lane isn't opened exactly where the opening of its file failed, and then nothing is read or written. It isn't read only where the
     // count of failed readings of its file rose.
@@ -168,6 +174,7 @@ pub fn run_speaker<
 {
     runs_tell(words);
     lanes_tell(words);
+    responder_tells(words);
     let Some(said) = speaker_words(words) else {
         return Status::Usage;
     };

@@ -8,15 +8,10 @@ ghost use Rattle.lane_run.specs.LaneInputs.{item as item_of};
 ghost use Rattle.line_run.specs.Machine.{Goes};
 ghost use Rattle.line_run.specs.Text.{Halts, line_of};
 ghost use Rattle.mlb_edge.specs.Written.{Grows};
-ghost use Rattle.mlb_speaker.specs.Lanes.{name_of};
+ghost use Rattle.speaker_machine.specs.Lanes.{name_of};
+ghost use Rattle.speaker_machine.specs.Stream.{IsUnapplied, frame_in, step_by};
 ghost use Rattle.mlb_speaker.specs.Responding.{sent_answer, shown_of, shown_rules, shown_text, with_published};
-ghost use Rattle.mlb_speaker.specs.Stream.{IsUnapplied, frame_in, step_by};
 
-use crate::events::apply_event;
-use crate::lanes::{name_of, write_item};
-use crate::output::write_sent;
-use crate::speaker::Speaker;
-use crate::transcript::TranscriptEntry;
 use kube_labels::Text;
 use kube_lines::seen_line;
 use kube_model::{Event, LaneName, Status};
@@ -27,6 +22,7 @@ use line_run::{Halt, Refusal, write_line};
 use mlb_base::{NoMemory, Sequence, TryCopy};
 use mlb_edge::{Line, Sink};
 use program_lines::bad_reply;
+use speaker_machine::{Speaker, TranscriptEntry, apply_event, name_of, write_item, write_sent};
 use std::alloc::Global;
 use view_board::{BoardWait, BoardWriter, Classed};
 
@@ -38,7 +34,7 @@ pub(crate) struct ShownSpeaker<'a, J: Classed, R: BoardWait> {
 }
 
 impl<J: Classed, R: BoardWait> Lanes for ShownSpeaker<'_, J, R> {
-    ghost use Rattle.mlb_speaker.specs.Lanes.{belongs_to};
+    ghost use Rattle.speaker_machine.specs.Lanes.{belongs_to};
 
     ghost belongs = { belongs_to };
 
@@ -49,7 +45,7 @@ impl<J: Classed, R: BoardWait> Lanes for ShownSpeaker<'_, J, R> {
 
 impl<J: Classed, R: BoardWait> LaneMachine for ShownSpeaker<'_, J, R> {
     ghost use Rattle.std.specs.Prelude.{refl};
-    ghost use Rattle.mlb_speaker.specs.Causes.{names_taken, names_differ};
+    ghost use Rattle.speaker_machine.specs.Causes.{names_taken, names_differ};
     ghost use Rattle.mlb_speaker.specs.Responding.{HasShown, ShownEntry, ShownState, shown_of, shown_rules};
     ghost use Rattle.mlb_speaker.specs.ShownCauses.{shown_causes, shown_awaits_none};
 
@@ -64,15 +60,15 @@ impl<J: Classed, R: BoardWait> LaneMachine for ShownSpeaker<'_, J, R> {
     ghost Behind = { λ shown. HasShown shown.writer };
 
     fn lane_name(lane: Lane) -> LaneName {
-        name_of(lane)
+        Speaker::lane_name(lane)
     }
 
     fn hears() -> bool {
-        false
+        Speaker::hears()
     }
 
     fn waits(&self) -> bool {
-        false
+        self.speaker.waits()
     }
 
     fn take_item<K: Sink>(

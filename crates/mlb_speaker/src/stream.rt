@@ -2,15 +2,16 @@
 ghost use Rattle.std.specs.Prelude.{◌≡◌, ◌↔◌, None};
 ghost use Rattle.line_run.specs.Clauses.{AtReadFault, AtWriteFault, RunOwes};
 ghost use Rattle.command_options.specs.Options.{texts_of};
-ghost use Rattle.mlb_speaker.specs.Clauses.{begun_by, lanes_of, InStream, MayAskAnswered, CanEnd, RunsTell};
-ghost use Rattle.mlb_speaker.specs.Stream.{IsCause, speaker_rules};
 ghost use Rattle.speaker_words.specs.Words.{AreKnown};
+ghost use Rattle.speaker_machine.specs.Stream.{IsCause, speaker_rules};
+ghost use Rattle.speaker_laws.specs.Clauses.{begun_by, lanes_of, RunsTell};
+ghost use Rattle.mlb_speaker.specs.Clauses.{InStream, MayAskAnswered, CanEnd};
 
-use crate::laws::runs_tell;
-use crate::speaker::Speaker;
 use kube_model::Status;
 use line_run::{PacedSource, run_machine};
 use mlb_edge::Sink;
+use speaker_laws::runs_tell;
+use speaker_machine::Speaker;
 use speaker_words::speaker_words;
 use std::alloc::Global;
 

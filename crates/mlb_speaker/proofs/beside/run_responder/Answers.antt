@@ -4,8 +4,8 @@ use Rattle.command_options.specs.Lanes.{lane_seen}
 use Rattle.lane_drive.specs.Files.{files_state}
 use Rattle.lane_run.specs.Outside.{source_state}
 use Rattle.speaker_words.specs.Seen.{said_seen}
-use Rattle.mlb_speaker.specs.Responding.{Answering, ShownState, shown_of, shown_rules, unseen, unshown}
-use Rattle.mlb_speaker.specs.Stream.{first_state}
+use Rattle.speaker_machine.specs.Stream.{first_state}
+use Rattle.mlb_speaker.specs.Responding.{Answering, ShownState, shown_of, shown_rules}
 use Rattle.mlb_speaker.proofs.LaneEnds.{can_end_of, shown_plain}
 use Rattle.mlb_speaker.proofs.RespondedRun.{responds_not, responds_short}
 use Rattle.mlb_speaker.proofs.RespondedShown.{turned_by}
@@ -29,30 +29,14 @@ returns-in_default-clause-responds g c =
 -- what was seen begins what is published
 pub returns-then-is_shown-clause-responds : goal.returns-then-is_shown-clause-responds
 returns-then-is_shown-clause-responds g c =
-    let start = first_state (said_seen c.args.said.now) in
-    let files = lane_seen c.args.lanes in
-    let bytes = g.F.WatchedFiles.bytes c.args.files.now in
-    let safe = g.F.WatchedFiles.safe c.args.files.now in
-    let seen = files_state (g.F.WatchedFiles.failed_opens c.args.files.now) (g.F.WatchedFiles.failed_reads c.args.files.now) in
-    let input = source_state (g.S.PacedSource.left c.args.input.now) (g.S.PacedSource.name c.args.input.now) (g.S.PacedSource.faults c.args.input.now) in
-    let before = g.K.Sink.written c.args.out.now in
-    let writes = g.K.Sink.faults c.args.out.now in
     let ran = c.run_turned_files-status in
-    let seen' = files_state (g.F.WatchedFiles.failed_opens ran.new.files) (g.F.WatchedFiles.failed_reads ran.new.files) in
-    let input' = source_state (g.S.PacedSource.left ran.new.input) (g.S.PacedSource.name ran.new.input) (g.S.PacedSource.faults ran.new.input) in
-    let after = g.K.Sink.written ran.new.out in
-    let writes' = g.K.Sink.faults ran.new.out in
     let s : ShownState = shown_of c.in-Ok.begun.0.speaker c.in-Ok.begun.0.writer in
-    let v = c.in-Ok.begun.1 in
     let w = ran.new.second_turner in
     let board = ran.result.1.writer in
-    let is : s ≡ unshown start = c.in-Ok.ensures.shown in
-    let fresh : v ≡ unseen start = c.in-Ok.ensures.unseen in
     let seen_is : c.seen.result ≡ w.sight.seen = c.seen.ensures ∙ ap (λ (a : Answering). a.sight.seen) c.answerer.view_is in
-    let left = ran.ensures.behind refl (stands_unshown start s is) in
     let begin : IsPrefix w.sight.seen board.published = rw (sym seen_is, sym c.tell.ensures) c.if-is_shown.ensures in
-    run_shown start files bytes safe seen seen' input input' before after writes writes' s is v w fresh board left ran.result.0 begin
-    ran.ensures.ended ran.ensures.done ran.ensures.only ran.ensures.complete
+    run_shown s c.in-Ok.ensures.shown c.in-Ok.begun.1 w c.in-Ok.ensures.unseen board (ran.ensures.behind refl (stands_unshown _ s c.in-Ok.ensures.shown))
+    ran.result.0 begin ran.ensures.ended ran.ensures.done ran.ensures.only ran.ensures.complete
 
 pub returns-then-is_shown-clause-can_end : goal.returns-then-is_shown-clause-can_end
 returns-then-is_shown-clause-can_end g c =
@@ -63,26 +47,11 @@ returns-then-is_shown-clause-can_end g c =
 -- it is more
 pub returns-else-is_shown-clause-responds : goal.returns-else-is_shown-clause-responds
 returns-else-is_shown-clause-responds g c =
-    let start = first_state (said_seen c.args.said.now) in
-    let files = lane_seen c.args.lanes in
-    let bytes = g.F.WatchedFiles.bytes c.args.files.now in
-    let safe = g.F.WatchedFiles.safe c.args.files.now in
-    let seen = files_state (g.F.WatchedFiles.failed_opens c.args.files.now) (g.F.WatchedFiles.failed_reads c.args.files.now) in
-    let input = source_state (g.S.PacedSource.left c.args.input.now) (g.S.PacedSource.name c.args.input.now) (g.S.PacedSource.faults c.args.input.now) in
-    let before = g.K.Sink.written c.args.out.now in
-    let writes = g.K.Sink.faults c.args.out.now in
     let ran = c.run_turned_files-status in
-    let seen' = files_state (g.F.WatchedFiles.failed_opens ran.new.files) (g.F.WatchedFiles.failed_reads ran.new.files) in
-    let input' = source_state (g.S.PacedSource.left ran.new.input) (g.S.PacedSource.name ran.new.input) (g.S.PacedSource.faults ran.new.input) in
-    let after = g.K.Sink.written ran.new.out in
-    let writes' = g.K.Sink.faults ran.new.out in
     let s : ShownState = shown_of c.in-Ok.begun.0.speaker c.in-Ok.begun.0.writer in
-    let v = c.in-Ok.begun.1 in
     let w = ran.new.second_turner in
     let board = ran.result.1.writer in
-    let is : s ≡ unshown start = c.in-Ok.ensures.shown in
-    let fresh : v ≡ unseen start = c.in-Ok.ensures.unseen in
     let seen_is : c.seen.result ≡ w.sight.seen = c.seen.ensures ∙ ap (λ (a : Answering). a.sight.seen) c.answerer.view_is in
-    let left = ran.ensures.behind refl (stands_unshown start s is) in
     let begin : IsPrefix board.published w.sight.seen = rw (sym seen_is, sym c.tell.ensures) c.if-is_shown.ensures.0 in
-    run_short start files bytes safe seen seen' input input' before after writes writes' s is v w fresh board left begin
+    run_short s c.in-Ok.ensures.shown c.in-Ok.begun.1 w c.in-Ok.ensures.unseen board (ran.ensures.behind refl (stands_unshown _ s c.in-Ok.ensures.shown))
+    begin

@@ -5,12 +5,12 @@ use Rattle.speaker_view.specs.ViewValue.{ViewValue}
 use Rattle.view_board.specs.Answers.{IsAnswer as IsViewAnswer}
 use Rattle.view_board.specs.declared.answer.Answer.{Answer}
 use Rattle.view_board.specs.declared.answer.Answer.TheVariants.{Silent}
-use Rattle.mlb_speaker.specs.declared.local_node.Interface.{Interface}
-use Rattle.mlb_speaker.specs.declared.local_node.LocalNode.{LocalNode}
+use Rattle.speaker_machine.specs.declared.local_node.Interface.{Interface}
+use Rattle.speaker_machine.specs.declared.local_node.LocalNode.{LocalNode}
+use Rattle.speaker_machine.specs.Sends.{interface_of}
+use Rattle.speaker_machine.specs.Stream.{Received}
 use Rattle.mlb_speaker.specs.Responding.{IsAnsweredBy, view_after_all}
 use Rattle.mlb_speaker.specs.ResponderSeen.{octets_of}
-use Rattle.mlb_speaker.specs.Sends.{interface_of}
-use Rattle.mlb_speaker.specs.Stream.{Received}
 use Rattle.mlb_speaker.proofs.AnsweredBy.{by-found, by-none}
 use Rattle.mlb_speaker.proofs.responder.reply_by.Goals as goal
 

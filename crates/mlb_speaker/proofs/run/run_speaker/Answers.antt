@@ -5,14 +5,13 @@ use Rattle.command_options.specs.Options.{texts_of}
 use Rattle.lane_drive.specs.Asking.{AnswersAll, HasStopped}
 use Rattle.lane_drive.specs.Clauses.{unread}
 use Rattle.lane_run.specs.Outside.{outside, source_state}
-use Rattle.mlb_speaker.specs.Clauses.{begun_by}
-use Rattle.mlb_speaker.specs.Lanes.{lane_rules}
-use Rattle.mlb_speaker.specs.Stream.{SpeakerState}
-use Rattle.mlb_speaker.specs.Responding.{shown_rules, unshown}
-use Rattle.mlb_speaker.proofs.Begun.{named-begun, with-responder, without-responder}
-use Rattle.mlb_speaker.proofs.LaneEnds.{asks_never, can_end, ends_none, writes_none}
-use Rattle.mlb_speaker.proofs.RespondedLines.{watch_as_lines}
 use Rattle.speaker_words.specs.Seen.{said_seen}
+use Rattle.speaker_machine.specs.Lanes.{lane_rules}
+use Rattle.speaker_machine.specs.Stream.{SpeakerState}
+use Rattle.speaker_laws.specs.Clauses.{begun_by}
+use Rattle.speaker_laws.proofs.Begun.{named-begun, with-responder, without-responder}
+use Rattle.mlb_speaker.specs.Responding.{shown_rules, unshown}
+use Rattle.mlb_speaker.proofs.LaneEnds.{asks_never, can_end, ends_none, writes_none}
 use Rattle.mlb_speaker.proofs.run.run_speaker.Goals as goal
 
 pub run_lane_files-requires-clause-opens : goal.run_lane_files-requires-clause-opens
@@ -81,18 +80,3 @@ run_responder-requires-clause-drops g c = λ _ _ items out stopped.
     let asked = (with-responder (texts_of c.args.words.now) (said_seen c.in-Some.said) c.in-Some.ensures.said c.if-said.true).0 in
     c.requires.responder_drop (lane_seen c.in-Some-lanes.lanes) (asked ∙ ap (option_map lane_seen) c.in-Some-lanes.is) items out
     (subst (λ (s : SpeakerState). HasStopped shown_rules (unshown s) before items (g.K.Sink.written out)) (sym begun.0) stopped))
-
-pub returns-in_default-clause-responder_as_lines : goal.returns-in_default-clause-responder_as_lines
-returns-in_default-clause-responder_as_lines g c = watch_as_lines (begun_by c.args.words.now)
-
-pub returns-in_default-lanes-clause-responder_as_lines : goal.returns-in_default-lanes-clause-responder_as_lines
-returns-in_default-lanes-clause-responder_as_lines g c = watch_as_lines (begun_by c.args.words.now)
-
-pub returns-then-said-clause-responder_as_lines : goal.returns-then-said-clause-responder_as_lines
-returns-then-said-clause-responder_as_lines g c = watch_as_lines (begun_by c.args.words.now)
-
-pub returns-in_default-new-clause-responder_as_lines : goal.returns-in_default-new-clause-responder_as_lines
-returns-in_default-new-clause-responder_as_lines g c = watch_as_lines (begun_by c.args.words.now)
-
-pub returns-clause-responder_as_lines : goal.returns-clause-responder_as_lines
-returns-clause-responder_as_lines g c = watch_as_lines (begun_by c.args.words.now)

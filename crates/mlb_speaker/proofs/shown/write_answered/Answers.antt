@@ -3,7 +3,7 @@ use Rattle.std.specs.List.{flat_map}
 use Rattle.line_run.specs.Text.{line_of}
 use Rattle.line_run.proofs.Texts.{Halts-first, ok_then, err_then}
 use Rattle.kube_lines.specs.OutputLines.{seen_text, took_text}
-use Rattle.mlb_speaker.specs.Lanes.{name_of}
+use Rattle.speaker_machine.specs.Lanes.{name_of}
 use Rattle.mlb_speaker.specs.Responding.{sent_answer, shown_text}
 use Rattle.mlb_speaker.proofs.shown.write_answered.Goals as goal
 

@@ -1,8 +1,8 @@
 use Rattle.std.proofs.Common.{◌≡◌, ◌∙◌, ap, subst}
 use Rattle.line_run.specs.Answered.{IsAnswered}
 use Rattle.line_run.specs.Clauses.{RunOwes}
-use Rattle.mlb_speaker.specs.Clauses.{begun_by, begun_with}
-use Rattle.mlb_speaker.specs.Stream.{IsCause, speaker_rules}
+use Rattle.speaker_machine.specs.Stream.{IsCause, speaker_rules}
+use Rattle.speaker_laws.specs.Clauses.{begun_by, begun_with}
 use Rattle.mlb_speaker.proofs.stream.stream_speaker.Goals as goal
 
 pub run_machine-status-requires : goal.run_machine-status-requires

@@ -3,8 +3,8 @@ use Rattle.std.proofs.lemmas.Result.{err_from_is_err_and}
 use Rattle.std.specs.Int.{w64, from_be_bytes}
 use Rattle.kube_model.specs.declared.event.Event.TheVariants.{Frame}
 use Rattle.lane_run.specs.LaneInputs.{item as item_of}
+use Rattle.speaker_machine.specs.Stream.{Received}
 use Rattle.mlb_speaker.specs.Responding.{answer_in, seen_in, shown_of}
-use Rattle.mlb_speaker.specs.Stream.{Received}
 use Rattle.mlb_speaker.proofs.ShownTaken.{answer_halted, answer_taken}
 use Rattle.mlb_speaker.proofs.shown.ShownSpeaker.take_answer.Goals as goal
 

@@ -1,5 +1,0 @@
-use Rattle.mlb_speaker.proofs.Meant.{all_send_what_is_meant}
-use Rattle.mlb_speaker.proofs.laws.all_send_what_is_meant.Goals as goal
-
-pub returns : goal.returns
-returns c = all_send_what_is_meant

@@ -1,0 +1,9 @@
+pub mod Begun
+pub mod ChangesTold
+pub mod Meant
+pub mod Quiet
+pub mod Telling
+pub mod Written
+pub mod Heard
+pub mod Fitting
+pub mod LaneLines

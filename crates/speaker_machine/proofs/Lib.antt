@@ -1,0 +1,3 @@
+pub mod NamedPeers
+pub mod Steps
+pub mod Parts

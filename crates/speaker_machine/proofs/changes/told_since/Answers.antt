@@ -1,0 +1,10 @@
+use Rattle.std.proofs.Common.{List, ◌++◌, ap, ◌∙◌}
+use Rattle.speaker_machine.specs.declared.transcript.TranscriptEntry.{TranscriptEntry}
+use Rattle.speaker_machine.specs.Updates.{updates_by}
+use Rattle.speaker_machine.proofs.changes.told_since.Goals as goal
+
+pub returns-clause-entries : goal.returns-clause-entries
+returns-clause-entries c =
+    λ before kept were. c.in-Ok.ensures.entries before were
+    ∙ ap (λ (es : List TranscriptEntry). es ++ updates_by before c.args.view.now c.args.local.now.node c.args.local.now.next_hops)
+    (c.in_ok-entries.ensures.entries before kept)

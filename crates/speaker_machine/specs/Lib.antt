@@ -1,0 +1,9 @@
+pub mod Causes
+pub mod Transcript
+pub mod Kept
+pub mod Lanes
+pub mod Seen
+pub mod Sends
+pub mod LocalNode
+pub mod Stream
+pub mod Updates

@@ -1,0 +1,92 @@
+//! The speaker, as a machine over lines.
+ghost use Rattle.std.specs.Prelude.{◌≡◌, IfOk};
+ghost use Rattle.speaker_words.specs.Seen.{said_seen};
+ghost use Rattle.speaker_machine.specs.Stream.{first_state};
+
+use crate::events::apply_event;
+use crate::local_node::LocalNode;
+use crate::output::write_entries;
+use bgp_routes::KeptRoutes;
+use kube_model::Status;
+use l2_elect::Announcers;
+use line_run::{Machine, Refusal};
+use mlb_base::NoMemory;
+use mlb_edge::{Line, Sink};
+use program_exit::owned_word;
+use program_lines::event_of_line;
+use speaker_view::View;
+use speaker_words::SpeakerWords;
+use std::alloc::Global;
+use std::marker::Model;
+
+/// Applies lines to a view, and tells what its node announces.
+#[derive(Drop)]
+pub struct Speaker {
+    pub(crate) view: View,
+    pub(crate) local: LocalNode,
+    // who announces each address by the view, once it is known: most events change it at few addresses
+    pub(crate) announcers: Option<Announcers>,
+    // the routes of all peers by the view, where there is a next hop, once they are known
+    pub(crate) routes: Option<KeptRoutes>,
+}
+
+impl Model for Speaker {
+    ghost use Rattle.l2_elect.specs.Kept.{AreKnown};
+    ghost use Rattle.speaker_machine.specs.Kept.{AreRoutesKnown};
+    ghost use Rattle.speaker_machine.specs.Stream.{SpeakerState, state_of};
+
+    ghost Value = { SpeakerState };
+
+    ghost view = { λ s. state_of s.view s.local };
+
+    ghost invariant = { λ s. AreKnown s.announcers s.view × AreRoutesKnown s.routes s.view s.local };
+}
+
+impl Speaker {
+    /// A speaker that was shown nothing, where the words say. It announces services of their class, or those without one.
+    pub fn new(alloc: Global, said: &SpeakerWords<'_>) -> Result<Speaker, NoMemory>
+        ensures { IfOk result (λ speaker. speaker ≡ first_state (said_seen said.now)) }
+    {
+        let class = owned_word(alloc, said.class)?;
+        let local = LocalNode::new(alloc, said)?;
+        Ok(Speaker {
+            view: View::new(alloc, class),
+            local,
+            announcers: None,
+            routes: None,
+        })
+    }
+}
+
+impl Machine for Speaker {
+    ghost use Rattle.speaker_machine.specs.Stream.{SpeakerState, speaker_rules, IsCause};
+    ghost use Rattle.speaker_machine.specs.Causes.{line_causes, end_causes};
+    ghost use Rattle.speaker_machine.specs.declared.transcript.TranscriptEntry.{TranscriptEntry as SpeakerEntry};
+
+    ghost State = { SpeakerState };
+
+    ghost TranscriptEntry = { SpeakerEntry };
+
+    ghost state = { λ speaker. speaker };
+
+    ghost rules = { speaker_rules };
+
+    ghost cause = { IsCause };
+
+    // The line's event is applied to the view, and what comes of it is written.
+    fn take<K: Sink>(&mut self, alloc: Global, line: Line, out: &mut K) -> Result<(), Refusal> {
+        let event = event_of_line(alloc, line)?;
+        let entries = apply_event(alloc, self, event)?;
+        let written = write_entries(alloc, out, entries.as_slice());
+        drop(entries);
+        Ok(written?)
+    }
+
+    fn end(&self) -> Result<Status, NoMemory> {
+        Ok(Status::Done)
+    }
+
+    ghost stops = { line_causes };
+
+    ghost ends = { end_causes };
+}

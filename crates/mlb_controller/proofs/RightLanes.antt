@@ -1,10 +1,10 @@
 -- What the items of two lanes lead to is a run of the core, so what is told of them is sound, and a run that is done leaves nothing waiting.
-use Rattle.std.proofs.Common.{◌≡◌, ℕ, List, [], ◌∷◌, ◌++◌, Option, None, Ok, refl, sym, subst, append_assoc}
+use Rattle.std.proofs.Common.{◌≡◌, ℕ, List, [], ◌∷◌, ◌++◌, Option, None, Ok, refl, sym}
 use Rattle.std.proofs.lemmas.List.{append-nil}
 use Rattle.std.specs.List.{AllByRecursion}
-use Rattle.core_drive.proofs.Goes.{begins_fresh, expiries_go_on, drives_are_sound}
+use Rattle.core_drive.proofs.Goes.{begins_fresh, expiries_go_on}
 use Rattle.core_drive.specs.Drive.{TranscriptEntry, expiring}
-use Rattle.core_drive.specs.Sound.{IsSound, LeadsTo}
+use Rattle.core_drive.specs.Sound.{LeadsTo}
 use Rattle.core_rules.specs.Core.{State, fresh}
 use Rattle.kube_events.specs.Event.{event_of_line}
 use Rattle.kube_model.specs.declared.event.Event.{Event}
@@ -21,10 +21,13 @@ use Rattle.lane_mail.specs.declared.lane.Lane.{Lane}
 use Rattle.lane_mail.specs.declared.lane.Lane.TheVariants.{First, Second}
 use Rattle.lane_run.specs.Watched.{Begins, StopsAs}
 use Rattle.lane_run.specs.declared.lane_end.LaneEnd.TheVariants.{Done}
+use Rattle.line_run.specs.Run.{AreTaken as AreLinesTaken}
 use Rattle.mlb_controller.specs.LaneClauses.{TellsSound, LanesAreWatches, LeavesServed}
 use Rattle.mlb_controller.specs.Lanes.{belongs_to, lane_arrival, lane_group, lane_rules}
-use Rattle.mlb_controller.specs.Sound.{IsSafeThroughout}
-use Rattle.mlb_controller.proofs.Rightful.{GoesOn, by_driven, arrival_goes, where_goes, safe_led, led_quiet}
+use Rattle.mlb_controller.specs.SoFar.{IsRightSoFar}
+use Rattle.mlb_controller.specs.Stream.{controller_rules}
+use Rattle.mlb_controller.proofs.Rightful.{GoesOn, by_driven, arrival_goes, led_quiet}
+use Rattle.mlb_controller.proofs.SoFar.{joined, led_right, lines_lead}
 use Rattle.mlb_base.proofs.Bools.{none_from}
 use Rattle.mlb_edge.specs.declared.lines.Line.{Line}
 
@@ -43,16 +46,12 @@ module _ (class : Option (List ℕ)) where
       arrival_goes class s bytes (Frame interface frame) none reads next entries told e leads
   item_goes Ignored s lane bytes none reads next entries told e leads = arrival_goes class s bytes Ignored none reads next entries told e leads
 
-  joined : (a b c : List TranscriptEntry) (s : State) → LeadsTo class ((a ++ b) ++ c) s → LeadsTo class (a ++ (b ++ c)) s
-  joined a b c s leads = subst (λ (told : List TranscriptEntry). LeadsTo class told s) (append_assoc a b c) leads
-
-  -- replies that are heard
-  heard_leads : (lines : List Line) (s t : State) (entries told : List TranscriptEntry) → AreHeard lane_rules lines s t entries → LeadsTo class told s
-      → LeadsTo class (told ++ entries) t
-  heard_leads [] s t entries told (same, none) leads = rw (same, none, append-nil told) leads
-  heard_leads (line ∷ lines) s t entries told (next, first, rest, waits, hears, more, is) leads =
-      let one = where_goes class s.out s line refl next first told hears leads in
-      rw is (joined told first rest t (heard_leads lines next t rest (told ++ first) more one))
+  -- replies that are heard are lines that are taken
+  heard_lines : (lines : List Line) (s t : State) (entries : List TranscriptEntry) → AreHeard lane_rules lines s t entries
+      → AreLinesTaken controller_rules lines s t entries
+  heard_lines [] s t entries heard = heard
+  heard_lines (line ∷ lines) s t entries (next, first, rest, waits, hears, more, is) =
+      (next, first, rest, hears, heard_lines lines next t rest more, is)
 
   -- an item that is taken, with the replies behind it
   one_leads : (item : Item) (replies : List Line) (s t : State) (entries told : List TranscriptEntry) → IsRead belongs_to item
@@ -60,7 +59,8 @@ module _ (class : Option (List ℕ)) where
       → LeadsTo class told s → LeadsTo class (told ++ entries) t
   one_leads item replies s t entries told read taken leads =
       let one = item_goes item.event s item.lane read.bytes (none_from s.out taken.quiet) read.read taken.next taken.first told taken.steps leads in
-      rw taken.entries_are (joined told taken.first taken.rest t (heard_leads replies taken.next t taken.rest (told ++ taken.first) taken.heard one))
+      let heard = heard_lines replies taken.next t taken.rest taken.heard in
+      rw taken.entries_are (joined class told taken.first taken.rest t (lines_lead class replies taken.next t taken.rest (told ++ taken.first) heard one))
 
   -- all that are taken
   taken_leads : (items : List Item) (replies : List Line) (s t : State) (told : List (Told TranscriptEntry)) (earlier : List TranscriptEntry)
@@ -69,7 +69,7 @@ module _ (class : Option (List ℕ)) where
   taken_leads [] replies s t told earlier read (none, same, nothing) leads = rw (same, nothing, append-nil earlier) leads
   taken_leads (item ∷ items) replies s t told earlier read (own, behind, next, entries, more, split, taken, rest, is) leads =
       let one = one_leads item own s next entries earlier read.0 taken leads in
-      rw is (joined earlier entries (entries_of more) t (taken_leads items behind next t more (earlier ++ entries) read.1 rest one))
+      rw is (joined class earlier entries (entries_of more) t (taken_leads items behind next t more (earlier ++ entries) read.1 rest one))
 
   -- from the start, where the items are beginnings of both lanes
   lanes_lead : (first second : Option (List ℕ)) (items : List Item) (replies : List Line) (t : State) (told : List (Told TranscriptEntry))
@@ -78,19 +78,17 @@ module _ (class : Option (List ℕ)) where
   lanes_lead first second items replies t told begin taken =
       taken_leads items replies (fresh class) t told [] (items_are_read belongs_to first second items begin) taken (begins_fresh class)
 
-  -- so what is told of them is sound and safe
+  -- so what is told of them is right
   pub any_sound : (first second : Option (List ℕ)) (items : List Item) (replies : List Line) (t : State) (told : List (Told TranscriptEntry))
       → AreBeginnings belongs_to first second items
-      → AreTaken lane_rules items replies (fresh class) t told → IsSound class (entries_of told) × IsSafeThroughout class (entries_of told)
-  any_sound first second items replies t told begin taken =
-      let led = lanes_lead first second items replies t told begin taken in
-      (drives_are_sound class (entries_of told) t led, safe_led class (entries_of told) t led)
+      → AreTaken lane_rules items replies (fresh class) t told → IsRightSoFar class (entries_of told) t
+  any_sound first second items replies t told begin taken = led_right class (entries_of told) t (lanes_lead first second items replies t told begin taken)
 
   pub lanes_sound : (first second replies before after : Option (List ℕ)) → OnlyWrites belongs_to lane_rules (fresh class) first second replies before after
       → TellsSound first second replies before after class
   lanes_sound first second replies before after only =
-      let (sound, safe) = any_sound first second only.items only.replies only.state only.told only.begin only.taken in
-      record { written = only; sound = sound; safe = safe }
+      let right = any_sound first second only.items only.replies only.state only.told only.begin only.taken in
+      record { written = only; sound = right.sound; safe = right.safe }
 
   -- all that a lane carries is a beginning of it
   all_begins : (lane : Lane) (left : Option (List ℕ)) (items : List Item) → StopsAs belongs_to lane left items Done → Begins belongs_to lane left items

@@ -7,6 +7,7 @@ use Rattle.line_run.specs.Answered.{IsAnswered, MayBeAsked}
 use Rattle.line_run.specs.Clauses as run
 use Rattle.core_rules.specs.Core.{State, fresh}
 use Rattle.mlb_edge.specs.Reading.{Reading}
+use Rattle.mlb_controller.specs.SoFar as so_far
 use Rattle.mlb_controller.specs.Sound as sound
 use Rattle.mlb_controller.specs.Stream.{controller_rules, IsCause}
 use Rattle.command_options.specs.Options.{texts_of}
@@ -42,6 +43,11 @@ RunsSound words left = sound.RunsSound (class_of (texts_of words)) left
 abbrev pub RunsSafe : {Z : Type 0} → List (String Z) → Option (List ℕ) → Type 0
 RunsSafe words left = sound.RunsSafe (class_of (texts_of words)) left
 
+-- whatever lines are taken from the start: what is told of them is sound, and safe in every world that explains it, and where no put is out behind
+-- them nothing is left waiting that could be served
+abbrev pub AnyAreRight : {Z : Type 0} → List (String Z) → Type 0
+AnyAreRight words = so_far.AnyAreRight (class_of (texts_of words))
+
 -- where the run is done, nothing is left waiting that could be served, and each settled service has its own
 abbrev pub EndsQuiet : {Z K : Type 0} → List (String Z) → Status → Option (List ℕ) → (K → Option (List ℕ)) → K → K → Type 0
 EndsQuiet words status left written out out' =
@@ -64,9 +70,11 @@ abbrev pub TrialIsSafe : {Z : Type 0} → List (String Z) → Type 0
 TrialIsSafe words = (seed steps : ℕ) → AskTrial (texts_of words) seed steps → IsSafeTrial seed
 
 -- So is each run that the words begin, whatever is written of it: it is of the class that they name, and the run of the bytes, where the source
--- tells them, is sound, and safe in every world that explains it; so is each trial.
+-- tells them, is sound, and safe in every world that explains it; so is what is told of any lines, which leaves nothing waiting where no put is out; and
+-- each trial is safe.
 pub record RunsRightly {Z : Type 0} (words : List (String Z)) (left : Option (List ℕ)) : Type 0 where
   pub named : HandlesNamed words
   pub sound : RunsSound words left
   pub safe : RunsSafe words left
+  pub any : AnyAreRight words
   pub trial_safe : TrialIsSafe words

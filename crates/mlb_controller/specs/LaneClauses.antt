@@ -28,6 +28,7 @@ use Rattle.mlb_edge.specs.Reading.{Reading}
 use Rattle.mlb_edge.specs.declared.lines.Line.{Line}
 use Rattle.mlb_controller.specs.Asked.{AskLanes}
 use Rattle.mlb_controller.specs.Lanes.{belongs_to, carries, lane_group, lane_rules, name_of}
+use Rattle.mlb_controller.specs.SoFar.{IsRightSoFar}
 use Rattle.mlb_controller.specs.Sound.{IsSafeThroughout, LeavesNothing}
 use Rattle.mlb_controller.specs.Stream.{IsCause}
 
@@ -86,11 +87,11 @@ abbrev pub LanesSound : (List ℕ → Option (List ℕ)) → (replies before aft
 LanesSound bytes replies before after class files = TellsSound (bytes files.first) (bytes files.second) replies before after class
 
 -- whatever items are taken from the start, of each lane a beginning of what some file carries, and with whatever replies: what is told of them is
--- sound, and safe in every world that explains it
+-- sound, and safe in every world that explains it, and where no put is out behind them nothing is left waiting
 abbrev pub LanesAreSound : Option (List ℕ) → LaneNames → Type 0
 LanesAreSound class files = (first second : Option (List ℕ)) (items : List Item) (replies : List Line) (t : State) (told : List (Told TranscriptEntry))
     → AreBeginnings belongs_to first second items → AreTaken lane_rules items replies (fresh class) t told
-    → IsSound class (entries_of told) × IsSafeThroughout class (entries_of told)
+    → IsRightSoFar class (entries_of told) t
 
 -- of the configuration and the services a lane carries just that which it is the watch of
 abbrev pub LanesAreWatches : Type 0

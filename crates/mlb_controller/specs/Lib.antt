@@ -4,6 +4,7 @@ pub mod Clauses
 pub mod LaneClauses
 pub mod Lanes
 pub mod Output
+pub mod SoFar
 pub mod Sound
 pub mod Stream
 pub mod Trial

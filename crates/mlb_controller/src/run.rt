@@ -13,7 +13,7 @@ ghost use Rattle.mlb_controller.specs.LaneClauses.{OverLanes, LanesMayAsk, Lanes
 ghost use Rattle.mlb_controller.specs.LaneClauses.{LanesComplete, LanesDone, LanesSound, LanesAreSound, LanesAreWatches};
 ghost use Rattle.mlb_controller.specs.LaneClauses.{LanesQuiet, LaneCanEnd, LaneOpenFault, LaneReadFault, LaneOthers};
 ghost use Rattle.mlb_controller.specs.Clauses.{begun_by, MayAskAnswered, CanEnd, WritesSound, RunsSound, RunsSafe};
-ghost use Rattle.mlb_controller.specs.Clauses.{EndsQuiet, HandlesNamed, WritesTrial, LeavesInput, TrialIsSafe};
+ghost use Rattle.mlb_controller.specs.Clauses.{AnyAreRight, EndsQuiet, HandlesNamed, WritesTrial, LeavesInput, TrialIsSafe};
 ghost use Rattle.mlb_controller.specs.Stream.{IsCause, controller_rules};
 
 use crate::lane_files::lanes_controller;
@@ -73,9 +73,10 @@ pub fn run_controller<
 
     // Over any input at all a beginning of the text of some lines' run was written, and that run is
     // sound: each put, each reason and each note is right by the transcript before it, no key is
-    // chosen for too early, and at each moment two services that have or may have one address share
-    // it by the terms of their claims, or the cluster showed it so. So is the run of the input, where the
-    // source tells its bytes.
+    // chosen for too early, and an address that is put is marked by the terms of its service, and shared by
+    // these with whoever else has or may have it. At each moment two services that have or may have one
+    // address share it by the terms of their claims, or the cluster showed it so. So is the run of the
+    // input, where the source tells its bytes.
     ensures only { WritesSound words.now K.written out.old out.new }
     ensures sound { RunsSound words.now (S.left input.old) }
 
@@ -83,6 +84,10 @@ pub fn run_controller<
     // that explains what was read so far, services recorded with one address share it by the terms of their marks, where both have
     // one, at each moment, and also where a last put that has no reply yet reached the store.
     ensures safe { RunsSafe words.now (S.left input.old) }
+
+    // However far a run has come, also where it is stopped from outside: what is told of any lines that were taken is sound and safe so. Where
+    // no put is out behind them no service is left waiting that could be served: so, with what `live` asks, whenever the next event is waited for.
+    ensures any { AnyAreRight words.now }
 
     // Where the run is done, no service is left waiting that could be served. Each that is settled has what serves it, or a reason that
     // holds now; or none, where it isn't of type LoadBalancer.
@@ -115,7 +120,8 @@ pub fn run_controller<
     ensures lanes_sound { OverLanes words.now (LanesSound (F.bytes files.old) (S.left input.old) (K.written out.old) (K.written out.new)) }
 
     // However far a run has come when it is stopped from outside: what is told of any items that were taken, with any replies, is sound and safe
-    // so. That just their text stands written wherever more is waited for is what `lanes_wait` and `lanes_live` ask.
+    // so, and leaves no service waiting that could be served where no put is out behind them. That just their text stands written wherever more is
+    // waited for, and that no put is out where the next item is, is what `lanes_wait` and `lanes_live` ask.
     ensures lanes_any { OverLanes words.now LanesAreSound }
 
     // The group whose list is begun anew where a lane's watch has expired is that of the configuration and the services which the lane carries.

@@ -48,7 +48,8 @@ pub fn stream_controller<S: PacedSource<K>, K: Sink>(
     ensures trial { WritesTrial words.now result K.written out.old out.new }
     ensures trial_unread { LeavesInput words.now input.old input.new }
 
-    // Whatever was written, the run of the input is of the class of the words, sound and safe; and so is a trial.
+    // Whatever was written, the run of the input is of the class of the words, sound and safe; what is told of any lines is so, and leaves
+    // nothing waiting where no put is out; and a trial is safe.
     ensures right { RunsRightly words.now (S.left input.old) }
 {
     runs_rightly::<S, K>(words, input);

@@ -1,8 +1,0 @@
-use Rattle.mlb_speaker.proofs.Steps.{entries-told}
-use Rattle.mlb_speaker.proofs.changes.changed_entries.Goals as goal
-
-pub returns-clause-entries : goal.returns-clause-entries
-returns-clause-entries c =
-    entries-told c.entries_for-entries.result c.args.local.now c.args.note c.args.announcers.now c.args.view.now c.in-Ok.changes.withdrawn.keys
-    c.in-Ok.changes.announced.keys
-    c.in-Ok.ensures.withdrawn c.in-Ok.ensures.announced c.entries_for-entries.ensures

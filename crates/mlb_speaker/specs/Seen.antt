@@ -1,6 +1,0 @@
--- A frame as contracts see it.
-use Rattle.mlb_speaker.specs.declared.events.Received.{Received as ReceivedFrame}
-use Rattle.mlb_speaker.specs.Stream.{Received}
-
-abbrev pub received_seen : ReceivedFrame → Received
-received_seen r = record { interface = r.interface.now; frame = r.frame.now }

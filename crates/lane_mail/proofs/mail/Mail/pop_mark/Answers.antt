@@ -43,8 +43,8 @@ returns-in-First-clause-ends g c =
 pub returns-in-Second-clause-ends : goal.returns-in-Second-clause-ends
 returns-in-Second-clause-ends g c =
     let was = ap (λ (r : Receiver). r.second_end) (sym c.pass.view_is) in
-    let none = none_before Second (view c.pass.inside.marks) (view c.pop_as.new.pass) c.in-Some.mark c.pass.inside.second_end c.in-Some.ensures.rule c.in-Second.is
-    c.pass.invariant.second_marked in
+    let none = none_before Second (view c.pass.inside.marks) (view c.pop_as.new.pass) c.in-Some.mark c.pass.inside.second_end c.in-Some.ensures.rule
+    c.in-Second.is c.pass.invariant.second_marked in
     record {
       first = λ count e. ap (λ (r : Receiver). r.first_end) c.pass.view_is ∙ e;
       second = stays_none c.args.pass.now.second_end c.in-Some.mark.count (was ∙ none);

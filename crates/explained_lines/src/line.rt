@@ -1,5 +1,5 @@
 //! The lines that say what lines are read as.
-ghost use Rattle.std.specs.Prelude.{◌≡◌, IfOk};
+ghost use Rattle.std.specs.Prelude.{◌≡◌, IfOk, Some, None};
 ghost use Rattle.std.specs.Option.{option_map};
 ghost use Rattle.serde_json.specs.View.{view};
 ghost use Rattle.explained_lines.specs.Lines.{object_data, list_data, plain_data, ignored_data, name_of, namespace_of, namespace_in, ending_kind, event_data};
@@ -13,6 +13,46 @@ use mlb_base::NoMemory;
 use serde_json::{Value, json};
 use std::alloc::Global;
 
+/// An object of no namespace is there or gone, as `what` says.
+fn unplaced_value(
+    alloc: Global,
+    number: u64,
+    kind: Kind,
+    name: &Text,
+    what: &str,
+) -> Result<Value, NoMemory>
+    ensures { IfOk result (λ v. view v ≡ object_data number kind None name.now what.now) }
+{
+    Ok(json!(in alloc; {
+        "kind": kind.as_str(),
+        "line": number,
+        "name": name.as_str(),
+        "op": "event",
+        "type": what
+    })?)
+}
+
+/// The same of an object of a namespace.
+fn placed_value(
+    alloc: Global,
+    number: u64,
+    kind: Kind,
+    namespace: &Text,
+    name: &Text,
+    what: &str,
+) -> Result<Value, NoMemory>
+    ensures { IfOk result (λ v. view v ≡ object_data number kind (Some namespace.now) name.now what.now) }
+{
+    Ok(json!(in alloc; {
+        "kind": kind.as_str(),
+        "line": number,
+        "name": name.as_str(),
+        "namespace": namespace.as_str(),
+        "op": "event",
+        "type": what
+    })?)
+}
+
 /// An object is there or gone, as `what` says.
 fn object_value(
     alloc: Global,
@@ -25,21 +65,8 @@ fn object_value(
     ensures { IfOk result (λ v. view v ≡ object_data number kind (option_map (λ t. t.now) namespace.entry) name.now what.now) }
 {
     match namespace {
-        Some(namespace) => Ok(json!(in alloc; {
-            "kind": kind.as_str(),
-            "line": number,
-            "name": name.as_str(),
-            "namespace": namespace.as_str(),
-            "op": "event",
-            "type": what
-        })?),
-        None => Ok(json!(in alloc; {
-            "kind": kind.as_str(),
-            "line": number,
-            "name": name.as_str(),
-            "op": "event",
-            "type": what
-        })?),
+        Some(namespace) => placed_value(alloc, number, kind, namespace, name, what),
+        None => unplaced_value(alloc, number, kind, name, what),
     }
 }
 

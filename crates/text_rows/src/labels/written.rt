@@ -1,4 +1,4 @@
-//! Labels and expressions as they are written in a line.
+//! Labels and expressions as they are written in a row.
 
 use kube_labels::{Expression, ExpressionList, Labels, Text, TextList};
 use mlb_base::{NoMemory, Sequence};

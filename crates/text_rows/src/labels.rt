@@ -1,21 +1,18 @@
-//! Reads lines, and prints whether selectors match labels, or why a selector is refused. A line is a word, a blank and
-//! fields with a bar between them; blanks round a field are dropped:
+//! Whether selectors match labels, or why a selector is refused. A row is a word, a blank and fields with a bar between them; blanks round
+//! a field are dropped:
 //!
 //! - `matches HELD|LABELS|EXPRESSIONS`: whether the selector of these labels and expressions matches those held.
 //! - `any HELD|LABELS|LABELS ..`: whether one of the selectors does, each of labels alone.
 //! - `labels HELD`: the labels as they are kept.
 //!
 //! Labels are written `name=value,name=value`, and expressions `key operator value,value;key operator`.
-#![tactic(auto)]
 
 mod written;
 
-use answer_lines::{Answering, answer_lines};
 use anyhow::{Result, bail};
 use kube_labels::{Labels, Selector, SelectorList, any_matches};
 use mlb_base::TryCopy;
 use std::alloc::Global;
-use std::io;
 use written::{expressions, labels};
 
 fn selector_of(alloc: Global, wanted: &str, written: &str) -> Result<Selector> {
@@ -34,7 +31,7 @@ fn copy_told(alloc: Global, selector: &Selector, held: &Labels) -> Result<String
     let copied = selector.copy()?;
     let matches = copied.matches(held);
     drop(copied);
-    Ok(format!(in alloc; "{matches}\n")?)
+    Ok(format!(in alloc; "{matches}")?)
 }
 
 fn selected_told(alloc: Global, selector: &Selector, held: &str) -> Result<String> {
@@ -75,7 +72,7 @@ fn one_told(alloc: Global, written: Option<&str>, held: &Labels) -> Result<Strin
     let matches = any_matches(&selectors, held);
     drop(selectors);
     pushed?;
-    Ok(format!(in alloc; "{matches}\n")?)
+    Ok(format!(in alloc; "{matches}")?)
 }
 
 fn any_told(alloc: Global, text: &str) -> Result<String> {
@@ -95,7 +92,6 @@ fn labels_told(alloc: Global, held: &Labels) -> Result<String> {
         let label = format!(in alloc; "{name}={value};")?;
         text.push_str(label.as_str())?;
     }
-    text.push('\n')?;
     Ok(text)
 }
 
@@ -114,22 +110,12 @@ fn held_told(alloc: Global, written: &str) -> Result<String> {
     told
 }
 
-/// The program keeps nothing from line to line.
-#[derive(Drop)]
-struct Matching;
-
-impl Answering for Matching {
-    fn answer(&mut self, alloc: Global, line: &str) -> Result<String> {
-        let (word, text) = line.split_once(' ').unwrap_or((line, ""));
-        match word {
-            "matches" => matches_told(alloc, text),
-            "any" => any_told(alloc, text),
-            "labels" => held_told(alloc, text),
-            _ => bail!("no such word"),
-        }
+pub(crate) fn told(alloc: Global, row: &str) -> Result<String> {
+    let (word, text) = row.split_once(' ').unwrap_or((row, ""));
+    match word {
+        "matches" => matches_told(alloc, text),
+        "any" => any_told(alloc, text),
+        "labels" => held_told(alloc, text),
+        _ => bail!("no such word"),
     }
-}
-
-fn main(rt: HostRuntime) -> io::Result<()> {
-    answer_lines(&rt, rt.alloc(), &mut Matching)
 }

@@ -1,6 +1,6 @@
 //! How a program's end is told: the exit status, and the line that says why.
 
-use crate::example_put;
+use crate::lines::example_put;
 use kube_model::{LaneName, Status, What};
 use mlb_base::Sequence;
 use std::alloc::Global;

@@ -1,6 +1,5 @@
-//! Reads lines, and prints what each is read as: an event, or what is wrong with it. A line that is no event but an
-//! object with its kind is read as that object is, whatever its version.
-#![tactic(auto)]
+//! What events are read as, or what is wrong with them. A row is a line of a watch; one that is no event but an object with its kind is
+//! read as that object is, whatever its version.
 
 mod objects;
 mod parts;
@@ -13,7 +12,6 @@ use objects::show_object;
 use serde_json::Value;
 use std::alloc::Global;
 use std::io;
-use std::io::{BufRead, BufReader};
 
 fn show_event(rt: &impl Print, alloc: Global, event: &Event) -> io::Result<()> {
     match event {
@@ -108,7 +106,7 @@ fn show_fault(rt: &impl Print, alloc: Global, line: &[u8], fault: &EventFault) -
     }
 }
 
-fn show_line(rt: &impl Print, alloc: Global, line: &[u8]) -> io::Result<()> {
+pub(crate) fn show_row(rt: &impl Print, alloc: Global, line: &[u8]) -> io::Result<()> {
     match read_event(alloc, line) {
         Ok(event) => {
             let shown = show_copy(rt, alloc, &event);
@@ -121,12 +119,4 @@ fn show_line(rt: &impl Print, alloc: Global, line: &[u8]) -> io::Result<()> {
             shown
         }
     }
-}
-
-fn main(rt: HostRuntime) -> io::Result<()> {
-    let alloc = rt.alloc();
-    for line in BufReader::new(alloc, rt.reader())?.split(alloc, b'\n') {
-        show_line(&rt, alloc, line?.as_slice())?;
-    }
-    Ok(())
 }

@@ -1,5 +1,4 @@
-//! Reads lines, and prints what each is read as, or the fault of its first text that can't be read. A line is a word, a
-//! blank and a text:
+//! What addresses and entries are read as, or the fault of the first text that can't be read. A row is a word, a blank and a text:
 //!
 //! - `address TEXT`: the number, in hexadecimal, and the text that is printed.
 //! - `padded TEXT`: the same, where blanks round the text are dropped.
@@ -7,23 +6,20 @@
 //! - `entry TEXT`: the lowest and the highest address, and behind the least length of a prefix the cover.
 //! - `holds ENTRY;ADDRESS`: whether the address is one of the entry's.
 //! - `overlaps ENTRY;ENTRY`: whether the entries have an address in common.
-#![tactic(auto)]
 
 ghost use Rattle.std.specs.Prelude.{◌<◌, ◌^◌};
 ghost use Rattle.ip_ranges.specs.Values.{width_of};
 
-use answer_lines::{Answering, answer_lines};
 use anyhow::{Result, bail};
 use ip_ranges::{
     Address, Family, Span, cover, is_buggy, least_length, parse_address, parse_entry,
     parse_padded_address, print_address, write_address,
 };
 use std::alloc::Global;
-use std::io;
 
 fn address_told(alloc: Global, address: &Address) -> Result<String> {
     let text = print_address(alloc, address)?;
-    Ok(format!(in alloc; "{:x} {text}\n", address.number)?)
+    Ok(format!(in alloc; "{:x} {text}", address.number)?)
 }
 
 /// Appends the text of the address that has this number.
@@ -49,40 +45,29 @@ fn entry_told(alloc: Global, span: &Span) -> Result<String> {
         push_address(&mut text, prefix.family, prefix.number)?;
         text.push_str(format!(in alloc; "/{}", prefix.length)?.as_str())?;
     }
-    text.push('\n')?;
     Ok(text)
 }
 
 fn truth(alloc: Global, holds: bool) -> Result<String> {
-    Ok(format!(in alloc; "{holds}\n")?)
+    Ok(format!(in alloc; "{holds}")?)
 }
 
-/// The program keeps nothing from line to line.
-#[derive(Drop)]
-struct Addresses;
-
-impl Answering for Addresses {
-    fn answer(&mut self, alloc: Global, line: &str) -> Result<String> {
-        let (word, text) = line.split_once(' ').unwrap_or((line, ""));
-        let (first, second) = text.split_once(';').unwrap_or((text, ""));
-        match word {
-            "address" => address_told(alloc, &parse_address(text)?),
-            "padded" => address_told(alloc, &parse_padded_address(text)?),
-            "buggy" => truth(alloc, is_buggy(&parse_address(text)?)),
-            "entry" => entry_told(alloc, &parse_entry(text)?),
-            "holds" => {
-                let span = parse_entry(first)?;
-                truth(alloc, span.contains(&parse_address(second)?))
-            }
-            "overlaps" => {
-                let span = parse_entry(first)?;
-                truth(alloc, span.overlaps(&parse_entry(second)?))
-            }
-            _ => bail!("no such word"),
+pub(crate) fn told(alloc: Global, row: &str) -> Result<String> {
+    let (word, text) = row.split_once(' ').unwrap_or((row, ""));
+    let (first, second) = text.split_once(';').unwrap_or((text, ""));
+    match word {
+        "address" => address_told(alloc, &parse_address(text)?),
+        "padded" => address_told(alloc, &parse_padded_address(text)?),
+        "buggy" => truth(alloc, is_buggy(&parse_address(text)?)),
+        "entry" => entry_told(alloc, &parse_entry(text)?),
+        "holds" => {
+            let span = parse_entry(first)?;
+            truth(alloc, span.contains(&parse_address(second)?))
         }
+        "overlaps" => {
+            let span = parse_entry(first)?;
+            truth(alloc, span.overlaps(&parse_entry(second)?))
+        }
+        _ => bail!("no such word"),
     }
-}
-
-fn main(rt: HostRuntime) -> io::Result<()> {
-    answer_lines(&rt, rt.alloc(), &mut Addresses)
 }

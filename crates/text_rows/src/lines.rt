@@ -1,8 +1,7 @@
-//! Reads lines, and writes the lines that may be written of what is read: of a service its put, its record, a pending
-//! line and two lines for each of its addresses; of a pool a refusal; of a frame its bytes, to an interface and to a
-//! peer. A line that is no object and no frame is read as the reply to a put of version 2. Then come the lines that
-//! no event is needed for, and how a program's end is told.
-#![tactic(auto)]
+//! The lines that may be written of what is read. A row is a line of a watch: of a service its put, its record, a pending line and two lines
+//! for each of its addresses are written; of a pool a refusal; of a frame its bytes, to an interface and to a peer. The row `fixed` stands
+//! for the lines that no event is needed for, and `statuses` for how a program's end is told. Any other row is read as the reply to a put of
+//! version 2.
 
 mod statuses;
 mod written;
@@ -14,7 +13,6 @@ use mlb_base::NoMemory;
 use statuses::show_statuses;
 use std::alloc::Global;
 use std::io;
-use std::io::{BufRead, BufReader};
 use written::{show_fixed, show_frame, show_object};
 
 /// A put of `default/a` at version 2.
@@ -66,11 +64,10 @@ fn show_line(rt: &impl Print, alloc: Global, line: &[u8]) -> io::Result<()> {
     }
 }
 
-fn main(rt: HostRuntime) -> io::Result<()> {
-    let alloc = rt.alloc();
-    for line in BufReader::new(alloc, rt.reader())?.split(alloc, b'\n') {
-        show_line(&rt, alloc, line?.as_slice())?;
+pub(crate) fn show_row(rt: &impl Print, alloc: Global, row: &str) -> io::Result<()> {
+    match row {
+        "fixed" => show_fixed(rt, alloc),
+        "statuses" => show_statuses(rt, alloc),
+        _ => show_line(rt, alloc, row.as_bytes()),
     }
-    show_fixed(&rt, alloc)?;
-    show_statuses(&rt, alloc)
 }

@@ -1,6 +1,6 @@
 //! What is read of objects, in short.
 
-use crate::parts::{show_addresses, show_labels, show_ports, show_selectors, show_wanted};
+use crate::events::parts::{show_addresses, show_labels, show_ports, show_selectors, show_wanted};
 use kube_model::{Allocation, BgpAdv, CommunityList, EndpointSlice, L2Adv, Object, Pool, Service};
 use std::alloc::Global;
 use std::io;

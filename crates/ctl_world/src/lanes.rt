@@ -1,5 +1,5 @@
 //! What is still to be shown of a group, oldest first.
-ghost use Rattle.std.specs.Prelude.{◌≡◌, ◌<◌, ◌++◌, [], reverse, IfOk, OnOk, option_to_list};
+ghost use Rattle.std.specs.Prelude.{◌≡◌, ◌<◌, ◌++◌, ◌∷◌, [], reverse, IfOk, IsOk, OnOk, option_to_list};
 ghost use Rattle.std.specs.VecDeque.{deque_capacity, deque_len};
 ghost use Rattle.world_rules.specs.World.{as_shown, in_order, listing};
 ghost use Rattle.ctl_world.specs.Listed.{shown_in, listed};
@@ -91,6 +91,28 @@ fn push_in_order(
     }
 }
 
+/// Appends the event. Where there is room for it, this takes no memory.
+fn push_event(lane: &mut VecDeque<Event>, event: Event) -> Result<(), NoMemory>
+    ensures pushed { OnOk result (lane.new.items ≡ lane.old.items ++ event ∷ []) }
+    ensures room { deque_len lane.old < deque_capacity lane.old → IsOk result }
+{
+    Ok(lane.push_back(event)?)
+}
+
+/// Appends the list of the group to an empty lane.
+fn push_listing(
+    lane: &mut VecDeque<Event>,
+    store: &Store,
+    group: ListGroup,
+    order: ListOrder,
+) -> Result<(), NoMemory>
+    requires { lane.old.items ≡ [] }
+    ensures { OnOk result (lane.new.items ≡ listing order group store.now) }
+{
+    push_in_order(lane, store.list().as_slice(), group, order)?;
+    push_event(lane, Event::ListEnd { group })
+}
+
 /// The list of the group: each stored object of it, by kind and then by key or the other way round, and the end of the list.
 pub(crate) fn listing(
     alloc: Global,
@@ -101,16 +123,13 @@ pub(crate) fn listing(
     ensures { IfOk result (λ lane. lane.items ≡ listing order group store.now) }
 {
     let mut lane = VecDeque::new(alloc);
-    let objects = store.list().as_slice();
-    let Ok(()) = push_in_order(&mut lane, objects, group, order) else {
-        drop(lane);
-        return Err(NoMemory);
-    };
-    let Ok(()) = lane.push_back(Event::ListEnd { group }) else {
-        drop(lane);
-        return Err(NoMemory);
-    };
-    Ok(lane)
+    match push_listing(&mut lane, store, group, order) {
+        Ok(()) => Ok(lane),
+        Err(NoMemory) => {
+            drop(lane);
+            Err(NoMemory)
+        }
+    }
 }
 
 /// The event to the back of the lane, in which there is room for it.
@@ -119,9 +138,8 @@ pub(crate) fn push_reserved(lane: &mut VecDeque<Event>, event: Option<Event>)
     ensures { lane.new.items ≡ lane.old.items ++ option_to_list event }
 {
     if let Some(event) = event {
-        match lane.push_back(event) {
-            Ok(()) => {}
-            Err(_) => {}
-        }
+        let Ok(()) = push_event(lane, event) else {
+            return;
+        };
     }
 }

@@ -1,5 +1,5 @@
 //! The claims that are listed at the addresses of one family.
-ghost use Rattle.std.specs.Prelude.{◌≡◌, ◌≤◌, ◌<◌, ◌+◌, ◌==◌, ℕ, ◌∷◌, ◌++◌, [], true, not, filter, if◌then◌else◌, IsTrue, OnOk, IfSome, IfNone};
+ghost use Rattle.std.specs.Prelude.{◌≡◌, ◌≤◌, ◌<◌, ◌+◌, ◌==◌, ℕ, ◌∷◌, ◌++◌, [], true, not, filter, if◌then◌else◌, IsTrue, OnOk, IfOk, IfSome, IfNone};
 ghost use Rattle.mlb_base.specs.Items.{is_nil};
 ghost use Rattle.claim_index.specs.Holders.{claims_at, claim_room_at, is_listed, is_listed_but, is_open_at};
 ghost use Rattle.number_sets.specs.Least.{IsLeastIn, NonePasses};
@@ -42,6 +42,25 @@ impl Claimants {
             by_number: InvertedIndex::new(alloc),
             held: BlockSet::new(alloc, inside),
         }
+    }
+
+    /// No claim is listed, and there is room for one on the address, and for so many addresses.
+    pub(crate) fn with_room(
+        alloc: Global,
+        inside: bool,
+        number: u128,
+        more: usize,
+    ) -> Result<Claimants, NoMemory>
+        ensures numbers { IfOk result (λ c. claims_at c ≡ (λ n. [])) }
+        ensures claims { IfOk result (λ c. 0 < claim_room_at c number) }
+        ensures addresses { IfOk result (λ c. more ≤ c.room) }
+    {
+        let mut claimants = Claimants::new(alloc, inside);
+        if claimants.reserve(number, more).is_err() {
+            drop(claimants);
+            return Err(NoMemory);
+        }
+        Ok(claimants)
     }
 
     /// Makes room for a claim more on the address, and for so many addresses more.

@@ -7,7 +7,7 @@ ghost use Rattle.claim_index.specs.Claims.{ClaimValue, terms_under};
 
 use crate::grouped::GroupedTerms;
 use ip_ranges::Address;
-use kube_model::{Key, Record};
+use kube_model::{Key, Record, both};
 use mlb_base::{NoMemory, TryCopy};
 use sharing_terms::{Terms, read_mark};
 use std::alloc::Global;
@@ -43,11 +43,7 @@ impl Claim {
             Some(terms) => terms,
             None => adopted.copy()?,
         };
-        Ok(Claim {
-            key: key.copy()?,
-            holding: holding.copy()?,
-            terms: GroupedTerms::of(alloc, terms)?,
-        })
+        Claim::under(alloc, key, holding, terms)
     }
 
     /// The key may have this record, under the terms of its mark; `None` where it is the mark of none.
@@ -55,14 +51,23 @@ impl Claim {
         ensures { IfOk result (λ c. c
             ≡ option_map (λ terms. record { key = key.now; holding = holding.now; terms = terms }) (recorded_terms holding.now.mark)) }
     {
-        let Some(terms) = read_mark(alloc, holding.mark.as_str())? else {
-            return Ok(None);
-        };
-        Ok(Some(Claim {
-            key: key.copy()?,
-            holding: holding.copy()?,
-            terms: GroupedTerms::of(alloc, terms)?,
-        }))
+        match read_mark(alloc, holding.mark.as_str())? {
+            Some(terms) => Ok(Some(Claim::under(alloc, key, holding, terms)?)),
+            None => Ok(None),
+        }
+    }
+
+    /// The key has this record, or may have it, under these terms.
+    fn under(alloc: Global, key: &Key, holding: &Record, terms: Terms) -> Result<Claim, NoMemory>
+        ensures { IfOk result (λ c. c ≡ record { key = key.now; holding = holding.now; terms = terms }) }
+    {
+        let named = both(key.copy(), holding.copy());
+        let ((key, holding), terms) = both(named, GroupedTerms::of(alloc, terms))?;
+        Ok(Claim {
+            key,
+            holding,
+            terms,
+        })
     }
 
     /// The key that has the record, or may have it.

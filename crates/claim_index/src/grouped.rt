@@ -4,6 +4,7 @@ ghost use Rattle.std.specs.Option.{option_copied};
 ghost use Rattle.claim_index.specs.SharingGroups.{sharing_group_of, group_of, HasSharingGroup, HasGroup};
 
 use kube_labels::Text;
+use kube_model::both;
 use mlb_base::{NoMemory, TryCopy};
 use sharing_terms::{PortSet, Terms, mark_text};
 use std::alloc::Global;
@@ -70,10 +71,12 @@ fn group_text(alloc: Global, terms: &Terms) -> Result<Text, NoMemory>
     ensures group { IfOk result (λ group. group ≡ sharing_group_of terms.now) }
     ensures grouped { OnOk result (HasSharingGroup terms.now) }
 {
+    let own = both(terms.key.copy(), terms.backend.copy());
+    let ((key, backend), ports) = both(own, PortSet::of(alloc, &[]))?;
     let portless = Terms {
-        key: terms.key.copy()?,
-        ports: PortSet::of(alloc, &[])?,
-        backend: terms.backend.copy()?,
+        key,
+        ports,
+        backend,
     };
     let group = mark_text(alloc, &portless);
     drop(portless);

@@ -56,9 +56,9 @@ impl Holders {
         if let Some(claimants) = self.by_slot.get_mut(slot) {
             return claimants.reserve(number, more);
         }
-        let mut claimants = Claimants::new(self.alloc, slot.is_any());
-        claimants.reserve(number, more)?;
-        let _none = self.by_slot.insert(*slot, claimants)?;
+        let claimants = Claimants::with_room(self.alloc, slot.is_any(), number, more)?;
+        let none = self.by_slot.insert(*slot, claimants)?;
+        drop(none);
         Ok(())
     }
 

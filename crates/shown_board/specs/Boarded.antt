@@ -1,5 +1,5 @@
 -- What contracts see of a board.
-use Rattle.std.specs.Prelude.{◌≡◌, List, [], ◌∷◌, ◌++◌, map}
+use Rattle.std.specs.Prelude.{◌≡◌, List, [], ◌∷◌, ◌++◌, map, Result, MatchResult}
 
 -- the writer
 pub record Boarded (E : Type 0) : Type 0 where
@@ -30,3 +30,8 @@ with_event list ending = list ++ ending.event ∷ []
 
 abbrev pub events_of : {E : Type 0} → List (Ending E) → List E
 events_of endings = map (λ ending. ending.event) endings
+
+-- all that was behind is published, or all stays
+abbrev pub Publishes : {E X Y : Type 0} → Result X Y → List E → List (Ending E) → List E → List (Ending E) → Type 0
+Publishes result published behind published' behind' =
+    MatchResult result (λ _. (published' ≡ published ++ events_of behind) × (behind' ≡ [])) (λ _. (published' ≡ published) × (behind' ≡ behind))

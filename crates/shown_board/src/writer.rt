@@ -1,5 +1,6 @@
 //! The writer of a board.
-ghost use Rattle.std.specs.Prelude.{◌≡◌, ◌++◌, ◌∷◌, [], IfOk, MatchResult};
+ghost use Rattle.std.specs.Prelude.{◌≡◌, ◌++◌, ◌∷◌, [], drop, IfOk, MatchResult};
+ghost use Rattle.shown_board.specs.Boarded.{Publishes};
 
 use crate::follower::Follower;
 use crate::posted::{Post, Posted, Step};
@@ -107,9 +108,14 @@ impl<P: Post<E, J>, E: Drop, J: Naming> BoardWriter<P, E, J> {
             (λ _. (self.new.published ≡ self.old.published ++ self.old.pending) × (self.new.pending ≡ []))
             (λ _. self.new ≡ self.old) }
     {
-        replace_with(&mut self.writer, rt, |writer, rt| {
-            writer.publish_as::<Unruled, R>(rt)
-        })
+        replace_with(
+            &mut self.writer,
+            rt,
+            |writer, rt| -> (Writer<P, Step<E, J>, (), Unruled>, Result<(), AllocError>)
+                ensures { Publishes result.1 (P.list writer.desk.shown.value) (drop writer.behind writer.log.items)
+                    (P.list result.0.desk.shown.value) (drop result.0.behind result.0.log.items) }
+            { writer.publish_as::<Unruled, R>(rt) },
+        )
     }
 
     /// What is published, for a responder to learn. It takes no memory.

@@ -1,4 +1,4 @@
-use Rattle.std.proofs.Common.{◌<◌, OnOk, sym, subst, ◌≡◌, ◌≤◌, ℕ, refl, ◌∙◌, arith}
+use Rattle.std.proofs.Common.{◌<◌, OnOk, sym, subst, ◌≡◌, ◌≤◌, ℕ, refl, arith}
 use Rattle.claim_index.specs.Holders.{ClaimantsValue, claims_at, claim_room_at}
 use Rattle.claim_index.proofs.SlotLaws.{written-now, written-each, made-now, made-each}
 use Rattle.claim_index.proofs.holders.Holders.reserve.Goals as goal
@@ -29,29 +29,29 @@ pub returns-clause-numbers : goal.returns-clause-numbers
 returns-clause-numbers c =
     rw (← c.self.view_is)
     (made-each c.args.slot.now c.args.slot.now refl c.self.inside.by_slot c.get_mut.follows.lender-at-none c.insert.new.self
-    c.reserve-2.new.self c.get_mut.follows.holds-at-none c.in_default.ensures.value
-    c.in_ok-_none.ensures.updates (λ old new. claims_at new ≡ claims_at old) (λ same. refl) (c.reserve-2.ensures.numbers ∙ c.new-claimants.ensures.numbers))
+    c.in_ok-claimants.claimants c.get_mut.follows.holds-at-none c.in_default.ensures.value
+    c.in_ok-none.ensures.updates (λ old new. claims_at new ≡ claims_at old) (λ same. refl) c.in_ok-claimants.ensures.numbers)
 
 pub returns-clause-claims : goal.returns-clause-claims
 returns-clause-claims c =
     rw (made-now c.args.slot.now c.args.slot.now refl c.self.inside.by_slot c.get_mut.follows.lender-at-none c.insert.new.self
-    c.reserve-2.new.self c.get_mut.follows.holds-at-none c.in_default.ensures.value
-    c.in_ok-_none.ensures.updates)
-    c.in_ok-reserve.ensures.claims
+    c.in_ok-claimants.claimants c.get_mut.follows.holds-at-none c.in_default.ensures.value
+    c.in_ok-none.ensures.updates)
+    c.in_ok-claimants.ensures.claims
 
 pub returns-clause-claims_kept : goal.returns-clause-claims_kept
 returns-clause-claims_kept c =
     rw (← c.self.view_is)
     (made-each c.args.slot.now c.args.slot.now refl c.self.inside.by_slot c.get_mut.follows.lender-at-none c.insert.new.self
-    c.reserve-2.new.self c.get_mut.follows.holds-at-none c.in_default.ensures.value
-    c.in_ok-_none.ensures.updates (λ old new. (n : ℕ) → claim_room_at old n ≤ claim_room_at new n) (λ same n. omega arith) (λ n. omega arith))
+    c.in_ok-claimants.claimants c.get_mut.follows.holds-at-none c.in_default.ensures.value
+    c.in_ok-none.ensures.updates (λ old new. (n : ℕ) → claim_room_at old n ≤ claim_room_at new n) (λ same n. omega arith) (λ n. omega arith))
 
 pub returns-clause-addresses_kept : goal.returns-clause-addresses_kept
 returns-clause-addresses_kept c =
     rw (← c.self.view_is)
     (made-each c.args.slot.now c.args.slot.now refl c.self.inside.by_slot c.get_mut.follows.lender-at-none c.insert.new.self
-    c.reserve-2.new.self c.get_mut.follows.holds-at-none c.in_default.ensures.value
-    c.in_ok-_none.ensures.updates (λ old new. old.room ≤ new.room) (λ same. omega arith) (omega arith))
+    c.in_ok-claimants.claimants c.get_mut.follows.holds-at-none c.in_default.ensures.value
+    c.in_ok-none.ensures.updates (λ old new. old.room ≤ new.room) (λ same. omega arith) (omega arith))
 
 pub returns-in-Some-clause-claims : goal.returns-in-Some-clause-claims
 returns-in-Some-clause-claims c =
@@ -68,6 +68,6 @@ returns-in-Some-clause-addresses c =
 pub returns-clause-addresses : goal.returns-clause-addresses
 returns-clause-addresses c =
     rw (made-now c.args.slot.now c.args.slot.now refl c.self.inside.by_slot c.get_mut.follows.lender-at-none c.insert.new.self
-    c.reserve-2.new.self c.get_mut.follows.holds-at-none c.in_default.ensures.value
-    c.in_ok-_none.ensures.updates)
-    c.in_ok-reserve.ensures.addresses
+    c.in_ok-claimants.claimants c.get_mut.follows.holds-at-none c.in_default.ensures.value
+    c.in_ok-none.ensures.updates)
+    c.in_ok-claimants.ensures.addresses

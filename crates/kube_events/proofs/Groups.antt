@@ -1,13 +1,23 @@
 -- Fields that are read in groups are read as they are one after the other.
-use Rattle.std.proofs.Common.{◌≡◌, Result, Ok, Err, refl, ◌∙◌}
+use Rattle.std.proofs.Common.{◌≡◌, List, Result, Ok, Err, refl, sym, ap, subst, ◌∙◌}
 use Rattle.serde_json.specs.Data.{Data}
 use Rattle.json_fields.specs.Path.{Path}
-use Rattle.json_fields.specs.Reading.{◌>>=◌}
-use Rattle.kube_events.specs.Fields.{pools_field, pool_selectors_field, node_selectors_field}
+use Rattle.json_fields.specs.Reading.{◌>>=◌, Fails, Gives}
+use Rattle.json_fields.specs.declared.fault.FieldFault.{FieldFault}
+use Rattle.ip_ranges.specs.Values.{AddressValue}
+use Rattle.kube_model.specs.declared.key.Key.{Key}
+use Rattle.kube_model.specs.declared.service.Service.{Service}
+use Rattle.kube_model.proofs.Fails.{Fails-bind}
+use Rattle.kube_events.specs.declared.service_fields.Notes.{Notes}
+use Rattle.kube_events.specs.declared.service_fields.Request.{Request}
+use Rattle.kube_events.specs.declared.service_fields.Traffic.{Traffic}
+use Rattle.kube_events.specs.SliceFields.{endpoints_field, service_named, slice_of, slice_with}
+use Rattle.kube_events.specs.Fields.{Pairs, in_turn, labels_field, pools_field, pool_selectors_field, node_selectors_field}
 use Rattle.kube_events.specs.BgpFields.{length_field, length_v6_field, local_pref_field, communities_field}
 use Rattle.kube_events.specs.BgpFields.{peers_field, bgp_of, route_spec_of, choice_spec_of, bgp_with}
 use Rattle.kube_events.specs.ServiceFields.{annotations_field, balancer_field, class_field, address_field, families_field, prefer_dual_field, policy_field}
-use Rattle.kube_events.specs.ServiceFields.{selector_field, ports_field, places_field, service_of, notes_of, request_of, traffic_of, recorded_of, service_with}
+use Rattle.kube_events.specs.ServiceFields.{selector_field, ports_field, places_field, service_of, notes_of, request_of, traffic_of, recorded_of}
+use Rattle.kube_events.specs.ServiceFields.{spec_with, service_with}
 use Rattle.kube_events.specs.Wanted.{wanted_of}
 
 in_group : {A B C : Type 0} (first : Result A Path) (then : A → Result B Path) (next : B → Result C Path)
@@ -57,16 +67,54 @@ bgp_grouped d =
     group_of_four (pools_field d) (pool_selectors_field d) (node_selectors_field d) (peers_field d) (λ pools pool_selectors node_selectors peers.
     record { pools = pools; pool_selectors = pool_selectors; node_selectors = node_selectors; peers = peers }) _))))
 
+-- two that are read in turn give what they stand for in turn
+Gives-in_turn : {A B : Type 0} (both : Result (A × B) FieldFault) (first : Result A FieldFault) (second : Result B FieldFault)
+    (r : Result A Path) (s : Result B Path)
+    → both ≡ in_turn first second → Gives (λ x. x) first r → Gives (λ x. x) second s → Gives (λ x. x) both (in_turn r s)
+Gives-in_turn both (Ok a) (Ok b) r s is h k = rw (is, h, k) refl
+Gives-in_turn both (Ok a) (Err fault) r s is h k = rw (is, h) (Fails-bind fault s _ k)
+Gives-in_turn both (Err fault) second r s is h k = rw is (Fails-bind fault r _ h)
+
+in_two_turns : {A B C D E : Type 0} (first : Result A Path) (second : Result B Path) (third : Result C Path) (fourth : Result D Path) (make : A → B → C → D → E)
+    → (in_turn (in_turn first second) (in_turn third fourth) >>= λ all. Ok (make all.0.0 all.0.1 all.1.0 all.1.1))
+    ≡ (first >>= λ a. second >>= λ b. third >>= λ c. fourth >>= λ d. Ok (make a b c d))
+in_two_turns (Ok a) (Ok b) (Ok c) (Ok d) make = refl
+in_two_turns (Ok a) (Ok b) (Ok c) (Err path) make = refl
+in_two_turns (Ok a) (Ok b) (Err path) fourth make = refl
+in_two_turns (Ok a) (Err path) third fourth make = refl
+in_two_turns (Err path) second third fourth make = refl
+
+-- four that are read in two turns are read as they are one after the other
+pub Gives-two_turns : {A B C D E : Type 0} (first : Result A FieldFault) (second : Result B FieldFault)
+    (third : Result C FieldFault) (fourth : Result D FieldFault) (one : Result (A × B) FieldFault) (other : Result (C × D) FieldFault) (all : Result ((A × B) × (C × D)) FieldFault)
+    (r : Result A Path) (s : Result B Path) (t : Result C Path) (u : Result D Path) (make : A → B → C → D → E)
+    → one ≡ in_turn first second → other ≡ in_turn third fourth → all ≡ in_turn one other
+    → Gives (λ x. x) first r → Gives (λ x. x) second s → Gives (λ x. x) third t → Gives (λ x. x) fourth u
+    → Gives (λ parts. make parts.0.0 parts.0.1 parts.1.0 parts.1.1) all (r >>= λ a. s >>= λ b. t >>= λ c. u >>= λ d. Ok (make a b c d))
+Gives-two_turns {A = A} {B = B} {C = C} {D = D} {E = E} first second third fourth one other all r s t u make ones others alls h k l m =
+    go all (Gives-in_turn all one other (in_turn r s) (in_turn t u) alls (Gives-in_turn one first second r s ones h k)
+    (Gives-in_turn other third fourth t u others l m))
+  where
+    go : (all : Result ((A × B) × (C × D)) FieldFault) → Gives (λ x. x) all (in_turn (in_turn r s) (in_turn t u))
+        → Gives (λ parts. make parts.0.0 parts.0.1 parts.1.0 parts.1.1) all (r >>= λ a. s >>= λ b. t >>= λ c. u >>= λ d. Ok (make a b c d))
+    go (Ok parts) h = sym (in_two_turns r s t u make) ∙ ap (λ (read : Result ((A × B) × (C × D)) Path).
+        read >>= λ all. Ok (make all.0.0 all.0.1 all.1.0 all.1.1)) h
+    go (Err fault) h = subst (λ (read : Result E Path). Fails fault read) (in_two_turns r s t u make) (Fails-bind fault _ _ h)
+
+-- the service of the parts
+abbrev pub read_service : Notes → Request → Traffic → List AddressValue → Key → Pairs → Service
+read_service notes request traffic addresses =
+    service_with (spec_with notes request (wanted_of notes.addresses_asked request.address) traffic addresses)
+
+pub slice_grouped : (d : Data)
+    → (service_named d >>= λ service. endpoints_field d >>= λ endpoints. Ok (slice_with (record { service = service; endpoints = endpoints })))
+    ≡ slice_of d
+unfolding slice_of service_named
+slice_grouped d = in_group (labels_field d) _ _
+
 pub service_grouped : (d : Data)
-    → (notes_of d >>= λ notes. request_of d >>= λ request. traffic_of d >>= λ traffic. recorded_of d >>= λ addresses. Ok (service_with (record {
-      balancer = request.balancer;
-      class = request.class;
-      share_key = notes.share_key;
-      pool_asked = notes.pool_asked;
-      wanted = wanted_of notes.addresses_asked request.address;
-      traffic = traffic;
-      holding = record { addresses = addresses; pool = notes.pool; mark = notes.mark };
-    }))) ≡ service_of d
+    → (notes_of d >>= λ notes. request_of d >>= λ request. traffic_of d >>= λ traffic. recorded_of d >>= λ addresses.
+    Ok (read_service notes request traffic addresses)) ≡ service_of d
 unfolding service_of notes_of request_of traffic_of recorded_of
 service_grouped d =
     in_group (annotations_field d) _ _

@@ -56,6 +56,15 @@ pool_selectors_field d = list_at selector_of (codes "spec.ipAddressPoolSelectors
 abbrev pub node_selectors_field : Data → Result (List SelectorText) Path
 node_selectors_field d = list_at selector_of (codes "spec.nodeSelectors") d
 
+-- ---- one after the other
+
+-- what both read, or the first fault
+abbrev pub in_turn : {A B E : Type 0} → Result A E → Result B E → Result (A × B) E
+in_turn first second = do
+  a ← first
+  b ← second
+  Ok (a, b)
+
 -- ---- labels and annotations
 
 -- the value of a label or of an annotation, or the empty text

@@ -11,6 +11,7 @@ use Rattle.kube_model.specs.declared.port.Port.{Port}
 use Rattle.kube_model.specs.declared.service.Policy.{Policy}
 use Rattle.kube_model.specs.declared.service.Policy.TheVariants.{Cluster}
 use Rattle.kube_model.specs.declared.service.Service.{Service}
+use Rattle.kube_model.specs.declared.service.Wanted.{Wanted}
 use Rattle.kube_events.specs.declared.service_fields.Notes.{Notes}
 use Rattle.kube_events.specs.declared.service_fields.Request.{Request}
 use Rattle.kube_events.specs.declared.service_fields.Traffic.{Traffic}
@@ -164,6 +165,17 @@ unfoldable pub recorded_of : Data → Result (List AddressValue) Path
 recorded_of d = do
   places ← places_field d
   Ok (addresses_in places)
+
+abbrev pub spec_with : Notes → Request → Wanted → Traffic → List AddressValue → ServiceSpec
+spec_with notes request wanted traffic addresses = record {
+  balancer = request.balancer;
+  class = request.class;
+  share_key = notes.share_key;
+  pool_asked = notes.pool_asked;
+  wanted = wanted;
+  traffic = traffic;
+  holding = record { addresses = addresses; pool = notes.pool; mark = notes.mark };
+}
 
 abbrev pub service_with : ServiceSpec → Key → Pairs → Service
 service_with s key labels = record {

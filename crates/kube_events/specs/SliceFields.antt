@@ -1,5 +1,5 @@
 -- The fields of an endpoint slice beside its key.
-use Rattle.std.specs.Prelude.{List, Result, Ok, codes}
+use Rattle.std.specs.Prelude.{ℕ, List, Result, Ok, codes}
 use Rattle.serde_json.specs.Data.{Data}
 use Rattle.json_fields.specs.Path.{Path}
 use Rattle.json_fields.specs.Reading.{◌>>=◌, list_at}
@@ -21,6 +21,11 @@ slice_of d = do
   Ok (λ key. record { key = key; service = pair_value (codes "kubernetes.io/service-name") labels; endpoints = endpoints })
 
 -- ---- as it is read
+
+unfoldable pub service_named : Data → Result (List ℕ) Path
+service_named d = do
+  labels ← labels_field d
+  Ok (pair_value (codes "kubernetes.io/service-name") labels)
 
 abbrev pub slice_with : SliceSpec → Key → EndpointSlice
 slice_with s key = record { key = key; service = s.service; endpoints = s.endpoints }

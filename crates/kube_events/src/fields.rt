@@ -2,7 +2,7 @@
 ghost use Rattle.std.specs.Prelude.{◌≡◌, IfOk};
 ghost use Rattle.serde_json.specs.View.{view};
 ghost use Rattle.json_fields.specs.Reading.{Gives};
-ghost use Rattle.kube_events.specs.Fields.{key_of, pair_value};
+ghost use Rattle.kube_events.specs.Fields.{in_turn, key_of, pair_value};
 
 use json_fields::{FieldFault, required_name};
 use kube_labels::{Labels, Text};
@@ -38,4 +38,14 @@ pub(crate) fn pair_value(alloc: Global, pairs: &Labels, name: &str) -> Result<Te
         Some(value) => value.copy(),
         None => Text::new(alloc, ""),
     }
+}
+
+/// What both read, or the first fault.
+pub(crate) fn in_turn<A: Drop, B: Drop>(
+    first: Result<A, FieldFault>,
+    second: Result<B, FieldFault>,
+) -> Result<(A, B), FieldFault>
+    ensures { result ≡ in_turn first second }
+{
+    Ok((first?, second?))
 }

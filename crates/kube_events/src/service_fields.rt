@@ -3,9 +3,9 @@ ghost use Rattle.std.specs.Prelude.{◌≡◌, IfOk};
 ghost use Rattle.serde_json.specs.View.{view};
 ghost use Rattle.json_fields.specs.Reading.{Gives};
 ghost use Rattle.kube_events.specs.ServiceFields.{families_at, notes_in, notes_of, request_of, traffic_of};
-ghost use Rattle.kube_events.specs.ServiceFields.{ingress_of, addresses_in, recorded_of, service_of, service_with};
+ghost use Rattle.kube_events.specs.ServiceFields.{ingress_of, addresses_in, recorded_of, service_of, spec_with, service_with};
 
-use crate::fields::pair_value;
+use crate::fields::{in_turn, pair_value};
 use crate::named::{NamedFamily, SpelledAddress};
 use crate::wanted::wanted_from;
 use ip_ranges::{AddressList, Family};
@@ -193,28 +193,63 @@ pub(crate) struct ServiceSpec {
 pub(crate) fn service_spec(alloc: Global, object: &Value) -> Result<ServiceSpec, FieldFault>
     ensures { Gives service_with result (service_of (view object.now)) }
 {
-    let notes = notes_from(alloc, object)?;
-    let request = request_from(alloc, object)?;
-    let traffic = traffic_from(alloc, object)?;
-    let addresses = recorded(alloc, object)?;
+    let asked = in_turn(notes_from(alloc, object), request_from(alloc, object));
+    let reached = in_turn(traffic_from(alloc, object), recorded(alloc, object));
+    let ((notes, request), (traffic, addresses)) = in_turn(asked, reached)?;
     let wanted = wanted_from(
         alloc,
         notes.addresses_asked.as_str(),
         request.address.as_str(),
-    )?;
-    Ok(ServiceSpec {
-        balancer: request.balancer,
-        class: request.class,
-        share_key: notes.share_key,
-        pool_asked: notes.pool_asked,
+    );
+    match wanted {
+        Ok(wanted) => Ok(spec_with(notes, request, wanted, traffic, addresses)),
+        Err(no_memory) => {
+            drop(notes);
+            drop(request);
+            drop(traffic);
+            drop(addresses);
+            Err(FieldFault::from(no_memory))
+        }
+    }
+}
+
+/// What is read of a service, of its parts and what it asks for.
+fn spec_with(
+    notes: Notes,
+    request: Request,
+    wanted: Wanted,
+    traffic: Traffic,
+    addresses: AddressList,
+) -> ServiceSpec
+    ensures { result ≡ spec_with notes request wanted traffic addresses }
+{
+    let Notes {
+        share_key,
+        pool_asked,
+        addresses_asked,
+        pool,
+        mark,
+    } = notes;
+    drop(addresses_asked);
+    let Request {
+        balancer,
+        class,
+        address,
+    } = request;
+    drop(address);
+    ServiceSpec {
+        balancer,
+        class,
+        share_key,
+        pool_asked,
         wanted,
         traffic,
         holding: Record {
             addresses,
-            pool: notes.pool,
-            mark: notes.mark,
+            pool,
+            mark,
         },
-    })
+    }
 }
 
 pub(crate) fn service_with(key: Key, labels: Labels, spec: ServiceSpec) -> Service

@@ -2,7 +2,7 @@
 ghost use Rattle.std.specs.Prelude.{◌≡◌};
 ghost use Rattle.serde_json.specs.View.{view};
 ghost use Rattle.json_fields.specs.Reading.{Gives};
-ghost use Rattle.kube_events.specs.SliceFields.{slice_of, slice_with};
+ghost use Rattle.kube_events.specs.SliceFields.{service_named, slice_of, slice_with};
 
 use crate::fields::pair_value;
 use json_fields::{FieldFault, labels, list};
@@ -18,16 +18,23 @@ pub(crate) struct SliceSpec {
     endpoints: EndpointList,
 }
 
-#[tactic(auto, unfolding(crate::specs::SliceFields::slice_of))]
+/// The service that the slice is of, as a label names it.
+#[tactic(auto, unfolding(crate::specs::SliceFields::service_named))]
+fn service_named(alloc: Global, object: &Value) -> Result<Text, FieldFault>
+    ensures { Gives (λ x. x) result (service_named (view object.now)) }
+{
+    let labels = labels(alloc, object, "metadata.labels")?;
+    let service = pair_value(alloc, &labels, "kubernetes.io/service-name");
+    drop(labels);
+    Ok(service?)
+}
+
 pub(crate) fn slice_spec(alloc: Global, object: &Value) -> Result<SliceSpec, FieldFault>
     ensures { Gives slice_with result (slice_of (view object.now)) }
 {
-    let labels = labels(alloc, object, "metadata.labels")?;
+    let service = service_named(alloc, object)?;
     let endpoints = list(alloc, object, "endpoints")?;
-    Ok(SliceSpec {
-        service: pair_value(alloc, &labels, "kubernetes.io/service-name")?,
-        endpoints,
-    })
+    Ok(SliceSpec { service, endpoints })
 }
 
 pub(crate) fn slice_with(key: Key, spec: SliceSpec) -> EndpointSlice

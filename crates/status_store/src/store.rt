@@ -120,7 +120,11 @@ impl Store {
                 self.reset(object)?;
                 Ok(true)
             }
-            Edit::Delete { kind, key } => Ok(self.delete(kind, &key)),
+            Edit::Delete { kind, key } => {
+                let is_there = self.delete(kind, &key);
+                drop(key);
+                Ok(is_there)
+            }
         }
     }
 

@@ -45,7 +45,7 @@ pub fn insert_at(
 {
     let mut items = mem::replace(objects, Sequence::new(alloc)).into_vec();
     let inserted = items.insert(at, stored);
-    *objects = Sequence::from_vec(items);
+    drop(mem::replace(objects, Sequence::from_vec(items)));
     inserted?;
     Ok(())
 }
@@ -57,7 +57,7 @@ pub fn write_at(objects: &mut StoredList, alloc: Global, at: usize, stored: Stor
 {
     let mut items = mem::replace(objects, Sequence::new(alloc)).into_vec();
     drop(mem::replace(&mut items[at], stored));
-    *objects = Sequence::from_vec(items);
+    drop(mem::replace(objects, Sequence::from_vec(items)));
 }
 
 /// What stands here gets this version and, where it is a service, this record.
@@ -70,7 +70,7 @@ pub fn record_at(objects: &mut StoredList, alloc: Global, at: usize, version: u6
     let stored = &mut items[at];
     stored.version = version;
     set_record(&mut stored.object, holding);
-    *objects = Sequence::from_vec(items);
+    drop(mem::replace(objects, Sequence::from_vec(items)));
 }
 
 /// Removes what stands here.
@@ -80,7 +80,7 @@ pub fn remove_at(objects: &mut StoredList, alloc: Global, at: usize)
 {
     let mut items = mem::replace(objects, Sequence::new(alloc)).into_vec();
     drop(items.remove(at));
-    *objects = Sequence::from_vec(items);
+    drop(mem::replace(objects, Sequence::from_vec(items)));
 }
 
 /// Replaces the record of a service; an object of another kind stays as it is.

@@ -71,7 +71,7 @@ impl<G: Ord + Drop, K: Ord + Drop> GroupedKeys<G, K> {
             }
             None => {
                 let keys = singleton(self.alloc, key)?;
-                self.groups.insert(group, keys)?;
+                drop(self.groups.insert(group, keys)?);
             }
         }
         Ok(())

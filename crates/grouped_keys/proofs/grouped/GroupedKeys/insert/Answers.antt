@@ -1,10 +1,8 @@
-use Rattle.std.proofs.Common.{◌≡◌, sym, ap, is_some, ◌&&◌, ◌||◌, ◌∙◌}
+use Rattle.std.proofs.Common.{sym, ap, is_some, ◌∙◌}
 use Rattle.std.proofs.lemmas.Result.{err_from_is_err_and}
 use Rattle.std.specs.BTreeMap.{is_at, get_by}
-use Rattle.grouped_keys.specs.Grouped.{in_group}
 use Rattle.grouped_keys.proofs.GroupedSets.{key_put, group_put, kept_back}
 use Rattle.grouped_keys.proofs.grouped.GroupedKeys.insert.Goals as goal
-use Rattle.grouped_keys.proofs.grouped.GroupedKeys.insert.Goals.{in-Some-1, in-None-1}
 
 pub returns-in_err-insert-in-Some-clause-err : goal.returns-in_err-insert-in-Some-clause-err
 returns-in_err-insert-in-Some-clause-err g c =
@@ -25,14 +23,7 @@ returns-in_ok-insert-in-Some-clause-ok g c =
 pub returns-in_ok-insert-in-None-clause-ok : goal.returns-in_ok-insert-in-None-clause-ok
 returns-in_ok-insert-in-None-clause-ok g c =
     let kept = c.get_mut.follows.holds-at-none in
-    let put : in_group g.G.Ord.cmp g.K.Ord.cmp c.insert-in-None.new.self.entries
-    ≡ (λ g' k. is_at (g.G.Ord.cmp c.args.group) g' && is_at (g.K.Ord.cmp c.args.key) k || in_group g.G.Ord.cmp g.K.Ord.cmp c.args.self.now g' k) =
     rw (← c.self.view_is, ← kept)
     (group_put g.met.G.Ord.total g.K.Ord.cmp c.get_mut.follows.lender-at-none.entries c.args.group c.args.key c.in_ok-keys-in-None.keys
     c.insert-in-None.new.self.entries
     c.in_ok-insert-in-None.ensures.updates.0 (ap (get_by (g.G.Ord.cmp c.args.group)) kept ∙ sym c.in-None.ensures.value) c.in_ok-keys-in-None.ensures)
-    in
-    elim c.match-branch-4.branch [
-      | in-Some-1 w ↦ rw w.self-is put
-      | in-None-1 w ↦ rw w.self-is put
-    ]

@@ -4,6 +4,7 @@ ghost use Rattle.std.specs.Option.{option_copied, option_map};
 ghost use Rattle.kube_model.specs.declared.config_fault.ConfigFault.{ConfigFault};
 ghost use Rattle.pool_config.specs.Compile.{compiled};
 ghost use Rattle.pool_config.specs.ConfigValue.{AreApart, placed_spans};
+ghost use Rattle.pool_config.specs.SpanIndex.{HasSpansOf};
 ghost use Rattle.pool_config.specs.Faults.{HasNoFault, IsFirstFault};
 ghost use Rattle.pool_config.specs.Lists.{lists_of};
 ghost use Rattle.pool_config.specs.Objects.{objects_of};
@@ -219,19 +220,46 @@ fn compile_in_order(alloc: Global, objects: &ObjectSet) -> Result<Config, Compil
 {
     check_pools(alloc, objects)?;
     let pools = read_pools(alloc, &objects.pools)?;
-    check_overlap(alloc, objects, pools.as_slice())?;
-    check_selectors(objects)?;
     let l2 = read_l2s(alloc, &objects.l2s)?;
     let bgp = read_bgps(alloc, &objects.communities, &objects.bgps)?;
     let peers = read_peers(alloc, &objects.peers)?;
-    check_advertised(alloc, objects, pools.as_slice(), bgp.as_slice())?;
+    match checked_index(alloc, objects, pools.as_slice(), bgp.as_slice()) {
+        Ok(index) => Ok(Config {
+            pools,
+            l2,
+            bgp,
+            peers,
+            index,
+        }),
+        Err(fault) => {
+            drop(pools);
+            drop(l2);
+            drop(bgp);
+            drop(peers);
+            Err(fault)
+        }
+    }
+}
+
+/// The index of the spans, where nothing is wrong beside the pools by themselves.
+fn checked_index(
+    alloc: Global,
+    objects: &ObjectSet,
+    pools: &[CompiledPool],
+    bgp: &[CompiledBgp],
+) -> Result<SpanIndex, CompileFault>
+    requires checked { found_among (objects_of objects.now) pool_rows ≡ None }
+    requires pools { pools.now ≡ (lists_of (objects_of objects.now)).pools }
+    requires bgp { bgp.now ≡ (lists_of (objects_of objects.now)).bgp }
+    ensures compiled { OnOk result (compiled objects.now ≡ Ok (lists_of (objects_of objects.now))) }
+    ensures apart { OnOk result (AreApart (placed_spans pools.now)) }
+    ensures index { IfOk result (HasSpansOf pools.now) }
+    ensures refused { IfErr result (λ e. (fault : ConfigFault) → e ≡ CompileFault.Refused fault
+        → compiled objects.now ≡ Err fault) }
+{
+    check_overlap(alloc, objects, pools)?;
+    check_selectors(objects)?;
+    check_advertised(alloc, objects, pools, bgp)?;
     check_names(alloc, objects)?;
-    let index = SpanIndex::new(alloc, pools.as_slice())?;
-    Ok(Config {
-        pools,
-        l2,
-        bgp,
-        peers,
-        index,
-    })
+    Ok(SpanIndex::new(alloc, pools)?)
 }

@@ -1,5 +1,5 @@
 //! What is still to be shown of a group, oldest first.
-ghost use Rattle.std.specs.Prelude.{◌≡◌, ◌<◌, ◌++◌, [], reverse, IfOk, OnOk, option_to_list};
+ghost use Rattle.std.specs.Prelude.{◌≡◌, ◌<◌, ◌∷◌, ◌++◌, [], reverse, IfOk, OnOk, option_to_list};
 ghost use Rattle.std.specs.VecDeque.{deque_capacity, deque_len};
 ghost use Rattle.world_rules.specs.World.{as_shown, in_order, listing};
 ghost use Rattle.ctl_world.specs.Listed.{shown_in, listed};
@@ -7,7 +7,7 @@ ghost use Rattle.ctl_world.specs.Listed.{shown_in, listed};
 use kube_model::{Event, ListGroup};
 use mlb_base::{NoMemory, TryCopy};
 use status_store::{Store, Stored};
-use std::alloc::Global;
+use std::alloc::{AllocFailed, Global};
 use std::collections::VecDeque;
 use world_rules::ListOrder;
 
@@ -91,6 +91,21 @@ fn push_in_order(
     }
 }
 
+/// The objects of the group, as they are shown, in this order, and the end of the list, into an empty lane.
+fn push_listing(
+    lane: &mut VecDeque<Event>,
+    objects: &[Stored],
+    group: ListGroup,
+    order: ListOrder,
+) -> Result<(), NoMemory>
+    requires { lane.old.items ≡ [] }
+    ensures { OnOk result (lane.new.items ≡ in_order order (listed group objects.now) ++ Event.ListEnd group ∷ []) }
+{
+    push_in_order(lane, objects, group, order)?;
+    lane.push_back(Event::ListEnd { group })?;
+    Ok(())
+}
+
 /// The list of the group: each stored object of it, by kind and then by key or the other way round, and the end of the list.
 pub(crate) fn listing(
     alloc: Global,
@@ -102,11 +117,7 @@ pub(crate) fn listing(
 {
     let mut lane = VecDeque::new(alloc);
     let objects = store.list().as_slice();
-    let Ok(()) = push_in_order(&mut lane, objects, group, order) else {
-        drop(lane);
-        return Err(NoMemory);
-    };
-    let Ok(()) = lane.push_back(Event::ListEnd { group }) else {
+    let Ok(()) = push_listing(&mut lane, objects, group, order) else {
         drop(lane);
         return Err(NoMemory);
     };
@@ -121,7 +132,7 @@ pub(crate) fn push_reserved(lane: &mut VecDeque<Event>, event: Option<Event>)
     if let Some(event) = event {
         match lane.push_back(event) {
             Ok(()) => {}
-            Err(_) => {}
+            Err(AllocFailed { value }) => drop(value),
         }
     }
 }

@@ -14,7 +14,7 @@ use Rattle.lane_mail.specs.declared.lane.Lane.TheVariants.{First, Second}
 use Rattle.lane_run.specs.Outside.{SourceState, Outside, lane_state, outside}
 use Rattle.line_run.specs.Machine.{Stops}
 use Rattle.mlb_edge.specs.Causes.{Rose}
-use Rattle.mlb_edge.specs.Failed.{IsOpened, times, with_closed, with_failed, times-later, Rose-closed}
+use Rattle.mlb_edge.specs.Failed.{CountsFault, IsOpened, times, with_closed, with_failed, times-later, Rose-closed}
 use Rattle.mlb_edge.specs.declared.files.OpenEnd.{OpenEnd}
 use Rattle.mlb_edge.specs.declared.files.OpenEnd.TheVariants.{Failed, NoMemory}
 use Rattle.mlb_edge.specs.declared.lines.Line.{Line}
@@ -34,6 +34,24 @@ pub memory_wants : (own : LaneName) (end : OpenEnd) (status : Status) → status
     → status ≡ statuses.NoMemory
 memory_wants own Failed status is other = absurd (other own is)
 memory_wants own NoMemory status is other = is
+
+-- and it is neither done nor a fault of anything else
+pub unopened_alone : (own : LaneName) (end : OpenEnd) (status : Status) → status ≡ status_of_open own end
+    → (status ≢ statuses.Done) × (status ≢ statuses.WriteFault) × ((lane : LaneName) → status ≢ statuses.ReadFault lane)
+unopened_alone own Failed status is = ((λ it. absurd (cc)), (λ it. absurd (cc)), λ lane it. absurd (cc))
+unopened_alone own NoMemory status is = ((λ it. absurd (cc)), (λ it. absurd (cc)), λ lane it. absurd (cc))
+
+-- want of memory is no fault
+pub no_fault : (lane : LaneName) → (statuses.NoMemory ≢ statuses.OpenFault lane) × (statuses.NoMemory ≢ statuses.ReadFault lane)
+no_fault lane = ((λ it. absurd (cc)), λ it. absurd (cc))
+
+pub not_done : (statuses.NoMemory ≢ statuses.Done) × (statuses.NoMemory ≢ statuses.WriteFault)
+not_done = ((λ it. absurd (cc)), λ it. absurd (cc))
+
+-- a fault is counted of no other name
+pub uncounted : (own other : List ℕ) (name : Option (List ℕ)) (failed : Type 0) (names names' : List (List ℕ)) → CountsFault name failed names names'
+    → name ≡ Some own → other ≢ own → times other names' ≡ times other names
+uncounted own other name failed names names' counts is differs = counts.others other (λ same. differs (cc))
 
 -- a fault of an input that was new is one more of its name, once both are handed back
 counted : (own : List ℕ) (names : List (List ℕ)) (name : Option (List ℕ)) (faults : ℕ) → name ≡ Some own → faults ≢ 0

@@ -76,6 +76,7 @@ pub(crate) fn look_behind<M: LaneMachine, I: PacedSource<K>, K: Sink>(
         return None;
     };
     if status.is_done() {
+        drop(status);
         return None;
     }
     Some(status)

@@ -152,5 +152,7 @@ pub(crate) fn run_threads<
             )
         },
     );
+    drop(first_slot);
+    drop(second_slot);
     (outcome, first_end, second_end)
 }

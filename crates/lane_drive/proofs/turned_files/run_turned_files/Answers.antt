@@ -1,5 +1,5 @@
 use Rattle.std.proofs.Common.{ℕ, List, Err, inr, refl, ap, subst, ◌∙◌}
-use Rattle.mlb_edge.specs.Failed.{with_failed}
+use Rattle.mlb_edge.specs.Failed.{times, with_failed}
 use Rattle.mlb_edge.specs.Reading.{Reading}
 use Rattle.lane_run.specs.Outside.{outside, source_state}
 use Rattle.lane_drive.specs.Asking.{AnswersAll, AsksOf, HasStopped}
@@ -151,7 +151,7 @@ returns-clause-only g c =
 
 pub returns-in_default-clause-open_fault : goal.returns-in_default-clause-open_fault
 returns-in_default-clause-open_fault g c =
-    files.none_failed g.M.LaneMachine.rules.name c.args.first.now c.args.second.now _ _ _ _ _ (λ lane is. absurd (cc)) refl
+    files.none_failed g.M.LaneMachine.rules.name c.args.first.now c.args.second.now _ _ _ _ _ (λ lane. (files.no_fault lane).0) refl
 
 pub returns-in-Err-clause-open_fault : goal.returns-in-Err-clause-open_fault
 returns-in-Err-clause-open_fault g c =
@@ -170,7 +170,7 @@ returns-in-Err-open-clause-open_fault g c =
 
 pub returns-clause-open_fault : goal.returns-clause-open_fault
 returns-clause-open_fault g c =
-    files.none_failed g.M.LaneMachine.rules.name c.args.first.now c.args.second.now _ _ _ _ _ (λ lane is. absurd (cc))
+    files.none_failed g.M.LaneMachine.rules.name c.args.first.now c.args.second.now _ _ _ _ _ (λ lane. (files.no_fault lane).0)
     (c.close-3.ensures.opens ∙ (c.close-2.ensures.opens ∙ ((rw c.in-Ok-open-2.is at c.open-2.ensures.opens) ∙ (rw c.in-Ok-open.is at c.open.ensures.opens))))
 
 pub returns-in_default-clause-complete : goal.returns-in_default-clause-complete
@@ -224,3 +224,99 @@ pub returns-clause-behind : goal.returns-clause-behind
 returns-clause-behind g c = λ none fresh. left_with turned_lawful g.M.LaneMachine.rules (g.M.LaneMachine.state c.args.machine) _
     c.in-Ok-open.ensures.opened c.in-Ok-open-2.ensures.opened (c.open.ensures.bytes c.args.second.now) c.in-Ok.ensures _ _ _
     (c.run_opened-status.ensures.behind none fresh)
+
+pub returns-in_default-clause-done : goal.returns-in_default-clause-done
+returns-in_default-clause-done g c = λ is. absurd (files.not_done.0 is)
+
+pub returns-in_default-clause-read_fault : goal.returns-in_default-clause-read_fault
+returns-in_default-clause-read_fault g c = λ lane is. absurd ((files.no_fault lane).1 is)
+
+pub returns-in_default-clause-write_fault : goal.returns-in_default-clause-write_fault
+returns-in_default-clause-write_fault g c = λ is. absurd (files.not_done.1 is)
+
+pub returns-in-Err-clause-done : goal.returns-in-Err-clause-done
+returns-in-Err-clause-done g c =
+    λ is. absurd ((files.unopened_alone c.lane_name.result c.in-Err.end c.status_of_open.result c.status_of_open.ensures).0 is)
+
+pub returns-in-Err-clause-read_fault : goal.returns-in-Err-clause-read_fault
+returns-in-Err-clause-read_fault g c =
+    λ lane is. absurd ((files.unopened_alone c.lane_name.result c.in-Err.end c.status_of_open.result c.status_of_open.ensures).2 lane is)
+
+pub returns-in-Err-clause-write_fault : goal.returns-in-Err-clause-write_fault
+returns-in-Err-clause-write_fault g c =
+    λ is. absurd ((files.unopened_alone c.lane_name.result c.in-Err.end c.status_of_open.result c.status_of_open.ensures).1 is)
+
+pub returns-in-Err-clause-bytes : goal.returns-in-Err-clause-bytes
+returns-in-Err-clause-bytes g c = c.open.ensures.bytes
+
+pub returns-in-Err-clause-others : goal.returns-in-Err-clause-others
+returns-in-Err-clause-others g c =
+    λ file one two. (files.uncounted c.args.first.now file _ _ _ _ c.open.ensures.faults refl one, ap (times file) c.open.ensures.reads)
+
+pub returns-in-Err-open-clause-done : goal.returns-in-Err-open-clause-done
+returns-in-Err-open-clause-done g c = λ is. absurd ((files.unopened_alone c.lane_name-in-Err-open.result c.in-Err-open.end
+    c.status_of_open-in-Err-open.result c.status_of_open-in-Err-open.ensures).0 is)
+
+pub returns-in-Err-open-clause-read_fault : goal.returns-in-Err-open-clause-read_fault
+returns-in-Err-open-clause-read_fault g c = λ lane is. absurd ((files.unopened_alone c.lane_name-in-Err-open.result c.in-Err-open.end
+    c.status_of_open-in-Err-open.result c.status_of_open-in-Err-open.ensures).2 lane is)
+
+pub returns-in-Err-open-clause-write_fault : goal.returns-in-Err-open-clause-write_fault
+returns-in-Err-open-clause-write_fault g c = λ is. absurd ((files.unopened_alone c.lane_name-in-Err-open.result c.in-Err-open.end
+    c.status_of_open-in-Err-open.result c.status_of_open-in-Err-open.ensures).1 is)
+
+pub returns-in-Err-open-clause-bytes : goal.returns-in-Err-open-clause-bytes
+returns-in-Err-open-clause-bytes g c = λ file. c.close.ensures.bytes file ∙ (c.open-2.ensures.bytes file ∙ c.open.ensures.bytes file)
+
+pub returns-in-Err-open-clause-others : goal.returns-in-Err-open-clause-others
+returns-in-Err-open-clause-others g c = λ file one two. (
+  ap (times file) c.close.ensures.opens
+      ∙ (files.uncounted c.args.second.now file _ _ _ _ c.open-2.ensures.faults refl two
+      ∙ files.uncounted c.args.first.now file _ _ _ _ c.open.ensures.faults refl one),
+  files.uncounted c.args.first.now file _ _ _ _ c.close.ensures.faults c.in-Ok-open.ensures.opened.named one
+      ∙ ap (times file) (c.open-2.ensures.reads ∙ c.open.ensures.reads),
+)
+
+pub returns-in-Ok-Ok-clause-bytes : goal.returns-in-Ok-Ok-clause-bytes
+returns-in-Ok-Ok-clause-bytes g c =
+    λ file. c.close-3.ensures.bytes file ∙ (c.close-2.ensures.bytes file ∙ (c.open-2.ensures.bytes file ∙ c.open.ensures.bytes file))
+
+pub returns-in-Ok-Ok-clause-others : goal.returns-in-Ok-Ok-clause-others
+returns-in-Ok-Ok-clause-others g c =
+    let names = c.run_opened-status.ensures.names in
+    λ file one two. (
+      ap (times file) (c.close-3.ensures.opens ∙ c.close-2.ensures.opens)
+          ∙ (files.uncounted c.args.second.now file _ _ _ _ c.open-2.ensures.faults refl two
+          ∙ files.uncounted c.args.first.now file _ _ _ _ c.open.ensures.faults refl one),
+      files.uncounted c.args.second.now file _ _ _ _ c.close-3.ensures.faults (names.1 ∙ c.in-Ok-open-2.ensures.opened.named) two
+          ∙ (files.uncounted c.args.first.now file _ _ _ _ c.close-2.ensures.faults (names.0 ∙ c.in-Ok-open.ensures.opened.named) one
+          ∙ ap (times file) (c.open-2.ensures.reads ∙ c.open.ensures.reads)),
+    )
+
+pub returns-clause-done : goal.returns-clause-done
+returns-clause-done g c = λ is. absurd (files.not_done.0 is)
+
+pub returns-clause-read_fault : goal.returns-clause-read_fault
+returns-clause-read_fault g c = λ lane is. absurd ((files.no_fault lane).1 is)
+
+pub returns-clause-write_fault : goal.returns-clause-write_fault
+returns-clause-write_fault g c = λ is. absurd (files.not_done.1 is)
+
+pub returns-clause-unopened : goal.returns-clause-unopened
+returns-clause-unopened g c = λ lane is. absurd ((files.no_fault lane).0 is)
+
+pub returns-clause-bytes : goal.returns-clause-bytes
+returns-clause-bytes g c =
+    λ file. c.close-3.ensures.bytes file ∙ (c.close-2.ensures.bytes file ∙ (c.open-2.ensures.bytes file ∙ c.open.ensures.bytes file))
+
+pub returns-clause-others : goal.returns-clause-others
+returns-clause-others g c =
+    let names = c.run_opened-status.ensures.names in
+    λ file one two. (
+      ap (times file) (c.close-3.ensures.opens ∙ c.close-2.ensures.opens)
+          ∙ (files.uncounted c.args.second.now file _ _ _ _ c.open-2.ensures.faults refl two
+          ∙ files.uncounted c.args.first.now file _ _ _ _ c.open.ensures.faults refl one),
+      files.uncounted c.args.second.now file _ _ _ _ c.close-3.ensures.faults (names.1 ∙ c.in-Ok-open-2.ensures.opened.named) two
+          ∙ (files.uncounted c.args.first.now file _ _ _ _ c.close-2.ensures.faults (names.0 ∙ c.in-Ok-open.ensures.opened.named) one
+          ∙ ap (times file) (c.open-2.ensures.reads ∙ c.open.ensures.reads)),
+    )

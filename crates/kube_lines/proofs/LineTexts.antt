@@ -1,10 +1,15 @@
 -- The text of each value that is written.
-use Rattle.std.proofs.Common.{◌≡◌, ℕ, List, [], ◌∷◌, ◌++◌, true, false, map, Result, refl, sym, ap, ◌∙◌, append_assoc, codes}
+use Rattle.std.proofs.Common.{◌≡◌, ℕ, ◌+◌, ◌<◌, ◌≤◌, List, [], ◌∷◌, ◌++◌, true, false, length, get_or, take, map}
+use Rattle.std.proofs.Common.{Result, Vec, Global, refl, sym, ap, ◌∙◌, append_assoc, codes}
+use Rattle.std.proofs.lemmas.List.{map-append, map_more, take_all}
 use Rattle.std.proofs.lemmas.Result.{IfOk-weaker}
 use Rattle.std.specs.Prelude.{IfOk}
 use Rattle.json.specs.Print.{quoted}
-use Rattle.serde_json.specs.Data.{Data}
+use Rattle.serde_json.specs.Data.{Data, string, array}
+use Rattle.serde_json.specs.View.{view, items_of}
+use Rattle.serde_json.specs.declared.value.Value.{Value, Array}
 use Rattle.serde_json.specs.Written.{compact_text, items_text, has_float, items_have_float}
+use Rattle.serde_json.proofs.Views.{view-Array}
 use Rattle.serde_json.proofs.OnLiterals.{serde_json_on_literals}
 use Rattle.ip_ranges.specs.Values.{AddressValue}
 use Rattle.ip_ranges.specs.AddressText.{canonical_text}
@@ -16,6 +21,10 @@ use Rattle.kube_model.specs.declared.status.LaneName.{LaneName}
 use Rattle.kube_lines.specs.OutputLines.{quoted_texts, address_strings, put_text, put_data, pending_text, pending_data, refused_text}
 use Rattle.kube_lines.specs.OutputLines.{refused_data, seen_text, seen_data, took_text, took_data, address_data, announce_text, withdraw_text, send_text}
 use Rattle.kube_lines.specs.OutputLines.{send_data, update_text, update_data, record_text, record_data, trial_text, trial_data}
+
+-- an address as it is written
+abbrev pub address_string : AddressValue → Data
+address_string address = string (canonical_text address)
 
 -- a value's line is its text
 pub line_is : {E : Type 0} (line : Result (List ℕ) E) (value is : Data) (text : List ℕ) → IfOk line (λ l. l ≡ compact_text value) → value ≡ is
@@ -37,6 +46,21 @@ items_text-strings [] = refl
 items_text-strings (address ∷ []) = refl
 items_text-strings (address ∷ next ∷ addresses) = ap (λ (rest : List ℕ). quoted (canonical_text address) ++ rest) (later next addresses)
     ∙ sym (append_assoc (quoted (canonical_text address)) (44 ∷ quoted_texts (map canonical_text (next ∷ addresses))) (93 ∷ []))
+
+-- one more value behind those of the addresses so far
+pub strings_more : (values more : List Value) (value : Value) (addresses : List AddressValue) (i : ℕ) (address : AddressValue) → more ≡ values ++ value ∷ []
+    → i < length addresses → address ≡ get_or addresses i address → view value ≡ address_string address
+    → map view values ≡ map address_string (take i addresses) → map view more ≡ map address_string (take (i + 1) addresses)
+strings_more values more value addresses i address pushed within is same so_far = ap (λ (l : List Value). map view l) pushed
+    ∙ map-append view values (value ∷ []) ∙ ap (λ (l : List Data). l ++ view value ∷ []) so_far
+    ∙ ap (λ (d : Data). map address_string (take i addresses) ++ d ∷ []) (same ∙ ap address_string is)
+    ∙ sym (map_more address_string addresses i address within)
+
+-- the list of values, where they are those of all addresses
+pub strings_all : (values : Vec Value Global) (addresses : List AddressValue) (i : ℕ) → map view values.items ≡ map address_string (take i addresses)
+    → length addresses ≤ i → view (Array values) ≡ array (address_strings addresses)
+strings_all values addresses i so_far all = view-Array values ∙ ap (λ (ds : List Data). array (items_of ds)) (so_far ∙ ap
+    (λ (l : List AddressValue). map address_string l) (take_all i addresses all))
 
 pub put_has_float : (put : Put) → has_float (put_data put) ≡ false
 put_has_float put = rw (no_float put.holding.addresses) refl

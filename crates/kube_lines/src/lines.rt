@@ -1,8 +1,9 @@
 //! The lines that are written, compact JSON without their ends.
 ghost use Rattle.std.specs.Prelude.{◌≡◌, IfOk, IsTrue, false};
 ghost use Rattle.serde_json.specs.View.{view};
-ghost use Rattle.serde_json.specs.Data.{array};
+ghost use Rattle.serde_json.specs.Data.{array, string};
 ghost use Rattle.serde_json.specs.Written.{has_float, compact_text};
+ghost use Rattle.ip_ranges.specs.AddressText.{canonical_text};
 ghost use Rattle.kube_lines.specs.OutputLines.{put_text, put_data, address_strings, pending_text, pending_data, accepted_text, refused_text};
 ghost use Rattle.kube_lines.specs.OutputLines.{refused_data, is_taken, took_text, took_data, announce_text, withdraw_text, address_data};
 ghost use Rattle.kube_lines.specs.OutputLines.{seen_text, seen_data, send_text, send_data, update_text, update_data, record_text, record_data};
@@ -23,12 +24,20 @@ fn written(alloc: Global, value: &Value) -> Result<Text, NoMemory>
     Ok(Text::from_string(value.to_string(alloc)?))
 }
 
+/// An address as it is written.
+fn address_string(alloc: Global, address: &Address) -> Result<Value, NoMemory>
+    ensures { IfOk result (λ v. view v ≡ string (canonical_text address.now)) }
+{
+    Ok(Value::String(print_address(alloc, address)?))
+}
+
 fn addresses_value(alloc: Global, addresses: &[Address]) -> Result<Value, NoMemory>
     ensures { IfOk result (λ v. view v ≡ array (address_strings addresses.now)) }
 {
     let mut strings = Vec::new(alloc);
     for address in addresses {
-        strings.push(Value::String(print_address(alloc, address)?))?;
+        let string = address_string(alloc, address)?;
+        strings.push(string)?;
     }
     Ok(Value::Array(strings))
 }

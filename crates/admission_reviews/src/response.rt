@@ -2,7 +2,7 @@
 ghost use Rattle.std.specs.Prelude.{◌≡◌, IfOk, false};
 ghost use Rattle.serde_json.specs.View.{view};
 ghost use Rattle.serde_json.specs.Written.{has_float, compact_text};
-ghost use Rattle.admission_reviews.specs.Responses.{allowed_data, refused_data, response_data, response_text};
+ghost use Rattle.admission_reviews.specs.Responses.{allowed_data, refused_data, verdict_data, response_data, response_text};
 
 use kube_labels::Text;
 use mlb_base::NoMemory;
@@ -20,12 +20,8 @@ fn allowed_value(alloc: Global, uid: &Text) -> Result<Value, NoMemory>
     ensures { IfOk result (λ v. view v ≡ allowed_data uid.now) }
 {
     Ok(json!(in alloc; {
-        "apiVersion": "admission.k8s.io/v1",
-        "kind": "AdmissionReview",
-        "response": {
-            "allowed": true,
-            "uid": uid.as_str()
-        }
+        "allowed": true,
+        "uid": uid.as_str()
     })?)
 }
 
@@ -33,25 +29,32 @@ fn refused_value(alloc: Global, uid: &Text, message: &Text) -> Result<Value, NoM
     ensures { IfOk result (λ v. view v ≡ refused_data uid.now message.now) }
 {
     Ok(json!(in alloc; {
-        "apiVersion": "admission.k8s.io/v1",
-        "kind": "AdmissionReview",
-        "response": {
-            "allowed": false,
-            "status": {
-                "message": message.as_str()
-            },
-            "uid": uid.as_str()
-        }
+        "allowed": false,
+        "status": {
+            "message": message.as_str()
+        },
+        "uid": uid.as_str()
     })?)
 }
 
-fn response_value(alloc: Global, uid: &Text, verdict: &Verdict) -> Result<Value, NoMemory>
-    ensures { IfOk result (λ v. view v ≡ response_data uid.now verdict.now) }
+/// The response of an AdmissionReview.
+fn verdict_value(alloc: Global, uid: &Text, verdict: &Verdict) -> Result<Value, NoMemory>
+    ensures { IfOk result (λ v. view v ≡ verdict_data uid.now verdict.now) }
 {
     match verdict {
         Verdict::Allowed => allowed_value(alloc, uid),
         Verdict::Refused { message } => refused_value(alloc, uid, message),
     }
+}
+
+fn response_value(alloc: Global, uid: &Text, verdict: &Verdict) -> Result<Value, NoMemory>
+    ensures { IfOk result (λ v. view v ≡ response_data uid.now verdict.now) }
+{
+    Ok(json!(in alloc; {
+        "apiVersion": "admission.k8s.io/v1",
+        "kind": "AdmissionReview",
+        "response": verdict_value(alloc, uid, verdict)?
+    })?)
 }
 
 /// The text of a value without floats: compact JSON, the members in the byte order of their names.

@@ -1,7 +1,9 @@
 //! The lines that say what lines are read as.
-ghost use Rattle.std.specs.Prelude.{◌≡◌, IfOk, Some, None};
+ghost use Rattle.std.specs.Prelude.{◌≡◌, map, IfOk, OnOk};
 ghost use Rattle.std.specs.Option.{option_map};
-ghost use Rattle.serde_json.specs.View.{view};
+ghost use Rattle.serde_json.specs.Data.{object, no_members};
+ghost use Rattle.serde_json.specs.View.{view, members_view};
+ghost use Rattle.explained_lines.specs.Lines.{pair_text, with_line};
 ghost use Rattle.explained_lines.specs.Lines.{object_data, list_data, plain_data, ignored_data, name_of, namespace_of, namespace_in, ending_kind, event_data};
 ghost use Rattle.explained_lines.specs.Lines.{path_data, reason_data, refused_data, asked_data, unread_data, review_data, explained_data, explained_text};
 
@@ -10,63 +12,73 @@ use admission_reviews::{Change, Review, written};
 use kube_labels::Text;
 use kube_model::{Event, EventFault, Key, Kind, ListGroup, Object};
 use mlb_base::NoMemory;
-use serde_json::{Value, json};
+use serde_json::{Map, Value, put};
 use std::alloc::Global;
 
-/// An object of no namespace is there or gone, as `what` says.
-fn unplaced_value(
+/// The texts come to the members, by their names, and the number of the line.
+fn put_line(
+    members: &mut Map<String, Value>,
     alloc: Global,
     number: u64,
-    kind: Kind,
-    name: &Text,
-    what: &str,
-) -> Result<Value, NoMemory>
-    ensures { IfOk result (λ v. view v ≡ object_data number kind None name.now what.now) }
+    texts: &[(&str, &str)],
+) -> Result<(), NoMemory>
+    ensures { OnOk result (members_view members.new.entries
+        ≡ with_line number (map pair_text texts.now) (members_view members.old.entries)) }
 {
-    Ok(json!(in alloc; {
-        "kind": kind.as_str(),
-        "line": number,
-        "name": name.as_str(),
-        "op": "event",
-        "type": what
-    })?)
+    for &(name, text) in texts {
+        put(members, alloc, name, Value::try_from_str(alloc, text)?)?;
+    }
+    put(members, alloc, "line", Value::from(number))?;
+    Ok(())
 }
 
-/// The same of an object of a namespace.
-fn placed_value(
-    alloc: Global,
-    number: u64,
-    kind: Kind,
-    namespace: &Text,
-    name: &Text,
-    what: &str,
-) -> Result<Value, NoMemory>
-    ensures { IfOk result (λ v. view v ≡ object_data number kind (Some namespace.now) name.now what.now) }
+/// An object with the number of the line and these texts.
+fn line_value(alloc: Global, number: u64, texts: &[(&str, &str)]) -> Result<Value, NoMemory>
+    ensures { IfOk result (λ v. view v ≡ object (with_line number (map pair_text texts.now) no_members)) }
 {
-    Ok(json!(in alloc; {
-        "kind": kind.as_str(),
-        "line": number,
-        "name": name.as_str(),
-        "namespace": namespace.as_str(),
-        "op": "event",
-        "type": what
-    })?)
+    let mut members = Map::new(alloc);
+    match put_line(&mut members, alloc, number, texts) {
+        Ok(()) => Ok(Value::Object(members)),
+        Err(NoMemory) => {
+            drop(members);
+            Err(NoMemory)
+        }
+    }
 }
 
 /// An object is there or gone, as `what` says.
-fn object_value(
+fn object_value<'a>(
     alloc: Global,
     number: u64,
     kind: Kind,
-    namespace: Option<&Text>,
-    name: &Text,
-    what: &str,
+    namespace: Option<&'a Text>,
+    name: &'a Text,
+    what: &'a str,
 ) -> Result<Value, NoMemory>
     ensures { IfOk result (λ v. view v ≡ object_data number kind (option_map (λ t. t.now) namespace.entry) name.now what.now) }
 {
     match namespace {
-        Some(namespace) => placed_value(alloc, number, kind, namespace, name, what),
-        None => unplaced_value(alloc, number, kind, name, what),
+        Some(namespace) => line_value(
+            alloc,
+            number,
+            &[
+                ("kind", kind.as_str()),
+                ("name", name.as_str()),
+                ("namespace", namespace.as_str()),
+                ("op", "event"),
+                ("type", what),
+            ],
+        ),
+        None => line_value(
+            alloc,
+            number,
+            &[
+                ("kind", kind.as_str()),
+                ("name", name.as_str()),
+                ("op", "event"),
+                ("type", what),
+            ],
+        ),
     }
 }
 
@@ -74,32 +86,28 @@ fn object_value(
 fn list_value(alloc: Global, number: u64, kind: Kind) -> Result<Value, NoMemory>
     ensures { IfOk result (λ v. view v ≡ list_data number kind) }
 {
-    Ok(json!(in alloc; {
-        "kind": kind.as_str(),
-        "line": number,
-        "op": "event",
-        "type": "list-end"
-    })?)
+    line_value(
+        alloc,
+        number,
+        &[
+            ("kind", kind.as_str()),
+            ("op", "event"),
+            ("type", "list-end"),
+        ],
+    )
 }
 
 /// An event of no object.
 fn plain_value(alloc: Global, number: u64, what: &str) -> Result<Value, NoMemory>
     ensures { IfOk result (λ v. view v ≡ plain_data number what.now) }
 {
-    Ok(json!(in alloc; {
-        "line": number,
-        "op": "event",
-        "type": what
-    })?)
+    line_value(alloc, number, &[("op", "event"), ("type", what)])
 }
 
 fn ignored_value(alloc: Global, number: u64) -> Result<Value, NoMemory>
     ensures { IfOk result (λ v. view v ≡ ignored_data number) }
 {
-    Ok(json!(in alloc; {
-        "line": number,
-        "op": "ignored"
-    })?)
+    line_value(alloc, number, &[("op", "ignored")])
 }
 
 fn name_of(object: &Object) -> &Text
@@ -194,22 +202,14 @@ fn event_value(alloc: Global, number: u64, event: &Event) -> Result<Value, NoMem
 fn path_value(alloc: Global, number: u64, path: &Text) -> Result<Value, NoMemory>
     ensures { IfOk result (λ v. view v ≡ path_data number path.now) }
 {
-    Ok(json!(in alloc; {
-        "line": number,
-        "op": "refused",
-        "path": path.as_str()
-    })?)
+    line_value(alloc, number, &[("op", "refused"), ("path", path.as_str())])
 }
 
 /// No field is at fault.
 fn reason_value(alloc: Global, number: u64, reason: &str) -> Result<Value, NoMemory>
     ensures { IfOk result (λ v. view v ≡ reason_data number reason.now) }
 {
-    Ok(json!(in alloc; {
-        "line": number,
-        "op": "refused",
-        "reason": reason
-    })?)
+    line_value(alloc, number, &[("op", "refused"), ("reason", reason)])
 }
 
 fn refused_value(alloc: Global, number: u64, fault: &EventFault) -> Result<Value, NoMemory>
@@ -226,23 +226,27 @@ fn refused_value(alloc: Global, number: u64, fault: &EventFault) -> Result<Value
 fn asked_value(alloc: Global, number: u64, uid: &Text) -> Result<Value, NoMemory>
     ensures { IfOk result (λ v. view v ≡ asked_data number uid.now) }
 {
-    Ok(json!(in alloc; {
-        "line": number,
-        "op": "review",
-        "uid": uid.as_str()
-    })?)
+    line_value(alloc, number, &[("op", "review"), ("uid", uid.as_str())])
 }
 
 /// The field of the review's object at this path isn't as stated.
-fn unread_value(alloc: Global, number: u64, uid: &Text, path: &Text) -> Result<Value, NoMemory>
+fn unread_value<'a>(
+    alloc: Global,
+    number: u64,
+    uid: &'a Text,
+    path: &'a Text,
+) -> Result<Value, NoMemory>
     ensures { IfOk result (λ v. view v ≡ unread_data number uid.now path.now) }
 {
-    Ok(json!(in alloc; {
-        "line": number,
-        "op": "review",
-        "path": path.as_str(),
-        "uid": uid.as_str()
-    })?)
+    line_value(
+        alloc,
+        number,
+        &[
+            ("op", "review"),
+            ("path", path.as_str()),
+            ("uid", uid.as_str()),
+        ],
+    )
 }
 
 fn review_value(alloc: Global, number: u64, review: &Review) -> Result<Value, NoMemory>

@@ -264,13 +264,23 @@ impl Stale {
             services_by_address: Vec::new(alloc),
             slices: Vec::new(alloc),
         };
-        match event {
-            Event::Changed { object, .. } => stale.add_replaced(cache, object)?,
-            Event::Deleted { kind, key } => stale.add_deleted(cache, *kind, key)?,
-            Event::ListEnd { group } => stale.add_unlisted(cache, *group)?,
-            Event::Expired | Event::Members { .. } | Event::Frame { .. } | Event::Ignored => {}
+        match stale.add(cache, event) {
+            Ok(()) => Ok(stale),
+            Err(refused) => {
+                drop(stale);
+                Err(refused)
+            }
         }
-        Ok(stale)
+    }
+
+    /// Adds the keys that may not be needed any more where the event is applied.
+    fn add(&mut self, cache: &ObjectCache, event: &Event) -> Result<(), NoMemory> {
+        match event {
+            Event::Changed { object, .. } => self.add_replaced(cache, object),
+            Event::Deleted { kind, key } => self.add_deleted(cache, *kind, key),
+            Event::ListEnd { group } => self.add_unlisted(cache, *group),
+            Event::Expired | Event::Members { .. } | Event::Frame { .. } | Event::Ignored => Ok(()),
+        }
     }
 
     fn add_replaced(&mut self, cache: &ObjectCache, object: &Object) -> Result<(), NoMemory> {
@@ -310,21 +320,27 @@ impl Stale {
     /// What isn't listed is dropped at the end of the list.
     fn add_unlisted(&mut self, cache: &ObjectCache, group: ListGroup) -> Result<(), NoMemory> {
         match group {
-            ListGroup::Config => {}
-            ListGroup::Service => {
-                let unlisted = cache
-                    .services()
-                    .iter()
-                    .filter(|(_, held)| held.version == 0);
-                for (_, held) in unlisted {
-                    self.add_service(&held.object)?;
-                }
+            ListGroup::Config => Ok(()),
+            ListGroup::Service => self.add_unlisted_services(cache),
+            ListGroup::Endpoint => self.add_unlisted_slices(cache),
+        }
+    }
+
+    /// Adds the keys of the services that weren't listed.
+    fn add_unlisted_services(&mut self, cache: &ObjectCache) -> Result<(), NoMemory> {
+        for (_, held) in cache.services().iter() {
+            if held.version == 0 {
+                self.add_service(&held.object)?;
             }
-            ListGroup::Endpoint => {
-                let unlisted = cache.slices().iter().filter(|(_, held)| held.version == 0);
-                for (_, held) in unlisted {
-                    self.add_slice(&held.object)?;
-                }
+        }
+        Ok(())
+    }
+
+    /// Adds the keys of the slices that weren't listed.
+    fn add_unlisted_slices(&mut self, cache: &ObjectCache) -> Result<(), NoMemory> {
+        for (_, held) in cache.slices().iter() {
+            if held.version == 0 {
+                self.add_slice(&held.object)?;
             }
         }
         Ok(())

@@ -86,7 +86,8 @@ in_two_turns (Err path) second third fourth make = refl
 
 -- four that are read in two turns are read as they are one after the other
 pub Gives-two_turns : {A B C D E : Type 0} (first : Result A FieldFault) (second : Result B FieldFault)
-    (third : Result C FieldFault) (fourth : Result D FieldFault) (one : Result (A × B) FieldFault) (other : Result (C × D) FieldFault) (all : Result ((A × B) × (C × D)) FieldFault)
+    (third : Result C FieldFault) (fourth : Result D FieldFault)
+    (one : Result (A × B) FieldFault) (other : Result (C × D) FieldFault) (all : Result ((A × B) × (C × D)) FieldFault)
     (r : Result A Path) (s : Result B Path) (t : Result C Path) (u : Result D Path) (make : A → B → C → D → E)
     → one ≡ in_turn first second → other ≡ in_turn third fourth → all ≡ in_turn one other
     → Gives (λ x. x) first r → Gives (λ x. x) second s → Gives (λ x. x) third t → Gives (λ x. x) fourth u

@@ -1,8 +1,9 @@
 -- Lines that are written: compact JSON, the members in the byte order of their names.
-use Rattle.std.specs.Prelude.{ℕ, List, [], ◌∷◌, ◌++◌, Bool, true, false, codes, decimal, map}
+use Rattle.std.specs.Prelude.{ℕ, List, [], ◌∷◌, ◌++◌, Bool, true, false, codes, decimal, fold, map}
+use Rattle.std.specs.Borrow.{Bor}
 use Rattle.std.specs.List.{concat}
 use Rattle.json.specs.Print.{quoted}
-use Rattle.serde_json.specs.Data.{Data, string, number, unsigned, array, object, Items, member, no_members}
+use Rattle.serde_json.specs.Data.{Data, string, number, unsigned, array, object, Items, Members, member, no_members, put as with_member}
 use Rattle.serde_json.specs.View.{items_of}
 use Rattle.ip_ranges.specs.Values.{AddressValue}
 use Rattle.ip_ranges.specs.AddressText.{canonical_text}
@@ -145,9 +146,12 @@ abbrev pub seen_data : ℕ → Data
 seen_data events = object (member (codes "events") (number_data events) (member (codes "op") (string (codes "seen")) no_members))
 
 -- what is to be done with an address
-abbrev pub address_data : AddressValue → List ℕ → Data
-address_data address op = object (member (codes "address") (string (canonical_text address))
+abbrev pub told_data : List ℕ → List ℕ → Data
+told_data address op = object (member (codes "address") (string address)
     (member (codes "op") (string op) no_members))
+
+abbrev pub address_data : AddressValue → List ℕ → Data
+address_data address op = told_data (canonical_text address) op
 
 abbrev pub send_data : List ℕ → List ℕ → Data
 send_data interface bytes = object (member (codes "bytes") (string (encode_lower bytes))
@@ -171,3 +175,28 @@ trial_data assigned puts services steps = object (member (codes "assigned") (num
     (member (codes "puts") (number_data puts)
     (member (codes "services") (number_data services)
     (member (codes "steps") (number_data steps) no_members)))))
+
+-- ---- members, whatever the order in which they are put together
+
+-- what a pair with references points to
+abbrev pub pair_text : Bor (List ℕ) × Bor (List ℕ) → List ℕ × List ℕ
+pair_text pair = (pair.0.now, pair.1.now)
+
+abbrev pub pair_number : Bor (List ℕ) × ℕ → List ℕ × ℕ
+pair_number pair = (pair.0.now, pair.1)
+
+-- the members with these texts, by their names
+abbrev pub with_texts : List (List ℕ × List ℕ) → Members → Members
+with_texts texts members = fold (λ held text. with_member text.0 (string text.1) held) members texts
+
+-- the members with these numbers, by their names
+abbrev pub with_numbers : List (List ℕ × ℕ) → Members → Members
+with_numbers numbers members = fold (λ held n. with_member n.0 (number_data n.1) held) members numbers
+
+-- the members with these addresses
+abbrev pub with_addresses : List AddressValue → Members → Members
+with_addresses addresses members = with_member (codes "addresses") (array (address_strings addresses)) members
+
+-- what is to be done with bytes, in hexadecimal, and by the name of that whom they are for
+abbrev pub bytes_data : List ℕ → List ℕ → List ℕ → List ℕ → Data
+bytes_data bytes name text op = object (with_texts ((codes "bytes", bytes) ∷ (name, text) ∷ (codes "op", op) ∷ []) no_members)

@@ -1,19 +1,20 @@
 //! The lines that are written, compact JSON without their ends.
-ghost use Rattle.std.specs.Prelude.{◌≡◌, IfOk, IsTrue, false};
-ghost use Rattle.serde_json.specs.View.{view};
-ghost use Rattle.serde_json.specs.Data.{array, string};
+ghost use Rattle.std.specs.Prelude.{◌≡◌, map, IfOk, OnOk, IsTrue, false};
+ghost use Rattle.serde_json.specs.View.{view, members_view};
+ghost use Rattle.serde_json.specs.Data.{array, string, object, no_members};
 ghost use Rattle.serde_json.specs.Written.{has_float, compact_text};
 ghost use Rattle.ip_ranges.specs.AddressText.{canonical_text};
 ghost use Rattle.kube_lines.specs.OutputLines.{put_text, put_data, address_strings, pending_text, pending_data, accepted_text, refused_text};
 ghost use Rattle.kube_lines.specs.OutputLines.{refused_data, is_taken, took_text, took_data, announce_text, withdraw_text, address_data};
 ghost use Rattle.kube_lines.specs.OutputLines.{seen_text, seen_data, send_text, send_data, update_text, update_data, record_text, record_data};
-ghost use Rattle.kube_lines.specs.OutputLines.{trial_text, trial_data};
+ghost use Rattle.kube_lines.specs.OutputLines.{trial_text, trial_data, pair_text, pair_number, with_texts, with_numbers, with_addresses};
+ghost use Rattle.kube_lines.specs.OutputLines.{told_data, bytes_data};
 
 use ip_ranges::{Address, print_address};
 use kube_labels::Text;
 use kube_model::{ConfigFault, Key, LaneName, Put, Reason};
 use mlb_base::NoMemory;
-use serde_json::{Value, json};
+use serde_json::{Map, Value, put as put_member};
 use std::alloc::Global;
 
 /// The text of a value without floats.
@@ -42,19 +43,124 @@ fn addresses_value(alloc: Global, addresses: &[Address]) -> Result<Value, NoMemo
     Ok(Value::Array(strings))
 }
 
+/// The texts come to the members, by their names.
+fn put_texts(
+    members: &mut Map<String, Value>,
+    alloc: Global,
+    texts: &[(&str, &str)],
+) -> Result<(), NoMemory>
+    ensures { OnOk result (members_view members.new.entries
+        ≡ with_texts (map pair_text texts.now) (members_view members.old.entries)) }
+{
+    for &(name, text) in texts {
+        put_member(members, alloc, name, Value::try_from_str(alloc, text)?)?;
+    }
+    Ok(())
+}
+
+/// The numbers come to the members, by their names.
+fn put_numbers(
+    members: &mut Map<String, Value>,
+    alloc: Global,
+    numbers: &[(&str, u64)],
+) -> Result<(), NoMemory>
+    ensures { OnOk result (members_view members.new.entries
+        ≡ with_numbers (map pair_number numbers.now) (members_view members.old.entries)) }
+{
+    for &(name, number) in numbers {
+        put_member(members, alloc, name, Value::from(number))?;
+    }
+    Ok(())
+}
+
+/// An object of the texts and the numbers.
+fn object_value(
+    alloc: Global,
+    texts: &[(&str, &str)],
+    numbers: &[(&str, u64)],
+) -> Result<Value, NoMemory>
+    ensures { IfOk result (λ v. view v ≡ object (with_numbers (map pair_number numbers.now) (with_texts (map pair_text texts.now) no_members))) }
+{
+    let mut members = Map::new(alloc);
+    match put_both(&mut members, alloc, texts, numbers) {
+        Ok(()) => Ok(Value::Object(members)),
+        Err(NoMemory) => {
+            drop(members);
+            Err(NoMemory)
+        }
+    }
+}
+
+/// The texts and the numbers come to the members.
+fn put_both(
+    members: &mut Map<String, Value>,
+    alloc: Global,
+    texts: &[(&str, &str)],
+    numbers: &[(&str, u64)],
+) -> Result<(), NoMemory>
+    ensures { OnOk result (members_view members.new.entries
+        ≡ with_numbers (map pair_number numbers.now) (with_texts (map pair_text texts.now) (members_view members.old.entries))) }
+{
+    put_texts(members, alloc, texts)?;
+    put_numbers(members, alloc, numbers)
+}
+
+/// An object of the addresses, the texts and the numbers.
+fn addressed_value(
+    alloc: Global,
+    addresses: &[Address],
+    texts: &[(&str, &str)],
+    numbers: &[(&str, u64)],
+) -> Result<Value, NoMemory>
+    ensures { IfOk result (λ v. view v ≡ object (with_addresses addresses.now
+        (with_numbers (map pair_number numbers.now) (with_texts (map pair_text texts.now) no_members)))) }
+{
+    let mut members = Map::new(alloc);
+    match put_all(&mut members, alloc, addresses, texts, numbers) {
+        Ok(()) => Ok(Value::Object(members)),
+        Err(NoMemory) => {
+            drop(members);
+            Err(NoMemory)
+        }
+    }
+}
+
+/// The same, and the addresses.
+fn put_all(
+    members: &mut Map<String, Value>,
+    alloc: Global,
+    addresses: &[Address],
+    texts: &[(&str, &str)],
+    numbers: &[(&str, u64)],
+) -> Result<(), NoMemory>
+    ensures { OnOk result (members_view members.new.entries ≡ with_addresses addresses.now
+        (with_numbers (map pair_number numbers.now) (with_texts (map pair_text texts.now) (members_view members.old.entries)))) }
+{
+    put_both(members, alloc, texts, numbers)?;
+    put_member(
+        members,
+        alloc,
+        "addresses",
+        addresses_value(alloc, addresses)?,
+    )?;
+    Ok(())
+}
+
 fn put_value(alloc: Global, put: &Put) -> Result<Value, NoMemory>
     ensures { IfOk result (λ v. view v ≡ put_data put.now) }
 {
-    let addresses = addresses_value(alloc, put.holding.addresses.as_slice())?;
-    Ok(json!(in alloc; {
-        "addresses": addresses,
-        "mark": put.holding.mark.as_str(),
-        "name": put.key.name.as_str(),
-        "namespace": put.key.namespace.as_str(),
-        "op": "put",
-        "pool": put.holding.pool.as_str(),
-        "version": put.version
-    })?)
+    addressed_value(
+        alloc,
+        put.holding.addresses.as_slice(),
+        &[
+            ("mark", put.holding.mark.as_str()),
+            ("name", put.key.name.as_str()),
+            ("namespace", put.key.namespace.as_str()),
+            ("op", "put"),
+            ("pool", put.holding.pool.as_str()),
+        ],
+        &[("version", put.version)],
+    )
 }
 
 /// The line of a put.
@@ -68,12 +174,16 @@ pub fn put_line(alloc: Global, put: &Put) -> Result<Text, NoMemory>
 fn pending_value(alloc: Global, key: &Key, reason: Reason) -> Result<Value, NoMemory>
     ensures { IfOk result (λ v. view v ≡ pending_data key.now reason) }
 {
-    Ok(json!(in alloc; {
-        "name": key.name.as_str(),
-        "namespace": key.namespace.as_str(),
-        "op": "pending",
-        "reason": reason.as_str()
-    })?)
+    object_value(
+        alloc,
+        &[
+            ("name", key.name.as_str()),
+            ("namespace", key.namespace.as_str()),
+            ("op", "pending"),
+            ("reason", reason.as_str()),
+        ],
+        &[],
+    )
 }
 
 /// The line of a service that gets no address.
@@ -94,13 +204,17 @@ pub fn accepted_line(alloc: Global) -> Result<Text, NoMemory>
 fn refused_value(alloc: Global, fault: &ConfigFault) -> Result<Value, NoMemory>
     ensures { IfOk result (λ v. view v ≡ refused_data fault.now) }
 {
-    Ok(json!(in alloc; {
-        "fault": fault.cause.as_str(),
-        "kind": fault.kind.as_str(),
-        "name": fault.name.as_str(),
-        "op": "config",
-        "result": "refused"
-    })?)
+    object_value(
+        alloc,
+        &[
+            ("fault", fault.cause.as_str()),
+            ("kind", fault.kind.as_str()),
+            ("name", fault.name.as_str()),
+            ("op", "config"),
+            ("result", "refused"),
+        ],
+        &[],
+    )
 }
 
 /// The line of a configuration that was refused.
@@ -114,11 +228,11 @@ pub fn refused_line(alloc: Global, fault: &ConfigFault) -> Result<Text, NoMemory
 fn took_value(alloc: Global, lane: LaneName, number: u64) -> Result<Value, NoMemory>
     ensures { IfOk result (λ v. view v ≡ took_data lane number) }
 {
-    Ok(json!(in alloc; {
-        "lane": lane.as_str(),
-        "n": number,
-        "op": "took"
-    })?)
+    object_value(
+        alloc,
+        &[("lane", lane.as_str()), ("op", "took")],
+        &[("n", number)],
+    )
 }
 
 /// The line that tells that the event of a lane's line was taken: the line of this number, from 1. Events are taken
@@ -134,10 +248,7 @@ pub fn took_line(alloc: Global, lane: LaneName, number: u64) -> Result<Text, NoM
 fn seen_value(alloc: Global, events: u64) -> Result<Value, NoMemory>
     ensures { IfOk result (λ v. view v ≡ seen_data events) }
 {
-    Ok(json!(in alloc; {
-        "events": events,
-        "op": "seen"
-    })?)
+    object_value(alloc, &[("op", "seen")], &[("events", events)])
 }
 
 /// The line that tells that a frame was answered by what is shown after so many events.
@@ -148,14 +259,18 @@ pub fn seen_line(alloc: Global, events: u64) -> Result<Text, NoMemory>
     written(alloc, &value)
 }
 
+/// What is to be done with the address of this text.
+fn told_value<'a>(alloc: Global, address: &'a str, op: &'a str) -> Result<Value, NoMemory>
+    ensures { IfOk result (λ v. view v ≡ told_data address.now op.now) }
+{
+    object_value(alloc, &[("address", address), ("op", op)], &[])
+}
+
 fn address_value(alloc: Global, address: &Address, op: &str) -> Result<Value, NoMemory>
     ensures { IfOk result (λ v. view v ≡ address_data address.now op.now) }
 {
     let address = print_address(alloc, address)?;
-    Ok(json!(in alloc; {
-        "address": address,
-        "op": op
-    })?)
+    told_value(alloc, address.as_str(), op)
 }
 
 /// The line of an address that the node announces from now on.
@@ -174,15 +289,30 @@ pub fn withdraw_line(alloc: Global, address: &Address) -> Result<Text, NoMemory>
     written(alloc, &value)
 }
 
+/// What is to be done with the bytes, in hexadecimal, and whom they are for.
+fn bytes_value<'a>(
+    alloc: Global,
+    bytes: &'a str,
+    name: &'a str,
+    text: &'a str,
+    op: &'a str,
+) -> Result<Value, NoMemory>
+    ensures { IfOk result (λ v. view v ≡ bytes_data bytes.now name.now text.now op.now) }
+{
+    object_value(alloc, &[("bytes", bytes), (name, text), ("op", op)], &[])
+}
+
 fn send_value(alloc: Global, interface: &Text, bytes: &[u8]) -> Result<Value, NoMemory>
     ensures { IfOk result (λ v. view v ≡ send_data interface.now bytes.now) }
 {
     let frame = hex::encode(alloc, bytes)?;
-    Ok(json!(in alloc; {
-        "bytes": frame,
-        "interface": interface.as_str(),
-        "op": "send"
-    })?)
+    bytes_value(
+        alloc,
+        frame.as_str(),
+        "interface",
+        interface.as_str(),
+        "send",
+    )
 }
 
 /// The line of a frame that is to be sent by an interface, its bytes in hexadecimal.
@@ -197,11 +327,7 @@ fn update_value(alloc: Global, peer: &Text, bytes: &[u8]) -> Result<Value, NoMem
     ensures { IfOk result (λ v. view v ≡ update_data peer.now bytes.now) }
 {
     let message = hex::encode(alloc, bytes)?;
-    Ok(json!(in alloc; {
-        "bytes": message,
-        "op": "update",
-        "peer": peer.as_str()
-    })?)
+    bytes_value(alloc, message.as_str(), "peer", peer.as_str(), "update")
 }
 
 /// The line of a message (RFC 4271, section 4.3) that is to be sent to a BGP peer, its bytes in hexadecimal.
@@ -215,13 +341,16 @@ pub fn update_line(alloc: Global, peer: &Text, bytes: &[u8]) -> Result<Text, NoM
 fn record_value(alloc: Global, key: &Key, addresses: &[Address]) -> Result<Value, NoMemory>
     ensures { IfOk result (λ v. view v ≡ record_data key.now addresses.now) }
 {
-    let addresses = addresses_value(alloc, addresses)?;
-    Ok(json!(in alloc; {
-        "addresses": addresses,
-        "name": key.name.as_str(),
-        "namespace": key.namespace.as_str(),
-        "op": "record"
-    })?)
+    addressed_value(
+        alloc,
+        addresses,
+        &[
+            ("name", key.name.as_str()),
+            ("namespace", key.namespace.as_str()),
+            ("op", "record"),
+        ],
+        &[],
+    )
 }
 
 /// The line of the addresses that a service has at the end of a trial.
@@ -241,13 +370,16 @@ fn trial_value(
 ) -> Result<Value, NoMemory>
     ensures { IfOk result (λ v. view v ≡ trial_data assigned puts services steps) }
 {
-    Ok(json!(in alloc; {
-        "assigned": assigned,
-        "op": "trial",
-        "puts": puts,
-        "services": services,
-        "steps": steps
-    })?)
+    object_value(
+        alloc,
+        &[("op", "trial")],
+        &[
+            ("assigned", assigned),
+            ("puts", puts),
+            ("services", services),
+            ("steps", u64::from(steps)),
+        ],
+    )
 }
 
 /// The line that ends a trial: how many services have an address, how many puts were wanted, how many

@@ -1,8 +1,8 @@
 -- The lines that say what lines are read as: compact JSON, the members in the byte order of their names.
-use Rattle.std.specs.Prelude.{ℕ, List, Option, Some, None, codes, fold}
-use Rattle.std.specs.Borrow.{Bor}
-use Rattle.serde_json.specs.Data.{Data, string, number, unsigned, object, Members, member, no_members, put}
+use Rattle.std.specs.Prelude.{ℕ, List, [], ◌∷◌, Option, Some, None, codes}
+use Rattle.serde_json.specs.Data.{Data, string, number, unsigned, object, Members, member, no_members}
 use Rattle.serde_json.specs.Written.{compact_text}
+use Rattle.kube_lines.specs.OutputLines.{with_texts, with_numbers}
 use Rattle.kube_model.specs.declared.event.Event.{Event as Said}
 use Rattle.kube_model.specs.declared.event.Event.TheVariants.{Changed, Deleted, ListEnd, Expired, Members as Speakers, Frame, Ignored}
 use Rattle.kube_model.specs.declared.event.EventFault.{EventFault}
@@ -30,19 +30,9 @@ text_member name text rest = member name (string text) rest
 abbrev pub line_member : ℕ → Members → Members
 line_member n rest = member (codes "line") (number (unsigned n)) rest
 
--- ---- the same, whatever the order in which they are put together
-
--- what a pair of references points to
-abbrev pub pair_text : Bor (List ℕ) × Bor (List ℕ) → List ℕ × List ℕ
-pair_text pair = (pair.0.now, pair.1.now)
-
--- the members with these texts, by their names
-abbrev pub with_texts : Members → List (List ℕ × List ℕ) → Members
-with_texts members texts = fold (λ held text. put text.0 (string text.1) held) members texts
-
--- the members with these texts, and with the number of the line
-abbrev pub with_line : ℕ → List (List ℕ × List ℕ) → Members → Members
-with_line n texts members = put (codes "line") (number (unsigned n)) (with_texts members texts)
+-- the members with these texts, and with the number of the line, by their names
+abbrev pub with_line : ℕ → List (List ℕ × List ℕ) → Members
+with_line n texts = with_numbers ((codes "line", n) ∷ []) (with_texts texts no_members)
 
 -- ---- an event
 

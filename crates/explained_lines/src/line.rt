@@ -1,53 +1,31 @@
 //! The lines that say what lines are read as.
-ghost use Rattle.std.specs.Prelude.{◌≡◌, map, IfOk, OnOk};
+ghost use Rattle.std.specs.Prelude.{◌≡◌, map, IfOk};
 ghost use Rattle.std.specs.Option.{option_map};
-ghost use Rattle.serde_json.specs.Data.{object, no_members};
-ghost use Rattle.serde_json.specs.View.{view, members_view};
-ghost use Rattle.explained_lines.specs.Lines.{pair_text, with_line};
+ghost use Rattle.serde_json.specs.Data.{object};
+ghost use Rattle.serde_json.specs.View.{view};
+ghost use Rattle.kube_lines.specs.OutputLines.{pair_text};
+ghost use Rattle.explained_lines.specs.Lines.{with_line};
 ghost use Rattle.explained_lines.specs.Lines.{object_data, list_data, plain_data, ignored_data, name_of, namespace_of, namespace_in, ending_kind, event_data};
 ghost use Rattle.explained_lines.specs.Lines.{path_data, reason_data, refused_data, asked_data, unread_data, review_data, explained_data, explained_text};
 
 use crate::explained::Explained;
 use admission_reviews::{Change, Review, written};
 use kube_labels::Text;
+use kube_lines::object_value;
 use kube_model::{Event, EventFault, Key, Kind, ListGroup, Object};
 use mlb_base::NoMemory;
-use serde_json::{Map, Value, put};
+use serde_json::Value;
 use std::alloc::Global;
-
-/// The texts come to the members, by their names, and the number of the line.
-fn put_line(
-    members: &mut Map<String, Value>,
-    alloc: Global,
-    number: u64,
-    texts: &[(&str, &str)],
-) -> Result<(), NoMemory>
-    ensures { OnOk result (members_view members.new.entries
-        ≡ with_line number (map pair_text texts.now) (members_view members.old.entries)) }
-{
-    for &(name, text) in texts {
-        put(members, alloc, name, Value::try_from_str(alloc, text)?)?;
-    }
-    put(members, alloc, "line", Value::from(number))?;
-    Ok(())
-}
 
 /// An object with the number of the line and these texts.
 fn line_value(alloc: Global, number: u64, texts: &[(&str, &str)]) -> Result<Value, NoMemory>
-    ensures { IfOk result (λ v. view v ≡ object (with_line number (map pair_text texts.now) no_members)) }
+    ensures { IfOk result (λ v. view v ≡ object (with_line number (map pair_text texts.now))) }
 {
-    let mut members = Map::new(alloc);
-    match put_line(&mut members, alloc, number, texts) {
-        Ok(()) => Ok(Value::Object(members)),
-        Err(NoMemory) => {
-            drop(members);
-            Err(NoMemory)
-        }
-    }
+    object_value(alloc, texts, &[("line", number)])
 }
 
 /// An object is there or gone, as `what` says.
-fn object_value<'a>(
+fn named_value<'a>(
     alloc: Global,
     number: u64,
     kind: Kind,
@@ -172,7 +150,7 @@ fn event_value(alloc: Global, number: u64, event: &Event) -> Result<Value, NoMem
     ensures { IfOk result (λ v. view v ≡ event_data number event.now) }
 {
     match event {
-        Event::Changed { object, .. } => object_value(
+        Event::Changed { object, .. } => named_value(
             alloc,
             number,
             object.kind(),
@@ -181,7 +159,7 @@ fn event_value(alloc: Global, number: u64, event: &Event) -> Result<Value, NoMem
             "set",
         ),
         Event::Deleted { kind, key } => {
-            object_value(
+            named_value(
                 alloc,
                 number,
                 *kind,

@@ -7,7 +7,7 @@ mod reply;
 
 pub use laws::lines_are_read;
 pub use lines::{
-    accepted_line, announce_line, pending_line, put_line, record_line, refused_line, seen_line,
-    send_line, took_line, trial_line, update_line, withdraw_line,
+    accepted_line, announce_line, object_value, pending_line, put_line, record_line, refused_line,
+    seen_line, send_line, took_line, trial_line, update_line, withdraw_line,
 };
 pub use reply::{ReplyFault, read_reply};

@@ -73,8 +73,8 @@ fn put_numbers(
     Ok(())
 }
 
-/// An object of the texts and the numbers.
-fn object_value(
+/// An object of the texts and the numbers, by their names, in the byte order of these; of two with one name the later one. Texts come before numbers.
+pub fn object_value(
     alloc: Global,
     texts: &[(&str, &str)],
     numbers: &[(&str, u64)],

@@ -3,7 +3,6 @@
 use crate::crashes::crash_lines;
 use crate::steps::{make, recorded_world, world_of};
 use crate::stored::{held_text, store_text};
-use answer_lines::Answering;
 use ctl_world::{ListOrder, StartFault, World};
 use kube_labels::Text;
 use kube_model::Key;
@@ -127,14 +126,14 @@ impl Case {
             _ => self.happen(line),
         }
     }
-}
 
-impl Answering for Case {
-    fn answer(&mut self, alloc: Global, line: &str) -> anyhow::Result<String> {
+    /// The answer to the line: whole lines, or nothing.
+    pub fn answer(&mut self, line: &str) -> Result<String, NoMemory> {
         if line.as_bytes().starts_with(b"#") {
-            drop(mem::replace(self, Case::new(alloc)));
-            return Ok(format!(in alloc; "{line}\n")?);
+            drop(mem::replace(self, Case::new(self.alloc)));
+            return Ok(format!(in self.alloc; "{line}\n")?);
         }
-        Ok(self.take(line)?)
+        self.take(line)
     }
 }
+

@@ -15,15 +15,29 @@ mod judged;
 mod steps;
 mod stored;
 
-use answer_lines::answer_lines;
 use case::Case;
-use std::io;
+use std::io::{self, Input};
+
+/// Writes the answer to the line, or why there is none.
+fn answer_line(rt: &impl Print, case: &mut Case, line: &str) -> io::Result<()> {
+    match case.answer(line) {
+        Ok(text) => print!(rt; "{text}"),
+        Err(fault) => println!(rt; "{fault}"),
+    }
+}
+
+/// Writes the answer to each line of the input.
+fn answer_lines(rt: &(impl Print + Input), case: &mut Case) -> io::Result<()> {
+    for line in rt.lines(rt.alloc()) {
+        answer_line(rt, case, line?.as_str())?;
+    }
+    Ok(())
+}
 
 /// The case is dropped in one place: each way out of a function that holds one would drop it anew.
 fn main(rt: HostRuntime) -> io::Result<()> {
-    let alloc = rt.alloc();
-    let mut case = Case::new(alloc);
-    let outcome = answer_lines(&rt, alloc, &mut case);
+    let mut case = Case::new(rt.alloc());
+    let outcome = answer_lines(&rt, &mut case);
     drop(case);
     outcome
 }

@@ -1,13 +1,20 @@
 //! What is stored and held, as lines.
 
-use answer_lines::push_item;
 use ctl_core::Core;
 use ctl_world::{Store, World};
 use ip_ranges::{Address, print_address};
 use kube_labels::Text;
 use kube_model::{Key, Object, Service};
 use mlb_base::NoMemory;
-use std::alloc::Global;
+use std::alloc::{AllocError, Global};
+
+/// Appends an item to a list that has commas between its items.
+fn push_item(list: &mut String, item: &str) -> Result<(), AllocError> {
+    if !list.is_empty() {
+        list.push(',')?;
+    }
+    list.push_str(item)
+}
 
 /// The addresses, with commas between; `-` for none.
 fn addresses(alloc: Global, addresses: &[Address]) -> Result<String, NoMemory> {

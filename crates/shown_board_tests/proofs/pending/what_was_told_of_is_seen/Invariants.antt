@@ -1,5 +1,0 @@
-use Rattle.shown_board_tests.proofs.pending.what_was_told_of_is_seen.Given as goal
-
--- the list that was just opened
-abbrev pub ghosts-is_told : goal.ghosts-is_told
-ghosts-is_told g a = record { book = a.opened.seen.book }

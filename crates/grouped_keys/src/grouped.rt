@@ -86,7 +86,7 @@ impl<G: Ord + Drop, K: Ord + Drop> GroupedKeys<G, K> {
         };
         keys.remove(key);
         if keys.is_empty() {
-            self.groups.remove(group);
+            drop(self.groups.remove(group));
         }
     }
 }

@@ -2,9 +2,16 @@ use Rattle.std.proofs.Common.{◌≡◌, false, sym}
 use Rattle.std.specs.BTreeMap.{is_at}
 use Rattle.std.specs.List.{list_any}
 use Rattle.key_queue.specs.Turn.{in_turn}
-use Rattle.key_queue.proofs.QueueLaws.{queued-new}
+use Rattle.key_queue.proofs.QueueLaws.{queued-there, queued-new}
 use Rattle.key_queue.proofs.TurnLaws.{in_turn-came, within, absent}
 use Rattle.key_queue.proofs.list.KeyList.push.Goals as goal
+
+pub returns-then-contains-clause-ok : goal.returns-then-contains-clause-ok
+returns-then-contains-clause-ok g c = sym (queued-there g.K.PartialEq.eq c.args.self.now c.args.key (sym c.if-contains.ensures))
+
+pub invariant_of-self : goal.invariant_of-self
+invariant_of-self g c =
+    (c.insert.ensures.ordered, rw c.in_err-insert.ensures.err c.self.invariant.1)
 
 pub invariant_of-self-2 : goal.invariant_of-self-2
 invariant_of-self-2 g c = (

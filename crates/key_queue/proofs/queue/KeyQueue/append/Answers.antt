@@ -1,6 +1,18 @@
-use Rattle.std.proofs.Common.{◌∙◌, ap, take}
-use Rattle.key_queue.proofs.QueueLaws.{take-begun}
+use Rattle.std.proofs.Common.{◌∙◌, ap, sym, subst, take}
+use Rattle.std.specs.Vec.Iter.{into_iter_items}
+use Rattle.key_queue.specs.Queue.{queued_all}
+use Rattle.key_queue.proofs.QueueLaws.{Begins, begun-queued, take-begun}
 use Rattle.key_queue.proofs.queue.KeyQueue.append.Goals as goal
+
+pub loop-key-preserved : goal.loop-key-preserved
+loop-key-preserved g c =
+    let eq = g.K.PartialEq.eq in
+    record {
+      whole = ap (λ s. queued_all eq s (into_iter_items c.next.new.self)) c.in-Ok.ensures.ok
+          ∙ (ap (queued_all eq c.loop-key.self) (sym c.in-Some.ensures.steps.0) ∙ c.loop-key.invariant.whole);
+      begins = subst (Begins c.args.self.now) (sym c.in-Ok.ensures.ok)
+          (begun-queued eq c.args.self.now c.loop-key.self c.in-Some.key c.loop-key.invariant.begins);
+    }
 
 pub returns-in-Err-clause-err : goal.returns-in-Err-clause-err
 returns-in-Err-clause-err g c =

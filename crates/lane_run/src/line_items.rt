@@ -20,26 +20,31 @@ pub(crate) fn item_of_line<L: Lanes>(alloc: Global, lane: Lane, line: Line) -> R
 {
     let event = match read_event(alloc, line.bytes.as_slice()) {
         Ok(event) => event,
-        Err(EventFault::NoMemory) => return Err(LaneEnd::NoMemory),
-        Err(_) => {
-            return Err(LaneEnd::BadLine {
-                number: line.number,
-                bytes: line.bytes,
-            });
+        Err(EventFault::NoMemory) => {
+            drop(line);
+            return Err(LaneEnd::NoMemory);
         }
+        Err(_) => return Err(bad_line(line)),
     };
     if !L::belongs(lane, &event) {
         drop(event);
-        return Err(LaneEnd::BadLine {
-            number: line.number,
-            bytes: line.bytes,
-        });
+        return Err(bad_line(line));
     }
+    let number = line.number;
+    drop(line);
     Ok(Item {
         lane,
-        number: line.number,
+        number,
         event,
     })
+}
+
+/// The end of a lane at a line that it may not carry.
+fn bad_line(line: Line) -> LaneEnd
+    ensures { result ≡ LaneEnd.BadLine line.number line.bytes }
+{
+    let Line { number, bytes } = line;
+    LaneEnd::BadLine { number, bytes }
 }
 
 /// Turns the item into the one that is sent for it.

@@ -44,12 +44,13 @@ pub(crate) fn reconcile<M: Reconciler, R: PacedWait<K>, I: PacedSource<K>, K: Si
 {
     'items: loop {
         match rt.take_next(mail, inbox, out) {
-            Taken::Item(item) => {
-                if let Err(status) = machine.take(alloc, item, reader, input, out) {
+            Taken::Item(item) => match machine.take(alloc, item, reader, input, out) {
+                Ok(()) => {}
+                Err(status) => {
                     rt.drop_rest(mail, inbox, out);
                     return Err(status);
                 }
-            }
+            },
             Taken::AllEnded => return Ok(()),
         }
     }

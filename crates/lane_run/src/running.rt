@@ -180,7 +180,7 @@ pub fn run_turned<
         input,
         out,
     );
-    rt.into_lists(mail, inbox, first_done, second_done);
+    drop(rt.into_lists(mail, inbox, first_done, second_done));
     Ok(LaneRun {
         outcome,
         first: first_end,

@@ -27,8 +27,8 @@ items-preserved g c =
         items = so_far.items ++ c.in-Item.item ∷ [];
         lanes = lanes_more so_far.items (c.in-Item.item ∷ []) c.items.inbox c.take_next.new.inbox so_far.lanes (c.in-Item.ensures.item c.in-Item.item refl);
         drove = AreDriven-push g.M.Reconciler.Drives so_far.items c.in-Item.item (g.M.Reconciler.state c.args.machine.now)
-            (g.M.Reconciler.state c.items.machine) (g.M.Reconciler.state c.take.new.self) _ _ _ so_far.drove c.in_default.ensures.ok;
-        stands = λ fresh. c.in_default.ensures.behind so_far.items (so_far.stands fresh);
+            (g.M.Reconciler.state c.items.machine) (g.M.Reconciler.state c.take.new.self) _ _ _ so_far.drove c.in-Ok.ensures.ok;
+        stands = λ fresh. c.in-Ok.ensures.behind so_far.items (so_far.stands fresh);
       };
     }
 

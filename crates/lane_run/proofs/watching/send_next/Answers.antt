@@ -1,4 +1,4 @@
-use Rattle.std.proofs.Common.{◌≡◌, ◌≤◌, ◌<◌, ◌^◌, ℕ, Bool, false, List, ◌∷◌, [], Option, Err, inl, inr, refl, arith, IsErrOf}
+use Rattle.std.proofs.Common.{◌≡◌, ◌≤◌, ◌<◌, ◌^◌, ℕ, Bool, false, List, ◌∷◌, [], Option, Err, inl, inr, refl, ap, not, arith, IsErrOf}
 use Rattle.kube_model.specs.declared.event.Event.{Event}
 use Rattle.lane_mail.specs.declared.lane.Lane.{Lane}
 use Rattle.mlb_edge.specs.Causes.{Rose}
@@ -43,33 +43,67 @@ left_unsent : {S : Type 0} (Turns : S → S → Event → Event → Type 0) (s :
 left_unsent Turns s belongs lane line end (inl wants) = rw wants (inl refl)
 left_unsent Turns s belongs lane line end (inr (none, is)) = rw is refl
 
-pub returns-in-Err-clause-ends : goal.returns-in-Err-clause-ends
-returns-in-Err-clause-ends g c = rw c.end_of.ensures (ends_unread g.L.Lanes.belongs c.args.lane
-    (to_come c.args.reader.now (g.S.Source.left c.args.source.now)) (to_come c.next_line.new.self (g.S.Source.left c.next_line.new.source))
-    c.next_line.new.self.held (g.S.Source.left c.next_line.new.source)
-    (g.S.Source.faults c.args.source.now) (g.S.Source.faults c.next_line.new.source) (g.S.Source.safe c.args.source.now) c.in-Err.end
-    c.in-Err.ensures.line_limit (rw c.in-Err.is at c.next_line.ensures.input_limit) (rw c.in-Err.is at c.next_line.ensures.read_fault)
-    (rw c.in-Err.is at c.next_line.ensures.waits) (rw c.in-Err.is at c.next_line.ensures.unsafe_read) c.in-Err.ensures.err)
+pub returns-in-Ok-None : goal.returns-in-Ok-None
+returns-in-Ok-None g c = record {
+  sends = tt;
+  ends = (rw c.in-Ok-None.field-0-is at c.in-Ok-None.ensures.end, (rw c.in-Ok-None.field-0-is at c.in-Ok-None.ensures.at_end).1);
+  unsent = refl;
+  left = refl;
+  passes = c.next_line.ensures.passes;
+  near = tt;
+  later = c.next_line.ensures.later;
+  name = c.next_line.ensures.name;
+  safe = c.next_line.ensures.safe;
+}
 
-pub returns-in-Err-clause-left : goal.returns-in-Err-clause-left
-returns-in-Err-clause-left g c = rw c.end_of.ensures (left_unread g.T.Turner.Turns (g.T.Turner.state c.args.turner.now) c.in-Err.end)
+pub returns-in-Err : goal.returns-in-Err
+returns-in-Err g c = record {
+  sends = tt;
+  ends = rw c.end_of.ensures (ends_unread g.L.Lanes.belongs c.args.lane
+      (to_come c.args.reader.now (g.S.Source.left c.args.source.now)) (to_come c.next_line.new.self (g.S.Source.left c.next_line.new.source))
+      c.next_line.new.self.held (g.S.Source.left c.next_line.new.source)
+      (g.S.Source.faults c.args.source.now) (g.S.Source.faults c.next_line.new.source) (g.S.Source.safe c.args.source.now) c.in-Err.end
+      c.in-Err.ensures.line_limit (rw c.in-Err.is at c.next_line.ensures.input_limit) (rw c.in-Err.is at c.next_line.ensures.read_fault)
+      (rw c.in-Err.is at c.next_line.ensures.waits) (rw c.in-Err.is at c.next_line.ensures.unsafe_read) c.in-Err.ensures.err);
+  unsent = refl;
+  left = rw c.end_of.ensures (left_unread g.T.Turner.Turns (g.T.Turner.state c.args.turner.now) c.in-Err.end);
+  passes = c.next_line.ensures.passes;
+  near = tt;
+  later = c.next_line.ensures.later;
+  name = c.next_line.ensures.name;
+  safe = c.next_line.ensures.safe;
+}
 
-pub returns-in-Err-item_of_line-clause-ends : goal.returns-in-Err-item_of_line-clause-ends
-returns-in-Err-item_of_line-clause-ends g c = ends_unsent g.L.Lanes.belongs c.args.lane
-    (to_come c.args.reader.now (g.S.Source.left c.args.source.now)) (to_come c.next_line.new.self (g.S.Source.left c.next_line.new.source))
-    c.next_line.new.self.held (g.S.Source.left c.next_line.new.source)
-    (g.S.Source.faults c.args.source.now) (g.S.Source.faults c.next_line.new.source) (g.S.Source.safe c.args.source.now) c.in-Ok-Some.line
-    c.in-Err-item_of_line.end (rw c.in-Ok-Some.field-0-is at c.in-Ok-Some.ensures.line) c.in-Err-item_of_line.ensures.err
+pub returns-in-Err-item_of_line : goal.returns-in-Err-item_of_line
+returns-in-Err-item_of_line g c = record {
+  sends = tt;
+  ends = ends_unsent g.L.Lanes.belongs c.args.lane
+      (to_come c.args.reader.now (g.S.Source.left c.args.source.now)) (to_come c.next_line.new.self (g.S.Source.left c.next_line.new.source))
+      c.next_line.new.self.held (g.S.Source.left c.next_line.new.source)
+      (g.S.Source.faults c.args.source.now) (g.S.Source.faults c.next_line.new.source) (g.S.Source.safe c.args.source.now) c.in-Ok-Some.line
+      c.in-Err-item_of_line.end (rw c.in-Ok-Some.field-0-is at c.in-Ok-Some.ensures.line) c.in-Err-item_of_line.ensures.err;
+  unsent = refl;
+  left = left_unsent g.T.Turner.Turns (g.T.Turner.state c.args.turner.now) g.L.Lanes.belongs c.args.lane c.in-Ok-Some.line
+      c.in-Err-item_of_line.end c.in-Err-item_of_line.ensures.err;
+  passes = c.next_line.ensures.passes;
+  near = tt;
+  later = c.next_line.ensures.later;
+  name = c.next_line.ensures.name;
+  safe = c.next_line.ensures.safe;
+}
 
-pub returns-in-Err-item_of_line-clause-left : goal.returns-in-Err-item_of_line-clause-left
-returns-in-Err-item_of_line-clause-left g c = left_unsent g.T.Turner.Turns (g.T.Turner.state c.args.turner.now) g.L.Lanes.belongs c.args.lane c.in-Ok-Some.line
-    c.in-Err-item_of_line.end c.in-Err-item_of_line.ensures.err
-
-pub returns-in-Err-turn_item-clause-ends : goal.returns-in-Err-turn_item-clause-ends
-returns-in-Err-turn_item-clause-ends g c = rw c.in-Err-turn_item.ensures.err tt
-
-pub returns-in-Err-turn_item-clause-left : goal.returns-in-Err-turn_item-clause-left
-returns-in-Err-turn_item-clause-left g c = rw c.in-Err-turn_item.ensures.err (inl c.in-Err-turn_item.ensures.same)
+pub returns-in-Err-turn_item : goal.returns-in-Err-turn_item
+returns-in-Err-turn_item g c = record {
+  sends = tt;
+  ends = rw c.in-Err-turn_item.ensures.err tt;
+  unsent = refl;
+  left = rw c.in-Err-turn_item.ensures.err (inl c.in-Err-turn_item.ensures.same);
+  passes = c.next_line.ensures.passes;
+  near = tt;
+  later = c.next_line.ensures.later;
+  name = c.next_line.ensures.name;
+  safe = c.next_line.ensures.safe;
+}
 
 pub put_item-requires-clause-room : goal.put_item-requires-clause-room
 put_item-requires-clause-room g c =
@@ -77,19 +111,36 @@ put_item-requires-clause-room g c =
     rw c.in-Ok-Some.field-0-is at c.in-Ok-Some.ensures.near in
     omega (arith, near.0, near.1, c.requires.room)
 
-pub returns-then-put_item-clause-sends : goal.returns-then-put_item-clause-sends
-returns-then-put_item-clause-sends g c = record {
-  line = c.in-Ok-Some.line;
-  item = c.in-Ok.item;
-  comes = rw c.in-Ok-Some.field-0-is at c.in-Ok-Some.ensures.line;
-  is = c.in-Ok.ensures.ok;
-  one = c.in-Ok-turn_item.sent;
-  turned = c.in-Ok-turn_item.ensures.ok;
-  sent = c.put_item.ensures.sent c.if-put_item.true;
+pub returns-then-put_item : goal.returns-then-put_item
+returns-then-put_item g c = record {
+  sends = record {
+    line = c.in-Ok-Some.line;
+    item = c.in-Ok.item;
+    comes = rw c.in-Ok-Some.field-0-is at c.in-Ok-Some.ensures.line;
+    is = c.in-Ok.ensures.ok;
+    one = c.in-Ok-turn_item.sent;
+    turned = c.in-Ok-turn_item.ensures.ok;
+    sent = c.put_item.ensures.sent c.if-put_item.true;
+  };
+  ends = tt;
+  unsent = tt;
+  left = tt;
+  passes = c.next_line.ensures.passes;
+  near = rw c.in-Ok-Some.field-0-is at c.in-Ok-Some.ensures.near;
+  later = c.next_line.ensures.later;
+  name = c.next_line.ensures.name;
+  safe = c.next_line.ensures.safe;
 }
 
-pub returns-then-put_item-clause-near : goal.returns-then-put_item-clause-near
-returns-then-put_item-clause-near g c = rw c.in-Ok-Some.field-0-is at c.in-Ok-Some.ensures.near
-
-pub returns-else-put_item-clause-left : goal.returns-else-put_item-clause-left
-returns-else-put_item-clause-left g c = inr (c.in-Ok.item, c.in-Ok-turn_item.sent, c.in-Ok-turn_item.ensures.ok)
+pub returns-else-put_item : goal.returns-else-put_item
+returns-else-put_item g c = record {
+  sends = tt;
+  ends = tt;
+  unsent = c.put_item.ensures.unsent (ap not c.if-put_item.false);
+  left = inr (c.in-Ok.item, c.in-Ok-turn_item.sent, c.in-Ok-turn_item.ensures.ok);
+  passes = c.next_line.ensures.passes;
+  near = tt;
+  later = c.next_line.ensures.later;
+  name = c.next_line.ensures.name;
+  safe = c.next_line.ensures.safe;
+}

@@ -1,8 +1,7 @@
 -- Replies, one after the other, and what they are once the list is known.
-use Rattle.std.proofs.Common.{◌≡◌, ℕ, ◌+◌, ◌<◌, ◌≤◌, zero, suc, Option, Some, Result, Ok, Err, IfSome, IfOk, List}
+use Rattle.std.proofs.Common.{◌≡◌, ℕ, ◌+◌, ◌<◌, ◌≤◌, zero, suc, Option, Some, IfSome, List}
 use Rattle.std.proofs.Common.{[], ◌∷◌, ◌++◌, length, fold, take, get_or, add-one, refl, ap, sym, subst, ◌∙◌, arith, append_assoc, length-append}
 use mathlib.Core.List.{IsPrefix}
-use Rattle.std.specs.Result.{result_ok}
 use Rattle.std.proofs.Math.Seq.{take-suc}
 use Rattle.shown_board.specs.declared.follower.Reply.{Reply}
 use Rattle.shown_board.specs.Replies.{AreReplies, AreAnswered}
@@ -80,9 +79,3 @@ taken_all (x ∷ items) (suc i) le = ap (λ w. x ∷ w) (taken_all items i (omeg
 -- what is so of an answer that is there
 pub some_gives : {A : Type 0} (answer : Option A) (x : A) (P : A → Type 0) → answer ≡ Some x → IfSome answer P → P x
 some_gives {A} answer x P is so = subst (λ (o : Option A). IfSome o P) is so
-
-pub ok_gives : {A X : Type 0} (answer : Result A X) (x : A) (P : A → Type 0) → result_ok answer ≡ Some x → IfOk answer P → P x
-ok_gives (Ok a) x P is so =
-    let same : a ≡ x = cc is in
-    subst P same so
-ok_gives (Err e) x P is so = absurd (cc is)

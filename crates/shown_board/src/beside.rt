@@ -1,5 +1,5 @@
 //! A responder that answers beside the writer, and what its answers are once both have ended.
-ghost use Rattle.std.specs.Prelude.{◌≡◌, ◌++◌, ◌≤◌, [], fold, length, IfSome, IsTrue};
+ghost use Rattle.std.specs.Prelude.{◌≡◌, ◌++◌, ◌∷◌, ◌≤◌, List, [], fold, length, IfSome, IsTrue};
 ghost use mathlib.Core.List.{IsPrefix};
 ghost use Rattle.shown_board.specs.Replies.{AreReplies, AreAnswered};
 
@@ -38,11 +38,29 @@ pub fn publish_all<P: Post<E, J>, E: Drop, J: Naming, R: Wait>(
     ensures { IsTrue result → writer.new.published ≡ events.items }
 {
     for event in events {
-        if writer.append(event).is_err() || writer.publish(rt).is_err() {
+        if !publish_one(rt, writer, event) {
             return false;
         }
     }
     true
+}
+
+/// Appends and publishes the event, behind which nothing else is pending then.
+fn publish_one<P: Post<E, J>, E: Drop, J: Naming, R: Wait>(
+    rt: &R,
+    writer: &mut BoardWriter<P, E, J>,
+    event: E,
+) -> bool
+    requires { writer.old.pending ≡ [] }
+    ensures { IsTrue result → (writer.new.published ≡ writer.old.published ++ event ∷ []) × (writer.new.pending ≡ []) }
+{
+    match writer.append(event) {
+        Ok(()) => writer.publish(rt).is_ok(),
+        Err(back) => {
+            drop(back);
+            false
+        }
+    }
 }
 
 /// The answers, and what was seen for them.
@@ -53,8 +71,12 @@ fn read<T: Follower<E>, E: Drop, J: Naming, Q: Question<T>>(
 ) -> Option<(Beginning<E, J>, Vec<Reply<Q::Answer>>)>
     ensures { IfSome result (λ r. AreReplies T.after T.start Q.answers responder.seen questions.now r.1.items r.0) }
 {
-    let replies = answer_all(alloc, &mut responder, questions)?;
-    Some((responder.seen(), replies))
+    let read = match answer_all(alloc, &mut responder, questions) {
+        Some(replies) => Some((responder.seen(), replies)),
+        None => None,
+    };
+    drop(responder);
+    read
 }
 
 /// All that is published, where there was memory for all of the events.
@@ -96,7 +118,13 @@ where
     requires start { (first ≡ T.start) × (second ≡ T.start) }
     ensures { IfSome result (λ replies. AreAnswered T.after T.start Q.answers events.items 0 questions.now replies.items) }
 {
-    let (mut writer, responder) = board::<T, E, J, R>(rt, alloc, opened, first, second).ok()?;
+    let (mut writer, responder) = match board::<T, E, J, R>(rt, alloc, opened, first, second) {
+        Ok(sides) => sides,
+        Err(_) => {
+            drop(events);
+            return None;
+        }
+    };
     let (read, written) = join(
         rt,
         || -> Option<(Beginning<E, J>, Vec<Reply<Q::Answer>>)>
@@ -108,6 +136,18 @@ where
         { write(rt, &mut writer, events) },
     );
     writer.end(rt);
+    known::<T, E, J, Q>(read, written)
+}
+
+/// The replies, where what was seen for them begins what was written.
+fn known<T: Follower<E>, E: Drop, J: Naming, Q: Question<T>>(
+    read: Option<(Beginning<E, J>, Vec<Reply<Q::Answer>>)>,
+    written: Option<Beginning<E, J>>,
+) -> Option<Vec<Reply<Q::Answer>>>
+    ensures { (questions : List Q) (events : List E)
+        → IfSome read (λ r. AreReplies T.after T.start Q.answers [] questions r.1.items r.0) → IfSome written (λ all. all ≡ events)
+        → IfSome result (λ replies. AreAnswered T.after T.start Q.answers events 0 questions replies.items) }
+{
     let (seen, replies) = read?;
     if !seen.begins(&written?) {
         return None;

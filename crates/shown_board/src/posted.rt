@@ -2,6 +2,7 @@
 ghost use Rattle.std.specs.Prelude.{◌≡◌, ◌++◌, ◌∷◌, []};
 
 use crate::follower::Follower;
+use core::mem;
 use growing_list::{Beginning, Naming};
 use left_right::Absorb;
 use std::alloc::AllocError;
@@ -39,6 +40,14 @@ impl<E: Drop, J: Naming> Model for Step<E, J> {
     ghost view = { λ s. record { event = s.event; front = s.front } };
 
     ghost invariant = { λ s. EndsBy s.front s.event };
+}
+
+impl<E: Drop, J: Naming> Step<E, J> {
+    pub(crate) fn into_event(self) -> E
+        ensures { result ≡ self.event }
+    {
+        self.event
+    }
 }
 
 /// A published value as its writer knows it. That its list is what was taken in is a law of it.
@@ -88,7 +97,7 @@ impl<T: Follower<E>, E: Drop, J: Naming> Absorb<Step<E, J>> for Posted<T, E, J> 
             return Err(AllocError);
         }
         self.value.follow(&operation.event)?;
-        self.front = operation.front.again();
+        drop(mem::replace(&mut self.front, operation.front.again()));
         Ok(())
     }
 }

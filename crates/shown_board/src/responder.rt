@@ -4,6 +4,7 @@ ghost use mathlib.Core.List.{IsPrefix};
 
 use crate::follower::{Follower, Question, Reply};
 use crate::posted::Posted;
+use core::mem;
 use crossbeam_utils::rule::Unruled;
 use growing_list::{Beginning, Naming};
 use left_right::reader::Reader;
@@ -68,23 +69,36 @@ impl<T: Follower<E>, E: Drop, J: Naming> Responder<T, E, J> {
     {
         match self.reader.take()?.enter_as::<Unruled>() {
             Err(reader) => {
-                self.reader = Some(reader);
+                drop(self.reader.replace(reader));
                 None
             }
             Ok(reading) => {
-                let posted = reading.get();
-                if !self.seen.begins(&posted.front) || !self.told.begins(&posted.front) {
-                    self.reader = Some(reading.leave());
-                    return None;
-                }
-                self.seen = posted.front.again();
-                let reply = Reply {
-                    seen: self.seen.len(),
-                    answer: question.ask(&posted.value),
-                };
-                self.reader = Some(reading.leave());
-                Some(reply)
+                let reply = self.reply(question, reading.get());
+                drop(self.reader.replace(reading.leave()));
+                reply
             }
         }
+    }
+
+    /// The answer by what is posted, where that is no less than what was seen and told.
+    fn reply<Q: Question<T>>(
+        &mut self,
+        question: &Q,
+        posted: &Posted<T, E, J>,
+    ) -> Option<Reply<Q::Answer>>
+        ensures none { IfNone result (self.new ≡ self.old) }
+        ensures told { self.new.told ≡ self.old.told }
+        ensures later { IfSome result (λ _. IsPrefix self.old.seen self.new.seen × IsPrefix self.old.told self.new.seen) }
+        ensures seen { IfSome result (λ reply. reply.seen ≡ length self.new.seen) }
+        ensures answer { IfSome result (λ reply. Q.answers question.now (fold T.after T.start self.new.seen) reply.answer) }
+    {
+        if !self.seen.begins(&posted.front) || !self.told.begins(&posted.front) {
+            return None;
+        }
+        drop(mem::replace(&mut self.seen, posted.front.again()));
+        Some(Reply {
+            seen: self.seen.len(),
+            answer: question.ask(&posted.value),
+        })
     }
 }

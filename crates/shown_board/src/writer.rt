@@ -4,7 +4,7 @@ ghost use Rattle.shown_board.specs.Boarded.{Publishes};
 
 use crate::follower::Follower;
 use crate::posted::{Post, Posted, Step};
-use crate::responder::Responder;
+use crate::responder::{PostedReader, Responder};
 use core::mem::replace_with;
 use crossbeam_utils::rule::Unruled;
 use growing_list::{Beginning, Grower, Naming, Opened};
@@ -13,10 +13,12 @@ use std::alloc::{AllocError, Global};
 use std::marker::Model;
 use std::sync::Wait;
 
+type PostedWriter<P, E, J> = Writer<P, Step<E, J>, (), Unruled>;
+
 /// Contracts see the events that are published and those that are pending. It is not `Drop`: end it by `end`.
 pub struct BoardWriter<P: Post<E, J>, E: Drop, J: Naming> {
     grower: Grower<E, J>,
-    writer: Writer<P, Step<E, J>, (), Unruled>,
+    writer: PostedWriter<P, E, J>,
     // An event is in the list that wasn't appended. No more is appended then.
     is_lost: bool,
 }
@@ -53,20 +55,16 @@ pub fn board<T: Follower<E>, E: Drop, J: Naming, R: Wait>(
 {
     let grower = opened.named::<J>();
     let whole = grower.whole();
-    let writer: Writer<Posted<T, E, J>, Step<E, J>, (), Unruled> = Writer::new(
-        alloc,
-        Posted {
-            value: first,
-            front: whole.again(),
-        },
-        Posted {
-            value: second,
-            front: whole.again(),
-        },
-        1,
-    )?;
-    match writer.factory().reader() {
-        Ok(reader) => Ok((
+    let first = Posted {
+        value: first,
+        front: whole.again(),
+    };
+    let second = Posted {
+        value: second,
+        front: whole.again(),
+    };
+    match sides(rt, alloc, first, second) {
+        Ok((writer, reader)) => Ok((
             BoardWriter {
                 grower,
                 writer,
@@ -74,6 +72,27 @@ pub fn board<T: Follower<E>, E: Drop, J: Naming, R: Wait>(
             },
             Responder::new(reader, whole),
         )),
+        Err(refused) => {
+            drop(grower);
+            drop(whole);
+            Err(refused)
+        }
+    }
+}
+
+/// What writes the value and what reads it.
+fn sides<T: Follower<E>, E: Drop, J: Naming, R: Wait>(
+    rt: &R,
+    alloc: Global,
+    first: Posted<T, E, J>,
+    second: Posted<T, E, J>,
+) -> Result<(PostedWriter<Posted<T, E, J>, E, J>, PostedReader<T, E, J>), AllocError>
+    requires { first ≡ second }
+    ensures { IfOk result (λ s. (s.0.desk.shown.value ≡ first) × (drop s.0.behind s.0.log.items ≡ [])) }
+{
+    let writer: PostedWriter<Posted<T, E, J>, E, J> = Writer::new(alloc, first, second, 1)?;
+    match writer.factory().reader() {
+        Ok(reader) => Ok((writer, reader)),
         Err(refused) => {
             drop(writer.take(rt));
             Err(refused)
@@ -96,8 +115,9 @@ impl<P: Post<E, J>, E: Drop, J: Naming> BoardWriter<P, E, J> {
             Ok(()) => Ok(()),
             Err(back) => {
                 self.is_lost = true;
-                let Step { event, front: _ } = back;
-                Err(AppendBack { event })
+                Err(AppendBack {
+                    event: back.into_event(),
+                })
             }
         }
     }
@@ -111,7 +131,7 @@ impl<P: Post<E, J>, E: Drop, J: Naming> BoardWriter<P, E, J> {
         replace_with(
             &mut self.writer,
             rt,
-            |writer, rt| -> (Writer<P, Step<E, J>, (), Unruled>, Result<(), AllocError>)
+            |writer, rt| -> (PostedWriter<P, E, J>, Result<(), AllocError>)
                 ensures { Publishes result.1 (P.list writer.desk.shown.value) (drop writer.behind writer.log.items)
                     (P.list result.0.desk.shown.value) (drop result.0.behind result.0.log.items) }
             { writer.publish_as::<Unruled, R>(rt) },

@@ -8,7 +8,8 @@ invariant_of-self-2 g c =
     let one : length c.operation.inside.front - 1 ≡ length c.self.inside.front = omega (arith, c.len.ensures, c.len-2.ensures, c.if-len.false) in
     let begins : IsPrefix c.self.inside.front c.operation.inside.front = c.if-not-begins.ensures in
     let next = next_is c.self.inside.front c.operation.inside.front c.operation.inside.event c.operation.invariant begins one in
-    rw (c.in_ok-follow.ensures.ok, c.again.ensures) (next_value g.T.Follower.after g.T.Follower.start c.self.inside.value c.self.inside.front
+    rw (c.in_ok-follow.ensures.ok, c.replace.ensures.after, c.again.ensures)
+    (next_value g.T.Follower.after g.T.Follower.start c.self.inside.value c.self.inside.front
     c.operation.inside.front c.operation.inside.event c.self.invariant next)
 
 pub returns-clause-absorbed : goal.returns-clause-absorbed
@@ -16,4 +17,4 @@ returns-clause-absorbed g c =
     let one : length c.operation.inside.front - 1 ≡ length c.self.inside.front = omega (arith, c.len.ensures, c.len-2.ensures, c.if-len.false) in
     let begins : IsPrefix c.self.inside.front c.operation.inside.front = c.if-not-begins.ensures in
     let next = next_is c.self.inside.front c.operation.inside.front c.operation.inside.event c.operation.invariant begins one in
-    rw (c.again.ensures, ← c.self.view_is, ← c.operation.view_is) next
+    rw (c.replace.ensures.after, c.again.ensures, ← c.self.view_is, ← c.operation.view_is) next

@@ -26,6 +26,6 @@ returns-in-Err-clause-published g c = rw (c.in-Err.ensures.desk, ← c.self.view
 
 pub returns-in-Err-clause-pending : goal.returns-in-Err-clause-pending
 returns-in-Err-clause-pending g c = (
-  ap (λ (back : Ending _). back.event) (c.back.view_is ∙ c.in-Err.ensures.pending.0),
+  c.into_event.ensures ∙ ap (λ (back : Ending _). back.event) c.in-Err.ensures.pending.0,
   rw (c.in-Err.ensures.pending.1, ← c.self.view_is),
 )

@@ -71,11 +71,10 @@ impl<T: Ord + Drop> InvertedIndex<T> {
         ensures kept { (t : T) → room_under T.cmp self.old t ≤ room_under T.cmp self.new t }
     {
         if let Some(list) = self.lists.get_mut(&term) {
-            list.reserve(more)?;
-            return Ok(());
+            return list.reserve(more);
         }
         let list = TermNumbers::with_room(self.alloc, more)?;
-        let _none = self.lists.insert(term, list)?;
+        drop(self.lists.insert(term, list)?);
         Ok(())
     }
 

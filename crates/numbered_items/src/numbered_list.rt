@@ -75,7 +75,7 @@ impl<X: Drop> NumberedList<X> {
         if self.next == u64::MAX {
             return Err(NoMemory);
         }
-        self.slots.insert(self.next, None)?;
+        drop(self.slots.insert(self.next, None)?);
         Ok(())
     }
 

@@ -5,3 +5,4 @@ pub mod Hands
 pub mod Carried
 pub mod Values
 pub mod Inside
+pub mod Looks

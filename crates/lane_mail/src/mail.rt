@@ -55,6 +55,7 @@ impl Drop for Mail {
 
 impl Mail {
     ghost use Rattle.lane_mail.specs.Values.{HasAll, EndsStay, Took, TookNone, lane_queue, sent_more, took_more};
+    ghost use Rattle.lane_mail.specs.Looks.{Gives, GivesNone};
 
     /// A mail, the right to send of each lane, and the right to take.
     pub fn new(alloc: Global) -> Result<(Mail, LanePass, LanePass, InboxPass), NoMemory>
@@ -220,6 +221,35 @@ impl Mail {
         }
     }
 
+    // The next item, or that both lanes have ended and each of their items was taken, where either is so now.
+    fn look<R: Wait>(&self, rt: &R, pass: &mut InboxPass) -> Option<Taken>
+        requires { pass.old.mail ≡ self.now }
+        ensures { MatchOption result (GivesNone pass.old pass.new) (λ taken. Gives taken pass.old pass.new) }
+    {
+        if pass.has_all() {
+            return Some(Taken::AllEnded);
+        }
+        match self.pop_next(rt, pass) {
+            Some(item) => {
+                self.parking.tell_taken(item.lane, pass.count_of(item.lane));
+                Some(Taken::Item(item))
+            }
+            None => None,
+        }
+    }
+
+    // Takes a mark, or waits for something more where none is there.
+    fn await_more<R: Wait>(&self, rt: &R, pass: &mut InboxPass)
+        requires { pass.old.mail ≡ self.now }
+        ensures mail { pass.new.mail ≡ pass.old.mail }
+        ensures taken { TookNone pass.old pass.new }
+        ensures ends { EndsStay pass.old pass.new }
+    {
+        if !self.pop_mark(rt, pass) {
+            self.parking.wait_for_more(rt);
+        }
+    }
+
     /// The next item, or that both lanes have ended and each of their items was taken. It waits while neither is so.
     ///
     /// Items of one lane come in their order, and the lanes in turn: behind an item the other lane's next one comes, if it was put. End marks may come at
@@ -239,15 +269,9 @@ impl Mail {
     {
         self.parking.begin_to_take();
         for _ in rt.forever() {
-            if pass.has_all() {
-                return Taken::AllEnded;
-            }
-            if let Some(item) = self.pop_next(rt, pass) {
-                self.parking.tell_taken(item.lane, pass.count_of(item.lane));
-                return Taken::Item(item);
-            }
-            if !self.pop_mark(rt, pass) {
-                self.parking.wait_for_more(rt);
+            match self.look(rt, pass) {
+                Some(taken) => return taken,
+                None => self.await_more(rt, pass),
             }
         }
         unreachable!()

@@ -91,7 +91,13 @@ fn show_under<K: Ord + Drop, T: Drop>(
     ensures ok { OnOk result (IsOkAnd key (λ k. held.new ≡ shown K.cmp held.old k version object)) }
     ensures err { OnErr result (held.new ≡ held.old) }
 {
-    held.show(key?, version, object)
+    match key {
+        Ok(key) => held.show(key, version, object),
+        Err(NoMemory) => {
+            drop(object);
+            Err(NoMemory)
+        }
+    }
 }
 
 /// A copy of the objects, in which one more is shown.

@@ -1,11 +1,14 @@
 -- Fields that are read in groups are read as they are one after the other.
-use Rattle.std.proofs.Common.{◌≡◌, List, Result, Ok, Err, refl, sym, ap, subst, ◌∙◌}
+use Rattle.std.proofs.Common.{◌≡◌, Bool, List, Result, Ok, Err, refl, sym, ap, subst, ◌∙◌}
 use Rattle.serde_json.specs.Data.{Data}
 use Rattle.json_fields.specs.Path.{Path}
 use Rattle.json_fields.specs.Reading.{◌>>=◌, Fails, Gives}
 use Rattle.json_fields.specs.declared.fault.FieldFault.{FieldFault}
 use Rattle.ip_ranges.specs.Values.{AddressValue}
+use Rattle.ip_ranges.specs.declared.family.Family.{Family}
 use Rattle.kube_model.specs.declared.key.Key.{Key}
+use Rattle.kube_model.specs.declared.port.Port.{Port}
+use Rattle.kube_model.specs.declared.service.Policy.{Policy}
 use Rattle.kube_model.specs.declared.service.Service.{Service}
 use Rattle.kube_model.proofs.Fails.{Fails-bind}
 use Rattle.kube_events.specs.declared.service_fields.Notes.{Notes}
@@ -67,8 +70,22 @@ bgp_grouped d =
     group_of_four (pools_field d) (pool_selectors_field d) (node_selectors_field d) (peers_field d) (λ pools pool_selectors node_selectors peers.
     record { pools = pools; pool_selectors = pool_selectors; node_selectors = node_selectors; peers = peers }) _))))
 
+abbrev pub traffic_with : List Family → Bool → Policy → Pairs × List Port → Traffic
+traffic_with families prefer_dual policy ends =
+    record { families = families; prefer_dual = prefer_dual; policy = policy; selector = ends.0; ports = ends.1 }
+
+pub traffic_grouped : (d : Data)
+    → (families_field d >>= λ families. prefer_dual_field d >>= λ prefer_dual. policy_field d >>= λ policy. in_turn (selector_field d) (ports_field d)
+    >>= λ ends. Ok (traffic_with families prefer_dual policy ends)) ≡ traffic_of d
+unfolding traffic_of
+traffic_grouped d =
+    same_then (families_field d) _ _ (λ families.
+    same_then (prefer_dual_field d) _ _ (λ prefer_dual.
+    same_then (policy_field d) _ _ (λ policy.
+    group_of_two (selector_field d) (ports_field d) (λ selector ports. (selector, ports)) (λ ends. Ok (traffic_with families prefer_dual policy ends)))))
+
 -- two that are read in turn give what they stand for in turn
-Gives-in_turn : {A B : Type 0} (both : Result (A × B) FieldFault) (first : Result A FieldFault) (second : Result B FieldFault)
+pub Gives-in_turn : {A B : Type 0} (both : Result (A × B) FieldFault) (first : Result A FieldFault) (second : Result B FieldFault)
     (r : Result A Path) (s : Result B Path)
     → both ≡ in_turn first second → Gives (λ x. x) first r → Gives (λ x. x) second s → Gives (λ x. x) both (in_turn r s)
 Gives-in_turn both (Ok a) (Ok b) r s is h k = rw (is, h, k) refl

@@ -1,3 +1,4 @@
 pub mod AskedParts
+pub mod Events
 pub mod Groups
 pub mod Versions

@@ -4,6 +4,7 @@ ghost use Rattle.serde_json.specs.View.{view};
 ghost use Rattle.json_fields.specs.Reading.{Gives};
 ghost use Rattle.kube_events.specs.BgpFields.{route_spec_of, choice_spec_of, bgp_of, bgp_with};
 
+use crate::fields::{in_turn, name_of};
 use json_fields::{FieldFault, list, number_or, with_default};
 use kube_labels::TextList;
 use kube_model::{BgpAdv, Key, LengthV4, LengthV6, SelectorTexts};
@@ -44,14 +45,18 @@ struct ChoiceSpec {
     peers: TextList,
 }
 
-#[tactic(auto, unfolding(crate::specs::BgpFields::choice_spec_of))]
 fn choice_spec(alloc: Global, object: &Value) -> Result<ChoiceSpec, FieldFault>
     ensures { Gives (λ x. x) result (choice_spec_of (view object.now)) }
 {
-    let pools = list(alloc, object, "spec.ipAddressPools")?;
-    let pool_selectors = list(alloc, object, "spec.ipAddressPoolSelectors")?;
-    let node_selectors = list(alloc, object, "spec.nodeSelectors")?;
-    let peers = list(alloc, object, "spec.peers")?;
+    let pools = in_turn(
+        list(alloc, object, "spec.ipAddressPools"),
+        list(alloc, object, "spec.ipAddressPoolSelectors"),
+    );
+    let peers = in_turn(
+        list(alloc, object, "spec.nodeSelectors"),
+        list(alloc, object, "spec.peers"),
+    );
+    let ((pools, pool_selectors), (node_selectors, peers)) = in_turn(pools, peers)?;
     Ok(ChoiceSpec {
         pools,
         pool_selectors,
@@ -78,10 +83,9 @@ pub(crate) fn bgp_spec(alloc: Global, object: &Value) -> Result<BgpSpec, FieldFa
 pub(crate) fn bgp_with(key: Key, spec: BgpSpec) -> BgpAdv
     ensures { result ≡ bgp_with spec key }
 {
-    let Key { name, .. } = key;
     let BgpSpec { route, choice } = spec;
     BgpAdv {
-        name,
+        name: name_of(key),
         length: route.length,
         length_v6: route.length_v6,
         local_pref: route.local_pref,

@@ -4,6 +4,7 @@ ghost use Rattle.serde_json.specs.View.{view};
 ghost use Rattle.json_fields.specs.Reading.{Gives};
 ghost use Rattle.kube_events.specs.L2Fields.{l2_of, l2_with};
 
+use crate::fields::{in_turn, name_of};
 use json_fields::{FieldFault, list};
 use kube_labels::TextList;
 use kube_model::{Key, L2Adv, SelectorTexts};
@@ -19,14 +20,18 @@ pub(crate) struct L2Spec {
     interfaces: TextList,
 }
 
-#[tactic(auto, unfolding(crate::specs::L2Fields::l2_of))]
 pub(crate) fn l2_spec(alloc: Global, object: &Value) -> Result<L2Spec, FieldFault>
     ensures { Gives l2_with result (l2_of (view object.now)) }
 {
-    let pools = list(alloc, object, "spec.ipAddressPools")?;
-    let pool_selectors = list(alloc, object, "spec.ipAddressPoolSelectors")?;
-    let node_selectors = list(alloc, object, "spec.nodeSelectors")?;
-    let interfaces = list(alloc, object, "spec.interfaces")?;
+    let pools = in_turn(
+        list(alloc, object, "spec.ipAddressPools"),
+        list(alloc, object, "spec.ipAddressPoolSelectors"),
+    );
+    let places = in_turn(
+        list(alloc, object, "spec.nodeSelectors"),
+        list(alloc, object, "spec.interfaces"),
+    );
+    let ((pools, pool_selectors), (node_selectors, interfaces)) = in_turn(pools, places)?;
     Ok(L2Spec {
         pools,
         pool_selectors,
@@ -38,9 +43,8 @@ pub(crate) fn l2_spec(alloc: Global, object: &Value) -> Result<L2Spec, FieldFaul
 pub(crate) fn l2_with(key: Key, spec: L2Spec) -> L2Adv
     ensures { result ≡ l2_with spec key }
 {
-    let Key { name, .. } = key;
     L2Adv {
-        name,
+        name: name_of(key),
         pools: spec.pools,
         pool_selectors: spec.pool_selectors,
         node_selectors: spec.node_selectors,

@@ -6,7 +6,7 @@ ghost use Rattle.kube_events.specs.ObjectFields.{body_of, object_with, stated_ob
 
 use crate::bgp_fields::{BgpSpec, bgp_spec, bgp_with};
 use crate::community_fields::named_values;
-use crate::fields::key_from;
+use crate::fields::{key_from, name_of};
 use crate::l2_fields::{L2Spec, l2_spec, l2_with};
 use crate::named::Version;
 use crate::peer_fields::{PeerSpec, peer_spec, peer_with};
@@ -56,22 +56,35 @@ fn object_with(key: Key, labels: Labels, spec: Spec) -> Object
     match spec {
         Spec::Service(spec) => Object::Service(service_with(key, labels, spec)),
         Spec::Pool(spec) => Object::Pool(pool_with(key, labels, spec)),
-        Spec::L2(spec) => Object::L2(l2_with(key, spec)),
-        Spec::Bgp(spec) => Object::Bgp(bgp_with(key, spec)),
-        Spec::Peer(spec) => Object::Peer(peer_with(key, spec)),
+        Spec::L2(spec) => {
+            drop(labels);
+            Object::L2(l2_with(key, spec))
+        }
+        Spec::Bgp(spec) => {
+            drop(labels);
+            Object::Bgp(bgp_with(key, spec))
+        }
+        Spec::Peer(spec) => {
+            drop(labels);
+            Object::Peer(peer_with(key, spec))
+        }
         Spec::Community(values) => {
-            let Key { name, .. } = key;
+            drop(labels);
+            let name = name_of(key);
             Object::Community(CommunityList { name, values })
         }
         Spec::Namespace => {
-            let Key { name, .. } = key;
+            let name = name_of(key);
             Object::Namespace(Namespace { name, labels })
         }
         Spec::Node => {
-            let Key { name, .. } = key;
+            let name = name_of(key);
             Object::Node(Node { name, labels })
         }
-        Spec::Slice(spec) => Object::Slice(slice_with(key, spec)),
+        Spec::Slice(spec) => {
+            drop(labels);
+            Object::Slice(slice_with(key, spec))
+        }
     }
 }
 

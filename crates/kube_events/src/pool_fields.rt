@@ -4,6 +4,7 @@ ghost use Rattle.serde_json.specs.View.{view};
 ghost use Rattle.json_fields.specs.Reading.{Gives};
 ghost use Rattle.kube_events.specs.PoolFields.{pool_of, pool_with};
 
+use crate::fields::name_of;
 use json_fields::{FieldFault, list, optional, with_default};
 use kube_labels::{Labels, TextList};
 use kube_model::{Allocation, Key, Pool};
@@ -38,9 +39,8 @@ pub(crate) fn pool_spec(alloc: Global, object: &Value) -> Result<PoolSpec, Field
 pub(crate) fn pool_with(key: Key, labels: Labels, spec: PoolSpec) -> Pool
     ensures { result ≡ pool_with spec key labels }
 {
-    let Key { name, .. } = key;
     Pool {
-        name,
+        name: name_of(key),
         labels,
         entries: spec.entries,
         auto_assign: spec.auto_assign,

@@ -1,8 +1,8 @@
 //! From a line to an event.
-ghost use Rattle.std.specs.Prelude.{◌≡◌, codes};
+ghost use Rattle.std.specs.Prelude.{◌≡◌, codes, option_map};
 ghost use Rattle.serde_json.specs.Find.{get};
 ghost use Rattle.serde_json.specs.View.{view};
-ghost use Rattle.kube_events.specs.Event.{GivesEvent, bookmark_of, ends_list, listed_in, says, watched, of_type, event_of, event_of_line};
+ghost use Rattle.kube_events.specs.Event.{GivesEvent, bookmark_of, ends_list, listed_in, says, watched, of_type, event_of, event_of_line, text_in};
 
 use crate::frame::frame_from;
 use crate::members::members_from;
@@ -57,13 +57,20 @@ fn bookmark_from(kind: Kind, object: &Value) -> Event
     }
 }
 
+/// The text of the member of this name, where it is one.
+fn text_in<'v>(value: &'v Value, name: &str) -> Option<&'v str>
+    ensures { option_map (λ text. text.now) result ≡ text_in name.now (view value.now) }
+{
+    value.get(name).and_then(Value::as_str)
+}
+
 fn watched(alloc: Global, change: EventType, line: &Value) -> Result<Event, EventFault>
     ensures { GivesEvent result (watched (says change) (get (codes "object") (view line.now))) }
 {
     let Some(object) = line.get("object") else {
         return Err(EventFault::NotEvent);
     };
-    let Some(name) = object.get("kind").and_then(Value::as_str) else {
+    let Some(name) = text_in(object, "kind") else {
         return Err(EventFault::NotEvent);
     };
     let Some(kind) = Kind::named(name) else {
@@ -95,7 +102,7 @@ fn event_of_type(alloc: Global, name: &str, line: &Value) -> Result<Event, Event
 fn event_from(alloc: Global, line: &Value) -> Result<Event, EventFault>
     ensures { GivesEvent result (event_of (view line.now)) }
 {
-    match line.get("type").and_then(Value::as_str) {
+    match text_in(line, "type") {
         Some(name) => event_of_type(alloc, name, line),
         None => Err(EventFault::NotEvent),
     }

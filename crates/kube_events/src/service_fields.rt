@@ -2,7 +2,7 @@
 ghost use Rattle.std.specs.Prelude.{◌≡◌, IfOk};
 ghost use Rattle.serde_json.specs.View.{view};
 ghost use Rattle.json_fields.specs.Reading.{Gives};
-ghost use Rattle.kube_events.specs.ServiceFields.{families_at, notes_in, notes_of, request_of, traffic_of};
+ghost use Rattle.kube_events.specs.ServiceFields.{families_at, families_from, notes_in, notes_of, request_of, traffic_of};
 ghost use Rattle.kube_events.specs.ServiceFields.{ingress_of, addresses_in, recorded_of, service_of, spec_with, service_with};
 
 use crate::fields::{in_turn, pair_value};
@@ -91,8 +91,17 @@ fn request_from(alloc: Global, object: &Value) -> Result<Request, FieldFault>
 fn families(alloc: Global, object: &Value, path: &str) -> Result<FamilyList, FieldFault>
     ensures { Gives (λ x. x) result (families_at path.now (view object.now)) }
 {
-    let named: Sequence<NamedFamily> = list(alloc, object, path)?;
-    match named.as_slice() {
+    let named = list(alloc, object, path)?;
+    let families = families_from(alloc, path, named.as_slice());
+    drop(named);
+    families
+}
+
+/// The families that these name, or a fault at the path.
+fn families_from(alloc: Global, path: &str, named: &[NamedFamily]) -> Result<FamilyList, FieldFault>
+    ensures { Gives (λ x. x) result (families_from path.now named.now) }
+{
+    match named {
         [] => Ok(FamilyList::one(alloc, Family::V4)?),
         [only] => Ok(FamilyList::one(alloc, only.family())?),
         [first, second] if first.family() != second.family() => {
@@ -112,15 +121,22 @@ struct Traffic {
     ports: PortList,
 }
 
-#[tactic(auto, unfolding(crate::specs::ServiceFields::traffic_of))]
 fn traffic_from(alloc: Global, object: &Value) -> Result<Traffic, FieldFault>
     ensures { Gives (λ x. x) result (traffic_of (view object.now)) }
 {
-    let families = families(alloc, object, "spec.ipFamilies")?;
-    let prefer_dual = tells(alloc, object, "spec.ipFamilyPolicy", "PreferDualStack")?;
-    let policy = with_default(alloc, object, "spec.externalTrafficPolicy", Policy::Cluster)?;
-    let selector = labels(alloc, object, "spec.selector")?;
-    let ports = list(alloc, object, "spec.ports")?;
+    let families = in_turn(
+        families(alloc, object, "spec.ipFamilies"),
+        tells(alloc, object, "spec.ipFamilyPolicy", "PreferDualStack"),
+    );
+    let policy = with_default(alloc, object, "spec.externalTrafficPolicy", Policy::Cluster);
+    let ends = in_turn(
+        labels(alloc, object, "spec.selector"),
+        list(alloc, object, "spec.ports"),
+    );
+    let ((families, prefer_dual), (policy, (selector, ports))) = in_turn(
+        families,
+        in_turn(policy, ends),
+    )?;
     Ok(Traffic {
         families,
         prefer_dual,

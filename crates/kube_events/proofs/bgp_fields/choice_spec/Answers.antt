@@ -1,35 +1,31 @@
-use Rattle.std.proofs.Common.{refl}
+use Rattle.std.proofs.Common.{List, ℕ, Ok, Err}
 use Rattle.std.proofs.lemmas.Result.{err_from_is_err_and}
-use Rattle.kube_events.specs.BgpFields.{choice_spec_of}
-use Rattle.kube_model.proofs.Fails.{Fails-bind}
+use Rattle.serde_json.specs.View.{view}
+use Rattle.kube_model.specs.declared.selector.SelectorText.{SelectorText}
+use Rattle.kube_events.specs.Fields.{pools_field, pool_selectors_field, node_selectors_field}
+use Rattle.kube_events.specs.BgpFields.{peers_field, choice_spec_of}
+use Rattle.kube_events.specs.declared.bgp_fields.ChoiceSpec.{ChoiceSpec}
+use Rattle.kube_events.proofs.Groups.{Gives-two_turns}
 use Rattle.kube_events.proofs.bgp_fields.choice_spec.Goals as goal
+
+abbrev read_choice : List (List ℕ) → List SelectorText → List SelectorText → List (List ℕ) → ChoiceSpec
+read_choice pools pool_selectors node_selectors peers =
+    record { pools = pools; pool_selectors = pool_selectors; node_selectors = node_selectors; peers = peers }
 
 pub returns-in_err-pools : goal.returns-in_err-pools
 unfolding choice_spec_of
 returns-in_err-pools c =
     let p = err_from_is_err_and c.from_residual.result c.from_residual.ensures.1 in
-    rw (p.1, p.2) (Fails-bind c.in_err-pools.field-0.0 _ _ c.in_err-pools.ensures)
-
-pub returns-in_err-pool_selectors : goal.returns-in_err-pool_selectors
-unfolding choice_spec_of
-returns-in_err-pool_selectors c =
-    let p = err_from_is_err_and c.from_residual-in_err-pool_selectors.result c.from_residual-in_err-pool_selectors.ensures.1 in
-    rw (p.1, p.2, c.in_ok-pools.ensures) (Fails-bind c.in_err-pool_selectors.field-0.0 _ _ c.in_err-pool_selectors.ensures)
-
-pub returns-in_err-node_selectors : goal.returns-in_err-node_selectors
-unfolding choice_spec_of
-returns-in_err-node_selectors c =
-    let p = err_from_is_err_and c.from_residual-in_err-node_selectors.result c.from_residual-in_err-node_selectors.ensures.1 in
-    rw (p.1, p.2, c.in_ok-pools.ensures, c.in_ok-pool_selectors.ensures)
-    (Fails-bind c.in_err-node_selectors.field-0.0 _ _ c.in_err-node_selectors.ensures)
-
-pub returns-in_err-peers : goal.returns-in_err-peers
-unfolding choice_spec_of
-returns-in_err-peers c =
-    let p = err_from_is_err_and c.from_residual-in_err-peers.result c.from_residual-in_err-peers.ensures.1 in
-    rw (p.1, p.2, c.in_ok-pools.ensures, c.in_ok-pool_selectors.ensures, c.in_ok-node_selectors.ensures)
-    (Fails-bind c.in_err-peers.field-0.0 _ _ c.in_err-peers.ensures)
+    let d = view c.args.object.now in
+    rw (p.1, p.2) (Gives-two_turns c.list.result c.list-2.result c.list-3.result c.list-4.result c.in_turn-pools.result c.in_turn-peers.result
+    (Err c.in_err-pools.field-0.0) (pools_field d) (pool_selectors_field d) (node_selectors_field d) (peers_field d) read_choice
+    c.in_turn-pools.ensures c.in_turn-peers.ensures c.in_err-pools.ensures c.list.ensures c.list-2.ensures c.list-3.ensures c.list-4.ensures)
 
 pub returns : goal.returns
 unfolding choice_spec_of
-returns c = rw (c.in_ok-pools.ensures, c.in_ok-pool_selectors.ensures, c.in_ok-node_selectors.ensures, c.in_ok-peers.ensures) refl
+returns c =
+    let d = view c.args.object.now in
+    Gives-two_turns c.list.result c.list-2.result c.list-3.result c.list-4.result c.in_turn-pools.result c.in_turn-peers.result
+    (Ok ((c.in_ok-pools.pools, c.in_ok-pools.pool_selectors), (c.in_ok-pools.node_selectors, c.in_ok-pools.peers)))
+    (pools_field d) (pool_selectors_field d) (node_selectors_field d) (peers_field d) read_choice
+    c.in_turn-pools.ensures c.in_turn-peers.ensures c.in_ok-pools.ensures c.list.ensures c.list-2.ensures c.list-3.ensures c.list-4.ensures

@@ -1,41 +1,32 @@
-use Rattle.std.proofs.Common.{refl}
+use Rattle.std.proofs.Common.{Result, Ok, Err, sym, subst, ◌∙◌}
 use Rattle.std.proofs.lemmas.Result.{err_from_is_err_and}
-use Rattle.kube_events.specs.ServiceFields.{traffic_of}
-use Rattle.kube_model.proofs.Fails.{Fails-bind}
+use Rattle.serde_json.specs.View.{view}
+use Rattle.json_fields.specs.Path.{Path}
+use Rattle.json_fields.specs.Reading.{Fails}
+use Rattle.kube_events.specs.Fields.{in_turn}
+use Rattle.kube_events.specs.ServiceFields.{families_field, prefer_dual_field, policy_field, selector_field, ports_field}
+use Rattle.kube_events.specs.declared.service_fields.Traffic.{Traffic}
+use Rattle.kube_events.proofs.Groups.{Gives-in_turn, Gives-two_turns, traffic_with, traffic_grouped}
 use Rattle.kube_events.proofs.service_fields.traffic_from.Goals as goal
 
 pub returns-in_err-families : goal.returns-in_err-families
-unfolding traffic_of
 returns-in_err-families c =
     let p = err_from_is_err_and c.from_residual.result c.from_residual.ensures.1 in
-    rw (p.1, p.2) (Fails-bind c.in_err-families.field-0.0 _ _ c.in_err-families.ensures)
-
-pub returns-in_err-prefer_dual : goal.returns-in_err-prefer_dual
-unfolding traffic_of
-returns-in_err-prefer_dual c =
-    let p = err_from_is_err_and c.from_residual-in_err-prefer_dual.result c.from_residual-in_err-prefer_dual.ensures.1 in
-    rw (p.1, p.2, c.in_ok-families.ensures) (Fails-bind c.in_err-prefer_dual.field-0.0 _ _ c.in_err-prefer_dual.ensures)
-
-pub returns-in_err-policy : goal.returns-in_err-policy
-unfolding traffic_of
-returns-in_err-policy c =
-    let p = err_from_is_err_and c.from_residual-in_err-policy.result c.from_residual-in_err-policy.ensures.1 in
-    rw (p.1, p.2, c.in_ok-families.ensures, c.in_ok-prefer_dual.ensures) (Fails-bind c.in_err-policy.field-0.0 _ _ c.in_err-policy.ensures)
-
-pub returns-in_err-selector : goal.returns-in_err-selector
-unfolding traffic_of
-returns-in_err-selector c =
-    let p = err_from_is_err_and c.from_residual-in_err-selector.result c.from_residual-in_err-selector.ensures.1 in
-    rw (p.1, p.2, c.in_ok-families.ensures, c.in_ok-prefer_dual.ensures, c.in_ok-policy.ensures)
-    (Fails-bind c.in_err-selector.field-0.0 _ _ c.in_err-selector.ensures)
-
-pub returns-in_err-ports : goal.returns-in_err-ports
-unfolding traffic_of
-returns-in_err-ports c =
-    let p = err_from_is_err_and c.from_residual-in_err-ports.result c.from_residual-in_err-ports.ensures.1 in
-    rw (p.1, p.2, c.in_ok-families.ensures, c.in_ok-prefer_dual.ensures, c.in_ok-policy.ensures, c.in_ok-selector.ensures)
-    (Fails-bind c.in_err-ports.field-0.0 _ _ c.in_err-ports.ensures)
+    let d = view c.args.object.now in
+    let ends = Gives-in_turn c.in_turn-ends.result c.labels.result c.list.result (selector_field d) (ports_field d)
+    c.in_turn-ends.ensures c.labels.ensures c.list.ensures in
+    rw (p.1, p.2) (subst (λ (read : Result Traffic Path). Fails c.in_err-families.field-0.0 read) (traffic_grouped d)
+    (Gives-two_turns c.families.result c.tells.result c.with_default-policy.result c.in_turn-ends.result c.in_turn-families.result c.in_turn.result
+    (Err c.in_err-families.field-0.0) (families_field d) (prefer_dual_field d) (policy_field d) (in_turn (selector_field d) (ports_field d)) traffic_with
+    c.in_turn-families.ensures c.in_turn.ensures c.in_err-families.ensures c.families.ensures c.tells.ensures c.with_default-policy.ensures ends))
 
 pub returns : goal.returns
-unfolding traffic_of
-returns c = rw (c.in_ok-families.ensures, c.in_ok-prefer_dual.ensures, c.in_ok-policy.ensures, c.in_ok-selector.ensures, c.in_ok-ports.ensures) refl
+returns c =
+    let d = view c.args.object.now in
+    let ends = Gives-in_turn c.in_turn-ends.result c.labels.result c.list.result (selector_field d) (ports_field d)
+    c.in_turn-ends.ensures c.labels.ensures c.list.ensures in
+    sym (traffic_grouped d) ∙ Gives-two_turns c.families.result c.tells.result c.with_default-policy.result c.in_turn-ends.result
+    c.in_turn-families.result c.in_turn.result
+    (Ok ((c.in_ok-families.families, c.in_ok-families.prefer_dual), (c.in_ok-families.policy, (c.in_ok-families.selector, c.in_ok-families.ports))))
+    (families_field d) (prefer_dual_field d) (policy_field d) (in_turn (selector_field d) (ports_field d)) traffic_with
+    c.in_turn-families.ensures c.in_turn.ensures c.in_ok-families.ensures c.families.ensures c.tells.ensures c.with_default-policy.ensures ends

@@ -61,7 +61,7 @@ fewer_names names x h =
     let cut : (names_of names ≡ x.0.now ∷ names_of x.1.now) × (length x.1.now < length names) = is_cut names (Some x) h in
     cut.1
 
-pub Fails-member : (fault : FieldFault) (read : Result (Option Data) Path) (go : Option Data → Result (Option Data) Path) → Fails fault read
-    → Fails fault (read >>= go)
-Fails-member (Faulty p) read go h = rw h refl
-Fails-member NoMemory read go h = tt
+-- A fault ends the reading.
+pub Fails-bind : {A B : Type 0} (fault : FieldFault) (read : Result A Path) (next : A → Result B Path) → Fails fault read → Fails fault (read >>= next)
+Fails-bind (Faulty p) read next h = rw h refl
+Fails-bind NoMemory read next h = tt

@@ -1,4 +1,5 @@
 use Rattle.std.proofs.Common.{◌≡◌, rules}
+use Rattle.std.proofs.lemmas.Result.{err_from_is_err_and}
 use Rattle.json_fields.specs.Path.{item_place}
 use Rattle.json_fields.proofs.Loop.{goes_on, ends, is_done}
 use Rattle.json_fields.proofs.items.items_of.Goals as goal
@@ -16,3 +17,13 @@ loop-index-preserved g c =
 
 pub returns : goal.returns
 returns g c = is_done g.T.FromValue.reading c.loop-index.items c.loop-index.index-counter c.args.values.now _ c.loop-index-test.false c.loop-index.invariant
+
+pub returns-in_err-push-in-Ok : goal.returns-in_err-push-in-Ok
+returns-in_err-push-in-Ok g c =
+    let p = err_from_is_err_and c.from_residual.result c.from_residual.ensures.1 in
+    rw (p.1, p.2) tt
+
+pub returns-in_err-place-in-Err : goal.returns-in_err-place-in-Err
+returns-in_err-place-in-Err g c =
+    let p = err_from_is_err_and c.from_residual-in_err-place-in-Err.result c.from_residual-in_err-place-in-Err.ensures.1 in
+    rw (p.1, p.2) tt

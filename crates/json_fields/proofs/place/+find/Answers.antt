@@ -3,14 +3,14 @@ use Rattle.std.proofs.lemmas.Result.{err_from_is_err_and}
 use Rattle.serde_json.specs.View.{view}
 use Rattle.json_fields.specs.Path.{names_of}
 use Rattle.json_fields.specs.Reading.{member_at, behind}
-use Rattle.json_fields.proofs.Places.{one_name, more_names, fewer_names, Fails-member}
+use Rattle.json_fields.proofs.Places.{one_name, more_names, fewer_names, Fails-bind}
 use Rattle.json_fields.proofs.place.+find.Goals as goal
 
 pub returns-in_err-member_of-in-Some : goal.returns-in_err-member_of-in-Some
 returns-in_err-member_of-in-Some t c =
     let p = err_from_is_err_and c.from_residual.result c.from_residual.ensures.1 in
     let more = more_names c.args.path.now c.args.names.now (c.in-Some.name, c.in-Some.rest) (view c.args.value.now) c.in-Some.ensures.cases in
-    rw (p.1, p.2, more) (Fails-member c.in_err-member_of-in-Some.field-0.0 _ _ c.in_err-member_of-in-Some.ensures)
+    rw (p.1, p.2, more) (Fails-bind c.in_err-member_of-in-Some.field-0.0 _ _ c.in_err-member_of-in-Some.ensures)
 
 pub find-requires : goal.find-requires
 find-requires t c =

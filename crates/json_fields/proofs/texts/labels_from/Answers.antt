@@ -1,4 +1,5 @@
-use Rattle.std.proofs.Common.{◌≡◌, rules, string_bytes, ◌∙◌, sym}
+use Rattle.std.proofs.Common.{◌≡◌, refl, rules, string_bytes, ◌∙◌, sym}
+use Rattle.std.proofs.lemmas.Result.{err_from_is_err_and}
 use Rattle.kube_labels.specs.Pairs.{with_pair}
 use Rattle.json_fields.proofs.PairLoop.{passes_null, refuses, takes, is_done}
 use Rattle.json_fields.proofs.texts.labels_from.Goals as goal
@@ -22,3 +23,18 @@ loop-name-preserved c =
 
 pub returns : goal.returns
 returns c = let so_far = rw c.in-None.ensures.steps.0 at c.loop-name.invariant in sym (is_done c.loop-name.labels) ∙ so_far
+
+pub returns-in_err-new : goal.returns-in_err-new
+returns-in_err-new c =
+    let p = err_from_is_err_and c.from_residual.result c.from_residual.ensures.1 in
+    rw (p.1, p.2) refl
+
+pub returns-in_err-new-2 : goal.returns-in_err-new-2
+returns-in_err-new-2 c =
+    let p = err_from_is_err_and c.from_residual-in_err-new-2.result c.from_residual-in_err-new-2.ensures.1 in
+    rw (p.1, p.2) refl
+
+pub returns-in_err-set : goal.returns-in_err-set
+returns-in_err-set c =
+    let p = err_from_is_err_and c.from_residual-in_err-set.result c.from_residual-in_err-set.ensures.1 in
+    rw (p.1, p.2) refl

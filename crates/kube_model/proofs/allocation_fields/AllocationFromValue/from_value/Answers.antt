@@ -4,6 +4,18 @@ use Rattle.kube_model.specs.AllocationFields.{allocation_of}
 use Rattle.kube_model.proofs.Fails.{Fails-bind}
 use Rattle.kube_model.proofs.allocation_fields.AllocationFromValue.from_value.Goals as goal
 
+pub returns-in_err-require_object : goal.returns-in_err-require_object
+unfolding allocation_of
+returns-in_err-require_object c =
+    let p = err_from_is_err_and c.from_residual.result c.from_residual.ensures.1 in
+    rw (p.1, p.2) (Fails-bind c.in_err-require_object.field-0.0 _ _ c.in_err-require_object.ensures)
+
+pub returns-in_err-priority : goal.returns-in_err-priority
+unfolding allocation_of
+returns-in_err-priority c =
+    let p = err_from_is_err_and c.from_residual-in_err-priority.result c.from_residual-in_err-priority.ensures.1 in
+    rw (p.1, p.2, c.in_ok-require_object.ensures) (Fails-bind c.in_err-priority.field-0.0 _ _ c.in_err-priority.ensures.read)
+
 pub returns-in_err-namespaces : goal.returns-in_err-namespaces
 unfolding allocation_of
 returns-in_err-namespaces c =

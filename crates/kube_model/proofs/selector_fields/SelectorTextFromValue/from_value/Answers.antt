@@ -4,6 +4,12 @@ use Rattle.kube_model.specs.SelectorFields.{selector_of}
 use Rattle.kube_model.proofs.Fails.{Fails-bind}
 use Rattle.kube_model.proofs.selector_fields.SelectorTextFromValue.from_value.Goals as goal
 
+pub returns-in_err-require_object : goal.returns-in_err-require_object
+unfolding selector_of
+returns-in_err-require_object c =
+    let p = err_from_is_err_and c.from_residual.result c.from_residual.ensures.1 in
+    rw (p.1, p.2) (Fails-bind c.in_err-require_object.field-0.0 _ _ c.in_err-require_object.ensures)
+
 pub returns-in_err-labels : goal.returns-in_err-labels
 unfolding selector_of
 returns-in_err-labels c =

@@ -1,5 +1,6 @@
 use Rattle.std.proofs.Common.{◌≡◌, ℕ, ◌+◌, ◌-◌, ◌≤◌, length, take, drop, ap, ◌∙◌, arith, length-drop}
 use Rattle.std.proofs.lemmas.List.{length-take-le}
+use Rattle.std.proofs.lemmas.Result.{err_from_is_err_and}
 use Rattle.mlb_edge.specs.Reading.{Reading}
 use Rattle.mlb_edge.proofs.Lists.{front_more}
 use Rattle.mlb_edge.proofs.line_reader.LineReader.fill.Goals as goal
@@ -18,3 +19,29 @@ returns-clause-bytes g c =
       length-take-le n (drop len buffer) (omega (arith, length-drop len buffer)),
       c.in_ok-count.ensures.bytes,
     )
+
+pub returns-in_err-make_room-clause-bytes : goal.returns-in_err-make_room-clause-bytes
+returns-in_err-make_room-clause-bytes g c =
+    let p = err_from_is_err_and c.from_residual.result c.from_residual.ensures.1 in
+    rw p.1 tt
+
+pub returns-in_err-make_room-clause-end : goal.returns-in_err-make_room-clause-end
+returns-in_err-make_room-clause-end g c =
+    let p = err_from_is_err_and c.from_residual.result c.from_residual.ensures.1 in
+    rw p.1 tt
+
+pub returns-in_err-count-clause-bytes : goal.returns-in_err-count-clause-bytes
+returns-in_err-count-clause-bytes g c =
+    let p = err_from_is_err_and c.from_residual-in_err-count.result c.from_residual-in_err-count.ensures.1 in
+    rw p.1 tt
+
+pub returns-in_err-count-clause-end : goal.returns-in_err-count-clause-end
+returns-in_err-count-clause-end g c =
+    let p = err_from_is_err_and c.from_residual-in_err-count.result c.from_residual-in_err-count.ensures.1 in
+    rw p.1 tt
+
+pub returns-clause-err : goal.returns-clause-err
+returns-clause-err g c = tt
+
+pub returns-clause-fault : goal.returns-clause-fault
+returns-clause-fault g c = tt

@@ -10,3 +10,18 @@ pub returns-in-None-clause-row : goal.returns-in-None-clause-row
 returns-in-None-clause-row c =
     let row = cuts_last _ c.if-len-gt0.true c.in-None.ensures.none in
     rw (← c.self.view_is, ← c.deref.ensures.value, c.if-is_last.true) row
+
+pub returns-in-Some-clause-none : goal.returns-in-Some-clause-none
+returns-in-Some-clause-none c = tt
+
+pub returns-in-Some-clause-last : goal.returns-in-Some-clause-last
+returns-in-Some-clause-last c = tt
+
+pub returns-in-None-clause-none : goal.returns-in-None-clause-none
+returns-in-None-clause-none c = tt
+
+pub returns-in-None-clause-last : goal.returns-in-None-clause-last
+returns-in-None-clause-last c = tt
+
+pub returns-in-None-2-clause-row : goal.returns-in-None-2-clause-row
+returns-in-None-2-clause-row c = tt

@@ -5,7 +5,7 @@ use Rattle.mlb_edge.specs.Reading.{Reading}
 use Rattle.mlb_edge.specs.Rows.{is_blank}
 use Rattle.mlb_edge.specs.InputLines.{to_come, Follows-refl, Passes-refl}
 use Rattle.mlb_edge.proofs.ReaderSteps.{line_past, ends_too, ends_long, ends_far, ends_open, ends_whole}
-use Rattle.mlb_edge.proofs.ReaderSteps.{none_held, going_past, going_read, same_number, falls, passes_past}
+use Rattle.mlb_edge.proofs.ReaderSteps.{none_held, going_past, going_read, same_number, falls, passes_past, limit_not_read}
 use Rattle.mlb_edge.proofs.line_reader.LineReader.next_line.Goals as goal
 
 pub returns-in_err-check-in-Some-clause-line_limit : goal.returns-in_err-check-in-Some-clause-line_limit
@@ -100,3 +100,224 @@ loop-len-init g c = record {
   further = omega arith;
   untouched = λ holds. (refl, refl, holds);
 }
+
+pub returns-in_err-check-in-Some-clause-line : goal.returns-in_err-check-in-Some-clause-line
+returns-in_err-check-in-Some-clause-line g c =
+    let p = err_from_is_err_and c.from_residual.result c.from_residual.ensures.1 in
+    rw p.1 tt
+
+pub returns-in_err-check-in-Some-clause-number : goal.returns-in_err-check-in-Some-clause-number
+returns-in_err-check-in-Some-clause-number g c =
+    let p = err_from_is_err_and c.from_residual.result c.from_residual.ensures.1 in
+    rw p.1 tt
+
+pub returns-in_err-check-in-Some-clause-near : goal.returns-in_err-check-in-Some-clause-near
+returns-in_err-check-in-Some-clause-near g c =
+    let p = err_from_is_err_and c.from_residual.result c.from_residual.ensures.1 in
+    rw p.1 tt
+
+pub returns-in_err-check-in-Some-clause-end : goal.returns-in_err-check-in-Some-clause-end
+returns-in_err-check-in-Some-clause-end g c =
+    let p = err_from_is_err_and c.from_residual.result c.from_residual.ensures.1 in
+    rw p.1 tt
+
+pub returns-in_err-check-in-Some-clause-at_end : goal.returns-in_err-check-in-Some-clause-at_end
+returns-in_err-check-in-Some-clause-at_end g c =
+    let p = err_from_is_err_and c.from_residual.result c.from_residual.ensures.1 in
+    rw p.1 tt
+
+pub returns-in_err-take-in-Some-clause-line : goal.returns-in_err-take-in-Some-clause-line
+returns-in_err-take-in-Some-clause-line g c =
+    let p = err_from_is_err_and c.from_residual-in_err-take-in-Some.result c.from_residual-in_err-take-in-Some.ensures.1 in
+    rw p.1 tt
+
+pub returns-in_err-take-in-Some-clause-number : goal.returns-in_err-take-in-Some-clause-number
+returns-in_err-take-in-Some-clause-number g c =
+    let p = err_from_is_err_and c.from_residual-in_err-take-in-Some.result c.from_residual-in_err-take-in-Some.ensures.1 in
+    rw p.1 tt
+
+pub returns-in_err-take-in-Some-clause-near : goal.returns-in_err-take-in-Some-clause-near
+returns-in_err-take-in-Some-clause-near g c =
+    let p = err_from_is_err_and c.from_residual-in_err-take-in-Some.result c.from_residual-in_err-take-in-Some.ensures.1 in
+    rw p.1 tt
+
+pub returns-in_err-take-in-Some-clause-end : goal.returns-in_err-take-in-Some-clause-end
+returns-in_err-take-in-Some-clause-end g c =
+    let p = err_from_is_err_and c.from_residual-in_err-take-in-Some.result c.from_residual-in_err-take-in-Some.ensures.1 in
+    rw p.1 tt
+
+pub returns-in_err-take-in-Some-clause-at_end : goal.returns-in_err-take-in-Some-clause-at_end
+returns-in_err-take-in-Some-clause-at_end g c =
+    let p = err_from_is_err_and c.from_residual-in_err-take-in-Some.result c.from_residual-in_err-take-in-Some.ensures.1 in
+    rw p.1 tt
+
+pub returns-in_err-check_open-in-None-2-clause-line : goal.returns-in_err-check_open-in-None-2-clause-line
+returns-in_err-check_open-in-None-2-clause-line g c =
+    let p = err_from_is_err_and c.from_residual-in_err-check_open-in-None-2.result c.from_residual-in_err-check_open-in-None-2.ensures.1 in
+    rw p.1 tt
+
+pub returns-in_err-check_open-in-None-2-clause-number : goal.returns-in_err-check_open-in-None-2-clause-number
+returns-in_err-check_open-in-None-2-clause-number g c =
+    let p = err_from_is_err_and c.from_residual-in_err-check_open-in-None-2.result c.from_residual-in_err-check_open-in-None-2.ensures.1 in
+    rw p.1 tt
+
+pub returns-in_err-check_open-in-None-2-clause-near : goal.returns-in_err-check_open-in-None-2-clause-near
+returns-in_err-check_open-in-None-2-clause-near g c =
+    let p = err_from_is_err_and c.from_residual-in_err-check_open-in-None-2.result c.from_residual-in_err-check_open-in-None-2.ensures.1 in
+    rw p.1 tt
+
+pub returns-in_err-check_open-in-None-2-clause-end : goal.returns-in_err-check_open-in-None-2-clause-end
+returns-in_err-check_open-in-None-2-clause-end g c =
+    let p = err_from_is_err_and c.from_residual-in_err-check_open-in-None-2.result c.from_residual-in_err-check_open-in-None-2.ensures.1 in
+    rw p.1 tt
+
+pub returns-in_err-check_open-in-None-2-clause-at_end : goal.returns-in_err-check_open-in-None-2-clause-at_end
+returns-in_err-check_open-in-None-2-clause-at_end g c =
+    let p = err_from_is_err_and c.from_residual-in_err-check_open-in-None-2.result c.from_residual-in_err-check_open-in-None-2.ensures.1 in
+    rw p.1 tt
+
+pub returns-in_err-is_last-in-None-2-clause-line : goal.returns-in_err-is_last-in-None-2-clause-line
+returns-in_err-is_last-in-None-2-clause-line g c =
+    let p = err_from_is_err_and c.from_residual-in_err-is_last-in-None-2.result c.from_residual-in_err-is_last-in-None-2.ensures.1 in
+    rw p.1 tt
+
+pub returns-in_err-is_last-in-None-2-clause-number : goal.returns-in_err-is_last-in-None-2-clause-number
+returns-in_err-is_last-in-None-2-clause-number g c =
+    let p = err_from_is_err_and c.from_residual-in_err-is_last-in-None-2.result c.from_residual-in_err-is_last-in-None-2.ensures.1 in
+    rw p.1 tt
+
+pub returns-in_err-is_last-in-None-2-clause-near : goal.returns-in_err-is_last-in-None-2-clause-near
+returns-in_err-is_last-in-None-2-clause-near g c =
+    let p = err_from_is_err_and c.from_residual-in_err-is_last-in-None-2.result c.from_residual-in_err-is_last-in-None-2.ensures.1 in
+    rw p.1 tt
+
+pub returns-in_err-is_last-in-None-2-clause-end : goal.returns-in_err-is_last-in-None-2-clause-end
+returns-in_err-is_last-in-None-2-clause-end g c =
+    let p = err_from_is_err_and c.from_residual-in_err-is_last-in-None-2.result c.from_residual-in_err-is_last-in-None-2.ensures.1 in
+    rw p.1 tt
+
+pub returns-in_err-is_last-in-None-2-clause-at_end : goal.returns-in_err-is_last-in-None-2-clause-at_end
+returns-in_err-is_last-in-None-2-clause-at_end g c =
+    let p = err_from_is_err_and c.from_residual-in_err-is_last-in-None-2.result c.from_residual-in_err-is_last-in-None-2.ensures.1 in
+    rw p.1 tt
+
+pub returns-in_err-check-in-Some-clause-later : goal.returns-in_err-check-in-Some-clause-later
+returns-in_err-check-in-Some-clause-later g c = c.loop-len.invariant.later
+
+pub returns-in_err-check-in-Some-clause-name : goal.returns-in_err-check-in-Some-clause-name
+returns-in_err-check-in-Some-clause-name g c = c.loop-len.invariant.named
+
+pub returns-in_err-check-in-Some-clause-safe : goal.returns-in_err-check-in-Some-clause-safe
+returns-in_err-check-in-Some-clause-safe g c = c.loop-len.invariant.safety
+
+pub returns-in_err-check-in-Some-clause-unread : goal.returns-in_err-check-in-Some-clause-unread
+returns-in_err-check-in-Some-clause-unread g c holds = (c.loop-len.invariant.untouched holds).1
+
+pub returns-in_err-take-in-Some-clause-later : goal.returns-in_err-take-in-Some-clause-later
+returns-in_err-take-in-Some-clause-later g c = c.loop-len.invariant.later
+
+pub returns-in_err-take-in-Some-clause-name : goal.returns-in_err-take-in-Some-clause-name
+returns-in_err-take-in-Some-clause-name g c = c.loop-len.invariant.named
+
+pub returns-in_err-take-in-Some-clause-safe : goal.returns-in_err-take-in-Some-clause-safe
+returns-in_err-take-in-Some-clause-safe g c = c.loop-len.invariant.safety
+
+pub returns-in_err-take-in-Some-clause-unread : goal.returns-in_err-take-in-Some-clause-unread
+returns-in_err-take-in-Some-clause-unread g c holds = (c.loop-len.invariant.untouched holds).1
+
+pub returns-then-not-is_blank-clause-later : goal.returns-then-not-is_blank-clause-later
+returns-then-not-is_blank-clause-later g c = c.loop-len.invariant.later
+
+pub returns-then-not-is_blank-clause-name : goal.returns-then-not-is_blank-clause-name
+returns-then-not-is_blank-clause-name g c = c.loop-len.invariant.named
+
+pub returns-then-not-is_blank-clause-safe : goal.returns-then-not-is_blank-clause-safe
+returns-then-not-is_blank-clause-safe g c = c.loop-len.invariant.safety
+
+pub returns-then-not-is_blank-clause-unread : goal.returns-then-not-is_blank-clause-unread
+returns-then-not-is_blank-clause-unread g c holds = (c.loop-len.invariant.untouched holds).1
+
+pub returns-in-None-clause-later : goal.returns-in-None-clause-later
+returns-in-None-clause-later g c = c.loop-len.invariant.later
+
+pub returns-in-None-clause-name : goal.returns-in-None-clause-name
+returns-in-None-clause-name g c = c.loop-len.invariant.named
+
+pub returns-in-None-clause-safe : goal.returns-in-None-clause-safe
+returns-in-None-clause-safe g c = c.loop-len.invariant.safety
+
+pub returns-in-None-clause-unread : goal.returns-in-None-clause-unread
+returns-in-None-clause-unread g c holds = (c.loop-len.invariant.untouched holds).1
+
+pub returns-in_err-check_open-in-None-2-clause-later : goal.returns-in_err-check_open-in-None-2-clause-later
+returns-in_err-check_open-in-None-2-clause-later g c = c.loop-len.invariant.later
+
+pub returns-in_err-check_open-in-None-2-clause-name : goal.returns-in_err-check_open-in-None-2-clause-name
+returns-in_err-check_open-in-None-2-clause-name g c = c.loop-len.invariant.named
+
+pub returns-in_err-check_open-in-None-2-clause-safe : goal.returns-in_err-check_open-in-None-2-clause-safe
+returns-in_err-check_open-in-None-2-clause-safe g c = c.loop-len.invariant.safety
+
+pub returns-in_err-check_open-in-None-2-clause-unread : goal.returns-in_err-check_open-in-None-2-clause-unread
+returns-in_err-check_open-in-None-2-clause-unread g c holds = (c.loop-len.invariant.untouched holds).1
+
+pub returns-in_err-check-in-Some-clause-read_fault : goal.returns-in_err-check-in-Some-clause-read_fault
+returns-in_err-check-in-Some-clause-read_fault g c =
+    let p = err_from_is_err_and c.from_residual.result c.from_residual.ensures.1 in
+    rw (p.1, p.2) (λ e. absurd (limit_not_read c.in_err-check-in-Some.field-0.0 c.in_err-check-in-Some.ensures.fault (cc)))
+
+pub returns-in_err-check-in-Some-clause-waits : goal.returns-in_err-check-in-Some-clause-waits
+returns-in_err-check-in-Some-clause-waits g c =
+    let p = err_from_is_err_and c.from_residual.result c.from_residual.ensures.1 in
+    rw (p.1, p.2) (λ e. absurd (limit_not_read c.in_err-check-in-Some.field-0.0 c.in_err-check-in-Some.ensures.fault (cc)))
+
+pub returns-in_err-check-in-Some-clause-unsafe_read : goal.returns-in_err-check-in-Some-clause-unsafe_read
+returns-in_err-check-in-Some-clause-unsafe_read g c =
+    let p = err_from_is_err_and c.from_residual.result c.from_residual.ensures.1 in
+    rw (p.1, p.2) (λ e. absurd (limit_not_read c.in_err-check-in-Some.field-0.0 c.in_err-check-in-Some.ensures.fault (cc)))
+
+pub returns-then-not-is_blank-clause-end : goal.returns-then-not-is_blank-clause-end
+returns-then-not-is_blank-clause-end g c = tt
+
+pub returns-then-not-is_blank-clause-at_end : goal.returns-then-not-is_blank-clause-at_end
+returns-then-not-is_blank-clause-at_end g c = tt
+
+pub returns-then-not-is_blank-clause-line_limit : goal.returns-then-not-is_blank-clause-line_limit
+returns-then-not-is_blank-clause-line_limit g c = tt
+
+pub returns-then-not-is_blank-clause-err : goal.returns-then-not-is_blank-clause-err
+returns-then-not-is_blank-clause-err g c = tt
+
+pub returns-in-None-clause-line : goal.returns-in-None-clause-line
+returns-in-None-clause-line g c = tt
+
+pub returns-in-None-clause-number : goal.returns-in-None-clause-number
+returns-in-None-clause-number g c = tt
+
+pub returns-in-None-clause-near : goal.returns-in-None-clause-near
+returns-in-None-clause-near g c = tt
+
+pub returns-in-None-clause-line_limit : goal.returns-in-None-clause-line_limit
+returns-in-None-clause-line_limit g c = tt
+
+pub returns-in-None-clause-err : goal.returns-in-None-clause-err
+returns-in-None-clause-err g c = tt
+
+pub returns-in_err-check-in-Some-clause-passes : goal.returns-in_err-check-in-Some-clause-passes
+returns-in_err-check-in-Some-clause-passes g c = rw c.first_row.ensures.same c.loop-len.invariant.passes
+
+pub returns-in-None-clause-passes : goal.returns-in-None-clause-passes
+returns-in-None-clause-passes g c = rw c.first_row.ensures.same c.loop-len.invariant.passes
+
+pub returns-in_err-check_open-in-None-2-clause-passes : goal.returns-in_err-check_open-in-None-2-clause-passes
+returns-in_err-check_open-in-None-2-clause-passes g c = rw c.first_row.ensures.same c.loop-len.invariant.passes
+
+pub returns-in_err-check-in-Some-clause-err : goal.returns-in_err-check-in-Some-clause-err
+returns-in_err-check-in-Some-clause-err g c =
+    let p = err_from_is_err_and c.from_residual.result c.from_residual.ensures.1 in
+    rw (p.1, c.first_row.ensures.same) c.loop-len.invariant.same
+
+pub returns-in_err-check_open-in-None-2-clause-err : goal.returns-in_err-check_open-in-None-2-clause-err
+returns-in_err-check_open-in-None-2-clause-err g c =
+    let p = err_from_is_err_and c.from_residual-in_err-check_open-in-None-2.result c.from_residual-in_err-check_open-in-None-2.ensures.1 in
+    rw (p.1, c.first_row.ensures.same) c.loop-len.invariant.same

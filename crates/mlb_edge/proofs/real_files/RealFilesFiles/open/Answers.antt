@@ -1,4 +1,5 @@
 use Rattle.std.proofs.Common.{refl}
+use Rattle.std.proofs.lemmas.Result.{err_from_is_err_and}
 use Rattle.mlb_edge.proofs.Counts.{counts_added}
 use Rattle.mlb_edge.proofs.real_files.RealFilesFiles.open.Goals as goal
 
@@ -6,3 +7,13 @@ pub returns-in_ok-push-in-Err-clause-faults : goal.returns-in_ok-push-in-Err-cla
 returns-in_ok-push-in-Err-clause-faults g c =
     counts_added c.args.name.now _ c.args.self.now.failed_opens.items c.push.new.self.items refl
     (rw (c.in_ok-push-in-Err.ensures.items, c.in_ok-kept.ensures, c.as_bytes.ensures.value) refl)
+
+pub returns-in_err-kept-clause-opened : goal.returns-in_err-kept-clause-opened
+returns-in_err-kept-clause-opened g c =
+    let p = err_from_is_err_and c.from_residual.result c.from_residual.ensures.1 in
+    rw p.1 tt
+
+pub returns-in_err-push-in-Err-clause-opened : goal.returns-in_err-push-in-Err-clause-opened
+returns-in_err-push-in-Err-clause-opened g c =
+    let p = err_from_is_err_and c.from_residual-in_err-push-in-Err.result c.from_residual-in_err-push-in-Err.ensures.1 in
+    rw p.1 tt

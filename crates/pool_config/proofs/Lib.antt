@@ -1,3 +1,4 @@
+pub mod Both
 pub mod ByName
 pub mod CommunitySets
 pub mod Counts

@@ -4,6 +4,7 @@ pub mod Clashing
 pub mod Compile
 pub mod ConfigValue
 pub mod Faults
+pub mod Found
 pub mod KeySets
 pub mod Large
 pub mod Laws

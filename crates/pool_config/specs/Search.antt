@@ -17,8 +17,6 @@ use Rattle.kube_model.specs.declared.peer.BgpPeer.{BgpPeer}
 use Rattle.kube_model.specs.declared.community.CommunityList.{CommunityList}
 use Rattle.kube_model.specs.declared.selector.SelectorText.{SelectorText}
 use Rattle.kube_model.specs.declared.config_fault.ConfigFault.{ConfigFault}
-use Rattle.pool_config.specs.declared.compile_objects.CompileFault.{CompileFault}
-use Rattle.pool_config.specs.declared.compile_objects.CompileFault.TheVariants.{Refused}
 use Rattle.pool_config.specs.declared.compiled.CompiledPool.{CompiledPool}
 use Rattle.pool_config.specs.declared.compiled.CompiledBgp.{CompiledBgp}
 use Rattle.pool_config.specs.Choice.{chooses}
@@ -37,6 +35,14 @@ use Rattle.pool_config.specs.KeySets.{keys_with}
 abbrev pub first_name : {T : Type 0} → (T → Bool) → List (List ℕ × T) → Option (List ℕ)
 first_name p [] = None
 first_name p (e ∷ more) = if p e.1 then Some e.0 else first_name p more
+
+-- the name that was found is that of the first item of which the calls of a test answer `true`
+abbrev pub FindsFirst : {T : Type 0} → (T → Bool → Type 0) → List (List ℕ × T) → Option (List ℕ) → Type 0
+FindsFirst {T} Answers items found = (p : T → Bool) → ((x : T) (r : Bool) → Answers x r → r ≡ p x) → found ≡ first_name p items
+
+-- it was told whether the calls of a test answer `true` of any item
+abbrev pub TellsAny : {T : Type 0} → (T → Bool → Type 0) → List T → Bool → Type 0
+TellsAny {T} Answers items any = (p : T → Bool) → ((x : T) (r : Bool) → Answers x r → r ≡ p x) → any ≡ list_any p items
 
 -- the name of the item at the place
 abbrev pub name_at : {T : Type 0} → ℕ → List (List ℕ × T) → Option (List ℕ)
@@ -151,6 +157,10 @@ advertised_rows = Aggregation ∷ PrefClash ∷ []
 abbrev pub name_rows : List Row
 name_rows = UnknownCommunity ∷ BadValue ∷ BadText ∷ TwiceNamed ∷ UnknownPeer ∷ []
 
+-- what is wrong beside the pools by themselves
+abbrev pub later_rows : List Row
+later_rows = overlap_rows ++ (selector_rows ++ (advertised_rows ++ name_rows))
+
 -- the name of the object that is at fault first by the row
 abbrev pub found_at : Objects → Row → Option (List ℕ)
 found_at o ManyPools = name_at 1024 o.pools
@@ -176,10 +186,6 @@ found_at o UnknownPeer = first_name (λ adv. list_any (is_unknown_peer o.peers) 
 abbrev pub found_among : Objects → List Row → Option ConfigFault
 found_among o [] = None
 found_among o (row ∷ more) = option_or (option_map (fault_at row) (found_at o row)) (found_among o more)
-
--- a refusal is that of the first fault of the rows
-abbrev pub Refuses : Objects → List Row → CompileFault → Type 0
-Refuses o all e = (fault : ConfigFault) → e ≡ Refused fault → found_among o all ≡ Some fault
 
 -- the first fault
 unfoldable pub first_fault : Objects → Option ConfigFault

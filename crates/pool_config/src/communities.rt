@@ -15,6 +15,7 @@ ghost use Rattle.pool_config.specs.Search.{first_name, first_past, is_unknown, i
 
 use crate::large::{begins_large, read_large};
 use crate::numbers::{CommunityNumbers, has_colon, numbers_from, read_number};
+use crate::search::{any_passes, first_name};
 use kube_labels::Text;
 use kube_model::{BgpAdv, CommunityList};
 use large_numbers::{LargeCommunity, LargeNumbers, larges_from};
@@ -210,12 +211,9 @@ pub(crate) fn bgp_of_unknown<'a>(
 ) -> Option<&'a Text>
     ensures { option_copied result ≡ first_name (λ adv. list_any (is_unknown (named communities.now)) adv.communities) (named bgps.now) }
 {
-    for (name, held) in bgps.iter() {
-        if has_unknown(communities, held.object.communities.as_slice()) {
-            return Some(name);
-        }
-    }
-    None
+    first_name(bgps, |advertisement: &BgpAdv| {
+        has_unknown(communities, advertisement.communities.as_slice())
+    })
 }
 
 fn has_unknown(communities: &VersionedMap<Text, CommunityList>, texts: &[Text]) -> bool
@@ -240,46 +238,40 @@ fn is_no_community(text: &Text) -> bool
 pub(crate) fn list_of_bad_value(communities: &VersionedMap<Text, CommunityList>) -> Option<&Text>
     ensures { option_copied result ≡ first_name has_bad_value (named communities.now) }
 {
-    for (name, held) in communities.iter() {
-        if has_bad_value(&held.object) {
-            return Some(name);
-        }
-    }
-    None
+    first_name(communities, has_bad_value)
 }
 
 fn has_bad_value(list: &CommunityList) -> bool
     ensures { result ≡ has_bad_value list.now }
 {
-    for (_, value) in list.values.as_slice() {
-        if is_no_community(value) {
-            return true;
-        }
-    }
-    false
+    any_passes(list.values.as_slice(), has_no_community)
+}
+
+fn has_no_community(named: &(Text, Text)) -> bool
+    ensures { result ≡ is_no_community named.now.1 }
+{
+    is_no_community(&named.1)
 }
 
 /// The first advertisement with a text that has a colon, and is neither `A:B` nor `large:A:B:C`.
 pub(crate) fn bgp_of_bad_text(bgps: &VersionedMap<Text, BgpAdv>) -> Option<&Text>
     ensures { option_copied result ≡ first_name (λ adv. list_any is_bad_text adv.communities) (named bgps.now) }
 {
-    for (name, held) in bgps.iter() {
-        if has_bad_text(held.object.communities.as_slice()) {
-            return Some(name);
-        }
-    }
-    None
+    first_name(bgps, |advertisement: &BgpAdv| {
+        has_bad_text(advertisement.communities.as_slice())
+    })
 }
 
 fn has_bad_text(texts: &[Text]) -> bool
     ensures { result ≡ list_any is_bad_text texts.now }
 {
-    for text in texts {
-        if has_colon(text.as_str()) && is_no_community(text) {
-            return true;
-        }
-    }
-    false
+    any_passes(texts, is_bad_text)
+}
+
+fn is_bad_text(text: &Text) -> bool
+    ensures { result ≡ is_bad_text text.now }
+{
+    has_colon(text.as_str()) && is_no_community(text)
 }
 
 /// The first list of communities with a name that stood before.

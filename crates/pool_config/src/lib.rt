@@ -9,6 +9,7 @@ mod communities;
 mod compile_objects;
 mod compiled;
 mod config;
+mod first_fault;
 mod large;
 mod laws;
 mod numbers;
@@ -17,6 +18,7 @@ mod overlap;
 mod pool_faults;
 mod preferences;
 mod reading;
+mod search;
 mod selector_faults;
 mod span_index;
 

@@ -4,10 +4,11 @@ ghost use Rattle.std.specs.Option.{option_copied};
 ghost use Rattle.pool_config.specs.Objects.{named};
 ghost use Rattle.pool_config.specs.Lists.{read_selector, selectors_of};
 ghost use Rattle.pool_config.specs.Search.{first_name, has_bad_selector, has_bad_allocation, has_bad_in_l2};
-ghost use Rattle.pool_config.specs.Search.{has_bad_in_bgp, has_bad_in_peer, allocation_selectors};
+ghost use Rattle.pool_config.specs.Search.{has_bad_in_bgp, has_bad_in_peer};
 
+use crate::search::first_name;
 use kube_labels::{Selector, SelectorList, Text, are_well_formed};
-use kube_model::{Allocation, BgpAdv, BgpPeer, L2Adv, Pool, SelectorText, SelectorTexts};
+use kube_model::{BgpAdv, BgpPeer, L2Adv, Pool, SelectorText, SelectorTexts};
 use mlb_base::{NoMemory, TryCopy};
 use std::alloc::Global;
 use versioned_map::VersionedMap;
@@ -48,10 +49,10 @@ fn either_has_bad(first: &SelectorTexts, second: &SelectorTexts) -> bool
     has_bad_selector(first) || has_bad_selector(second)
 }
 
-fn allocation_has_bad(allocation: &Option<Allocation>) -> bool
-    ensures { result ≡ has_bad_selector (allocation_selectors allocation.now) }
+fn has_bad_allocation(pool: &Pool) -> bool
+    ensures { result ≡ has_bad_allocation pool.now }
 {
-    match allocation {
+    match &pool.allocation {
         None => false,
         Some(allocation) => either_has_bad(
             &allocation.namespace_selectors,
@@ -60,50 +61,48 @@ fn allocation_has_bad(allocation: &Option<Allocation>) -> bool
     }
 }
 
+fn has_bad_in_l2(advertisement: &L2Adv) -> bool
+    ensures { result ≡ has_bad_in_l2 advertisement.now }
+{
+    either_has_bad(&advertisement.pool_selectors, &advertisement.node_selectors)
+}
+
+fn has_bad_in_bgp(advertisement: &BgpAdv) -> bool
+    ensures { result ≡ has_bad_in_bgp advertisement.now }
+{
+    either_has_bad(&advertisement.pool_selectors, &advertisement.node_selectors)
+}
+
+fn has_bad_in_peer(peer: &BgpPeer) -> bool
+    ensures { result ≡ has_bad_in_peer peer.now }
+{
+    has_bad_selector(&peer.node_selectors)
+}
+
 /// The first pool with a selector that is refused.
 pub(crate) fn pool_of_bad_selector(pools: &VersionedMap<Text, Pool>) -> Option<&Text>
     ensures { option_copied result ≡ first_name has_bad_allocation (named pools.now) }
 {
-    for (name, held) in pools.iter() {
-        if allocation_has_bad(&held.object.allocation) {
-            return Some(name);
-        }
-    }
-    None
+    first_name(pools, has_bad_allocation)
 }
 
 /// The first L2Advertisement with one.
 pub(crate) fn l2_of_bad_selector(l2s: &VersionedMap<Text, L2Adv>) -> Option<&Text>
     ensures { option_copied result ≡ first_name has_bad_in_l2 (named l2s.now) }
 {
-    for (name, held) in l2s.iter() {
-        if either_has_bad(&held.object.pool_selectors, &held.object.node_selectors) {
-            return Some(name);
-        }
-    }
-    None
+    first_name(l2s, has_bad_in_l2)
 }
 
 /// The first BGPAdvertisement with one.
 pub(crate) fn bgp_of_bad_selector(bgps: &VersionedMap<Text, BgpAdv>) -> Option<&Text>
     ensures { option_copied result ≡ first_name has_bad_in_bgp (named bgps.now) }
 {
-    for (name, held) in bgps.iter() {
-        if either_has_bad(&held.object.pool_selectors, &held.object.node_selectors) {
-            return Some(name);
-        }
-    }
-    None
+    first_name(bgps, has_bad_in_bgp)
 }
 
 /// The first BGPPeer with one.
 pub(crate) fn peer_of_bad_selector(peers: &VersionedMap<Text, BgpPeer>) -> Option<&Text>
     ensures { option_copied result ≡ first_name has_bad_in_peer (named peers.now) }
 {
-    for (name, held) in peers.iter() {
-        if has_bad_selector(&held.object.node_selectors) {
-            return Some(name);
-        }
-    }
-    None
+    first_name(peers, has_bad_in_peer)
 }

@@ -1,31 +1,17 @@
-use Rattle.std.proofs.lemmas.Result.{err_from_is_err_and}
-use Rattle.pool_config.proofs.Stages.{refused_overlap, refused_selectors, refused_advertised, refused_names, accepted_all}
+use Rattle.std.proofs.Common.{◌≡◌, None, refl, sym, ◌∙◌}
+use Rattle.pool_config.specs.Objects.{objects_of}
+use Rattle.pool_config.specs.Search.{found_among, later_rows}
+use Rattle.pool_config.proofs.Stages.{refused_later, accepted_all, apart_unless}
 use Rattle.pool_config.proofs.compile_objects.checked_index.Goals as goal
 
-pub returns-in_err-check_overlap-clause-refused : goal.returns-in_err-check_overlap-clause-refused
-returns-in_err-check_overlap-clause-refused c =
-    let p = err_from_is_err_and c.from_residual.result c.from_residual.ensures.1 in
-    rw (p.1, p.2) (λ fault e. refused_overlap c.args.objects.now c.requires.checked fault (c.in_err-check_overlap.ensures.refused fault e))
-
-pub returns-in_err-check_selectors-clause-refused : goal.returns-in_err-check_selectors-clause-refused
-returns-in_err-check_selectors-clause-refused c =
-    let p = err_from_is_err_and c.from_residual-in_err-check_selectors.result c.from_residual-in_err-check_selectors.ensures.1 in
-    rw (p.1, p.2) (λ fault e. refused_selectors c.args.objects.now c.requires.checked c.in_ok-check_overlap.ensures.ok fault
-    (c.in_err-check_selectors.ensures.refused fault e))
-
-pub returns-in_err-check_advertised-clause-refused : goal.returns-in_err-check_advertised-clause-refused
-returns-in_err-check_advertised-clause-refused c =
-    let p = err_from_is_err_and c.from_residual-in_err-check_advertised.result c.from_residual-in_err-check_advertised.ensures.1 in
-    rw (p.1, p.2) (λ fault e. refused_advertised c.args.objects.now c.requires.checked c.in_ok-check_overlap.ensures.ok
-    c.in_ok-check_selectors.ensures.ok fault (c.in_err-check_advertised.ensures.refused fault e))
-
-pub returns-in_err-check_names-clause-refused : goal.returns-in_err-check_names-clause-refused
-returns-in_err-check_names-clause-refused c =
-    let p = err_from_is_err_and c.from_residual-in_err-check_names.result c.from_residual-in_err-check_names.ensures.1 in
-    rw (p.1, p.2) (λ fault e. refused_names c.args.objects.now c.requires.checked c.in_ok-check_overlap.ensures.ok
-    c.in_ok-check_selectors.ensures.ok c.in_ok-check_advertised.ensures.ok fault (c.in_err-check_names.ensures.refused fault e))
+pub returns-in-Some-clause-refused : goal.returns-in-Some-clause-refused
+returns-in-Some-clause-refused c = λ fault e. refused_later c.args.objects.now c.requires.checked fault
+    (sym c.in_ok-found.ensures ∙ rw (c.in-Some.is, c.refusal.ensures fault e) refl)
 
 pub returns-clause-compiled : goal.returns-clause-compiled
-returns-clause-compiled c =
-    accepted_all c.args.objects.now c.requires.checked c.in_ok-check_overlap.ensures.ok c.in_ok-check_selectors.ensures.ok
-    c.in_ok-check_advertised.ensures.ok c.in_ok-check_names.ensures.ok
+returns-clause-compiled c = accepted_all c.args.objects.now c.requires.checked (sym c.in_ok-found.ensures ∙ rw c.in_default.is refl)
+
+pub returns-clause-apart : goal.returns-clause-apart
+returns-clause-apart c =
+    let none : found_among (objects_of c.args.objects.now) later_rows ≡ None = sym c.in_ok-found.ensures ∙ rw c.in_default.is refl in
+    rw c.requires.pools (apart_unless (objects_of c.args.objects.now) none)

@@ -74,7 +74,10 @@ fn join(
 {
     let key = key_of(alloc, route)?;
     match places.get(&key) {
-        Some(place) => push_prefix(groups, *place, route.prefix),
+        Some(place) => {
+            drop(key);
+            push_prefix(groups, *place, route.prefix)
+        }
         None => begin(alloc, groups, places, key, route),
     }
 }

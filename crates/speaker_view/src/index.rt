@@ -18,12 +18,13 @@ use crate::endpoints::{is_slice_of, slice_serves};
 use grouped_keys::GroupedKeys;
 use ip_ranges::Address;
 use kube_labels::Text;
-use kube_model::{EndpointSlice, Event, Key, Kind, ListGroup, Object, Policy, Service};
+use kube_model::{EndpointSlice, Event, Key, Kind, ListGroup, Object, Policy, Service, both};
 use mlb_base::{NoMemory, TryCopy};
 use object_cache::ObjectCache;
 use std::alloc::Global;
 use std::collections::BTreeSet;
 use std::collections::btree_map::Keys;
+use versioned_map::VersionedMap;
 
 /// Which held services record an address, and which held endpoint slices are of a service, by their keys. Keys of others may stand
 /// there too: what is found by one is looked at before it counts.
@@ -321,26 +322,22 @@ impl Stale {
     fn add_unlisted(&mut self, cache: &ObjectCache, group: ListGroup) -> Result<(), NoMemory> {
         match group {
             ListGroup::Config => Ok(()),
-            ListGroup::Service => self.add_unlisted_services(cache),
-            ListGroup::Endpoint => self.add_unlisted_slices(cache),
+            ListGroup::Service => self.add_each_unlisted(cache.services(), Stale::add_service),
+            ListGroup::Endpoint => self.add_each_unlisted(cache.slices(), Stale::add_slice),
         }
     }
 
-    /// Adds the keys of the services that weren't listed.
-    fn add_unlisted_services(&mut self, cache: &ObjectCache) -> Result<(), NoMemory> {
-        for (_, held) in cache.services().iter() {
+    /// Adds the keys of the objects that weren't listed.
+    fn add_each_unlisted<T, F: Fn(&mut Stale, &T) -> Result<(), NoMemory>>(
+        &mut self,
+        objects: &VersionedMap<Key, T>,
+        add: F,
+    ) -> Result<(), NoMemory>
+        requires { F.IsAlwaysCallable add }
+    {
+        for (_, held) in objects.iter() {
             if held.version == 0 {
-                self.add_service(&held.object)?;
-            }
-        }
-        Ok(())
-    }
-
-    /// Adds the keys of the slices that weren't listed.
-    fn add_unlisted_slices(&mut self, cache: &ObjectCache) -> Result<(), NoMemory> {
-        for (_, held) in cache.slices().iter() {
-            if held.version == 0 {
-                self.add_slice(&held.object)?;
+                add(self, &held.object)?;
             }
         }
         Ok(())
@@ -358,8 +355,7 @@ impl Stale {
     }
 
     fn add_slice(&mut self, slice: &EndpointSlice) -> Result<(), NoMemory> {
-        let group = service_of(slice)?;
-        let key = slice.key.copy()?;
+        let (group, key) = both(service_of(slice), slice.key.copy())?;
         self.slices.push(GroupedKey { group, key })?;
         Ok(())
     }

@@ -1,20 +1,8 @@
 //! The controller: gives addresses to the services of a watch stream, and writes them as lines.
 #![tactic(auto)]
 
-mod controller;
-mod events;
-mod lane_files;
-mod lanes;
-mod laws;
-mod line;
-mod output;
-mod run;
-mod stream;
-mod trial;
-mod turns;
-
+use controller_run::run_controller;
 use program_exit::{exit_code, given_by};
-use run::run_controller;
 use std::process::ExitCode;
 
 fn main(rt: HostRuntime) -> ExitCode {
@@ -31,5 +19,8 @@ fn main(rt: HostRuntime) -> ExitCode {
         &mut given.input,
         &mut given.out,
     );
-    exit_code(&rt, &status)
+    let code = exit_code(&rt, &status);
+    drop(status);
+    drop(owned);
+    code
 }

@@ -1,0 +1,9 @@
+use Rattle.std.proofs.Common.{length}
+use Rattle.controller_run.proofs.Turning.{Turning}
+use Rattle.controller_run.proofs.turns.make_turns.Given as goal
+
+abbrev pub invariant-turns : goal.invariant-turns
+invariant-turns g l = Turning l.fn.core l.core (g.K.Sink.written l.fn.out) (g.K.Sink.written l.out) (g.K.Sink.faults l.fn.out) (g.K.Sink.faults l.out)
+
+abbrev pub decreases-turns : goal.decreases-turns
+decreases-turns g l = length l.core.queue

@@ -1,15 +1,8 @@
 //! The speaker: announces the addresses of services from its node, and withdraws them, by lines.
 #![tactic(auto)]
 
-mod beside;
-mod laws;
-mod responder;
-mod run;
-mod shown;
-mod stream;
-
 use program_exit::{exit_code, given_by};
-use run::run_speaker;
+use speaker_run::run_speaker;
 use std::process::ExitCode;
 
 fn main(rt: HostRuntime) -> ExitCode {
@@ -26,5 +19,8 @@ fn main(rt: HostRuntime) -> ExitCode {
         &mut given.input,
         &mut given.out,
     );
-    exit_code(&rt, &status)
+    let code = exit_code(&rt, &status);
+    drop(status);
+    drop(owned);
+    code
 }

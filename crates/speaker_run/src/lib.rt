@@ -1,0 +1,12 @@
+//! The runs of the speaker: over the lines of one stream, and over two lane files, where a responder may answer the frames beside it.
+#![tactic(auto)]
+
+mod beside;
+mod laws;
+mod responder;
+mod run;
+mod shown;
+mod stream;
+
+pub use run::run_speaker;
+pub use stream::stream_speaker;

@@ -3,8 +3,8 @@ ghost use Rattle.std.specs.Prelude.{◌≡◌, All, IfSome, IsTrue};
 ghost use Rattle.ip_ranges.specs.declared.family.Family.TheVariants.{V4, V6};
 ghost use Rattle.bgp_updates.specs.Tables.{AreV4, HasFew};
 
-use crate::draft::Draft;
-use crate::words::Side;
+use crate::updates::draft::Draft;
+use crate::updates::words::Side;
 use anyhow::{Result, bail};
 use bgp_updates::{MessageList, Route, RouteTable, updates};
 use ip_ranges::Family;

@@ -2,10 +2,10 @@
 ghost use Rattle.std.specs.Prelude.{◌≡◌, IfSome};
 ghost use Rattle.ip_ranges.specs.declared.family.Family.TheVariants.{V4, V6};
 
-use crate::draft::Draft;
-use crate::many;
-use crate::tables::Tables;
-use crate::words::{Side, route_of, side_of};
+use crate::updates::draft::Draft;
+use crate::updates::many;
+use crate::updates::tables::Tables;
+use crate::updates::words::{Side, route_of, side_of};
 use anyhow::{Result, bail};
 use bgp_reading::{UpdateFault, UpdateParts, read_update};
 use bgp_updates::MessageList;

@@ -1,7 +1,8 @@
 //! What is read of parts of objects, in short. What is empty isn't shown.
 
 use ip_ranges::{Address, print_address};
-use kube_model::{Labels, Port, SelectorText, Wanted};
+use kube_labels::Expression;
+use kube_model::{Labels, Port, SelectorText, Text, Wanted};
 use std::alloc::Global;
 use std::io;
 
@@ -12,22 +13,31 @@ pub(crate) fn show_labels(rt: &impl Print, name: &str, labels: &Labels) -> io::R
     Ok(())
 }
 
+pub(crate) fn show_texts(rt: &impl Print, name: &str, texts: &[Text]) -> io::Result<()> {
+    print!(rt; " {name}={texts:?}")
+}
+
+fn show_expression(rt: &impl Print, wanted: &Expression) -> io::Result<()> {
+    let values = wanted.values.as_slice();
+    print!(rt; " {:?} {:?} {values:?}", wanted.key, wanted.operator)
+}
+
+fn show_selector(rt: &impl Print, name: &str, selector: &SelectorText) -> io::Result<()> {
+    print!(rt; " {name}?")?;
+    show_labels(rt, name, &selector.labels)?;
+    for wanted in selector.expressions.as_slice() {
+        show_expression(rt, wanted)?;
+    }
+    Ok(())
+}
+
 pub(crate) fn show_selectors(
     rt: &impl Print,
     name: &str,
     selectors: &[SelectorText],
 ) -> io::Result<()> {
     for selector in selectors {
-        print!(rt; " {name}?")?;
-        show_labels(rt, name, &selector.labels)?;
-        for wanted in selector.expressions.as_slice() {
-            print!(rt;
-                " {:?} {:?} {:?}",
-                wanted.key,
-                wanted.operator,
-                wanted.values.as_slice()
-            )?;
-        }
+        show_selector(rt, name, selector)?;
     }
     Ok(())
 }
@@ -37,6 +47,17 @@ pub(crate) fn show_ports(rt: &impl Print, ports: &[Port]) -> io::Result<()> {
         print!(rt; " {:?}/{}", port.protocol, port.port)?;
     }
     Ok(())
+}
+
+fn show_address(rt: &impl Print, alloc: Global, address: &Address) -> io::Result<()> {
+    match print_address(alloc, address) {
+        Ok(text) => {
+            let shown = print!(rt; "{text}");
+            drop(text);
+            shown
+        }
+        Err(_) => print!(rt; "NoMemory"),
+    }
 }
 
 /// The addresses, with commas between them.
@@ -49,10 +70,7 @@ pub(crate) fn show_addresses(
         if index > 0 {
             print!(rt; ",")?;
         }
-        match print_address(alloc, address) {
-            Ok(text) => print!(rt; "{text}")?,
-            Err(_) => print!(rt; "NoMemory")?,
-        }
+        show_address(rt, alloc, address)?;
     }
     Ok(())
 }

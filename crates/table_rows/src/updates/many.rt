@@ -4,9 +4,9 @@ ghost use Rattle.ip_ranges.specs.declared.family.Family.TheVariants.{V4, V6};
 ghost use Rattle.ip_ranges.specs.Values.{IsPrefix};
 ghost use Rattle.bgp_updates.specs.Tables.{HasFew};
 
-use crate::draft::Draft;
-use crate::tables::Tables;
-use crate::words::Side;
+use crate::updates::draft::Draft;
+use crate::updates::tables::Tables;
+use crate::updates::words::Side;
 use anyhow::{Result, bail};
 use bgp_reading::{UpdateFault, read_update};
 use bgp_updates::{MessageList, Route};

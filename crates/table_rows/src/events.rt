@@ -6,12 +6,20 @@ mod parts;
 
 use json_fields::{FieldFault, read_value};
 use kube_events::{read_event, read_object};
-use kube_model::{Event, EventFault, Kind, Object};
+use kube_model::{Event, EventFault, Key, Kind, Object, Text};
 use mlb_base::TryCopy;
 use objects::show_object;
 use serde_json::Value;
 use std::alloc::Global;
 use std::io;
+
+fn show_deleted(rt: &impl Print, kind: Kind, key: &Key) -> io::Result<()> {
+    println!(rt; "Deleted {kind:?} {}/{}", key.namespace, key.name)
+}
+
+fn show_frame(rt: &impl Print, interface: &Text, bytes: &[u8]) -> io::Result<()> {
+    println!(rt; "Frame {interface:?} {bytes:?}")
+}
 
 fn show_event(rt: &impl Print, alloc: Global, event: &Event) -> io::Result<()> {
     match event {
@@ -19,15 +27,11 @@ fn show_event(rt: &impl Print, alloc: Global, event: &Event) -> io::Result<()> {
             print!(rt; "Changed {version} ")?;
             show_object(rt, alloc, object)
         }
-        Event::Deleted { kind, key } => {
-            println!(rt; "Deleted {kind:?} {}/{}", key.namespace, key.name)
-        }
+        Event::Deleted { kind, key } => show_deleted(rt, *kind, key),
         Event::ListEnd { group } => println!(rt; "ListEnd {group:?}"),
         Event::Expired => println!(rt; "Expired"),
         Event::Members { names } => println!(rt; "Members {:?}", names.as_slice()),
-        Event::Frame { interface, bytes } => {
-            println!(rt; "Frame {interface:?} {:?}", bytes.as_slice())
-        }
+        Event::Frame { interface, bytes } => show_frame(rt, interface, bytes.as_slice()),
         Event::Ignored => println!(rt; "Ignored"),
     }
 }

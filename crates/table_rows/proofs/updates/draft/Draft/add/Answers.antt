@@ -2,8 +2,8 @@ use Rattle.std.proofs.Common.{◌≡◌, sym, true}
 use Rattle.std.specs.List.{list_all}
 use Rattle.std.proofs.lemmas.List.Elements.{All-push}
 use Rattle.bgp_updates.specs.Tables.{before, HasFew}
-use Rattle.update_rows.proofs.Adding.{table-stays}
-use Rattle.update_rows.proofs.draft.Draft.add.Goals as goal
+use Rattle.table_rows.proofs.Adding.{table-stays}
+use Rattle.table_rows.proofs.updates.draft.Draft.add.Goals as goal
 
 pub invariant_of-self : goal.invariant_of-self
 invariant_of-self c =

@@ -136,4 +136,3 @@ impl Case {
         self.take(line)
     }
 }
-

@@ -16,6 +16,7 @@ mod steps;
 mod stored;
 
 use case::Case;
+use std::alloc::Global;
 use std::io::{self, Input};
 
 /// Writes the answer to the line, or why there is none.
@@ -27,8 +28,8 @@ fn answer_line(rt: &impl Print, case: &mut Case, line: &str) -> io::Result<()> {
 }
 
 /// Writes the answer to each line of the input.
-fn answer_lines(rt: &(impl Print + Input), case: &mut Case) -> io::Result<()> {
-    for line in rt.lines(rt.alloc()) {
+fn answer_lines(rt: &(impl Print + Input), alloc: Global, case: &mut Case) -> io::Result<()> {
+    for line in rt.lines(alloc) {
         answer_line(rt, case, line?.as_str())?;
     }
     Ok(())
@@ -36,8 +37,9 @@ fn answer_lines(rt: &(impl Print + Input), case: &mut Case) -> io::Result<()> {
 
 /// The case is dropped in one place: each way out of a function that holds one would drop it anew.
 fn main(rt: HostRuntime) -> io::Result<()> {
-    let mut case = Case::new(rt.alloc());
-    let outcome = answer_lines(&rt, &mut case);
+    let alloc = rt.alloc();
+    let mut case = Case::new(alloc);
+    let outcome = answer_lines(&rt, alloc, &mut case);
     drop(case);
     outcome
 }

@@ -23,5 +23,6 @@ pub mod Shared
 pub mod SpanPlaces
 pub mod Spans
 pub mod Stages
+pub mod Steps
 pub mod Tests
 pub mod TextSets

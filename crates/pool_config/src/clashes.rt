@@ -1,5 +1,5 @@
 //! Advertisements that give one route two preferences.
-ghost use Rattle.std.specs.Prelude.{◌≡◌, ◌==◌, find, map, IfOk};
+ghost use Rattle.std.specs.Prelude.{◌≡◌, ◌==◌, ◌++◌, ◌∷◌, [], find, map, IfOk, IsOkAnd, OnOk};
 ghost use Rattle.std.specs.List.{AllByRecursion, list_any};
 ghost use Rattle.std.specs.Option.{option_copied, option_map};
 ghost use Rattle.pool_config.specs.Search.{first_pair, clash, has_equal_length};
@@ -10,6 +10,7 @@ use crate::advertised::length_for;
 use crate::choice::ChoosesPools;
 use crate::compiled::{CompiledBgp, CompiledPool};
 use crate::preferences::PoolPreferences;
+use crate::search::any_passes;
 use kube_labels::Text;
 use mlb_base::NoMemory;
 use std::alloc::Global;
@@ -24,7 +25,9 @@ pub(crate) fn clashing_bgp<'a>(
     ensures { IfOk result (λ name. option_copied name ≡ first_pair (λ adv. adv.name) (clash pools.now) bgp.now) }
 {
     let known = preferences_of(alloc, pools, bgp)?;
-    Ok(first_clashing(known.as_slice(), pools, bgp))
+    let found = first_clashing(known.as_slice(), pools, bgp);
+    drop(known);
+    Ok(found)
 }
 
 /// The preferences at each pool. Each advertisement is asked once whether it chooses a pool.
@@ -39,16 +42,29 @@ fn preferences_of<'a>(
 {
     let mut known = Vec::new(alloc);
     for pool in pools {
-        known.push(PoolPreferences::new(alloc, pool, bgp)?)?;
+        let Ok(()) = push_made(&mut known, PoolPreferences::new(alloc, pool, bgp)) else {
+            drop(known);
+            return Err(NoMemory);
+        };
     }
     Ok(known)
+}
+
+/// Appends what was made, if there was memory for it.
+fn push_made<T: Drop>(held: &mut Vec<T>, made: Result<T, NoMemory>) -> Result<(), NoMemory>
+    ensures { OnOk result (IsOkAnd made (λ item. held.new.items ≡ held.old.items ++ item ∷ [])) }
+{
+    held.push(made?)?;
+    Ok(())
 }
 
 /// Whether the advertisement clashes with another one at some pool.
 fn clashes_anywhere(known: &[PoolPreferences<'_>], advertisement: &CompiledBgp) -> bool
     ensures { result ≡ clashes_anywhere known.now advertisement.now }
 {
-    known.iter().any(|held| held.clashes(advertisement))
+    any_passes(known, |held: &PoolPreferences<'_>| {
+        held.clashes(advertisement)
+    })
 }
 
 fn first_clashing<'a>(

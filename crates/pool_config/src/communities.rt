@@ -1,5 +1,7 @@
 //! The communities of advertisements, and what is wrong with them.
-ghost use Rattle.std.specs.Prelude.{◌≡◌, ◌&&◌, [], map, filter, IfOk, OnOk};
+ghost use Rattle.std.specs.Prelude.{◌≡◌, ◌&&◌, [], map, filter, not, IfOk, OnOk};
+ghost use Rattle.std.specs.BTreeMap.{is_at};
+ghost use Rattle.std.specs.BTreeSet.{insert_key};
 ghost use Rattle.std.specs.Option.{option_copied};
 ghost use Rattle.std.specs.Bool.{OnFalse};
 ghost use Rattle.std.specs.Map.{lookup};
@@ -124,8 +126,20 @@ pub(crate) fn bgp_of_many_texts(
     ensures { IfOk result (λ found. option_copied found ≡ first_past 512 [] (named bgps.now)) }
 {
     let mut texts = BTreeSet::new(alloc);
+    let found = past_texts(&mut texts, bgps);
+    drop(texts);
+    found
+}
+
+/// Adds the advertisements' texts, up to the first one with which there are more than there may be.
+fn past_texts<'a>(
+    texts: &mut BTreeSet<Text>,
+    bgps: &'a VersionedMap<Text, BgpAdv>,
+) -> Result<Option<&'a Text>, NoMemory>
+    ensures { IfOk result (λ found. option_copied found ≡ first_past 512 texts.old.keys (named bgps.now)) }
+{
     for (name, held) in bgps.iter() {
-        add_texts(&mut texts, held.object.communities.as_slice())?;
+        add_texts(texts, held.object.communities.as_slice())?;
         if texts.len() > MOST_TEXTS {
             return Ok(Some(name));
         }
@@ -137,9 +151,18 @@ fn add_texts(held: &mut BTreeSet<Text>, texts: &[Text]) -> Result<(), NoMemory>
     ensures { OnOk result (held.new.keys ≡ keys_with name_cmp held.old.keys texts.now) }
 {
     for text in texts {
-        let _is_new = held.insert(text.copy()?)?;
+        let _is_new = put_text(held, text)?;
     }
     Ok(())
+}
+
+/// Puts in a copy of the text. Whether it is new.
+fn put_text(held: &mut BTreeSet<Text>, text: &Text) -> Result<bool, NoMemory>
+    ensures is_new { IfOk result (λ is_new. is_new ≡ not (list_any (is_at (name_cmp text.now)) held.old.keys)) }
+    ensures put { OnOk result (held.new.keys ≡ insert_key name_cmp held.old.keys text.now) }
+{
+    let is_new = held.insert(text.copy()?)?;
+    Ok(is_new)
 }
 
 /// The first advertisement with which there are more texts of large communities than there may be.
@@ -151,8 +174,21 @@ pub(crate) fn bgp_of_many_large<'a>(
     ensures { IfOk result (λ found. option_copied found ≡ first_past 128 [] (map (with_large (named communities.now)) (named bgps.now))) }
 {
     let mut texts = BTreeSet::new(alloc);
+    let found = past_large(communities, &mut texts, bgps);
+    drop(texts);
+    found
+}
+
+/// Adds the advertisements' texts of large communities, up to the first one with which there are more than there may be.
+fn past_large<'a>(
+    communities: &VersionedMap<Text, CommunityList>,
+    texts: &mut BTreeSet<Text>,
+    bgps: &'a VersionedMap<Text, BgpAdv>,
+) -> Result<Option<&'a Text>, NoMemory>
+    ensures { IfOk result (λ found. option_copied found ≡ first_past 128 texts.old.keys (map (with_large (named communities.now)) (named bgps.now))) }
+{
     for (name, held) in bgps.iter() {
-        add_large_texts(communities, &mut texts, held.object.communities.as_slice())?;
+        add_large_texts(communities, texts, held.object.communities.as_slice())?;
         if texts.len() > MOST_LARGE {
             return Ok(Some(name));
         }
@@ -169,7 +205,7 @@ fn add_large_texts(
 {
     for text in texts {
         if counts_as_large(communities, text) {
-            let _is_new = held.insert(text.copy()?)?;
+            let _is_new = put_text(held, text)?;
         }
     }
     Ok(())
@@ -185,12 +221,10 @@ fn counts_as_large(communities: &VersionedMap<Text, CommunityList>, text: &Text)
 fn is_large_name(communities: &VersionedMap<Text, CommunityList>, name: &Text) -> bool
     ensures { result ≡ is_large_name (named communities.now) name.now }
 {
-    for (_, held) in communities.iter() {
-        if has_large(held.object.values.as_slice(), name) {
-            return true;
-        }
-    }
-    false
+    first_name(communities, |list: &CommunityList| {
+        has_large(list.values.as_slice(), name)
+    })
+    .is_some()
 }
 
 fn has_large(values: &[(Text, Text)], name: &Text) -> bool
@@ -282,8 +316,20 @@ pub(crate) fn list_of_repeat(
     ensures { IfOk result (λ found. option_copied found ≡ first_repeat [] (named communities.now)) }
 {
     let mut names = BTreeSet::new(alloc);
+    let found = repeat_among(&mut names, communities);
+    drop(names);
+    found
+}
+
+/// Adds the names of the lists, up to the first list with one that is there already.
+fn repeat_among<'a>(
+    names: &mut BTreeSet<Text>,
+    communities: &'a VersionedMap<Text, CommunityList>,
+) -> Result<Option<&'a Text>, NoMemory>
+    ensures { IfOk result (λ found. option_copied found ≡ first_repeat names.old.keys (named communities.now)) }
+{
     for (name, held) in communities.iter() {
-        if add_names(&mut names, held.object.values.as_slice())? {
+        if add_names(names, held.object.values.as_slice())? {
             return Ok(Some(name));
         }
     }
@@ -296,8 +342,7 @@ fn add_names(held: &mut BTreeSet<Text>, values: &[(Text, Text)]) -> Result<bool,
     ensures added { IfOk result (λ repeated. OnFalse repeated (held.new.keys ≡ names_with held.old.keys values.now)) }
 {
     for (name, _) in values {
-        let is_new = held.insert(name.copy()?)?;
-        if !is_new {
+        if !put_text(held, name)? {
             return Ok(true);
         }
     }

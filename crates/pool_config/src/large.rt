@@ -3,7 +3,7 @@ ghost use Rattle.std.specs.Prelude.{◌≡◌, ◌↔◌, Some};
 ghost use Rattle.large_numbers.specs.declared.numbers.LargeCommunity.{LargeCommunity as LargeValue};
 ghost use Rattle.pool_config.specs.Large.{IsLargeText, begins_large, large_of, local_of, word_of, words_of};
 
-use crate::numbers::is_padded;
+use crate::numbers::{at_colon, is_padded};
 use large_numbers::LargeCommunity;
 
 /// Whether the text begins as a large community's.
@@ -28,7 +28,7 @@ fn large_by_parts(text: &str) -> Option<LargeCommunity>
     if !begins_large(text) {
         return None;
     }
-    let (_, numbers) = text.split_once(':')?;
+    let (_, numbers) = at_colon(text)?;
     read_words(numbers)
 }
 
@@ -36,7 +36,7 @@ fn large_by_parts(text: &str) -> Option<LargeCommunity>
 fn read_words(text: &str) -> Option<LargeCommunity>
     ensures value { result ≡ words_of text.now }
 {
-    let (global, local) = text.split_once(':')?;
+    let (global, local) = at_colon(text)?;
     let global = read_word(global)?;
     let (first, second) = read_local(local)?;
     Some(LargeCommunity {
@@ -50,7 +50,7 @@ fn read_words(text: &str) -> Option<LargeCommunity>
 fn read_local(text: &str) -> Option<(u32, u32)>
     ensures value { result ≡ local_of text.now }
 {
-    let (first, second) = text.split_once(':')?;
+    let (first, second) = at_colon(text)?;
     let first = read_word(first)?;
     let second = read_word(second)?;
     Some((first, second))

@@ -1,4 +1,5 @@
 use Rattle.ip_ranges.specs.declared.family.Family.TheVariants.{V4, V6}
+use Rattle.std.proofs.lemmas.Result.{err_from_is_err_and}
 use Rattle.pool_config.proofs.KnownClashes.{knows-none, knows-more, knows-each}
 use Rattle.pool_config.proofs.preferences.PoolPreferences.note_all.Goals as goal
 
@@ -23,3 +24,13 @@ returns-clause-v4 c = knows-each V4 c.args.pool.now c.args.bgp.now c.loop-advert
 pub returns-clause-v6 : goal.returns-clause-v6
 returns-clause-v6 c = knows-each V6 c.args.pool.now c.args.bgp.now c.loop-advertisement.advertisement-index c.loop-advertisement.v6
     c.loop-advertisement-test.false c.loop-advertisement.invariant.v6
+
+pub returns-in_err-note-clause-v4 : goal.returns-in_err-note-clause-v4
+returns-in_err-note-clause-v4 c =
+    let p = err_from_is_err_and c.from_residual.result c.from_residual.ensures.1 in
+    rw p.1 tt
+
+pub returns-in_err-note-clause-v6 : goal.returns-in_err-note-clause-v6
+returns-in_err-note-clause-v6 c =
+    let p = err_from_is_err_and c.from_residual.result c.from_residual.ensures.1 in
+    rw p.1 tt

@@ -1,4 +1,5 @@
 pub mod Holding
+pub mod Picked
 pub mod Queued
 pub mod Reached
 pub mod Waiting

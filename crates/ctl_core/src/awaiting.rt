@@ -7,7 +7,7 @@ use crate::keys::Services;
 use crate::listing::Listed;
 use key_queue::KeyList;
 use kube_model::Key;
-use mlb_base::NoMemory;
+use mlb_base::{NoMemory, TryCopy};
 
 /// Keys that await a newer event, in the order in which they began to. Any of them may be the next that is shown.
 pub(crate) type AwaitingKeys = KeyList<Key>;
@@ -20,12 +20,12 @@ pub(crate) fn awaits(awaiting: &AwaitingKeys, key: &Key) -> bool
 }
 
 /// The key, which awaits no newer event yet, awaits one. After want of memory they are unchanged.
-pub(crate) fn await_newer(awaiting: &mut AwaitingKeys, key: Key) -> Result<(), NoMemory>
-    requires { has_key awaiting.old key ≡ false }
-    ensures ok { OnOk result (awaiting.new ≡ awaiting.old ++ key ∷ []) }
+pub(crate) fn await_newer(awaiting: &mut AwaitingKeys, key: &Key) -> Result<(), NoMemory>
+    requires { has_key awaiting.old key.now ≡ false }
+    ensures ok { OnOk result (awaiting.new ≡ awaiting.old ++ key.now ∷ []) }
     ensures err { OnErr result (awaiting.new ≡ awaiting.old) }
 {
-    awaiting.push(key)
+    awaiting.push(key.copy()?)
 }
 
 /// The key awaits no newer event.

@@ -1,5 +1,5 @@
 //! Lists of keys.
-ghost use Rattle.std.specs.Prelude.{◌≡◌, ◌++◌, if◌then◌else◌, [], not, IfOk};
+ghost use Rattle.std.specs.Prelude.{◌≡◌, ◌++◌, if◌then◌else◌, [], not, IfOk, OnOk};
 ghost use Rattle.std.specs.Option.{option_copied};
 ghost use Rattle.object_cache.specs.Stays.{passing};
 ghost use Rattle.versioned_map.specs.Objects.{listed, object_at};
@@ -13,13 +13,14 @@ ghost use Rattle.ctl_core.specs.Waiting.{lacks_record, lacks_with, others_where}
 
 use crate::awaiting::{AwaitingKeys, awaits};
 use crate::listing::Listed;
+use crate::picking::{ObjectTest, push_copy, push_passing};
 use crate::waiting::WaitingKeys;
 use key_queue::KeyQueue;
 use kube_labels::Text;
 use kube_model::{Key, Record, Service};
-use mlb_base::{NoMemory, TryCopy};
+use mlb_base::NoMemory;
 use std::alloc::Global;
-use versioned_map::VersionedMap;
+use versioned_map::{Versioned, VersionedMap};
 
 /// The held services.
 pub(crate) type Services = VersionedMap<Key, Service>;
@@ -68,7 +69,7 @@ fn own_key(alloc: Global, key: &Key, queue: &Keys) -> Result<Vec<Key>, NoMemory>
     if has_key(queue, key) {
         return Ok(keys);
     }
-    keys.push(key.copy()?)?;
+    push_copy(&mut keys, key)?;
     Ok(keys)
 }
 
@@ -85,70 +86,61 @@ fn is_free_with(
     is_asked && is_free(queue, awaiting, key)
 }
 
-fn free_with(
-    alloc: Global,
+/// A test whether a key is free, with a recorded address or without, and listed where these alone are asked for.
+#[derive(Drop)]
+struct FreeWith<'a> {
+    queue: &'a Keys,
+    awaiting: &'a AwaitingKeys,
     assigned: bool,
+    listed_alone: bool,
+}
+
+impl ObjectTest<Service> for FreeWith<'_> {
+    ghost use Rattle.std.specs.Prelude.{◌==◌, ◌&&◌, ◌||◌, not};
+    ghost use Rattle.core_rules.specs.Core.{is_free_with};
+
+    ghost passes = { λ t key held. (not t.listed_alone || not (held.version == 0)) && is_free_with t.queue.now t.awaiting.now t.assigned key held.object };
+
+    fn passes(&self, key: &Key, held: &Versioned<Service>) -> bool {
+        (!self.listed_alone || held.version != 0)
+            && is_free_with(self.queue, self.awaiting, self.assigned, key, &held.object)
+    }
+}
+
+/// The free keys with a recorded address, or without, to the end of these: of all services, or of the listed ones alone.
+fn push_free(
+    keys: &mut Vec<Key>,
+    assigned: bool,
+    listed_alone: bool,
     queue: &Keys,
     awaiting: &AwaitingKeys,
     services: &Services,
-) -> Result<Vec<Key>, NoMemory>
-    ensures { IfOk result (λ keys. keys.items ≡ passing (is_free_with queue.now awaiting.now assigned) services.now) }
+) -> Result<(), NoMemory>
+    ensures { OnOk result (keys.new.items
+        ≡ keys.old.items ++ passing (is_free_with queue.now awaiting.now assigned) (if listed_alone then listed services.now else services.now)) }
 {
-    let mut keys = Vec::new(alloc);
-    for (key, held) in services.iter() {
-        if !is_free_with(queue, awaiting, assigned, key, &held.object) {
-            continue;
-        }
-        keys.push(key.copy()?)?;
-    }
-    Ok(keys)
+    let test = FreeWith {
+        queue,
+        awaiting,
+        assigned,
+        listed_alone,
+    };
+    push_passing(keys, &test, services)
 }
 
-/// Every free key: those with a recorded address first.
+/// Every free key, or those of listed services alone: those with a recorded address first.
 pub(crate) fn all_free(
     alloc: Global,
+    listed_alone: bool,
     queue: &Keys,
     awaiting: &AwaitingKeys,
     services: &Services,
 ) -> Result<Vec<Key>, NoMemory>
-    ensures { IfOk result (λ keys. keys.items ≡ all_free queue.now awaiting.now services.now) }
-{
-    let mut keys = free_with(alloc, true, queue, awaiting, services)?;
-    let mut others = free_with(alloc, false, queue, awaiting, services)?;
-    keys.append(&mut others)?;
-    Ok(keys)
-}
-
-fn free_listed_with(
-    alloc: Global,
-    assigned: bool,
-    queue: &Keys,
-    awaiting: &AwaitingKeys,
-    services: &Services,
-) -> Result<Vec<Key>, NoMemory>
-    ensures { IfOk result (λ keys. keys.items ≡ passing (is_free_with queue.now awaiting.now assigned) (listed services.now)) }
+    ensures { IfOk result (λ keys. keys.items ≡ all_free queue.now awaiting.now (if listed_alone then listed services.now else services.now)) }
 {
     let mut keys = Vec::new(alloc);
-    for (key, held) in services.iter() {
-        if held.version == 0 || !is_free_with(queue, awaiting, assigned, key, &held.object) {
-            continue;
-        }
-        keys.push(key.copy()?)?;
-    }
-    Ok(keys)
-}
-
-fn all_free_listed(
-    alloc: Global,
-    queue: &Keys,
-    awaiting: &AwaitingKeys,
-    services: &Services,
-) -> Result<Vec<Key>, NoMemory>
-    ensures { IfOk result (λ keys. keys.items ≡ all_free queue.now awaiting.now (listed services.now)) }
-{
-    let mut keys = free_listed_with(alloc, true, queue, awaiting, services)?;
-    let mut others = free_listed_with(alloc, false, queue, awaiting, services)?;
-    keys.append(&mut others)?;
+    push_free(&mut keys, true, listed_alone, queue, awaiting, services)?;
+    push_free(&mut keys, false, listed_alone, queue, awaiting, services)?;
     Ok(keys)
 }
 
@@ -223,7 +215,7 @@ pub(crate) fn listed_and_free(
         return Ok(Vec::new(alloc));
     }
     if !was_ready {
-        return all_free_listed(alloc, queue, awaiting, services);
+        return all_free(alloc, true, queue, awaiting, services);
     }
     Ok(listed)
 }

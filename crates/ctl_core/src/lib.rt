@@ -6,6 +6,7 @@ mod awaiting;
 mod claims;
 mod keys;
 mod listing;
+mod picking;
 mod reached;
 mod replies;
 mod room;

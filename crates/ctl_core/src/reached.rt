@@ -8,7 +8,8 @@ ghost use Rattle.core_rules.specs.Replied.{core_reply};
 ghost use Rattle.core_rules.specs.Take.{core_take, core_note, core_expired, limits};
 ghost use Rattle.core_rules.specs.Turn.{core_turn, after_turn};
 
-use crate::state::CoreState;
+use crate::keys::is_free;
+use crate::state::{CoreState, is_ready};
 use core_rules::{TakeFault, Turn};
 use kube_labels::Text;
 use kube_model::{Event, Key, ListGroup, Put, PutReply, Record};
@@ -49,35 +50,40 @@ impl Core {
     pub fn is_ready(&self) -> bool
         ensures { result ≡ is_ready self.now.held }
     {
-        self.state.is_ready()
+        is_ready(&self.state.cache)
     }
 
     /// Whether a service is queued, so that there is a turn to make.
     pub fn has_turn(&self) -> bool
         ensures { IsTrue result ↔ (0 < length self.now.queue) }
     {
-        self.state.has_turn()
+        !self.state.queue.is_empty()
     }
 
     /// The record last shown for a held service.
     pub fn record_of(&self, key: &Key) -> Option<&Record>
         ensures { option_copied result ≡ record_of self.now.held key.now }
     {
-        self.state.record_of(key)
+        match self.state.cache.service(key) {
+            Some(service) => Some(&service.holding),
+            None => None,
+        }
     }
 
     /// Whether the core is ready and holds the service, which is neither queued nor awaits a newer event.
     pub fn is_settled(&self, key: &Key) -> bool
         ensures { result ≡ is_settled self.now key.now }
     {
-        self.state.is_settled(key)
+        is_ready(&self.state.cache)
+            && self.state.cache.service(key).is_some()
+            && is_free(&self.state.queue, &self.state.awaiting, key)
     }
 
     /// The put that has no reply yet.
     pub fn put_out(&self) -> Option<&Put>
         ensures { option_copied result ≡ self.now.out }
     {
-        self.state.put_out()
+        self.state.out.as_ref()
     }
 
     /// Takes an event: what it shows of the cluster is held. It is refused where one service more would be held than may be,

@@ -5,6 +5,8 @@ ghost use Rattle.std.specs.Option.{option_copied};
 ghost use Rattle.kube_model.specs.declared.key.Key.{Key as KeyValue};
 ghost use Rattle.kube_model.specs.Keys.{key_cmp, same_key};
 ghost use Rattle.versioned_map.specs.Objects.{object_at};
+ghost use Rattle.object_history.specs.Cache.{cached_after};
+ghost use Rattle.object_history.specs.Observations.{Written};
 ghost use Rattle.core_rules.specs.Replied.{core_reply, replied, stored, refused, in_doubt};
 ghost use Rattle.ctl_core.specs.Queued.{GoBehind};
 ghost use Rattle.ctl_core.specs.Reached.{IsReached};
@@ -17,7 +19,8 @@ use crate::state::CoreState;
 use crate::waiting::WaitingKeys;
 use kube_labels::Text;
 use kube_model::{Key, Put, PutReply};
-use mlb_base::{NoMemory, TryCopy};
+use mlb_base::NoMemory;
+use object_cache::ObjectCache;
 
 impl CoreState {
     /// Takes the reply to the put that is out. After want of memory the put is still out, and nothing changed.
@@ -82,9 +85,7 @@ impl CoreState {
             return Err(put);
         };
         self.waiting.release_others(is_lost, &put.key);
-        let Put { key, holding, .. } = put;
-        self.cache.store(&key, version, holding);
-        drop(key);
+        store_put(&mut self.cache, version, put);
         self.book.settle_prepared(claim);
         Ok(())
     }
@@ -97,10 +98,7 @@ impl CoreState {
         ensures err { OnErr result (self.new ≡ self.old) }
         ensures put { IfErr result (λ back. back ≡ put) }
     {
-        let Ok(awaited) = put.key.copy() else {
-            return Err(put);
-        };
-        let Ok(()) = await_newer(&mut self.awaiting, awaited) else {
+        let Ok(()) = await_newer(&mut self.awaiting, &put.key) else {
             return Err(put);
         };
         self.waiting.remove(&put.key);
@@ -119,11 +117,7 @@ impl CoreState {
         let Ok(claim) = reserved_claim(self.alloc, &self.cache, &mut self.book, &put) else {
             return Err(put);
         };
-        let Ok(queued) = put.key.copy() else {
-            drop(claim);
-            return Err(put);
-        };
-        let Ok(()) = push_new(&mut self.queue, queued) else {
+        let Ok(()) = push_new(&mut self.queue, &put.key) else {
             drop(claim);
             return Err(put);
         };
@@ -132,6 +126,15 @@ impl CoreState {
         self.book.doubt_prepared(claim);
         Ok(())
     }
+}
+
+/// The record of the put is held, at this version.
+fn store_put(cache: &mut ObjectCache, version: u64, put: Put)
+    ensures { cache.new ≡ cached_after (Written put.key version put.holding) cache.old }
+{
+    let Put { key, holding, .. } = put;
+    cache.store(&key, version, holding);
+    drop(key);
 }
 
 /// The keys are queued, and the put's key waits where the put takes its record away and it is handled; else it doesn't. After want of

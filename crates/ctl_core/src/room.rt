@@ -9,7 +9,7 @@ use crate::claims::claim_of;
 use crate::keys::Keys;
 use alloc_book::{Book, Claim};
 use kube_model::{Key, Put};
-use mlb_base::NoMemory;
+use mlb_base::{NoMemory, TryCopy};
 use object_cache::ObjectCache;
 use std::alloc::Global;
 
@@ -43,12 +43,12 @@ pub(crate) fn append_new(queue: &mut Keys, more: Vec<Key>) -> Result<(), NoMemor
 }
 
 /// The key, which isn't among them, to the back of the keys. After want of memory they are unchanged.
-pub(crate) fn push_new(keys: &mut Keys, key: Key) -> Result<(), NoMemory>
-    requires { has_key keys.old key ≡ false }
-    ensures ok { OnOk result (keys.new ≡ keys.old ++ key ∷ []) }
+pub(crate) fn push_new(keys: &mut Keys, key: &Key) -> Result<(), NoMemory>
+    requires { has_key keys.old key.now ≡ false }
+    ensures ok { OnOk result (keys.new ≡ keys.old ++ key.now ∷ []) }
     ensures err { OnErr result (keys.new ≡ keys.old) }
 {
-    keys.push(key)
+    keys.push(key.copy()?)
 }
 
 /// The first keys alone, so many of them, unless all are kept.

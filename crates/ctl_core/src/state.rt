@@ -1,14 +1,13 @@
 //! What the core holds, and what it still has to decide.
-ghost use Rattle.std.specs.Prelude.{◌≡◌, ◌↔◌, ◌<◌, [], length, IfOk, IsTrue};
-ghost use Rattle.std.specs.Option.{option_copied};
-ghost use Rattle.core_rules.specs.Core.{fresh, is_ready, record_of, is_settled, pools_in};
+ghost use Rattle.std.specs.Prelude.{◌≡◌, [], IfOk};
+ghost use Rattle.core_rules.specs.Core.{fresh, is_ready, pools_in};
 
 use crate::awaiting::AwaitingKeys;
-use crate::keys::{Keys, is_free};
+use crate::keys::Keys;
 use crate::waiting::WaitingKeys;
 use alloc_book::Book;
 use kube_labels::Text;
-use kube_model::{Key, ListGroup, Put, Record};
+use kube_model::{ListGroup, Put};
 use mlb_base::NoMemory;
 use object_cache::ObjectCache;
 use pool_config::Config;
@@ -65,48 +64,9 @@ impl CoreState {
             out: None,
         })
     }
-
-    /// Whether the lists of the configuration and of the services have ended, and a configuration is in force.
-    pub(crate) fn is_ready(&self) -> bool
-        ensures { result ≡ is_ready self.now.held }
-    {
-        is_ready(&self.cache)
-    }
-
-    /// Whether a service is queued, so that there is a turn to make.
-    pub(crate) fn has_turn(&self) -> bool
-        ensures { IsTrue result ↔ (0 < length self.now.queue) }
-    {
-        !self.queue.is_empty()
-    }
-
-    /// The record last shown for a held service.
-    pub(crate) fn record_of(&self, key: &Key) -> Option<&Record>
-        ensures { option_copied result ≡ record_of self.now.held key.now }
-    {
-        match self.cache.service(key) {
-            Some(service) => Some(&service.holding),
-            None => None,
-        }
-    }
-
-    /// Whether the core is ready and holds the service, which is neither queued nor awaits a newer event.
-    pub(crate) fn is_settled(&self, key: &Key) -> bool
-        ensures { result ≡ is_settled self.now key.now }
-    {
-        is_ready(&self.cache)
-            && self.cache.service(key).is_some()
-            && is_free(&self.queue, &self.awaiting, key)
-    }
-
-    /// The put that has no reply yet.
-    pub(crate) fn put_out(&self) -> Option<&Put>
-        ensures { option_copied result ≡ self.now.out }
-    {
-        self.out.as_ref()
-    }
 }
 
+/// Whether the lists of the configuration and of the services have ended, and a configuration is in force.
 pub(crate) fn is_ready(cache: &ObjectCache) -> bool
     ensures { result ≡ is_ready cache.now }
 {

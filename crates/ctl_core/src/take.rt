@@ -296,6 +296,7 @@ impl CoreState {
         }
         all_free(
             self.alloc,
+            false,
             &self.queue,
             &self.awaiting,
             self.cache.services(),

@@ -7,6 +7,9 @@ ghost use Rattle.core_rules.specs.Take.{is_unlisted, listed_keys};
 ghost use Rattle.ctl_core.specs.Waiting.{others_where};
 
 use crate::keys::{Services, is_unlisted};
+use crate::listing::Listed;
+use crate::picking::passing_where;
+use key_queue::KeyTest;
 use kube_model::Key;
 use mlb_base::{NoMemory, TryCopy};
 use std::alloc::Global;
@@ -106,17 +109,7 @@ impl WaitingKeys {
         ensures keys { IfOk result (λ keys. keys.items ≡ others_where is_lost own.now self.now.keys) }
         ensures ordered { IsOrdered key_cmp self.now }
     {
-        let waiting = self.keys.iter();
-        let mut keys = Vec::new(alloc);
-        if !is_lost {
-            return Ok(keys);
-        }
-        for key in waiting {
-            if key != own {
-                keys.push(key.copy()?)?;
-            }
-        }
-        Ok(keys)
+        passing_where(alloc, is_lost, &OtherThan { key: own }, &self.keys)
     }
 
     /// Those that are held and were listed, ascending, where a claim was lost.
@@ -129,16 +122,23 @@ impl WaitingKeys {
         ensures keys { IfOk result (λ keys. keys.items ≡ (if is_lost then listed_keys services.now self.now.keys else [])) }
         ensures ordered { IsOrdered key_cmp self.now }
     {
-        let waiting = self.keys.iter();
-        let mut keys = Vec::new(alloc);
-        if !is_lost {
-            return Ok(keys);
-        }
-        for key in waiting {
-            if !is_unlisted(services, key) {
-                keys.push(key.copy()?)?;
-            }
-        }
-        Ok(keys)
+        passing_where(alloc, is_lost, &Listed { services }, &self.keys)
+    }
+}
+
+/// A test whether a key is another than this one.
+#[derive(Drop)]
+struct OtherThan<'a> {
+    key: &'a Key,
+}
+
+impl KeyTest<Key> for OtherThan<'_> {
+    ghost use Rattle.std.specs.Prelude.{not};
+    ghost use Rattle.kube_model.specs.Keys.{same_key};
+
+    ghost passes = { λ t key. not (same_key key t.key.now) };
+
+    fn passes(&self, key: &Key) -> bool {
+        *key != *self.key
     }
 }

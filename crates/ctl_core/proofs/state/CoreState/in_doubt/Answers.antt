@@ -1,6 +1,5 @@
-use Rattle.std.proofs.Common.{◌≡◌, false, List, [], ◌∷◌, ◌++◌, Some, None, refl, sym, ap, subst, ◌∙◌}
+use Rattle.std.proofs.Common.{◌≡◌, List, Some, None, refl, sym, ap, subst, ◌∙◌}
 use Rattle.kube_model.specs.declared.key.Key.{Key}
-use Rattle.kube_model.specs.Keys.{has_key}
 use Rattle.claim_index.specs.Claims.{ClaimValue, doubted}
 use Rattle.core_rules.specs.Core.{State}
 use Rattle.core_rules.specs.Replied.{put_terms}
@@ -16,12 +15,12 @@ push_new-requires c =
     let i = c.self.inside in
     let s : State = record { class = i.class; held = i.cache; claims = i.book.claims; queue = i.queue; awaiting = i.awaiting; out = Some c.args.put } in
     let reached : IsReached s = rw (← c.self.view_is) at c.requires.reached in
-    subst (λ (k : Key). has_key i.queue k ≡ false) (sym c.in-Ok-copy.ensures) ((reached-orderly s reached).out_queue c.args.put refl)
+    (reached-orderly s reached).out_queue c.args.put refl
 
 pub invariant_of-self-2 : goal.invariant_of-self-2
 invariant_of-self-2 c =
     let i = c.self.inside in
-    let queue_is = c.in-Ok-push_new.ensures.ok ∙ ap (λ (k : Key). i.queue ++ k ∷ []) c.in-Ok-copy.ensures in (
+    let queue_is = c.in-Ok-push_new.ensures.ok in (
       subst (λ (keys : List Key). AreWaiting i.class i.cache keys i.awaiting c.remove.new.self) (sym queue_is)
           (waiting-in_doubt i.class i.cache i.queue i.awaiting c.args.put.key i.waiting c.remove.new.self c.self.invariant.0 c.remove.ensures),
       still-those i.cache i.cache i.book.entries _ refl (c.doubt_prepared.ensures.entries ∙ c.reserved_claim.ensures.entries) c.self.invariant.1,
@@ -31,7 +30,7 @@ pub returns-clause-ok : goal.returns-clause-ok
 returns-clause-ok c =
     let i = c.self.inside in
     let s : State = record { class = i.class; held = i.cache; claims = i.book.claims; queue = i.queue; awaiting = i.awaiting; out = Some c.args.put } in
-    let queue_is = c.in-Ok-push_new.ensures.ok ∙ ap (λ (k : Key). i.queue ++ k ∷ []) c.in-Ok-copy.ensures in
+    let queue_is = c.in-Ok-push_new.ensures.ok in
     let put = c.args.put in
     let unset : i.out ≡ None = rw (← c.self.view_is) at c.requires.out in
     let claims_are : c.doubt_prepared.new.self.claims ≡ doubted put.key put.holding (put_terms s.held put) s.claims = c.doubt_prepared.ensures.claims

@@ -1,6 +1,5 @@
-use Rattle.std.proofs.Common.{◌≡◌, false, List, [], ◌∷◌, ◌++◌, Some, None, refl, sym, ap, subst, ◌∙◌}
+use Rattle.std.proofs.Common.{◌≡◌, List, Some, None, refl, sym, subst}
 use Rattle.kube_model.specs.declared.key.Key.{Key}
-use Rattle.kube_model.specs.Keys.{has_key}
 use Rattle.core_rules.specs.Core.{State}
 use Rattle.ctl_core.specs.Reached.{IsReached}
 use Rattle.ctl_core.specs.Waiting.{AreWaiting}
@@ -13,12 +12,12 @@ await_newer-requires c =
     let i = c.self.inside in
     let s : State = record { class = i.class; held = i.cache; claims = i.book.claims; queue = i.queue; awaiting = i.awaiting; out = Some c.args.put } in
     let reached : IsReached s = rw (← c.self.view_is) at c.requires.reached in
-    subst (λ (k : Key). has_key i.awaiting k ≡ false) (sym c.in-Ok.ensures) ((reached-orderly s reached).out_free c.args.put refl)
+    (reached-orderly s reached).out_free c.args.put refl
 
 pub invariant_of-self-2 : goal.invariant_of-self-2
 invariant_of-self-2 c =
     let i = c.self.inside in
-    let awaiting_are = c.in-Ok-await_newer.ensures.ok ∙ ap (λ (k : Key). i.awaiting ++ k ∷ []) c.in-Ok.ensures in (
+    let awaiting_are = c.in-Ok.ensures.ok in (
       subst (λ (keys : List Key). AreWaiting i.class i.cache i.queue keys c.remove.new.self) (sym awaiting_are)
           (waiting-refused i.class i.cache i.queue i.awaiting c.args.put.key i.waiting c.remove.new.self c.self.invariant.0 c.remove.ensures),
       c.self.invariant.1,
@@ -27,6 +26,6 @@ invariant_of-self-2 c =
 pub returns-clause-ok : goal.returns-clause-ok
 returns-clause-ok c =
     let i = c.self.inside in
-    let awaiting_are = c.in-Ok-await_newer.ensures.ok ∙ ap (λ (k : Key). i.awaiting ++ k ∷ []) c.in-Ok.ensures in
+    let awaiting_are = c.in-Ok.ensures.ok in
     let unset : i.out ≡ None = rw (← c.self.view_is) at c.requires.out in
     rw (← c.self.view_is, unset, awaiting_are) refl

@@ -28,12 +28,12 @@ invariant_of-self-2 c =
     let others = c.in-Ok-others_where.ensures.keys
     ∙ others-out s reached c.args.put refl c.loses-is_lost.result i.waiting c.self.invariant.0 c.in-Ok-others_where.ensures.ordered in (
       stored-waits s reached c.args.put refl c.args.version c.loses-is_lost.result i.waiting c.queue_and_let_wait.new.waiting c.release_others.new.self
-          c.store.new.self
+          c.store_put.new.cache
           c.queue_and_let_wait.new.queue c.in-Ok-others_where.more.items c.self.invariant.0
           (λ k. rw (← c.as_ref.ensures.value, ← c.services-services.ensures) (c.in-Ok-queue_and_let_wait.ensures.waiting k))
           (λ k. c.release_others.ensures k)
-          c.store.ensures c.in-Ok-queue_and_let_wait.ensures.queue others,
-      still-those i.cache c.store.new.self i.book.entries _ (ap (λ (h : Cached). h.config) c.store.ensures)
+          c.store_put.ensures c.in-Ok-queue_and_let_wait.ensures.queue others,
+      still-those i.cache c.store_put.new.cache i.book.entries _ (ap (λ (h : Cached). h.config) c.store_put.ensures)
           (c.settle_prepared.ensures.entries ∙ c.reserved_claim.ensures.entries) c.self.invariant.1,
     )
 
@@ -52,6 +52,6 @@ returns-clause-ok c =
     let claims = c.settle_prepared.ensures.claims ∙ ap (λ (x : ClaimValue). settled x.key x.holding x.terms c.reserved_claim.new.book.claims) claim_is
     ∙ ap (λ (claims : List ClaimValue). settled put.key put.holding (put_terms s.held put) claims) c.reserved_claim.ensures.claims in
     rw (← c.self.view_is, unset)
-    (stored-is s put c.args.version c.store.new.self c.settle_prepared.new.self.claims c.queue_and_let_wait.new.queue c.in-Ok-others_where.more.items
-    c.store.ensures claims c.in-Ok-queue_and_let_wait.ensures.queue
+    (stored-is s put c.args.version c.store_put.new.cache c.settle_prepared.new.self.claims c.queue_and_let_wait.new.queue c.in-Ok-others_where.more.items
+    c.store_put.ensures claims c.in-Ok-queue_and_let_wait.ensures.queue
     (others ∙ ap (λ lost. waiting lost s.class (same_key put.key) s.queue s.awaiting s.held.services) lost_is))

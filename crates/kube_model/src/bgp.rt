@@ -1,6 +1,6 @@
 //! Advertisements by BGP.
 
-use crate::copies::both;
+use crate::copies::{both, copied};
 use crate::lengths::{LengthV4, LengthV6};
 use crate::selector::SelectorTexts;
 use kube_labels::{Text, TextList};
@@ -30,9 +30,9 @@ pub struct BgpAdv {
 
 impl TryCopy for BgpAdv {
     fn copy(&self) -> Result<BgpAdv, NoMemory> {
-        let names = both(self.name.copy(), self.peers.copy());
-        let lists = both(self.communities.copy(), self.pools.copy());
-        let selectors = both(self.pool_selectors.copy(), self.node_selectors.copy());
+        let names = copied(&self.name, &self.peers);
+        let lists = copied(&self.communities, &self.pools);
+        let selectors = copied(&self.pool_selectors, &self.node_selectors);
         let ((name, peers), (lists, selectors)) = both(names, both(lists, selectors))?;
         let (communities, pools) = lists;
         let (pool_selectors, node_selectors) = selectors;

@@ -1,6 +1,6 @@
 //! Names of BGP communities.
 
-use crate::copies::both;
+use crate::copies::copied;
 use kube_labels::{NamedValues, Text};
 use mlb_base::{NoMemory, TryCopy};
 
@@ -13,7 +13,7 @@ pub struct CommunityList {
 
 impl TryCopy for CommunityList {
     fn copy(&self) -> Result<CommunityList, NoMemory> {
-        let (name, values) = both(self.name.copy(), self.values.copy())?;
+        let (name, values) = copied(&self.name, &self.values)?;
         Ok(CommunityList { name, values })
     }
 }

@@ -1,7 +1,7 @@
 //! What is copied part by part.
 ghost use Rattle.std.specs.Prelude.{◌≡◌, Ok, IfOk};
 
-use mlb_base::NoMemory;
+use mlb_base::{NoMemory, TryCopy};
 
 /// Both values, if there was memory for both.
 pub fn both<A: Drop, B: Drop>(
@@ -12,4 +12,12 @@ pub fn both<A: Drop, B: Drop>(
     ensures second { IfOk result (λ both. b ≡ Ok both.1) }
 {
     Ok((a?, b?))
+}
+
+/// Copies of both, if there was memory for both.
+pub(crate) fn copied<A: TryCopy, B: TryCopy>(a: &A, b: &B) -> Result<(A, B), NoMemory>
+    ensures first { IfOk result (λ both. both.0 ≡ a.now) }
+    ensures second { IfOk result (λ both. both.1 ≡ b.now) }
+{
+    both(a.copy(), b.copy())
 }

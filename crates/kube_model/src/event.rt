@@ -1,6 +1,6 @@
 //! What a line of a watch says.
 
-use crate::copies::both;
+use crate::copies::copied;
 use crate::key::Key;
 use crate::object::{Kind, Object};
 use json_fields::FieldFault;
@@ -91,7 +91,7 @@ impl TryCopy for Event {
                 names: names.copy()?,
             }),
             Event::Frame { interface, bytes } => {
-                let (interface, bytes) = both(interface.copy(), bytes.copy())?;
+                let (interface, bytes) = copied(interface, bytes)?;
                 Ok(Event::Frame { interface, bytes })
             }
             Event::Ignored => Ok(Event::Ignored),

@@ -34,7 +34,10 @@ impl FamilyList {
         match families.as_slice() {
             [_] => Some(FamilyList { families }),
             [first, second] if first != second => Some(FamilyList { families }),
-            _ => None,
+            _ => {
+                drop(families);
+                None
+            }
         }
     }
 
@@ -42,9 +45,9 @@ impl FamilyList {
     pub fn one(alloc: Global, family: Family) -> Result<FamilyList, NoMemory>
         ensures { IfOk result (λ made. made ≡ family ∷ []) }
     {
-        let mut families = Sequence::new(alloc);
-        families.push(family)?;
-        Ok(FamilyList { families })
+        Ok(FamilyList {
+            families: Sequence::from_slice(alloc, [family].as_slice())?,
+        })
     }
 
     /// The two families, in this order.
@@ -52,10 +55,9 @@ impl FamilyList {
         requires { first ≢ second }
         ensures { IfOk result (λ made. made ≡ first ∷ second ∷ []) }
     {
-        let mut families = Sequence::new(alloc);
-        families.push(first)?;
-        families.push(second)?;
-        Ok(FamilyList { families })
+        Ok(FamilyList {
+            families: Sequence::from_slice(alloc, [first, second].as_slice())?,
+        })
     }
 
     pub fn as_slice(&self) -> &[Family]

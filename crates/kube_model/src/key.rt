@@ -1,6 +1,6 @@
 //! The keys of objects.
 
-use crate::copies::both;
+use crate::copies::copied;
 use kube_labels::Text;
 use mlb_base::{NoMemory, TryCopy};
 
@@ -14,7 +14,7 @@ pub struct Key {
 
 impl TryCopy for Key {
     fn copy(&self) -> Result<Key, NoMemory> {
-        let (namespace, name) = both(self.namespace.copy(), self.name.copy())?;
+        let (namespace, name) = copied(&self.namespace, &self.name)?;
         Ok(Key { namespace, name })
     }
 }

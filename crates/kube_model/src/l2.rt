@@ -1,6 +1,6 @@
 //! Advertisements on the local network.
 
-use crate::copies::both;
+use crate::copies::{both, copied};
 use crate::selector::SelectorTexts;
 use kube_labels::{Text, TextList};
 use mlb_base::{NoMemory, TryCopy};
@@ -21,8 +21,8 @@ pub struct L2Adv {
 
 impl TryCopy for L2Adv {
     fn copy(&self) -> Result<L2Adv, NoMemory> {
-        let lists = both(self.pools.copy(), self.interfaces.copy());
-        let selectors = both(self.pool_selectors.copy(), self.node_selectors.copy());
+        let lists = copied(&self.pools, &self.interfaces);
+        let selectors = copied(&self.pool_selectors, &self.node_selectors);
         let (name, (lists, selectors)) = both(self.name.copy(), both(lists, selectors))?;
         let (pools, interfaces) = lists;
         let (pool_selectors, node_selectors) = selectors;

@@ -1,6 +1,6 @@
 //! Kubernetes nodes.
 
-use crate::copies::both;
+use crate::copies::copied;
 use kube_labels::{Labels, Text};
 use mlb_base::{NoMemory, TryCopy};
 
@@ -13,7 +13,7 @@ pub struct Node {
 
 impl TryCopy for Node {
     fn copy(&self) -> Result<Node, NoMemory> {
-        let (name, labels) = both(self.name.copy(), self.labels.copy())?;
+        let (name, labels) = copied(&self.name, &self.labels)?;
         Ok(Node { name, labels })
     }
 }

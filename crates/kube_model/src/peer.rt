@@ -1,6 +1,6 @@
 //! BGP peers.
 
-use crate::copies::both;
+use crate::copies::copied;
 use crate::selector::SelectorTexts;
 use kube_labels::Text;
 use mlb_base::{NoMemory, TryCopy};
@@ -19,7 +19,7 @@ pub struct BgpPeer {
 
 impl TryCopy for BgpPeer {
     fn copy(&self) -> Result<BgpPeer, NoMemory> {
-        let (name, node_selectors) = both(self.name.copy(), self.node_selectors.copy())?;
+        let (name, node_selectors) = copied(&self.name, &self.node_selectors)?;
         Ok(BgpPeer {
             name,
             my_asn: self.my_asn,

@@ -1,6 +1,6 @@
 //! Pools of addresses.
 
-use crate::copies::both;
+use crate::copies::{both, copied};
 use crate::selector::SelectorTexts;
 use kube_labels::{Labels, Text, TextList};
 use mlb_base::{NoMemory, TryCopy};
@@ -32,10 +32,7 @@ pub struct Allocation {
 
 impl TryCopy for Allocation {
     fn copy(&self) -> Result<Allocation, NoMemory> {
-        let selectors = both(
-            self.namespace_selectors.copy(),
-            self.service_selectors.copy(),
-        );
+        let selectors = copied(&self.namespace_selectors, &self.service_selectors);
         let (namespaces, selectors) = both(self.namespaces.copy(), selectors)?;
         let (namespace_selectors, service_selectors) = selectors;
         Ok(Allocation {
@@ -49,8 +46,8 @@ impl TryCopy for Allocation {
 
 impl TryCopy for Pool {
     fn copy(&self) -> Result<Pool, NoMemory> {
-        let names = both(self.name.copy(), self.labels.copy());
-        let given = both(self.entries.copy(), self.allocation.copy());
+        let names = copied(&self.name, &self.labels);
+        let given = copied(&self.entries, &self.allocation);
         let ((name, labels), (entries, allocation)) = both(names, given)?;
         Ok(Pool {
             name,

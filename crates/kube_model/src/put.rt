@@ -1,6 +1,6 @@
 //! What is to be written to a service.
 
-use crate::copies::both;
+use crate::copies::copied;
 use crate::key::Key;
 use crate::record::Record;
 use mlb_base::{NoMemory, TryCopy};
@@ -15,7 +15,7 @@ pub struct Put {
 
 impl TryCopy for Put {
     fn copy(&self) -> Result<Put, NoMemory> {
-        let (key, holding) = both(self.key.copy(), self.holding.copy())?;
+        let (key, holding) = copied(&self.key, &self.holding)?;
         Ok(Put {
             key,
             version: self.version,

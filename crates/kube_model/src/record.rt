@@ -1,7 +1,7 @@
 //! What is recorded of a service's addresses.
 ghost use Rattle.std.specs.Prelude.{◌≡◌};
 
-use crate::copies::both;
+use crate::copies::{both, copied};
 use ip_ranges::AddressList;
 use kube_labels::Text;
 use mlb_base::{NoMemory, Sequence, TryCopy};
@@ -50,7 +50,7 @@ impl Record {
 
 impl TryCopy for Record {
     fn copy(&self) -> Result<Record, NoMemory> {
-        let texts = both(self.pool.copy(), self.mark.copy());
+        let texts = copied(&self.pool, &self.mark);
         let (addresses, (pool, mark)) = both(self.addresses.copy(), texts)?;
         Ok(Record {
             addresses,

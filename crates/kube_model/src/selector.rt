@@ -1,6 +1,6 @@
 //! Selectors that are not yet checked.
 
-use crate::copies::both;
+use crate::copies::copied;
 use kube_labels::{ExpressionList, Labels};
 use mlb_base::{NoMemory, Sequence, TryCopy};
 
@@ -18,7 +18,7 @@ pub type SelectorTexts = Sequence<SelectorText>;
 
 impl TryCopy for SelectorText {
     fn copy(&self) -> Result<SelectorText, NoMemory> {
-        let (labels, expressions) = both(self.labels.copy(), self.expressions.copy())?;
+        let (labels, expressions) = copied(&self.labels, &self.expressions)?;
         Ok(SelectorText {
             labels,
             expressions,

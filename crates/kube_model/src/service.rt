@@ -4,7 +4,7 @@ ghost use Rattle.std.specs.Prelude.{◌≡◌, IfOk};
 ghost use Rattle.std.specs.Option.{option_copied};
 ghost use Rattle.kube_model.specs.Service.{is_handled, same_class};
 
-use crate::copies::both;
+use crate::copies::{both, copied};
 use crate::families::FamilyList;
 use crate::key::Key;
 use crate::port::PortList;
@@ -71,12 +71,11 @@ impl TryCopy for Wanted {
 
 impl TryCopy for Service {
     fn copy(&self) -> Result<Service, NoMemory> {
-        let ((key, labels, class), (traffic, request)) = both(
-            copied_names(self),
-            both(copied_traffic(self), copied_request(self)),
-        )?;
-        let (families, selector, ports) = traffic;
-        let (share_key, pool_asked, wanted, holding) = request;
+        let parts = both(copied_names(self), copied_traffic(self));
+        let ((names, traffic), request) = both(parts, copied_request(self))?;
+        let ((key, labels), class) = names;
+        let ((families, selector), ports) = traffic;
+        let ((share_key, pool_asked), (wanted, holding)) = request;
         Ok(Service {
             key,
             labels,
@@ -96,38 +95,35 @@ impl TryCopy for Service {
 }
 
 /// Copies of the key, the labels and the class.
-fn copied_names(service: &Service) -> Result<(Key, Labels, Option<Text>), NoMemory>
-    ensures key { IfOk result (λ names. names.0 ≡ service.now.key) }
-    ensures labels { IfOk result (λ names. names.1 ≡ service.now.labels) }
-    ensures class { IfOk result (λ names. names.2 ≡ service.now.class) }
+fn copied_names(service: &Service) -> Result<((Key, Labels), Option<Text>), NoMemory>
+    ensures key { IfOk result (λ names. names.0.0 ≡ service.now.key) }
+    ensures labels { IfOk result (λ names. names.0.1 ≡ service.now.labels) }
+    ensures class { IfOk result (λ names. names.1 ≡ service.now.class) }
 {
-    let names = both(service.key.copy(), service.labels.copy());
-    let ((key, labels), class) = both(names, service.class.copy())?;
-    Ok((key, labels, class))
+    let names = copied(&service.key, &service.labels);
+    both(names, service.class.copy())
 }
 
 /// Copies of the families, the selector and the ports.
-fn copied_traffic(service: &Service) -> Result<(FamilyList, Labels, PortList), NoMemory>
-    ensures families { IfOk result (λ traffic. traffic.0 ≡ service.now.families) }
-    ensures selector { IfOk result (λ traffic. traffic.1 ≡ service.now.selector) }
-    ensures ports { IfOk result (λ traffic. traffic.2 ≡ service.now.ports) }
+fn copied_traffic(service: &Service) -> Result<((FamilyList, Labels), PortList), NoMemory>
+    ensures families { IfOk result (λ traffic. traffic.0.0 ≡ service.now.families) }
+    ensures selector { IfOk result (λ traffic. traffic.0.1 ≡ service.now.selector) }
+    ensures ports { IfOk result (λ traffic. traffic.1 ≡ service.now.ports) }
 {
-    let traffic = both(service.families.copy(), service.selector.copy());
-    let ((families, selector), ports) = both(traffic, service.ports.copy())?;
-    Ok((families, selector, ports))
+    let traffic = copied(&service.families, &service.selector);
+    both(traffic, service.ports.copy())
 }
 
 /// Copies of the sharing key, of the pool and the addresses that are asked for, and of the record.
-fn copied_request(service: &Service) -> Result<(Text, Text, Wanted, Record), NoMemory>
-    ensures share_key { IfOk result (λ request. request.0 ≡ service.now.share_key) }
-    ensures pool_asked { IfOk result (λ request. request.1 ≡ service.now.pool_asked) }
-    ensures wanted { IfOk result (λ request. request.2 ≡ service.now.wanted) }
-    ensures holding { IfOk result (λ request. request.3 ≡ service.now.holding) }
+fn copied_request(service: &Service) -> Result<((Text, Text), (Wanted, Record)), NoMemory>
+    ensures share_key { IfOk result (λ request. request.0.0 ≡ service.now.share_key) }
+    ensures pool_asked { IfOk result (λ request. request.0.1 ≡ service.now.pool_asked) }
+    ensures wanted { IfOk result (λ request. request.1.0 ≡ service.now.wanted) }
+    ensures holding { IfOk result (λ request. request.1.1 ≡ service.now.holding) }
 {
-    let texts = both(service.share_key.copy(), service.pool_asked.copy());
-    let others = both(service.wanted.copy(), service.holding.copy());
-    let ((share_key, pool_asked), (wanted, holding)) = both(texts, others)?;
-    Ok((share_key, pool_asked, wanted, holding))
+    let texts = copied(&service.share_key, &service.pool_asked);
+    let others = copied(&service.wanted, &service.holding);
+    both(texts, others)
 }
 
 impl Service {

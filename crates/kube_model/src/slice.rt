@@ -1,6 +1,6 @@
 //! The endpoints of services.
 
-use crate::copies::both;
+use crate::copies::{both, copied};
 use crate::key::Key;
 use kube_labels::Text;
 use mlb_base::{NoMemory, Sequence, TryCopy};
@@ -37,7 +37,7 @@ impl TryCopy for Endpoint {
 
 impl TryCopy for EndpointSlice {
     fn copy(&self) -> Result<EndpointSlice, NoMemory> {
-        let names = both(self.key.copy(), self.service.copy());
+        let names = copied(&self.key, &self.service);
         let ((key, service), endpoints) = both(names, self.endpoints.copy())?;
         Ok(EndpointSlice {
             key,

@@ -1,5 +1,5 @@
 //! How a program ends.
-ghost use Rattle.std.specs.Prelude.{◌≡◌, IfOk, string_bytes};
+ghost use Rattle.std.specs.Prelude.{◌≡◌, ◌++◌, IfOk, codes, decimal, string_bytes};
 ghost use Rattle.kube_model.specs.Status.{lane_text, what_text, status_code, status_text, no_reply_text, is_done};
 
 use crate::key::Key;
@@ -95,6 +95,40 @@ impl What {
     }
 }
 
+/// The text itself.
+fn plain_text(alloc: Global, text: &str) -> Result<String, NoMemory>
+    ensures { IfOk result (λ plain. string_bytes plain ≡ text.now) }
+{
+    Ok(String::from_str(alloc, text)?)
+}
+
+/// The text with the word behind it.
+fn text_with(alloc: Global, text: &str, word: &str) -> Result<String, NoMemory>
+    ensures { IfOk result (λ both. string_bytes both ≡ text.now ++ word.now) }
+{
+    Ok(format!(in alloc; "{text}{word}")?)
+}
+
+fn open_fault_text(alloc: Global, lane: LaneName) -> Result<String, NoMemory>
+    ensures { IfOk result (λ text. string_bytes text ≡ codes "cannot open the " ++ (lane_text lane ++ codes " lane")) }
+{
+    let lane = lane.as_str();
+    Ok(format!(in alloc; "cannot open the {lane} lane")?)
+}
+
+fn bad_line_text(alloc: Global, number: u64, lane: LaneName) -> Result<String, NoMemory>
+    ensures { IfOk result (λ text. string_bytes text ≡ codes "bad line " ++ (decimal number ++ (codes " on " ++ lane_text lane))) }
+{
+    let lane = lane.as_str();
+    Ok(format!(in alloc; "bad line {number} on {lane}")?)
+}
+
+fn bad_reply_text(alloc: Global, number: u64) -> Result<String, NoMemory>
+    ensures { IfOk result (λ text. string_bytes text ≡ codes "bad reply at line " ++ decimal number) }
+{
+    Ok(format!(in alloc; "bad reply at line {number}")?)
+}
+
 fn no_reply_text(alloc: Global, key: &Key) -> Result<String, NoMemory>
     ensures { IfOk result (λ text. string_bytes text ≡ no_reply_text key.now) }
 {
@@ -134,27 +168,15 @@ impl Status {
     {
         match self {
             Status::Done => Ok(String::new(alloc)),
-            Status::Usage => Ok(String::from_str(alloc, "usage error")?),
-            Status::OpenFault { lane } => {
-                let lane = lane.as_str();
-                Ok(format!(in alloc; "cannot open the {lane} lane")?)
-            }
-            Status::ReadFault { lane } => {
-                let lane = lane.as_str();
-                Ok(format!(in alloc; "read fault on {lane}")?)
-            }
-            Status::WriteFault => Ok(String::from_str(alloc, "write fault")?),
-            Status::BadLine { lane, number, .. } => {
-                let lane = lane.as_str();
-                Ok(format!(in alloc; "bad line {number} on {lane}")?)
-            }
-            Status::BadReply { number, .. } => Ok(format!(in alloc; "bad reply at line {number}")?),
+            Status::Usage => plain_text(alloc, "usage error"),
+            Status::OpenFault { lane } => open_fault_text(alloc, *lane),
+            Status::ReadFault { lane } => text_with(alloc, "read fault on ", lane.as_str()),
+            Status::WriteFault => plain_text(alloc, "write fault"),
+            Status::BadLine { lane, number, .. } => bad_line_text(alloc, *number, *lane),
+            Status::BadReply { number, .. } => bad_reply_text(alloc, *number),
             Status::NoReply { put } => no_reply_text(alloc, &put.key),
-            Status::Limit { what, .. } => {
-                let what = what.as_str();
-                Ok(format!(in alloc; "limit passed: {what}")?)
-            }
-            Status::NoMemory => Ok(String::from_str(alloc, "out of memory")?),
+            Status::Limit { what, .. } => text_with(alloc, "limit passed: ", what.as_str()),
+            Status::NoMemory => plain_text(alloc, "out of memory"),
         }
     }
 }

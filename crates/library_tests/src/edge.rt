@@ -1,6 +1,3 @@
-//! Lines, faults in mid-stream, and the real devices.
+//! Lines.
 
-mod devices;
-mod faults;
-mod files;
 mod lines;

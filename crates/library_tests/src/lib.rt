@@ -1,4 +1,4 @@
-//! Libraries by fakes and by real devices. This crate has tests alone.
+//! What neither a clause nor a worked row says of libraries. This crate has tests alone.
 #![tactic(auto)]
 
 pub mod board;
@@ -6,5 +6,3 @@ pub mod board;
 mod edge;
 #[cfg(test)]
 mod mail;
-#[cfg(test)]
-mod store;

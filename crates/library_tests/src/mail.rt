@@ -1,4 +1,4 @@
-//! The mail of two lanes, step by step.
+//! The mail of two lanes.
 
 mod room;
 mod shared;

@@ -2,15 +2,9 @@
 //! read as.
 #![tactic(auto)]
 
-mod laws;
-mod line;
-mod run;
-mod tool;
-mod work;
-
+use admit_run::run_admit;
 use mlb_edge::{RealSink, RealSource};
 use program_exit::{exit_code, words_given};
-use run::run_admit;
 use std::io;
 use std::process::ExitCode;
 

@@ -1,7 +1,7 @@
 //! What the words of the command line ask for.
 ghost use Rattle.std.specs.Prelude.{◌≡◌, ◌∷◌, OnSome, IfSome, IfNone};
 ghost use Rattle.command_options.specs.Options.{texts_of};
-ghost use Rattle.mlb_admit.specs.Words.{AreKnown, begun_by, explained_by, asked_by};
+ghost use Rattle.admit_run.specs.Words.{AreKnown, begun_by, explained_by, asked_by};
 
 use pool_config::ObjectSet;
 use std::alloc::Global;

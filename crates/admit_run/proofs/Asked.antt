@@ -5,9 +5,9 @@ use Rattle.std.specs.Str.{bytes_eq}
 use Rattle.std.proofs.lemmas.Bool.{true≢false}
 use Rattle.std.proofs.lemmas.Slice.Eq.{bytes_eq-Decides}
 use Rattle.pool_config.specs.Objects.{no_objects}
-use Rattle.mlb_admit.specs.declared.work.Work.{Work}
-use Rattle.mlb_admit.specs.declared.work.Work.TheVariants.{Judging, Explaining}
-use Rattle.mlb_admit.specs.Words.{AskAnswers, AskExplained, AreKnown, begun_by, asked_by}
+use Rattle.admit_run.specs.declared.work.Work.{Work}
+use Rattle.admit_run.specs.declared.work.Work.TheVariants.{Judging, Explaining}
+use Rattle.admit_run.specs.Words.{AskAnswers, AskExplained, AreKnown, begun_by, asked_by}
 
 -- these are known words, and ask for this
 abbrev Asks : List (List ℕ) → Work → Type 0

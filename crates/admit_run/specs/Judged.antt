@@ -13,8 +13,8 @@ use Rattle.admission_judge.specs.Judging.{IsAllowed, Names}
 use Rattle.mlb_edge.specs.declared.lines.Line.{Line}
 use Rattle.mlb_edge.specs.InputLines.{Ending}
 use Rattle.line_run.specs.Run.{run_from}
-use Rattle.mlb_admit.specs.declared.work.Work.TheVariants.{Judging}
-use Rattle.mlb_admit.specs.Stream.{Answer, TranscriptEntry, Answered, readable_review, admit_rules}
+use Rattle.admit_run.specs.declared.work.Work.TheVariants.{Judging}
+use Rattle.admit_run.specs.Stream.{Answer, TranscriptEntry, Answered, readable_review, admit_rules}
 
 -- The answer names the review. It allows the change just where it may be made to the objects as they were last shown, and refuses it just
 -- by the message that names why not.

@@ -6,9 +6,9 @@ use Rattle.kube_model.specs.declared.status.Status.TheVariants.{Usage}
 use Rattle.line_run.specs.Answered.{IsAnswered, MayBeAsked}
 use Rattle.line_run.specs.Clauses as run
 use Rattle.mlb_edge.specs.Reading.{Reading}
-use Rattle.mlb_admit.specs.declared.work.Work.{Work}
-use Rattle.mlb_admit.specs.Stream.{admit_rules, IsCause}
-use Rattle.mlb_admit.specs.Words.{AreKnown, begun_by}
+use Rattle.admit_run.specs.declared.work.Work.{Work}
+use Rattle.admit_run.specs.Stream.{admit_rules, IsCause}
+use Rattle.admit_run.specs.Words.{AreKnown, begun_by}
 
 -- what a run of these words begins with
 abbrev pub work_of : {Z : Type 0} → List (String Z) → Work

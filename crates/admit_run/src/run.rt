@@ -2,11 +2,11 @@
 ghost use Rattle.std.specs.Prelude.{◌≡◌, ◌↔◌};
 ghost use Rattle.command_options.specs.Options.{texts_of};
 ghost use Rattle.line_run.specs.Clauses.{AtReadFault, AtWriteFault, RunOwes};
-ghost use Rattle.mlb_admit.specs.Clauses.{MayAskAnswered, CanEnd, work_of};
-ghost use Rattle.mlb_admit.specs.Judged.{RunsAreRight};
-ghost use Rattle.mlb_admit.specs.Stream.{admit_rules, IsCause};
-ghost use Rattle.mlb_admit.specs.Told.{LinesAreTold, StopsAtNone};
-ghost use Rattle.mlb_admit.specs.Words.{AreKnown};
+ghost use Rattle.admit_run.specs.Clauses.{MayAskAnswered, CanEnd, work_of};
+ghost use Rattle.admit_run.specs.Judged.{RunsAreRight};
+ghost use Rattle.admit_run.specs.Stream.{admit_rules, IsCause};
+ghost use Rattle.admit_run.specs.Told.{LinesAreTold, StopsAtNone};
+ghost use Rattle.admit_run.specs.Words.{AreKnown};
 
 use crate::laws::{answers_are_right, lines_are_told};
 use crate::work::work_asked;

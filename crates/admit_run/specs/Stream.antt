@@ -20,8 +20,8 @@ use Rattle.explained_lines.specs.Lines.{explained_text}
 use Rattle.line_run.specs.Machine.{Transition, Goes, Stops, Rules}
 use Rattle.line_run.specs.Text.{line_of}
 use Rattle.mlb_edge.specs.declared.lines.Line.{Line}
-use Rattle.mlb_admit.specs.declared.work.Work.{Work}
-use Rattle.mlb_admit.specs.declared.work.Work.TheVariants.{Judging, Explaining}
+use Rattle.admit_run.specs.declared.work.Work.{Work}
+use Rattle.admit_run.specs.declared.work.Work.TheVariants.{Judging, Explaining}
 
 -- what a review is answered by
 pub record Answer : Type 0 where

@@ -11,9 +11,9 @@ use Rattle.admission_reviews.specs.declared.review.Review.{Review}
 use Rattle.line_run.specs.Machine.{Stops}
 use Rattle.line_run.specs.Statuses.{IsLineStatus, IsEndStatus}
 use Rattle.mlb_edge.specs.declared.lines.Line.{Line}
-use Rattle.mlb_admit.specs.declared.work.Work.{Work}
-use Rattle.mlb_admit.specs.declared.work.Work.TheVariants.{Judging, Explaining}
-use Rattle.mlb_admit.specs.Stream.{readable_review, event_step, step_where, line_step, IsCause}
+use Rattle.admit_run.specs.declared.work.Work.{Work}
+use Rattle.admit_run.specs.declared.work.Work.TheVariants.{Judging, Explaining}
+use Rattle.admit_run.specs.Stream.{readable_review, event_step, step_where, line_step, IsCause}
 
 -- a status that a run may stop with at a line, and its cause
 abbrev IsFair : Status → Type 0

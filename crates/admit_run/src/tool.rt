@@ -9,9 +9,9 @@ use mlb_edge::{Line, Sink};
 use std::alloc::Global;
 
 impl Machine for Work {
-    ghost use Rattle.mlb_admit.specs.declared.work.Work.{Work as Doing};
-    ghost use Rattle.mlb_admit.specs.Stream.{TranscriptEntry as Told, admit_rules, IsCause};
-    ghost use Rattle.mlb_admit.specs.Causes.{line_causes, end_causes};
+    ghost use Rattle.admit_run.specs.declared.work.Work.{Work as Doing};
+    ghost use Rattle.admit_run.specs.Stream.{TranscriptEntry as Told, admit_rules, IsCause};
+    ghost use Rattle.admit_run.specs.Causes.{line_causes, end_causes};
 
     ghost State = { Doing };
 

@@ -7,11 +7,11 @@ use Rattle.mlb_edge.specs.declared.lines.Line.{Line}
 use Rattle.mlb_edge.specs.InputLines.{Ending, Whole, LongLine, LongInput, input_of}
 use Rattle.line_run.specs.Clauses as run
 use Rattle.line_run.specs.Run.{Run, run_from, status_at}
-use Rattle.mlb_admit.specs.declared.work.Work.{Work}
-use Rattle.mlb_admit.specs.declared.work.Work.TheVariants.{Explaining}
-use Rattle.mlb_admit.specs.Stream.{TranscriptEntry, told_of, admit_rules, IsCause}
-use Rattle.mlb_admit.specs.Told.{LinesAreTold, StopsAtNone}
-use Rattle.mlb_admit.specs.Words.{begun_by}
+use Rattle.admit_run.specs.declared.work.Work.{Work}
+use Rattle.admit_run.specs.declared.work.Work.TheVariants.{Explaining}
+use Rattle.admit_run.specs.Stream.{TranscriptEntry, told_of, admit_rules, IsCause}
+use Rattle.admit_run.specs.Told.{LinesAreTold, StopsAtNone}
+use Rattle.admit_run.specs.Words.{begun_by}
 
 pub lines_are_told : LinesAreTold
 lines_are_told [] ending = refl

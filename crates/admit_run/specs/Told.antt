@@ -6,9 +6,9 @@ use Rattle.kube_model.specs.declared.status.Status.TheVariants.{BadLine}
 use Rattle.mlb_edge.specs.declared.lines.Line.{Line}
 use Rattle.mlb_edge.specs.InputLines.{Ending}
 use Rattle.line_run.specs.Run.{run_from, status_at}
-use Rattle.mlb_admit.specs.declared.work.Work.TheVariants.{Explaining}
-use Rattle.mlb_admit.specs.Stream.{told_of, admit_rules}
-use Rattle.mlb_admit.specs.Words.{AskExplained}
+use Rattle.admit_run.specs.declared.work.Work.TheVariants.{Explaining}
+use Rattle.admit_run.specs.Stream.{told_of, admit_rules}
+use Rattle.admit_run.specs.Words.{AskExplained}
 
 -- Each line is told of once, in their order, by its number and what it is read as; and no line ends such a run.
 abbrev pub LinesAreTold : Type 0

@@ -1,6 +1,6 @@
 //! What holds of each run.
-ghost use Rattle.mlb_admit.specs.Judged.{RunsAreRight};
-ghost use Rattle.mlb_admit.specs.Told.{LinesAreTold};
+ghost use Rattle.admit_run.specs.Judged.{RunsAreRight};
+ghost use Rattle.admit_run.specs.Told.{LinesAreTold};
 
 /// Each review has one answer, in their order, up to a line that ends the run; and each answer is right by what the events before it
 /// showed, whatever was written of it.

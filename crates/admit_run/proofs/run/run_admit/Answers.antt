@@ -1,9 +1,9 @@
 use Rattle.std.proofs.Common.{subst}
 use Rattle.command_options.specs.Options.{texts_of}
 use Rattle.line_run.specs.Answered.{IsAnswered}
-use Rattle.mlb_admit.specs.Stream.{admit_rules}
-use Rattle.mlb_admit.proofs.Telling.{explained_stops}
-use Rattle.mlb_admit.proofs.run.run_admit.Goals as goal
+use Rattle.admit_run.specs.Stream.{admit_rules}
+use Rattle.admit_run.proofs.Telling.{explained_stops}
+use Rattle.admit_run.proofs.run.run_admit.Goals as goal
 
 pub run_machine-status-requires : goal.run_machine-status-requires
 run_machine-status-requires g c = record {

@@ -16,9 +16,9 @@ use Rattle.line_run.specs.Run.{text_of}
 use Rattle.line_run.specs.Steps.{Takes, Refuses}
 use Rattle.line_run.specs.Text.{Halts}
 use Rattle.line_run.proofs.Refusals.{broken}
-use Rattle.mlb_admit.specs.declared.work.Work.{Work}
-use Rattle.mlb_admit.specs.declared.work.Work.TheVariants.{Judging, Explaining}
-use Rattle.mlb_admit.specs.Stream.{TranscriptEntry, Answered, readable_review, answer_of, told_of, entry_text, event_step, step_where, line_step, admit_rules}
+use Rattle.admit_run.specs.declared.work.Work.{Work}
+use Rattle.admit_run.specs.declared.work.Work.TheVariants.{Judging, Explaining}
+use Rattle.admit_run.specs.Stream.{TranscriptEntry, Answered, readable_review, answer_of, told_of, entry_text, event_step, step_where, line_step, admit_rules}
 
 -- the text of one entry
 one_text : (entry : TranscriptEntry) → text_of admit_rules (entry ∷ []) ≡ entry_text entry

@@ -13,10 +13,10 @@ use Rattle.admission_judge.proofs.Verdicts.{allowed_is, named_is}
 use Rattle.mlb_edge.specs.declared.lines.Line.{Line}
 use Rattle.mlb_edge.specs.InputLines.{Ending}
 use Rattle.line_run.specs.Run.{run_from, runs_on}
-use Rattle.mlb_admit.specs.declared.work.Work.{Work}
-use Rattle.mlb_admit.specs.declared.work.Work.TheVariants.{Judging}
-use Rattle.mlb_admit.specs.Stream.{Answer, readable_review, answer_of, event_step, step_where, admit_rules}
-use Rattle.mlb_admit.specs.Judged.{IsRightAnswer, IsRightAfter, IsRightAt, AreRight, RunsAreRight}
+use Rattle.admit_run.specs.declared.work.Work.{Work}
+use Rattle.admit_run.specs.declared.work.Work.TheVariants.{Judging}
+use Rattle.admit_run.specs.Stream.{Answer, readable_review, answer_of, event_step, step_where, admit_rules}
+use Rattle.admit_run.specs.Judged.{IsRightAnswer, IsRightAfter, IsRightAt, AreRight, RunsAreRight}
 
 -- these objects are what is held after what was shown earlier
 abbrev IsHeld : ObjectSet → List Observation → Type 0

@@ -3,8 +3,8 @@ ghost use Rattle.std.specs.Prelude.{◌≡◌, ◌≤◌, OnOk, IfOk, IfErr, Non
 ghost use Rattle.mlb_edge.specs.Written.{Grows};
 ghost use Rattle.line_run.specs.Steps.{Takes, Refuses};
 ghost use Rattle.line_run.specs.Text.{Halts};
-ghost use Rattle.mlb_admit.specs.declared.work.Work.TheVariants.{Judging, Explaining};
-ghost use Rattle.mlb_admit.specs.Stream.{Answered, readable_review, answer_of, told_of, entry_text, admit_rules};
+ghost use Rattle.admit_run.specs.declared.work.Work.TheVariants.{Judging, Explaining};
+ghost use Rattle.admit_run.specs.Stream.{Answered, readable_review, answer_of, told_of, entry_text, admit_rules};
 
 use crate::work::Work;
 use admission_judge::{hold, judge};

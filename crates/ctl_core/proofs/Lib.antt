@@ -1,8 +1,5 @@
 pub mod Entered
-pub mod FreeKeys
 pub mod Kept
-pub mod KeyLists
-pub mod KeySets
 pub mod Reaches
 pub mod Steps
 pub mod WaitingEvents

@@ -38,7 +38,8 @@ use Rattle.core_laws.proofs.Ready.{config-ready}
 use Rattle.core_laws.proofs.Rows.{has_key-append}
 use Rattle.ctl_core.specs.Holding.{held_service}
 use Rattle.ctl_core.specs.Reached.{IsReached}
-use Rattle.ctl_core.specs.Waiting.{lacks_record, waits_at, AreWaiting}
+use Rattle.core_keys.specs.Lacking.{lacks_record}
+use Rattle.ctl_core.specs.Waiting.{waits_at, AreWaiting}
 use Rattle.ctl_core.proofs.Reaches.{reached-sorted}
 use Rattle.ctl_core.proofs.WaitingLaws.{passes_at, has-passing, waits_at-same}
 

@@ -1,12 +1,10 @@
 -- The keys that wait, as a set and as a list: which they are, and that they stand in the same order.
 use Rattle.std.proofs.Common.{◌≡◌, ℕ, Bool, true, false, cond, eqb, not, ◌&&◌, ◌||◌, List, [], ◌∷◌, ◌++◌, Option, Some, None, option_map, refl, sym, ap, ◌∙◌}
-use Rattle.std.proofs.lemmas.Bool.{true≢false, or_left, or_right, false_from_ne_true}
+use Rattle.std.proofs.lemmas.Bool.{true≢false, false_from_ne_true}
 use Rattle.std.proofs.lemmas.List.Kept.{IsStrictlySortedBy-filter}
 use Rattle.std.proofs.lemmas.Map.Entries.{option_filter}
 use Rattle.std.proofs.lemmas.Map.Lookups.{btree_set_from_contains}
 use Rattle.std.specs.BTreeSet.{BTreeSet, IsOrdered}
-use Rattle.std.specs.Cmp.{IsEquivalence}
-use Rattle.std.specs.List.{list_any, AllByRecursion, IsDistinct}
 use Rattle.std.specs.List.Sorted.{IsStrictlySortedBy}
 use Rattle.std.specs.Map.{keys_of}
 use Rattle.std.specs.Option.{option_map_or}
@@ -16,22 +14,20 @@ use Rattle.kube_model.specs.declared.service.Service.{Service}
 use Rattle.kube_model.specs.Service.{is_handled}
 use Rattle.kube_model.specs.Keys.{key_cmp, same_key, has_key, without}
 use Rattle.kube_model.specs.Records.{empty_record, same_record}
-use Rattle.kube_model.proofs.KeyLaws.{key_cmp-total, key_cmp-exact, same_key-flip, same_key-itself, same_key-left}
+use Rattle.kube_model.proofs.KeyLaws.{key_cmp-total, key_cmp-exact}
 use Rattle.versioned_map.specs.declared.map.Versioned.{Versioned}
 use Rattle.versioned_map.specs.Objects.{held_at, listed, object_at}
 use Rattle.versioned_map.proofs.HeldLaws.{ascending-listed, held_at-listed}
-use Rattle.key_queue.specs.Queue.{AreNew, queued_all}
-use Rattle.key_queue.proofs.QueueLaws.{queued_all-new}
 use Rattle.object_history.specs.Cache.{Cached}
 use Rattle.object_cache.specs.Stays.{passing}
 use Rattle.core_rules.specs.Core.{is_ready, service_of, waits, waiting}
 use Rattle.core_rules.specs.Take.{no_key, is_unlisted, listed_keys}
-use Rattle.core_laws.specs.Queue.{AreApart, NoneAmong}
 use Rattle.core_laws.proofs.Awaiting.{has_key-kept, has_key-without}
 use Rattle.core_laws.proofs.QueueOnce.{passing-found}
 use Rattle.core_laws.proofs.Rows.{passing-has}
-use Rattle.ctl_core.specs.Waiting.{AreWaiting, others_where, waits_at}
-use Rattle.ctl_core.proofs.KeyLists.{has-at, any-has}
+use Rattle.core_keys.specs.Picked.{others_where}
+use Rattle.core_keys.proofs.KeyLists.{has-at}
+use Rattle.ctl_core.specs.Waiting.{AreWaiting, waits_at}
 
 -- ---- keys in order are told apart by their members
 pub ascending-same : (xs ys : List Key) → IsStrictlySortedBy key_cmp xs → IsStrictlySortedBy key_cmp ys → ((key : Key) → has_key xs key ≡ has_key ys key)
@@ -150,36 +146,3 @@ module _ (class : Option (List ℕ)) (held : Cached) (queue awaiting : List Key)
       ∙ ap (λ (found : Option (Versioned Service)). passes_at test key (option_map (λ (h : Versioned Service). h.object) found))
       (sym (held_at-listed key_cmp-total held.services key sorted))
       ∙ sym (has-passing test (listed held.services) (ascending-listed key_cmp held.services sorted) key))
-
--- ---- keys that may be queued as they are
-other-by : (b : Bool) (k key : Key) (keys : List Key) → same_key k key ≡ b → (has_key keys key ≡ false → AllByRecursion (λ x. same_key key x ≡ false) keys)
-    → (b || has_key keys key) ≡ false → (same_key key k ≡ false) × AllByRecursion (λ x. same_key key x ≡ false) keys
-other-by true k key keys same rest none = absurd (true≢false none)
-other-by false k key keys same rest none = (same_key-flip key k ∙ same, rest none)
-
-each-other : (keys : List Key) (key : Key) → has_key keys key ≡ false → AllByRecursion (λ k. same_key key k ≡ false) keys
-each-other [] key none = tt
-each-other (k ∷ keys) key none = other-by (same_key k key) k key keys refl (each-other keys key) none
-
-distinct-apart : (keys : List Key) → AreApart keys → IsDistinct same_key keys
-unfolding IsDistinct
-distinct-apart [] apart = tt
-distinct-apart (k ∷ keys) apart = (each-other keys k apart.0, distinct-apart keys apart.1)
-
-absent-among : (more queue : List Key) → NoneAmong more queue → AllByRecursion (λ k. list_any (same_key k) queue ≡ false) more
-absent-among [] queue none = tt
-absent-among (k ∷ more) queue none = (
-  any-has queue k ∙ none k (or_left (same_key k k) (has_key more k) (same_key-itself k)),
-  absent-among more queue (λ key there. none key (or_right (same_key k key) (has_key more key) there)),
-)
-
--- keys that differ from one another, of which none is queued, are new
-pub new-keys : (queue more : List Key) → AreApart more → NoneAmong more queue → AreNew same_key queue more
-new-keys queue more apart none = record { absent = absent-among more queue none; distinct = distinct-apart more apart }
-
-pub key_equivalence : IsEquivalence same_key
-key_equivalence = record { refl = same_key-itself; symm = same_key-flip; congr = same_key-left }
-
--- they go to the back as they are
-pub queued-as-they-are : (queue more : List Key) → AreApart more → NoneAmong more queue → queued_all same_key queue more ≡ queue ++ more
-queued-as-they-are queue more apart none = queued_all-new key_equivalence queue more (new-keys queue more apart none)

@@ -25,9 +25,9 @@ use Rattle.core_laws.specs.Queue.{AreApart}
 use Rattle.core_laws.proofs.Orderly.{took-order}
 use Rattle.core_laws.proofs.QueueOnce.{AreNew, apart-append, passing-apart, waiting-new}
 use Rattle.core_laws.proofs.Rows.{has_key-append}
-use Rattle.ctl_core.specs.Queued.{GoBehind}
+use Rattle.core_keys.specs.Queued.{GoBehind}
 use Rattle.ctl_core.specs.Reached.{IsReached}
-use Rattle.ctl_core.specs.Waiting.{others_where}
+use Rattle.core_keys.specs.Picked.{others_where}
 use Rattle.ctl_core.proofs.Reaches.{reached-sorted, reached-orderly, reached-cached}
 use Rattle.ctl_core.proofs.WaitingLaws.{passes_at, has-passing, others-waiting, listed-waiting}
 use Rattle.ctl_core.proofs.WaitingEvents.{WaitIn, has-free}

@@ -33,7 +33,9 @@ use Rattle.core_laws.proofs.QuietRuns.{none-some}
 use Rattle.core_laws.proofs.Ready.{IsIdle}
 use Rattle.core_laws.proofs.Rows.{has_key-append, passing-has}
 use Rattle.ctl_core.specs.Reached.{IsReached}
-use Rattle.ctl_core.specs.Waiting.{lacks_with, lacks_record, waits_at, AreWaiting, is_front_lacking, others_where}
+use Rattle.core_keys.specs.Lacking.{lacks_with, lacks_record}
+use Rattle.core_keys.specs.Picked.{others_where}
+use Rattle.ctl_core.specs.Waiting.{waits_at, AreWaiting, is_front_lacking}
 use Rattle.ctl_core.proofs.Reaches.{reached-orderly, reached-idle, reached-sorted}
 use Rattle.ctl_core.proofs.WaitingLaws.{others-waiting}
 

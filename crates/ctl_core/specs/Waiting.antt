@@ -1,27 +1,15 @@
 -- Which services wait for an address.
-use Rattle.std.specs.Prelude.{◌≡◌, ℕ, Bool, false, ◌&&◌, if◌then◌else◌, List, [], ◌∷◌, Option, Some, None}
+use Rattle.std.specs.Prelude.{◌≡◌, ℕ, Bool, false, ◌&&◌, List, [], ◌∷◌, Option, Some, None}
 use Rattle.std.specs.BTreeSet.{BTreeSet, contains}
 use Rattle.kube_model.specs.declared.key.Key.{Key}
-use Rattle.kube_model.specs.declared.record.Record.{Record}
 use Rattle.kube_model.specs.declared.service.Service.{Service}
-use Rattle.kube_model.specs.Keys.{key_cmp, same_key, without}
-use Rattle.kube_model.specs.Records.{empty_record, same_record}
-use Rattle.kube_model.specs.Service.{is_handled}
+use Rattle.kube_model.specs.Keys.{key_cmp, same_key}
 use Rattle.versioned_map.specs.declared.map.Versioned.{Versioned}
 use Rattle.versioned_map.specs.Objects.{object_at}
 use Rattle.object_history.specs.Cache.{Cached}
 use Rattle.core_rules.specs.Core.{is_ready, service_of, waits}
 use Rattle.core_rules.specs.Take.{no_key}
-
--- the service would lack a record if this were its record: it is held and handled, and the record is empty
-abbrev pub lacks_with : Option (List ℕ) → Record → Option Service → Bool
-lacks_with class holding None = false
-lacks_with class holding (Some service) = is_handled class service && same_record holding empty_record
-
--- the service lacks a record
-abbrev pub lacks_record : Option (List ℕ) → Option Service → Bool
-lacks_record class None = false
-lacks_record class (Some service) = lacks_with class service.holding (Some service)
+use Rattle.core_keys.specs.Lacking.{lacks_record}
 
 -- the service of the key waits, if it is held
 abbrev pub waits_at : Option (List ℕ) → List Key → List Key → Key → Option Service → Bool
@@ -32,10 +20,6 @@ waits_at class queue awaiting key (Some service) = waits class no_key queue awai
 abbrev pub AreWaiting : Option (List ℕ) → Cached → List Key → List Key → BTreeSet Key → Type 0
 AreWaiting class held queue awaiting keys =
     (key : Key) → contains key_cmp keys key ≡ (is_ready held && waits_at class queue awaiting key (service_of held key))
-
--- the keys but this one, where a claim was lost
-abbrev pub others_where : Bool → Key → List Key → List Key
-others_where lost key keys = if lost then without key keys else []
 
 -- the key is the first of the queue, and its service lacks a record
 abbrev pub is_front_lacking : Option (List ℕ) → List (Key × Versioned Service) → List Key → Key → Bool

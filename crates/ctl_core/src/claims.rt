@@ -1,13 +1,13 @@
 //! What a change of services makes of the claims.
 ghost use Rattle.std.specs.Prelude.{◌≡◌, IfOk};
+ghost use Rattle.alloc_book.specs.Book.{HasRoom};
 ghost use Rattle.claim_index.specs.Claims.{terms_under};
 ghost use Rattle.core_rules.specs.Core.{no_terms, shown_terms, terms_in};
 ghost use Rattle.core_rules.specs.Replied.{put_terms};
 ghost use Rattle.core_rules.specs.Take.{have_claims, listed_claims};
 
-use crate::keys::Services;
-use crate::listing::Listed;
 use alloc_book::{Book, Claim};
+use core_keys::{Listed, Services};
 use kube_labels::Text;
 use kube_model::{Key, Put, Record, Service};
 use mlb_base::NoMemory;
@@ -38,6 +38,26 @@ pub(crate) fn claim_of(alloc: Global, cache: &ObjectCache, put: &Put) -> Result<
 {
     let terms = terms_in(alloc, cache, &put.key)?;
     adopting(alloc, &put.key, &put.holding, terms)
+}
+
+/// The claim of the put, and room for it.
+pub(crate) fn reserved_claim(
+    alloc: Global,
+    cache: &ObjectCache,
+    book: &mut Book,
+    put: &Put,
+) -> Result<Claim, NoMemory>
+    ensures claim { IfOk result (λ c. c ≡ record { key = put.now.key; holding = put.now.holding; terms = put_terms cache.now put.now }) }
+    ensures room { IfOk result (HasRoom book.new) }
+    ensures claims { book.new.claims ≡ book.old.claims }
+    ensures entries { book.new.entries ≡ book.old.entries }
+{
+    let claim = claim_of(alloc, cache, put)?;
+    let Ok(()) = book.reserve(&claim) else {
+        drop(claim);
+        return Err(NoMemory);
+    };
+    Ok(claim)
 }
 
 /// The terms of the held service; one that isn't held has no sharing key and no port.

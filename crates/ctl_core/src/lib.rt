@@ -2,17 +2,11 @@
 //! decide on.
 #![tactic(auto)]
 
-mod awaiting;
 mod claims;
-mod keys;
-mod listing;
-mod picking;
 mod reached;
 mod replies;
-mod room;
 mod state;
 mod take;
 mod turns;
-mod waiting;
 
 pub use reached::Core;

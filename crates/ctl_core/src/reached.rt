@@ -8,8 +8,8 @@ ghost use Rattle.core_rules.specs.Replied.{core_reply};
 ghost use Rattle.core_rules.specs.Take.{core_take, core_note, core_expired, limits};
 ghost use Rattle.core_rules.specs.Turn.{core_turn, after_turn};
 
-use crate::keys::is_free;
 use crate::state::{CoreState, is_ready};
+use core_keys::is_free;
 use core_rules::{TakeFault, Turn};
 use kube_labels::Text;
 use kube_model::{Event, Key, ListGroup, Put, PutReply, Record};

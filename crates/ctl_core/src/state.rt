@@ -2,10 +2,8 @@
 ghost use Rattle.std.specs.Prelude.{◌≡◌, [], IfOk};
 ghost use Rattle.core_rules.specs.Core.{fresh, is_ready, pools_in};
 
-use crate::awaiting::AwaitingKeys;
-use crate::keys::Keys;
-use crate::waiting::WaitingKeys;
 use alloc_book::Book;
+use core_keys::{AwaitingKeys, Keys, WaitingKeys};
 use kube_labels::Text;
 use kube_model::{ListGroup, Put};
 use mlb_base::NoMemory;

@@ -14,16 +14,17 @@ ghost use Rattle.core_rules.specs.Take.{Configures, effect_of, core_take, core_n
 ghost use Rattle.core_rules.specs.Take.{with_services_listed, all_expired, listed_and_free, have_claims, shows, is_accepted, configured};
 ghost use Rattle.full_entries.specs.Entries.{AreThose};
 ghost use Rattle.ctl_core.specs.Holding.{IsPrepared, held_service};
-ghost use Rattle.ctl_core.specs.Queued.{GoBehind};
+ghost use Rattle.core_keys.specs.Queued.{GoBehind};
 ghost use Rattle.ctl_core.specs.Reached.{IsReached};
 ghost use Rattle.ctl_core.specs.Waking.{may_wake, ends_config};
 
-use crate::awaiting::{keep_awaiting, stop_awaiting};
 use crate::claims::{have_claims, keep_listed_claims, shown_claim};
-use crate::keys::{Keys, all_free, drop_key, keep_listed, listed_and_free, own_and_waiting};
-use crate::room::{append_new, truncate_unless};
 use crate::state::{CoreState, config_or, is_ready};
 use alloc_book::{Book, Claim};
+use core_keys::{
+    Keys, all_free, append_new, drop_key, keep_awaiting, keep_listed, listed_and_free,
+    own_and_waiting, stop_awaiting, truncate_unless,
+};
 use core_rules::TakeFault;
 use kube_model::{Event, Key, Kind, ListGroup, Object, Service};
 use mlb_base::NoMemory;
@@ -296,7 +297,6 @@ impl CoreState {
         }
         all_free(
             self.alloc,
-            false,
             &self.queue,
             &self.awaiting,
             self.cache.services(),

@@ -10,10 +10,9 @@ ghost use Rattle.ctl_core.specs.Reached.{IsReached};
 ghost use Rattle.ctl_core.specs.Waiting.{is_front_lacking};
 ghost use Rattle.core_rules.specs.Turn.{wanted_record, reason_in, turn_for, put_in, core_turn, after_turn, turn_at, chosen_at};
 
-use crate::keys::{Keys, Services, lacks_record};
 use crate::state::{CoreState, config_or};
-use crate::waiting::WaitingKeys;
 use alloc_book::Choice;
+use core_keys::{Keys, Services, WaitingKeys, lacks_record};
 use core_rules::Turn;
 use kube_labels::{Labels, Text};
 use kube_model::{Key, Put, Reason, Record, Service};

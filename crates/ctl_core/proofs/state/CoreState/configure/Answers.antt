@@ -4,7 +4,7 @@ use Rattle.object_history.specs.Observations.{Watched}
 use Rattle.object_cache.specs.Change.{applied}
 use Rattle.core_rules.specs.Core.{State}
 use Rattle.core_rules.specs.Take.{wakes}
-use Rattle.ctl_core.specs.Queued.{GoBehind}
+use Rattle.core_keys.specs.Queued.{GoBehind}
 use Rattle.ctl_core.specs.Reached.{IsReached}
 use Rattle.ctl_core.specs.Waking.{may_wake}
 use Rattle.ctl_core.proofs.Entered.{entered}

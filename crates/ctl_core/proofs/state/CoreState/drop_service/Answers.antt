@@ -3,7 +3,7 @@ use Rattle.kube_model.specs.Keys.{same_key}
 use Rattle.claim_index.specs.Claims.{has_claims}
 use Rattle.object_history.specs.Cache.{Cached}
 use Rattle.core_rules.specs.Core.{State, is_ready}
-use Rattle.ctl_core.specs.Queued.{GoBehind}
+use Rattle.core_keys.specs.Queued.{GoBehind}
 use Rattle.ctl_core.specs.Reached.{IsReached}
 use Rattle.ctl_core.proofs.Entered.{still-those}
 use Rattle.ctl_core.proofs.Kept.{service-dropped}

@@ -2,7 +2,7 @@ use Rattle.std.proofs.Common.{◌&&◌, is_some, sym, ap, subst, ◌∙◌}
 use Rattle.object_history.specs.Cache.{Cached}
 use Rattle.core_rules.specs.Core.{State, is_ready}
 use Rattle.core_rules.specs.Take.{have_claims, listed_claims, listed_keys}
-use Rattle.ctl_core.specs.Queued.{GoBehind}
+use Rattle.core_keys.specs.Queued.{GoBehind}
 use Rattle.ctl_core.specs.Reached.{IsReached}
 use Rattle.ctl_core.proofs.Entered.{still-those}
 use Rattle.ctl_core.proofs.Kept.{services-listed}

@@ -3,7 +3,7 @@ use Rattle.claim_index.specs.Claims.{ClaimValue}
 use Rattle.object_history.specs.Cache.{Cached}
 use Rattle.core_rules.specs.Core.{State}
 use Rattle.ctl_core.specs.Holding.{IsPrepared}
-use Rattle.ctl_core.specs.Queued.{GoBehind}
+use Rattle.core_keys.specs.Queued.{GoBehind}
 use Rattle.ctl_core.specs.Reached.{IsReached}
 use Rattle.ctl_core.proofs.Entered.{still-those}
 use Rattle.ctl_core.proofs.Steps.{prepared-held}

@@ -5,7 +5,7 @@ use Rattle.core_rules.specs.Keys.{own_key}
 use Rattle.core_rules.specs.Take.{own_and_waiting}
 use Rattle.ctl_core.specs.Holding.{IsPrepared}
 use Rattle.ctl_core.specs.Reached.{IsReached}
-use Rattle.ctl_core.specs.Waiting.{others_where}
+use Rattle.core_keys.specs.Picked.{others_where}
 use Rattle.ctl_core.proofs.WaitingQueued.{own-and-others}
 use Rattle.ctl_core.proofs.state.CoreState.prepare.Goals as goal
 

@@ -4,7 +4,7 @@ use Rattle.claim_index.specs.Claims.{ClaimValue, loses, settled}
 use Rattle.object_history.specs.Cache.{Cached}
 use Rattle.core_rules.specs.Core.{State, waiting}
 use Rattle.core_rules.specs.Replied.{put_terms}
-use Rattle.ctl_core.specs.Queued.{GoBehind}
+use Rattle.core_keys.specs.Queued.{GoBehind}
 use Rattle.ctl_core.specs.Reached.{IsReached}
 use Rattle.ctl_core.proofs.Entered.{still-those}
 use Rattle.ctl_core.proofs.WaitingQueued.{waiting-behind}

@@ -1,0 +1,4 @@
+pub mod FreeKeys
+pub mod KeyLists
+pub mod KeySets
+pub mod QueuedKeys

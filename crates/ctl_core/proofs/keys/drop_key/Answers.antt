@@ -1,6 +1,0 @@
-use Rattle.std.proofs.Common.{◌∙◌}
-use Rattle.ctl_core.proofs.KeyLists.{without-flip}
-use Rattle.ctl_core.proofs.keys.drop_key.Goals as goal
-
-pub returns : goal.returns
-returns c = c.remove.ensures ∙ without-flip c.args.keys.now c.args.key.now

@@ -1,6 +1,0 @@
-use Rattle.std.proofs.Common.{◌∙◌}
-use Rattle.ctl_core.proofs.KeyLists.{any-has}
-use Rattle.ctl_core.proofs.keys.has_key.Goals as goal
-
-pub returns : goal.returns
-returns c = c.contains.ensures.found ∙ any-has c.args.keys.now c.args.key.now

@@ -1,6 +1,0 @@
-use Rattle.ctl_core.proofs.KeySets.{contains-added}
-use Rattle.ctl_core.proofs.waiting.WaitingKeys.insert.Goals as goal
-
-pub returns-clause-ok : goal.returns-clause-ok
-returns-clause-ok c = λ k.
-    rw (← c.self.view_is, ← c.in_ok-copy.ensures) (contains-added c.self.inside.keys c.insert.new.self c.in_ok-copy.field-0 k c.in_ok-insert.ensures.updates)

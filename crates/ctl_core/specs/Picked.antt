@@ -1,8 +1,0 @@
--- Which keys pass a test.
-use Rattle.std.specs.Prelude.{Bool, List, map, filter}
-use Rattle.kube_model.specs.declared.key.Key.{Key}
-use Rattle.versioned_map.specs.declared.map.Versioned.{Versioned}
-
--- the keys of the objects that pass
-abbrev pub keys_where : {T : Type 0} → (Key → Versioned T → Bool) → List (Key × Versioned T) → List Key
-keys_where passes entries = map (λ e. e.0) (filter (λ e. passes e.0 e.1) entries)

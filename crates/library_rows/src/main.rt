@@ -2,121 +2,59 @@
 //!
 //! - `cover ENTRY`: the prefixes that cover the entry of a pool, or why it is none.
 //! - `read MESSAGE`: what the UPDATE message in hexadecimal says (RFC 4271, section 4.3; RFC 4760; RFC 8092), or `no update`.
+//!
+//! All other rows make the steps of worlds, and write what they leave; behind `#` a world begins anew. The event lines that follow are the
+//! objects that it begins with, up to the line `begin`, or `begin with records` where the services have the records that the lines show. From
+//! there an event line is an edit, one behind the word `reset` sets its object with its own record, and the words of a step are that step, as
+//! `take config`, `turn lost applied` or `crash`. The list behind `restart` or `expire service` is in the store's order, and the other way
+//! round with the word `descending`. `show` writes what is stored, `held NAME` what the controller holds of a service of the namespace
+//! `default`, and `crashes` makes the steps up to each place anew, stops the controller there, once with its put applied and once without,
+//! writes what is stored there, starts it again, has it go on until it has nothing left to do, and writes what is stored then, with the word
+//! `waits` where a service has no address while one of a pool is free; a step that isn't made ends the line with its fault. All this is done
+//! once more with each list in the other order. No class is configured.
 #![tactic(auto)]
 
-use anyhow::{Result, bail};
-use bgp_reading::{UpdateFault, UpdateParts, read_update};
-use ip_ranges::{Address, Prefix, cover, parse_entry, print_address};
-use large_numbers::LargeCommunity;
+mod prefixes;
+mod worlds;
+
+use anyhow::Result;
+use prefixes::{show_cover, show_read};
+use std::alloc::Global;
 use std::io::Input;
+use worlds::Case;
 
-fn show_prefix(rt: &(impl Print + AllocGlobal), prefix: &Prefix) -> Result<()> {
-    let address = Address {
-        family: prefix.family,
-        number: prefix.number,
-    };
-    let address = print_address(rt.alloc(), &address)?;
-    let shown = print!(rt; "{address}/{}", prefix.length);
-    drop(address);
-    Ok(shown?)
-}
-
-/// Writes the prefixes with a blank between them.
-fn show_prefixes(rt: &(impl Print + AllocGlobal), prefixes: &[Prefix]) -> Result<()> {
-    for (place, prefix) in prefixes.iter().enumerate() {
-        if place > 0 {
-            print!(rt; " ")?;
-        }
-        show_prefix(rt, prefix)?;
-    }
-    Ok(())
-}
-
-/// Writes the prefixes behind their name, and nothing where there are none.
-fn show_named(rt: &(impl Print + AllocGlobal), name: &str, prefixes: &[Prefix]) -> Result<()> {
-    if prefixes.is_empty() {
-        return Ok(());
-    }
-    print!(rt; " {name} ")?;
-    show_prefixes(rt, prefixes)
-}
-
-fn show_communities(rt: &impl Print, numbers: &[u32]) -> Result<()> {
-    if !numbers.is_empty() {
-        print!(rt; " communities")?;
-    }
-    for number in numbers {
-        print!(rt; " {}:{}", number / 0x1_0000, number % 0x1_0000)?;
-    }
-    Ok(())
-}
-
-fn show_larges(rt: &impl Print, numbers: &[LargeCommunity]) -> Result<()> {
-    if !numbers.is_empty() {
-        print!(rt; " large")?;
-    }
-    for number in numbers {
-        print!(rt; " {}:{}:{}", number.global, number.first, number.second)?;
-    }
-    Ok(())
-}
-
-fn show_parts(rt: &(impl Print + AllocGlobal), parts: &UpdateParts) -> Result<()> {
-    print!(rt; "update")?;
-    show_named(rt, "withdrawn", parts.withdrawn.as_slice())?;
-    show_named(rt, "announced", parts.announced.as_slice())?;
-    if let Some(preference) = parts.preference {
-        print!(rt; " preference {preference}")?;
-    }
-    show_communities(rt, parts.communities.as_slice())?;
-    show_larges(rt, parts.large.as_slice())?;
-    println!(rt; "")?;
-    Ok(())
-}
-
-fn show_message(rt: &(impl Print + AllocGlobal), message: &[u8]) -> Result<()> {
-    match read_update(rt.alloc(), message) {
-        Ok(parts) => {
-            let shown = show_parts(rt, &parts);
-            drop(parts);
-            shown
-        }
-        Err(UpdateFault::NotUpdate) => Ok(println!(rt; "no update")?),
-        Err(fault) => Err(fault)?,
+/// Writes the answer to the row of a world, or why there is none.
+fn show_world(rt: &impl Print, case: &mut Case, row: &str) -> Result<()> {
+    match case.answer(row) {
+        Ok(text) => Ok(print!(rt; "{text}")?),
+        Err(fault) => Ok(println!(rt; "{fault}")?),
     }
 }
 
-fn show_read(rt: &(impl Print + AllocGlobal), digits: &str) -> Result<()> {
-    let message = hex::decode(rt.alloc(), digits.as_bytes())?;
-    let shown = show_message(rt, message.as_slice());
-    drop(message);
-    shown
-}
-
-fn show_cover(rt: &(impl Print + AllocGlobal), entry: &str) -> Result<()> {
-    let span = match parse_entry(entry) {
-        Ok(span) => span,
-        Err(fault) => return Ok(println!(rt; "{fault}")?),
-    };
-    let prefixes = cover(rt.alloc(), &span)?;
-    let shown = show_prefixes(rt, prefixes.as_slice());
-    drop(prefixes);
-    shown?;
-    Ok(println!(rt; "")?)
-}
-
-fn show_row(rt: &(impl Print + AllocGlobal), row: &str) -> Result<()> {
+fn show_row(rt: &(impl Print + AllocGlobal), case: &mut Case, row: &str) -> Result<()> {
     match row.split_once(' ') {
-        Some(("#", _)) => Ok(println!(rt; "{row}")?),
         Some(("read", digits)) => show_read(rt, digits),
         Some(("cover", entry)) => show_cover(rt, entry),
-        _ => bail!("no such row: {row}"),
+        _ => show_world(rt, case, row),
     }
 }
 
-fn main(rt: HostRuntime) -> Result<()> {
-    for row in rt.lines(rt.alloc()) {
-        show_row(&rt, row?.as_str())?;
+fn show_rows(
+    rt: &(impl Print + AllocGlobal + Input),
+    alloc: Global,
+    case: &mut Case,
+) -> Result<()> {
+    for row in rt.lines(alloc) {
+        show_row(rt, case, row?.as_str())?;
     }
     Ok(())
+}
+
+/// The case is dropped in one place: each way out of a function that holds one would drop it anew.
+fn main(rt: HostRuntime) -> Result<()> {
+    let alloc = rt.alloc();
+    let mut case = Case::new(alloc);
+    let outcome = show_rows(&rt, alloc, &mut case);
+    drop(case);
+    outcome
 }

@@ -1,8 +1,8 @@
 //! One case of the table.
 
-use crate::crashes::crash_lines;
-use crate::steps::{make, recorded_world, world_of};
-use crate::stored::{held_text, store_text};
+use crate::worlds::crashes::crash_lines;
+use crate::worlds::steps::{make, recorded_world, world_of};
+use crate::worlds::stored::{held_text, store_text};
 use ctl_world::{ListOrder, StartFault, World};
 use kube_labels::Text;
 use kube_model::Key;

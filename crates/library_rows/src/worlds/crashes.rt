@@ -1,8 +1,8 @@
 //! What is stored right behind a crash at each place of a history, and once the controller has gone on until nothing is left to do.
 
-use crate::judged::waits_in_vain;
-use crate::steps::{make, world_of};
-use crate::stored::store_text;
+use crate::worlds::judged::waits_in_vain;
+use crate::worlds::steps::{make, world_of};
+use crate::worlds::stored::store_text;
 use ctl_world::{ListOrder, Outcome, Step, StepFault, World};
 use kube_labels::Text;
 use kube_model::ListGroup;

@@ -31,7 +31,7 @@ opened index values v lt at =
     rw (add-one, cut, ← at) refl
 
 pub goes_on : {A : Type 0} (read : Data → Result A Path) (front : List A) (index : ℕ) (values : List Value) (v : Value) (x : A) (total : Result (List A) Path)
-    → index < length values → v ≡ get_or values index v → read (view v) ≡ Ok x
+    → index < length values → v ≡ get_or values index v → within (item_place index) (read (view v)) ≡ Ok x
     → with_front front (items_from read index (items_after index values)) ≡ total
     → with_front (front ++ x ∷ []) (items_from read (index + 1) (items_after (index + 1) values)) ≡ total
 unfolding items_from
@@ -42,34 +42,29 @@ goes_on read front index values v x total lt at h so_far =
     ∙ so_far
 
 -- the fault of an item, seen from the list
-moved : {A : Type 0} (fault moved : FieldFault) (place : Path) (read : Result A Path) → Fails fault read → Moves fault place moved
-    → Fails moved (within place read)
-moved (Faulty p) (Faulty q) place read h m = rw (h, m) refl
-moved (Faulty p) NoMemory place read h m = tt
-moved NoMemory (Faulty q) place read h m = absurd cc
-moved NoMemory NoMemory place read h m = tt
-
 pub Fails-within : {A : Type 0} (fault moved : FieldFault) (place : Path) (read : Result A Path) → Fails fault read → Moves fault place moved
     → Fails moved (within place read)
-Fails-within = moved
+Fails-within (Faulty p) (Faulty q) place read h m = rw (h, m) refl
+Fails-within (Faulty p) NoMemory place read h m = tt
+Fails-within NoMemory (Faulty q) place read h m = absurd cc
+Fails-within NoMemory NoMemory place read h m = tt
 
 ends_with_fault : {A : Type 0} (fault : FieldFault) (front : List A) (first : Result A Path) (others : Result (List A) Path) → Fails fault first
     → Fails fault (with_front front (first >>= λ x. others >>= λ items. Ok (x ∷ items)))
 ends_with_fault (Faulty p) front first others h = rw h refl
 ends_with_fault NoMemory front first others h = tt
 
-pub ends : {A : Type 0} (read : Data → Result A Path) (fault moved : FieldFault) (front : List A) (index : ℕ) (values : List Value) (v : Value)
+pub ends : {A : Type 0} (read : Data → Result A Path) (fault : FieldFault) (front : List A) (index : ℕ) (values : List Value) (v : Value)
     (total : Result (List A) Path)
-    → index < length values → v ≡ get_or values index v → Fails fault (read (view v)) → Moves fault (item_place index) moved
+    → index < length values → v ≡ get_or values index v → Fails fault (within (item_place index) (read (view v)))
     → with_front front (items_from read index (items_after index values)) ≡ total
-    → Fails moved total
+    → Fails fault total
 unfolding items_from
-ends read fault moved front index values v total lt at h m so_far =
-    let inner = Fails-within fault moved (item_place index) (read (view v)) h m in
+ends read fault front index values v total lt at h so_far =
     let one : with_front front (items_from read index (items_after index values)) ≡ with_front front (within (item_place index) (read (view v)) >>=
     λ x. items_from read (index + 1) (items_after (index + 1) values) >>= λ items. Ok (x ∷ items)) = rw (opened index values v lt at) refl in
     rw (← so_far, one)
-    (ends_with_fault moved front (within (item_place index) (read (view v))) (items_from read (index + 1) (items_after (index + 1) values)) inner)
+    (ends_with_fault fault front (within (item_place index) (read (view v))) (items_from read (index + 1) (items_after (index + 1) values)) h)
 
 pub is_done : {A : Type 0} (read : Data → Result A Path) (front : List A) (index : ℕ) (values : List Value) (total : Result (List A) Path)
     → length values ≤ index → with_front front (items_from read index (items_after index values)) ≡ total → total ≡ Ok front

@@ -1,5 +1,6 @@
 //! Lists of values of one type.
-ghost use Rattle.json_fields.specs.Reading.{Gives, list_of, items_from};
+ghost use Rattle.json_fields.specs.Path.{item_place};
+ghost use Rattle.json_fields.specs.Reading.{Gives, list_of, items_from, within};
 ghost use Rattle.serde_json.specs.View.{view, items_view};
 
 use crate::fault::FieldFault;
@@ -8,18 +9,25 @@ use mlb_base::Sequence;
 use serde_json::Value;
 use std::alloc::Global;
 
+/// The item at this index. Its fault is seen from the list.
+fn item_from<T: FromValue>(alloc: Global, index: usize, value: &Value) -> Result<T, FieldFault>
+    ensures { Gives (λ x. x) result (within (item_place index) (T.reading (view value.now))) }
+{
+    match T::from_value(alloc, value) {
+        Ok(item) => Ok(item),
+        Err(fault) => {
+            let place = format!(in alloc; "[{index}]")?;
+            Err(fault.within(alloc, place.as_str()))
+        }
+    }
+}
+
 fn items_of<T: FromValue>(alloc: Global, values: &[Value]) -> Result<Sequence<T>, FieldFault>
     ensures { Gives (λ x. x) result (items_from T.reading 0 (items_view values.now)) }
 {
     let mut items = Sequence::new(alloc);
     for (index, value) in values.iter().enumerate() {
-        match T::from_value(alloc, value) {
-            Ok(item) => items.push(item)?,
-            Err(fault) => {
-                let place = format!(in alloc; "[{index}]")?;
-                return Err(fault.within(alloc, place.as_str()));
-            }
-        }
+        items.push(item_from(alloc, index, value)?)?;
     }
     Ok(items)
 }

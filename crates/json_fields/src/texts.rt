@@ -1,13 +1,22 @@
 //! Text maps, texts that are not empty, and objects.
 ghost use Rattle.serde_json.specs.View.{view, members_view};
-ghost use Rattle.std.specs.Prelude.{[]};
+ghost use Rattle.std.specs.Prelude.{◌≡◌, [], OnOk};
+ghost use Rattle.kube_labels.specs.Pairs.{with_pair};
 ghost use Rattle.json_fields.specs.Reading.{Gives, labels_of, pairs_after, name_at, object_of, GivesIf};
 
 use crate::fault::FieldFault;
 use crate::readers::{FromValue, required};
 use kube_labels::{Labels, Text};
+use mlb_base::NoMemory;
 use serde_json::{Map, Value};
 use std::alloc::Global;
+
+/// Puts the text in place of the name's earlier one.
+fn set_text(alloc: Global, labels: &mut Labels, name: &str, text: &str) -> Result<(), NoMemory>
+    ensures { OnOk result (labels.new ≡ with_pair name.now text.now labels.old) }
+{
+    labels.set(Text::new(alloc, name)?, Text::new(alloc, text)?)
+}
 
 /// The members as labels, or nothing where one is no text. One that is null counts as absent.
 fn labels_from(alloc: Global, members: &Map<String, Value>) -> Result<Option<Labels>, FieldFault>
@@ -21,7 +30,7 @@ fn labels_from(alloc: Global, members: &Map<String, Value>) -> Result<Option<Lab
         let Some(text) = value.as_str() else {
             return Ok(None);
         };
-        labels.set(Text::new(alloc, name.as_str())?, Text::new(alloc, text)?)?;
+        set_text(alloc, &mut labels, name.as_str(), text)?;
     }
     Ok(Some(labels))
 }

@@ -1,5 +1,6 @@
-use Rattle.std.proofs.Common.{◌≡◌, ℕ, ◌+◌, ◌-◌, ◌≤◌, length, take, drop, ap, ◌∙◌, arith, length-drop}
+use Rattle.std.proofs.Common.{◌≡◌, ℕ, ◌+◌, ◌-◌, ◌≤◌, length, take, drop, ap, ◌∙◌, inl, inr, refl, arith, length-drop}
 use Rattle.std.proofs.lemmas.List.{length-take-le}
+use Rattle.std.proofs.lemmas.Bool.{false≢true, false_from_ne_true}
 use Rattle.std.proofs.lemmas.Result.{err_from_is_err_and}
 use Rattle.mlb_edge.specs.Reading.{Reading}
 use Rattle.mlb_edge.proofs.Lists.{front_more}
@@ -45,3 +46,65 @@ returns-clause-err g c = tt
 
 pub returns-clause-fault : goal.returns-clause-fault
 returns-clause-fault g c = tt
+
+pub returns-in_err-make_room-clause-name : goal.returns-in_err-make_room-clause-name
+returns-in_err-make_room-clause-name g c = refl
+
+pub returns-in_err-make_room-clause-later : goal.returns-in_err-make_room-clause-later
+returns-in_err-make_room-clause-later g c = omega arith
+
+pub returns-in_err-make_room-clause-safe : goal.returns-in_err-make_room-clause-safe
+returns-in_err-make_room-clause-safe g c = refl
+
+pub returns-in_err-make_room-clause-cause : goal.returns-in_err-make_room-clause-cause
+returns-in_err-make_room-clause-cause g c =
+    let p = err_from_is_err_and c.from_residual.result c.from_residual.ensures.1 in
+    rw (p.1, p.2) (λ e. absurd (cc))
+
+pub returns-in_err-make_room-clause-unsafe_read : goal.returns-in_err-make_room-clause-unsafe_read
+returns-in_err-make_room-clause-unsafe_read g c =
+    let p = err_from_is_err_and c.from_residual.result c.from_residual.ensures.1 in
+    rw (p.1, p.2) (λ e. absurd (cc))
+
+pub returns-in_err-make_room-clause-fault : goal.returns-in_err-make_room-clause-fault
+returns-in_err-make_room-clause-fault g c =
+    let p = err_from_is_err_and c.from_residual.result c.from_residual.ensures.1 in
+    rw (p.1, p.2) (inr refl)
+
+pub returns-in_err-count-clause-name : goal.returns-in_err-count-clause-name
+returns-in_err-count-clause-name g c = c.read_behind.ensures.name
+
+pub returns-in_err-count-clause-later : goal.returns-in_err-count-clause-later
+returns-in_err-count-clause-later g c = c.read_behind.ensures.cause.later
+
+pub returns-in_err-count-clause-safe : goal.returns-in_err-count-clause-safe
+returns-in_err-count-clause-safe g c = c.read_behind.ensures.safe
+
+pub returns-in_err-count-clause-cause : goal.returns-in_err-count-clause-cause
+returns-in_err-count-clause-cause g c = λ e. c.in_err-count.ensures.cause.failed
+
+pub returns-in_err-count-clause-unsafe_read : goal.returns-in_err-count-clause-unsafe_read
+returns-in_err-count-clause-unsafe_read g c = λ e. false_from_ne_true _ (λ safe. false≢true (c.in_err-count.ensures.well safe))
+
+pub returns-in_err-count-clause-fault : goal.returns-in_err-count-clause-fault
+returns-in_err-count-clause-fault g c =
+    let p = err_from_is_err_and c.from_residual-in_err-count.result c.from_residual-in_err-count.ensures.1 in
+    rw (p.1, p.2) (inl refl)
+
+pub returns-clause-name : goal.returns-clause-name
+returns-clause-name g c = c.read_behind.ensures.name
+
+pub returns-clause-later : goal.returns-clause-later
+returns-clause-later g c = c.read_behind.ensures.cause.later
+
+pub returns-clause-safe : goal.returns-clause-safe
+returns-clause-safe g c = c.read_behind.ensures.safe
+
+pub returns-clause-cause : goal.returns-clause-cause
+returns-clause-cause g c = λ e. absurd (cc)
+
+pub returns-clause-unsafe_read : goal.returns-clause-unsafe_read
+returns-clause-unsafe_read g c = λ e. absurd (cc)
+
+pub returns-clause-end : goal.returns-clause-end
+returns-clause-end g c = c.in_ok-count.ensures.end

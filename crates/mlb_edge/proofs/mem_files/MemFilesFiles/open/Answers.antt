@@ -1,6 +1,6 @@
 use Rattle.std.proofs.Common.{refl}
 use Rattle.std.proofs.lemmas.Result.{err_from_is_err_and}
-use Rattle.mlb_edge.proofs.Counts.{counts_added}
+use Rattle.mlb_edge.proofs.Counts.{counts_added, counts_memory}
 use Rattle.mlb_edge.proofs.mem_files.MemFilesFiles.open.Goals as goal
 
 pub returns-clause-fails : goal.returns-clause-fails
@@ -76,3 +76,13 @@ returns-clause-there c = tt
 
 pub returns-clause-passes : goal.returns-clause-passes
 returns-clause-passes c = tt
+
+pub returns-in_err-kept-clause-faults : goal.returns-in_err-kept-clause-faults
+returns-in_err-kept-clause-faults c =
+    let p = err_from_is_err_and c.from_residual.result c.from_residual.ensures.1 in
+    rw (p.1, p.2) (counts_memory _ _)
+
+pub returns-in_err-input-clause-faults : goal.returns-in_err-input-clause-faults
+returns-in_err-input-clause-faults c =
+    let p = err_from_is_err_and c.from_residual-in_err-input.result c.from_residual-in_err-input.ensures.1 in
+    rw (p.1, p.2) (counts_memory _ _)

@@ -1,6 +1,6 @@
 use Rattle.std.proofs.Common.{refl}
 use Rattle.std.proofs.lemmas.Result.{err_from_is_err_and}
-use Rattle.mlb_edge.proofs.Counts.{counts_added}
+use Rattle.mlb_edge.proofs.Counts.{counts_added, counts_memory, counts_opened}
 use Rattle.mlb_edge.proofs.real_files.RealFilesFiles.open.Goals as goal
 
 pub returns-in_ok-push-in-Err-clause-faults : goal.returns-in_ok-push-in-Err-clause-faults
@@ -17,3 +17,11 @@ pub returns-in_err-push-in-Err-clause-opened : goal.returns-in_err-push-in-Err-c
 returns-in_err-push-in-Err-clause-opened g c =
     let p = err_from_is_err_and c.from_residual-in_err-push-in-Err.result c.from_residual-in_err-push-in-Err.ensures.1 in
     rw p.1 tt
+
+pub returns-in_err-kept-clause-faults : goal.returns-in_err-kept-clause-faults
+returns-in_err-kept-clause-faults g c =
+    let p = err_from_is_err_and c.from_residual.result c.from_residual.ensures.1 in
+    rw (p.1, p.2) (counts_memory _ _)
+
+pub returns-in-Ok-clause-faults : goal.returns-in-Ok-clause-faults
+returns-in-Ok-clause-faults g c = counts_opened _ _ _

@@ -23,7 +23,7 @@ use crate::marked::MarkedTerms;
 use crate::requests::alone_of;
 use claim_index::{ClaimIndex, GroupedTerms};
 use ip_ranges::{Address, AddressList, Family, Span, is_buggy};
-use kube_model::{Key, Record, Service};
+use kube_model::{Key, Record, Service, both};
 use mlb_base::{NoMemory, TryCopy};
 use pool_config::CompiledPool;
 use std::alloc::Global;
@@ -356,10 +356,11 @@ pub(crate) fn record_in(
     ensures { IfOk result (λ holding. holding
         ≡ record { addresses = addresses; pool = pool.now.name; mark = mark_of terms.now }) }
 {
+    let (pool, mark) = both(pool.name.copy(), terms.mark().copy())?;
     Ok(Record {
         addresses,
-        pool: pool.name.copy()?,
-        mark: terms.mark().copy()?,
+        pool,
+        mark,
     })
 }
 

@@ -10,3 +10,4 @@ pub mod Cuts
 pub mod Parts
 pub mod Sizes
 pub mod OneFamily
+pub mod Written

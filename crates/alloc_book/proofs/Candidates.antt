@@ -29,7 +29,7 @@ use Rattle.claim_index.specs.Index.{numbers_of, is_barred, is_shared, is_shareab
 use Rattle.alloc_book.specs.Candidates.{is_claimed, is_own, is_offered, is_free, Covers}
 use Rattle.claim_index.specs.Reading.{leaves}
 use Rattle.alloc_book.specs.Search.{usable, numbered, least_between, least_in}
-use Rattle.claim_index.specs.Holders.{address_of}
+use Rattle.address_holders.specs.Holders.{address_of}
 use Rattle.alloc_book.specs.Usable.{is_in}
 use Rattle.claim_index.specs.Slots.{OfPort, is_member, occupies}
 use Rattle.alloc_book.proofs.LeastLaws.{numbered-is}

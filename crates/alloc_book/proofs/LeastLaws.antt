@@ -11,7 +11,7 @@ use Rattle.pool_config.specs.declared.compiled.CompiledPool.{CompiledPool}
 use Rattle.claim_index.specs.Claims.{Holders, ClaimValue, holders}
 use Rattle.alloc_book.specs.Least.{StandsBefore, IsLeast}
 use Rattle.alloc_book.specs.Search.{usable, numbered, least_between, least_in, least_of, least_usable, or_else}
-use Rattle.claim_index.specs.Holders.{address_of}
+use Rattle.address_holders.specs.Holders.{address_of}
 use Rattle.alloc_book.specs.Usable.{IsUsableOf}
 use Rattle.ip_ranges.proofs.AddressLaws.{same_family-is, same_family-itself}
 use Rattle.alloc_book.proofs.UsableLaws.{usable-is, usable-from}

@@ -13,7 +13,7 @@ ghost use Rattle.alloc_book.specs.Candidates.{is_own, is_offered, is_free, Cover
 ghost use Rattle.number_sets.specs.Least.{IsLeastIn, NonePasses};
 ghost use Rattle.alloc_book.specs.Searching.{AreAmong, CanShareNone, KnowsHolder, KnowsPlace, StandAt, claims_for, usable_by};
 ghost use Rattle.alloc_book.specs.Search.{usable, numbered, least_between, least_in, least_usable, least_each, first_pool, first_of, first_option};
-ghost use Rattle.claim_index.specs.Holders.{address_of};
+ghost use Rattle.address_holders.specs.Holders.{address_of};
 ghost use Rattle.claim_index.specs.Claims.{holders};
 ghost use Rattle.alloc_book.specs.Least.{IsLeast};
 ghost use Rattle.alloc_book.specs.Usable.{is_in, IsUsable, IsUsableOf};

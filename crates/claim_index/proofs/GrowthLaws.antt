@@ -22,11 +22,13 @@ use Rattle.sharing_terms.specs.Ports.{port_cmp, AreAscending}
 use Rattle.sharing_terms.specs.Sharing.{same_port}
 use Rattle.sharing_terms.proofs.PortSets.{port_cmp-total}
 use Rattle.sharing_terms.proofs.SharingLaws.{same_port-is, same_port-itself}
-use Rattle.claim_index.specs.declared.slot.NumberedSlot.{NumberedSlot}
-use Rattle.claim_index.specs.declared.slot.NumberedSlot.TheVariants.{Any, OfPort, OfSharingGroup}
-use Rattle.claim_index.specs.Holders.{AddressHoldersValue, HasRoomAt, in_slot, claims_at, claims_having, claim_room, address_room}
-use Rattle.claim_index.specs.NumberedSlots.{same_slot, is_slot_by, slots_by}
-use Rattle.claim_index.proofs.SlotLaws.{same_slot-is, same_slot-itself}
+use Rattle.address_holders.specs.declared.slot.NumberedSlot.{NumberedSlot}
+use Rattle.address_holders.specs.declared.slot.NumberedSlot.TheVariants.{Any, OfPort, OfSharingGroup}
+use Rattle.address_holders.specs.Holders.{AddressHoldersValue, in_slot, claims_at, claims_having, claim_room, address_room}
+use Rattle.claim_index.specs.Holders.{HasRoomAt}
+use Rattle.address_holders.specs.NumberedSlots.{same_slot}
+use Rattle.claim_index.specs.NumberedSlots.{is_slot_by, slots_by}
+use Rattle.address_holders.proofs.SlotLaws.{same_slot-is, same_slot-itself}
 use Rattle.claim_index.proofs.IndexGrowth.{room-same}
 
 -- ---- the slots of a claim, one more at a time

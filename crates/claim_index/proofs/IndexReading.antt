@@ -17,10 +17,10 @@ use Rattle.mlb_base.specs.Items.{is_nil}
 use Rattle.mlb_base.proofs.Among.{contains-none, contains-cons}
 use Rattle.sharing_terms.specs.declared.terms.Terms.{Terms}
 use Rattle.sharing_terms.specs.Sharing.{may_share}
-use Rattle.claim_index.specs.declared.slot.NumberedSlot.{NumberedSlot}
+use Rattle.address_holders.specs.declared.slot.NumberedSlot.{NumberedSlot}
 use Rattle.claim_index.specs.Slots.{Slot, Any, occupies}
 use Rattle.claim_index.specs.Claims.{ClaimValue, has_claims, loses, claims_it}
-use Rattle.claim_index.specs.Holders.{AddressHoldersValue, claims_having, address_of, is_held_in, is_open_in}
+use Rattle.address_holders.specs.Holders.{AddressHoldersValue, claims_having, address_of, is_held_in, is_open_in}
 use Rattle.claim_index.specs.Index.{numbers_of, numbered, numbers_at, is_taken, is_open}
 use Rattle.claim_index.specs.Reading.{is_claim_under, gives_way, is_of, yields, leaves}
 

@@ -23,7 +23,8 @@ use Rattle.mlb_base.proofs.Among.{contains-none, contains-cons, contains-first, 
 use Rattle.numbered_items.specs.Index.{IndexValue, numbers_under}
 use Rattle.claim_index.specs.Claims.{AreAssigned, ClaimValue}
 use Rattle.claim_index.specs.GroupNumbers.{GroupsValue}
-use Rattle.claim_index.specs.Holders.{AddressHoldersValue, claims_in}
+use Rattle.address_holders.specs.Holders.{AddressHoldersValue}
+use Rattle.claim_index.specs.Holders.{claims_in}
 use Rattle.claim_index.specs.Index.{numbers_of, numbered, numbered_at, numbers_at, HaveSharingGroups, IsIndexed}
 use Rattle.claim_index.specs.Slots.{Slot}
 use Rattle.claim_index.specs.Slots.{occupies}

@@ -1,14 +1,11 @@
 pub mod ClaimLaws
-pub mod ClaimantLaws
 pub mod GroupLaws
 pub mod GroupNumberLaws
 pub mod GrowthLaws
-pub mod HolderLaws
 pub mod IndexGrowth
 pub mod IndexReading
 pub mod IndexRemoval
 pub mod NumberLaws
 pub mod RemovalLaws
 pub mod ShareLaws
-pub mod SlotLaws
 pub mod TermLaws

@@ -16,11 +16,12 @@ use Rattle.mlb_base.proofs.Among.{any-contains, any-found}
 use Rattle.mlb_base.proofs.Lists.{Decides-nil}
 use Rattle.sharing_terms.specs.declared.terms.Terms.{Terms}
 use Rattle.sharing_terms.specs.Sharing.{has_port}
-use Rattle.claim_index.specs.declared.slot.NumberedSlot.{NumberedSlot}
-use Rattle.claim_index.specs.declared.slot.NumberedSlot.TheVariants as numbered_slots
+use Rattle.address_holders.specs.declared.slot.NumberedSlot.{NumberedSlot}
+use Rattle.address_holders.specs.declared.slot.NumberedSlot.TheVariants as numbered_slots
 use Rattle.claim_index.specs.Claims.{ClaimValue}
 use Rattle.claim_index.specs.GroupNumbers.{GroupsValue, AreNumbered, AreMore, HasNumber, IsNumbered, number_of, number_for}
-use Rattle.claim_index.specs.Holders.{AddressHoldersValue, AreFewer, IsUnused, claims_having, claims_in, listed_in}
+use Rattle.address_holders.specs.Holders.{AddressHoldersValue, claims_having}
+use Rattle.claim_index.specs.Holders.{AreFewer, IsUnused, claims_in, listed_in}
 use Rattle.claim_index.specs.Index.{numbers_at, numbered, is_taken}
 use Rattle.claim_index.specs.NumberedSlots.{is_number, is_slot_by}
 use Rattle.claim_index.specs.Removal.{left_at}

@@ -15,11 +15,11 @@ use Rattle.kube_model.specs.declared.port.Port.{Port}
 use Rattle.mlb_base.specs.Items.{is_nil}
 use Rattle.mlb_base.proofs.Among.{any-contains, any-found}
 use Rattle.sharing_terms.specs.declared.terms.Terms.{Terms}
-use Rattle.claim_index.specs.declared.slot.NumberedSlot.{NumberedSlot}
+use Rattle.address_holders.specs.declared.slot.NumberedSlot.{NumberedSlot}
 use Rattle.claim_index.specs.Slots.{OfSharingGroup, OfPort}
 use Rattle.claim_index.specs.Claims.{ClaimValue}
 use Rattle.claim_index.specs.SharingGroups.{sharing_group_of, HasGroup, HasSharingGroup}
-use Rattle.claim_index.specs.Holders.{AddressHoldersValue, claims_having, address_of, is_held_but, is_held_in}
+use Rattle.address_holders.specs.Holders.{AddressHoldersValue, claims_having, address_of, is_held_but, is_held_in}
 use Rattle.claim_index.specs.Index.{numbers_at, is_taken, is_shared, is_barred, NoneShareable}
 use Rattle.claim_index.proofs.GrowthLaws.{or-none}
 use Rattle.claim_index.proofs.IndexReading.{held-is, nil-at}

@@ -2,23 +2,11 @@
 use Rattle.std.specs.Prelude.{ℕ, Bool, true, false, ◌==◌, ◌&&◌, List, [], ◌∷◌, map, Option, Some, None}
 use Rattle.std.specs.Option.{option_map, option_map_or}
 use Rattle.kube_model.specs.declared.port.Port.{Port}
-use Rattle.sharing_terms.specs.Sharing.{has_port, same_port}
-use Rattle.claim_index.specs.declared.slot.NumberedSlot.{NumberedSlot}
-use Rattle.claim_index.specs.declared.slot.NumberedSlot.TheVariants.{Any, OfSharingGroup, OfPort}
+use Rattle.sharing_terms.specs.Sharing.{has_port}
+use Rattle.address_holders.specs.declared.slot.NumberedSlot.{NumberedSlot}
+use Rattle.address_holders.specs.declared.slot.NumberedSlot.TheVariants.{Any, OfSharingGroup, OfPort}
 use Rattle.claim_index.specs.GroupNumbers.{GroupsValue, number_of}
 use Rattle.claim_index.specs.Slots as texts
-
--- whether the slots are one
-abbrev pub same_slot : NumberedSlot → NumberedSlot → Bool
-same_slot Any Any = true
-same_slot Any (OfSharingGroup other) = false
-same_slot Any (OfPort port other) = false
-same_slot (OfSharingGroup group) Any = false
-same_slot (OfSharingGroup group) (OfSharingGroup other) = group == other
-same_slot (OfSharingGroup group) (OfPort port other) = false
-same_slot (OfPort port group) Any = false
-same_slot (OfPort port group) (OfSharingGroup other) = false
-same_slot (OfPort port group) (OfPort other_port other) = same_port port other_port && (group == other)
 
 -- there is a number, and it is this one
 abbrev pub is_number : Option ℕ → ℕ → Bool

@@ -3,9 +3,10 @@ use Rattle.std.specs.Prelude.{◌≡◌, ◌<◌, ℕ, true, length}
 use Rattle.kube_model.specs.declared.key.Key.{Key}
 use Rattle.kube_model.specs.Keys.{key_cmp}
 use Rattle.numbered_items.specs.Index.{IndexValue, room_under}
-use Rattle.claim_index.specs.declared.slot.NumberedSlot.{NumberedSlot}
+use Rattle.address_holders.specs.declared.slot.NumberedSlot.{NumberedSlot}
 use Rattle.claim_index.specs.Claims.{ClaimValue}
-use Rattle.claim_index.specs.Holders.{AddressHoldersValue, HasRoomAt}
+use Rattle.address_holders.specs.Holders.{AddressHoldersValue}
+use Rattle.claim_index.specs.Holders.{HasRoomAt}
 use Rattle.claim_index.specs.GroupNumbers.{GroupsValue, HasNumber, number_for}
 use Rattle.claim_index.specs.NumberedSlots.{is_slot_by}
 

@@ -5,9 +5,8 @@ ghost use Rattle.claim_index.specs.GroupNumbers.{number_of, number_for, HasNumbe
 ghost use Rattle.claim_index.specs.Holders.{AreFewer};
 ghost use Rattle.claim_index.specs.SharingGroups.{HasSharingGroup};
 
-use crate::address_holders::AddressHolders;
 use crate::grouped::GroupedTerms;
-use crate::slot::NumberedSlot;
+use address_holders::{AddressHolders, NumberedSlot};
 use kube_labels::Text;
 use mlb_base::{NoMemory, TryCopy};
 use std::alloc::Global;

@@ -3,14 +3,16 @@ ghost use Rattle.std.specs.Prelude.{◌≡◌, ◌≤◌, ℕ, List, ◌++◌, [
 ghost use Rattle.std.specs.List.{Contains};
 ghost use Rattle.ip_ranges.specs.declared.family.Family.{Family};
 ghost use Rattle.ip_ranges.specs.Values.{AddressValue};
-ghost use Rattle.claim_index.specs.declared.slot.NumberedSlot.{NumberedSlot};
-ghost use Rattle.claim_index.specs.Holders.{HasRoomAt, in_slot, claims_having, claim_room, address_room};
+ghost use Rattle.address_holders.specs.declared.slot.NumberedSlot.{NumberedSlot};
+ghost use Rattle.address_holders.specs.Holders.{in_slot, claims_having, claim_room, address_room};
+ghost use Rattle.claim_index.specs.Holders.{HasRoomAt};
 ghost use Rattle.claim_index.specs.Index.{numbered, ends_with};
-ghost use Rattle.claim_index.specs.NumberedSlots.{is_slot_by, same_slot};
+ghost use Rattle.address_holders.specs.NumberedSlots.{same_slot};
+ghost use Rattle.claim_index.specs.NumberedSlots.{is_slot_by};
 
-use crate::address_holders::AddressHolders;
 use crate::claims::Claim;
-use crate::slot::{NumberedSlot, slot_at, slots_with};
+use crate::slots::{slot_at, slots_with};
+use address_holders::{AddressHolders, NumberedSlot};
 use ip_ranges::Address;
 use mlb_base::NoMemory;
 

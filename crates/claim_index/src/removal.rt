@@ -1,13 +1,14 @@
 //! What is left at the addresses of a claim that goes.
 ghost use Rattle.std.specs.Prelude.{◌≡◌, false, if◌then◌else◌};
-ghost use Rattle.claim_index.specs.declared.slot.NumberedSlot.{NumberedSlot};
-ghost use Rattle.claim_index.specs.Holders.{in_slot, claims_having};
+ghost use Rattle.address_holders.specs.declared.slot.NumberedSlot.{NumberedSlot};
+ghost use Rattle.address_holders.specs.Holders.{in_slot, claims_having};
 ghost use Rattle.claim_index.specs.Removal.{left_at};
-ghost use Rattle.claim_index.specs.NumberedSlots.{is_slot_by, same_slot};
+ghost use Rattle.address_holders.specs.NumberedSlots.{same_slot};
+ghost use Rattle.claim_index.specs.NumberedSlots.{is_slot_by};
 
-use crate::address_holders::AddressHolders;
 use crate::claims::Claim;
-use crate::slot::{NumberedSlot, slot_at, slots_with};
+use crate::slots::{slot_at, slots_with};
+use address_holders::{AddressHolders, NumberedSlot};
 use ip_ranges::Address;
 
 /// The claim of that number isn't listed at its addresses any more, in no slot, where its group has this number. It takes no memory.

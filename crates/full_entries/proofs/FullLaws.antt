@@ -15,7 +15,7 @@ use Rattle.mlb_base.proofs.Among.{contains-none, contains-cons, contains-later, 
 use Rattle.mlb_base.proofs.Lists.{filter-keeps}
 use Rattle.number_sets.specs.Runs.{has}
 use Rattle.claim_index.specs.Claims.{ClaimValue}
-use Rattle.claim_index.specs.Holders.{address_of}
+use Rattle.address_holders.specs.Holders.{address_of}
 use Rattle.claim_index.specs.Index.{is_open, is_taken}
 use Rattle.claim_index.specs.Slots.{Any}
 use Rattle.claim_index.proofs.IndexReading.{found-of}

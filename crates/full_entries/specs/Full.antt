@@ -3,7 +3,7 @@ use Rattle.std.specs.Prelude.{◌≡◌, ℕ, true, List, Some, slice_get}
 use Rattle.number_sets.specs.Least.{NonePasses}
 use Rattle.number_sets.specs.Runs.{has}
 use Rattle.claim_index.specs.Claims.{ClaimValue}
-use Rattle.claim_index.specs.Holders.{address_of}
+use Rattle.address_holders.specs.Holders.{address_of}
 use Rattle.claim_index.specs.Index.{is_open}
 use Rattle.claim_index.specs.Room.{IndexRoom}
 use Rattle.claim_index.specs.Slots.{Any}

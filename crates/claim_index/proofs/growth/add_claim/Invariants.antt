@@ -1,7 +1,8 @@
 use Rattle.std.proofs.Common.{◌≡◌, length, take, drop}
 use Rattle.std.specs.List.{Contains}
-use Rattle.claim_index.specs.declared.slot.NumberedSlot.{NumberedSlot}
-use Rattle.claim_index.specs.Holders.{HasRoomAt, claims_having}
+use Rattle.address_holders.specs.declared.slot.NumberedSlot.{NumberedSlot}
+use Rattle.address_holders.specs.Holders.{claims_having}
+use Rattle.claim_index.specs.Holders.{HasRoomAt}
 use Rattle.claim_index.specs.Index.{numbered}
 use Rattle.claim_index.specs.NumberedSlots.{slots_by}
 use Rattle.claim_index.proofs.GrowthLaws.{among, with_more}

@@ -1,6 +1,6 @@
 use Rattle.std.proofs.Common.{◌≡◌, ◌++◌, ◌+◌, take, sym, ap, subst, ◌∙◌}
 use Rattle.ip_ranges.specs.Values.{AddressValue}
-use Rattle.claim_index.specs.Holders.{AddressHoldersValue, in_slot, claims_having}
+use Rattle.address_holders.specs.Holders.{AddressHoldersValue, in_slot, claims_having}
 use Rattle.claim_index.specs.Index.{numbered, ends_with}
 use Rattle.claim_index.proofs.IndexGrowth.{HasRoomFrom, room-next, room-still, listed-next, listed-still, listed-all, ended, not-ended}
 use Rattle.claim_index.proofs.growth.add_each.Goals as goal

@@ -1,9 +1,9 @@
 use Rattle.std.proofs.Common.{◌≡◌, false, take, ◌++◌}
 use Rattle.ip_ranges.specs.Values.{AddressValue}
-use Rattle.claim_index.specs.declared.slot.NumberedSlot.{NumberedSlot}
-use Rattle.claim_index.specs.Holders.{in_slot, claims_having}
+use Rattle.address_holders.specs.declared.slot.NumberedSlot.{NumberedSlot}
+use Rattle.address_holders.specs.Holders.{in_slot, claims_having}
 use Rattle.claim_index.specs.Index.{numbered}
-use Rattle.claim_index.specs.NumberedSlots.{same_slot}
+use Rattle.address_holders.specs.NumberedSlots.{same_slot}
 use Rattle.claim_index.proofs.IndexGrowth.{HasRoomFrom}
 use Rattle.claim_index.proofs.growth.add_each.Given as goal
 

@@ -1,8 +1,9 @@
 use Rattle.std.proofs.Common.{◌≡◌, ◌≤◌, length, take}
 use Rattle.ip_ranges.specs.declared.family.Family.{Family}
 use Rattle.ip_ranges.specs.Values.{AddressValue}
-use Rattle.claim_index.specs.declared.slot.NumberedSlot.{NumberedSlot}
-use Rattle.claim_index.specs.Holders.{HasRoomAt, claims_having, claim_room, address_room}
+use Rattle.address_holders.specs.declared.slot.NumberedSlot.{NumberedSlot}
+use Rattle.address_holders.specs.Holders.{claims_having, claim_room, address_room}
+use Rattle.claim_index.specs.Holders.{HasRoomAt}
 use Rattle.claim_index.proofs.growth.reserve_each.Given as goal
 
 abbrev pub invariant-loop-address : goal.invariant-loop-address

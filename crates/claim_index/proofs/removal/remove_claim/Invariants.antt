@@ -1,6 +1,6 @@
 use Rattle.std.proofs.Common.{◌≡◌, take}
-use Rattle.claim_index.specs.declared.slot.NumberedSlot.{NumberedSlot}
-use Rattle.claim_index.specs.Holders.{claims_having}
+use Rattle.address_holders.specs.declared.slot.NumberedSlot.{NumberedSlot}
+use Rattle.address_holders.specs.Holders.{claims_having}
 use Rattle.claim_index.specs.NumberedSlots.{slots_by}
 use Rattle.claim_index.proofs.GrowthLaws.{among}
 use Rattle.claim_index.proofs.RemovalLaws.{left_in}

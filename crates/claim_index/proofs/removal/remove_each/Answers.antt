@@ -1,5 +1,5 @@
 use Rattle.std.proofs.Common.{◌∙◌}
-use Rattle.claim_index.specs.Holders.{claims_having}
+use Rattle.address_holders.specs.Holders.{claims_having}
 use Rattle.claim_index.proofs.IndexRemoval.{left-next}
 use Rattle.claim_index.proofs.removal.remove_each.Goals as goal
 

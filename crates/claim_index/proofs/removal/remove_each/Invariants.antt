@@ -1,8 +1,8 @@
 use Rattle.std.proofs.Common.{◌≡◌, false, take}
-use Rattle.claim_index.specs.declared.slot.NumberedSlot.{NumberedSlot}
-use Rattle.claim_index.specs.Holders.{in_slot, claims_having}
+use Rattle.address_holders.specs.declared.slot.NumberedSlot.{NumberedSlot}
+use Rattle.address_holders.specs.Holders.{in_slot, claims_having}
 use Rattle.claim_index.specs.Removal.{left_at}
-use Rattle.claim_index.specs.NumberedSlots.{same_slot}
+use Rattle.address_holders.specs.NumberedSlots.{same_slot}
 use Rattle.claim_index.proofs.removal.remove_each.Given as goal
 
 abbrev pub invariant-loop-address : goal.invariant-loop-address

@@ -3,7 +3,7 @@ use Rattle.ip_ranges.specs.Values.{AddressValue}
 use Rattle.std.specs.List.{Contains}
 use Rattle.alloc_book.specs.Search.{numbered}
 use Rattle.alloc_book.specs.Searching.{claims_for, usable_by}
-use Rattle.claim_index.specs.Holders.{address_of}
+use Rattle.address_holders.specs.Holders.{address_of}
 use Rattle.alloc_book.proofs.Candidates.{Ahead, met-usable, met-not_usable, all-met}
 use Rattle.alloc_book.proofs.search.AddressSearch.least_among.Goals.{then-usable_number, else-usable_number}
 use Rattle.alloc_book.proofs.search.AddressSearch.least_among.Goals as goal

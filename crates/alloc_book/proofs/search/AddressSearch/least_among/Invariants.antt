@@ -2,7 +2,7 @@ use Rattle.std.proofs.Common.{take}
 use Rattle.std.specs.List.{Contains}
 use Rattle.alloc_book.specs.Search.{numbered}
 use Rattle.alloc_book.specs.Searching.{usable_by}
-use Rattle.claim_index.specs.Holders.{address_of}
+use Rattle.address_holders.specs.Holders.{address_of}
 use Rattle.alloc_book.proofs.Candidates.{Ahead}
 use Rattle.alloc_book.proofs.search.AddressSearch.least_among.Given as goal
 

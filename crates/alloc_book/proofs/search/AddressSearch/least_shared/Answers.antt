@@ -1,6 +1,6 @@
 use Rattle.std.proofs.Common.{true, ◌≡◌, ◌+◌, sym, ◌∙◌, arith, eqb, length, ap, List, ℕ}
 use Rattle.sharing_terms.specs.declared.terms.Terms.{Terms}
-use Rattle.claim_index.specs.Holders.{address_of}
+use Rattle.address_holders.specs.Holders.{address_of}
 use Rattle.claim_index.proofs.ShareLaws.{nil-from_empty}
 use Rattle.alloc_book.proofs.Candidates.{keyless-unusable, shareable-in, shareable-more, shareable-next}
 use Rattle.alloc_book.proofs.search.AddressSearch.least_shared.Goals as goal

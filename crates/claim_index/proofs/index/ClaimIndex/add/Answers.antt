@@ -5,7 +5,7 @@ use Rattle.kube_model.specs.declared.key.Key.{Key}
 use Rattle.kube_model.specs.Keys.{key_cmp}
 use Rattle.numbered_items.specs.Index.{room_under}
 use Rattle.sharing_terms.specs.declared.terms.Terms.{Terms}
-use Rattle.claim_index.specs.declared.slot.NumberedSlot.{NumberedSlot}
+use Rattle.address_holders.specs.declared.slot.NumberedSlot.{NumberedSlot}
 use Rattle.claim_index.specs.Room.{HasRoomFor}
 use Rattle.claim_index.specs.Claims.{ClaimValue}
 use Rattle.claim_index.specs.GroupNumbers.{number_for}

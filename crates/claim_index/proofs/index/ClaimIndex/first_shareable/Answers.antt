@@ -2,9 +2,10 @@ use Rattle.std.proofs.Common.{◌≡◌, ◌+◌, ℕ, get_or, Some, None, refl,
 use Rattle.std.specs.Map.{values_of}
 use Rattle.kube_model.specs.declared.port.Port.{Port}
 use Rattle.sharing_terms.specs.declared.terms.Terms.{Terms}
-use Rattle.claim_index.specs.declared.slot.NumberedSlot.TheVariants.{OfSharingGroup, OfPort}
+use Rattle.address_holders.specs.declared.slot.NumberedSlot.TheVariants.{OfSharingGroup, OfPort}
 use Rattle.claim_index.specs.GroupNumbers.{number_for}
-use Rattle.claim_index.specs.Holders.{address_of, claims_having, claims_in}
+use Rattle.address_holders.specs.Holders.{address_of, claims_having}
+use Rattle.claim_index.specs.Holders.{claims_in}
 use Rattle.claim_index.specs.Index.{ClaimIndexValue, numbers_at}
 use Rattle.claim_index.specs.SharingGroups.{sharing_group_of}
 use Rattle.claim_index.specs.Slots.{Slot}

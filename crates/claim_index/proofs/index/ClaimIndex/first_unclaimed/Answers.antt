@@ -1,6 +1,6 @@
 use Rattle.std.proofs.Common.{ℕ, Bool, IfSome, IfNone, subst}
 use Rattle.number_sets.specs.Least.{IsLeastIn, NonePasses}
-use Rattle.claim_index.specs.declared.slot.NumberedSlot.TheVariants.{Any as AnyNumbered}
+use Rattle.address_holders.specs.declared.slot.NumberedSlot.TheVariants.{Any as AnyNumbered}
 use Rattle.claim_index.specs.Slots.{Any}
 use Rattle.claim_index.proofs.IndexReading.{unclaimed-is}
 use Rattle.claim_index.proofs.index.ClaimIndex.first_unclaimed.Goals as goal

@@ -1,0 +1,3 @@
+pub mod ClaimantLaws
+pub mod HolderLaws
+pub mod SlotLaws

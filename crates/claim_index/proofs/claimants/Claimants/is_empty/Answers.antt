@@ -1,5 +1,0 @@
-use Rattle.claim_index.proofs.ClaimantLaws.{none-left}
-use Rattle.claim_index.proofs.claimants.Claimants.is_empty.Goals as goal
-
-pub returns : goal.returns
-returns c = rw (← c.self.view_is) (λ empty. none-left c.self.inside.held c.self.inside.by_number c.self.invariant (c.is_empty.ensures empty))

@@ -17,7 +17,7 @@
 mod prefixes;
 mod worlds;
 
-use anyhow::Result;
+use anyhow::{Result, bail};
 use prefixes::{show_cover, show_read};
 use std::alloc::Global;
 use std::io::Input;
@@ -31,11 +31,33 @@ fn show_world(rt: &impl Print, case: &mut Case, row: &str) -> Result<()> {
     }
 }
 
+/// Whether the row begins as those of worlds do.
+fn is_of_a_world(row: &str) -> bool {
+    let first = match row.split_once(' ') {
+        Some((first, _)) => first,
+        None => row,
+    };
+    matches!(
+        first,
+        "#" | "begin"
+            | "show"
+            | "held"
+            | "crashes"
+            | "reset"
+            | "take"
+            | "turn"
+            | "crash"
+            | "restart"
+            | "expire"
+    ) || row.as_bytes().starts_with(b"{")
+}
+
 fn show_row(rt: &(impl Print + AllocGlobal), case: &mut Case, row: &str) -> Result<()> {
     match row.split_once(' ') {
         Some(("read", digits)) => show_read(rt, digits),
         Some(("cover", entry)) => show_cover(rt, entry),
-        _ => show_world(rt, case, row),
+        _ if is_of_a_world(row) => show_world(rt, case, row),
+        _ => bail!("no such row: {row}"),
     }
 }
 

@@ -16,10 +16,15 @@ use std::alloc::Global;
 use std::marker::Model;
 
 /// Who has the addresses of both families: in each slot, by each address, the numbers of the claims that have it.
-#[derive(Drop)]
 pub struct AddressHolders {
     v4: Holders,
     v6: Holders,
+}
+
+impl Drop for AddressHolders {
+    fn drop(self) {
+        let AddressHolders { v4: _, v6: _ } = self;
+    }
 }
 
 impl Model for AddressHolders {

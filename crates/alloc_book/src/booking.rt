@@ -41,10 +41,15 @@ use std::marker::Model;
 /// its group and once for each port of its mark, and moves what stands behind it: the runs of held addresses, and where a record goes,
 /// the numbers of those that came later. Contracts see the list of the records, and for how much more there is room, which may end with
 /// the next change or reservation.
-#[derive(Drop)]
 pub struct Book {
     alloc: Global,
     index: EntryClaims,
+}
+
+impl Drop for Book {
+    fn drop(self) {
+        let Book { alloc: _, index: _ } = self;
+    }
 }
 
 impl Model for Book {

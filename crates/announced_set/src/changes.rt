@@ -17,10 +17,18 @@ use std::alloc::Global;
 use std::collections::BTreeSet;
 
 /// The addresses that a node announces no more, and those that it announces from now on.
-#[derive(Drop)]
 pub struct AddressChanges {
     pub withdrawn: BTreeSet<Address>,
     pub announced: BTreeSet<Address>,
+}
+
+impl Drop for AddressChanges {
+    fn drop(self) {
+        let AddressChanges {
+            withdrawn: _,
+            announced: _,
+        } = self;
+    }
 }
 
 /// Makes the announcers those of the view, where they are so already but for what the change may have changed, and tells what that

@@ -26,13 +26,24 @@ use std::mem;
 /// For each prefix under each advertisement the addresses that contribute to it are held, so an event costs what it touches: for each
 /// address and each advertisement the logarithm of how many are held. A peer's table, or a part of one, is made of that. After `NoMemory`
 /// no peer is held, and `rebuild` makes it good.
-#[derive(Drop)]
 pub struct KeptRoutes {
     alloc: Global,
     node: Text,
     both: bool,
     held: KeptConfig,
     contributors: Contributors,
+}
+
+impl Drop for KeptRoutes {
+    fn drop(self) {
+        let KeptRoutes {
+            alloc: _,
+            node: _,
+            both: _,
+            held: _,
+            contributors: _,
+        } = self;
+    }
 }
 
 impl Model for KeptRoutes {

@@ -18,7 +18,6 @@ pub struct Terms {
 }
 
 /// A route, which contracts see as its prefix and its terms.
-#[derive(Drop)]
 pub struct Route {
     pub prefix: Prefix,
     /// LOCAL_PREF (RFC 4271, section 5.1.5), there for a peer of the same AS alone.
@@ -27,6 +26,17 @@ pub struct Route {
     pub communities: CommunityNumbers,
     /// LARGE_COMMUNITY (RFC 8092), ascending.
     pub large: LargeNumbers,
+}
+
+impl Drop for Route {
+    fn drop(self) {
+        let Route {
+            prefix: _,
+            preference: _,
+            communities: _,
+            large: _,
+        } = self;
+    }
 }
 
 impl Model for Route {
@@ -39,9 +49,14 @@ impl Model for Route {
 }
 
 /// Routes of prefixes, IPv4 first, which ascend by number and then by length, one route a prefix.
-#[derive(Drop)]
 pub struct RouteTable {
     routes: Sequence<Route>,
+}
+
+impl Drop for RouteTable {
+    fn drop(self) {
+        let RouteTable { routes: _ } = self;
+    }
 }
 
 impl Model for RouteTable {

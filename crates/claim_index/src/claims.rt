@@ -14,11 +14,20 @@ use std::alloc::Global;
 use std::marker::Model;
 
 /// A key has this record, or may have it, under these terms.
-#[derive(Drop)]
 pub struct Claim {
     key: Key,
     holding: Record,
     terms: GroupedTerms,
+}
+
+impl Drop for Claim {
+    fn drop(self) {
+        let Claim {
+            key: _,
+            holding: _,
+            terms: _,
+        } = self;
+    }
 }
 
 impl Model for Claim {

@@ -11,10 +11,15 @@ use std::alloc::Global;
 use std::marker::Model;
 
 /// Terms, with the group of the claims that have a sharing key and backend in common with them. Contracts see the terms.
-#[derive(Drop)]
 pub struct GroupedTerms {
     terms: Terms,
     group: Option<Text>,
+}
+
+impl Drop for GroupedTerms {
+    fn drop(self) {
+        let GroupedTerms { terms: _, group: _ } = self;
+    }
 }
 
 impl Model for GroupedTerms {

@@ -33,12 +33,22 @@ use std::alloc::Global;
 use std::marker::Model;
 
 /// The claims, numbered in the order in which they came, and the numbers of those of each key and of those that have each address.
-#[derive(Drop)]
 pub struct ClaimIndex {
     claims: NumberedList<Claim>,
     by_key: InvertedIndex<Key>,
     groups: GroupNumbers,
     holders: AddressHolders,
+}
+
+impl Drop for ClaimIndex {
+    fn drop(self) {
+        let ClaimIndex {
+            claims: _,
+            by_key: _,
+            groups: _,
+            holders: _,
+        } = self;
+    }
 }
 
 impl Model for ClaimIndex {

@@ -18,9 +18,14 @@ use std::marker::Model;
 
 /// The keys of services that wait for an address, ascending. To put one in or take it out takes the logarithm of their number; a
 /// release goes through all.
-#[derive(Drop)]
 pub struct WaitingKeys {
     keys: BTreeSet<Key>,
+}
+
+impl Drop for WaitingKeys {
+    fn drop(self) {
+        let WaitingKeys { keys: _ } = self;
+    }
 }
 
 impl Model for WaitingKeys {

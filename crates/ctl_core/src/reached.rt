@@ -20,9 +20,14 @@ use std::marker::Model;
 
 /// What the controller knows of the cluster, and what it still has to decide. Whatever it was told, each settled service, but the
 /// one that is being written, has the record that was chosen for it; where none could be chosen, none can be now.
-#[derive(Drop)]
 pub struct Core {
     state: CoreState,
+}
+
+impl Drop for Core {
+    fn drop(self) {
+        let Core { state: _ } = self;
+    }
 }
 
 impl Model for Core {

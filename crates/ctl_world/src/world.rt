@@ -30,9 +30,14 @@ use world_rules::{Step, StepFault};
 /// A cluster's objects, a controller that is shown them and writes records to them, and what of them is still to be shown. The
 /// controller may stop and be started again. At no moment are two services recorded with one address and with marked records, unless
 /// the terms of their marks may share it.
-#[derive(Drop)]
 pub struct World {
     state: WorldState,
+}
+
+impl Drop for World {
+    fn drop(self) {
+        let World { state: _ } = self;
+    }
 }
 
 impl Model for World {

@@ -26,10 +26,18 @@ use std::mem;
 /// The claims by what each is found, and which entries of the pools that were entered last are full: each of their addresses has a claim,
 /// or is a buggy one that the pool avoids. Not each full entry is known as one: where there is no memory for that, none is. A claim that
 /// comes or goes takes the logarithm of the number of entries for each of its addresses besides.
-#[derive(Drop)]
 pub struct EntryClaims {
     claims: ClaimIndex,
     entries: FullEntries,
+}
+
+impl Drop for EntryClaims {
+    fn drop(self) {
+        let EntryClaims {
+            claims: _,
+            entries: _,
+        } = self;
+    }
 }
 
 impl Model for EntryClaims {

@@ -17,10 +17,18 @@ use std::marker::Model;
 ///
 /// A call takes the logarithm of the number of groups in comparisons of groups, and that of the size of the group's set in
 /// comparisons of keys.
-#[derive(Drop)]
 pub struct GroupedKeys<G: Ord, K: Ord> {
     alloc: Global,
     groups: BTreeMap<G, BTreeSet<K>>,
+}
+
+impl<G: Ord + Drop, K: Ord + Drop> Drop for GroupedKeys<G, K> {
+    fn drop(self) {
+        let GroupedKeys {
+            alloc: _,
+            groups: _,
+        } = self;
+    }
 }
 
 impl<G: Ord, K: Ord> Model for GroupedKeys<G, K> {

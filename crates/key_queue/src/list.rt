@@ -11,12 +11,20 @@ use std::marker::Model;
 
 /// A list of distinct keys, which contracts see in the order in which they came. A key is found, put at the end and taken out
 /// anywhere in the logarithm of their number, in comparisons of keys.
-#[derive(Drop)]
 pub struct KeyList<K: Ord> {
     /// The number of each key. One that came later has a greater one.
     numbers: BTreeMap<K, u64>,
     /// The number of the next key.
     next: u64,
+}
+
+impl<K: Ord + Drop> Drop for KeyList<K> {
+    fn drop(self) {
+        let KeyList {
+            numbers: _,
+            next: _,
+        } = self;
+    }
 }
 
 impl<K: Ord> Model for KeyList<K> {

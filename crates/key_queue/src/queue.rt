@@ -26,12 +26,17 @@ pub trait KeyTest<K> {
 /// Keys are found by their hashes. Their seed is fixed, so whoever chooses keys can choose such that collide, and a key is then looked
 /// for among all of these. To take the first key of a hash set moves all behind it, so the keys at the front are kept in
 /// reverse, in a set whose last key leaves. Where none is left there, the keys behind are turned over, each once on its way through.
-#[derive(Drop)]
 pub struct KeyQueue<K: Eq + Hash> {
     /// The keys at the front, the first one last.
     front: IndexSet<K>,
     /// Those behind them, in their order.
     back: IndexSet<K>,
+}
+
+impl<K: Eq + Hash + Drop> Drop for KeyQueue<K> {
+    fn drop(self) {
+        let KeyQueue { front: _, back: _ } = self;
+    }
 }
 
 impl<K: Eq + Hash> Model for KeyQueue<K> {

@@ -4,7 +4,7 @@ ghost use Rattle.serde_json.specs.View.{view};
 ghost use Rattle.json_fields.specs.Reading.{Gives};
 ghost use Rattle.kube_events.specs.BgpFields.{route_spec_of, choice_spec_of, bgp_of, bgp_with};
 
-use crate::fields::{in_turn, name_of};
+use crate::fields::in_turn;
 use json_fields::{FieldFault, list, number_or, with_default};
 use kube_labels::TextList;
 use kube_model::{BgpAdv, Key, LengthV4, LengthV6, SelectorTexts};
@@ -85,7 +85,7 @@ pub(crate) fn bgp_with(key: Key, spec: BgpSpec) -> BgpAdv
 {
     let BgpSpec { route, choice } = spec;
     BgpAdv {
-        name: name_of(key),
+        name: key.into_name(),
         length: route.length,
         length_v6: route.length_v6,
         local_pref: route.local_pref,

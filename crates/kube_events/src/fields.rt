@@ -40,15 +40,6 @@ pub(crate) fn pair_value(alloc: Global, pairs: &Labels, name: &str) -> Result<Te
     }
 }
 
-/// The name of an object that has no namespace.
-pub(crate) fn name_of(key: Key) -> Text
-    ensures { result ≡ key.name }
-{
-    let Key { namespace, name } = key;
-    drop(namespace);
-    name
-}
-
 /// What both read, or the first fault.
 pub(crate) fn in_turn<A: Drop, B: Drop>(
     first: Result<A, FieldFault>,

@@ -4,7 +4,7 @@ ghost use Rattle.serde_json.specs.View.{view};
 ghost use Rattle.json_fields.specs.Reading.{Gives};
 ghost use Rattle.kube_events.specs.L2Fields.{l2_of, l2_with};
 
-use crate::fields::{in_turn, name_of};
+use crate::fields::in_turn;
 use json_fields::{FieldFault, list};
 use kube_labels::TextList;
 use kube_model::{Key, L2Adv, SelectorTexts};
@@ -44,7 +44,7 @@ pub(crate) fn l2_with(key: Key, spec: L2Spec) -> L2Adv
     ensures { result ≡ l2_with spec key }
 {
     L2Adv {
-        name: name_of(key),
+        name: key.into_name(),
         pools: spec.pools,
         pool_selectors: spec.pool_selectors,
         node_selectors: spec.node_selectors,

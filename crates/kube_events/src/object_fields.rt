@@ -6,7 +6,7 @@ ghost use Rattle.kube_events.specs.ObjectFields.{body_of, object_with, stated_ob
 
 use crate::bgp_fields::{BgpSpec, bgp_spec, bgp_with};
 use crate::community_fields::named_values;
-use crate::fields::{key_from, name_of};
+use crate::fields::key_from;
 use crate::l2_fields::{L2Spec, l2_spec, l2_with};
 use crate::named::Version;
 use crate::peer_fields::{PeerSpec, peer_spec, peer_with};
@@ -70,15 +70,15 @@ fn object_with(key: Key, labels: Labels, spec: Spec) -> Object
         }
         Spec::Community(values) => {
             drop(labels);
-            let name = name_of(key);
+            let name = key.into_name();
             Object::Community(CommunityList { name, values })
         }
         Spec::Namespace => {
-            let name = name_of(key);
+            let name = key.into_name();
             Object::Namespace(Namespace { name, labels })
         }
         Spec::Node => {
-            let name = name_of(key);
+            let name = key.into_name();
             Object::Node(Node { name, labels })
         }
         Spec::Slice(spec) => {

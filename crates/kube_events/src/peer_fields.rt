@@ -4,7 +4,6 @@ ghost use Rattle.serde_json.specs.View.{view};
 ghost use Rattle.json_fields.specs.Reading.{Gives};
 ghost use Rattle.kube_events.specs.PeerFields.{peer_of, peer_with};
 
-use crate::fields::name_of;
 use json_fields::{FieldFault, list, required_number};
 use kube_model::{BgpPeer, Key, SelectorTexts};
 use serde_json::Value;
@@ -36,7 +35,7 @@ pub(crate) fn peer_with(key: Key, spec: PeerSpec) -> BgpPeer
     ensures { result ≡ peer_with spec key }
 {
     BgpPeer {
-        name: name_of(key),
+        name: key.into_name(),
         my_asn: spec.my_asn,
         peer_asn: spec.peer_asn,
         node_selectors: spec.node_selectors,

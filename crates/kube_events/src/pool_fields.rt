@@ -4,7 +4,6 @@ ghost use Rattle.serde_json.specs.View.{view};
 ghost use Rattle.json_fields.specs.Reading.{Gives};
 ghost use Rattle.kube_events.specs.PoolFields.{pool_of, pool_with};
 
-use crate::fields::name_of;
 use json_fields::{FieldFault, list, optional, with_default};
 use kube_labels::{Labels, TextList};
 use kube_model::{Allocation, Key, Pool};
@@ -40,7 +39,7 @@ pub(crate) fn pool_with(key: Key, labels: Labels, spec: PoolSpec) -> Pool
     ensures { result ≡ pool_with spec key labels }
 {
     Pool {
-        name: name_of(key),
+        name: key.into_name(),
         labels,
         entries: spec.entries,
         auto_assign: spec.auto_assign,

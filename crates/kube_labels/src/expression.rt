@@ -6,11 +6,21 @@ use crate::{Labels, Operator, SelectorFault, Text, TextList};
 use mlb_base::{NoMemory, Sequence, TryCopy};
 
 /// A set-based requirement on one key (Kubernetes, LabelSelectorRequirement), not yet checked.
-#[derive(Debug, Drop, PartialEq)]
+#[derive(Debug, PartialEq)]
 pub struct Expression {
     pub key: Text,
     pub operator: Text,
     pub values: TextList,
+}
+
+impl Drop for Expression {
+    fn drop(self) {
+        let Expression {
+            key: _,
+            operator: _,
+            values: _,
+        } = self;
+    }
 }
 
 /// A list of expressions.

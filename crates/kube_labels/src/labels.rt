@@ -11,9 +11,15 @@ use std::marker::Model;
 
 /// Names with values, as in `metadata.labels` (Kubernetes, "Labels and Selectors"). Contracts see the
 /// pairs, whose names ascend by their bytes, so that no two are the same.
-#[derive(Debug, Drop)]
+#[derive(Debug)]
 pub struct Labels {
     values: BTreeMap<String, Text>,
+}
+
+impl Drop for Labels {
+    fn drop(self) {
+        let Labels { values: _ } = self;
+    }
 }
 
 impl Model for Labels {

@@ -9,10 +9,19 @@ use mlb_base::{NoMemory, Sequence, TryCopy};
 use std::marker::Model;
 
 /// A label selector (Kubernetes, LabelSelector), each of whose expressions is well formed.
-#[derive(Debug, Drop, PartialEq)]
+#[derive(Debug, PartialEq)]
 pub struct Selector {
     labels: Labels,
     expressions: ExpressionList,
+}
+
+impl Drop for Selector {
+    fn drop(self) {
+        let Selector {
+            labels: _,
+            expressions: _,
+        } = self;
+    }
 }
 
 /// A list of selectors.

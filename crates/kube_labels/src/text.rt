@@ -14,9 +14,14 @@ use std::hash::{Hash, Hasher};
 use std::marker::Model;
 
 /// An owned text, which contracts see as its UTF-8 bytes. Equality and order are those of the bytes, unsigned.
-#[derive(Drop)]
 pub struct Text {
     text: String,
+}
+
+impl Drop for Text {
+    fn drop(self) {
+        let Text { text: _ } = self;
+    }
 }
 
 /// A list of texts.
@@ -54,7 +59,8 @@ impl Text {
     pub fn into_string(self) -> String
         ensures { string_bytes result ≡ self }
     {
-        self.text
+        let Text { text } = self;
+        text
     }
 
     /// The same text, borrowed.

@@ -7,7 +7,6 @@ use kube_labels::{Text, TextList};
 use mlb_base::{NoMemory, TryCopy};
 
 /// A MetalLB BGPAdvertisement.
-#[derive(Drop)]
 pub struct BgpAdv {
     pub name: Text,
     /// `spec.aggregationLength`.
@@ -26,6 +25,22 @@ pub struct BgpAdv {
     pub node_selectors: SelectorTexts,
     /// `spec.peers`.
     pub peers: TextList,
+}
+
+impl Drop for BgpAdv {
+    fn drop(self) {
+        let BgpAdv {
+            name: _,
+            length: _,
+            length_v6: _,
+            local_pref: _,
+            communities: _,
+            pools: _,
+            pool_selectors: _,
+            node_selectors: _,
+            peers: _,
+        } = self;
+    }
 }
 
 impl TryCopy for BgpAdv {

@@ -5,10 +5,15 @@ use kube_labels::{NamedValues, Text};
 use mlb_base::{NoMemory, TryCopy};
 
 /// A MetalLB Community: `spec.communities`, the names with their values.
-#[derive(Drop)]
 pub struct CommunityList {
     pub name: Text,
     pub values: NamedValues,
+}
+
+impl Drop for CommunityList {
+    fn drop(self) {
+        let CommunityList { name: _, values: _ } = self;
+    }
 }
 
 impl TryCopy for CommunityList {

@@ -55,11 +55,21 @@ impl Cause {
 }
 
 /// What is wrong, and the object that is named for it.
-#[derive(Debug, Drop)]
+#[derive(Debug)]
 pub struct ConfigFault {
     pub cause: Cause,
     pub kind: Kind,
     pub name: Text,
+}
+
+impl Drop for ConfigFault {
+    fn drop(self) {
+        let ConfigFault {
+            cause: _,
+            kind: _,
+            name: _,
+        } = self;
+    }
 }
 
 impl TryCopy for ConfigFault {

@@ -8,9 +8,14 @@ use std::alloc::Global;
 use std::marker::Model;
 
 /// One or two distinct families, in the order in which they are wanted.
-#[derive(Drop)]
 pub struct FamilyList {
     families: Sequence<Family>,
+}
+
+impl Drop for FamilyList {
+    fn drop(self) {
+        let FamilyList { families: _ } = self;
+    }
 }
 
 impl Model for FamilyList {

@@ -1,4 +1,5 @@
 //! The keys of objects.
+ghost use Rattle.std.specs.Prelude.{◌≡◌};
 
 use crate::copies::copied;
 use kube_labels::Text;
@@ -6,10 +7,29 @@ use mlb_base::{NoMemory, TryCopy};
 
 /// What an object is known by among those of its kind. A kind without namespaces has the empty one.
 /// Keys are ordered by namespace, then by name, both in byte order.
-#[derive(Debug, Drop, PartialEq, Eq, PartialOrd, Ord, Hash)]
+#[derive(Debug, PartialEq, Eq, PartialOrd, Ord, Hash)]
 pub struct Key {
     pub namespace: Text,
     pub name: Text,
+}
+
+impl Drop for Key {
+    fn drop(self) {
+        let Key {
+            namespace: _,
+            name: _,
+        } = self;
+    }
+}
+
+impl Key {
+    /// The name alone.
+    pub fn into_name(self) -> Text
+        ensures { result ≡ self.name }
+    {
+        let Key { namespace: _, name } = self;
+        name
+    }
 }
 
 impl TryCopy for Key {

@@ -6,7 +6,6 @@ use kube_labels::{Text, TextList};
 use mlb_base::{NoMemory, TryCopy};
 
 /// A MetalLB L2Advertisement.
-#[derive(Drop)]
 pub struct L2Adv {
     pub name: Text,
     /// `spec.ipAddressPools`.
@@ -17,6 +16,18 @@ pub struct L2Adv {
     pub node_selectors: SelectorTexts,
     /// `spec.interfaces`.
     pub interfaces: TextList,
+}
+
+impl Drop for L2Adv {
+    fn drop(self) {
+        let L2Adv {
+            name: _,
+            pools: _,
+            pool_selectors: _,
+            node_selectors: _,
+            interfaces: _,
+        } = self;
+    }
 }
 
 impl TryCopy for L2Adv {

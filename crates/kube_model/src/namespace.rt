@@ -5,10 +5,15 @@ use kube_labels::{Labels, Text};
 use mlb_base::{NoMemory, TryCopy};
 
 /// A Kubernetes Namespace.
-#[derive(Drop)]
 pub struct Namespace {
     pub name: Text,
     pub labels: Labels,
+}
+
+impl Drop for Namespace {
+    fn drop(self) {
+        let Namespace { name: _, labels: _ } = self;
+    }
 }
 
 impl TryCopy for Namespace {

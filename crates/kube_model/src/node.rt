@@ -5,10 +5,15 @@ use kube_labels::{Labels, Text};
 use mlb_base::{NoMemory, TryCopy};
 
 /// A Kubernetes Node.
-#[derive(Drop)]
 pub struct Node {
     pub name: Text,
     pub labels: Labels,
+}
+
+impl Drop for Node {
+    fn drop(self) {
+        let Node { name: _, labels: _ } = self;
+    }
 }
 
 impl TryCopy for Node {

@@ -6,7 +6,6 @@ use kube_labels::Text;
 use mlb_base::{NoMemory, TryCopy};
 
 /// A MetalLB BGPPeer. The numbers of autonomous systems are from 1.
-#[derive(Drop)]
 pub struct BgpPeer {
     pub name: Text,
     /// `spec.myASN`.
@@ -15,6 +14,17 @@ pub struct BgpPeer {
     pub peer_asn: u32,
     /// `spec.nodeSelectors`.
     pub node_selectors: SelectorTexts,
+}
+
+impl Drop for BgpPeer {
+    fn drop(self) {
+        let BgpPeer {
+            name: _,
+            my_asn: _,
+            peer_asn: _,
+            node_selectors: _,
+        } = self;
+    }
 }
 
 impl TryCopy for BgpPeer {

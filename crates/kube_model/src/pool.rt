@@ -6,7 +6,6 @@ use kube_labels::{Labels, Text, TextList};
 use mlb_base::{NoMemory, TryCopy};
 
 /// A MetalLB IPAddressPool.
-#[derive(Drop)]
 pub struct Pool {
     pub name: Text,
     pub labels: Labels,
@@ -20,14 +19,37 @@ pub struct Pool {
     pub allocation: Option<Allocation>,
 }
 
+impl Drop for Pool {
+    fn drop(self) {
+        let Pool {
+            name: _,
+            labels: _,
+            entries: _,
+            auto_assign: _,
+            avoid_buggy: _,
+            allocation: _,
+        } = self;
+    }
+}
+
 /// Which services a pool serves, and when its turn comes.
-#[derive(Drop)]
 pub struct Allocation {
     /// From 1, the least first; 0 comes last. At most 2147483647.
     pub priority: u32,
     pub namespaces: TextList,
     pub namespace_selectors: SelectorTexts,
     pub service_selectors: SelectorTexts,
+}
+
+impl Drop for Allocation {
+    fn drop(self) {
+        let Allocation {
+            priority: _,
+            namespaces: _,
+            namespace_selectors: _,
+            service_selectors: _,
+        } = self;
+    }
 }
 
 impl TryCopy for Allocation {

@@ -9,7 +9,7 @@ use std::alloc::Global;
 
 /// The addresses that a service's status holds, with the pool that they are from and the terms under
 /// which they were given. An empty record has no addresses, no pool and no mark.
-#[derive(Drop, PartialEq)]
+#[derive(PartialEq)]
 pub struct Record {
     /// The addresses of `status.loadBalancer.ingress`, in its order.
     pub addresses: AddressList,
@@ -17,6 +17,16 @@ pub struct Record {
     pub pool: Text,
     /// The annotation `metallb.io/ip-held-as`, empty where it is absent.
     pub mark: Text,
+}
+
+impl Drop for Record {
+    fn drop(self) {
+        let Record {
+            addresses: _,
+            pool: _,
+            mark: _,
+        } = self;
+    }
 }
 
 impl Record {

@@ -5,12 +5,20 @@ use kube_labels::{ExpressionList, Labels};
 use mlb_base::{NoMemory, Sequence, TryCopy};
 
 /// The parts of a Kubernetes label selector, as they are written.
-#[derive(Drop)]
 pub struct SelectorText {
     /// `matchLabels`.
     pub labels: Labels,
     /// `matchExpressions`.
     pub expressions: ExpressionList,
+}
+
+impl Drop for SelectorText {
+    fn drop(self) {
+        let SelectorText {
+            labels: _,
+            expressions: _,
+        } = self;
+    }
 }
 
 /// A list of selectors that are not yet checked.

@@ -30,7 +30,6 @@ pub enum Policy {
 }
 
 /// A Kubernetes Service, as far as addresses are concerned.
-#[derive(Drop)]
 pub struct Service {
     pub key: Key,
     pub labels: Labels,
@@ -55,6 +54,26 @@ pub struct Service {
     pub wanted: Wanted,
     /// What its status and its annotations record.
     pub holding: Record,
+}
+
+impl Drop for Service {
+    fn drop(self) {
+        let Service {
+            key: _,
+            labels: _,
+            balancer: _,
+            class: _,
+            families: _,
+            prefer_dual: _,
+            policy: _,
+            selector: _,
+            ports: _,
+            share_key: _,
+            pool_asked: _,
+            wanted: _,
+            holding: _,
+        } = self;
+    }
 }
 
 impl TryCopy for Wanted {

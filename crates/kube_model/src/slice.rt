@@ -6,12 +6,21 @@ use kube_labels::Text;
 use mlb_base::{NoMemory, Sequence, TryCopy};
 
 /// A Kubernetes EndpointSlice.
-#[derive(Drop)]
 pub struct EndpointSlice {
     pub key: Key,
     /// The label `kubernetes.io/service-name`, empty where it is absent.
     pub service: Text,
     pub endpoints: EndpointList,
+}
+
+impl Drop for EndpointSlice {
+    fn drop(self) {
+        let EndpointSlice {
+            key: _,
+            service: _,
+            endpoints: _,
+        } = self;
+    }
 }
 
 /// One of the endpoints.

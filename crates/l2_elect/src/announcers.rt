@@ -19,10 +19,15 @@ use std::marker::Model;
 use std::mem;
 
 /// The name of the announcer of each address that has one, by ascending address: IPv4 before IPv6. So contracts see it, as a list.
-#[derive(Drop)]
 pub struct Announcers {
     alloc: Global,
     names: BTreeMap<Address, Text>,
+}
+
+impl Drop for Announcers {
+    fn drop(self) {
+        let Announcers { alloc: _, names: _ } = self;
+    }
 }
 
 impl Model for Announcers {

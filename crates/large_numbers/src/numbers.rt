@@ -26,9 +26,14 @@ impl TryCopy for LargeCommunity {
 }
 
 /// Large communities, ascending, each once.
-#[derive(Drop)]
 pub struct LargeNumbers {
     numbers: Sequence<LargeCommunity>,
+}
+
+impl Drop for LargeNumbers {
+    fn drop(self) {
+        let LargeNumbers { numbers: _ } = self;
+    }
 }
 
 impl Model for LargeNumbers {

@@ -14,11 +14,20 @@ use std::marker::Model;
 ///
 /// Of a set that is made for such searches closed numbers are kept besides: its own, and the edges right behind them. Blocks that are
 /// full but for their edges are one run of these, so that a search takes the logarithm of the number of runs.
-#[derive(Drop)]
 pub struct BlockSet {
     numbers: NumberRuns,
     closed: NumberRuns,
     closes: bool,
+}
+
+impl Drop for BlockSet {
+    fn drop(self) {
+        let BlockSet {
+            numbers: _,
+            closed: _,
+            closes: _,
+        } = self;
+    }
 }
 
 impl Model for BlockSet {

@@ -25,12 +25,21 @@ pub(crate) struct Run {
 ///
 /// There is memory for as many runs as there are numbers, so that taking a number out, which may cut a run in two, takes none.
 /// A look-up takes the logarithm of the number of runs. Where a number comes or goes, the runs behind it are moved or counted anew.
-#[derive(Drop)]
 pub struct NumberRuns {
     runs: Vec<Run>,
     /// For each run how many numbers are in those before it.
     before: Vec<usize>,
     count: usize,
+}
+
+impl Drop for NumberRuns {
+    fn drop(self) {
+        let NumberRuns {
+            runs: _,
+            before: _,
+            count: _,
+        } = self;
+    }
 }
 
 impl Model for NumberRuns {

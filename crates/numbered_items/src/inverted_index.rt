@@ -12,10 +12,15 @@ use std::marker::Model;
 /// An inverted index: under each term the numbers of the items that have it, in the order in which they were added. Terms that
 /// are equal have one list. Contracts see the terms with their lists, and say by `numbers_under` and `room_under` what a call does.
 /// A look-up takes the logarithm of the number of terms in comparisons.
-#[derive(Drop)]
 pub struct InvertedIndex<T: Ord> {
     alloc: Global,
     lists: BTreeMap<T, TermNumbers>,
+}
+
+impl<T: Ord + Drop> Drop for InvertedIndex<T> {
+    fn drop(self) {
+        let InvertedIndex { alloc: _, lists: _ } = self;
+    }
 }
 
 impl<T: Ord> Model for InvertedIndex<T> {

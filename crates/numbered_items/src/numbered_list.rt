@@ -15,10 +15,15 @@ use std::marker::Model;
 ///
 /// An item keeps its number when others are removed, and no number is given twice. So an item is found, put at the end and removed
 /// anywhere in the logarithm of the number of items.
-#[derive(Drop)]
 pub struct NumberedList<X> {
     slots: BTreeMap<u64, Option<X>>,
     next: u64,
+}
+
+impl<X: Drop> Drop for NumberedList<X> {
+    fn drop(self) {
+        let NumberedList { slots: _, next: _ } = self;
+    }
 }
 
 impl<X> Model for NumberedList<X> {

@@ -29,7 +29,6 @@ use std::mem;
 use versioned_map::VersionedMap;
 
 /// The objects of a cluster as they were last shown, which lists have ended, and the configuration in force.
-#[derive(Drop)]
 pub struct ObjectCache {
     alloc: Global,
     services: VersionedMap<Key, Service>,
@@ -41,6 +40,23 @@ pub struct ObjectCache {
     config_ended: bool,
     services_ended: bool,
     endpoints_ended: bool,
+}
+
+impl Drop for ObjectCache {
+    fn drop(self) {
+        let ObjectCache {
+            alloc: _,
+            services: _,
+            objects: _,
+            namespaces: _,
+            nodes: _,
+            slices: _,
+            config: _,
+            config_ended: _,
+            services_ended: _,
+            endpoints_ended: _,
+        } = self;
+    }
 }
 
 impl Model for ObjectCache {

@@ -8,7 +8,6 @@ use large_numbers::LargeNumbers;
 use mlb_base::Sequence;
 
 /// An IPAddressPool (MetalLB), with its entries and selectors read.
-#[derive(Drop)]
 pub struct CompiledPool {
     pub name: Text,
     pub labels: Labels,
@@ -22,8 +21,20 @@ pub struct CompiledPool {
     pub allocation: Option<CompiledAllocation>,
 }
 
+impl Drop for CompiledPool {
+    fn drop(self) {
+        let CompiledPool {
+            name: _,
+            labels: _,
+            spans: _,
+            auto_assign: _,
+            avoid_buggy: _,
+            allocation: _,
+        } = self;
+    }
+}
+
 /// Which services a pool serves, and when its turn comes (MetalLB, `serviceAllocation`).
-#[derive(Drop)]
 pub struct CompiledAllocation {
     /// From 1, the least first; 0 comes last.
     pub priority: u32,
@@ -33,8 +44,18 @@ pub struct CompiledAllocation {
     pub service_selectors: SelectorList,
 }
 
+impl Drop for CompiledAllocation {
+    fn drop(self) {
+        let CompiledAllocation {
+            priority: _,
+            namespaces: _,
+            namespace_selectors: _,
+            service_selectors: _,
+        } = self;
+    }
+}
+
 /// An L2Advertisement (MetalLB), with its selectors read.
-#[derive(Drop)]
 pub struct CompiledL2 {
     pub name: Text,
     /// Names of pools, which needn't be there.
@@ -45,8 +66,19 @@ pub struct CompiledL2 {
     pub interfaces: TextList,
 }
 
+impl Drop for CompiledL2 {
+    fn drop(self) {
+        let CompiledL2 {
+            name: _,
+            pools: _,
+            pool_selectors: _,
+            node_selectors: _,
+            interfaces: _,
+        } = self;
+    }
+}
+
 /// A BGPAdvertisement (MetalLB), with its selectors and communities read.
-#[derive(Drop)]
 pub struct CompiledBgp {
     pub name: Text,
     /// How long the prefixes of IPv4 are, from 1 to 32.
@@ -67,8 +99,24 @@ pub struct CompiledBgp {
     pub peers: TextList,
 }
 
+impl Drop for CompiledBgp {
+    fn drop(self) {
+        let CompiledBgp {
+            name: _,
+            length: _,
+            length_v6: _,
+            local_pref: _,
+            communities: _,
+            large: _,
+            pools: _,
+            pool_selectors: _,
+            node_selectors: _,
+            peers: _,
+        } = self;
+    }
+}
+
 /// A BGPPeer (MetalLB), with its selectors read.
-#[derive(Drop)]
 pub struct CompiledPeer {
     pub name: Text,
     /// The AS number of this side, from 1 (RFC 6793).
@@ -76,6 +124,17 @@ pub struct CompiledPeer {
     /// The AS number of the peer, from 1.
     pub peer_asn: u32,
     pub node_selectors: SelectorList,
+}
+
+impl Drop for CompiledPeer {
+    fn drop(self) {
+        let CompiledPeer {
+            name: _,
+            my_asn: _,
+            peer_asn: _,
+            node_selectors: _,
+        } = self;
+    }
 }
 
 /// A list of pools.

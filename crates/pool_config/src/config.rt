@@ -7,13 +7,24 @@ use std::marker::Model;
 
 /// A configuration that can be in force. The names in each list ascend by their bytes, so that no two are the same, no two spans
 /// overlap, of one pool or of two, and the advertisements have at most 512 communities and at most 128 large ones, each counted once.
-#[derive(Drop)]
 pub struct Config {
     pub pools: PoolList,
     pub l2: L2List,
     pub bgp: BgpList,
     pub peers: PeerList,
     pub(crate) index: SpanIndex,
+}
+
+impl Drop for Config {
+    fn drop(self) {
+        let Config {
+            pools: _,
+            l2: _,
+            bgp: _,
+            peers: _,
+            index: _,
+        } = self;
+    }
 }
 
 impl Model for Config {

@@ -11,9 +11,14 @@ use std::collections::BTreeSet;
 use std::marker::Model;
 
 /// Numbers of communities, ascending, each once.
-#[derive(Drop)]
 pub struct CommunityNumbers {
     numbers: Sequence<u32>,
+}
+
+impl Drop for CommunityNumbers {
+    fn drop(self) {
+        let CommunityNumbers { numbers: _ } = self;
+    }
 }
 
 impl Model for CommunityNumbers {

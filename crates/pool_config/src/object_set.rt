@@ -12,13 +12,24 @@ use versioned_map::{Shown, VersionedMap};
 
 /// The objects that make a configuration (MetalLB's IPAddressPools, L2Advertisements, BGPAdvertisements, BGPPeers and Communities),
 /// of each kind by name, each at the version that it was last shown with.
-#[derive(Drop)]
 pub struct ObjectSet {
     pub pools: VersionedMap<Text, Pool>,
     pub l2s: VersionedMap<Text, L2Adv>,
     pub bgps: VersionedMap<Text, BgpAdv>,
     pub peers: VersionedMap<Text, BgpPeer>,
     pub communities: VersionedMap<Text, CommunityList>,
+}
+
+impl Drop for ObjectSet {
+    fn drop(self) {
+        let ObjectSet {
+            pools: _,
+            l2s: _,
+            bgps: _,
+            peers: _,
+            communities: _,
+        } = self;
+    }
 }
 
 impl ObjectSet {

@@ -24,10 +24,15 @@ struct FamilyIndex {
 }
 
 /// The spans of both families.
-#[derive(Drop)]
 pub(crate) struct SpanIndex {
     v4: FamilyIndex,
     v6: FamilyIndex,
+}
+
+impl Drop for SpanIndex {
+    fn drop(self) {
+        let SpanIndex { v4: _, v6: _ } = self;
+    }
 }
 
 impl FamilyIndex {

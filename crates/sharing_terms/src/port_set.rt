@@ -9,9 +9,14 @@ use std::collections::BTreeSet;
 use std::marker::Model;
 
 /// Ports of protocols, distinct and ascending: TCP before UDP before SCTP, and by number. Contracts see their list.
-#[derive(Drop)]
 pub struct PortSet {
     ports: PortList,
+}
+
+impl Drop for PortSet {
+    fn drop(self) {
+        let PortSet { ports: _ } = self;
+    }
 }
 
 impl Model for PortSet {

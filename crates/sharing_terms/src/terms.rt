@@ -19,12 +19,21 @@ pub enum Backend {
 }
 
 /// The terms under which a service holds addresses.
-#[derive(Drop)]
 pub struct Terms {
     /// The sharing key, empty for none.
     pub key: Text,
     pub ports: PortSet,
     pub backend: Backend,
+}
+
+impl Drop for Terms {
+    fn drop(self) {
+        let Terms {
+            key: _,
+            ports: _,
+            backend: _,
+        } = self;
+    }
 }
 
 impl TryCopy for Backend {

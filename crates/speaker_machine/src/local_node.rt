@@ -12,12 +12,17 @@ use speaker_words::{InterfaceWord, SpeakerWords};
 use std::alloc::Global;
 
 /// An interface by which frames are sent.
-#[derive(Drop)]
 pub struct Interface {
     /// Its name.
     pub name: Text,
     /// Its hardware address.
     pub mac: [u8; 6],
+}
+
+impl Drop for Interface {
+    fn drop(self) {
+        let Interface { name: _, mac: _ } = self;
+    }
 }
 
 /// The next hops of routes.
@@ -30,7 +35,6 @@ pub struct NextHops {
 }
 
 /// Where a speaker runs.
-#[derive(Drop)]
 pub struct LocalNode {
     /// The name of its node.
     pub node: Text,
@@ -38,6 +42,16 @@ pub struct LocalNode {
     pub interfaces: Sequence<Interface>,
     /// With none, no routes are told.
     pub next_hops: Option<NextHops>,
+}
+
+impl Drop for LocalNode {
+    fn drop(self) {
+        let LocalNode {
+            node: _,
+            interfaces: _,
+            next_hops: _,
+        } = self;
+    }
 }
 
 impl LocalNode {

@@ -20,7 +20,6 @@ use std::alloc::Global;
 use std::marker::Model;
 
 /// Applies lines to a view, and tells what its node announces.
-#[derive(Drop)]
 pub struct Speaker {
     pub(crate) view: View,
     pub(crate) local: LocalNode,
@@ -28,6 +27,17 @@ pub struct Speaker {
     pub(crate) announcers: Option<Announcers>,
     // the routes of all peers by the view, where there is a next hop, once they are known
     pub(crate) routes: Option<KeptRoutes>,
+}
+
+impl Drop for Speaker {
+    fn drop(self) {
+        let Speaker {
+            view: _,
+            local: _,
+            announcers: _,
+            routes: _,
+        } = self;
+    }
 }
 
 impl Model for Speaker {

@@ -18,7 +18,6 @@ use std::alloc::Global;
 use std::collections::BTreeSet;
 
 /// What an event changes of what nodes announce.
-#[derive(Drop)]
 pub struct ViewChange {
     /// It may change what is announced at any address: a configuration was accepted, a list ended, or the members were told, or
     /// a node was shown or deleted.
@@ -26,6 +25,15 @@ pub struct ViewChange {
     /// Else the addresses at which it may, each once, ascending, IPv4 before IPv6: those that a service records that was shown or
     /// deleted, before and after, and those of the services of an endpoint slice.
     pub addresses: AddressList,
+}
+
+impl Drop for ViewChange {
+    fn drop(self) {
+        let ViewChange {
+            all: _,
+            addresses: _,
+        } = self;
+    }
 }
 
 /// Whether it may change all: a configuration was accepted, or the event reaches all.

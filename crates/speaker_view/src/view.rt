@@ -38,7 +38,6 @@ use versioned_map::VersionedMap;
 
 /// What a speaker sees: the objects of the cluster as they were last shown, the configuration in force, and the nodes whose
 /// speakers are active.
-#[derive(Drop)]
 pub struct View {
     class: Option<Text>,
     cache: ObjectCache,
@@ -46,6 +45,19 @@ pub struct View {
     no_labels: Labels,
     index: Index,
     alloc: Global,
+}
+
+impl Drop for View {
+    fn drop(self) {
+        let View {
+            class: _,
+            cache: _,
+            members: _,
+            no_labels: _,
+            index: _,
+            alloc: _,
+        } = self;
+    }
 }
 
 impl Model for View {

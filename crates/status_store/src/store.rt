@@ -20,11 +20,20 @@ use std::marker::Model;
 /// A cluster's objects as its API server keeps them: each change takes the next version of one counter, from 1, and the
 /// object that was changed has that version (Kubernetes' `metadata.resourceVersion`). Objects stand by kind, in the order
 /// in which kinds are declared, and then by key.
-#[derive(Drop)]
 pub struct Store {
     alloc: Global,
     objects: StoredList,
     counter: u64,
+}
+
+impl Drop for Store {
+    fn drop(self) {
+        let Store {
+            alloc: _,
+            objects: _,
+            counter: _,
+        } = self;
+    }
 }
 
 impl Model for Store {

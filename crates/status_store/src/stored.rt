@@ -12,10 +12,18 @@ use std::mem;
 
 /// An object that is stored, at the version of its last change, which is at least 1. Kubernetes has it in
 /// `metadata.resourceVersion`.
-#[derive(Drop)]
 pub struct Stored {
     pub version: u64,
     pub object: Object,
+}
+
+impl Drop for Stored {
+    fn drop(self) {
+        let Stored {
+            version: _,
+            object: _,
+        } = self;
+    }
 }
 
 /// A list of stored objects.

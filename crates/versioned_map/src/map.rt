@@ -33,10 +33,15 @@ pub enum Shown<T> {
 
 /// Objects by key, each at a version, which contracts see as the list of its entries by ascending key.
 /// A look-up takes the logarithm of their number in comparisons of keys.
-#[derive(Drop)]
 pub struct VersionedMap<K: Ord, T> {
     alloc: Global,
     held: BTreeMap<K, Versioned<T>>,
+}
+
+impl<K: Ord + Drop, T: Drop> Drop for VersionedMap<K, T> {
+    fn drop(self) {
+        let VersionedMap { alloc: _, held: _ } = self;
+    }
 }
 
 impl<K: Ord, T> Model for VersionedMap<K, T> {

@@ -167,6 +167,9 @@ pub none-left : (runs : RunsValue) (claims : IndexValue ℕ) → AreListed runs 
 none-left runs claims are none =
     λ i n. nil-from (numbers_under nat_cmp claims n) (ap (λ (f : ℕ → Bool). f n) (sym none) ∙ ap (λ (f : ℕ → Bool). f n) are) i
 
+pub none-held-there : (runs : RunsValue) (claims : IndexValue ℕ) → AreListed runs claims → numbers_under nat_cmp claims ≡ (λ n. []) → has runs ≡ (λ n. false)
+none-held-there runs claims are none = are ∙ (λ i n. not (is_nil (none i n)))
+
 -- ---- what one list of claims has beyond another
 module _ (runs fewer : RunsValue) (claims others : IndexValue ℕ) (are : AreListed runs claims) (others_are : AreListed fewer others) where
   abbrev listed : IndexValue ℕ → ℕ → Bool

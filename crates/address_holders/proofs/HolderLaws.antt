@@ -33,6 +33,11 @@ module _ (four six : HoldersValue) where
       → claims_having (both four six) slot ≡ (λ a. [])
   none-having slot in_four in_six = λ i a. by-family (λ family. claims_at (in_slot (both four six) slot family)) (λ family n. []) in_four in_six a i
 
+  -- and where no claim has an address, none has one of a family
+  pub none-of : (family : Family) (slot : NumberedSlot) → claims_having (both four six) slot ≡ (λ a. [])
+      → claims_at (in_slot (both four six) slot family) ≡ (λ n. [])
+  none-of family slot none = λ i n. none i (address_of family n)
+
   module _ (new_four new_six : HoldersValue) where
     pub same-having : (slot : NumberedSlot) → claims_at (in_slot_at new_four slot) ≡ claims_at (in_slot_at four slot)
         → claims_at (in_slot_at new_six slot) ≡ claims_at (in_slot_at six slot)

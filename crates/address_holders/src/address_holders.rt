@@ -1,5 +1,5 @@
 //! Who has the addresses of both families.
-ghost use Rattle.std.specs.Prelude.{◌≡◌, ◌≤◌, ◌<◌, ◌+◌, ◌==◌, ◌∷◌, ◌++◌, [], true, false, not, filter, if◌then◌else◌, IsTrue, OnOk, IfSome, IfNone};
+ghost use Rattle.std.specs.Prelude.{◌≡◌, ◌↔◌, ◌≤◌, ◌<◌, ◌+◌, ◌==◌, ◌∷◌, ◌++◌, [], true, false, not, filter, if◌then◌else◌, IsTrue, OnOk, IfSome, IfNone};
 ghost use Rattle.ip_ranges.specs.declared.family.Family.{Family};
 ghost use Rattle.ip_ranges.specs.Values.{AddressValue, same_address};
 ghost use Rattle.mlb_base.specs.Items.{is_nil};
@@ -95,9 +95,9 @@ impl AddressHolders {
         }
     }
 
-    /// Whether no claim is listed in the slot, as is so where it has no list.
+    /// Whether no claim is listed in the slot.
     pub fn is_unused(&self, slot: &NumberedSlot) -> bool
-        ensures { IsTrue result → claims_having self.now slot.now ≡ (λ a. []) }
+        ensures { IsTrue result ↔ (claims_having self.now slot.now ≡ (λ a. [])) }
     {
         self.v4.is_unused(slot) && self.v6.is_unused(slot)
     }

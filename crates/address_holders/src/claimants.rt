@@ -1,5 +1,5 @@
 //! The claims that are listed at the addresses of one family.
-ghost use Rattle.std.specs.Prelude.{◌≡◌, ◌≤◌, ◌<◌, ◌+◌, ◌==◌, ℕ, ◌∷◌, ◌++◌, [], true, not, filter, if◌then◌else◌, IsTrue, OnOk, IfOk, IfSome, IfNone};
+ghost use Rattle.std.specs.Prelude.{◌≡◌, ◌↔◌, ◌≤◌, ◌<◌, ◌+◌, ◌==◌, ℕ, ◌∷◌, ◌++◌, [], true, not, filter, if◌then◌else◌, IsTrue, OnOk, IfOk, IfSome, IfNone};
 ghost use Rattle.mlb_base.specs.Items.{is_nil};
 ghost use Rattle.address_holders.specs.Holders.{claims_at, claim_room_at, is_listed, is_listed_but, is_open_at};
 ghost use Rattle.number_sets.specs.Least.{IsLeastIn, NonePasses};
@@ -131,7 +131,7 @@ impl Claimants {
 
     /// Whether no claim is listed at any address.
     pub(crate) fn is_empty(&self) -> bool
-        ensures { IsTrue result → claims_at self.now ≡ (λ n. []) }
+        ensures { IsTrue result ↔ (claims_at self.now ≡ (λ n. [])) }
     {
         self.held.is_empty()
     }

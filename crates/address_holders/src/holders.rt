@@ -1,5 +1,5 @@
 //! Who has the addresses of one family.
-ghost use Rattle.std.specs.Prelude.{◌≡◌, ◌≤◌, ◌<◌, ◌+◌, ◌==◌, ℕ, ◌∷◌, ◌++◌, [], true, false, not, filter, if◌then◌else◌, IsTrue, OnOk, IfSome, IfNone};
+ghost use Rattle.std.specs.Prelude.{◌≡◌, ◌↔◌, ◌≤◌, ◌<◌, ◌+◌, ◌==◌, ℕ, ◌∷◌, ◌++◌, [], true, false, not, filter, if◌then◌else◌, IsTrue, OnOk, IfSome, IfNone};
 ghost use Rattle.mlb_base.specs.Items.{is_nil};
 ghost use Rattle.address_holders.specs.declared.slot.NumberedSlot.{NumberedSlot};
 ghost use Rattle.address_holders.specs.Holders.{claims_at, claim_room_at, in_slot_at, is_listed, is_listed_but, is_open_at};
@@ -104,11 +104,14 @@ impl Holders {
         let _empty = self.by_slot.remove(slot);
     }
 
-    /// Whether no claim is listed in the slot, as is so where there is none.
+    /// Whether no claim is listed in the slot.
     pub(crate) fn is_unused(&self, slot: &NumberedSlot) -> bool
-        ensures { IsTrue result → claims_at (in_slot_at self.now slot.now) ≡ (λ n. []) }
+        ensures { IsTrue result ↔ (claims_at (in_slot_at self.now slot.now) ≡ (λ n. [])) }
     {
-        self.by_slot.get(slot).is_none()
+        match self.by_slot.get(slot) {
+            Some(claimants) => claimants.is_empty(),
+            None => true,
+        }
     }
 
     /// The numbers of the claims that are listed in the slot at the address.

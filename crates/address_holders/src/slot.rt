@@ -18,7 +18,7 @@ pub enum NumberedSlot {
 
 impl NumberedSlot {
     /// Whether it is the list of all claims.
-    pub fn is_any(&self) -> bool
+    pub(crate) fn is_any(&self) -> bool
         ensures { result ≡ same_slot self.now Any }
     {
         matches!(self, NumberedSlot::Any)

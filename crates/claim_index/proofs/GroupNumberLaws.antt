@@ -6,13 +6,20 @@ use Rattle.std.proofs.lemmas.Slice.Eq.{bytes_eq-Decides}
 use Rattle.std.specs.BTreeMap.{BTreeMap, is_at, Updates}
 use Rattle.std.specs.Cmp.Lexicographic.{slice_cmp}
 use Rattle.std.specs.Map.{lookup}
+use Rattle.std.specs.Option.{option_and_then}
 use Rattle.std.specs.Ordering.{nat_cmp}
 use Rattle.std.specs.Str.{bytes_eq}
-use Rattle.claim_index.specs.GroupNumbers.{GroupsValue, AreNumbered, AreMore, IsNumbered, number_of}
+use Rattle.sharing_terms.specs.declared.terms.Terms.{Terms}
+use Rattle.claim_index.specs.GroupNumbers.{GroupsValue, AreNumbered, AreMore, IsNumbered, number_of, number_for}
+use Rattle.claim_index.specs.SharingGroups.{group_of}
 
 -- what a map has for a text is found by comparing bytes
 pub looked-up : (group : List ℕ) (entries : List (List ℕ × ℕ)) → lookup (is_at (slice_cmp nat_cmp group)) entries ≡ lookup (bytes_eq group) entries
 looked-up group entries = ap (λ (test : List ℕ → Bool). lookup test entries) (λ i s. is_eq-slice_cmp group s i)
+
+-- the number for terms is that of their group
+pub number-of-group : (groups : GroupsValue) (t : Terms) (group : List ℕ) → Some group ≡ group_of t → number_for groups t ≡ number_of groups group
+number-of-group groups t group is = ap (λ (g : Option (List ℕ)). option_and_then (number_of groups) g) (sym is)
 
 abbrev pub groups_in : BTreeMap (List ℕ) ℕ → ℕ → GroupsValue
 groups_in m next = record { numbers = m.entries; next = next }

@@ -25,9 +25,9 @@ use Rattle.sharing_terms.proofs.SharingLaws.{same_port-is, same_port-itself}
 use Rattle.address_holders.specs.declared.slot.NumberedSlot.{NumberedSlot}
 use Rattle.address_holders.specs.declared.slot.NumberedSlot.TheVariants.{Any, OfPort, OfSharingGroup}
 use Rattle.address_holders.specs.Holders.{AddressHoldersValue, in_slot, claims_at, claims_having, claim_room, address_room}
-use Rattle.claim_index.specs.Holders.{HasRoomAt}
+use Rattle.claim_index.specs.ListedClaims.{HasRoomAt}
 use Rattle.address_holders.specs.NumberedSlots.{same_slot}
-use Rattle.claim_index.specs.NumberedSlots.{is_slot_by, slots_by}
+use Rattle.claim_index.specs.GroupSlots.{is_slot_by, slots_by}
 use Rattle.address_holders.proofs.SlotLaws.{same_slot-is, same_slot-itself}
 use Rattle.claim_index.proofs.IndexGrowth.{room-same}
 

@@ -26,11 +26,11 @@ use Rattle.claim_index.specs.Room.{HasRoomFor}
 use Rattle.address_holders.specs.declared.slot.NumberedSlot.{NumberedSlot}
 use Rattle.address_holders.specs.declared.slot.NumberedSlot.TheVariants.{OfSharingGroup, OfPort}
 use Rattle.claim_index.specs.GroupNumbers.{GroupsValue, AreNumbered, AreMore, HasNumber, number_for}
-use Rattle.claim_index.specs.NumberedSlots.{is_slot_by, numbered_slot}
+use Rattle.claim_index.specs.GroupSlots.{is_slot_by, numbered_slot}
 use Rattle.claim_index.specs.Slots.{Slot, occupies}
 use Rattle.claim_index.specs.SharingGroups.{HasSharingGroup}
 use Rattle.address_holders.specs.Holders.{AddressHoldersValue, ClaimantsValue, in_slot, claim_room_at, claims_having}
-use Rattle.claim_index.specs.Holders.{HasRoomAt, IsUnused, claims_in, listed_in}
+use Rattle.claim_index.specs.ListedClaims.{HasRoomAt, IsUnused, claims_in, listed_in}
 use Rattle.address_holders.specs.Holders.{claim_room, address_room}
 use Rattle.claim_index.proofs.NumberLaws.{added-in, added-unused, more-in, more-unused}
 use Rattle.claim_index.specs.Index.{IsIndexed, HaveSharingGroups, numbers_of, numbers_at, numbered, numbered_at, ends_with}

@@ -1,6 +1,6 @@
 -- What is left of a claim in the index once it was removed.
 use Rattle.std.proofs.Common.{◌≡◌, ℕ, ◌+◌, ◌<◌, ◌==◌, Bool, true, false, cond, not, ◌||◌, List, [], ◌∷◌, ◌++◌, filter, take}
-use Rattle.std.proofs.Common.{length, get_or, Option, Some, None, Less, refl, sym, ap, ◌∙◌, subst, arith, ⊎_elim, ◌⊎◌, inr}
+use Rattle.std.proofs.Common.{length, get_or, Option, Some, None, Less, refl, sym, ap, ◌∙◌, subst, ⊎_elim, ◌⊎◌, inr}
 use Rattle.std.proofs.lemmas.Bool.{true≢false, cases_Bool, eq-eqb, eqb-true}
 use Rattle.std.proofs.lemmas.Bool.Decides.{same_from_decides}
 use Rattle.std.proofs.lemmas.List.{take_more}
@@ -24,7 +24,7 @@ use Rattle.numbered_items.specs.Index.{IndexValue, numbers_under}
 use Rattle.claim_index.specs.Claims.{AreAssigned, ClaimValue}
 use Rattle.claim_index.specs.GroupNumbers.{GroupsValue}
 use Rattle.address_holders.specs.Holders.{AddressHoldersValue}
-use Rattle.claim_index.specs.Holders.{claims_in}
+use Rattle.claim_index.specs.ListedClaims.{claims_in}
 use Rattle.claim_index.specs.Index.{numbers_of, numbered, numbered_at, numbers_at, HaveSharingGroups, IsIndexed}
 use Rattle.claim_index.specs.Slots.{Slot}
 use Rattle.claim_index.specs.Slots.{occupies}

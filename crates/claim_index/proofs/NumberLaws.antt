@@ -21,9 +21,9 @@ use Rattle.address_holders.specs.declared.slot.NumberedSlot.TheVariants as numbe
 use Rattle.claim_index.specs.Claims.{ClaimValue}
 use Rattle.claim_index.specs.GroupNumbers.{GroupsValue, AreNumbered, AreMore, HasNumber, IsNumbered, number_of, number_for}
 use Rattle.address_holders.specs.Holders.{AddressHoldersValue, claims_having}
-use Rattle.claim_index.specs.Holders.{AreFewer, IsUnused, claims_in, listed_in}
+use Rattle.claim_index.specs.ListedClaims.{AreFewer, IsUnused, claims_in, listed_in}
 use Rattle.claim_index.specs.Index.{numbers_at, numbered, is_taken}
-use Rattle.claim_index.specs.NumberedSlots.{is_number, is_slot_by}
+use Rattle.claim_index.specs.GroupSlots.{is_number, is_slot_by}
 use Rattle.claim_index.specs.Removal.{left_at}
 use Rattle.claim_index.specs.SharingGroups.{sharing_group_of}
 use Rattle.claim_index.specs.Slots.{Slot, Any, OfSharingGroup, OfPort, is_member, occupies}

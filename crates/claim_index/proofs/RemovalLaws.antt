@@ -13,12 +13,12 @@ use Rattle.numbered_items.specs.Index.{IndexValue, numbers_under}
 use Rattle.address_holders.specs.declared.slot.NumberedSlot.{NumberedSlot}
 use Rattle.claim_index.specs.Claims.{ClaimValue}
 use Rattle.address_holders.specs.Holders.{AddressHoldersValue, in_slot, claims_at, claims_having}
-use Rattle.claim_index.specs.Holders.{AreFewer}
+use Rattle.claim_index.specs.ListedClaims.{AreFewer}
 use Rattle.claim_index.specs.Index.{IsIndexed}
 use Rattle.claim_index.specs.Removal.{all_but, left_at}
 use Rattle.claim_index.specs.GroupNumbers.{GroupsValue, AreNumbered, number_for}
 use Rattle.address_holders.specs.NumberedSlots.{same_slot}
-use Rattle.claim_index.specs.NumberedSlots.{is_slot_by, slots_by}
+use Rattle.claim_index.specs.GroupSlots.{is_slot_by, slots_by}
 use Rattle.claim_index.proofs.GrowthLaws.{among, occupied, or-none}
 use Rattle.claim_index.proofs.NumberLaws.{fewer-in, left-in, left-unused}
 use Rattle.address_holders.proofs.SlotLaws.{same_slot-is, same_slot-itself}

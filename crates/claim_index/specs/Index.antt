@@ -17,7 +17,7 @@ use Rattle.claim_index.specs.Claims.{AreAssigned, ClaimValue}
 use Rattle.claim_index.specs.Room.{IndexRoom}
 use Rattle.claim_index.specs.GroupNumbers.{GroupsValue}
 use Rattle.address_holders.specs.Holders.{AddressHoldersValue, address_of}
-use Rattle.claim_index.specs.Holders.{IsUnused, claims_in}
+use Rattle.claim_index.specs.ListedClaims.{IsUnused, claims_in}
 
 -- the numbers of the claims of the key
 abbrev pub numbers_of : Key → List (ℕ × ClaimValue) → List ℕ

@@ -1,9 +1,9 @@
 pub mod Alike
 pub mod Claims
 pub mod GroupNumbers
-pub mod NumberedSlots
+pub mod GroupSlots
 pub mod SharingGroups
-pub mod Holders
+pub mod ListedClaims
 pub mod Index
 pub mod Reading
 pub mod Removal

@@ -6,9 +6,9 @@ use Rattle.numbered_items.specs.Index.{IndexValue, room_under}
 use Rattle.address_holders.specs.declared.slot.NumberedSlot.{NumberedSlot}
 use Rattle.claim_index.specs.Claims.{ClaimValue}
 use Rattle.address_holders.specs.Holders.{AddressHoldersValue}
-use Rattle.claim_index.specs.Holders.{HasRoomAt}
+use Rattle.claim_index.specs.ListedClaims.{HasRoomAt}
 use Rattle.claim_index.specs.GroupNumbers.{GroupsValue, HasNumber, number_for}
-use Rattle.claim_index.specs.NumberedSlots.{is_slot_by}
+use Rattle.claim_index.specs.GroupSlots.{is_slot_by}
 
 -- By what the claims are found, and for what more there is room, without memory.
 pub record IndexRoom : Type 0 where

@@ -1,8 +1,10 @@
 //! The numbers of groups.
-ghost use Rattle.std.specs.Prelude.{◌≡◌, ◌≤◌, ℕ, List, Some, None, IfOk, OnOk, if◌then◌else◌};
+ghost use Rattle.std.specs.Prelude.{◌≡◌, ◌≤◌, ℕ, List, [], Some, None, IfOk, OnOk, if◌then◌else◌};
 ghost use Rattle.std.specs.Str.{bytes_eq};
+ghost use Rattle.address_holders.specs.declared.slot.NumberedSlot.TheVariants.{OfSharingGroup};
+ghost use Rattle.address_holders.specs.Holders.{claims_having};
 ghost use Rattle.claim_index.specs.GroupNumbers.{number_of, number_for, HasNumber, AreNumbered, AreMore};
-ghost use Rattle.claim_index.specs.Holders.{AreFewer};
+ghost use Rattle.claim_index.specs.ListedClaims.{AreFewer};
 ghost use Rattle.claim_index.specs.SharingGroups.{HasSharingGroup};
 
 use crate::grouped::GroupedTerms;
@@ -94,6 +96,8 @@ impl GroupNumbers {
     /// The group of the terms has no number any more where no claim is listed in its slot. It takes no memory.
     pub(crate) fn forget_unused(&mut self, terms: &GroupedTerms, holders: &AddressHolders)
         ensures numbers { AreFewer holders.now self.old self.new }
+        ensures unused { (n : ℕ) → number_for self.old terms.now ≡ Some n → claims_having holders.now (OfSharingGroup n) ≡ (λ a. [])
+            → number_for self.new terms.now ≡ None }
         ensures next { self.new.next ≡ self.old.next }
     {
         let Some(group) = terms.group() else {

@@ -1,14 +1,14 @@
 //! A claim gets room at its addresses, and is listed there.
-ghost use Rattle.std.specs.Prelude.{◌≡◌, ◌≤◌, ℕ, List, ◌++◌, [], true, false, length, if◌then◌else◌, OnOk};
+ghost use Rattle.std.specs.Prelude.{◌≡◌, ◌≤◌, ◌++◌, [], true, false, length, if◌then◌else◌, OnOk};
 ghost use Rattle.std.specs.List.{Contains};
 ghost use Rattle.ip_ranges.specs.declared.family.Family.{Family};
 ghost use Rattle.ip_ranges.specs.Values.{AddressValue};
 ghost use Rattle.address_holders.specs.declared.slot.NumberedSlot.{NumberedSlot};
 ghost use Rattle.address_holders.specs.Holders.{in_slot, claims_having, claim_room, address_room};
-ghost use Rattle.claim_index.specs.Holders.{HasRoomAt};
-ghost use Rattle.claim_index.specs.Index.{numbered, ends_with};
 ghost use Rattle.address_holders.specs.NumberedSlots.{same_slot};
-ghost use Rattle.claim_index.specs.NumberedSlots.{is_slot_by};
+ghost use Rattle.claim_index.specs.GroupSlots.{is_slot_by};
+ghost use Rattle.claim_index.specs.Index.{numbered, ends_with};
+ghost use Rattle.claim_index.specs.ListedClaims.{HasRoomAt};
 
 use crate::claims::Claim;
 use crate::slots::{slot_at, slots_with};

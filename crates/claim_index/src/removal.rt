@@ -2,9 +2,9 @@
 ghost use Rattle.std.specs.Prelude.{◌≡◌, false, if◌then◌else◌};
 ghost use Rattle.address_holders.specs.declared.slot.NumberedSlot.{NumberedSlot};
 ghost use Rattle.address_holders.specs.Holders.{in_slot, claims_having};
-ghost use Rattle.claim_index.specs.Removal.{left_at};
 ghost use Rattle.address_holders.specs.NumberedSlots.{same_slot};
-ghost use Rattle.claim_index.specs.NumberedSlots.{is_slot_by};
+ghost use Rattle.claim_index.specs.GroupSlots.{is_slot_by};
+ghost use Rattle.claim_index.specs.Removal.{left_at};
 
 use crate::claims::Claim;
 use crate::slots::{slot_at, slots_with};

@@ -1,6 +1,6 @@
 //! In which slots a claim is listed.
 ghost use Rattle.std.specs.Prelude.{◌≡◌, ◌+◌, length, slice_get};
-ghost use Rattle.claim_index.specs.NumberedSlots.{slots_by};
+ghost use Rattle.claim_index.specs.GroupSlots.{slots_by};
 
 use address_holders::NumberedSlot;
 use kube_model::Port;

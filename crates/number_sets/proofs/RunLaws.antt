@@ -1,9 +1,10 @@
 -- Lists of runs.
 use Rattle.std.proofs.Common.{◌≡◌, ◌≤◌, ◌<◌, ◌+◌, ℕ, zero, suc, Bool, true, false, cond, ◌||◌, eqb, leb, ltb, List, []}
 use Rattle.std.proofs.Common.{◌∷◌, ◌++◌, length, get_or, take, drop, Option, Some, None, refl, sym, ap, ◌∙◌, subst, arith}
-use Rattle.std.proofs.lemmas.Bool.{or_from, or_left, or_right, and_from, and_left, and_right, lt-leb, le-leb, eqb-true, ltb-true, ltb-false}
+use Rattle.std.proofs.lemmas.Bool.{or_from, or_left, or_right, and_from, and_left, and_right, lt-leb, le-leb, eqb-true, ltb-true, ltb-false, true≢false}
 use Rattle.std.proofs.lemmas.Option.{slice_get_within, get_or_from_slice_get}
 use Rattle.std.specs.List.{slice_get}
+use Rattle.std.specs.Prelude.{◌↔◌, ◌==◌}
 use Rattle.std.specs.Option.{IsSomeAnd}
 use Rattle.std.proofs.lemmas.List.Sorted.{IsPartitionedBy-ltb}
 use Rattle.std.specs.List.Sorted.{IsNonDecreasingBy, IsPartitionedBy, IsPartitionPoint}
@@ -113,6 +114,20 @@ has-at (x ∷ xs) zero r m e from to =
     let same : x ≡ r = cc in
     or_left (is_in_run m x) (has_number xs m) (ap (is_in_run m) same ∙ and_from (leb r.first m) (leb m r.last) (le-leb r.first m from) (le-leb m r.last to))
 has-at (x ∷ xs) (suc i) r m e from to = or_right (is_in_run m x) (has_number xs m) (has-at xs i r m e from to)
+
+-- there are no runs exactly where no number is in them
+abbrev IsEmptyWhere : List Run → ℕ → Type 0
+IsEmptyWhere runs len = ((len == 0) ≡ true) ↔ ◌≡◌ {A = ℕ → Bool} (has_number runs) (λ n. false)
+
+empty-by : (runs : List Run) → AreRunsFrom 0 runs → IsEmptyWhere runs (length runs)
+empty-by [] up = (λ yes. refl, λ none. refl)
+empty-by (r ∷ rs) up = (
+  λ yes. let none : length (r ∷ rs) ≡ 0 = eqb-true (length (r ∷ rs)) 0 yes in absurd (omega (arith, none)),
+  λ none. absurd (true≢false (sym (has-at (r ∷ rs) 0 r r.first refl (omega arith) up.1) ∙ ap (λ (f : ℕ → Bool). f r.first) none)),
+)
+
+pub no-runs : (runs : List Run) (len : ℕ) → len ≡ length runs → AreRunsFrom 0 runs → IsEmptyWhere runs len
+no-runs runs len counted up = subst (λ (n : ℕ). IsEmptyWhere runs n) (sym counted) (empty-by runs up)
 
 module _ (n : ℕ) (runs : List Run) (i : ℕ) (within : i ≤ length runs) (before : (k : ℕ) (d : Run) → k < i → (get_or runs k d).last < n) where
   pub absent-past : slice_get runs i ≡ None → has_number runs n ≡ false

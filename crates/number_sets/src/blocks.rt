@@ -1,5 +1,5 @@
 //! Sets of numbers in blocks, whose edges a search may pass over.
-ghost use Rattle.std.specs.Prelude.{◌≡◌, ◌≤◌, ◌<◌, ◌+◌, ◌==◌, ◌||◌, ◌&&◌, true, false, not, IsTrue, IfSome, IfNone, OnOk};
+ghost use Rattle.std.specs.Prelude.{◌≡◌, ◌↔◌, ◌≤◌, ◌<◌, ◌+◌, ◌==◌, ◌||◌, ◌&&◌, true, false, not, IsTrue, IfSome, IfNone, OnOk};
 ghost use Rattle.number_sets.specs.Blocks.{is_edge, is_open, IsLeft};
 ghost use Rattle.number_sets.specs.Counts.{is_beyond};
 ghost use Rattle.number_sets.specs.Least.{IsLeastIn, NonePasses};
@@ -89,7 +89,7 @@ impl BlockSet {
 
     /// Whether no number is in the set.
     pub fn is_empty(&self) -> bool
-        ensures { IsTrue result → has self.now ≡ (λ n. false) }
+        ensures { IsTrue result ↔ (has self.now ≡ (λ n. false)) }
     {
         self.numbers.is_empty()
     }

@@ -1,5 +1,5 @@
 //! Sets of numbers as sorted runs.
-ghost use Rattle.std.specs.Prelude.{◌≡◌, ◌≤◌, ◌<◌, ◌+◌, ◌-◌, ◌==◌, ◌||◌, ◌&&◌, true, false, not, length, take};
+ghost use Rattle.std.specs.Prelude.{◌≡◌, ◌↔◌, ◌≤◌, ◌<◌, ◌+◌, ◌-◌, ◌==◌, ◌||◌, ◌&&◌, true, false, not, length, take};
 ghost use Rattle.std.specs.Prelude.{slice_get, vec_len, vec_capacity, IsTrue, IsFalse, IfSome, IfNone, IsSomeAnd, OnOk};
 ghost use Rattle.number_sets.specs.Blocks.{IsLeft};
 ghost use Rattle.number_sets.specs.Counts.{count_below, is_beyond};
@@ -124,7 +124,7 @@ impl NumberRuns {
 
     /// Whether no number is in the set.
     pub fn is_empty(&self) -> bool
-        ensures { IsTrue result → has self.now ≡ (λ n. false) }
+        ensures { IsTrue result ↔ (has self.now ≡ (λ n. false)) }
     {
         self.runs.is_empty()
     }

@@ -3,7 +3,7 @@ use Rattle.std.specs.List.{slice_get}
 use Rattle.sharing_terms.specs.Ports.{AreAscending}
 use Rattle.sharing_terms.specs.declared.terms.Terms.{Terms}
 use Rattle.claim_index.specs.Index.{numbered}
-use Rattle.claim_index.specs.NumberedSlots.{slots_by}
+use Rattle.claim_index.specs.GroupSlots.{slots_by}
 use Rattle.claim_index.proofs.GrowthLaws.{AreApart, among, contained, fresh-next, listed-none, listed-next, listed-each, not-yet, occupied-each, room-here}
 use Rattle.claim_index.proofs.GrowthLaws.{room-behind, slot-shown, slots-all, slots-apart, slots-next, slots-past}
 use Rattle.claim_index.proofs.growth.add_claim.Goals as goal

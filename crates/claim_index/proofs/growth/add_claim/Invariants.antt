@@ -2,9 +2,9 @@ use Rattle.std.proofs.Common.{◌≡◌, length, take, drop}
 use Rattle.std.specs.List.{Contains}
 use Rattle.address_holders.specs.declared.slot.NumberedSlot.{NumberedSlot}
 use Rattle.address_holders.specs.Holders.{claims_having}
-use Rattle.claim_index.specs.Holders.{HasRoomAt}
+use Rattle.claim_index.specs.ListedClaims.{HasRoomAt}
 use Rattle.claim_index.specs.Index.{numbered}
-use Rattle.claim_index.specs.NumberedSlots.{slots_by}
+use Rattle.claim_index.specs.GroupSlots.{slots_by}
 use Rattle.claim_index.proofs.GrowthLaws.{among, with_more}
 use Rattle.claim_index.proofs.growth.add_claim.Given as goal
 

@@ -1,6 +1,6 @@
 use Rattle.std.proofs.Common.{◌+◌, Some, None, length, take, ap, ◌∙◌, arith}
 use Rattle.sharing_terms.specs.declared.terms.Terms.{Terms}
-use Rattle.claim_index.specs.NumberedSlots.{slots_by}
+use Rattle.claim_index.specs.GroupSlots.{slots_by}
 use Rattle.claim_index.proofs.GrowthLaws.{among, room-next, room-all, slot-shown, slots-all, slots-next, slots-past}
 use Rattle.claim_index.proofs.growth.reserve_claim.Goals as goal
 

@@ -3,7 +3,7 @@ use Rattle.ip_ranges.specs.declared.family.Family.{Family}
 use Rattle.ip_ranges.specs.Values.{AddressValue}
 use Rattle.address_holders.specs.declared.slot.NumberedSlot.{NumberedSlot}
 use Rattle.address_holders.specs.Holders.{claims_having, claim_room, address_room}
-use Rattle.claim_index.specs.Holders.{HasRoomAt}
+use Rattle.claim_index.specs.ListedClaims.{HasRoomAt}
 use Rattle.claim_index.proofs.growth.reserve_each.Given as goal
 
 abbrev pub invariant-loop-address : goal.invariant-loop-address

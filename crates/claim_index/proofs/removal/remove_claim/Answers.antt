@@ -1,7 +1,7 @@
 use Rattle.std.proofs.Common.{◌+◌, Some, None, length, take, ap, ◌∙◌, arith}
 use Rattle.sharing_terms.specs.declared.terms.Terms.{Terms}
 use Rattle.address_holders.specs.Holders.{claims_having}
-use Rattle.claim_index.specs.NumberedSlots.{slots_by}
+use Rattle.claim_index.specs.GroupSlots.{slots_by}
 use Rattle.claim_index.proofs.GrowthLaws.{among, slot-shown, slots-all, slots-next, slots-past}
 use Rattle.claim_index.proofs.RemovalLaws.{left-slot, left-all}
 use Rattle.claim_index.proofs.removal.remove_claim.Goals as goal

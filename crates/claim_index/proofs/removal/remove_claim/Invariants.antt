@@ -1,7 +1,7 @@
 use Rattle.std.proofs.Common.{◌≡◌, take}
 use Rattle.address_holders.specs.declared.slot.NumberedSlot.{NumberedSlot}
 use Rattle.address_holders.specs.Holders.{claims_having}
-use Rattle.claim_index.specs.NumberedSlots.{slots_by}
+use Rattle.claim_index.specs.GroupSlots.{slots_by}
 use Rattle.claim_index.proofs.GrowthLaws.{among}
 use Rattle.claim_index.proofs.RemovalLaws.{left_in}
 use Rattle.claim_index.proofs.removal.remove_claim.Given as goal

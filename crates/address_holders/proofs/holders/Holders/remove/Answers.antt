@@ -10,14 +10,14 @@ returns-in_default-clause-numbers c =
 
 pub drop_empty-requires : goal.drop_empty-requires
 drop_empty-requires c = ap claims_at (written-now c.args.slot.now c.self.inside.by_slot (c.get_mut.follows.lender c.remove.new.self) c.in-Some.claimants.now
-    c.remove.new.self c.in-Some.ensures.value (c.get_mut.follows.holds c.remove.new.self)) ∙ c.is_empty.ensures c.if-is_empty.true
+    c.remove.new.self c.in-Some.ensures.value (c.get_mut.follows.holds c.remove.new.self)) ∙ c.is_empty.ensures.0 c.if-is_empty.true
 
 pub returns-then-is_empty-clause-numbers : goal.returns-then-is_empty-clause-numbers
 returns-then-is_empty-clause-numbers c =
     rw (← c.self.view_is)
     (c.drop_empty.ensures.numbers
     ∙ sym (ap claims_at (written-now c.args.slot.now c.self.inside.by_slot (c.get_mut.follows.lender c.remove.new.self) c.in-Some.claimants.now
-    c.remove.new.self c.in-Some.ensures.value (c.get_mut.follows.holds c.remove.new.self)) ∙ c.is_empty.ensures c.if-is_empty.true)
+    c.remove.new.self c.in-Some.ensures.value (c.get_mut.follows.holds c.remove.new.self)) ∙ c.is_empty.ensures.0 c.if-is_empty.true)
     ∙ written-claims c.args.slot.now c.self.inside.by_slot (c.get_mut.follows.lender c.remove.new.self) c.in-Some.claimants.now c.remove.new.self
     c.in-Some.ensures.value
     (c.get_mut.follows.holds c.remove.new.self) (filter (λ n. not (n == c.args.claim))) c.args.number c.remove.ensures.numbers)

@@ -9,9 +9,9 @@ use Rattle.address_holders.specs.declared.slot.NumberedSlot.{NumberedSlot}
 use Rattle.claim_index.specs.Room.{HasRoomFor}
 use Rattle.claim_index.specs.Claims.{ClaimValue}
 use Rattle.claim_index.specs.GroupNumbers.{number_for}
-use Rattle.claim_index.specs.Holders.{HasRoomAt}
+use Rattle.claim_index.specs.ListedClaims.{HasRoomAt}
 use Rattle.claim_index.specs.Index.{ClaimIndexValue}
-use Rattle.claim_index.specs.NumberedSlots.{is_slot_by}
+use Rattle.claim_index.specs.GroupSlots.{is_slot_by}
 use Rattle.claim_index.specs.SharingGroups.{HasSharingGroup}
 use Rattle.claim_index.proofs.IndexGrowth.{indexed-pushed, found-is, not-lost, not-listed}
 use Rattle.claim_index.proofs.NumberLaws.{slot-are}

@@ -5,7 +5,7 @@ use Rattle.sharing_terms.specs.declared.terms.Terms.{Terms}
 use Rattle.address_holders.specs.declared.slot.NumberedSlot.TheVariants.{OfSharingGroup, OfPort}
 use Rattle.claim_index.specs.GroupNumbers.{number_for}
 use Rattle.address_holders.specs.Holders.{address_of, claims_having}
-use Rattle.claim_index.specs.Holders.{claims_in}
+use Rattle.claim_index.specs.ListedClaims.{claims_in}
 use Rattle.claim_index.specs.Index.{ClaimIndexValue, numbers_at}
 use Rattle.claim_index.specs.SharingGroups.{sharing_group_of}
 use Rattle.claim_index.specs.Slots.{Slot}

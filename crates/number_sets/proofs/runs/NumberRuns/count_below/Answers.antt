@@ -1,8 +1,7 @@
-use Rattle.std.proofs.Common.{◌≡◌, ◌≤◌, ◌<◌, ◌+◌, ◌-◌, ◌^◌, ◌∙◌, Some, None, length, take, vec_capacity, arith}
+use Rattle.std.proofs.Common.{◌≡◌, ◌≤◌, ◌+◌, ◌-◌, ◌∙◌, Some, None, take, vec_capacity, arith}
 use Rattle.std.proofs.Math.Nat.{min-le_left}
 use Rattle.std.specs.List.{slice_get}
 use Rattle.std.proofs.lemmas.Option.{slice_get_within}
-use Rattle.number_sets.specs.declared.runs.Run.{Run}
 use Rattle.number_sets.specs.RunLists.{IsFound, count_numbers}
 use Rattle.number_sets.specs.Runs.{has}
 use Rattle.number_sets.proofs.CountLaws.{counted-past, counted-at, get-any, run-held}

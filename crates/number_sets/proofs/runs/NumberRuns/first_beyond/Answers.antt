@@ -1,4 +1,4 @@
-use Rattle.std.proofs.Common.{◌≡◌, ◌+◌, Some, None, IfSome, IfNone, List, refl, subst, sym, ap, ◌∙◌, arith}
+use Rattle.std.proofs.Common.{◌≡◌, Some, None, IfSome, IfNone, List, refl, subst, sym, ap, ◌∙◌, arith}
 use Rattle.std.specs.List.{slice_get}
 use Rattle.number_sets.specs.Counts.{is_beyond}
 use Rattle.number_sets.specs.Least.{IsLeastIn, NonePasses}

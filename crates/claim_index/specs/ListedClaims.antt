@@ -7,7 +7,7 @@ use Rattle.address_holders.specs.declared.slot.NumberedSlot.{NumberedSlot}
 use Rattle.address_holders.specs.declared.slot.NumberedSlot.TheVariants.{OfSharingGroup, OfPort}
 use Rattle.address_holders.specs.Holders.{AddressHoldersValue, claims_having, claim_room, address_room}
 use Rattle.claim_index.specs.GroupNumbers.{GroupsValue, number_of}
-use Rattle.claim_index.specs.NumberedSlots.{numbered_slot}
+use Rattle.claim_index.specs.GroupSlots.{numbered_slot}
 use Rattle.claim_index.specs.Slots.{Slot}
 use Rattle.claim_index.specs.Slots as texts
 

@@ -2,7 +2,7 @@
 ghost use Rattle.std.specs.Prelude.{◌≡◌, ◌&&◌, ◌||◌, [], if◌then◌else◌, not, false, IfOk, OnOk, OnErr};
 ghost use Rattle.std.specs.BTreeSet.{IsOrdered, contains};
 ghost use Rattle.kube_model.specs.declared.key.Key.{Key as KeyValue};
-ghost use Rattle.kube_model.specs.Keys.{key_cmp, same_key, without};
+ghost use Rattle.kube_model.specs.Keys.{key_cmp, same_key};
 ghost use Rattle.core_rules.specs.Take.{is_unlisted, listed_keys};
 ghost use Rattle.core_keys.specs.Picked.{others_where};
 

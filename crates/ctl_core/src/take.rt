@@ -2,7 +2,7 @@
 ghost use Rattle.std.specs.Prelude.{◌≡◌, ◌↔◌, ◌⊎◌, ◌+◌, ◌++◌, ◌&&◌, ◌||◌, [], if◌then◌else◌, not, is_some, None, true, false};
 ghost use Rattle.std.specs.Prelude.{IsErrOf, OnOk, OnErr, IfOk, IfErr};
 ghost use Rattle.kube_model.specs.Keys.{key_cmp};
-ghost use Rattle.object_history.specs.Observations.{Watched, WatchExpired};
+ghost use Rattle.object_history.specs.Observations.{Watched};
 ghost use Rattle.object_history.specs.Cache.{cached_after};
 ghost use Rattle.object_cache.specs.Change.{applied};
 ghost use Rattle.object_cache.specs.Limits.{passes, most_services};
@@ -12,9 +12,9 @@ ghost use Rattle.claim_index.specs.Claims.{has_claims};
 ghost use Rattle.core_rules.specs.Core.{all_free, is_ready, pools_in};
 ghost use Rattle.core_rules.specs.Take.{Configures, effect_of, core_take, core_note, core_expired, limits, with_service, without_service};
 ghost use Rattle.core_rules.specs.Take.{with_services_listed, all_expired, listed_and_free, have_claims, shows, is_accepted, configured};
+ghost use Rattle.core_keys.specs.Queued.{GoBehind};
 ghost use Rattle.full_entries.specs.Entries.{AreThose};
 ghost use Rattle.ctl_core.specs.Holding.{IsPrepared, held_service};
-ghost use Rattle.core_keys.specs.Queued.{GoBehind};
 ghost use Rattle.ctl_core.specs.Reached.{IsReached};
 ghost use Rattle.ctl_core.specs.Waking.{may_wake, ends_config};
 

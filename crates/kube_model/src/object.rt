@@ -121,43 +121,16 @@ impl Kind {
 
 impl TryCopy for Object {
     fn copy(&self) -> Result<Object, NoMemory> {
-        match self {
-            Object::Service(service) => match service.copy() {
-                Ok(copied) => Ok(Object::Service(copied)),
-                Err(refused) => Err(refused),
-            },
-            Object::Pool(pool) => match pool.copy() {
-                Ok(copied) => Ok(Object::Pool(copied)),
-                Err(refused) => Err(refused),
-            },
-            Object::L2(advertisement) => match advertisement.copy() {
-                Ok(copied) => Ok(Object::L2(copied)),
-                Err(refused) => Err(refused),
-            },
-            Object::Bgp(advertisement) => match advertisement.copy() {
-                Ok(copied) => Ok(Object::Bgp(copied)),
-                Err(refused) => Err(refused),
-            },
-            Object::Peer(peer) => match peer.copy() {
-                Ok(copied) => Ok(Object::Peer(copied)),
-                Err(refused) => Err(refused),
-            },
-            Object::Community(community) => match community.copy() {
-                Ok(copied) => Ok(Object::Community(copied)),
-                Err(refused) => Err(refused),
-            },
-            Object::Namespace(namespace) => match namespace.copy() {
-                Ok(copied) => Ok(Object::Namespace(copied)),
-                Err(refused) => Err(refused),
-            },
-            Object::Node(node) => match node.copy() {
-                Ok(copied) => Ok(Object::Node(copied)),
-                Err(refused) => Err(refused),
-            },
-            Object::Slice(slice) => match slice.copy() {
-                Ok(copied) => Ok(Object::Slice(copied)),
-                Err(refused) => Err(refused),
-            },
-        }
+        Ok(match self {
+            Object::Service(service) => Object::Service(service.copy()?),
+            Object::Pool(pool) => Object::Pool(pool.copy()?),
+            Object::L2(advertisement) => Object::L2(advertisement.copy()?),
+            Object::Bgp(advertisement) => Object::Bgp(advertisement.copy()?),
+            Object::Peer(peer) => Object::Peer(peer.copy()?),
+            Object::Community(community) => Object::Community(community.copy()?),
+            Object::Namespace(namespace) => Object::Namespace(namespace.copy()?),
+            Object::Node(node) => Object::Node(node.copy()?),
+            Object::Slice(slice) => Object::Slice(slice.copy()?),
+        })
     }
 }

@@ -24,12 +24,17 @@ impl Drop for EndpointSlice {
 }
 
 /// One of the endpoints.
-#[derive(Drop)]
 pub struct Endpoint {
     /// `nodeName`.
     pub node: Option<Text>,
     /// `conditions.serving` where it is there, else `conditions.ready` where it is there, else true.
     pub usable: bool,
+}
+
+impl Drop for Endpoint {
+    fn drop(self) {
+        let Endpoint { node: _, usable: _ } = self;
+    }
 }
 
 /// A list of endpoints.

@@ -1,7 +1,7 @@
 //! One case of the table.
 
 use crate::worlds::crashes::crash_lines;
-use crate::worlds::steps::{make, recorded_world, world_of};
+use crate::worlds::steps::{LineOutcome, make, recorded_world, world_of};
 use crate::worlds::stored::{held_text, store_text};
 use ctl_world::{ListOrder, StartFault, World};
 use kube_labels::Text;
@@ -30,10 +30,11 @@ fn step_name(line: &str) -> &str {
     line
 }
 
-fn step_text(alloc: Global, world: &mut World, line: &str) -> Result<String, NoMemory> {
-    match make(alloc, world, line, ListOrder::Ascending)? {
-        None => Ok(String::new(alloc)),
-        Some(fault) => Ok(format!(in alloc; "{}: {fault}\n", step_name(line))?),
+fn outcome_text(alloc: Global, line: &str, outcome: LineOutcome) -> Result<String, NoMemory> {
+    match outcome {
+        LineOutcome::Made => Ok(String::new(alloc)),
+        LineOutcome::Refused(fault) => Ok(format!(in alloc; "{}: {fault}\n", step_name(line))?),
+        LineOutcome::NoStep => Ok(format!(in alloc; "no such step: {line}\n")?),
     }
 }
 
@@ -79,12 +80,16 @@ impl Case {
         }
     }
 
+    /// An object of the world to come, or a step of the one that there is.
     fn happen(&mut self, line: &str) -> Result<String, NoMemory> {
-        self.history.push(Text::new(self.alloc, line)?)?;
-        match &mut self.world {
-            None => Ok(String::new(self.alloc)),
-            Some(world) => step_text(self.alloc, world, line),
+        let Some(world) = &mut self.world else {
+            return self.add(line);
+        };
+        let outcome = make(self.alloc, world, line, ListOrder::Ascending)?;
+        if !matches!(outcome, LineOutcome::NoStep) {
+            self.history.push(Text::new(self.alloc, line)?)?;
         }
+        outcome_text(self.alloc, line, outcome)
     }
 
     fn show(&self) -> Result<String, NoMemory> {
@@ -122,7 +127,6 @@ impl Case {
             "begin with records" => self.begin_recorded(),
             "show" => self.show(),
             "crashes" => crash_lines(self.alloc, &self.objects, &self.history),
-            _ if self.world.is_none() => self.add(line),
             _ => self.happen(line),
         }
     }

@@ -1,7 +1,7 @@
 //! What is stored right behind a crash at each place of a history, and once the controller has gone on until nothing is left to do.
 
 use crate::worlds::judged::waits_in_vain;
-use crate::worlds::steps::{make, world_of};
+use crate::worlds::steps::{LineOutcome, make, world_of};
 use crate::worlds::stored::store_text;
 use ctl_world::{ListOrder, Outcome, Step, StepFault, World};
 use kube_labels::Text;
@@ -74,7 +74,7 @@ fn make_all(
     order: ListOrder,
 ) -> Result<(), StepFault> {
     for line in history {
-        if let Some(fault) = make(alloc, world, line.as_str(), order)? {
+        if let LineOutcome::Refused(fault) = make(alloc, world, line.as_str(), order)? {
             return Err(fault);
         }
     }

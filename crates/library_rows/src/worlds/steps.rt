@@ -7,6 +7,17 @@ use kube_model::{Event, EventFault, ListGroup, Object};
 use mlb_base::{NoMemory, Sequence};
 use std::alloc::Global;
 
+/// What came of a line.
+#[derive(Clone, Copy)]
+pub enum LineOutcome {
+    /// It says a step, which was made.
+    Made,
+    /// It says a step, which was refused.
+    Refused(StepFault),
+    /// It says no step.
+    NoStep,
+}
+
 fn event_of(alloc: Global, line: &str) -> Result<Option<Event>, NoMemory> {
     match read_event(alloc, line.as_bytes()) {
         Ok(event) => Ok(Some(event)),
@@ -148,20 +159,19 @@ pub fn recorded_world(alloc: Global, lines: &[Text]) -> Result<World, StartFault
     World::with_records(alloc, objects_of(alloc, lines)?, None)
 }
 
-/// Makes the step that the line says; one that isn't made is answered with its fault. Where the line says nothing of it, a list has this
-/// order.
+/// Makes the step that the line says. Where the line says nothing of it, a list has this order.
 pub fn make(
     alloc: Global,
     world: &mut World,
     line: &str,
     order: ListOrder,
-) -> Result<Option<StepFault>, NoMemory> {
+) -> Result<LineOutcome, NoMemory> {
     match step_of(alloc, line, order)? {
-        None => Ok(None),
+        None => Ok(LineOutcome::NoStep),
         Some(step) => match world.step(step) {
-            Ok(()) => Ok(None),
+            Ok(()) => Ok(LineOutcome::Made),
             Err(StepFault::NoMemory) => Err(NoMemory),
-            Err(fault) => Ok(Some(fault)),
+            Err(fault) => Ok(LineOutcome::Refused(fault)),
         },
     }
 }
